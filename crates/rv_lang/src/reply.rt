@@ -1,0 +1,126 @@
+//! What is answered to a call.
+use rv_value::{Duplicate, NoMemory, RowNo, Text, Values};
+use std::alloc::Global;
+
+/// The limits, in the order in which those of the statement and then those of the state are tested.
+#[derive(Clone, Copy, Debug, PartialEq, Eq)]
+pub enum Which {
+    Name,
+    Text,
+    Columns,
+    Key,
+    List,
+    Atoms,
+    Groups,
+    Joined,
+    Returned,
+    Order,
+    Steps,
+    Tables,
+    Indexes,
+    Cursors,
+    Rows,
+    Pending,
+}
+
+/// Why a call was refused. A refused call changes nothing but the history.
+#[derive(Drop, Debug, PartialEq, Eq)]
+pub enum Refusal {
+    /// The statement's form, or the first refusal that applies, is not built yet.
+    NotBuilt,
+    /// The text derives no statement.
+    Syntax,
+    /// The name of a table that is not there, or of a column that fits none or several tables.
+    Unknown(Text),
+    /// A name in use, or one that stands twice where it may stand once.
+    Exists(Text),
+    /// The name of a column whose kind does not fit.
+    Kind(Text),
+    /// The session's transaction, at BEGIN.
+    Active(u64),
+    NoTransaction,
+    /// The lowest active transaction, at CREATE.
+    Busy(u64),
+    ReadOnly,
+    /// A row that a later commit than the transaction's base has written.
+    Changed { row: RowNo, commit: u64 },
+    /// A row that another active transaction has changed.
+    Held { row: RowNo, txn: u64 },
+    NoCursor(Text),
+    CursorOpen(Text),
+    /// The number is the greatest that is allowed.
+    Limit { which: Which, number: u64 },
+    /// A table of which the transaction has changed a row, at OPEN.
+    Pending(Text),
+}
+
+/// The reply to a call.
+#[derive(Drop, Debug, PartialEq, Eq)]
+pub enum Reply {
+    Created,
+    /// The transaction's number.
+    Began(u64),
+    Inserted(RowNo),
+    /// How many rows were changed.
+    Touched(u64),
+    /// The commit's number, or the base where there was no change.
+    Committed(u64),
+    RolledBack,
+    Opened,
+    Row(Values),
+    End,
+    Closed,
+    /// How many background steps were done.
+    Stepped(u64),
+    Refused(Refusal),
+}
+
+impl Duplicate for Refusal {
+    fn copy(&self, alloc: Global) -> Result<Refusal, NoMemory> {
+        Ok(match self {
+            Refusal::NotBuilt => Refusal::NotBuilt,
+            Refusal::Syntax => Refusal::Syntax,
+            Refusal::Unknown(name) => Refusal::Unknown(name.copy(alloc)?),
+            Refusal::Exists(name) => Refusal::Exists(name.copy(alloc)?),
+            Refusal::Kind(name) => Refusal::Kind(name.copy(alloc)?),
+            Refusal::Active(txn) => Refusal::Active(*txn),
+            Refusal::NoTransaction => Refusal::NoTransaction,
+            Refusal::Busy(txn) => Refusal::Busy(*txn),
+            Refusal::ReadOnly => Refusal::ReadOnly,
+            Refusal::Changed { row, commit } => Refusal::Changed {
+                row: *row,
+                commit: *commit,
+            },
+            Refusal::Held { row, txn } => Refusal::Held {
+                row: *row,
+                txn: *txn,
+            },
+            Refusal::NoCursor(name) => Refusal::NoCursor(name.copy(alloc)?),
+            Refusal::CursorOpen(name) => Refusal::CursorOpen(name.copy(alloc)?),
+            Refusal::Limit { which, number } => Refusal::Limit {
+                which: *which,
+                number: *number,
+            },
+            Refusal::Pending(name) => Refusal::Pending(name.copy(alloc)?),
+        })
+    }
+}
+
+impl Duplicate for Reply {
+    fn copy(&self, alloc: Global) -> Result<Reply, NoMemory> {
+        Ok(match self {
+            Reply::Created => Reply::Created,
+            Reply::Began(number) => Reply::Began(*number),
+            Reply::Inserted(row) => Reply::Inserted(*row),
+            Reply::Touched(count) => Reply::Touched(*count),
+            Reply::Committed(number) => Reply::Committed(*number),
+            Reply::RolledBack => Reply::RolledBack,
+            Reply::Opened => Reply::Opened,
+            Reply::Row(values) => Reply::Row(values.copy(alloc)?),
+            Reply::End => Reply::End,
+            Reply::Closed => Reply::Closed,
+            Reply::Stepped(count) => Reply::Stepped(*count),
+            Reply::Refused(refusal) => Reply::Refused(refusal.copy(alloc)?),
+        })
+    }
+}
