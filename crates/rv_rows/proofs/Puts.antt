@@ -84,5 +84,5 @@ module _ {X : Type 0} (before : X → X → Bool) (chain : IsChain before) where
   pub rising_put : (new : X) (xs : List X) → Rising before xs → Rising before (put_in before new xs)
   rising_put new xs rising =
       joins new (filter (λ x. before x new) xs) (filter (λ x. before new x) xs)
-        (rising_filter before (λ x. before x new) xs rising) (filter_passes (λ x. before x new) xs)
-        (rising_filter before (λ x. before new x) xs rising) (filter_passes (λ x. before new x) xs)
+      (rising_filter before (λ x. before x new) xs rising) (filter_passes (λ x. before x new) xs)
+      (rising_filter before (λ x. before new x) xs rising) (filter_passes (λ x. before new x) xs)
