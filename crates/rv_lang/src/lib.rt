@@ -4,5 +4,5 @@
 pub mod reply;
 pub mod statement;
 
-pub use reply::{Refusal, Reply, Which};
+pub use reply::{Refusal, Reply, Shown, ShownEvent, Which};
 pub use statement::{RawAtom, RawCol, RawGoal, RawKind, RawOp, RawOperand, Statement};
