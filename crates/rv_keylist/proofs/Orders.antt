@@ -1,33 +1,18 @@
 -- Keys in ascending order.
-use Rattle.std.proofs.Common.{◌≡◌, ℕ, ◌+◌, ◌<◌, ◌≤◌, ◌++◌, ◌∷◌, [], List, length, nat_eq, Bool, true, false, slice_index_or, refl, sym, ap, subst, ◌∙◌, inl, inr, arith, IsPermutation, Result, Ok, Err, is_ok, MatchResult, Option, Some, None, IfSome, IsSome, drop, ◌≢◌, ◌⊎◌, ◌-◌, length-append}
-use Rattle.std.specs.List.{refill, IsDistinct}
-use Rattle.std.specs.List.Sorted.{IsSorted, IsStrictlyIncreasing, IsNonDecreasing, IsBinarySearchResult}
+use Rattle.std.proofs.Common.{◌≡◌, ℕ, ◌+◌, ◌<◌, ◌≤◌, ◌++◌, ◌∷◌, [], List, length, Bool, true, false, refl, sym, ap, subst, ◌∙◌, inl, inr, arith, IsPermutation, Option, Some, None, IfSome, IsSome, drop, ◌⊎◌, ◌-◌, length-append}
+use Rattle.std.specs.List.{refill}
+use Rattle.std.specs.List.Sorted.{IsSorted, IsNonDecreasing}
 use Rattle.std.specs.Ordering.{nat_cmp}
 use Rattle.std.proofs.Math.Seq.{take-append_seam}
-use Rattle.std.proofs.lemmas.Bool.{cases_eq, cases_lt, eq-eqb, ne_eqb}
-use Rattle.std.proofs.lemmas.Bool.Decides.{nat_tests}
-use Rattle.std.proofs.lemmas.Cmp.{nat_eq_equiv}
-use Rattle.std.proofs.lemmas.Grind.{get_or_default_zero}
+use Rattle.std.proofs.lemmas.Bool.{cases_eq}
 use Rattle.std.proofs.lemmas.List.{append-nil, nil_from_length}
-use Rattle.std.proofs.lemmas.List.Folds.{list_any_at, list_any_none}
-use Rattle.std.proofs.lemmas.List.Sorted.{searched, length_permutation, IsPermutation-append, IsNonDecreasingBy-from_sort}
-use Rattle.std.proofs.lemmas.Map.Keys.{IsDistinct-push, IsDistinct-IsPermutation, IsStrictlyIncreasing-from_distinct, sorted_from_strictly_increasing, non_decreasing_from_sorted}
-use Rattle.rv_keylist.specs.Keys.{has_key, Once, Marks}
+use Rattle.std.proofs.lemmas.List.Sorted.{length_permutation, IsPermutation-append, IsNonDecreasingBy-from_sort}
+use Rattle.std.proofs.lemmas.Map.Keys.{IsStrictlyIncreasing-from_distinct}
+use Rattle.rv_keys.specs.Keys.{has_key, Once}
+use Rattle.rv_keys.proofs.Onces.{Once-nil, Once-push, Once-IsPermutation}
+use Rattle.rv_keylist.specs.Keys.{Marks}
 use Rattle.rv_keylist.specs.Whole.{Placed, Whole}
 use Rattle.rv_keylist.proofs.Bits.{Marks-IsPermutation}
-
-pub Once-nil : Once []
-unfolding IsDistinct
-Once-nil = tt
-
-pub Once-push : (keys : List ℕ) (key : ℕ) → Once keys → has_key key keys ≡ false → Once (keys ++ key ∷ [])
-Once-push keys key once fresh = IsDistinct-push nat_eq_equiv keys key once fresh
-
-flips : (x y : ℕ) → nat_eq x y ≡ nat_eq y x
-flips x y = grind (arith, nat_tests)
-
-pub Once-IsPermutation : (xs ys : List ℕ) → IsPermutation xs ys → Once xs → Once ys
-Once-IsPermutation xs ys moved once = IsDistinct-IsPermutation nat_eq flips xs ys moved once
 
 -- what a sort writes back through a slice
 pub refilled : (n : ℕ) (xs ws : List ℕ) → n ≡ length ws → refill n xs ws ≡ ws
@@ -36,30 +21,6 @@ refilled n xs ws same = rw same (take-append_seam ws (drop (length ws) xs))
 pub sorted_refill : (n : ℕ) (xs ws : List ℕ) → n ≡ length ws → IsSorted nat_cmp ws → IsNonDecreasing (refill n xs ws)
 sorted_refill n xs ws same sorted =
     subst (λ (ys : List ℕ). IsNonDecreasing ys) (sym (refilled n xs ws same)) (IsNonDecreasingBy-from_sort (λ x. x) ws sorted)
-
-other_keys : (keys : List ℕ) (row : ℕ) → ((k : ℕ) → k < length keys → slice_index_or keys k 0 ≢ row) → has_key row keys ≡ false
-other_keys keys row other = list_any_none (nat_eq row) keys (λ k d within.
-    let here : slice_index_or keys k d ≡ slice_index_or keys k 0 = get_or_default_zero keys k d within in
-    ne_eqb row (slice_index_or keys k d) (λ same. other k within (sym here ∙ sym same)))
-
-pub is_found :
-    (keys : List ℕ) (row : ℕ) (found : Result ℕ ℕ)
-    → IsStrictlyIncreasing keys → IsBinarySearchResult (λ y. nat_cmp y row) keys found
-    → is_ok found ≡ has_key row keys
-is_found keys row found rising result =
-    let rises : IsNonDecreasing keys = non_decreasing_from_sorted keys (sorted_from_strictly_increasing keys rising) in
-    by_cases found (searched keys row found result (λ i j below within. rises i j 0 below within))
-  where
-    by_cases : (found : Result ℕ ℕ)
-        → MatchResult found (λ i. (i < length keys) × (slice_index_or keys i 0 ≡ row))
-        (λ i. (i ≤ length keys) × ((k : ℕ) → k < i → slice_index_or keys k 0 < row) × ((k : ℕ) → i ≤ k → k < length keys → row < slice_index_or keys k 0))
-        → is_ok found ≡ has_key row keys
-    by_cases (Ok i) here = sym (list_any_at (nat_eq row) keys i 0 here.0 (eq-eqb row (slice_index_or keys i 0) (sym here.1)))
-    by_cases (Err i) apart = sym (other_keys keys row (λ k within same.
-        elim (cases_lt k i) [
-          | inl before ↦ let low : slice_index_or keys k 0 < row = apart.1 k before in omega arith
-          | inr behind ↦ let high : row < slice_index_or keys k 0 = apart.2 k behind within in omega arith
-        ]))
 
 -- nothing stands in the vector, or nothing in the buffer
 one_is_empty : (few many : List ℕ) → Placed few many → (many ≡ []) ⊎ (few ≡ [])

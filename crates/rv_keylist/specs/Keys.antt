@@ -1,15 +1,8 @@
--- Keys as a list of row numbers: which are there, which may be, and the bits that they set in a filter.
-use Rattle.std.specs.Prelude.{◌≡◌, ℕ, List, Bool, ◌==◌, nat_eq, nat_le, if◌then◌else◌, length}
-use Rattle.std.specs.List.{list_any, IsDistinct}
+-- Which rows may be among the keys, and the bits that keys set in a filter.
+use Rattle.std.specs.Prelude.{◌≡◌, ℕ, List, Bool, ◌==◌, nat_le, if◌then◌else◌, length}
+use Rattle.std.specs.List.{list_any}
 use Rattle.rv_filter.specs.Bits.{bit_of, is_set}
-
--- whether a row is among the keys
-abbrev pub has_key : ℕ → List ℕ → Bool
-has_key row keys = list_any (nat_eq row) keys
-
--- each key stands once
-abbrev pub Once : List ℕ → Type 0
-Once keys = IsDistinct nat_eq keys
+use Rattle.rv_keys.specs.Keys.{has_key}
 
 -- whether some key has this bit of the filter
 abbrev pub has_bit : ℕ → List ℕ → Bool

@@ -4,15 +4,15 @@
 ghost use Rattle.std.specs.Prelude.{◌≡◌, ℕ, ◌+◌, ◌-◌, ◌<◌, ◌≤◌, ◌++◌, ◌∷◌, ◌||◌, [], List, max, length, slice_get, Some, IsOk, IfOk, OnOk, OnErr, IsPermutation, ◌==◌, true, false};
 ghost use Rattle.std.specs.List.Sorted.{IsStrictlyIncreasing};
 ghost use Rattle.rv_keylist.specs.Listed.{stage_of};
-ghost use Rattle.rv_keylist.specs.Keys.{has_key, may_key, Once};
+ghost use Rattle.rv_keylist.specs.Keys.{may_key};
+ghost use Rattle.rv_keys.specs.Keys.{has_key, Once};
 
 mod parts;
 
-use crate::parts::{
-    MANY, keys_of, make_filter, make_room, mark, put_key, search, sort_few, sort_many,
-};
+use crate::parts::{MANY, keys_of, make_filter, make_room, mark, put_key, sort_few, sort_many};
 use arrayvec::ArrayVec;
 use rv_filter::Filter;
+use rv_keys::is_among;
 use rv_value::{NoMemory, RowNo};
 use std::alloc::Global;
 use std::marker::Model;
@@ -157,7 +157,7 @@ impl KeyList {
         requires { self.now.finished ≡ true }
         ensures { result ≡ has_key row.0 self.now.keys }
     {
-        search(keys_of(&self.few, &self.many), row.0)
+        is_among(keys_of(&self.few, &self.many), row.0)
     }
 
     /// Whether a row may be among the keys of a finished list. It is never false for a key; up to 1,024 keys it is
@@ -170,7 +170,7 @@ impl KeyList {
         let keys = keys_of(&self.few, &self.many);
         match &self.filter {
             Some(filter) if keys.len() > MANY => filter.may_hold(row.0),
-            _ => search(keys, row.0),
+            _ => is_among(keys, row.0),
         }
     }
 

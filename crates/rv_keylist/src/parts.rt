@@ -1,11 +1,11 @@
 //! The parts of a key list: where the keys stand, their filter, and the order of finished keys.
 
 ghost use Rattle.std.specs.Prelude.{◌≡◌, ℕ, ◌+◌, ◌<◌, ◌≤◌, ◌++◌, ◌∷◌, [], List, length, vec_len, IsSome, IsNone, IfSome, IfOk, OnOk, OnErr, IsPermutation, false};
-ghost use Rattle.std.specs.List.Sorted.{IsNonDecreasing, IsStrictlyIncreasing};
+ghost use Rattle.std.specs.List.Sorted.{IsNonDecreasing};
 ghost use Rattle.std.specs.Vec.{vec_capacity};
 ghost use Rattle.arrayvec.specs.ArrayVec.{array_vec_len};
 ghost use Rattle.rv_filter.specs.Bits.{is_set};
-ghost use Rattle.rv_keylist.specs.Keys.{has_key, has_bit, Marks};
+ghost use Rattle.rv_keylist.specs.Keys.{Marks};
 ghost use Rattle.rv_keylist.specs.Whole.{Placed, AddsBits};
 
 use arrayvec::ArrayVec;
@@ -146,12 +146,4 @@ pub fn sort_many(many: &mut Vec<u64>)
     ensures capacity { vec_capacity many.new ≡ vec_capacity many.old }
 {
     many.as_mut_slice().sort_unstable();
-}
-
-/// Searches ascending keys.
-pub fn search(keys: &[u64], row: u64) -> bool
-    requires { IsStrictlyIncreasing keys.now }
-    ensures { result ≡ has_key row keys.now }
-{
-    keys.binary_search(&row).is_ok()
 }
