@@ -1,0 +1,6 @@
+mod Cuts
+mod Longest
+mod Runs
+mod TextLengths
+mod Texts
+mod Utf8
