@@ -1,4 +1,4 @@
-mod Cuts
+pub mod Cuts
 mod Longest
 mod Runs
 mod TextLengths
