@@ -4,6 +4,7 @@
 
 mod atom;
 mod bind;
+mod range;
 mod truth;
 
 pub use atom::{Atom, ColRef, Op, Operand, Tri};
