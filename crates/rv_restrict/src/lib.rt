@@ -4,8 +4,10 @@
 
 mod atom;
 mod bind;
+mod part;
 mod range;
 mod truth;
 
 pub use atom::{Atom, ColRef, Op, Operand, Tri};
+pub use part::Part;
 pub use truth::Restriction;
