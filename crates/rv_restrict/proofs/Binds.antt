@@ -1,6 +1,6 @@
 -- A bound restriction has the truth of the groups that it takes, and names only their columns.
 use Rattle.std.proofs.Common.{◌≡◌, ℕ, List, [], ◌∷◌, ◌++◌, Bool, true, false, cond, not, ◌&&◌, ◌||◌, ◌==◌, length, map, ◌≤◌, ◌<◌, refl, sym, ap, arith}
-use Rattle.std.specs.List.{list_all, slice_index_or}
+use Rattle.std.specs.List.{slice_index_or}
 use Rattle.std.proofs.lemmas.Bool.Decides.{nat_tests}
 use Rattle.std.specs.Ordering.{ordering_reverse}
 use Rattle.std.specs.declared.cmp.Ordering.{Ordering}
@@ -18,9 +18,9 @@ use Rattle.rv_restrict.specs.declared.atom.Operand.{Operand}
 use Rattle.rv_restrict.specs.declared.atom.Operand.TheVariants.{Literal, Column}
 use Rattle.rv_restrict.specs.declared.atom.Atom.{Atom}
 use Rattle.rv_restrict.specs.declared.atom.Atom.TheVariants.{Compare, Between, Among, IsNull, Starts, Const}
-use Rattle.rv_restrict.specs.Truth.{answers, compared, is_null, value_of, atom_truth, group_truth, truth_by, truth, operand_names_only, atom_names_only, group_names_only, names_only, row_reads}
+use Rattle.rv_restrict.specs.Truth.{answers, compared, is_null, atom_truth, group_truth, truth_by, truth, operand_names_only, atom_names_only, group_names_only, names_only, row_reads}
 use Rattle.rv_restrict.specs.Bind.{rows_reads, rows_has, truth_over, is_below, outer_fits, bound, taken, home, turned, bound_columns, bound_atom, moved, atom_place, group_place, passes_at, passes_home}
-use Rattle.rv_restrict.proofs.Tests.{and_left, and_right, and_both, and_true, or_turned, same_number}
+use Rattle.rv_restrict.proofs.Tests.{and_left, and_right, and_both, and_true, or_turned}
 use Rattle.rv_restrict.proofs.Names.{atom_same}
 
 below_length : (place : ℕ) (outer : List (List Value)) (c : ColRef) → length outer ≡ place → is_below place c ≡ true → c.place < length outer

@@ -1,5 +1,5 @@
 -- The range of a restriction has the key of every row for which it is True.
-use Rattle.std.proofs.Common.{◌≡◌, ℕ, List, [], ◌∷◌, ◌++◌, Bool, true, false, cond, not, ◌&&◌, ◌||◌, ◌==◌, Option, Some, None, map, refl, sym, ◌∙◌, append_assoc, nat_eq, take, length}
+use Rattle.std.proofs.Common.{◌≡◌, ℕ, List, [], ◌∷◌, ◌++◌, Bool, true, false, cond, not, ◌&&◌, ◌||◌, Option, Some, None, refl, sym, ◌∙◌, append_assoc, nat_eq, take, length}
 use Rattle.std.specs.List.{slice_index_or}
 use Rattle.std.specs.Ordering.{is_eq, is_lt, is_le, is_gt, is_ge, ordering_then, nat_cmp}
 use Rattle.std.specs.Cmp.{nat_cmp_is}
@@ -19,10 +19,9 @@ use Rattle.rv_restrict.specs.declared.atom.Operand.{Operand}
 use Rattle.rv_restrict.specs.declared.atom.Operand.TheVariants.{Literal, Column}
 use Rattle.rv_restrict.specs.declared.atom.Atom.{Atom}
 use Rattle.rv_restrict.specs.declared.atom.Atom.TheVariants.{Compare, Between, Among, IsNull, Starts, Const}
-use Rattle.rv_restrict.specs.declared.atom.Tri.{Tri}
-use Rattle.rv_restrict.specs.declared.atom.Tri.TheVariants.{True, False, Unknown}
-use Rattle.rv_restrict.specs.Truth.{truth, truth_by, group_truth, atom_truth, greater, lesser, truth_of, answers, compared, between, is_null, started, null_test, value_of, row_reads}
-use Rattle.rv_restrict.specs.Ranges.{End, open_at, closed_at, Limit, limit, compare_limit, operand_limit, between_limit, null_limit, is_on, group_limit, limits_on, first_equal, first_start, pick, not_closed, greater_end, lesser_end, greatest_low, least_high, closed_bound, equal_range, starting_range, bound_at, high_bound, bounded_range, if_some, last_range, range_from, range_for, key_of}
+use Rattle.rv_restrict.specs.declared.atom.Tri.TheVariants.{True, Unknown}
+use Rattle.rv_restrict.specs.Truth.{truth, truth_by, group_truth, atom_truth, truth_of, answers, compared, between, is_null, started, null_test, value_of, row_reads}
+use Rattle.rv_restrict.specs.Ranges.{End, open_at, closed_at, Limit, limit, compare_limit, operand_limit, between_limit, null_limit, is_on, group_limit, limits_on, first_equal, first_start, pick, greater_end, lesser_end, greatest_low, least_high, closed_bound, equal_range, starting_range, high_bound, bounded_range, if_some, last_range, range_from, range_for, key_of}
 use Rattle.rv_restrict.specs.Ranges.Limit.{Free, Same, Begins, Within}
 use Rattle.rv_restrict.proofs.Tests.{and_left, and_right, or_parts, same_number, lesser_left, lesser_right, greater_False, truth_of_true}
 

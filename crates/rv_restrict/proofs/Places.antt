@@ -1,5 +1,5 @@
 -- Each group is taken at one place: a restriction is True over rows exactly where at each place the groups taken are.
-use Rattle.std.proofs.Common.{◌≡◌, ℕ, ◌<◌, List, [], ◌∷◌, Bool, true, false, cond, ◌&&◌, ◌==◌, nat_lt, filter, refl, arith}
+use Rattle.std.proofs.Common.{◌≡◌, ℕ, ◌<◌, List, [], ◌∷◌, Bool, true, false, cond, ◌==◌, nat_lt, refl, arith}
 use Rattle.std.specs.List.{list_all}
 use Rattle.std.proofs.lemmas.Bool.Decides.{nat_tests}
 use Rattle.rv_value.specs.declared.value.Value.{Value}
@@ -18,7 +18,7 @@ rest_taken : (read : ColRef → Value) (p : ℕ) (g : List Atom) (more : List (L
 rest_taken read p g more h = elim (group_place g == p) as (λ b. truth_by read (cond b (g ∷ taken p more) (taken p more)) ≡ True → truth_by read (taken p more) ≡ True) [
   | true ↦ λ e. lesser_right (group_truth read g) (truth_by read (taken p more)) e
   | false ↦ λ e. e
-  ] h
+] h
 
 -- each group's place is below n
 abbrev pub places_below : ℕ → List (List Atom) → Bool

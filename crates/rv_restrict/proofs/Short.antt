@@ -1,5 +1,5 @@
 -- No bound of a range is longer than the index.
-use Rattle.std.proofs.Common.{◌≡◌, ℕ, List, [], ◌∷◌, ◌++◌, length, arith, ◌≤◌, ◌+◌, length-append, Option, Some, None}
+use Rattle.std.proofs.Common.{ℕ, List, [], ◌∷◌, ◌++◌, length, arith, ◌≤◌, ◌+◌, length-append, Option, Some, None}
 use Rattle.rv_value.specs.declared.value.Value.{Value}
 use Rattle.rv_value.specs.declared.value.Value.TheVariants.{Str}
 use Rattle.rv_restrict.specs.declared.atom.Atom.{Atom}
@@ -25,15 +25,15 @@ short_last n prefix ls h = elim (first_start ls) as (λ s. AreShort n (if_some s
   | None ↦ elim (greatest_low ls) as (λ s. AreShort n (if_some s (λ low. bounded_range prefix low (least_high ls)) (equal_range prefix))) [
     | Some low ↦ record { low_end = short_next n prefix low.value h; high_end = short_high n prefix (least_high ls) h }
     | None ↦ short_equal n prefix (omega arith)
-    ]
   ]
+]
 
 short_from : (n : ℕ) (only : List (List Atom)) (prefix : List Value) (columns : List ℕ) → length prefix + length columns ≤ n → AreShort n (range_from only prefix columns)
 short_from n only prefix [] h = short_equal n prefix (omega arith)
 short_from n only prefix (c ∷ more) h = elim (first_equal (limits_on c only)) as (λ s. AreShort n (if_some s (λ v. range_from only (prefix ++ v ∷ []) more) (last_range prefix (limits_on c only)))) [
   | Some v ↦ short_from n only (prefix ++ v ∷ []) more (omega (arith, length-append prefix (v ∷ [])))
   | None ↦ short_last n prefix (limits_on c only) (omega arith)
-  ]
+]
 
 pub range_short : (only : List (List Atom)) (columns : List ℕ) → AreShort (length columns) (range_for only columns)
 range_short only columns = short_from (length columns) only [] columns (omega arith)

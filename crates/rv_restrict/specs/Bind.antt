@@ -1,6 +1,6 @@
 -- A restriction over several FROM items, bound at one of them: the rows of those before it are put in.
-use Rattle.std.specs.Prelude.{ℕ, List, [], ◌∷◌, ◌++◌, Bool, cond, not, ◌&&◌, ◌||◌, ◌==◌, nat_lt, length, filter, map, max}
-use Rattle.std.specs.List.{list_all, slice_index_or}
+use Rattle.std.specs.Prelude.{ℕ, List, [], ◌∷◌, Bool, cond, not, ◌&&◌, ◌||◌, ◌==◌, nat_lt, length, filter, map, max}
+use Rattle.std.specs.List.{slice_index_or}
 use Rattle.rv_value.specs.declared.value.Value.{Value}
 use Rattle.rv_value.specs.declared.value.Value.TheVariants.{Null}
 use Rattle.rv_restrict.specs.declared.atom.ColRef.{ColRef}

@@ -1,10 +1,10 @@
 -- The part of a restriction that an index can test by itself.
-use Rattle.std.specs.Prelude.{ℕ, List, [], ◌∷◌, Bool, true, false, cond, ◌||◌, ◌==◌, filter}
+use Rattle.std.specs.Prelude.{ℕ, List, [], ◌∷◌, Bool, false, cond, ◌||◌, ◌==◌, filter}
 use Rattle.rv_value.specs.declared.value.Value.{Value}
 use Rattle.rv_value.specs.declared.value.Value.TheVariants.{Null}
 use Rattle.rv_restrict.specs.declared.atom.ColRef.{ColRef}
 use Rattle.rv_restrict.specs.declared.atom.Atom.{Atom}
-use Rattle.rv_restrict.specs.Truth.{truth_by, is_true, group_names_only, names_only}
+use Rattle.rv_restrict.specs.Truth.{truth_by, is_true, group_names_only}
 
 -- the index's columns, and the groups that it can test
 pub record Parted : Type 0 where
