@@ -1,5 +1,6 @@
 //! What is answered to a call.
-use rv_value::{Duplicate, NoMemory, RowNo, Text, Values};
+use rv_judge::{Control, Strategy};
+use rv_value::{Duplicate, Items, NoMemory, RowNo, Text, Values};
 use std::alloc::Global;
 
 /// The limits, in the order in which those of the statement and then those of the state are tested.
@@ -54,6 +55,58 @@ pub enum Refusal {
     Pending(Text),
 }
 
+/// An event of a trace, a scan being named by its index.
+#[derive(Drop, Debug, PartialEq, Eq)]
+pub enum ShownEvent {
+    /// The control became this one.
+    At(Control),
+    /// A background scan of the index began.
+    Scan(Text),
+    /// The scan of the index completed, with a list of so many keys.
+    List(Text, u64),
+    /// The scan of the index was abandoned.
+    Drop(Text),
+    /// The buffer of delivered rows became full.
+    Full,
+    /// The foreground was abandoned.
+    Stop,
+}
+
+/// A trace with the names of indexes in place of their numbers.
+#[derive(Drop, Debug, PartialEq, Eq)]
+pub struct Shown {
+    pub strategy: Strategy,
+    pub events: Items<ShownEvent>,
+    pub pages: u64,
+    pub leaves: u64,
+    pub fetches: u64,
+}
+
+impl Duplicate for ShownEvent {
+    fn copy(&self, alloc: Global) -> Result<ShownEvent, NoMemory> {
+        Ok(match self {
+            ShownEvent::At(control) => ShownEvent::At(*control),
+            ShownEvent::Scan(name) => ShownEvent::Scan(name.copy(alloc)?),
+            ShownEvent::List(name, keys) => ShownEvent::List(name.copy(alloc)?, *keys),
+            ShownEvent::Drop(name) => ShownEvent::Drop(name.copy(alloc)?),
+            ShownEvent::Full => ShownEvent::Full,
+            ShownEvent::Stop => ShownEvent::Stop,
+        })
+    }
+}
+
+impl Duplicate for Shown {
+    fn copy(&self, alloc: Global) -> Result<Shown, NoMemory> {
+        Ok(Shown {
+            strategy: self.strategy,
+            events: self.events.copy(alloc)?,
+            pages: self.pages,
+            leaves: self.leaves,
+            fetches: self.fetches,
+        })
+    }
+}
+
 /// The reply to a call.
 #[derive(Drop, Debug, PartialEq, Eq)]
 pub enum Reply {
@@ -72,6 +125,8 @@ pub enum Reply {
     Closed,
     /// How many background steps were done.
     Stepped(u64),
+    /// What the cursor's plan did so far.
+    Trace(Shown),
     Refused(Refusal),
 }
 
@@ -120,6 +175,7 @@ impl Duplicate for Reply {
             Reply::End => Reply::End,
             Reply::Closed => Reply::Closed,
             Reply::Stepped(count) => Reply::Stepped(*count),
+            Reply::Trace(shown) => Reply::Trace(shown.copy(alloc)?),
             Reply::Refused(refusal) => Reply::Refused(refusal.copy(alloc)?),
         })
     }
