@@ -1,1 +1,6 @@
+pub mod Database
+pub mod History
+pub mod OfferOrder
+pub mod Offers
+pub mod Step
 pub mod Transcript
