@@ -1,6 +1,5 @@
 pub mod Answers
 pub mod Columns
-pub mod Fits
 pub mod Kept
 pub mod Kinds
 pub mod Limits

@@ -1,0 +1,8 @@
+//! The catalog: the names of tables, columns and indexes, and statements with these looked up.
+#![tactic(auto)]
+
+mod columns;
+mod def;
+mod limits;
+
+pub use def::{BindFault, Goal, IndexDef, Resolved, Select, TableDef};
