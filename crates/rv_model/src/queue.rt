@@ -7,7 +7,7 @@ use std::collections::VecDeque;
 use std::marker::Model;
 
 /// A list from whose front items are taken one by one, each in constant time.
-#[derive(Drop, Debug)]
+#[derive(Drop)]
 pub struct Queue<X> {
     items: VecDeque<X>,
 }

@@ -5,14 +5,14 @@ use rv_rows::{Changes, Rows};
 use rv_value::{Items, Text, Values};
 
 /// The committed rows of a table, and the number of its next row.
-#[derive(Drop, Debug)]
+#[derive(Drop)]
 pub struct Table {
     pub rows: Rows,
     pub next: u64,
 }
 
 /// An active transaction: the rows of each table as they were at its base commit, and its own changes.
-#[derive(Drop, Debug)]
+#[derive(Drop)]
 pub struct Transaction {
     pub number: u64,
     pub session: u8,
@@ -22,14 +22,14 @@ pub struct Transaction {
 }
 
 /// What a cursor may give: the values of the ORDER BY columns, and the values returned.
-#[derive(Drop, Debug)]
+#[derive(Drop)]
 pub struct Offer {
     pub order: Values,
     pub returned: Values,
 }
 
 /// An open cursor of a session, and the offers that it has left, in order.
-#[derive(Drop, Debug)]
+#[derive(Drop)]
 pub struct Cursor {
     pub session: u8,
     pub name: Text,
@@ -37,7 +37,7 @@ pub struct Cursor {
 }
 
 /// The whole database. A table's number is its place in the schema and in `tables`.
-#[derive(Drop, Debug)]
+#[derive(Drop)]
 pub struct State {
     pub schema: Catalog,
     pub tables: Items<Table>,
