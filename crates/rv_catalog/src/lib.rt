@@ -4,5 +4,7 @@
 mod columns;
 mod def;
 mod limits;
+mod names;
 
 pub use def::{BindFault, Goal, IndexDef, Resolved, Select, TableDef};
+pub use names::Catalog;
