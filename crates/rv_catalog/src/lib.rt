@@ -3,6 +3,7 @@
 
 mod columns;
 mod def;
+mod fault;
 mod limits;
 mod names;
 
