@@ -1,5 +1,5 @@
 -- What a catalog keeps: the names by which it looks up, and the bounds on tables, columns and indexes.
-use Rattle.std.specs.Prelude.{◌≡◌, ◌≤◌, ◌==◌, ℕ, List, Bool, true, count_by, length, nat_le, nat_lt}
+use Rattle.std.specs.Prelude.{◌≡◌, ◌≤◌, ◌==◌, ℕ, List, Bool, true, filter, length, nat_le, nat_lt}
 use Rattle.std.specs.List.{list_all}
 use Rattle.rv_catalog.specs.declared.def.TableDef.{TableDef}
 use Rattle.rv_catalog.specs.declared.def.IndexDef.{IndexDef}
@@ -16,7 +16,7 @@ is_below tables i = nat_lt i.table tables
 
 -- the number of a table's indexes
 abbrev pub indexes_over : ℕ → List IndexDef → ℕ
-indexes_over table indexes = count_by (is_over table) indexes
+indexes_over table indexes = length (filter (is_over table) indexes)
 
 pub record KeepsTables (names : List (List ℕ)) (tables : List TableDef) : Type 0 where
   pub named : names ≡ table_names tables

@@ -2,7 +2,7 @@
 use rv_lang::Refusal;
 use rv_restrict::{ColRef, Restriction};
 use rv_value::{Items, Kind, NoMemory, Text, Value, Values};
-use std::alloc::AllocFailed;
+use std::alloc::{AllocError, AllocFailed};
 
 /// A table: its name, and the name and kind of each column.
 #[derive(Drop, Debug, PartialEq, Eq)]
@@ -99,6 +99,17 @@ impl<T: Drop> From<AllocFailed<T>> for BindFault {
     ghost from_gives = { λ x y. y ≡ Fault.NoMemory };
 
     fn from(_fault: AllocFailed<T>) -> BindFault {
+        BindFault::NoMemory
+    }
+}
+
+impl From<AllocError> for BindFault {
+    ghost use Rattle.std.specs.Prelude.{◌≡◌};
+    ghost use Rattle.rv_catalog.specs.declared.def.BindFault.{BindFault as Fault};
+
+    ghost from_gives = { λ x y. y ≡ Fault.NoMemory };
+
+    fn from(_fault: AllocError) -> BindFault {
         BindFault::NoMemory
     }
 }

@@ -3,6 +3,9 @@
 
 mod columns;
 mod def;
+mod fault;
 mod limits;
+mod names;
 
 pub use def::{BindFault, Goal, IndexDef, Resolved, Select, TableDef};
+pub use names::Catalog;
