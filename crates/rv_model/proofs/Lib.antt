@@ -1,0 +1,5 @@
+pub mod Cuts
+pub mod Lines
+pub mod Replies
+pub mod Traces
+pub mod Values
