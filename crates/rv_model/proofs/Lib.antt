@@ -1,3 +1,4 @@
+pub mod Bounds
 pub mod Cuts
 pub mod Histories
 pub mod Lines
@@ -6,3 +7,4 @@ pub mod Same
 pub mod Sorting
 pub mod Traces
 pub mod Values
+pub mod Wide
