@@ -1,0 +1,10 @@
+use Rattle.std.proofs.Common.{◌≡◌, ◌≤◌}
+use Rattle.rv_turn.proofs.steps.wait.Given as goal
+
+abbrev pub invariant-loop : goal.invariant-loop
+invariant-loop g l = record {
+  table : l.seat.table_id ≡ l.initial.seat.table_id;
+  id : l.seat.id ≡ l.initial.seat.id;
+  waits : l.seat.me ≡ l.initial.seat.me;
+  yields : l.yields ≤ 4;
+}
