@@ -406,4 +406,3 @@ module _ {T X : Type 0} (story : T → List X) (mark : T → ℕ) (maker : X →
       out_has fs (Waiting u) k out none_there = out
       out_has fs (Taken u base) k out none_there = let a = k.2 in omega arith
       out_has fs (Written u) k out none_there = let a = k.2 in omega arith
-

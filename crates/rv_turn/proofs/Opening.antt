@@ -78,7 +78,6 @@ module _ {T X : Type 0} (story : T → List X) (mark : T → ℕ) (maker : X →
         opened = ([], sym (append-nil now), tt);
       }
 
-
   pub opens : (held : T) (told : ℕ) → key.opened.value ≡ held → told ≡ length (story held) → key.passes ≤ 16 → key.turns < 2 ^ 32
       → TurnRule story mark maker key (start (0 ∷ 0 ∷ told ∷ []) (Some held ∷ []) (first_view story mark maker key))
   opens held count is fits few short = told story mark maker key _ (turning held count is fits few short)

@@ -15,9 +15,9 @@ ghost use Rattle.rv_turn.specs.declared.views.Stage.TheVariants.{Idle};
 
 pub mod plays;
 pub mod steps;
-pub mod views;
 #[cfg(test)]
 mod tests;
+pub mod views;
 
 use crate::plays::{Enter, JoinPass, SplitPass};
 use crate::steps::{Laid, Lock, Place, draw, give, lay, wait};
