@@ -1,6 +1,6 @@
 -- The rule of the turn lock, which holds between any two steps, as its six points.
 -- `views` has the view of each seat. A view has an entry for its own number, or for each number that it keeps since a join, or has not split off yet. A spent view has none.
-use Rattle.std.specs.Prelude.{◌⊎◌, ◌≡◌, ℕ, ◌+◌, ◌*◌, ◌^◌, ◌<◌, ◌≤◌, Option, Some, None, List, [], ◌∷◌, length}
+use Rattle.std.specs.Prelude.{◌⊎◌, ◌≡◌, ℕ, ◌+◌, ◌*◌, ◌^◌, ◌<◌, ◌≤◌, Option, Some, List, [], ◌∷◌, length}
 use mathlib.Core.Option.{none, some}
 use Rattle.atomic_table.specs.Table.{State}
 use Rattle.rv_turn.specs.declared.views.Stage.TheVariants.{Taken, Written, Idle}

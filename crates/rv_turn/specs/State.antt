@@ -1,5 +1,5 @@
 -- What contracts see of a turn lock and of a pass.
-use Rattle.std.specs.Prelude.{◌≡◌, ℕ, List, [], ◌∷◌, ◌++◌}
+use Rattle.std.specs.Prelude.{◌≡◌, ℕ, List, [], ◌∷◌}
 use Rattle.atomic_table.specs.Seated.{TableId}
 use Rattle.rv_turn.specs.declared.views.Entry.{Entry}
 use Rattle.rv_turn.specs.View.{entry}

@@ -27,7 +27,7 @@ const COUNT: usize = 2;
 const VALUE: usize = 0;
 
 /// How often a pass that waits yields before it parks.
-const YIELDS: u32 = 4;
+const YIELDS: u32 = 16;
 
 pub(crate) type Lock<T> = Shared<Option<T>, View<<T as Held>::Item>, Key<T>, Ticketed<T>>;
 

@@ -1,4 +1,4 @@
-use Rattle.std.proofs.Common.{rules, ap, sym, ◌∙◌, ◌≡◌, [], subst, List, All, ℕ}
+use Rattle.std.proofs.Common.{rules, ap, sym, ◌∙◌, ◌≡◌, [], subst, All, ℕ}
 use Rattle.rv_turn.specs.Rule.{first_view}
 use Rattle.rv_turn.specs.Story.{GoesOn, Lengthens}
 use Rattle.rv_turn.specs.State.{TurnState}
