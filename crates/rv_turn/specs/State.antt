@@ -28,3 +28,7 @@ IsPassOf turn pass = (pass.lock ≡ turn.lock) × (pass.mark ≡ turn.mark)
 abbrev pub entries_of : {X : Type 0} → List (PassState X) → List (Entry X)
 entries_of [] = []
 entries_of (p ∷ ps) = entry p.number p.taken p.left p.mark p.seen ∷ entries_of ps
+
+-- the lock's table has three words and one slot
+abbrev pub HasPlaces : TableId → Type 0
+HasPlaces id = (id.words ≡ 3) × (id.slots ≡ 1)

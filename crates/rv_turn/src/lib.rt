@@ -8,19 +8,19 @@
 
 ghost use Rattle.std.specs.Prelude.{◌≡◌, ℕ, ◌+◌, ◌<◌, ◌≤◌, Bool, true, false, List, [], ◌∷◌, ◌++◌, length, IfOk, IfErr, All, slice_index_or, vec_capacity};
 ghost use Rattle.rv_turn.specs.Story.{AllOf, GoesOn, Lengthens, TakesTurn};
-ghost use Rattle.rv_turn.specs.State.{IsPassOf, entries_of};
+ghost use Rattle.rv_turn.specs.State.{IsPassOf, HasPlaces, entries_of};
 ghost use Rattle.rv_turn.specs.View.{view};
 ghost use Rattle.rv_turn.specs.Rule.{first_view, opening, marked};
 ghost use Rattle.rv_turn.specs.declared.views.Stage.TheVariants.{Idle};
 
-pub mod plays;
-pub mod steps;
+mod plays;
+mod steps;
 #[cfg(test)]
 mod tests;
-pub mod views;
+mod views;
 
 use crate::plays::{Enter, JoinPass, SplitPass};
-use crate::steps::{Laid, Lock, Place, draw, give, lay, wait};
+use crate::steps::{Laid, Lock, Place, TICKET, VALUE, draw, give, lay, wait};
 use std::alloc::Global;
 use std::marker::Model;
 use std::sync::Wait;
@@ -56,9 +56,11 @@ pub trait Work<T: Held> {
 
     fn run(&mut self, held: &mut T) -> Self::Answer
         requires { was_run self.old ≡ false }
-        ensures adds { (items : List T.Item) × (T.story held.new ≡ T.story held.old ++ items) × AllOf T.maker (works_for self.old) items }
+        ensures adds { (items : List T.Item) × (T.story held.new ≡ T.story held.old ++ items)
+            × AllOf T.maker (works_for self.old) items }
         ensures mark { T.mark held.new ≡ T.mark held.old }
-        ensures means { means self.old (T.mark held.old) (T.story held.old) (T.story held.new) result }
+        ensures means { means self.old (T.mark held.old)
+            (T.story held.old) (T.story held.new) result }
         ensures run { was_run self.new ≡ true };
 }
 
@@ -71,13 +73,18 @@ pub struct Turn<T: Held> {
 
 impl<T: Held> Model for Turn<T> {
     ghost use Rattle.std.specs.Prelude.{◌≡◌};
-    ghost use Rattle.rv_turn.specs.State.{TurnState};
+    ghost use Rattle.rv_turn.specs.State.{TurnState, HasPlaces};
 
     ghost Value = { TurnState T.Item };
 
-    ghost view = { λ t. record { lock = t.table.shared.table_id; passes = t.passes; mark = T.mark t.table.shared.key.opened.value; opening = T.story t.table.shared.key.opened.value } };
+    ghost view = { λ t. record {
+      lock = t.table.shared.table_id;
+      passes = t.passes;
+      mark = T.mark t.table.shared.key.opened.value;
+      opening = T.story t.table.shared.key.opened.value;
+    } };
 
-    ghost invariant = { λ t. (t.table.shared.table_id.words ≡ 3) × (t.table.shared.table_id.slots ≡ 1) × (t.table.shared.key.passes ≡ t.passes) };
+    ghost invariant = { λ t. HasPlaces t.table.shared.table_id × (t.table.shared.key.passes ≡ t.passes) };
 }
 
 /// The right to some turns, which one thread has at a time.
@@ -98,9 +105,17 @@ impl<T: Held> Model for Pass<T> {
 
     ghost use Rattle.rv_turn.specs.View.{resting, seen_of, mark_of, drawn_of};
 
-    ghost view = { λ p. record { lock = p.seat.table_id; number = p.number; taken = drawn_of p.seat.me.0.entries; left = p.left; mark = mark_of p.seat.me.0.entries; seen = seen_of p.seat.me.0.entries } };
+    ghost view = { λ p. record {
+      lock = p.seat.table_id;
+      number = p.number;
+      taken = drawn_of p.seat.me.0.entries;
+      left = p.left;
+      mark = mark_of p.seat.me.0.entries;
+      seen = seen_of p.seat.me.0.entries;
+    } };
 
-    ghost invariant = { λ p. p.seat.me ≡ (resting p.number (drawn_of p.seat.me.0.entries) p.left (mark_of p.seat.me.0.entries) (seen_of p.seat.me.0.entries), []) };
+    ghost invariant = { λ p. let es = p.seat.me.0.entries in
+        p.seat.me ≡ (resting p.number (drawn_of es) p.left (mark_of es) (seen_of es), []) };
 }
 
 /// An opened lock, and its passes in the order of their numbers.
@@ -130,10 +145,13 @@ impl<T: Held> Turn<T> {
     /// lent to any of them. Err hands the value back for want of memory.
     pub fn open(alloc: Global, held: T, passes: u32, turns: u32) -> Result<Opened<T>, T>
         requires { (0 < passes) × (passes ≤ 16) }
-        ensures turn { IfOk result (λ o. (o.turn.passes ≡ passes) × (o.turn.mark ≡ T.mark held) × (o.turn.opening ≡ T.story held)) }
+        ensures turn { IfOk result (λ o. (o.turn.passes ≡ passes)
+            × (o.turn.mark ≡ T.mark held) × (o.turn.opening ≡ T.story held)) }
         ensures count { IfOk result (λ o. length o.passes.items ≡ passes) }
-        ensures passes { IfOk result (λ o. All (λ p. IsPassOf o.turn p × (p.taken ≡ 0) × (p.left ≡ turns) × (p.seen ≡ T.story held)) o.passes.items) }
-        ensures numbers { IfOk result (λ o. (k : ℕ) (d : _) → k < passes → (slice_index_or o.passes.items k d).number ≡ k) }
+        ensures passes { IfOk result (λ o. All (λ p. IsPassOf o.turn p
+            × (p.taken ≡ 0) × (p.left ≡ turns) × (p.seen ≡ T.story held)) o.passes.items) }
+        ensures numbers { IfOk result (λ o. (k : ℕ) (d : _) → k < passes
+            → (slice_index_or o.passes.items k d).number ≡ k) }
         ensures err { IfErr result (λ h. h ≡ held) }
     {
         let Ok(list) = Vec::with_capacity(alloc, passes as usize) else {
@@ -162,13 +180,14 @@ impl<T: Held> Turn<T> {
         requires unrun { W.was_run work.old ≡ false }
         ensures own { IsPassOf self.now pass.new × (pass.new.number ≡ pass.old.number) }
         ensures left { (pass.new.taken ≡ pass.old.taken + 1) × (pass.new.left + 1 ≡ pass.old.left) }
-        ensures turn { TakesTurn T.maker (W.means work.old) pass.old.number self.now.mark pass.old.seen pass.new.seen result }
+        ensures turn { TakesTurn T.maker (W.means work.old)
+            pass.old.number self.now.mark pass.old.seen pass.new.seen result }
         ensures run { W.was_run work.new ≡ true }
     {
         let lock = &self.table.shared;
         let ticket = draw(lock, &mut pass.seat);
         wait(rt, lock, &mut pass.seat, ticket);
-        let Some(mut held) = lock.exchange(&mut pass.seat, 0, None) else {
+        let Some(mut held) = lock.exchange(&mut pass.seat, VALUE, None) else {
             unreachable!()
         };
         let answer = work.run(&mut held);
@@ -190,11 +209,11 @@ impl<T: Held> Turn<T> {
         ensures second { All (λ p. GoesOn T.maker p.number p.seen (T.story result)) second.items }
     {
         let Turn { table, passes: _ } = self;
-        let mut keeper = table.shared.load_new_seat::<Enter>(0).1;
+        let mut keeper = table.shared.load_new_seat::<Enter>(TICKET).1;
         gather(&table.shared, &mut keeper, first);
         gather(&table.shared, &mut keeper, second);
         let mut closed = table.close_with(keeper);
-        let slot = closed.take(0);
+        let slot = closed.take(VALUE);
         closed.free();
         let Some(held) = slot else { unreachable!() };
         held
@@ -209,12 +228,15 @@ fn deal<T: Held>(
     passes: u32,
     turns: u32,
 ) -> Vec<Pass<T>>
-    requires counts { (lock.now.table_id.words ≡ 3) × (lock.now.key.passes ≡ passes) × (lock.now.key.turns ≡ turns) }
+    requires counts { HasPlaces lock.now.table_id }
+    requires key { (lock.now.key.passes ≡ passes) × (lock.now.key.turns ≡ turns) }
     requires table { seat.table_id ≡ lock.now.table_id }
     requires view { seat.me ≡ (first_view T.story T.mark T.maker lock.now.key, []) }
     requires room { (list.items ≡ []) × (passes ≤ vec_capacity list) }
     ensures count { length result.items ≡ passes }
-    ensures passes { All (λ p. (p.lock ≡ lock.now.table_id) × (p.taken ≡ 0) × (p.left ≡ turns) × (p.mark ≡ marked T.story T.mark T.maker lock.now.key) × (p.seen ≡ opening T.story T.mark T.maker lock.now.key)) result.items }
+    ensures passes { All (λ p. (p.lock ≡ lock.now.table_id) × (p.taken ≡ 0) × (p.left ≡ turns)
+        × (p.mark ≡ marked T.story T.mark T.maker lock.now.key)
+        × (p.seen ≡ opening T.story T.mark T.maker lock.now.key)) result.items }
     ensures numbers { (k : ℕ) (d : _) → k < passes → (slice_index_or result.items k d).number ≡ k }
 {
     for number in 0..passes {
@@ -233,11 +255,13 @@ fn deal<T: Held>(
 
 // The keeper takes the passes in.
 fn gather<T: Held>(lock: &Lock<T>, keeper: &mut Place<T>, passes: Vec<Pass<T>>)
-    requires counts { lock.now.table_id.words ≡ 3 }
-    requires keeper { (keeper.old.table_id ≡ lock.now.table_id) × (keeper.old.me ≡ (view Idle keeper.old.me.0.entries, [])) }
+    requires counts { HasPlaces lock.now.table_id }
+    requires table { keeper.old.table_id ≡ lock.now.table_id }
+    requires rests { keeper.old.me ≡ (view Idle keeper.old.me.0.entries, []) }
     requires passes { All (λ p. p.lock ≡ lock.now.table_id) passes.items }
     ensures table { (keeper.new.table_id ≡ keeper.old.table_id) × (keeper.new.id ≡ keeper.old.id) }
-    ensures view { keeper.new.me ≡ (view Idle (keeper.old.me.0.entries ++ entries_of passes.items), []) }
+    ensures view { keeper.new.me
+        ≡ (view Idle (keeper.old.me.0.entries ++ entries_of passes.items), []) }
 {
     for pass in passes {
         let Pass {
