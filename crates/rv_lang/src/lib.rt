@@ -1,8 +1,14 @@
 //! The language: tokens, statements and their grammar, and the plain types of replies.
 #![tactic(auto)]
 
+pub mod lexer;
 pub mod reply;
 pub mod statement;
+#[cfg(test)]
+mod tests;
+pub mod token;
 
+pub use lexer::lex;
 pub use reply::{Refusal, Reply, Shown, ShownEvent, Which};
 pub use statement::{RawAtom, RawCol, RawGoal, RawKind, RawOp, RawOperand, Statement};
+pub use token::{LexFault, Symbol, Token};

@@ -1,0 +1,6 @@
+pub mod Cuts
+mod Longest
+mod Runs
+mod TextLengths
+mod Texts
+mod Utf8

@@ -1,0 +1,4 @@
+mod Again
+mod Lists
+mod TextStatements
+mod Takes

@@ -1,0 +1,61 @@
+//! Lists of parts: one or more, with a separator between two.
+ghost use Rattle.std.specs.Prelude.{◌≡◌, List, Option};
+ghost use Rattle.std.specs.Option.{option_copied};
+ghost use Rattle.rv_lang.specs.declared.token.Token.{Token};
+ghost use Rattle.rv_parse.specs.Reading.{Gives, separator_at, list_of};
+
+use crate::fault::ParseFault;
+use crate::parts::{comma, word};
+use rv_lang::Token;
+use rv_value::Items;
+use std::alloc::Global;
+
+/// What stands between two items of a list.
+#[derive(Clone, Copy, Debug, PartialEq, Eq)]
+pub enum Separator {
+    Comma,
+    Or,
+    And,
+}
+
+/// The tokens after a separator.
+fn after(tokens: &[Token], separator: Separator) -> Option<&[Token]>
+    ensures { option_copied result ≡ separator_at separator tokens.now }
+{
+    match separator {
+        Separator::Comma => comma(tokens),
+        Separator::Or => word(tokens, "OR"),
+        Separator::And => word(tokens, "AND"),
+    }
+}
+
+/// What stands at the front of a list of tokens.
+pub trait Part: Drop {
+    ghost reads: { List Token → Option (Self × List Token) };
+
+    /// The part, and the tokens after it.
+    fn part<'a>(alloc: Global, tokens: &'a [Token]) -> Result<(Self, &'a [Token]), ParseFault>
+        ensures { Gives (λ x. (x.0, x.1.now)) result (reads tokens.now) };
+}
+
+/// One or more parts, with a separator between two.
+#[tactic(auto, unfolding(crate::specs::Reading::list_of))]
+pub fn list<'a, P: Part>(
+    alloc: Global,
+    between: Separator,
+    tokens: &'a [Token],
+) -> Result<(Items<P>, &'a [Token]), ParseFault>
+    ensures { Gives (λ x. (x.0, x.1.now)) result (list_of P.reads between tokens.now) }
+{
+    let mut items = Vec::new(alloc);
+    let mut rest = tokens;
+    'parts: for _ in 0..tokens.len() {
+        let (item, follows) = P::part(alloc, rest)?;
+        items.push(item)?;
+        match after(follows, between) {
+            Some(next) => rest = next,
+            None => return Ok((Items::from_vec(items), follows)),
+        }
+    }
+    Err(ParseFault::Syntax)
+}

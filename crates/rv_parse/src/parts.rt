@@ -1,0 +1,244 @@
+//! What stands at the front of a list of tokens: a word, a mark, a name, a literal, a column.
+ghost use Rattle.std.specs.Prelude.{◌≡◌, Some, None, bytes_eq};
+ghost use Rattle.std.specs.List.{list_any};
+ghost use Rattle.std.specs.Option.{option_copied};
+ghost use Rattle.rv_lang.specs.Words.{is_keyword};
+ghost use Rattle.rv_parse.specs.Reading.{Gives, word_at, name_at, integer_at, text_at, literal_at, dot_at, open_at, close_at, comma_at, star_at, equal_at, semicolon_at, column_at, op_at, operand_at};
+
+use crate::fault::ParseFault;
+use rv_lang::{RawCol, RawOp, RawOperand, Symbol, Token};
+use rv_value::{Duplicate, Text, Value};
+use std::alloc::Global;
+
+/// The words that are no names.
+const KEYWORDS: [&str; 42] = [
+    "AND", "BEGIN", "BETWEEN", "BIGINT", "BY", "CLOSE", "COMMIT", "CREATE", "DELETE", "FAST",
+    "FETCH", "FIRST", "FOR", "FROM", "IN", "INDEX", "INSERT", "INTO", "IS", "NOT", "NULL", "ON",
+    "ONLY", "OPEN", "OPTIMIZE", "OR", "ORDER", "READ", "ROLLBACK", "SELECT", "SET", "SHOW",
+    "STARTING", "STEP", "TABLE", "TIME", "TOTAL", "UPDATE", "VALUES", "VARCHAR", "WHERE", "WITH",
+];
+
+/// Whether a word is one of these.
+fn among(words: &[&str], name: &str) -> bool
+    ensures { result ≡ list_any (λ w. bytes_eq w.now name.now) words.now }
+{
+    words.iter().any(|word| *word == name)
+}
+
+/// Whether both are the same text.
+pub fn same(a: &str, b: &str) -> bool
+    ensures { result ≡ bytes_eq a.now b.now }
+{
+    a == b
+}
+
+/// Whether a word is no name.
+#[tactic(auto, unfolding(rv_lang::specs::Words::is_keyword))]
+fn is_keyword(name: &str) -> bool
+    ensures { result ≡ is_keyword name.now }
+{
+    among(&KEYWORDS, name)
+}
+
+/// The tokens after a keyword.
+pub fn word<'a>(tokens: &'a [Token], word: &str) -> Option<&'a [Token]>
+    ensures { option_copied result ≡ word_at word.now tokens.now }
+{
+    match tokens {
+        [Token::Word(text), rest @ ..] => {
+            if same(text.as_str(), word) {
+                Some(rest)
+            } else {
+                None
+            }
+        }
+        _ => None,
+    }
+}
+
+/// A name, and the tokens after it.
+pub fn name<'a>(alloc: Global, tokens: &'a [Token]) -> Result<(Text, &'a [Token]), ParseFault>
+    ensures { Gives (λ x. (x.0, x.1.now)) result (name_at tokens.now) }
+{
+    match tokens {
+        [Token::Word(text), rest @ ..] => {
+            if is_keyword(text.as_str()) {
+                return Err(ParseFault::Syntax);
+            }
+            Ok((text.copy(alloc)?, rest))
+        }
+        _ => Err(ParseFault::Syntax),
+    }
+}
+
+/// A literal, and the tokens after it.
+pub fn literal<'a>(alloc: Global, tokens: &'a [Token]) -> Result<(Value, &'a [Token]), ParseFault>
+    ensures { Gives (λ x. (x.0, x.1.now)) result (literal_at tokens.now) }
+{
+    match tokens {
+        [Token::Int(n), rest @ ..] => Ok((Value::Int(*n), rest)),
+        [Token::Str(text), rest @ ..] => Ok((Value::Str(text.copy(alloc)?), rest)),
+        [Token::Word(text), rest @ ..] => {
+            if same(text.as_str(), "NULL") {
+                Ok((Value::Null, rest))
+            } else {
+                Err(ParseFault::Syntax)
+            }
+        }
+        _ => Err(ParseFault::Syntax),
+    }
+}
+
+fn dot(tokens: &[Token]) -> Option<&[Token]>
+    ensures { option_copied result ≡ dot_at tokens.now }
+{
+    match tokens {
+        [Token::Symbol(Symbol::Dot), rest @ ..] => Some(rest),
+        _ => None,
+    }
+}
+
+/// A column, and the tokens after it.
+pub fn column<'a>(alloc: Global, tokens: &'a [Token]) -> Result<(RawCol, &'a [Token]), ParseFault>
+    ensures { Gives (λ x. (x.0, x.1.now)) result (column_at tokens.now) }
+{
+    let (first, rest) = name(alloc, tokens)?;
+    match dot(rest) {
+        Some(after) => {
+            let (second, rest) = name(alloc, after)?;
+            Ok((
+                RawCol {
+                    table: Some(first),
+                    column: second,
+                },
+                rest,
+            ))
+        }
+        None => Ok((
+            RawCol {
+                table: None,
+                column: first,
+            },
+            rest,
+        )),
+    }
+}
+
+/// A comparison, and the tokens after it.
+pub fn op(tokens: &[Token]) -> Result<(RawOp, &[Token]), ParseFault>
+    ensures { Gives (λ x. (x.0, x.1.now)) result (op_at tokens.now) }
+{
+    match tokens {
+        [Token::Symbol(Symbol::Equal), rest @ ..] => Ok((RawOp::Eq, rest)),
+        [Token::Symbol(Symbol::NotEqual), rest @ ..] => Ok((RawOp::Ne, rest)),
+        [Token::Symbol(Symbol::Less), rest @ ..] => Ok((RawOp::Lt, rest)),
+        [Token::Symbol(Symbol::AtMost), rest @ ..] => Ok((RawOp::Le, rest)),
+        [Token::Symbol(Symbol::Greater), rest @ ..] => Ok((RawOp::Gt, rest)),
+        [Token::Symbol(Symbol::AtLeast), rest @ ..] => Ok((RawOp::Ge, rest)),
+        _ => Err(ParseFault::Syntax),
+    }
+}
+
+/// An operand, and the tokens after it.
+pub fn operand<'a>(
+    alloc: Global,
+    tokens: &'a [Token],
+) -> Result<(RawOperand, &'a [Token]), ParseFault>
+    ensures { Gives (λ x. (x.0, x.1.now)) result (operand_at tokens.now) }
+{
+    match literal(alloc, tokens) {
+        Ok((value, rest)) => Ok((RawOperand::Literal(value), rest)),
+        Err(ParseFault::NoMemory) => Err(ParseFault::NoMemory),
+        Err(ParseFault::Syntax) => {
+            let (column, rest) = column(alloc, tokens)?;
+            Ok((RawOperand::Column(column), rest))
+        }
+    }
+}
+
+/// The tokens after a mark.
+pub fn open(tokens: &[Token]) -> Option<&[Token]>
+    ensures { option_copied result ≡ open_at tokens.now }
+{
+    match tokens {
+        [Token::Symbol(Symbol::LeftParen), rest @ ..] => Some(rest),
+        _ => None,
+    }
+}
+
+/// The tokens after a mark.
+pub fn close(tokens: &[Token]) -> Option<&[Token]>
+    ensures { option_copied result ≡ close_at tokens.now }
+{
+    match tokens {
+        [Token::Symbol(Symbol::RightParen), rest @ ..] => Some(rest),
+        _ => None,
+    }
+}
+
+/// The tokens after a mark.
+pub fn comma(tokens: &[Token]) -> Option<&[Token]>
+    ensures { option_copied result ≡ comma_at tokens.now }
+{
+    match tokens {
+        [Token::Symbol(Symbol::Comma), rest @ ..] => Some(rest),
+        _ => None,
+    }
+}
+
+/// The tokens after a mark.
+pub fn star(tokens: &[Token]) -> Option<&[Token]>
+    ensures { option_copied result ≡ star_at tokens.now }
+{
+    match tokens {
+        [Token::Symbol(Symbol::Star), rest @ ..] => Some(rest),
+        _ => None,
+    }
+}
+
+/// The tokens after a mark.
+pub fn equal(tokens: &[Token]) -> Option<&[Token]>
+    ensures { option_copied result ≡ equal_at tokens.now }
+{
+    match tokens {
+        [Token::Symbol(Symbol::Equal), rest @ ..] => Some(rest),
+        _ => None,
+    }
+}
+
+/// The tokens after a mark.
+pub fn semicolon(tokens: &[Token]) -> Option<&[Token]>
+    ensures { option_copied result ≡ semicolon_at tokens.now }
+{
+    match tokens {
+        [Token::Symbol(Symbol::Semicolon), rest @ ..] => Some(rest),
+        _ => None,
+    }
+}
+
+/// What was found, which has to be there.
+pub fn need(found: Option<&[Token]>) -> Result<&[Token], ParseFault>
+    ensures { Gives (λ x. x.now) result (option_copied found.entry) }
+{
+    found.ok_or(ParseFault::Syntax)
+}
+
+/// An integer, and the tokens after it.
+pub fn integer(tokens: &[Token]) -> Result<(i64, &[Token]), ParseFault>
+    ensures { Gives (λ x. (x.0, x.1.now)) result (integer_at tokens.now) }
+{
+    match tokens {
+        [Token::Int(n), rest @ ..] => Ok((*n, rest)),
+        _ => Err(ParseFault::Syntax),
+    }
+}
+
+/// A text, and the tokens after it.
+pub fn text<'a>(alloc: Global, tokens: &'a [Token]) -> Result<(Text, &'a [Token]), ParseFault>
+    ensures { Gives (λ x. (x.0, x.1.now)) result (text_at tokens.now) }
+{
+    match tokens {
+        [Token::Str(text), rest @ ..] => Ok((text.copy(alloc)?, rest)),
+        _ => Err(ParseFault::Syntax),
+    }
+}
