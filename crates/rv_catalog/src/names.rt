@@ -61,6 +61,11 @@ impl Catalog {
         self.indexes.as_slice()
     }
 
+    /// The allocator that the catalog keeps.
+    pub(crate) fn alloc(&self) -> Global {
+        self.alloc
+    }
+
     /// The number of the table of a name.
     pub(crate) fn table_of(&self, name: &Text) -> Option<usize>
         ensures is { result ≡ table_named self.now.tables name.now }
