@@ -1,5 +1,5 @@
-ghost use Rattle.std.specs.Prelude.{◌≡◌, ◌==◌, ◌++◌, ◌∷◌, [], length, OnOk, OnErr};
-ghost use Rattle.std.specs.Option.{option_to_list};
+ghost use Rattle.std.specs.Prelude.{◌≡◌, ◌==◌, ◌++◌, ◌∷◌, [], length, slice_get, OnOk, OnErr};
+ghost use Rattle.std.specs.Option.{option_copied, option_to_list};
 
 use rv_value::NoMemory;
 use std::alloc::Global;
@@ -28,6 +28,13 @@ impl<X> Queue<X> {
         Queue {
             items: VecDeque::new(alloc),
         }
+    }
+
+    /// The first item; None where there is none.
+    pub fn front(&self) -> Option<&X>
+        ensures { option_copied result ≡ slice_get self.now 0 }
+    {
+        self.items.front()
     }
 
     /// Takes the first item out; None where there is none.

@@ -1,0 +1,6 @@
+//! The core: the calls of the sessions one after another, and the history of them.
+#![tactic(auto)]
+
+pub mod cursors;
+pub mod finding;
+pub mod transactions;
