@@ -1,3 +1,5 @@
 pub mod Keeps
 pub mod Known
 pub mod Listed
+pub mod Steps
+pub mod There
