@@ -1,3 +1,5 @@
+pub mod Different
+pub mod Forms
 pub mod Keeps
 pub mod Known
 pub mod Listed

@@ -1,5 +1,5 @@
 -- Steps from the left that all gave an answer.
-use Rattle.std.proofs.Common.{◌≡◌, ℕ, ◌+◌, List, [], ◌∷◌, ◌++◌, Bool, true, false, Option, Some, None, Result, Ok, Err, is_some, length, refl, arith, length-append, add-zero}
+use Rattle.std.proofs.Common.{◌≡◌, ℕ, ◌+◌, List, [], ◌∷◌, ◌++◌, Bool, true, false, Option, Some, None, Result, Ok, Err, is_some, length, refl, arith, length-append}
 use Rattle.std.specs.List.{list_all}
 use Rattle.rv_lang.specs.declared.reply.Refusal.{Refusal}
 use Rattle.rv_catalog.specs.Answers.{◌>>=◌, collected, ok_or, refuse_if, refuse_some}

@@ -1,8 +1,7 @@
 -- Each column that a reference gives is there.
-use Rattle.std.proofs.Common.{◌≡◌, ℕ, ◌+◌, ◌<◌, ◌≤◌, ◌==◌, List, [], ◌∷◌, ◌++◌, Bool, true, false, cond, ◌&&◌, nat_lt, bytes_eq, length, map, Option, Some, None, Result, Ok, Err, refl, sym, ap, ◌∙◌, arith, append_assoc, length-append}
+use Rattle.std.proofs.Common.{◌≡◌, ℕ, ◌+◌, ◌<◌, ◌≤◌, ◌==◌, List, [], ◌∷◌, ◌++◌, Bool, true, false, cond, nat_lt, bytes_eq, length, map, Option, Ok, refl, arith, append_assoc, length-append}
 use Rattle.std.specs.List.{list_all, slice_index_or}
 use Rattle.std.proofs.lemmas.Bool.Decides.{nat_tests}
-use Rattle.std.proofs.lemmas.List.{length-map}
 use Rattle.std.proofs.Math.Seq.{get_or-append_seam}
 use Rattle.rv_value.specs.declared.value.Kind.{Kind}
 use Rattle.rv_restrict.specs.declared.atom.ColRef.{ColRef}
@@ -22,7 +21,7 @@ use Rattle.rv_catalog.specs.declared.columns.Fit.{Fit}
 use Rattle.rv_catalog.specs.declared.columns.Fit.TheVariants.{Nothing, One, Several}
 use Rattle.rv_catalog.specs.declared.columns.Item.{Item}
 use Rattle.rv_catalog.specs.declared.def.TableDef.{TableDef}
-use Rattle.rv_catalog.specs.Answers.{◌>>=◌, collected}
+use Rattle.rv_catalog.specs.Answers.{◌>>=◌}
 use Rattle.rv_catalog.specs.Columns.{all_columns, also, atom, columns_from, fit_columns, fit_items, group, groups, item_fits, only_one, op_of, operand, own_column, reference}
 use Rattle.rv_catalog.specs.Fits.{is_column, is_over_table, is_there}
 use Rattle.rv_catalog.specs.Kinds.{no_column}
@@ -55,7 +54,7 @@ columns_have P name place front [] n fit e each f = f
 columns_have P name place front (c ∷ cs) n fit e each f = let here : slice_index_or (front ++ c ∷ cs) n no_column ≡ c = rw e (get_or-append_seam front c cs no_column) in let within : n < length (front ++ c ∷ cs) = omega (arith, e, length-append front (c ∷ cs)) in let fit' : FitHas P (cond (bytes_eq name c.0) (also fit (record { place = place; column = n })) fit) = elim (bytes_eq name c.0) as (λ b. bytes_eq name c.0 ≡ b → FitHas P (cond b (also fit (record { place = place; column = n })) fit)) [
   | true ↦ λ t. also_has P fit (record { place = place; column = n }) f (each n within (rw here t))
   | false ↦ λ t. f
-  ] refl in columns_have P name place (front ++ c ∷ []) cs (n + 1) (cond (bytes_eq name c.0) (also fit (record { place = place; column = n })) fit) (omega (arith, e, length-append front (c ∷ []))) (rw (append_assoc front (c ∷ []) cs) each) fit'
+] refl in columns_have P name place (front ++ c ∷ []) cs (n + 1) (cond (bytes_eq name c.0) (also fit (record { place = place; column = n })) fit) (omega (arith, e, length-append front (c ∷ []))) (rw (append_assoc front (c ∷ []) cs) each) fit'
 
 -- In the tables of FROM.
 here_there : (tables : List TableDef) (front rest : List ℕ) (table : ℕ) (k : ℕ) → k < width tables table → is_there tables (front ++ table ∷ rest) (record { place = length front; column = k }) ≡ true
