@@ -2,5 +2,7 @@
 #![tactic(auto)]
 
 pub mod scripts;
+#[cfg(test)]
+mod tests;
 
 pub use scripts::{Line, Phase, Script, ScriptFault, read_script};
