@@ -2,7 +2,12 @@
 #![tactic(auto)]
 
 pub mod scripts;
+pub mod traces;
+pub mod transcript;
+pub mod values;
+
 #[cfg(test)]
 mod tests;
 
 pub use scripts::{Line, Phase, Script, ScriptFault, read_script};
+pub use transcript::write_text;

@@ -1,0 +1,104 @@
+//! Reads lines that have an index's columns, a restriction and a row, parted by semicolons, and writes behind
+//! each the place of the row's key in the range, the truth on the row, and whether the part passes the
+//! key. The file `stdout` has what tools/restriction_table.py finds by the rules in words.
+#![tactic(auto)]
+
+mod fits;
+mod read;
+
+use fits::all_fit;
+use read::{Fault, columns, restriction, values};
+use rv_restrict::{Restriction, Tri};
+use rv_value::{Duplicate, Key, Side, Value, Values};
+use std::alloc::Global;
+use std::io;
+
+/// What is found for a line.
+#[derive(Clone, Copy)]
+struct Found {
+    side: Side,
+    truth: Tri,
+    passes: bool,
+}
+
+fn find(alloc: Global, line: &str) -> Result<Found, Fault> {
+    let (index, rest) = line.split_once(';').ok_or(Fault::Form)?;
+    let (only, row) = rest.split_once(';').ok_or(Fault::Form)?;
+    let columns = columns(alloc, index)?;
+    let only = restriction(alloc, only)?;
+    let row = Values::from_vec(values(alloc, row)?);
+    compare(alloc, columns.as_slice(), &only, &row)
+}
+
+fn compare(
+    alloc: Global,
+    columns: &[u32],
+    only: &Restriction,
+    row: &Values,
+) -> Result<Found, Fault> {
+    let key = key_of(alloc, columns, row)?;
+    if !all_fit(only.groups(), row) || columns.len() > 4 {
+        return Err(Fault::Form);
+    }
+    let truth = only.truth(row);
+    let range = only.range_for(alloc, columns)?;
+    let part = only.index_part(alloc, columns)?;
+    if key.as_slice().len() != part.columns().len() {
+        return Err(Fault::Form);
+    }
+    Ok(Found {
+        side: range.place(&key),
+        truth,
+        passes: part.pass(&key),
+    })
+}
+
+fn key_of(alloc: Global, columns: &[u32], row: &Values) -> Result<Key, Fault> {
+    let mut key = Vec::new(alloc);
+    'columns: for column in columns {
+        let value = row.as_slice().get(*column as usize).ok_or(Fault::Form)?;
+        key.push(value.copy(alloc)?)?;
+    }
+    if key.is_empty() || key.len() > 4 {
+        return Err(Fault::Form);
+    }
+    Ok(Key::from_vec(key))
+}
+
+fn side_word(side: Side) -> &'static str {
+    match side {
+        Side::Before => "before",
+        Side::In => "in",
+        Side::After => "after",
+    }
+}
+
+fn truth_word(truth: Tri) -> &'static str {
+    match truth {
+        Tri::True => "true",
+        Tri::False => "false",
+        Tri::Unknown => "unknown",
+    }
+}
+
+fn pass_word(passes: bool) -> &'static str {
+    if passes { "yes" } else { "no" }
+}
+
+fn main(rt: HostRuntime) -> io::Result<()> {
+    'lines: for line in rt.lines(rt.alloc()) {
+        let line = line?;
+        match find(rt.alloc(), line.as_str()) {
+            Ok(found) => println!(rt;
+                "{};{};{};{}",
+                line.as_str(),
+                side_word(found.side),
+                truth_word(found.truth),
+                pass_word(found.passes)
+            )?,
+            Err(Fault::Form) => println!(rt; "{};not read", line.as_str())?,
+            Err(Fault::NoMemory) => println!(rt; "{};no memory", line.as_str())?,
+        }
+    }
+    Ok(())
+}

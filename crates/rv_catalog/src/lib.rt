@@ -1,0 +1,11 @@
+//! The catalog: the names of tables, columns and indexes, and statements with these looked up.
+#![tactic(auto)]
+
+mod columns;
+mod def;
+mod fault;
+mod limits;
+mod names;
+
+pub use def::{BindFault, Goal, IndexDef, Resolved, Select, TableDef};
+pub use names::Catalog;

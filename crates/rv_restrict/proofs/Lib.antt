@@ -1,0 +1,7 @@
+pub mod Binds
+pub mod Covers
+pub mod Inside
+pub mod Names
+pub mod Places
+pub mod Short
+pub mod Tests

@@ -1,0 +1,67 @@
+-- Tests, truths and numbers: what follows where a test is true or false.
+use Rattle.std.proofs.Common.{◌≡◌, ℕ, List, [], ◌∷◌, Bool, true, false, ◌&&◌, ◌||◌, ◌==◌, refl, arith}
+use Rattle.std.specs.List.{list_all}
+use Rattle.std.proofs.lemmas.Bool.Decides.{nat_tests}
+use Rattle.rv_restrict.specs.declared.atom.Tri.{Tri}
+use Rattle.rv_restrict.specs.declared.atom.Tri.TheVariants.{True, False, Unknown}
+use Rattle.rv_restrict.specs.Truth.{greater, lesser, truth_of}
+
+pub and_left : (a b : Bool) → (a && b) ≡ true → a ≡ true
+and_left true b h = refl
+and_left false b h = h
+
+pub and_right : (a b : Bool) → (a && b) ≡ true → b ≡ true
+and_right true b h = h
+and_right false b h = absurd (cc)
+
+pub and_both : (a b : Bool) → a ≡ true → b ≡ true → (a && b) ≡ true
+and_both true b p q = q
+and_both false b p q = p
+
+pub and_true : (a : Bool) → (a && true) ≡ false → a ≡ false
+and_true true h = h
+and_true false h = refl
+
+pub or_turned : (a b : Bool) → (a || b) ≡ (b || a)
+or_turned true true = refl
+or_turned true false = refl
+or_turned false true = refl
+or_turned false false = refl
+
+pub or_parts : (a b : Bool) → (a || b) ≡ false → (a ≡ false) × (b ≡ false)
+or_parts true b h = absurd (cc)
+or_parts false b h = (refl, h)
+
+pub same_number : (a b : ℕ) → a == b ≡ true → a ≡ b
+same_number a b h = grind (arith, nat_tests)
+
+pub is_itself : (n : ℕ) → n == n ≡ true
+is_itself n = grind (arith, nat_tests)
+
+-- a weaker test holds of every list of which a stronger one does
+pub all_weaker : {X : Type 0} (p q : X → Bool) → ((x : X) → p x ≡ true → q x ≡ true) → (xs : List X) → list_all p xs ≡ true → list_all q xs ≡ true
+all_weaker p q w [] h = refl
+all_weaker p q w (x ∷ xs) h = and_both (q x) (list_all q xs) (w x (and_left (p x) (list_all p xs) h)) (all_weaker p q w xs (and_right (p x) (list_all p xs) h))
+
+pub lesser_left : (a b : Tri) → lesser a b ≡ True → a ≡ True
+lesser_left True b h = refl
+lesser_left False b h = h
+lesser_left Unknown True h = h
+lesser_left Unknown False h = absurd (cc)
+lesser_left Unknown Unknown h = h
+
+pub lesser_right : (a b : Tri) → lesser a b ≡ True → b ≡ True
+lesser_right True b h = h
+lesser_right False b h = absurd (cc)
+lesser_right Unknown True h = refl
+lesser_right Unknown False h = h
+lesser_right Unknown Unknown h = h
+
+pub greater_False : (a : Tri) → greater a False ≡ a
+greater_False True = refl
+greater_False False = refl
+greater_False Unknown = refl
+
+pub truth_of_true : (b : Bool) → truth_of b ≡ True → b ≡ true
+truth_of_true true h = refl
+truth_of_true false h = absurd (cc)

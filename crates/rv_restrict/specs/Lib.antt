@@ -1,0 +1,6 @@
+pub mod Bind
+pub mod Groups
+pub mod Limits
+pub mod Parts
+pub mod Ranges
+pub mod Truth

@@ -1,0 +1,13 @@
+//! Restrictions of rows: their truth in three values, their binding to the rows of other FROM items, and
+//! what an index can do for them.
+#![tactic(auto)]
+
+mod atom;
+mod bind;
+mod part;
+mod range;
+mod truth;
+
+pub use atom::{Atom, ColRef, Op, Operand, Tri};
+pub use part::Part;
+pub use truth::Restriction;
