@@ -84,37 +84,35 @@ fn derive(
     Ok(())
 }
 
+fn table(alloc: Global) -> Result<Statement, NoMemory> {
+    let first = (text(alloc, "A")?, RawKind::Big);
+    let second = (text(alloc, "B_2")?, RawKind::Chars(-4));
+    let columns = two(alloc, first, second)?;
+    let name = text(alloc, "T")?;
+    Ok(Statement::CreateTable { name, columns })
+}
+
+fn index(alloc: Global) -> Result<Statement, NoMemory> {
+    let columns = two(alloc, text(alloc, "B")?, text(alloc, "A")?)?;
+    let name = text(alloc, "I")?;
+    let table = text(alloc, "T")?;
+    Ok(Statement::CreateIndex {
+        name,
+        table,
+        columns,
+    })
+}
+
 #[test]
 fn tables_and_indexes_are_created(rt: HostRuntime) -> Result<(), Fail> {
     let alloc = rt.alloc();
-    let table = Statement::CreateTable {
-        name: text(alloc, "T")?,
-        columns: two(
-            alloc,
-            (text(alloc, "A")?, RawKind::Big),
-            (text(alloc, "B_2")?, RawKind::Chars(-4)),
-        )?,
-    };
-    derive(
-        &rt,
-        alloc,
-        [
-            "CREATE TABLE T (A BIGINT, B_2 VARCHAR (-4))",
-            "create table t(a bigint,b_2 varchar(-4)) ;",
-        ],
-        table,
-    )?;
-    let index = Statement::CreateIndex {
-        name: text(alloc, "I")?,
-        table: text(alloc, "T")?,
-        columns: two(alloc, text(alloc, "B")?, text(alloc, "A")?)?,
-    };
-    derive(
-        &rt,
-        alloc,
-        ["CREATE INDEX I ON T (B, A)", "\tCreate Index i On t(b,a);"],
-        index,
-    )
+    let spellings = [
+        "CREATE TABLE T (A BIGINT, B_2 VARCHAR (-4))",
+        "create table t(a bigint,b_2 varchar(-4)) ;",
+    ];
+    derive(&rt, alloc, spellings, table(alloc)?)?;
+    let spellings = ["CREATE INDEX I ON T (B, A)", "\tCreate Index i On t(b,a);"];
+    derive(&rt, alloc, spellings, index(alloc)?)
 }
 
 #[test]
@@ -133,134 +131,144 @@ fn transactions_begin_and_end(rt: HostRuntime) -> Result<(), Fail> {
     derive(&rt, alloc, ["ROLLBACK", "rollBack;"], Statement::Rollback)
 }
 
+fn insertion(alloc: Global) -> Result<Statement, NoMemory> {
+    let mut values = two(alloc, Value::Int(-5), string(alloc, "it's")?)?;
+    values.push(Value::Null)?;
+    let table = text(alloc, "T")?;
+    Ok(Statement::Insert { table, values })
+}
+
+fn update(alloc: Global) -> Result<Statement, NoMemory> {
+    let first = (text(alloc, "A")?, Value::Int(1));
+    let sets = two(alloc, first, (text(alloc, "B")?, Value::Null))?;
+    let atom = compares(alloc, "A", RawOp::Lt, 3)?;
+    let only = one(alloc, one(alloc, atom)?)?;
+    let table = text(alloc, "T")?;
+    Ok(Statement::Update { table, sets, only })
+}
+
+fn update_of_all(alloc: Global) -> Result<Statement, NoMemory> {
+    let sets = one(alloc, (text(alloc, "A")?, string(alloc, "x")?))?;
+    let table = text(alloc, "T")?;
+    Ok(Statement::Update {
+        table,
+        sets,
+        only: Items::new(alloc),
+    })
+}
+
 #[test]
 fn rows_are_written(rt: HostRuntime) -> Result<(), Fail> {
     let alloc = rt.alloc();
-    let mut values = two(alloc, Value::Int(-5), string(alloc, "it's")?)?;
-    values.push(Value::Null)?;
-    let insert = Statement::Insert {
-        table: text(alloc, "T")?,
-        values,
-    };
-    derive(
-        &rt,
-        alloc,
-        [
-            "INSERT INTO T VALUES (-5, 'it''s', NULL)",
-            "insert into t values(-05,'it''s',null);",
-        ],
-        insert,
-    )?;
-    let update = Statement::Update {
-        table: text(alloc, "T")?,
-        sets: two(
-            alloc,
-            (text(alloc, "A")?, Value::Int(1)),
-            (text(alloc, "B")?, Value::Null),
-        )?,
-        only: one(alloc, one(alloc, compares(alloc, "A", RawOp::Lt, 3)?)?)?,
-    };
-    derive(
-        &rt,
-        alloc,
-        [
-            "UPDATE T SET A = 1, B = NULL WHERE A < 3",
-            "update t set a=1,b=null where(a<3);",
-        ],
-        update,
-    )?;
-    let all = Statement::Update {
-        table: text(alloc, "T")?,
-        sets: one(alloc, (text(alloc, "A")?, string(alloc, "x")?))?,
-        only: Items::new(alloc),
-    };
-    derive(
-        &rt,
-        alloc,
-        ["UPDATE T SET A = 'x'", "update t set a='x' ;"],
-        all,
-    )?;
-    let none = deletion(alloc, Items::new(alloc))?;
-    derive(&rt, alloc, ["DELETE FROM T", "delete from t;"], none)
+    let spellings = [
+        "INSERT INTO T VALUES (-5, 'it''s', NULL)",
+        "insert into t values(-05,'it''s',null);",
+    ];
+    derive(&rt, alloc, spellings, insertion(alloc)?)?;
+    let spellings = [
+        "UPDATE T SET A = 1, B = NULL WHERE A < 3",
+        "update t set a=1,b=null where(a<3);",
+    ];
+    derive(&rt, alloc, spellings, update(alloc)?)?;
+    let spellings = ["UPDATE T SET A = 'x'", "update t set a='x' ;"];
+    derive(&rt, alloc, spellings, update_of_all(alloc)?)?;
+    let spellings = ["DELETE FROM T", "delete from t;"];
+    derive(&rt, alloc, spellings, deletion(alloc, Items::new(alloc))?)
 }
 
 #[test]
 fn cursors_are_named(rt: HostRuntime) -> Result<(), Fail> {
     let alloc = rt.alloc();
-    let fetch = Statement::Fetch {
-        cursor: text(alloc, "C")?,
-    };
-    derive(&rt, alloc, ["FETCH C", "fetch C ;"], fetch)?;
-    let show = Statement::Show {
-        cursor: text(alloc, "C")?,
-    };
-    derive(&rt, alloc, ["SHOW C", "show c;"], show)?;
-    let close = Statement::Close {
-        cursor: text(alloc, "C")?,
-    };
-    derive(&rt, alloc, ["CLOSE C", "close\tc;"], close)?;
-    let step = Statement::Step {
-        cursor: text(alloc, "C")?,
-        n: -3,
-    };
+    let cursor = text(alloc, "C")?;
+    derive(
+        &rt,
+        alloc,
+        ["FETCH C", "fetch C ;"],
+        Statement::Fetch { cursor },
+    )?;
+    let cursor = text(alloc, "C")?;
+    derive(
+        &rt,
+        alloc,
+        ["SHOW C", "show c;"],
+        Statement::Show { cursor },
+    )?;
+    let cursor = text(alloc, "C")?;
+    derive(
+        &rt,
+        alloc,
+        ["CLOSE C", "close\tc;"],
+        Statement::Close { cursor },
+    )?;
+    let cursor = text(alloc, "C")?;
+    let step = Statement::Step { cursor, n: -3 };
     derive(&rt, alloc, ["STEP C -3", "step c -03;"], step)
+}
+
+fn whole_table(alloc: Global) -> Result<Statement, NoMemory> {
+    let items = one(alloc, (text(alloc, "T")?, None))?;
+    let cursor = text(alloc, "C")?;
+    Ok(Statement::Open {
+        cursor,
+        returned: None,
+        items,
+        only: Items::new(alloc),
+        order: Items::new(alloc),
+        goal: RawGoal::TotalTime,
+    })
+}
+
+/// `X.A = U.K`.
+fn join_of_two(alloc: Global) -> Result<Items<Items<RawAtom>>, NoMemory> {
+    let operand = RawOperand::Column(column_of(alloc, "U", "K")?);
+    let atom = RawAtom::Compare {
+        column: column_of(alloc, "X", "A")?,
+        op: RawOp::Eq,
+        operand,
+    };
+    one(alloc, one(alloc, atom)?)
+}
+
+/// `T X, U`.
+fn two_items(alloc: Global) -> Result<Items<(Text, Option<Text>)>, NoMemory> {
+    let second = Some(text(alloc, "X")?);
+    let first = (text(alloc, "T")?, second);
+    two(alloc, first, (text(alloc, "U")?, None))
+}
+
+fn ordered_join(alloc: Global) -> Result<Statement, NoMemory> {
+    let only = join_of_two(alloc)?;
+    let items = two_items(alloc)?;
+    let returned = two(alloc, column_of(alloc, "X", "A")?, column(alloc, "B")?)?;
+    let order = two(alloc, column(alloc, "B")?, column_of(alloc, "X", "A")?)?;
+    let cursor = text(alloc, "C")?;
+    Ok(Statement::Open {
+        cursor,
+        returned: Some(returned),
+        items,
+        only,
+        order,
+        goal: RawGoal::FastFirst,
+    })
 }
 
 #[test]
 fn selects_are_opened(rt: HostRuntime) -> Result<(), Fail> {
     let alloc = rt.alloc();
-    let plain = Statement::Open {
-        cursor: text(alloc, "C")?,
-        returned: None,
-        items: one(alloc, (text(alloc, "T")?, None))?,
-        only: Items::new(alloc),
-        order: Items::new(alloc),
-        goal: RawGoal::TotalTime,
-    };
-    derive(
-        &rt,
-        alloc,
-        [
-            "OPEN C SELECT * FROM T",
-            "open c select*from t optimize for total time;",
-        ],
-        plain,
-    )?;
-    let full = Statement::Open {
-        cursor: text(alloc, "C")?,
-        returned: Some(two(alloc, column_of(alloc, "X", "A")?, column(alloc, "B")?)?),
-        items: two(
-            alloc,
-            (text(alloc, "T")?, Some(text(alloc, "X")?)),
-            (text(alloc, "U")?, None),
-        )?,
-        only: one(
-            alloc,
-            one(
-                alloc,
-                RawAtom::Compare {
-                    column: column_of(alloc, "X", "A")?,
-                    op: RawOp::Eq,
-                    operand: RawOperand::Column(column_of(alloc, "U", "K")?),
-                },
-            )?,
-        )?,
-        order: two(alloc, column(alloc, "B")?, column_of(alloc, "X", "A")?)?,
-        goal: RawGoal::FastFirst,
-    };
-    derive(
-        &rt,
-        alloc,
-        [
-            "OPEN C SELECT X.A, B FROM T X, U WHERE X.A = U.K ORDER BY B, X.A OPTIMIZE FOR FAST FIRST",
-            "open c select x . a,b from t x,u where (x.a=u.k) order by b,x.a optimize for fast first;",
-        ],
-        full,
-    )
+    let spellings = [
+        "OPEN C SELECT * FROM T",
+        "open c select*from t optimize for total time;",
+    ];
+    derive(&rt, alloc, spellings, whole_table(alloc)?)?;
+    let spellings = [
+        "OPEN C SELECT X.A, B FROM T X, U WHERE X.A = U.K ORDER BY B, X.A OPTIMIZE FOR FAST FIRST",
+        "open c select x . a,b from t x,u where (x.a=u.k) order by b,x.a optimize for fast first;",
+    ];
+    derive(&rt, alloc, spellings, ordered_join(alloc)?)
 }
 
 #[test]
-fn atoms_have_their_forms(rt: HostRuntime) -> Result<(), Fail> {
+fn comparisons_have_their_forms(rt: HostRuntime) -> Result<(), Fail> {
     let alloc = rt.alloc();
     let forms = [
         (
@@ -292,120 +300,102 @@ fn atoms_have_their_forms(rt: HostRuntime) -> Result<(), Fail> {
         let atom = compares(alloc, "A", op, 1)?;
         derive(&rt, alloc, spellings, deletion_by(alloc, atom)?)?;
     }
-    let between = RawAtom::Between {
-        column: column(alloc, "A")?,
-        low: Value::Int(2),
-        high: Value::Int(1),
-    };
-    derive(
-        &rt,
-        alloc,
-        [
-            "DELETE FROM T WHERE A BETWEEN 2 AND 1",
-            "delete from t where (a between 2 and 1);",
-        ],
-        deletion_by(alloc, between)?,
-    )?;
-    let among = RawAtom::Among {
-        column: column(alloc, "A")?,
-        list: Values::from_vec(two(alloc, Value::Null, string(alloc, "")?)?.into_vec()),
-    };
-    derive(
-        &rt,
-        alloc,
-        [
-            "DELETE FROM T WHERE A IN (NULL, '')",
-            "delete from t where a in(null,'');",
-        ],
-        deletion_by(alloc, among)?,
-    )?;
-    let starts = RawAtom::Starts {
-        column: column_of(alloc, "T", "A")?,
-        text: text(alloc, "x")?,
-    };
-    derive(
-        &rt,
-        alloc,
-        [
-            "DELETE FROM T WHERE T.A STARTING WITH 'x'",
-            "delete from t where t.a starting with'x';",
-        ],
-        deletion_by(alloc, starts)?,
-    )?;
-    let null = deletion_by(alloc, is_null(alloc, "A", false)?)?;
-    derive(
-        &rt,
-        alloc,
-        [
-            "DELETE FROM T WHERE A IS NULL",
-            "delete from t where (a is null)",
-        ],
-        null,
-    )?;
-    let there = deletion_by(alloc, is_null(alloc, "A", true)?)?;
-    derive(
-        &rt,
-        alloc,
-        [
-            "DELETE FROM T WHERE A IS NOT NULL",
-            "delete from t where a is not null;",
-        ],
-        there,
-    )
+    Ok(())
+}
+
+fn between(alloc: Global) -> Result<Statement, NoMemory> {
+    let column = column(alloc, "A")?;
+    let low = Value::Int(2);
+    let high = Value::Int(1);
+    deletion_by(alloc, RawAtom::Between { column, low, high })
+}
+
+fn among(alloc: Global) -> Result<Statement, NoMemory> {
+    let list = two(alloc, Value::Null, string(alloc, "")?)?;
+    let list = Values::from_vec(list.into_vec());
+    let column = column(alloc, "A")?;
+    deletion_by(alloc, RawAtom::Among { column, list })
+}
+
+fn starting(alloc: Global) -> Result<Statement, NoMemory> {
+    let column = column_of(alloc, "T", "A")?;
+    let text = text(alloc, "x")?;
+    deletion_by(alloc, RawAtom::Starts { column, text })
+}
+
+#[test]
+fn other_atoms_have_their_forms(rt: HostRuntime) -> Result<(), Fail> {
+    let alloc = rt.alloc();
+    let spellings = [
+        "DELETE FROM T WHERE A BETWEEN 2 AND 1",
+        "delete from t where (a between 2 and 1);",
+    ];
+    derive(&rt, alloc, spellings, between(alloc)?)?;
+    let spellings = [
+        "DELETE FROM T WHERE A IN (NULL, '')",
+        "delete from t where a in(null,'');",
+    ];
+    derive(&rt, alloc, spellings, among(alloc)?)?;
+    let spellings = [
+        "DELETE FROM T WHERE T.A STARTING WITH 'x'",
+        "delete from t where t.a starting with'x';",
+    ];
+    derive(&rt, alloc, spellings, starting(alloc)?)?;
+    let spellings = [
+        "DELETE FROM T WHERE A IS NULL",
+        "delete from t where (a is null)",
+    ];
+    let atom = is_null(alloc, "A", false)?;
+    derive(&rt, alloc, spellings, deletion_by(alloc, atom)?)?;
+    let spellings = [
+        "DELETE FROM T WHERE A IS NOT NULL",
+        "delete from t where a is not null;",
+    ];
+    let atom = is_null(alloc, "A", true)?;
+    derive(&rt, alloc, spellings, deletion_by(alloc, atom)?)
+}
+
+/// `A > 0`.
+fn positive(alloc: Global) -> Result<RawAtom, NoMemory> {
+    compares(alloc, "A", RawOp::Gt, 0)
+}
+
+fn either(alloc: Global) -> Result<Statement, NoMemory> {
+    let group = two(alloc, positive(alloc)?, is_null(alloc, "B", false)?)?;
+    deletion(alloc, one(alloc, group)?)
+}
+
+fn both(alloc: Global) -> Result<Statement, NoMemory> {
+    let first = one(alloc, positive(alloc)?)?;
+    let second = one(alloc, is_null(alloc, "B", false)?)?;
+    deletion(alloc, two(alloc, first, second)?)
+}
+
+fn mixed(alloc: Global) -> Result<Statement, NoMemory> {
+    let atom = is_null(alloc, "B", false)?;
+    let second = two(alloc, atom, compares(alloc, "B", RawOp::Lt, 9)?)?;
+    let first = one(alloc, positive(alloc)?)?;
+    deletion(alloc, two(alloc, first, second)?)
 }
 
 #[test]
 fn conditions_are_groups(rt: HostRuntime) -> Result<(), Fail> {
     let alloc = rt.alloc();
-    let either = one(
-        alloc,
-        two(
-            alloc,
-            compares(alloc, "A", RawOp::Gt, 0)?,
-            is_null(alloc, "B", false)?,
-        )?,
-    )?;
-    derive(
-        &rt,
-        alloc,
-        [
-            "DELETE FROM T WHERE A > 0 OR B IS NULL",
-            "delete from t where (a>0 or b is null);",
-        ],
-        deletion(alloc, either)?,
-    )?;
-    let both = two(
-        alloc,
-        one(alloc, compares(alloc, "A", RawOp::Gt, 0)?)?,
-        one(alloc, is_null(alloc, "B", false)?)?,
-    )?;
-    derive(
-        &rt,
-        alloc,
-        [
-            "DELETE FROM T WHERE A > 0 AND B IS NULL",
-            "delete from t where (a>0) and (b is null);",
-        ],
-        deletion(alloc, both)?,
-    )?;
-    let mixed = two(
-        alloc,
-        one(alloc, compares(alloc, "A", RawOp::Gt, 0)?)?,
-        two(
-            alloc,
-            is_null(alloc, "B", false)?,
-            compares(alloc, "B", RawOp::Lt, 9)?,
-        )?,
-    )?;
-    derive(
-        &rt,
-        alloc,
-        [
-            "DELETE FROM T WHERE A > 0 AND (B IS NULL OR B < 9)",
-            "delete from t where (a>0)and(b is null or b<9)",
-        ],
-        deletion(alloc, mixed)?,
-    )
+    let spellings = [
+        "DELETE FROM T WHERE A > 0 OR B IS NULL",
+        "delete from t where (a>0 or b is null);",
+    ];
+    derive(&rt, alloc, spellings, either(alloc)?)?;
+    let spellings = [
+        "DELETE FROM T WHERE A > 0 AND B IS NULL",
+        "delete from t where (a>0) and (b is null);",
+    ];
+    derive(&rt, alloc, spellings, both(alloc)?)?;
+    let spellings = [
+        "DELETE FROM T WHERE A > 0 AND (B IS NULL OR B < 9)",
+        "delete from t where (a>0)and(b is null or b<9)",
+    ];
+    derive(&rt, alloc, spellings, mixed(alloc)?)
 }
 
 #[test]
