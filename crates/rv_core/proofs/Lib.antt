@@ -1,4 +1,4 @@
+pub mod Keeping
 pub mod Lists
 pub mod Offering
 pub mod Soundness
-pub mod Tables

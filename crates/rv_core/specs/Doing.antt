@@ -38,3 +38,8 @@ DoesAsked asked old session replies new =
 abbrev pub Executes : State → ℕ → Option Statement → Reply × Reply → State → Type 0
 Executes old session statement replies new =
     (replies.1 ≡ replies.0) × Allows old session statement replies.0 × (new ≡ next old session statement replies.0)
+
+-- A query that is asked is over one FROM item.
+abbrev pub IsOneQuery : Resolved → Type 0
+IsOneQuery (asks.Open cursor select) = length select.tables ≡ 1
+IsOneQuery asked = Unit {0}

@@ -2,5 +2,9 @@
 #![tactic(auto)]
 
 pub mod cursors;
+pub mod engine;
 pub mod finding;
+pub mod statements;
 pub mod transactions;
+
+pub use engine::Core;

@@ -5,7 +5,6 @@ ghost use Rattle.rv_rows.specs.Changes.{applied};
 ghost use Rattle.rv_rows.specs.Rows.{with_values};
 ghost use Rattle.rv_model.specs.Database.{no_table};
 ghost use Rattle.rv_model.specs.Step.{began, committed, created, ended, inserted, rows_of, state_of, tables_changed};
-ghost use Rattle.rv_model.specs.Standing.{IsWell};
 ghost use Rattle.rv_core.specs.Doing.{Does};
 
 use crate::finding::{close_all, transaction_of, twice};
@@ -17,11 +16,7 @@ use rv_value::{Duplicate, Items, NoMemory, Record, RowNo, Values};
 use std::alloc::Global;
 
 /// CREATE TABLE.
-pub fn create(
-    alloc: Global,
-    state: &mut State,
-    def: TableDef,
-) -> Result<(Reply, Reply), NoMemory>
+pub fn create(alloc: Global, state: &mut State, def: TableDef) -> Result<(Reply, Reply), NoMemory>
     requires fresh { table_named state.old.schema.tables def.name ≡ None }
     requires narrow { length def.columns ≤ 16 }
     ensures ok { IfOk result (λ replies. Does (created state.old def) state.old replies state.new) }
@@ -60,11 +55,7 @@ fn add_table(alloc: Global, state: &mut State, def: TableDef) -> Result<(), NoMe
 }
 
 /// BEGIN.
-pub fn begin(
-    alloc: Global,
-    state: &mut State,
-    session: u8,
-) -> Result<(Reply, Reply), NoMemory>
+pub fn begin(alloc: Global, state: &mut State, session: u8) -> Result<(Reply, Reply), NoMemory>
     requires { state.old.next < 2 ^ 64 - 1 }
     ensures ok { IfOk result (λ replies. Does (began state.old session) state.old replies state.new) }
     ensures err { OnErr result (state.new ≡ state.old) }
@@ -133,11 +124,7 @@ pub fn insert(
 
 /// COMMIT.
 #[tactic(auto, using(rv_value::proofs::Places::put_back, rv_value::proofs::Places::read_as))]
-pub fn commit(
-    alloc: Global,
-    state: &mut State,
-    session: u8,
-) -> Result<(Reply, Reply), NoMemory>
+pub fn commit(alloc: Global, state: &mut State, session: u8) -> Result<(Reply, Reply), NoMemory>
     requires { state.old.last < 2 ^ 64 - 1 }
     ensures ok { IfOk result (λ replies. Does (committed state.old session) state.old replies state.new) }
     ensures err { OnErr result (state.new ≡ state.old) }
@@ -152,7 +139,11 @@ pub fn commit(
         return Ok(replies);
     }
     let replies = twice(alloc, Reply::Committed(state.last + 1))?;
-    state.tables = tables_changed(alloc, transaction.changes.as_slice(), state.tables.as_slice())?;
+    state.tables = tables_changed(
+        alloc,
+        transaction.changes.as_slice(),
+        state.tables.as_slice(),
+    )?;
     state.last += 1;
     end(state, own, session);
     Ok(replies)
@@ -173,11 +164,10 @@ fn tables_changed(
     changes: &[Change],
     tables: &[Table],
 ) -> Result<Items<Table>, NoMemory>
-    requires { length tables.now ≤ 64 }
     ensures { IfOk result (λ new. new ≡ tables_changed 0 changes.now tables.now) }
 {
     let mut new = Items::new(alloc);
-    let mut number = 0;
+    let mut number = 0u64;
     'tables: for table in tables {
         new.push(Table {
             rows: applied(alloc, number, changes, &table.rows)?,
@@ -189,17 +179,12 @@ fn tables_changed(
 }
 
 /// The rows of a table with its changes applied.
-fn applied(
-    alloc: Global,
-    table: u32,
-    changes: &[Change],
-    rows: &Rows,
-) -> Result<Rows, NoMemory>
+fn applied(alloc: Global, table: u64, changes: &[Change], rows: &Rows) -> Result<Rows, NoMemory>
     ensures { IfOk result (λ new. new ≡ applied table changes.now rows.now) }
 {
     let mut new = rows.copy(alloc)?;
     'changes: for change in changes {
-        if change.table == table {
+        if u64::from(change.table) == table {
             apply(alloc, &mut new, change)?;
         }
     }

@@ -1,4 +1,4 @@
-ghost use Rattle.std.specs.Prelude.{◌≡◌, ◌==◌, ◌++◌, ◌∷◌, [], length, slice_get, OnOk, OnErr};
+ghost use Rattle.std.specs.Prelude.{◌≡◌, ◌==◌, ◌++◌, ◌∷◌, [], drop, length, slice_get, OnOk, OnErr};
 ghost use Rattle.std.specs.Option.{option_copied, option_to_list};
 
 use rv_value::NoMemory;
@@ -39,7 +39,8 @@ impl<X> Queue<X> {
 
     /// Takes the first item out; None where there is none.
     pub fn pop_front(&mut self) -> Option<X>
-        ensures { self.old ≡ option_to_list result ++ self.new }
+        ensures parts { self.old ≡ option_to_list result ++ self.new }
+        ensures rest { self.new ≡ drop 1 self.old }
     {
         self.items.pop_front()
     }
