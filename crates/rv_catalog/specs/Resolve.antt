@@ -1,6 +1,6 @@
 -- A statement with numbers for names, or its first refusal: the limits of the statement, then all unknown names, then
 -- all names that exist, then all kinds; within each the leftmost in the text, but tables before columns.
-use Rattle.std.specs.Prelude.{ℕ, ℤ, pos, negsuc, List, [], ◌∷◌, ◌++◌, ◌+◌, Bool, true, false, cond, nat_lt, Option, Some, None, Result, Ok, Err, bytes_eq, is_some, map}
+use Rattle.std.specs.Prelude.{ℕ, ℤ, pos, negsuc, List, [], ◌∷◌, ◌++◌, Bool, cond, nat_lt, Option, Some, None, Result, Ok, bytes_eq, is_some, map}
 use Rattle.std.specs.List.{list_any}
 use Rattle.rv_value.specs.declared.value.Kind.{Kind}
 use Rattle.rv_value.specs.declared.value.Kind.TheVariants.{Big, Chars}
@@ -21,6 +21,7 @@ use Rattle.rv_catalog.specs.declared.def.Goal.{Goal}
 use Rattle.rv_catalog.specs.declared.def.Goal.TheVariants.{FastFirst, TotalTime}
 use Rattle.rv_catalog.specs.declared.def.Resolved.{Resolved}
 use Rattle.rv_catalog.specs.declared.def.Resolved.TheVariants.{CreateTable as NewTable, CreateIndex as NewIndex, Begin as Begins, Insert as Inserts, Update as Updates, Delete as Deletes, Commit as Commits, Rollback as Rolls, Open as Opens, Fetch as Fetches, Show as Shows, Close as Closes, Step as Steps}
+use Rattle.rv_catalog.specs.declared.def.Select.{Select}
 use Rattle.rv_catalog.specs.declared.def.TableDef.{TableDef}
 use Rattle.rv_catalog.specs.Answers.{◌>>=◌, all_pass, collected, ok_or, refuse_if, refuse_some}
 use Rattle.rv_catalog.specs.Columns.{all_columns, groups, own_column, reference}
@@ -137,15 +138,20 @@ goal_of RawTotalTime = TotalTime
 abbrev pub item_table : Item → ℕ
 item_table i = i.table
 
-abbrev pub opened : Schema → List ℕ → Option (List RawCol) → List (List ℕ × Option (List ℕ)) → List (List RawAtom) → List RawCol → RawGoal → Result Resolved Refusal
-opened schema cursor returned items only order goal = do
+abbrev pub selected : Schema → Option (List RawCol) → List (List ℕ × Option (List ℕ)) → List (List RawAtom) → List RawCol → RawGoal → Result Select Refusal
+selected schema returned items only order goal = do
   reach ← collected (item schema.tables) [] items
   shown ← returns schema.tables reach returned
   where_true ← groups schema.tables reach only
   sorted ← references schema.tables reach order
   once ← refuse_some (first_repeat item_name [] reach) Exists
   right ← kinds schema.tables reach where_true
-  Ok (Opens cursor (record { tables = map item_table reach; only = where_true; returns = shown; order = sorted; goal = goal_of goal }))
+  Ok (record { tables = map item_table reach; only = where_true; returns = shown; order = sorted; goal = goal_of goal })
+
+abbrev pub opened : Schema → List ℕ → Option (List RawCol) → List (List ℕ × Option (List ℕ)) → List (List RawAtom) → List RawCol → RawGoal → Result Resolved Refusal
+opened schema cursor returned items only order goal = do
+  select ← selected schema returned items only order goal
+  Ok (Opens cursor select)
 
 -- STEP. The limits leave numbers from 0 to 10000.
 

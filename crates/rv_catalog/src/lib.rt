@@ -4,8 +4,10 @@
 mod columns;
 mod def;
 mod fault;
+mod kinds;
 mod limits;
 mod names;
+mod resolve;
 
 pub use def::{BindFault, Goal, IndexDef, Resolved, Select, TableDef};
 pub use names::Catalog;

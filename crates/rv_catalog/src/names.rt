@@ -61,6 +61,11 @@ impl Catalog {
         self.indexes.as_slice()
     }
 
+    /// The allocator that the catalog keeps.
+    pub(crate) fn alloc(&self) -> Global {
+        self.alloc
+    }
+
     /// The number of the table of a name.
     pub(crate) fn table_of(&self, name: &Text) -> Option<usize>
         ensures is { result ≡ table_named self.now.tables name.now }
@@ -86,6 +91,16 @@ impl Catalog {
             None => &[],
             Some(table) => table.columns.as_slice(),
         }
+    }
+
+    /// The number of a table's indexes. It takes no memory.
+    pub fn count_indexes(&self, table: u32) -> usize
+        ensures { result ≡ indexes_over table self.now.indexes }
+    {
+        self.indexes
+            .iter()
+            .filter(|index| index.table == table)
+            .count()
     }
 
     /// Adds a table behind the others, and gives its number.

@@ -5,6 +5,7 @@ pub mod Lines
 pub mod Replies
 pub mod Same
 pub mod Sorting
+pub mod Standings
 pub mod Traces
 pub mod Values
 pub mod Wide

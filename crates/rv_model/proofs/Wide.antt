@@ -42,13 +42,15 @@ all_at P (x ∷ xs) zero d other a = a.0
 all_at P (x ∷ xs) (suc i) d other a = all_at P xs i d other a.1
 
 pub all_take : {X : Type 0} (P : X → Type 0) (i : ℕ) (xs : List X) → AllByRecursion P xs → AllByRecursion P (take i xs)
-all_take P i [] a = tt
+all_take P zero [] a = tt
 all_take P zero (x ∷ xs) a = tt
+all_take P (suc i) [] a = tt
 all_take P (suc i) (x ∷ xs) a = (a.0, all_take P i xs a.1)
 
 pub all_drop : {X : Type 0} (P : X → Type 0) (i : ℕ) (xs : List X) → AllByRecursion P xs → AllByRecursion P (drop i xs)
-all_drop P i [] a = tt
+all_drop P zero [] a = tt
 all_drop P zero (x ∷ xs) a = a
+all_drop P (suc i) [] a = tt
 all_drop P (suc i) (x ∷ xs) a = all_drop P i xs a.1
 
 pub all_remove : {X : Type 0} (P : X → Type 0) (xs : List X) (i : ℕ) → AllByRecursion P xs → AllByRecursion P (remove xs i)
@@ -68,10 +70,10 @@ applied_wide : (defs : List TableDef) (number : ℕ) (changes : List Change) (ro
 applied_wide defs number [] rows fits a = a
 applied_wide defs number (c ∷ cs) rows fits a = elim (eqb_tells c.table number) [
   | inl here ↦
-      let same : c.table ≡ number = here.0 in
+      let same : c.table ≡ number = here.1 in
       let Fits : ℕ → Type 0 = λ n. IfSome c.values (λ values. length values ≡ width defs n) in
-      rw here.1 (applied_wide defs number cs (with_values c.row.0 c.values rows) fits.1 (values_wide (width defs number) c.row.0 c.values rows (subst Fits same fits.0) a))
-  | inr other ↦ rw other.1 (applied_wide defs number cs rows fits.1 a)
+      rw here.0 (applied_wide defs number cs (with_values c.row.0 c.values rows) fits.1 (values_wide (width defs number) c.row.0 c.values rows (subst Fits same fits.0) a))
+  | inr other ↦ rw other.0 (applied_wide defs number cs rows fits.1 a)
 ]
 
 -- A fact of the rows of each table by its number, that changes keep.
@@ -92,7 +94,7 @@ changed_wide defs changes ts fits wide number =
     let P : ℕ → List Record → Type 0 = λ n rows. AreWide (width defs n) rows in
     let start : (i : ℕ) → P (0 + i) (rows_at (rows_of ts) i) = λ i. subst (λ n. P n (rows_at (rows_of ts) i)) (sym (zeroth i)) (wide i) in
     subst (λ n. P n (rows_at (rows_of (tables_changed 0 changes ts)) number)) (zeroth number)
-      (tables_keep P changes (λ n rows a. applied_wide defs n changes rows fits a) (λ n. tt) 0 ts start number)
+    (tables_keep P changes (λ n rows a. applied_wide defs n changes rows fits a) (λ n. tt) 0 ts start number)
 
 pub changed_many : (k : ℕ) (changes : List Change) (ts : List Table) → length (tables_changed k changes ts) ≡ length ts
 changed_many k changes [] = refl
@@ -106,7 +108,7 @@ rows_stay (t ∷ ts) (suc i) n = ap (λ rest. t.rows ∷ rest) (rows_stay ts i n
 
 -- A table more, without rows.
 
-rows_pushed : (ts : List Table) (i : ℕ) → rows_at (rows_of (ts ++ no_table ∷ [])) i ≡ rows_at (rows_of ts) i
+pub rows_pushed : (ts : List Table) (i : ℕ) → rows_at (rows_of (ts ++ no_table ∷ [])) i ≡ rows_at (rows_of ts) i
 rows_pushed [] zero = refl
 rows_pushed [] (suc i) = refl
 rows_pushed (t ∷ ts) zero = refl
@@ -127,6 +129,3 @@ wide_more defs def tables few wide i = elim (cases_lt i (length defs)) [
   | inl within ↦ rw (width_stays defs def i within) (wide i)
   | inr past ↦ rw (rows_past tables i (omega arith)) tt
 ]
-
-pub wide_pushed : (defs : List TableDef) (ts : List Table) → AllWide defs (rows_of ts) → AllWide defs (rows_of (ts ++ no_table ∷ []))
-wide_pushed defs ts wide i = rw (rows_pushed ts i) (wide i)

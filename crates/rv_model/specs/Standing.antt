@@ -36,7 +36,3 @@ pub record IsWell (s : State) : Type 0 where
   pub many : length s.tables ≡ length s.schema.tables
   pub wide : AllWide s.schema.tables (rows_of s.tables)
   pub active : AllByRecursion (IsWellTransaction s.schema.tables) s.active
-
-pub record IsStanding (s : State) : Type 0 where
-  pub room : HasRoom s
-  pub well : IsWell s
