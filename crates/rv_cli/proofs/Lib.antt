@@ -1,2 +1,3 @@
-pub mod Calls
+pub mod CallLists
+pub mod Ends
 pub mod Fits

@@ -1,5 +1,5 @@
 -- What performing a script comes to, and which status a fault gives.
-use Rattle.std.specs.Prelude.{◌≡◌, ℕ, List, Option}
+use Rattle.std.specs.Prelude.{◌≡◌, ℕ, List, Option, Bool, true, false}
 use Rattle.std.specs.Io.KnownBytes.{Appends}
 use Rattle.rv_io.specs.Pieces.{AppendsFront}
 use Rattle.rv_io.specs.declared.all.ReadFault.{ReadFault}
@@ -51,3 +51,8 @@ script_status (faults.NotText offset) = statuses.Script (faults.NotText offset)
 script_status (faults.TooLong line) = statuses.Limit (over.Line line)
 script_status (faults.TooMany lines) = statuses.Limit over.Lines
 script_status faults.NoMemory = statuses.Memory
+
+-- all calls were made, or memory was refused
+abbrev pub calls_status : Bool → Status
+calls_status true = statuses.Done
+calls_status false = statuses.Memory

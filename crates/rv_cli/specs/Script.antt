@@ -92,8 +92,13 @@ pub record HasFault (left : Option (List ℕ)) (fault : ScriptFault) : Type 0 wh
   pub kind : IsScriptFault fault
   pub first : IfSome left (λ bytes. script_of bytes ≡ Err fault)
 
+-- The first fault is that there are too many lines.
+pub record HasTooMany (bytes : List ℕ) : Type 0 where
+  pub lines : ℕ
+  pub first : script_of bytes ≡ Err (faults.TooMany lines)
+
 -- What status 3 says: more than so many bytes were taken, or the first fault of the source's bytes is a limit passed.
 abbrev pub PassesLimit : Option (List ℕ) → Option (List ℕ) → ℕ → Over → Type 0
 PassesLimit left after limit over.Bytes = TakesTooMany left after limit
-PassesLimit left after limit over.Lines = IfSome left (λ bytes. script_of bytes ≡ Err (faults.TooMany 200000))
+PassesLimit left after limit over.Lines = IfSome left HasTooMany
 PassesLimit left after limit (over.Line n) = IfSome left (λ bytes. script_of bytes ≡ Err (faults.TooLong n))

@@ -10,10 +10,9 @@ use crate::status::Status;
 use rv_io::{StdSink, StdSource};
 use rv_value::{NoMemory, Text};
 use std::alloc::Global;
-use std::env;
-use std::io;
 use std::io::BufWriter;
 use std::process::ExitCode;
+use std::{env, io};
 
 /// Runs the script of standard input, says on standard error how that ended, and exits with the status's code.
 fn main(rt: HostRuntime) -> ExitCode {
@@ -34,7 +33,10 @@ fn whole(rt: &HostRuntime) -> Result<Status, NoMemory> {
     };
     let mut source = StdSource::new(rt.reader());
     let mut sink = StdSink::new(out);
-    let Ran { status, core: _core } = run(alloc, words.as_slice(), &mut source, &mut sink);
+    let Ran {
+        status,
+        core: _core,
+    } = run(alloc, words.as_slice(), &mut source, &mut sink);
     Ok(match sink.finish() {
         Ok(()) => status,
         Err(_fault) => Status::WriteFault,

@@ -4,7 +4,7 @@ ghost use Rattle.std.specs.Io.KnownBytes.{IsAtEnd, Keeps};
 ghost use Rattle.rv_io.specs.Causes.{Rose};
 ghost use Rattle.rv_cli.specs.Script.{HasFault, PassesLimit, StopsShort, WritesAll, WritesFront};
 ghost use Rattle.rv_cli.specs.Making.{FitsPhase};
-ghost use Rattle.rv_cli.specs.Performing.{IsPerformed, Performs, PerformsFirst, PerformsFront, reading_status, script_status};
+ghost use Rattle.rv_cli.specs.Performing.{IsPerformed, Performs, PerformsFirst, PerformsFront, calls_status, reading_status, script_status};
 ghost use Rattle.rv_cli.specs.declared.status.Over.{Over as Limits};
 ghost use Rattle.rv_script.specs.declared.scripts.ScriptFault.{ScriptFault as Faults};
 
@@ -113,7 +113,14 @@ fn perform<K: Sink>(alloc: Global, script: &Script, sink: &mut K) -> Ran
         };
     }
     Ran {
-        status: if called { Status::Done } else { Status::Memory },
+        status: after_calls(called),
         core: Some(core),
     }
+}
+
+/// How a run ends whose transcript was written.
+fn after_calls(called: bool) -> Status
+    ensures { result ≡ calls_status called }
+{
+    if called { Status::Done } else { Status::Memory }
 }

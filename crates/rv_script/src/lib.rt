@@ -2,12 +2,11 @@
 #![tactic(auto)]
 
 pub mod scripts;
+#[cfg(test)]
+mod tests;
 pub mod traces;
 pub mod transcript;
 pub mod values;
-
-#[cfg(test)]
-mod tests;
 
 pub use scripts::{Line, Phase, Script, ScriptFault, read_script};
 pub use transcript::write_text;

@@ -1,5 +1,5 @@
 -- The calls of a history and of a script, in order, and those of each session in each phase.
-use Rattle.std.proofs.Common.{◌≡◌, ℕ, ◌+◌, ◌<◌, ◌≤◌, ◌==◌, ◌&&◌, List, [], ◌∷◌, ◌++◌, refl, sym, ap, ◌∙◌, arith, suc, zero, Bool, true, false, cond, filter, map, inl, inr, append_assoc, append-nil, take, drop, length, nat_eq}
+use Rattle.std.proofs.Common.{◌≡◌, ℕ, ◌+◌, ◌<◌, ◌≤◌, ◌==◌, ◌&&◌, List, [], ◌∷◌, ◌++◌, refl, sym, ap, ◌∙◌, arith, suc, zero, Bool, true, false, cond, filter, map, inl, inr, append_assoc, append-nil, take, drop, drop-cons, length, nat_eq}
 use Rattle.std.proofs.lemmas.Bool.{cases_Bool}
 use Rattle.std.proofs.lemmas.Bool.Decides.{nat_tests}
 use Rattle.std.specs.List.{slice_index_or}
@@ -8,6 +8,7 @@ use Rattle.rv_script.specs.declared.scripts.Phase.{Phase}
 use Rattle.rv_script.specs.declared.scripts.Script.{Script}
 use Rattle.rv_model.specs.declared.entry.Entry.{Entry}
 use Rattle.rv_model.specs.History.{calls}
+use Rattle.rv_core.specs.Core.{Shown}
 use Rattle.rv_cli.specs.Script.{Call, call, calls_made, calls_in, calls_from, calls_asked, texts_of, no_phase, HasAllCalls, HasFirstCalls}
 use Rattle.rv_cli.specs.Making.{MakesCalls}
 
@@ -92,9 +93,9 @@ pub all_calls : (h : List Entry) (script : Script) → calls_made h ≡ calls_as
 all_calls h script e = record {
   order = e;
   each = λ session number.
-    let at : 1 + number ≡ number + 1 = omega arith in
-    let asked : picked (calls_asked script) session (number + 1) ≡ texts_of script.phases session number = rw (← at) (of_phase script.phases 1 session number) in
-    made_picked h session (number + 1) ∙ ap (λ cs. picked cs session (number + 1)) e ∙ asked;
+      let at : 1 + number ≡ number + 1 = omega arith in
+      let asked : picked (calls_asked script) session (number + 1) ≡ texts_of script.phases session number = rw (← at) (of_phase script.phases 1 session number) in
+      made_picked h session (number + 1) ∙ ap (λ cs. picked cs session (number + 1)) e ∙ asked;
 }
 
 pub calls_in-append : (phase : ℕ) (xs ys : List Line) → calls_in phase (xs ++ ys) ≡ calls_in phase xs ++ calls_in phase ys
@@ -122,3 +123,13 @@ first_calls before after phase p ps all whole made =
 -- all calls are the first ones
 pub whole_calls : (h : List Entry) (all : List Call) → calls_made h ≡ all → HasFirstCalls h all
 whole_calls h all e = record { rest = []; whole = sym e ∙ sym (append-nil (calls_made h)) }
+
+-- the same, as the code goes over the phases
+pub first_calls_at : (core entered after : Shown) (number i : ℕ) (phases : List Phase) (p : Phase) (lines : List Line) → number ≡ i → i < length phases → p ≡ slice_index_or phases i p → lines ≡ p.lines → entered ≡ record core { phase = number + 1 }
+    → calls_made core.history ++ calls_from (number + 1) (drop i phases) ≡ calls_from 1 phases → MakesCalls entered.history after.history entered.phase lines → HasFirstCalls after.history (calls_from 1 phases)
+first_calls_at core entered after number i phases p lines n within is same gone whole made =
+    let split : drop i phases ≡ p ∷ drop (suc i) phases = drop-cons phases i p within ∙ ap (λ (q : Phase). q ∷ drop (suc i) phases) (sym is) in
+    let history : entered.history ≡ core.history = ap (λ (s : Shown). s.history) gone in
+    let phase : entered.phase ≡ number + 1 = ap (λ (s : Shown). s.phase) gone in
+    let mine : MakesCalls core.history after.history (number + 1) p.lines = rw (← history, ← phase, ← same) made in
+    first_calls core.history after.history (number + 1) p (drop (suc i) phases) (calls_from 1 phases) (ap (λ (ps : List Phase). calls_made core.history ++ calls_from (number + 1) ps) (sym split) ∙ whole) mine
