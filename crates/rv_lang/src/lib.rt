@@ -4,6 +4,8 @@
 pub mod lexer;
 pub mod reply;
 pub mod statement;
+#[cfg(test)]
+mod tests;
 pub mod token;
 
 pub use lexer::lex;

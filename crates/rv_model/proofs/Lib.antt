@@ -1,5 +1,11 @@
+pub mod Bounds
 pub mod Cuts
+pub mod Histories
 pub mod Lines
 pub mod Replies
+pub mod Same
+pub mod Sorting
+pub mod Standings
 pub mod Traces
 pub mod Values
+pub mod Wide

@@ -3,6 +3,11 @@
 
 pub mod entry;
 pub mod laws;
+pub mod offers;
+pub mod queue;
+pub mod state;
 
 pub use entry::Entry;
+pub use queue::Queue;
 pub use rv_lang::{Refusal, Reply, Shown, ShownEvent, Which};
+pub use state::{Cursor, Offer, State, Table, Transaction};

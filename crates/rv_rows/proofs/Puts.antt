@@ -21,7 +21,7 @@ filter_all p (x ∷ xs) h =
     let parts = and_parts (p x) (list_all p xs) h in
     rw (parts.0) (ap (λ ys. x ∷ ys) (filter_all p xs parts.1))
 
-rising_filter : {X : Type 0} (before : X → X → Bool) (p : X → Bool) (xs : List X) → Rising before xs → Rising before (filter p xs)
+pub rising_filter : {X : Type 0} (before : X → X → Bool) (p : X → Bool) (xs : List X) → Rising before xs → Rising before (filter p xs)
 rising_filter before p [] rising = tt
 rising_filter before p (x ∷ xs) rising =
     let rest = rising_filter before p xs rising.1 in

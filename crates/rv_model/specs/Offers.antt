@@ -1,0 +1,54 @@
+-- What a cursor has to offer.
+use Rattle.std.specs.Prelude.{◌≡◌, ℕ, List, [], ◌∷◌, Bool, ◌&&◌, Option, Some, None, IsSome, position, filter, map, remove, if◌then◌else◌}
+use Rattle.std.specs.List.{slice_index_or}
+use Rattle.std.specs.Ordering.{is_eq, is_lt, ordering_then}
+use Rattle.std.specs.declared.cmp.Ordering.{Ordering}
+use Rattle.rv_value.specs.declared.value.Value.{Value}
+use Rattle.rv_value.specs.declared.record.Record.{Record}
+use Rattle.rv_value.specs.Order.{values_cmp}
+use Rattle.rv_restrict.specs.declared.atom.ColRef.{ColRef}
+use Rattle.rv_restrict.specs.Truth.{qualifies, row_reads}
+use Rattle.rv_catalog.specs.declared.def.Select.{Select}
+use Rattle.rv_model.specs.declared.state.Offer.{Offer}
+
+-- by the order values, then by the values returned
+abbrev pub offer_cmp : Offer → Offer → Ordering
+offer_cmp a b = ordering_then (values_cmp a.order b.order) (values_cmp a.returned b.returned)
+
+-- a sorted list with one more offer
+abbrev pub sorted_in : Offer → List Offer → List Offer
+sorted_in o [] = o ∷ []
+sorted_in o (x ∷ xs) = if is_lt (offer_cmp x o) then x ∷ sorted_in o xs else o ∷ x ∷ xs
+
+-- the same offers, each as often, in order
+abbrev pub sorted : List Offer → List Offer
+sorted [] = []
+sorted (o ∷ os) = sorted_in o (sorted os)
+
+-- the values that references read in a row
+abbrev pub picked : List ColRef → List Value → List Value
+picked columns row = map (row_reads row) columns
+
+-- what a row of the one FROM item offers
+abbrev pub offer_of : Select → Record → Offer
+offer_of select r = record { order = picked select.order r.values; returned = picked select.returns r.values }
+
+-- the rows that WHERE keeps
+abbrev pub qualifying : Select → List Record → List Record
+qualifying select rows = filter (λ (r : Record). qualifies select.only r.values) rows
+
+-- one offer for each row of the one FROM item whose restriction is True, in order; equal offers stand as often as there are rows
+abbrev pub offers_of : Select → List Record → List Offer
+offers_of select rows = sorted (map (offer_of select) (qualifying select rows))
+
+abbrev pub same_values : List Value → List Value → Bool
+same_values a b = is_eq (values_cmp a b)
+
+-- the place of the first offer that returns these values with the first offer's order values
+abbrev pub place_of : List Offer → List Value → Option ℕ
+place_of [] values = None
+place_of (first ∷ others) values = position (λ (o : Offer). same_values o.order first.order && same_values o.returned values) (first ∷ others)
+
+abbrev pub without : Option ℕ → List Offer → List Offer
+without None offers = offers
+without (Some place) offers = remove offers place

@@ -1,0 +1,5 @@
+use Rattle.rv_io.proofs.Streams.{goes_then}
+use Rattle.rv_script.proofs.traces.write_named_count.Goals as goal
+
+pub returns : goal.returns
+returns g c = goes_then c.write_word-front.ensures c.write_count.ensures

@@ -1,0 +1,4 @@
+use Rattle.rv_script.proofs.transcript.write_reply.Goals as goal
+
+pub returns-in-RolledBack : goal.returns-in-RolledBack
+returns-in-RolledBack g c = rw c.in-RolledBack.is c.write_next-in-RolledBack.ensures

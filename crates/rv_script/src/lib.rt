@@ -1,0 +1,13 @@
+//! Scripts, which a run reads, and transcripts, which it writes.
+#![tactic(auto)]
+
+pub mod scripts;
+pub mod traces;
+pub mod transcript;
+pub mod values;
+
+#[cfg(test)]
+mod tests;
+
+pub use scripts::{Line, Phase, Script, ScriptFault, read_script};
+pub use transcript::write_text;

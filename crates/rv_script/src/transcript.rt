@@ -1,0 +1,168 @@
+ghost use Rattle.std.specs.Prelude.{◌≡◌, ◌≤◌, ◌++◌, ◌∷◌, [], All, codes, decimal, Ok};
+ghost use Rattle.rv_io.specs.Pieces.{Goes};
+ghost use Rattle.rv_model.specs.Transcript.{text, entry_text, reply_text, refusal_text, limit_word};
+
+use crate::traces::write_trace;
+use crate::values::write_row;
+use itoa::Buffer;
+use rv_io::{Failed, Sink, write_next};
+use rv_model::{Entry, Refusal, Reply, Which};
+
+/// Appends the transcript of entries: two lines for each, the session's digit, a space and the text as
+/// given, then `= ` and the text of the reply. Each line takes at least one write. After a write that
+/// failed there is no further one.
+pub fn write_text<K: Sink>(sink: &mut K, entries: &[Entry]) -> Result<(), Failed>
+    requires { All (λ e. e.session ≤ 8) entries.now }
+    ensures { Goes (Ok tt) (K.written sink.old) (K.written sink.new) (K.faults sink.old) (K.faults sink.new) result (text entries.now) }
+{
+    let mut sofar = Ok(());
+    'entries: for entry in entries {
+        sofar = write_entry(sink, sofar, entry);
+    }
+    sofar
+}
+
+/// An entry's two lines.
+fn write_entry<K: Sink>(
+    sink: &mut K,
+    sofar: Result<(), Failed>,
+    entry: &Entry,
+) -> Result<(), Failed>
+    requires { entry.now.session ≤ 8 }
+    ensures { Goes sofar (K.written sink.old) (K.written sink.new) (K.faults sink.old) (K.faults sink.new) result (entry_text entry.now) }
+{
+    let head = write_next(sink, sofar, &[b'0' + entry.session, b' ']);
+    let asked = write_next(sink, head, entry.text.as_str().as_bytes());
+    let sign = write_next(sink, asked, b"\n= ");
+    let reply = write_reply(sink, sign, &entry.reply);
+    write_next(sink, reply, b"\n")
+}
+
+/// Two pieces.
+pub fn write_two<K: Sink>(
+    sink: &mut K,
+    sofar: Result<(), Failed>,
+    first: &[u8],
+    second: &[u8],
+) -> Result<(), Failed>
+    ensures { Goes sofar (K.written sink.old) (K.written sink.new) (K.faults sink.old) (K.faults sink.new) result (first.now ++ second.now) }
+{
+    let front = write_next(sink, sofar, first);
+    write_next(sink, front, second)
+}
+
+/// A word and a number.
+pub fn write_number<K: Sink>(
+    sink: &mut K,
+    sofar: Result<(), Failed>,
+    word: &[u8],
+    number: u64,
+) -> Result<(), Failed>
+    ensures { Goes sofar (K.written sink.old) (K.written sink.new) (K.faults sink.old) (K.faults sink.new) result (word.now ++ decimal number) }
+{
+    let mut digits = Buffer::new();
+    write_two(sink, sofar, word, digits.format(number).as_bytes())
+}
+
+/// A reply's text.
+fn write_reply<K: Sink>(
+    sink: &mut K,
+    sofar: Result<(), Failed>,
+    reply: &Reply,
+) -> Result<(), Failed>
+    ensures { Goes sofar (K.written sink.old) (K.written sink.new) (K.faults sink.old) (K.faults sink.new) result (reply_text reply.now) }
+{
+    match reply {
+        Reply::Created => write_next(sink, sofar, b"created"),
+        Reply::Began(number) => write_number(sink, sofar, b"began ", *number),
+        Reply::Inserted(row) => write_number(sink, sofar, b"inserted ", row.0),
+        Reply::Touched(count) => write_number(sink, sofar, b"touched ", *count),
+        Reply::Committed(number) => write_number(sink, sofar, b"committed ", *number),
+        Reply::RolledBack => write_next(sink, sofar, b"rolled back"),
+        Reply::Opened => write_next(sink, sofar, b"opened"),
+        Reply::Row(values) => write_row(sink, sofar, values),
+        Reply::End => write_next(sink, sofar, b"end"),
+        Reply::Closed => write_next(sink, sofar, b"closed"),
+        Reply::Stepped(count) => write_number(sink, sofar, b"stepped ", *count),
+        Reply::Trace(shown) => write_trace(sink, sofar, shown),
+        Reply::Refused(refusal) => write_refusal(sink, sofar, refusal),
+    }
+}
+
+/// A refusal's text.
+fn write_refusal<K: Sink>(
+    sink: &mut K,
+    sofar: Result<(), Failed>,
+    refusal: &Refusal,
+) -> Result<(), Failed>
+    ensures { Goes sofar (K.written sink.old) (K.written sink.new) (K.faults sink.old) (K.faults sink.new) result (refusal_text refusal.now) }
+{
+    match refusal {
+        Refusal::NotBuilt => write_next(sink, sofar, b"not built"),
+        Refusal::Syntax => write_next(sink, sofar, b"syntax"),
+        Refusal::Unknown(name) => write_two(sink, sofar, b"unknown ", name.as_str().as_bytes()),
+        Refusal::Exists(name) => write_two(sink, sofar, b"exists ", name.as_str().as_bytes()),
+        Refusal::Kind(name) => write_two(sink, sofar, b"kind ", name.as_str().as_bytes()),
+        Refusal::Active(txn) => write_number(sink, sofar, b"active ", *txn),
+        Refusal::NoTransaction => write_next(sink, sofar, b"no transaction"),
+        Refusal::Busy(txn) => write_number(sink, sofar, b"busy ", *txn),
+        Refusal::ReadOnly => write_next(sink, sofar, b"read only"),
+        Refusal::Changed { row, commit } => write_by(sink, sofar, b"changed ", row.0, *commit),
+        Refusal::Held { row, txn } => write_by(sink, sofar, b"held ", row.0, *txn),
+        Refusal::NoCursor(name) => write_two(sink, sofar, b"no cursor ", name.as_str().as_bytes()),
+        Refusal::CursorOpen(name) => {
+            write_two(sink, sofar, b"cursor open ", name.as_str().as_bytes())
+        }
+        Refusal::Limit { which, number } => write_limit(sink, sofar, *which, *number),
+        Refusal::Pending(name) => write_two(sink, sofar, b"pending ", name.as_str().as_bytes()),
+    }
+}
+
+/// A word, a number, ` by ` and another number.
+fn write_by<K: Sink>(
+    sink: &mut K,
+    sofar: Result<(), Failed>,
+    word: &[u8],
+    first: u64,
+    second: u64,
+) -> Result<(), Failed>
+    ensures { Goes sofar (K.written sink.old) (K.written sink.new) (K.faults sink.old) (K.faults sink.new) result (word.now ++ decimal first ++ codes " by " ++ decimal second) }
+{
+    let front = write_number(sink, sofar, word, first);
+    write_number(sink, front, b" by ", second)
+}
+
+fn write_limit<K: Sink>(
+    sink: &mut K,
+    sofar: Result<(), Failed>,
+    which: Which,
+    number: u64,
+) -> Result<(), Failed>
+    ensures { Goes sofar (K.written sink.old) (K.written sink.new) (K.faults sink.old) (K.faults sink.new) result (codes "limit " ++ limit_word which ++ 32 ∷ decimal number) }
+{
+    let front = write_two(sink, sofar, b"limit ", limit_word(which));
+    write_number(sink, front, b" ", number)
+}
+
+fn limit_word(which: Which) -> &'static [u8]
+    ensures { result.now ≡ limit_word which }
+{
+    match which {
+        Which::Name => b"name",
+        Which::Text => b"text",
+        Which::Columns => b"columns",
+        Which::Key => b"key",
+        Which::List => b"list",
+        Which::Atoms => b"atoms",
+        Which::Groups => b"groups",
+        Which::Joined => b"joined",
+        Which::Returned => b"returned",
+        Which::Order => b"order",
+        Which::Steps => b"steps",
+        Which::Tables => b"tables",
+        Which::Indexes => b"indexes",
+        Which::Cursors => b"cursors",
+        Which::Rows => b"rows",
+        Which::Pending => b"pending",
+    }
+}
