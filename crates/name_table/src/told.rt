@@ -80,7 +80,9 @@ fn told_select(alloc: Global, select: &Select) -> Result<String, NoMemory> {
     let order = columns(alloc, select.order.as_slice())?;
     let groups = select.only.groups().len();
     let goal = goal_word(select.goal);
-    Ok(format!(in alloc; "open tables{tables} returns{returns} where {groups} order{order} {goal}")?)
+    Ok(format!(in alloc;
+        "open tables{tables} returns{returns} where {groups} order{order} {goal}"
+    )?)
 }
 
 pub fn told_resolved(alloc: Global, resolved: &Resolved) -> Result<String, NoMemory> {
