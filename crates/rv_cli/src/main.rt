@@ -4,6 +4,8 @@
 mod calls;
 mod run;
 mod status;
+#[cfg(test)]
+mod tests;
 
 use crate::run::{Ran, run};
 use crate::status::Status;

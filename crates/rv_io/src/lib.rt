@@ -10,3 +10,6 @@ pub use all::{ReadFault, read_all, write_all, write_next};
 pub use edge::{StdSink, StdSource};
 pub use memory::{MemSink, MemSource};
 pub use traits::{Failed, Sink, Source};
+
+#[cfg(test)]
+mod tests;

@@ -6,3 +6,6 @@ pub mod rows;
 
 pub use changes::{Change, Changes};
 pub use rows::Rows;
+
+#[cfg(test)]
+mod tests;

@@ -1,0 +1,161 @@
+//! Rows of the program: scripts with their transcripts, statuses and words.
+use crate::run::{Ran, run};
+use crate::status::{Over, Status};
+use rv_io::{MemSink, MemSource, Sink, Source};
+use rv_script::ScriptFault;
+use rv_value::{NoMemory, Text};
+use std::alloc::Global;
+use std::test::Fail;
+
+const TWO_COLUMNS: &str =
+    "1 CREATE TABLE T (A BIGINT, B BIGINT)\n1 BEGIN\n1 INSERT INTO T VALUES (1, 5)\n1 INSERT INTO T VALUES (1, 5)\n1 INSERT INTO T VALUES (2, 6)\n1 COMMIT\n1 BEGIN\n1 OPEN C SELECT * FROM T\n1 FETCH C\n1 FETCH C\n1 FETCH C\n1 FETCH C\n";
+
+const TWO_COLUMNS_TOLD: &str =
+    "1 CREATE TABLE T (A BIGINT, B BIGINT)\n= created\n1 BEGIN\n= began 1\n1 INSERT INTO T VALUES (1, 5)\n= inserted 0\n1 INSERT INTO T VALUES (1, 5)\n= inserted 1\n1 INSERT INTO T VALUES (2, 6)\n= inserted 2\n1 COMMIT\n= committed 1\n1 BEGIN\n= began 2\n1 OPEN C SELECT * FROM T\n= opened\n1 FETCH C\n= row 1, 5\n1 FETCH C\n= row 1, 5\n1 FETCH C\n= row 2, 6\n1 FETCH C\n= end\n";
+
+fn bytes_of(alloc: Global, text: &str) -> Result<Vec<u8>, NoMemory> {
+    Ok(Vec::from_slice(alloc, text.as_bytes())?)
+}
+
+/// The status of a run over a script in memory, and what it wrote.
+fn ran(
+    alloc: Global,
+    script: &[u8],
+    read_fails: Vec<u32>,
+    write_fails: Vec<u32>,
+) -> Result<(Status, Vec<u8>), NoMemory> {
+    let mut source = MemSource::new(Vec::from_slice(alloc, script)?, read_fails);
+    let mut sink = MemSink::new(alloc, 100_000, write_fails)?;
+    let Ran {
+        status,
+        core: _core,
+    } = run(alloc, &[], &mut source, &mut sink);
+    Ok((status, Vec::from_slice(alloc, sink.written())?))
+}
+
+fn told(alloc: Global, script: &str) -> Result<(Status, Vec<u8>), NoMemory> {
+    ran(alloc, script.as_bytes(), Vec::new(alloc), Vec::new(alloc))
+}
+
+#[test]
+fn scripts_have_their_transcripts(rt: HostRuntime) -> Result<(), Fail> {
+    let alloc = rt.alloc();
+    for (script, transcript) in [
+        ("", ""),
+        (TWO_COLUMNS, TWO_COLUMNS_TOLD),
+        (
+            "1 FETCH C\n1 COMMIT\n1 INSERT INTO T VALUES (1)\n1 SELECT\n1 BEGIN\n1 BEGIN\n",
+            "1 FETCH C\n= no cursor C\n1 COMMIT\n= no transaction\n1 INSERT INTO T VALUES (1)\n= unknown T\n1 SELECT\n= syntax\n1 BEGIN\n= began 1\n1 BEGIN\n= not built\n",
+        ),
+        (
+            "1 begin;\n1 fetch C ;\n",
+            "1 begin;\n= began 1\n1 fetch C ;\n= no cursor C\n",
+        ),
+        ("1 BEGIN", "1 BEGIN\n= began 1\n"),
+        ("2 BEGIN\n", "2 BEGIN\n= not built\n"),
+        (
+            "1 CREATE TABLE T (A BIGINT, B VARCHAR(4))\n1 BEGIN\n1 INSERT INTO T VALUES (1, 'x')\n1 INSERT INTO T VALUES (NULL, '')\n1 INSERT INTO T VALUES (NULL, NULL)\n1 COMMIT\n1 BEGIN\n1 OPEN C SELECT B FROM T WHERE A > 0 OR B IS NULL ORDER BY B\n1 FETCH C\n1 FETCH C\n1 FETCH C\n",
+            "1 CREATE TABLE T (A BIGINT, B VARCHAR(4))\n= created\n1 BEGIN\n= began 1\n1 INSERT INTO T VALUES (1, 'x')\n= inserted 0\n1 INSERT INTO T VALUES (NULL, '')\n= inserted 1\n1 INSERT INTO T VALUES (NULL, NULL)\n= inserted 2\n1 COMMIT\n= committed 1\n1 BEGIN\n= began 2\n1 OPEN C SELECT B FROM T WHERE A > 0 OR B IS NULL ORDER BY B\n= opened\n1 FETCH C\n= row NULL\n1 FETCH C\n= row 'x'\n1 FETCH C\n= end\n",
+        ),
+        (
+            "1 CREATE TABLE T (C1 BIGINT, C2 BIGINT, C3 BIGINT, C4 BIGINT, C5 BIGINT, C6 BIGINT, C7 BIGINT, C8 BIGINT, C9 BIGINT, C10 BIGINT, C11 BIGINT, C12 BIGINT, C13 BIGINT, C14 BIGINT, C15 BIGINT, C16 BIGINT, C17 BIGINT)\n",
+            "1 CREATE TABLE T (C1 BIGINT, C2 BIGINT, C3 BIGINT, C4 BIGINT, C5 BIGINT, C6 BIGINT, C7 BIGINT, C8 BIGINT, C9 BIGINT, C10 BIGINT, C11 BIGINT, C12 BIGINT, C13 BIGINT, C14 BIGINT, C15 BIGINT, C16 BIGINT, C17 BIGINT)\n= limit columns 16\n",
+        ),
+    ] {
+        let (status, written) = told(alloc, script)?;
+        assert_eq!(rt; status, Status::Done);
+        assert_eq!(rt; written.as_slice(), transcript.as_bytes());
+    }
+    Ok(())
+}
+
+#[test]
+fn faults_of_scripts_have_their_places(rt: HostRuntime) -> Result<(), Fail> {
+    let alloc = rt.alloc();
+    let mut long = bytes_of(alloc, "1 ")?;
+    for _ in 0..4095 {
+        long.push(b'x')?;
+    }
+    let mut many = Vec::new(alloc);
+    for _ in 0..200_001 {
+        many.push(b'\n')?;
+    }
+    let (status, written) = ran(alloc, long.as_slice(), Vec::new(alloc), Vec::new(alloc))?;
+    assert_eq!(rt; status, Status::Limit(Over::Line(1)));
+    assert!(rt; written.is_empty());
+    let (status, _written) = ran(alloc, many.as_slice(), Vec::new(alloc), Vec::new(alloc))?;
+    assert_eq!(rt; status, Status::Limit(Over::Lines));
+    for (script, fault, words) in [
+        (
+            b"9 COMMIT\n".as_slice(),
+            ScriptFault::NoSession { line: 1 },
+            "script: line 1 has no session",
+        ),
+        (
+            b"1 BEGIN\n9 COMMIT".as_slice(),
+            ScriptFault::NoSession { line: 2 },
+            "script: line 2 has no session",
+        ),
+        (
+            b"1 \xff".as_slice(),
+            ScriptFault::NotText { offset: 2 },
+            "script: byte 2 is not UTF-8",
+        ),
+    ] {
+        let (status, written) = ran(alloc, script, Vec::new(alloc), Vec::new(alloc))?;
+        assert_eq!(rt; status.words().as_str(), words);
+        assert_eq!(rt; status, Status::Script(fault));
+        assert!(rt; written.is_empty());
+    }
+    Ok(())
+}
+
+#[test]
+fn broken_ends_are_told_and_nothing_is_written_twice(rt: HostRuntime) -> Result<(), Fail> {
+    let alloc = rt.alloc();
+    let script = TWO_COLUMNS.as_bytes();
+    let whole = TWO_COLUMNS_TOLD.as_bytes();
+    for call in 1u32..25 {
+        let fails = vec![in alloc; call]?;
+        let (status, written) = ran(alloc, script, Vec::new(alloc), fails)?;
+        assert_eq!(rt; status, Status::WriteFault);
+        assert!(rt; whole.starts_with(written.as_slice()) && written.len() < whole.len());
+    }
+    let (status, written) = ran(alloc, script, vec![in alloc; 1]?, Vec::new(alloc))?;
+    assert_eq!(rt; status, Status::ReadFault);
+    assert!(rt; written.is_empty());
+    Ok(())
+}
+
+#[test]
+fn a_word_is_a_faulty_command_line(rt: HostRuntime) -> Result<(), Fail> {
+    let alloc = rt.alloc();
+    let mut source = MemSource::new(bytes_of(alloc, TWO_COLUMNS)?, Vec::new(alloc));
+    let mut sink = MemSink::new(alloc, 100, Vec::new(alloc))?;
+    let words = vec![in alloc; Text::read(alloc, "--help")?]?;
+    let Ran {
+        status,
+        core: _core,
+    } = run(alloc, words.as_slice(), &mut source, &mut sink);
+    assert_eq!(rt; status.words().as_str(), "usage: rvdyn");
+    assert_eq!(rt; status.code(), 1);
+    assert!(rt; sink.written().is_empty());
+    let mut buf = [0u8; 1];
+    assert_eq!(rt; source.read(&mut buf), Ok(1));
+    assert_eq!(rt; sink.write(b"x"), Ok(1));
+    Ok(())
+}
+
+#[test]
+fn refused_memory_leaves_a_front_of_the_transcript(rt: HostRuntime) -> Result<(), Fail> {
+    let alloc = rt.alloc();
+    let mut sink = MemSink::new(alloc, 100_000, Vec::new(alloc))?;
+    let mut source = MemSource::new(bytes_of(alloc, TWO_COLUMNS)?, Vec::new(alloc));
+    let Ran {
+        status,
+        core: _core,
+    } = run(alloc, &[], &mut source, &mut sink);
+    assert!(rt; status == Status::Done || status == Status::Memory);
+    assert!(rt; TWO_COLUMNS_TOLD.as_bytes().starts_with(sink.written()));
+    Ok(())
+}
