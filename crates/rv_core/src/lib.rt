@@ -8,3 +8,6 @@ pub mod statements;
 pub mod transactions;
 
 pub use engine::Core;
+
+#[cfg(test)]
+mod tests;

@@ -1,5 +1,5 @@
 -- Pieces of what is read and written.
-use Rattle.std.specs.Prelude.{◌≡◌, ℕ, ◌+◌, ◌<◌, ◌≤◌, List, ◌++◌, length, take, Option, Result, Ok, Err, IfOk, MatchResult, OnOk, OnErr}
+use Rattle.std.specs.Prelude.{◌≡◌, ℕ, ◌+◌, ◌<◌, ◌≤◌, List, ◌++◌, length, take, Option, Result, Ok, Err, MatchResult, OnOk, OnErr}
 use Rattle.rv_io.specs.declared.traits.Failed.{Failed}
 use Rattle.rv_io.specs.Causes.{Rose}
 use Rattle.std.specs.Io.KnownBytes.{Consumes, Keeps, IsAtEnd, Appends}

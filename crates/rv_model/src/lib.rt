@@ -11,3 +11,6 @@ pub use entry::Entry;
 pub use queue::Queue;
 pub use rv_lang::{Refusal, Reply, Shown, ShownEvent, Which};
 pub use state::{Cursor, Offer, State, Table, Transaction};
+
+#[cfg(test)]
+mod tests;

@@ -3,6 +3,8 @@
 
 pub mod scripts;
 #[cfg(test)]
+mod telling;
+#[cfg(test)]
 mod tests;
 pub mod traces;
 pub mod transcript;
