@@ -1,12 +1,12 @@
 -- Leaves, in which the entries of an index are read. The first leaf is what stands before the first cut, each
 -- further one what stands from a cut on and before the next.
-use Rattle.std.specs.Prelude.{◌≡◌, ℕ, ◌+◌, ◌<◌, ◌≤◌, List, [], ◌∷◌, ◌++◌, Bool, true, false, not, if◌then◌else◌, Option, Some, None, length, filter, count_by}
+use Rattle.std.specs.Prelude.{◌≡◌, ℕ, ◌+◌, ◌<◌, ◌≤◌, List, [], ◌∷◌, ◌++◌, Bool, true, false, not, if◌then◌else◌, Option, Some, None, length, filter}
 use Rattle.rv_value.specs.declared.record.IndexEntry.{IndexEntry}
 use Rattle.rv_value.specs.declared.range.Range.{Range}
 use Rattle.rv_value.specs.declared.range.Side.{Side}
 use Rattle.rv_value.specs.declared.range.Side.TheVariants.{Before, In, After}
 use Rattle.rv_value.specs.Ranges.{place}
-use Rattle.rv_reader.specs.Entries.{comes_before, is_in, run}
+use Rattle.rv_reader.specs.Entries.{comes_before, run}
 use Rattle.rv_reader.specs.declared.reader.Chunk.{Chunk}
 
 abbrev pub before_side : Side → Bool
@@ -68,7 +68,7 @@ run_after entries range (Some cut) = run_from entries range (Some cut)
 -- how many leaves may still be read from an entry on, or from a cut on where there is a following one
 abbrev pub leaves_from : List IndexEntry → Option IndexEntry → ℕ
 leaves_from cuts None = length cuts + 1
-leaves_from cuts (Some start) = count_by (λ (cut : IndexEntry). comes_before start cut) cuts + 1
+leaves_from cuts (Some start) = length (filter (comes_before start) cuts) + 1
 
 abbrev pub leaves_after : List IndexEntry → Option IndexEntry → ℕ
 leaves_after cuts None = 0

@@ -1,0 +1,4 @@
+pub mod Chunks
+pub mod Filters
+pub mod Orders
+pub mod Sides
