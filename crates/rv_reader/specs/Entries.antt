@@ -1,5 +1,5 @@
 -- The entries of an index, and the part of them in a range.
-use Rattle.std.specs.Prelude.{◌≡◌, ℕ, List, [], ◌∷◌, Bool, true, ◌&&◌, Option, Some, None, nat_le, length, map, filter}
+use Rattle.std.specs.Prelude.{◌≡◌, ℕ, List, [], ◌∷◌, Bool, true, ◌&&◌, Option, Some, None, nat_le, length, map, filter, if◌then◌else◌}
 use Rattle.std.specs.List.{list_all, slice_index_or}
 use Rattle.std.specs.Ordering.{is_lt}
 use Rattle.rv_value.specs.declared.value.Value.{Value}
@@ -10,7 +10,7 @@ use Rattle.rv_value.specs.declared.range.Bound.{Bound}
 use Rattle.rv_value.specs.declared.range.Range.{Range}
 use Rattle.rv_value.specs.Entries.{entry_cmp}
 use Rattle.rv_value.specs.Ranges.{in_side, place}
-use Rattle.rv_rows.specs.Rising.{Rising, put_in}
+use Rattle.rv_rows.specs.Rising.{Rising}
 
 -- by key, then by row
 abbrev pub comes_before : IndexEntry → IndexEntry → Bool
@@ -24,10 +24,18 @@ Ascend = Rising comes_before
 abbrev pub entry_of : List ℕ → Record → IndexEntry
 entry_of columns r = record { key = map (λ (c : ℕ). slice_index_or r.values c Null) columns; row = r.row }
 
+-- an entry put before the first that is not less
+abbrev pub sorted_in : IndexEntry → List IndexEntry → List IndexEntry
+sorted_in e [] = e ∷ []
+sorted_in e (x ∷ xs) = if comes_before x e then x ∷ sorted_in e xs else e ∷ x ∷ xs
+
+abbrev pub sorted : List IndexEntry → List IndexEntry
+sorted [] = []
+sorted (e ∷ es) = sorted_in e (sorted es)
+
 -- the sorted list of the entries of all rows
 abbrev pub entries_of : List ℕ → List Record → List IndexEntry
-entries_of columns [] = []
-entries_of columns (r ∷ rows) = put_in comes_before (entry_of columns r) (entries_of columns rows)
+entries_of columns rows = sorted (map (entry_of columns) rows)
 
 -- whether an entry is in a range
 abbrev pub is_in : Range → IndexEntry → Bool
