@@ -1,0 +1,13 @@
+-- The cuts of a plain index.
+use Rattle.std.specs.Prelude.{ℕ, zero, suc, List, [], ◌∷◌}
+use Rattle.rv_value.specs.declared.record.IndexEntry.{IndexEntry}
+
+-- of each 32 entries the first one, after so many others
+abbrev pub cuts_after : ℕ → List IndexEntry → List IndexEntry
+cuts_after left [] = []
+cuts_after zero (e ∷ es) = e ∷ cuts_after 31 es
+cuts_after (suc left) (e ∷ es) = cuts_after left es
+
+-- the entries at the places 32, 64 and so on, counted from 0
+abbrev pub cuts_of : List IndexEntry → List IndexEntry
+cuts_of entries = cuts_after 32 entries

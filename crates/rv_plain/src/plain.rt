@@ -1,0 +1,3 @@
+/// x
+#[derive(Drop)]
+pub struct Plain;
