@@ -19,7 +19,7 @@ use Rattle.rv_plain.specs.Rows.{below, above, past, values_row, Passes}
 abbrev up_to : ℕ → Record → Bool
 up_to number r = nat_le r.row.0 number
 
-all_kept : {X : Type 0} (q p : X → Bool) (xs : List X) → list_all q xs ≡ true → ((x : X) → q x ≡ true → p x ≡ true) → filter p xs ≡ xs
+pub all_kept : {X : Type 0} (q p : X → Bool) (xs : List X) → list_all q xs ≡ true → ((x : X) → q x ≡ true → p x ≡ true) → filter p xs ≡ xs
 all_kept q p [] all kept = refl
 all_kept q p (x ∷ xs) all kept =
     let parts = both (q x) (list_all q xs) all in

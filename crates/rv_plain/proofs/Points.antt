@@ -35,13 +35,19 @@ all_at p [] i d h all = absurd (omega arith)
 all_at p (x ∷ xs) zero d h all = (both (p x) (list_all p xs) all).0
 all_at p (x ∷ xs) (suc i) d h all = all_at p xs i d (omega arith) (both (p x) (list_all p xs) all).1
 
--- a test that, once it fails, fails of all that comes after, cuts a rising list in two
-pub partitioned : {X : Type 0} (before : X → X → Bool) (p : X → Bool) → ((x y : X) → before x y ≡ true → p y ≡ true → p x ≡ true) → (xs : List X) → Rising before xs → IsPartitionedBy p xs
-partitioned before p goes [] rising i j d l h t = absurd (omega arith)
-partitioned before p goes (x ∷ xs) rising zero zero d l h t = t
-partitioned before p goes (x ∷ xs) rising zero (suc j) d l h t = goes x (slice_index_or xs j d) (all_at (before x) xs j d (omega arith) rising.0) t
-partitioned before p goes (x ∷ xs) rising (suc i) zero d l h t = absurd (omega arith)
-partitioned before p goes (x ∷ xs) rising (suc i) (suc j) d l h t = partitioned before p goes xs rising.1 i j d (omega arith) (omega arith) t
+-- a test that, once it fails, fails of all that comes after, cuts a rising list of items that pass another test in two
+pub partitioned : {X : Type 0} (before : X → X → Bool) (q p : X → Bool) → ((x y : X) → before x y ≡ true → q x ≡ true → q y ≡ true → p y ≡ true → p x ≡ true) → (xs : List X) → Rising before xs → list_all q xs ≡ true → IsPartitionedBy p xs
+partitioned before q p goes [] rising all i j d l h t = absurd (omega arith)
+partitioned before q p goes (x ∷ xs) rising all zero zero d l h t = t
+partitioned before q p goes (x ∷ xs) rising all zero (suc j) d l h t =
+    let parts = both (q x) (list_all q xs) all in
+    goes x (slice_index_or xs j d) (all_at (before x) xs j d (omega arith) rising.0) parts.0 (all_at q xs j d (omega arith) parts.1) t
+partitioned before q p goes (x ∷ xs) rising all (suc i) zero d l h t = absurd (omega arith)
+partitioned before q p goes (x ∷ xs) rising all (suc i) (suc j) d l h t = partitioned before q p goes xs rising.1 (both (q x) (list_all q xs) all).1 i j d (omega arith) (omega arith) t
+
+all_rows : (rows : List Record) → list_all (λ (r : Record). true) rows ≡ true
+all_rows [] = refl
+all_rows (r ∷ rows) = all_rows rows
 
 -- Rows.
 
@@ -49,7 +55,7 @@ pub below_goes : (number : ℕ) (x y : Record) → comes_below x y ≡ true → 
 below_goes number x y h k = grind (arith, nat_tests)
 
 pub rows_partitioned : (number : ℕ) (rows : List Record) → Ascend rows → IsPartitionedBy (below number) rows
-rows_partitioned number rows ascend = partitioned comes_below (below number) (below_goes number) rows ascend
+rows_partitioned number rows ascend = partitioned comes_below (λ (r : Record). true) (below number) (λ x y h a b. below_goes number x y h) rows ascend (all_rows rows)
 
 -- the rows from a number on ascend
 pub ascend_back : (number : ℕ) (rows rest : List Record) → Ascend rows → rest ≡ filter (λ (r : Record). not (below number r)) rows → Ascend rest

@@ -9,22 +9,18 @@ use Rattle.rv_value.specs.declared.range.Side.TheVariants.{Before, In, After}
 use Rattle.rv_value.specs.Ranges.{place, in_side}
 use Rattle.rv_reader.specs.declared.reader.Chunk.{Chunk}
 use Rattle.rv_reader.specs.Entries.{comes_before, Ascend, AreLong, is_in, reaches}
-use Rattle.rv_reader.specs.Leaves.{Leaf, IsChunk, before_side, after_side, from_on, up_to, leaf_from, leaf_at, leaf_entries, is_passed, within, run_from, run_after, leaves_from, leaves_after}
+use Rattle.rv_reader.specs.Leaves.{Leaf, IsChunk, is_from, is_wanted, before_side, after_side, from_on, up_to, leaf_from, leaf_at, leaf_entries, is_passed, within, run_from, run_after, leaves_from, leaves_after}
 use Rattle.rv_reader.proofs.Filters.{both, filter_same, filter_twice, filter_none, filter_fewer, rising_cut}
 use Rattle.rv_reader.proofs.Orders.{one_way, below_through, follows, itself, key_not, order}
 use Rattle.rv_reader.proofs.Sides.{before_along, after_along}
 
 -- Tests in place of lists.
 
-abbrev is_from : Option IndexEntry → IndexEntry → Bool
-is_from None e = true
-is_from (Some start) e = not (comes_before e start)
-
 abbrev is_below : Option IndexEntry → IndexEntry → Bool
 is_below None e = true
 is_below (Some cut) e = comes_before e cut
 
-abbrev is_long : Range → IndexEntry → Bool
+abbrev pub is_long : Range → IndexEntry → Bool
 is_long range e = reaches range.low e.key && reaches range.high e.key
 
 all_pass : (xs : List IndexEntry) → filter (λ (e : IndexEntry). true) xs ≡ xs
@@ -39,20 +35,17 @@ below_tests : (cut : Option IndexEntry) (xs : List IndexEntry) → up_to cut xs 
 below_tests None xs = sym (all_pass xs)
 below_tests (Some s) xs = refl
 
-abbrev wanted : Range → Option IndexEntry → IndexEntry → Bool
-wanted range start e = is_from start e && is_in range e
-
-run_tests : (entries : List IndexEntry) (range : Range) (start : Option IndexEntry) → run_from entries range start ≡ filter (wanted range start) entries
+pub run_tests : (entries : List IndexEntry) (range : Range) (start : Option IndexEntry) → run_from entries range start ≡ filter (is_wanted range start) entries
 run_tests entries range start = rw (from_tests start entries) (filter_twice (is_in range) (is_from start) entries)
 
 abbrev taken : Range → Option IndexEntry → Leaf → IndexEntry → Bool
-taken range start leaf e = (is_from leaf.low e && is_below leaf.next e) && wanted range start e
+taken range start leaf e = (is_from leaf.low e && is_below leaf.next e) && is_wanted range start e
 
 leaf_tests : (entries : List IndexEntry) (range : Range) (start : Option IndexEntry) (leaf : Leaf) → run_from (leaf_entries leaf entries) range start ≡ filter (taken range start leaf) entries
 leaf_tests entries range start leaf =
     run_tests (leaf_entries leaf entries) range start
-    ∙ ap (filter (wanted range start)) (below_tests leaf.next (from_on leaf.low entries) ∙ ap (filter (is_below leaf.next)) (from_tests leaf.low entries) ∙ filter_twice (is_below leaf.next) (is_from leaf.low) entries)
-    ∙ filter_twice (wanted range start) (λ e. is_from leaf.low e && is_below leaf.next e) entries
+    ∙ ap (filter (is_wanted range start)) (below_tests leaf.next (from_on leaf.low entries) ∙ ap (filter (is_below leaf.next)) (from_tests leaf.low entries) ∙ filter_twice (is_below leaf.next) (is_from leaf.low) entries)
+    ∙ filter_twice (is_wanted range start) (λ e. is_from leaf.low e && is_below leaf.next e) entries
 
 -- What is known of the cuts of a leaf.
 
@@ -106,7 +99,7 @@ not_in_after Before h = refl
 not_in_after In h = cc
 not_in_after After h = refl
 
-turned_true : (b : Bool) → not b ≡ true → b ≡ false
+pub turned_true : (b : Bool) → not b ≡ true → b ≡ false
 turned_true true h = cc
 turned_true false h = refl
 
@@ -115,7 +108,7 @@ turned_false true h = refl
 turned_false false h = cc
 
 -- what is wanted is not below the cut at which the leaf begins
-low_wanted : (range : Range) (start low : Option IndexEntry) → IfSome low (λ c. is_passed start range c ≡ true) → IfSome low (λ c. is_long range c ≡ true) → (e : IndexEntry) → is_long range e ≡ true → wanted range start e ≡ true → is_from low e ≡ true
+low_wanted : (range : Range) (start low : Option IndexEntry) → IfSome low (λ c. is_passed start range c ≡ true) → IfSome low (λ c. is_long range c ≡ true) → (e : IndexEntry) → is_long range e ≡ true → is_wanted range start e ≡ true → is_from low e ≡ true
 low_wanted range start None p l e long w = refl
 low_wanted range (Some s) (Some c) p l e long w =
     let parts = both (not (comes_before e s)) (is_in range e) w in
@@ -168,14 +161,14 @@ left_none true true false f = f refl
 left_none true false below f = refl
 left_none false inside below f = refl
 
-left_tests : (entries : List IndexEntry) (range : Range) (start : Option IndexEntry) (n : IndexEntry) → AreLong range entries → is_long range n ≡ true → is_passed start range n ≡ false → filter (λ e. wanted range start e && not (comes_before e n)) entries ≡ run_after entries range (within range (Some n))
+left_tests : (entries : List IndexEntry) (range : Range) (start : Option IndexEntry) (n : IndexEntry) → AreLong range entries → is_long range n ≡ true → is_passed start range n ≡ false → filter (λ e. is_wanted range start e && not (comes_before e n)) entries ≡ run_after entries range (within range (Some n))
 left_tests entries range start n long l p =
-    elim (after_side (place range n.key)) as (λ b. after_side (place range n.key) ≡ b → filter (λ e. wanted range start e && not (comes_before e n)) entries ≡ run_after entries range (cond b None (Some n))) [
-      | true ↦ λ after. filter_none (is_long range) (λ e. wanted range start e && not (comes_before e n)) entries long
+    elim (after_side (place range n.key)) as (λ b. after_side (place range n.key) ≡ b → filter (λ e. is_wanted range start e && not (comes_before e n)) entries ≡ run_after entries range (cond b None (Some n))) [
+      | true ↦ λ after. filter_none (is_long range) (λ e. is_wanted range start e && not (comes_before e n)) entries long
           (λ e h. left_none (is_from start e) (is_in range e) (comes_before e n)
           (λ above. not_in_after (place range e.key) (after_along range n.key e.key (key_not n e above) l h after)))
       | false ↦ λ other.
-          filter_same (is_long range) (λ e. wanted range start e && not (comes_before e n)) (wanted range (Some n)) entries long
+          filter_same (is_long range) (λ e. is_wanted range start e && not (comes_before e n)) (is_wanted range (Some n)) entries long
           (λ e h. left_same (is_from start e) (is_in range e) (comes_before e n) (from_next range start n e p))
           ∙ sym (run_tests entries range (Some n))
     ] refl
@@ -187,14 +180,14 @@ parts_by : (entries : List IndexEntry) (range : Range) (start low next : Option 
 parts_by entries range start low None ascend long lp ll np nl =
     let leaf : Leaf = record { low = low; next = None } in
     run_tests entries range start
-    ∙ filter_same (is_long range) (wanted range start) (taken range start leaf) entries long (λ e h. taken_all (is_from low e) true (wanted range start e) (low_wanted range start low lp ll e h) refl)
+    ∙ filter_same (is_long range) (is_wanted range start) (taken range start leaf) entries long (λ e h. taken_all (is_from low e) true (is_wanted range start e) (low_wanted range start low lp ll e h) refl)
     ∙ sym (leaf_tests entries range start leaf)
     ∙ sym (append-nil (run_from (leaf_entries leaf entries) range start))
 parts_by entries range start low (Some n) ascend long lp ll np nl =
     let leaf : Leaf = record { low = low; next = Some n } in
-    let cut = rising_cut comes_before (wanted range start) (λ e. comes_before e n) (stays_above n) entries ascend in
-    let front : filter (λ e. wanted range start e && comes_before e n) entries ≡ run_from (leaf_entries leaf entries) range start =
-    filter_same (is_long range) (λ e. wanted range start e && comes_before e n) (taken range start leaf) entries long (λ e h. taken_below (is_from low e) (comes_before e n) (wanted range start e) (low_wanted range start low lp ll e h))
+    let cut = rising_cut comes_before (is_wanted range start) (λ e. comes_before e n) (stays_above n) entries ascend in
+    let front : filter (λ e. is_wanted range start e && comes_before e n) entries ≡ run_from (leaf_entries leaf entries) range start =
+    filter_same (is_long range) (λ e. is_wanted range start e && comes_before e n) (taken range start leaf) entries long (λ e h. taken_below (is_from low e) (comes_before e n) (is_wanted range start e) (low_wanted range start low lp ll e h))
     ∙ sym (leaf_tests entries range start leaf) in
     let back = left_tests entries range start n long nl np in
     run_tests entries range start ∙ cut ∙ (λ i. front i ++ back i)

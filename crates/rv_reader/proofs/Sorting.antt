@@ -19,7 +19,7 @@ use Rattle.rv_value.specs.Order.{value_cmp, values_cmp}
 use Rattle.rv_value.specs.Orders.{entry_cmp_total}
 use Rattle.rv_rows.specs.Rows as rows_by_number
 use Rattle.rv_rows.specs.Rows.{comes_below}
-use Rattle.rv_reader.specs.Entries.{comes_before, Ascend, entry_of, sorted_in, sorted, entries_of}
+use Rattle.rv_reader.specs.Entries.{comes_before, Ascend, column_of, entry_of, sorted_in, sorted, entries_of}
 use Rattle.rv_reader.specs.Storing.{AreKeys}
 use Rattle.rv_reader.proofs.Filters.{both}
 use Rattle.rv_reader.proofs.Orders.{one_way, follows, through_below}
@@ -260,7 +260,7 @@ many (c ∷ columns) f = ap (λ n. suc n) (many columns f)
 
 pub entries_keys : (columns : List ℕ) (rows : List Record) → AreKeys (length columns) (entries_of columns rows)
 entries_keys columns [] = tt
-entries_keys columns (r ∷ rows) = keys_in (length columns) (entry_of columns r) (entries_of columns rows) (many columns (λ (c : ℕ). slice_index_or r.values c Null)) (entries_keys columns rows)
+entries_keys columns (r ∷ rows) = keys_in (length columns) (entry_of columns r) (entries_of columns rows) (many columns (column_of r.values)) (entries_keys columns rows)
 
 count_in : (e : IndexEntry) (xs : List IndexEntry) → length (sorted_in e xs) ≡ suc (length xs)
 count_in e [] = refl

@@ -1,12 +1,12 @@
 -- Leaves, in which the entries of an index are read. The first leaf is what stands before the first cut, each
 -- further one what stands from a cut on and before the next.
-use Rattle.std.specs.Prelude.{◌≡◌, ℕ, ◌+◌, ◌<◌, ◌≤◌, List, [], ◌∷◌, ◌++◌, Bool, true, false, not, if◌then◌else◌, Option, Some, None, length, filter}
+use Rattle.std.specs.Prelude.{◌≡◌, ℕ, ◌+◌, ◌<◌, ◌≤◌, List, [], ◌∷◌, ◌++◌, Bool, true, false, not, ◌&&◌, if◌then◌else◌, Option, Some, None, length, filter}
 use Rattle.rv_value.specs.declared.record.IndexEntry.{IndexEntry}
 use Rattle.rv_value.specs.declared.range.Range.{Range}
 use Rattle.rv_value.specs.declared.range.Side.{Side}
 use Rattle.rv_value.specs.declared.range.Side.TheVariants.{Before, In, After}
 use Rattle.rv_value.specs.Ranges.{place}
-use Rattle.rv_reader.specs.Entries.{comes_before, run}
+use Rattle.rv_reader.specs.Entries.{comes_before, is_in, run}
 use Rattle.rv_reader.specs.declared.reader.Chunk.{Chunk}
 
 abbrev pub before_side : Side → Bool
@@ -64,6 +64,14 @@ run_from entries range start = run (from_on start entries) range
 abbrev pub run_after : List IndexEntry → Range → Option IndexEntry → List IndexEntry
 run_after entries range None = []
 run_after entries range (Some cut) = run_from entries range (Some cut)
+
+-- whether an entry is from another one on, where there is one, and in the range
+abbrev pub is_from : Option IndexEntry → IndexEntry → Bool
+is_from None e = true
+is_from (Some start) e = not (comes_before e start)
+
+abbrev pub is_wanted : Range → Option IndexEntry → IndexEntry → Bool
+is_wanted range start e = is_from start e && is_in range e
 
 -- how many leaves may still be read from an entry on, or from a cut on where there is a following one
 abbrev pub leaves_from : List IndexEntry → Option IndexEntry → ℕ
