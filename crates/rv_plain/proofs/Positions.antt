@@ -5,16 +5,19 @@ use Rattle.std.specs.List.Sorted.{IsPartitionedBy}
 use Rattle.std.specs.List.{slice_index_or, list_all, AllWithin}
 use Rattle.rv_value.specs.declared.record.IndexEntry.{IndexEntry}
 use Rattle.rv_value.specs.declared.range.Range.{Range}
+use Rattle.rv_value.specs.declared.range.Side.{Side}
+use Rattle.rv_value.specs.declared.range.Side.TheVariants.{Before, In, After}
+use Rattle.rv_value.specs.Ranges.{place, in_side}
 use Rattle.rv_rows.specs.Rising.{Rising}
 use Rattle.rv_reader.specs.declared.reader.Chunk.{Chunk}
-use Rattle.rv_reader.specs.Entries.{comes_before, Ascend, AreLong}
-use Rattle.rv_reader.specs.Leaves.{Leaf, IsChunk, from_on, up_to, leaf_from, leaf_at, leaf_entries, is_passed, is_wanted, within, run_from}
+use Rattle.rv_reader.specs.Entries.{comes_before, Ascend, AreLong, run}
+use Rattle.rv_reader.specs.Leaves.{Leaf, IsChunk, before_side, after_side, from_on, up_to, leaf_from, leaf_at, leaf_entries, is_passed, is_wanted, within, run_from}
 use Rattle.rv_reader.proofs.Filters.{both, filter_none}
 use Rattle.rv_reader.proofs.Orders.{one_way, itself, key_not, order}
-use Rattle.rv_reader.proofs.Sides.{before_along}
+use Rattle.rv_reader.proofs.Sides.{before_along, after_along}
 use Rattle.rv_plain.proofs.Points.{partitioned}
 use Rattle.rv_reader.proofs.Chunks.{is_chunk, is_long, run_tests, turned_true}
-use Rattle.rv_plain.specs.Cuts.{cuts_after, cuts_of, leaf_place, PassesTo}
+use Rattle.rv_plain.specs.Cuts.{cuts_after, cuts_of, is_before, is_not_after, leaf_place, PassesTo}
 use Rattle.rv_plain.proofs.Merges.{all_kept}
 
 -- a place up to which a test holds and from which it fails
@@ -203,3 +206,42 @@ passes_before range (Some s) x y h lx ly p = rw (order.chain s y x (turned_true 
 
 pub entries_partitioned : (range : Range) (start : Option IndexEntry) (entries : List IndexEntry) → Ascend entries → AreLong range entries → IsPartitionedBy (is_passed start range) entries
 entries_partitioned range start entries ascend long = partitioned comes_before (is_long range) (is_passed start range) (passes_before range start) entries ascend long
+
+not_after_before : (range : Range) (x y : IndexEntry) → comes_before x y ≡ true → is_long range x ≡ true → is_long range y ≡ true → is_not_after range y ≡ true → is_not_after range x ≡ true
+not_after_before range x y h lx ly p = elim (cases_Bool (after_side (place range x.key))) [
+  | inl t ↦
+      let after = after_along range x.key y.key (key_not x y (one_way x y h)) lx ly t in
+      let no : not (after_side (place range y.key)) ≡ false = rw after refl in
+      cc
+  | inr f ↦ rw f refl
+]
+
+pub not_after_partitioned : (range : Range) (entries : List IndexEntry) → Ascend entries → AreLong range entries → IsPartitionedBy (is_not_after range) entries
+not_after_partitioned range entries ascend long = partitioned comes_before (is_long range) (is_not_after range) (not_after_before range) entries ascend long
+
+sides : (s : Side) → (before_side s ≡ true → not (after_side s) ≡ true) × (in_side s ≡ (not (after_side s) && not (before_side s)))
+sides Before = (λ h. refl, refl)
+sides In = (λ h. refl, refl)
+sides After = (λ h. cc, refl)
+
+-- those that pass one test and not a sharper one
+counted : (range : Range) (n m : ℕ) (es : List IndexEntry) → PassesTo (is_before range) n es → PassesTo (is_not_after range) m es → n ≤ length es → m ≤ length es → length (run es range) + n ≡ m
+counted range n m [] p q h k = omega arith
+counted range zero zero (e ∷ es) p q h k =
+    let rest = counted range zero zero es p.1 q.1 (omega arith) (omega arith) in
+    rw ((sides (place range e.key)).1, q.0) rest
+counted range zero (suc m) (e ∷ es) p q h k =
+    let rest = counted range zero m es p.1 q.1 (omega arith) (omega arith) in
+    rw ((sides (place range e.key)).1, q.0, p.0) (omega arith)
+counted range (suc n) zero (e ∷ es) p q h k =
+    let both_ways = (sides (place range e.key)).0 p.0 in
+    let no : true ≡ false = sym both_ways ∙ q.0 in
+    cc
+counted range (suc n) (suc m) (e ∷ es) p q h k =
+    let rest = counted range n m es p.1 q.1 (omega arith) (omega arith) in
+    rw ((sides (place range e.key)).1, q.0, p.0) (omega arith)
+
+pub count_is : (range : Range) (n m d : ℕ) (es : List IndexEntry) → PassesTo (is_before range) n es → PassesTo (is_not_after range) m es → n ≤ length es → m ≤ length es → (n ≤ m) × (m - n ≡ length (run es range))
+count_is range n m d es p q h k =
+    let sum = counted range n m es p q h k in
+    (omega arith, omega arith)

@@ -2,6 +2,7 @@
 use Rattle.std.specs.Prelude.{◌≡◌, ℕ, ◌-◌, ◌<◌, ◌≤◌, List, length, true}
 use Rattle.std.specs.List.{slice_index_or}
 use Rattle.rv_value.specs.declared.range.Range.{Range}
+use Rattle.rv_rows.specs.declared.changes.Change.{Change}
 use Rattle.rv_reader.specs.declared.reader.Estimate.{Estimate}
 use Rattle.rv_reader.specs.Entries.{entries_of, run}
 use Rattle.rv_reader.specs.Shown.{Shown}
@@ -9,7 +10,7 @@ use Rattle.rv_reader.specs.Storing.{AreColumns}
 use Rattle.rv_plain.specs.Cuts.{cuts_of}
 use Rattle.rv_plain.specs.declared.images.Image.{Image}
 use Rattle.rv_plain.specs.declared.images.Over.{Over}
-use Rattle.rv_plain.specs.Images.{table_at, entries_at, index_at, image_at, IsSound}
+use Rattle.rv_plain.specs.Images.{table_at, entries_at, index_at, image_at, indexes_over, AreAfter, IsSound}
 
 -- the number of columns of each table, the table and columns of each index, the horizon, and the image of each commit
 pub record Kept : Type 0 where
@@ -49,3 +50,8 @@ pub record IsKept (kept : Kept) : Type 0 where
   pub last : length (image_at kept.images (length kept.images - 1)).indexes ≡ length kept.indexes
   pub entries : (index snap : ℕ) → index < length kept.indexes → kept.horizon ≤ snap → snap < length kept.images
     → entries_at kept.images index snap ≡ entries_of (index_at kept.indexes index).columns (table_at kept.images (index_at kept.indexes index).table snap).rows
+
+-- the image of one more commit
+pub record IsNext (kept : Kept) (changes : List Change) (image : Image) : Type 0 where
+  pub tables : AreAfter (length kept.widths) changes (image_at kept.images (length kept.images - 1)).tables image.tables
+  pub indexes : image.indexes ≡ indexes_over image.tables kept.indexes

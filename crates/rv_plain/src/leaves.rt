@@ -1,8 +1,8 @@
 ghost use Rattle.std.specs.Prelude.{◌≡◌, ◌≤◌, length, filter, map, IfOk};
 ghost use Rattle.std.specs.Option.{option_copied};
-ghost use Rattle.rv_reader.specs.Entries.{Ascend, AreLong, column_of, entries_of, entry_of};
+ghost use Rattle.rv_reader.specs.Entries.{Ascend, AreLong, column_of, entries_of, entry_of, run};
 ghost use Rattle.rv_reader.specs.Leaves.{is_passed, is_wanted, within, IsChunk};
-ghost use Rattle.rv_plain.specs.Cuts.{cuts_of, leaf_place, PassesTo};
+ghost use Rattle.rv_plain.specs.Cuts.{cuts_of, is_before, is_not_after, leaf_place, PassesTo};
 
 use rv_reader::Chunk;
 use rv_value::{
@@ -169,4 +169,33 @@ pub fn index_rows(
     let mut entries = row_entries(alloc, rows, columns)?;
     entries.sort()?;
     Ok(Items::from_vec(entries))
+}
+
+/// How many entries are before a range.
+fn count_before(entries: &[IndexEntry], range: &Range) -> usize
+    requires ascend { Ascend entries.now }
+    requires long { AreLong range.now entries.now }
+    ensures bound { result ≤ length entries.now }
+    ensures passes { PassesTo (is_before range.now) result entries.now }
+{
+    count_passed(entries, None, range)
+}
+
+/// How many entries are not after a range.
+fn count_not_after(entries: &[IndexEntry], range: &Range) -> usize
+    requires ascend { Ascend entries.now }
+    requires long { AreLong range.now entries.now }
+    ensures bound { result ≤ length entries.now }
+    ensures passes { PassesTo (is_not_after range.now) result entries.now }
+{
+    entries.partition_point(|entry| range.place(&entry.key) != Side::After)
+}
+
+/// How many entries are in a range.
+pub fn count_in(entries: &[IndexEntry], range: &Range) -> usize
+    requires ascend { Ascend entries.now }
+    requires long { AreLong range.now entries.now }
+    ensures { result ≡ length (run entries.now range.now) }
+{
+    count_not_after(entries, range) - count_before(entries, range)
 }
