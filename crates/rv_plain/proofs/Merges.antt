@@ -1,5 +1,5 @@
 -- Changes put into rows one after another, from the lowest row on.
-use Rattle.std.proofs.Common.{◌≡◌, ℕ, ◌+◌, ◌<◌, ◌≤◌, List, [], ◌∷◌, ◌++◌, Bool, true, false, not, ◌&&◌, ◌||◌, ◌==◌, cond, refl, ap, sym, ◌∙◌, inl, inr, arith, length, zero, suc, filter, drop, nat_lt, nat_le, Option, Some, None, append_assoc, append-nil, slice_index_or}
+use Rattle.std.proofs.Common.{◌≡◌, ℕ, ◌<◌, List, [], ◌∷◌, ◌++◌, Bool, true, false, not, ◌&&◌, ◌==◌, refl, ap, sym, ◌∙◌, inl, inr, arith, zero, suc, filter, drop, nat_lt, nat_le, Option, Some, None, append_assoc, append-nil}
 use Rattle.std.proofs.lemmas.Bool.{cases_Bool}
 use Rattle.std.proofs.lemmas.Bool.Decides.{nat_tests}
 use Rattle.std.proofs.lemmas.List.Elements.{filter-append}
@@ -9,10 +9,9 @@ use Rattle.rv_value.specs.declared.value.Value.{Value}
 use Rattle.rv_value.specs.declared.record.Record.{Record}
 use Rattle.rv_rows.specs.declared.changes.Change.{Change}
 use Rattle.rv_rows.specs.Changes.{Rise, applied, is_before}
-use Rattle.rv_rows.specs.Rising.{Rising}
-use Rattle.rv_rows.specs.Rows.{Ascend, comes_below, with_values, with_record, without_row}
+use Rattle.rv_rows.specs.Rows.{Ascend, comes_below, with_values, without_row}
 use Rattle.rv_rows.proofs.Puts.{rising_filter}
-use Rattle.rv_reader.proofs.Filters.{both, filter_twice, filter_same, filter_none, rising_cut}
+use Rattle.rv_reader.proofs.Filters.{both, filter_same, filter_none, rising_cut}
 use Rattle.rv_plain.specs.Rows.{below, above, past, values_row, Passes}
 
 -- rows up to a number
@@ -81,14 +80,14 @@ front_up number None rows = rw (append-nil (filter (below number) rows)) (below_
 -- a change of the table is passed
 pub passes_put : (table : ℕ) (c : Change) (old rows new rest : List Record) → Ascend rows → c.table ≡ table → new ≡ old ++ filter (below c.row.0) rows ++ values_row c.row.0 c.values → rest ≡ filter (above c.row.0) rows → Passes table c old rows new rest
 passes_put table c old rows new rest ascend here_table put left =
-  let e : c.table == table ≡ true = grind (arith, nat_tests) in
-  record {
-  same = λ cs rise.
-    let front = filter (below c.row.0) rows ++ values_row c.row.0 c.values in
-    let here : applied table (c ∷ cs) rows ≡ front ++ applied table cs (filter (above c.row.0) rows) =
-      rw (e, with_cut c.row.0 c.values rows ascend) (applied_behind table c cs front (filter (above c.row.0) rows) e rise.0 (front_up c.row.0 c.values rows)) in
-    rw (put, left, here) (all_three old (filter (below c.row.0) rows) (values_row c.row.0 c.values) (applied table cs (filter (above c.row.0) rows)));
-}
+    let e : c.table == table ≡ true = grind (arith, nat_tests) in
+    record {
+      same = λ cs rise.
+          let front = filter (below c.row.0) rows ++ values_row c.row.0 c.values in
+          let here : applied table (c ∷ cs) rows ≡ front ++ applied table cs (filter (above c.row.0) rows) =
+          rw (e, with_cut c.row.0 c.values rows ascend) (applied_behind table c cs front (filter (above c.row.0) rows) e rise.0 (front_up c.row.0 c.values rows)) in
+          rw (put, left, here) (all_three old (filter (below c.row.0) rows) (values_row c.row.0 c.values) (applied table cs (filter (above c.row.0) rows)));
+    }
   where
     all_three : (a b c d : List Record) → ((a ++ b) ++ c) ++ d ≡ a ++ ((b ++ c) ++ d)
     all_three a b c d = simp append_assoc

@@ -1,16 +1,16 @@
 -- Lists cut in two where a test fails for the first time.
-use Rattle.std.proofs.Common.{◌≡◌, ℕ, ◌+◌, ◌<◌, ◌≤◌, List, [], ◌∷◌, ◌++◌, Bool, true, false, not, ◌&&◌, ◌==◌, cond, refl, ap, sym, ◌∙◌, inl, inr, arith, length, zero, suc, filter, take, drop, nat_lt, nat_eq, ◌/◌, ◌*◌, find, Option, Some, None, slice_get, subst}
+use Rattle.std.proofs.Common.{◌≡◌, ℕ, ◌+◌, ◌<◌, ◌≤◌, List, [], ◌∷◌, Bool, true, false, not, ◌&&◌, ◌==◌, refl, ap, sym, ◌∙◌, inl, inr, arith, length, zero, suc, filter, take, drop, nat_lt, ◌/◌, ◌*◌, None}
 use Rattle.std.proofs.lemmas.Bool.{cases_Bool}
 use Rattle.std.proofs.lemmas.Bool.Decides.{nat_tests}
 use Rattle.std.specs.List.{slice_index_or, list_all, AllWithin}
-use Rattle.std.specs.List.Sorted.{IsPartitionPoint, IsPartitionedBy}
+use Rattle.std.specs.List.Sorted.{IsPartitionedBy}
 use Rattle.rv_value.specs.declared.record.Record.{Record}
 use Rattle.rv_rows.specs.Rising.{Rising}
 use Rattle.rv_rows.specs.Rows.{Ascend, comes_below}
 use Rattle.rv_rows.proofs.Puts.{rising_filter}
-use Rattle.rv_reader.proofs.Filters.{both, filter_twice, filter_same, filter_none}
+use Rattle.rv_reader.proofs.Filters.{both, filter_twice}
 use Rattle.rv_reader.specs.Tables.{page_of, row_at}
-use Rattle.rv_plain.specs.Rows.{below, above, first_at}
+use Rattle.rv_plain.specs.Rows.{below, first_at}
 
 all_false : {X : Type 0} (p : X → Bool) (xs : List X) → AllWithin (λ y. p y ≡ false) xs 0 (length xs) → (filter p xs ≡ []) × (filter (λ x. not (p x)) xs ≡ xs)
 all_false p [] none = (refl, refl)

@@ -1,17 +1,16 @@
 -- Leaves of 32 entries by their places.
-use Rattle.std.proofs.Common.{◌≡◌, ℕ, ◌+◌, ◌-◌, ◌*◌, ◌/◌, ◌<◌, ◌≤◌, List, [], ◌∷◌, ◌++◌, Bool, true, false, not, ◌&&◌, cond, refl, ap, sym, ◌∙◌, inl, inr, arith, length, zero, suc, filter, take, drop, Option, Some, None, slice_get, subst, min}
+use Rattle.std.proofs.Common.{◌≡◌, ℕ, ◌+◌, ◌-◌, ◌*◌, ◌/◌, ◌<◌, ◌≤◌, List, [], ◌∷◌, Bool, true, false, not, ◌&&◌, cond, refl, ap, sym, ◌∙◌, inl, inr, arith, length, zero, suc, filter, take, drop, Option, Some, None, slice_get, subst, min}
 use Rattle.std.proofs.lemmas.Bool.{cases_Bool, cases_lt}
 use Rattle.std.specs.List.Sorted.{IsPartitionedBy}
-use Rattle.std.specs.List.{slice_index_or, list_all, AllWithin}
+use Rattle.std.specs.List.{list_all, AllWithin}
 use Rattle.rv_value.specs.declared.record.IndexEntry.{IndexEntry}
 use Rattle.rv_value.specs.declared.range.Range.{Range}
 use Rattle.rv_value.specs.declared.range.Side.{Side}
 use Rattle.rv_value.specs.declared.range.Side.TheVariants.{Before, In, After}
 use Rattle.rv_value.specs.Ranges.{place, in_side}
-use Rattle.rv_rows.specs.Rising.{Rising}
 use Rattle.rv_reader.specs.declared.reader.Chunk.{Chunk}
 use Rattle.rv_reader.specs.Entries.{comes_before, Ascend, AreLong, run}
-use Rattle.rv_reader.specs.Leaves.{Leaf, IsChunk, before_side, after_side, from_on, up_to, leaf_from, leaf_at, leaf_entries, is_passed, is_wanted, within, run_from}
+use Rattle.rv_reader.specs.Leaves.{Leaf, IsChunk, before_side, after_side, from_on, up_to, leaf_from, leaf_at, leaf_entries, is_passed, is_wanted, within}
 use Rattle.rv_reader.proofs.Filters.{both, filter_none}
 use Rattle.rv_reader.proofs.Orders.{one_way, itself, key_not, order}
 use Rattle.rv_reader.proofs.Sides.{before_along, after_along}
@@ -80,8 +79,8 @@ leaf_place_is passes (suc left) (suc n) low (e ∷ es) p =
       next = rest.next ∙ ap (slice_get (e ∷ es)) (sym there);
       first = λ h. rest.first (omega arith);
       later = λ h l.
-        let back : suc (next_place left n - 32) ≡ next_place (suc left) (suc n) - 32 = omega arith in
-        rest.later (omega arith) (omega arith) ∙ ap (slice_get (e ∷ es)) back;
+          let back : suc (next_place left n - 32) ≡ next_place (suc left) (suc n) - 32 = omega arith in
+          rest.later (omega arith) (omega arith) ∙ ap (slice_get (e ∷ es)) back;
     }
 
 -- the entries from a place on, and those before it
@@ -195,9 +194,9 @@ read_is entries range start n m rest leaf behind chunk ascend long within_bound 
     let most : length leaf ≤ m = rw leaf_is (take_short rest m) in
     let fewer : length chunk.entries ≤ length leaf = rw kept (longer (is_wanted range start) leaf) in
     is_chunk entries (cuts_of entries) range start chunk ascend long (cuts_all (is_long range) 32 entries long)
-      (kept ∙ ap (filter (is_wanted range start)) (sym whole) ∙ sym (run_tests (leaf_entries here entries) range start))
-      (next ∙ ap (within range) (sym first))
-      (omega arith)
+    (kept ∙ ap (filter (is_wanted range start)) (sym whole) ∙ sym (run_tests (leaf_entries here entries) range start))
+    (next ∙ ap (within range) (sym first))
+    (omega arith)
 
 -- what passes passes before others
 passes_before : (range : Range) (start : Option IndexEntry) (x y : IndexEntry) → comes_before x y ≡ true → is_long range x ≡ true → is_long range y ≡ true → is_passed start range y ≡ true → is_passed start range x ≡ true

@@ -1,5 +1,5 @@
 -- Rows around a number.
-use Rattle.std.specs.Prelude.{◌≡◌, ℕ, ◌≤◌, List, [], ◌∷◌, ◌++◌, Bool, Option, Some, None, nat_lt, ◌==◌, if◌then◌else◌, filter, drop, length}
+use Rattle.std.specs.Prelude.{◌≡◌, ℕ, List, [], ◌∷◌, ◌++◌, Bool, Option, Some, None, nat_lt, ◌==◌, if◌then◌else◌}
 use Rattle.rv_value.specs.declared.value.Value.{Value}
 use Rattle.rv_value.specs.declared.record.Record.{Record}
 use Rattle.rv_rows.specs.declared.changes.Change.{Change}

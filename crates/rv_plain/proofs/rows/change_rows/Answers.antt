@@ -1,7 +1,7 @@
 use Rattle.std.proofs.Common.{◌≡◌, ◌+◌, ◌∷◌, ◌++◌, drop, ◌∙◌, ap, sym}
 use Rattle.std.proofs.lemmas.List.{drop_more}
 use Rattle.rv_rows.specs.declared.changes.Change.{Change}
-use Rattle.rv_rows.specs.Changes.{Rise, applied}
+use Rattle.rv_rows.specs.Changes.{applied}
 use Rattle.rv_plain.proofs.Merges.{rise_drop}
 use Rattle.rv_plain.proofs.rows.change_rows.Goals as goal
 

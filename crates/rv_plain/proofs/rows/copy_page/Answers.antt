@@ -1,4 +1,4 @@
-use Rattle.std.proofs.Common.{◌+◌, ◌*◌}
+use Rattle.std.proofs.Common.{◌*◌}
 use Rattle.rv_plain.proofs.Points.{ascend_back, page_is}
 use Rattle.rv_plain.proofs.rows.copy_page.Goals as goal
 
