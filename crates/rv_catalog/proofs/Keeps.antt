@@ -1,5 +1,5 @@
 -- What a catalog keeps as tables and indexes are added and taken away.
-use Rattle.std.proofs.Common.{◌≡◌, ℕ, ◌+◌, ◌*◌, ◌<◌, ◌≤◌, ◌==◌, List, [], ◌∷◌, ◌++◌, Bool, true, false, cond, not, ◌&&◌, None, nat_lt, nat_le, filter, length, take, map, refl, ap, arith, if◌then◌else◌, zero, suc, length-append, add-one}
+use Rattle.std.proofs.Common.{◌≡◌, ℕ, ◌+◌, ◌*◌, ◌<◌, ◌≤◌, ◌==◌, List, [], ◌∷◌, ◌++◌, Bool, true, false, cond, not, ◌&&◌, None, nat_le, filter, length, take, map, refl, arith, if◌then◌else◌, zero, suc, length-append, add-one}
 use Rattle.std.specs.Prelude.{bytes_eq}
 use Rattle.std.specs.List.{list_any, list_all}
 use Rattle.std.proofs.lemmas.Bool.Decides.{nat_tests}
@@ -7,7 +7,7 @@ use Rattle.std.proofs.lemmas.List.{length-take}
 use Rattle.rv_catalog.specs.declared.def.IndexDef.{IndexDef}
 use Rattle.rv_catalog.specs.declared.def.TableDef.{TableDef}
 use Rattle.rv_catalog.specs.Kept.{KeepsIndexes, KeepsTables, indexes_over, is_below, is_narrow, is_over}
-use Rattle.rv_catalog.specs.Schema.{columns_of, index_named, index_names, table_named, table_names}
+use Rattle.rv_catalog.specs.Schema.{columns_of, index_named, table_named}
 use Rattle.rv_catalog.proofs.Known.{added, cut}
 
 pub and_left : (a b : Bool) → (a && b) ≡ true → a ≡ true

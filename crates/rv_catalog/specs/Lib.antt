@@ -1,5 +1,6 @@
 pub mod Answers
 pub mod Columns
+pub mod Fits
 pub mod Kept
 pub mod Kinds
 pub mod Limits

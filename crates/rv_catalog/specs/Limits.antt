@@ -11,7 +11,7 @@ use Rattle.rv_lang.specs.declared.statement.RawOperand.TheVariants.{Literal, Col
 use Rattle.rv_lang.specs.declared.statement.RawAtom.{RawAtom}
 use Rattle.rv_lang.specs.declared.statement.RawAtom.TheVariants.{Compare, Between, Among, IsNull, Starts}
 use Rattle.rv_lang.specs.declared.statement.Statement.{Statement}
-use Rattle.rv_lang.specs.declared.statement.Statement.TheVariants.{CreateTable, CreateIndex, Begin, Insert, Update, Delete, Commit, Rollback, Open, Fetch, Show, Close, Step}
+use Rattle.rv_lang.specs.declared.statement.Statement.TheVariants.{CreateTable, CreateIndex, Insert, Update, Delete, Open, Fetch, Show, Close, Step}
 use Rattle.rv_lang.specs.declared.reply.Refusal.{Refusal}
 use Rattle.rv_lang.specs.declared.reply.Refusal.TheVariants.{Limit}
 use Rattle.rv_lang.specs.declared.reply.Which.TheVariants.{Name, Columns, Key, Atoms, Groups, Joined, Returned, Order, Steps}

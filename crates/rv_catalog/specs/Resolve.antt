@@ -1,6 +1,6 @@
 -- A statement with numbers for names, or its first refusal: the limits of the statement, then all unknown names, then
 -- all names that exist, then all kinds; within each the leftmost in the text, but tables before columns.
-use Rattle.std.specs.Prelude.{ℕ, ℤ, pos, negsuc, List, [], ◌∷◌, ◌++◌, ◌+◌, Bool, true, false, cond, nat_lt, Option, Some, None, Result, Ok, Err, bytes_eq, is_some, map}
+use Rattle.std.specs.Prelude.{ℕ, ℤ, pos, negsuc, List, [], ◌∷◌, ◌++◌, Bool, cond, nat_lt, Option, Some, None, Result, Ok, bytes_eq, is_some, map}
 use Rattle.std.specs.List.{list_any}
 use Rattle.rv_value.specs.declared.value.Kind.{Kind}
 use Rattle.rv_value.specs.declared.value.Kind.TheVariants.{Big, Chars}

@@ -117,12 +117,7 @@ pub fn find_column(
 }
 
 /// The number of a table's column.
-pub fn find_own(
-    alloc: Global,
-    catalog: &Catalog,
-    table: u32,
-    name: &Text,
-) -> Result<u32, BindFault>
+pub fn find_own(alloc: Global, catalog: &Catalog, table: u32, name: &Text) -> Result<u32, BindFault>
     ensures { Gives result (own_column catalog.now.tables table name.now) }
 {
     let fit = fit_in(name, 0, 0, catalog.columns(table), Fit::Nothing);

@@ -93,6 +93,16 @@ impl Catalog {
         }
     }
 
+    /// The number of a table's indexes. It takes no memory.
+    pub fn count_indexes(&self, table: u32) -> usize
+        ensures { result ≡ indexes_over table self.now.indexes }
+    {
+        self.indexes
+            .iter()
+            .filter(|index| index.table == table)
+            .count()
+    }
+
     /// Adds a table behind the others, and gives its number.
     pub fn add_table(&mut self, def: TableDef) -> Result<u32, NoMemory>
         requires fresh { table_named self.old.tables def.name ≡ None }

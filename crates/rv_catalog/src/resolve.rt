@@ -3,6 +3,7 @@ ghost use Rattle.std.specs.Prelude.{◌≡◌, ◌<◌, ◌≤◌, ◌^◌, ◌�
 ghost use Rattle.rv_lang.specs.declared.reply.Refusal.{Refusal as Why};
 ghost use Rattle.rv_catalog.specs.Answers.{Gives, GivesAs, collected, refuse_some};
 ghost use Rattle.rv_catalog.specs.Columns.{own_column};
+ghost use Rattle.rv_catalog.specs.Fits.{FitsSchema, parts_in, parts_of};
 ghost use Rattle.rv_catalog.specs.Limits.{joined_count};
 ghost use Rattle.rv_catalog.specs.Resolve.{column_def, column_name, deleted, first_repeat, form, goal_of, inserted, item, item_name, item_table, itself, kind_of, new_index, new_table, references, resolved, returns, second_or, selected, set_column, set_name, stands_among, steps_of, table_number, updated, width_of};
 
@@ -22,6 +23,12 @@ impl Catalog {
     /// unknown names, then the names that exist, then the kinds.
     pub fn resolve(&self, statement: &Statement) -> Result<Resolved, BindFault>
         ensures gives { Gives result (resolved self.now statement.now) }
+
+        // Each table and column that the answer names is there, and the limits hold.
+        ensures fits { IfOk result (λ r. FitsSchema self.now r) }
+
+        // It has as many columns or items as the statement.
+        ensures whole { IfOk result (λ r. parts_in r ≡ parts_of statement.now) }
     {
         test_limits(statement)?;
         resolve_form(self.alloc(), self, statement)

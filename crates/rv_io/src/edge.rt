@@ -52,6 +52,16 @@ impl<W: Drop> StdSink<W> {
     }
 }
 
+impl<W: Write + Drop> StdSink<W> {
+    /// Hands everything to the writer's target. `Failed` where that cannot be done.
+    pub fn finish(mut self) -> Result<(), Failed> {
+        match self.inner.flush() {
+            Ok(()) => Ok(()),
+            Err(_error) => Err(Failed),
+        }
+    }
+}
+
 impl<W: Write + Drop> Sink for StdSink<W> {
     ghost written = { λ _. None };
 

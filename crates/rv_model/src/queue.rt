@@ -1,5 +1,5 @@
-ghost use Rattle.std.specs.Prelude.{◌≡◌, ◌==◌, ◌++◌, ◌∷◌, [], length, OnOk, OnErr};
-ghost use Rattle.std.specs.Option.{option_to_list};
+ghost use Rattle.std.specs.Prelude.{◌≡◌, ◌==◌, ◌++◌, ◌∷◌, [], drop, length, slice_get, OnOk, OnErr};
+ghost use Rattle.std.specs.Option.{option_copied, option_to_list};
 
 use rv_value::NoMemory;
 use std::alloc::Global;
@@ -30,9 +30,17 @@ impl<X> Queue<X> {
         }
     }
 
+    /// The first item; None where there is none.
+    pub fn front(&self) -> Option<&X>
+        ensures { option_copied result ≡ slice_get self.now 0 }
+    {
+        self.items.front()
+    }
+
     /// Takes the first item out; None where there is none.
     pub fn pop_front(&mut self) -> Option<X>
-        ensures { self.old ≡ option_to_list result ++ self.new }
+        ensures parts { self.old ≡ option_to_list result ++ self.new }
+        ensures rest { self.new ≡ drop 1 self.old }
     {
         self.items.pop_front()
     }

@@ -9,6 +9,8 @@ pub mod parser;
 pub mod parts;
 pub mod selects;
 pub mod statements;
+#[cfg(test)]
+mod tests;
 
 pub use fault::ParseFault;
 pub use parser::{parse, read_statement};

@@ -2,6 +2,8 @@
 #![tactic(auto)]
 
 pub mod scripts;
+#[cfg(test)]
+mod tests;
 pub mod traces;
 pub mod transcript;
 pub mod values;

@@ -1,4 +1,4 @@
-use Rattle.std.proofs.Common.{rules, arith, map, length, length-append, string_bytes, ◌∙◌, ◌≡◌, ◌++◌, ◌∷◌, [], ◌+◌}
+use Rattle.std.proofs.Common.{rules, map, length, length-append, string_bytes, ◌∙◌, ◌≡◌, ◌++◌, ◌∷◌, []}
 use Rattle.rv_catalog.proofs.Keeps.{more_below, table_added}
 use Rattle.rv_catalog.proofs.names.Catalog.add_table.Goals as goal
 

@@ -1,0 +1,65 @@
+//! Resolves the statements that it reads, a line each, adds what they create to the catalog, and writes what
+//! each gives. The file `stdout` has the answers that tools/name_table.py gives by hand.
+#![tactic(auto)]
+
+ghost use Rattle.rv_catalog.specs.Fits.{IsNewIndex, IsNewTable};
+
+mod told;
+
+use rv_catalog::{BindFault, Catalog, IndexDef, Resolved, TableDef};
+use rv_parse::read_statement;
+use rv_value::NoMemory;
+use std::alloc::Global;
+use std::io;
+use told::{told_index, told_refusal, told_resolved};
+
+/// What a text gives, in words.
+fn answer(alloc: Global, catalog: &mut Catalog, text: &str) -> Result<String, NoMemory> {
+    if text.len() > 4096 {
+        return Ok(String::from_str(alloc, "too long")?);
+    }
+    match read_statement(alloc, text)? {
+        None => Ok(String::from_str(alloc, "syntax")?),
+        Some(statement) => match catalog.resolve(&statement) {
+            Err(BindFault::NoMemory) => Err(NoMemory),
+            Err(BindFault::Refused(refusal)) => told_refusal(alloc, &refusal),
+            Ok(Resolved::CreateTable(def)) => add_table(alloc, catalog, def),
+            Ok(Resolved::CreateIndex(def)) => add_index(alloc, catalog, def),
+            Ok(resolved) => told_resolved(alloc, &resolved),
+        },
+    }
+}
+
+fn add_table(alloc: Global, catalog: &mut Catalog, def: TableDef) -> Result<String, NoMemory>
+    requires { IsNewTable catalog.old def }
+{
+    if catalog.tables().len() >= 64 {
+        return Ok(String::from_str(alloc, "limit tables 64")?);
+    }
+    let columns = def.columns.len();
+    let number = catalog.add_table(def)?;
+    Ok(format!(in alloc; "table {number} columns {columns}")?)
+}
+
+fn add_index(alloc: Global, catalog: &mut Catalog, def: IndexDef) -> Result<String, NoMemory>
+    requires { IsNewIndex catalog.old def }
+{
+    if catalog.count_indexes(def.table) >= 8 {
+        return Ok(String::from_str(alloc, "limit indexes 8")?);
+    }
+    let told = told_index(alloc, &def)?;
+    let number = catalog.add_index(def)?;
+    Ok(format!(in alloc; "index {number} {told}")?)
+}
+
+fn main(rt: HostRuntime) -> io::Result<()> {
+    let mut catalog = Catalog::new(rt.alloc());
+    'lines: for line in rt.lines(rt.alloc()) {
+        let line = line?;
+        match answer(rt.alloc(), &mut catalog, line.as_str()) {
+            Ok(told) => println!(rt; "{}", told.as_str())?,
+            Err(NoMemory) => println!(rt; "no memory")?,
+        }
+    }
+    Ok(())
+}

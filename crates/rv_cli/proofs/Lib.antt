@@ -1,0 +1,3 @@
+pub mod CallLists
+pub mod Ends
+pub mod Fits

@@ -1,0 +1,4 @@
+pub mod Making
+pub mod Performing
+pub mod Script
+pub mod Words

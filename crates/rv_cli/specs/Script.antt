@@ -1,0 +1,104 @@
+-- What a run makes of a script.
+use Rattle.std.specs.Prelude.{◌≡◌, ℕ, ◌+◌, ◌-◌, ◌<◌, ◌≤◌, ◌==◌, ◌⊎◌, List, [], ◌∷◌, ◌++◌, Option, Some, None, Result, Ok, Err, map, filter, length, IfSome, IsOkAnd}
+use Rattle.std.specs.List.{slice_index_or}
+use Rattle.std.specs.Io.KnownBytes.{Appends, Keeps}
+use Rattle.rv_io.specs.Pieces.{AppendsFront, TakesTooMany}
+use Rattle.rv_script.specs.declared.scripts.Line.{Line}
+use Rattle.rv_script.specs.declared.scripts.Phase.{Phase}
+use Rattle.rv_script.specs.declared.scripts.Script.{Script}
+use Rattle.rv_script.specs.declared.scripts.ScriptFault.{ScriptFault}
+use Rattle.rv_script.specs.declared.scripts.ScriptFault.TheVariants as faults
+use Rattle.rv_script.specs.Script.{script_of}
+use Rattle.rv_cli.specs.declared.status.Over.{Over}
+use Rattle.rv_cli.specs.declared.status.Over.TheVariants as over
+use Rattle.rv_model.specs.declared.entry.Entry.{Entry}
+use Rattle.rv_model.specs.History.{IsLegal, calls}
+use Rattle.rv_model.specs.Transcript.{text}
+use Rattle.rv_core.specs.Core.{Shown}
+
+-- a call: its session, its phase and its text
+pub record Call : Type 0 where
+  pub session : ℕ
+  pub phase : ℕ
+  pub text : List ℕ
+
+abbrev pub call : ℕ → ℕ → List ℕ → Call
+call session phase text = record { session = session; phase = phase; text = text }
+
+-- the calls of a history's entries, in order
+abbrev pub calls_made : List Entry → List Call
+calls_made entries = map (λ (e : Entry). call e.session e.phase e.text) entries
+
+-- the calls of a phase, in order
+abbrev pub calls_in : ℕ → List Line → List Call
+calls_in phase lines = map (λ (l : Line). call l.session phase l.text) lines
+
+-- the calls of phases numbered from one on, in order
+abbrev pub calls_from : ℕ → List Phase → List Call
+calls_from phase [] = []
+calls_from phase (p ∷ ps) = calls_in phase p.lines ++ calls_from (phase + 1) ps
+
+-- the calls of a script, whose first phase is 1
+abbrev pub calls_asked : Script → List Call
+calls_asked script = calls_from 1 script.phases
+
+abbrev pub no_phase : Phase
+no_phase = record { judge = None; lines = [] }
+
+-- the texts of a session in a phase of a script, in order
+abbrev pub texts_of : List Phase → ℕ → ℕ → List (List ℕ)
+texts_of phases session number = map (λ (l : Line). l.text) (filter (λ (l : Line). l.session == session) (slice_index_or phases number no_phase).lines)
+
+-- The history's calls are those of the script, each once, in the script's order; so each session's calls in each phase are
+-- its own in their order.
+pub record HasAllCalls (history : List Entry) (script : Script) : Type 0 where
+  pub order : calls_made history ≡ calls_asked script
+  pub each : (session number : ℕ) → calls history session (number + 1) ≡ texts_of script.phases session number
+
+-- The history's calls are the first ones of the script: each session's are a front of its own, whole in every phase before
+-- the last one begun.
+pub record HasFirstCalls (history : List Entry) (all : List Call) : Type 0 where
+  pub rest : List Call
+  pub whole : all ≡ calls_made history ++ rest
+
+-- a fact of the script that the source told, where it tells
+abbrev pub Told : Option (List ℕ) → (Script → Type 0) → Type 0
+Told left P = IfSome left (λ bytes. IsOkAnd (script_of bytes) P)
+
+-- What status 0 says: the transcript of one legal history was written, whole, and the history has the calls of the script.
+abbrev pub WritesAll : Option (List ℕ) → Option (List ℕ) → Option (List ℕ) → Option Shown → Type 0
+WritesAll left old new None = ⊥
+WritesAll left old new (Some core) = IsLegal core.history × Appends old new (text core.history) × Told left (HasAllCalls core.history)
+
+-- What status 4 says: nothing was written, or the transcript of one legal history of the script's first calls.
+abbrev pub StopsShort : Option (List ℕ) → Option (List ℕ) → Option (List ℕ) → Option Shown → Type 0
+StopsShort left old new None = Keeps old new
+StopsShort left old new (Some core) =
+    IsLegal core.history × Appends old new (text core.history) × Told left (λ script. HasFirstCalls core.history (calls_asked script))
+
+-- What status 6 says: a front of such a transcript was written.
+abbrev pub WritesFront : Option (List ℕ) → Option (List ℕ) → Option (List ℕ) → Option Shown → Type 0
+WritesFront left old new None = ⊥
+WritesFront left old new (Some core) =
+    IsLegal core.history × AppendsFront old new (text core.history) × Told left (λ script. HasFirstCalls core.history (calls_asked script))
+
+-- What status 2 says: the source's bytes have this first fault, a line without a session or a byte that is not UTF-8.
+abbrev pub IsScriptFault : ScriptFault → Type 0
+IsScriptFault (faults.NoSession line) = Unit {0}
+IsScriptFault (faults.NotText offset) = Unit {0}
+IsScriptFault fault = ⊥
+
+pub record HasFault (left : Option (List ℕ)) (fault : ScriptFault) : Type 0 where
+  pub kind : IsScriptFault fault
+  pub first : IfSome left (λ bytes. script_of bytes ≡ Err fault)
+
+-- The first fault is that there are too many lines.
+pub record HasTooMany (bytes : List ℕ) : Type 0 where
+  pub lines : ℕ
+  pub first : script_of bytes ≡ Err (faults.TooMany lines)
+
+-- What status 3 says: more than so many bytes were taken, or the first fault of the source's bytes is a limit passed.
+abbrev pub PassesLimit : Option (List ℕ) → Option (List ℕ) → ℕ → Over → Type 0
+PassesLimit left after limit over.Bytes = TakesTooMany left after limit
+PassesLimit left after limit over.Lines = IfSome left HasTooMany
+PassesLimit left after limit (over.Line n) = IfSome left (λ bytes. script_of bytes ≡ Err (faults.TooLong n))

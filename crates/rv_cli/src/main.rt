@@ -1,0 +1,56 @@
+//! The program: a script on standard input, its transcript on standard output.
+#![tactic(auto)]
+
+mod calls;
+mod run;
+mod status;
+
+use crate::run::{Ran, run};
+use crate::status::Status;
+use rv_io::{StdSink, StdSource};
+use rv_value::{NoMemory, Text};
+use std::alloc::Global;
+use std::io::BufWriter;
+use std::process::ExitCode;
+use std::{env, io};
+
+/// Runs the script of standard input, says on standard error how that ended, and exits with the status's code.
+fn main(rt: HostRuntime) -> ExitCode {
+    let status = whole(&rt).unwrap_or(Status::Memory);
+    if status != Status::Done {
+        let words = status.words();
+        let _ = rt.eprintln(words.as_str());
+    }
+    ExitCode::from(status.code())
+}
+
+/// The run over the standard streams.
+fn whole(rt: &HostRuntime) -> Result<Status, NoMemory> {
+    let alloc = rt.alloc();
+    let words = read_words(rt, alloc)?;
+    let Ok(out) = BufWriter::new(alloc, io::writer(rt)) else {
+        return Err(NoMemory);
+    };
+    let mut source = StdSource::new(rt.reader());
+    let mut sink = StdSink::new(out);
+    let Ran {
+        status,
+        core: _core,
+    } = run(alloc, words.as_slice(), &mut source, &mut sink);
+    Ok(match sink.finish() {
+        Ok(()) => status,
+        Err(_fault) => Status::WriteFault,
+    })
+}
+
+/// The words after the program's name.
+fn read_words(rt: &HostRuntime, alloc: Global) -> Result<Vec<Text>, NoMemory> {
+    let mut words = Vec::new(alloc);
+    let Ok(all) = env::args(rt) else {
+        return Err(NoMemory);
+    };
+    for word in all.skip(1) {
+        words.push(Text::read(alloc, word.as_str())?)?;
+    }
+    Ok(words)
+}

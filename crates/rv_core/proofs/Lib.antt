@@ -1,0 +1,4 @@
+pub mod Keeping
+pub mod Lists
+pub mod Offering
+pub mod Soundness

@@ -1,0 +1,91 @@
+//! A hashed filter of keys: it may take a key for an added one, and never denies an added key.
+#![tactic(auto)]
+
+ghost use Rattle.std.specs.Prelude.{◌≡◌, ◌<◌, ℕ, length, All, true, false};
+ghost use Rattle.rv_filter.specs.Bits.{bit_of, is_set, holds, SetsBit};
+
+use std::marker::Model;
+
+const GOLDEN: u64 = 0x9E37_79B9_7F4A_7C15;
+
+/// A filter of 65,536 bits in 1,024 words, which contracts see. Bit `b` is bit `b mod 64` of word `b / 64`.
+#[derive(Drop, Debug)]
+pub struct Filter {
+    words: Vec<u64>,
+}
+
+impl Model for Filter {
+    ghost use Rattle.std.specs.Prelude.{◌≡◌, ℕ, List, length};
+
+    ghost Value = { List ℕ };
+
+    ghost view = { λ filter. filter.words.items };
+
+    ghost invariant = { λ filter. length filter.words.items ≡ 1024 };
+}
+
+impl Filter {
+    /// The filter over these words, which holds no key. It takes no memory.
+    pub fn over(words: Vec<u64>) -> Filter
+        requires count { length words.items ≡ 1024 }
+        requires zero { All (λ word. word ≡ 0) words.items }
+        ensures words { result ≡ words.items }
+        ensures empty { (bit : ℕ) → is_set result bit ≡ false }
+    {
+        Filter { words }
+    }
+
+    /// Sets the key's bit.
+    pub fn add(&mut self, key: u64)
+        ensures set { SetsBit self.old self.new (bit_of key) }
+        ensures held { holds self.new key ≡ true }
+        ensures kept { (other : ℕ) → holds self.old other ≡ true → holds self.new other ≡ true }
+    {
+        let bit = bit_of(key);
+        self.words[bit / 64] |= 1 << (bit % 64);
+    }
+
+    /// Whether the key's bit is set, as it is for each added key.
+    pub fn may_hold(&self, key: u64) -> bool
+        ensures { result ≡ holds self.now key }
+    {
+        let bit = bit_of(key);
+        (self.words[bit / 64] >> (bit % 64)) & 1 == 1
+    }
+}
+
+fn bit_of(key: u64) -> usize
+    ensures bit { result ≡ bit_of key }
+    ensures fits { result < 65536 }
+{
+    (key.wrapping_mul(GOLDEN) >> 48) as usize
+}
+
+#[cfg(test)]
+mod tests {
+    use super::*;
+    use std::alloc::AllocError;
+
+    #[test]
+    fn bits_of_three_keys(rt: HostRuntime) -> Result<(), AllocError> {
+        let words = vec![in rt.alloc(); 0; 1024]?;
+        assert!(rt; words.len() == 1024 && words.iter().all(|word| *word == 0));
+        let mut filter = Filter::over(words);
+        for (key, bit) in [(0, 0), (1, 40503), (2, 15470)] {
+            assert!(rt; !filter.may_hold(key));
+            filter.add(key);
+            assert!(rt; filter.may_hold(key));
+            assert_eq!(rt; bit_of(key), bit);
+        }
+        let bits: [(usize, u64); 3] = [
+            (0, 1),
+            (15470 / 64, 1 << (15470 % 64)),
+            (40503 / 64, 1 << (40503 % 64)),
+        ];
+        for (at, word) in filter.words.iter().enumerate() {
+            let here = bits.iter().find(|bit| bit.0 == at);
+            assert_eq!(rt; *word, here.map_or(0, |bit| bit.1));
+        }
+        Ok(())
+    }
+}

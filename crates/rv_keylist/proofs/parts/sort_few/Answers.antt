@@ -1,0 +1,8 @@
+use Rattle.std.proofs.Common.{sym, ◌∙◌, ap, length}
+use Rattle.rv_keylist.proofs.Orders.{sorted_refill}
+use Rattle.rv_keylist.proofs.parts.sort_few.Goals as goal
+
+pub returns-clause-ascends : goal.returns-clause-ascends
+returns-clause-ascends c =
+    sorted_refill _ _ c.sort_unstable.new.self (sym (c.sort_unstable.ensures.len ∙ ap length c.as_mut_slice.ensures.value))
+    c.sort_unstable.ensures.sorted

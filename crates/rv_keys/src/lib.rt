@@ -1,0 +1,53 @@
+//! Ascending lists of row numbers, and what is searched in them.
+#![tactic(auto)]
+
+ghost use Rattle.std.specs.Prelude.{◌≡◌, false};
+ghost use Rattle.std.specs.List.Sorted.{IsStrictlyIncreasing};
+ghost use Rattle.rv_keys.specs.Keys.{has_key, IsPlace};
+
+/// Whether a row is among ascending keys, by binary search.
+pub fn is_among(keys: &[u64], row: u64) -> bool
+    requires { IsStrictlyIncreasing keys.now }
+    ensures { result ≡ has_key row keys.now }
+{
+    keys.binary_search(&row).is_ok()
+}
+
+/// Where a row that is not among ascending keys would stand, by binary search.
+pub fn place_of(keys: &[u64], row: u64) -> usize
+    requires ascends { IsStrictlyIncreasing keys.now }
+    requires fresh { has_key row keys.now ≡ false }
+    ensures { IsPlace keys.now row result }
+{
+    match keys.binary_search(&row) {
+        Err(at) => at,
+        Ok(_at) => unreachable!(),
+    }
+}
+
+#[cfg(test)]
+mod tests {
+    use super::*;
+
+    #[test]
+    fn rows_and_places(rt: HostRuntime) {
+        let keys: [u64; 5] = [1, 4, 5, 9, u64::MAX];
+        let none: [u64; 0] = [];
+        for (row, there) in [
+            (0, false),
+            (1, true),
+            (3, false),
+            (9, true),
+            (10, false),
+            (u64::MAX, true),
+        ] {
+            assert_eq!(rt; is_among(&keys, row), there);
+            assert!(rt; !is_among(&none, row));
+        }
+        assert_eq!(rt;
+            (place_of(&keys, 0), place_of(&keys, 7), place_of(&keys, 10)),
+            (0, 3, 4)
+        );
+        assert_eq!(rt; place_of(&none, 7), 0);
+    }
+}
