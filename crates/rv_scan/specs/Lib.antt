@@ -1,2 +1,3 @@
+pub mod Alongs
 pub mod Due
 pub mod Places
