@@ -1,0 +1,5 @@
+pub mod Merges
+pub mod Points
+pub mod Positions
+pub mod Standing
+pub mod Keeping

@@ -1,0 +1,126 @@
+-- The rows from a page on are that page, and the rows from the next one on.
+use Rattle.std.proofs.Common.{◌≡◌, ℕ, ◌+◌, ◌-◌, ◌*◌, ◌/◌, ◌<◌, ◌≤◌, List, [], ◌∷◌, ◌++◌, Bool, true, false, not, ◌&&◌, ◌==◌, refl, ap, sym, ◌∙◌, inl, inr, arith, length, zero, suc, filter, drop, nat_le, nat_lt, subst, length-append, Option, Some, None, Result, Ok, Err, IfOk, OnErr}
+use Rattle.std.proofs.Math.Seq.{drop-drop}
+use Rattle.std.proofs.lemmas.Bool.{cases_Bool}
+use Rattle.std.proofs.lemmas.Bool.Decides.{nat_tests}
+use Rattle.std.proofs.lemmas.List.Folds.{list_all-append}
+use Rattle.std.proofs.lemmas.List.Elements.{filter-append}
+use Rattle.std.specs.List.{list_all, AllByRecursion, slice_index_or}
+use Rattle.rv_value.specs.declared.record.Record.{Record}
+use Rattle.rv_rows.specs.Rows.{Ascend, comes_below}
+use Rattle.rv_restrict.specs.declared.atom.Atom.{Atom}
+use Rattle.rv_reader.specs.Tables.{page_of, IsTable}
+use Rattle.rv_reader.proofs.Filters.{both, rising_cut}
+use Rattle.rv_scan.specs.declared.skip.Scanned.{Scanned}
+use Rattle.rv_scan.specs.declared.skip.Scanned.TheVariants.{Found, Working, End}
+use Rattle.rv_scan.specs.Due.{Skipped, is_due, due, FindsDue, HaveColumns, StepsTo}
+use Rattle.rv_scan.specs.Places.{Place, Turns, rows_from, unseen, Fits, rest, work}
+
+tests_same : (p q : Record → Bool) → ((r : Record) → p r ≡ q r) → (rows : List Record) → filter p rows ≡ filter q rows
+tests_same p q same [] = refl
+tests_same p q same (r ∷ rows) = rw (same r, tests_same p q same rows) refl
+
+pub split_page : (page : ℕ) (rows : List Record) → Ascend rows → rows_from rows page ≡ page_of rows page ++ rows_from rows (page + 1)
+split_page page rows ascend =
+    let cut = rising_cut comes_below (λ (r : Record). nat_le (32 * page) r.row.0) (λ (r : Record). nat_lt r.row.0 (32 * page + 32)) (λ x y h f. let first = h in let second = f in grind (arith, nat_tests)) rows ascend in
+    let front = tests_same (λ (r : Record). nat_le (32 * page) r.row.0 && nat_lt r.row.0 (32 * page + 32)) (λ (r : Record). r.row.0 / 32 == page) (λ r. grind (arith, nat_tests)) rows in
+    let back = tests_same (λ (r : Record). nat_le (32 * page) r.row.0 && not (nat_lt r.row.0 (32 * page + 32))) (λ (r : Record). nat_le (32 * (page + 1)) r.row.0) (λ r. grind (arith, nat_tests)) rows in
+    cut ∙ (λ i. front i ++ back i)
+
+pub none_from : (page pages : ℕ) (rows : List Record) → AllByRecursion (λ (r : Record). r.row.0 < 32 * pages) rows → pages ≤ page → rows_from rows page ≡ []
+none_from page pages [] all h = refl
+none_from page pages (r ∷ rows) all h =
+    let low = all.0 in
+    let here : nat_le (32 * page) r.row.0 ≡ false = grind (arith, nat_tests) in
+    rw here (none_from page pages rows all.1 h)
+
+pub all_from : (rows : List Record) → rows_from rows 0 ≡ rows
+all_from [] = refl
+all_from (r ∷ rows) = let here : nat_le (32 * 0) r.row.0 ≡ true = grind (arith, nat_tests) in rw here (ap (λ rs. r ∷ rs) (all_from rows))
+
+drop_front : (at : ℕ) (xs ys : List Record) → at ≤ length xs → drop at (xs ++ ys) ≡ drop at xs ++ ys
+drop_front zero xs ys h = refl
+drop_front (suc at) [] ys h = absurd (omega arith)
+drop_front (suc at) (x ∷ xs) ys h = drop_front at xs ys (omega arith)
+
+drop_all : (xs ys : List Record) → drop (length xs) (xs ++ ys) ≡ ys
+drop_all [] ys = refl
+drop_all (x ∷ xs) ys = drop_all xs ys
+
+length_drop : (at : ℕ) (xs : List Record) → at < length xs → length (drop (at + 1) xs) < length xs
+length_drop at [] h = absurd (omega arith)
+length_drop zero (x ∷ xs) h = omega arith
+length_drop (suc at) (x ∷ xs) h =
+    let rest = length_drop at xs (omega arith) in
+    let e : suc at + 1 ≡ suc (at + 1) = omega arith in
+    rw e (omega arith)
+
+columns_drop : (only : List (List Atom)) (k : ℕ) (rows : List Record) → HaveColumns only rows → HaveColumns only (drop k rows)
+columns_drop only zero rows have = have
+columns_drop only (suc k) [] have = have
+columns_drop only (suc k) (r ∷ rows) have = columns_drop only k rows (both _ _ have).1
+
+-- what is held has the columns that all rows have
+pub held_columns : (only : List (List Atom)) (place : Place) (rows : List Record) → Fits place rows → HaveColumns only rows → HaveColumns only place.held
+held_columns only place rows fits have =
+    let Columns : List Record → Type 0 = λ rs. HaveColumns only rs in
+    let all : HaveColumns only (place.held ++ rows_from rows place.next) = subst Columns (sym fits.1) (columns_drop only fits.0 rows have) in
+    (both _ _ (sym (list_all-append _ place.held (rows_from rows place.next)) ∙ all)).0
+
+-- a row given
+pub given_fits : (place : Place) (at : ℕ) (rows : List Record) → at < length place.held → Fits place rows → Fits (record place { held = drop (at + 1) place.held }) rows
+given_fits place at rows h fits =
+    (fits.0 + (at + 1), sym (drop_front (at + 1) place.held (rows_from rows place.next) (omega arith)) ∙ ap (drop (at + 1)) fits.1 ∙ drop-drop (at + 1) fits.0 rows)
+
+-- a page read
+pub turned_unseen : (place : Place) (rows : List Record) → Ascend rows → page_of rows place.next ++ rows_from rows (place.next + 1) ≡ rows_from rows place.next
+turned_unseen place rows ascend = sym (split_page place.next rows ascend)
+
+pub turned_fits : (place : Place) (rows : List Record) → Ascend rows → Fits place rows → Fits (record place { held = page_of rows place.next; next = place.next + 1 }) rows
+turned_fits place rows ascend fits =
+    (fits.0 + length place.held, turned_unseen place rows ascend ∙ sym (drop_all place.held (rows_from rows place.next)) ∙ ap (drop (length place.held)) fits.1 ∙ drop-drop (length place.held) fits.0 rows)
+
+due_both : (only : List (List Atom)) (skip : Skipped) (xs ys : List Record) → due only skip (xs ++ ys) ≡ due only skip xs ++ due only skip ys
+due_both only skip xs ys = filter-append (is_due only skip) xs ys
+
+-- the first due row of the page that is held
+pub given_step : (only : List (List Atom)) (skip : Skipped) (place : Place) (at : ℕ) (rows : List Record) (pages : ℕ) (r : Record) → FindsDue only skip place.held (Some at) → ((d : Record) → r ≡ slice_index_or place.held at d)
+    → StepsTo (Found r) (rest place rows only skip) (work place rows pages) (rest (record place { held = drop (at + 1) place.held }) rows only skip) (work (record place { held = drop (at + 1) place.held }) rows pages)
+given_step only skip place at rows pages r found is =
+    let behind = rows_from rows place.next in
+    let here : due only skip place.held ≡ r ∷ due only skip (drop (at + 1) place.held) = found.1 r ∙ ap (λ (x : Record). x ∷ due only skip (drop (at + 1) place.held)) (sym (is r)) in
+    let less = length_drop at place.held found.0 in
+    let before = length-append place.held behind in
+    let after = length-append (drop (at + 1) place.held) behind in
+    (due_both only skip place.held behind ∙ ap (λ rs. rs ++ due only skip behind) here ∙ ap (λ rs. r ∷ rs) (sym (due_both only skip (drop (at + 1) place.held) behind)), omega arith)
+
+-- a page read, or none left
+pub turned_step : (scanned : Scanned) (only : List (List Atom)) (skip : Skipped) (old new : Place) (rows : List Record) (pages : ℕ) → IsTable rows pages → due only skip old.held ≡ [] → Turns old new rows pages scanned
+    → StepsTo scanned (rest old rows only skip) (work old rows pages) (rest new rows only skip) (work new rows pages)
+turned_step (Found r) only skip old new rows pages table none turns = elim turns [ ]
+turned_step Working only skip old new rows pages table none turns =
+    let behind = rows_from rows old.next in
+    let page = turned_unseen old rows table.ascend in
+    let inside = turns.0 in
+    let before = length-append old.held behind in
+    let after = ap length page in
+    let same : rest old rows only skip ≡ due only skip behind = due_both only skip old.held behind ∙ ap (λ rs. rs ++ due only skip behind) none in
+    rw turns.1 (ap (due only skip) page ∙ sym same, omega arith)
+turned_step End only skip old new rows pages table none turns =
+    let behind = none_from old.next pages rows table.within turns.0 in
+    let nothing : rest old rows only skip ≡ [] = due_both only skip old.held (rows_from rows old.next) ∙ ap (λ rs. rs ++ due only skip (rows_from rows old.next)) none ∙ ap (due only skip) behind in
+    rw turns.1 (nothing, nothing, refl)
+
+turned_keeps : (scanned : Scanned) (old new : Place) (rows : List Record) (pages : ℕ) → IsTable rows pages → Fits old rows → Turns old new rows pages scanned → Fits new rows
+turned_keeps (Found r) old new rows pages table fits turns = elim turns [ ]
+turned_keeps Working old new rows pages table fits turns = rw turns.1 (turned_fits old rows table.ascend fits)
+turned_keeps End old new rows pages table fits turns = rw turns.1 fits
+
+pub fits_after : {E : Type 0} (r : Result Scanned E) (old new : Place) (rows : List Record) (pages : ℕ) → IsTable rows pages → Fits old rows → IfOk r (Turns old new rows pages) → OnErr r (new ≡ old) → Fits new rows
+fits_after (Ok scanned) old new rows pages table fits turns err = turned_keeps scanned old new rows pages table fits turns
+fits_after (Err e) old new rows pages table fits turns err = rw err fits
+
+pub step_after : {E : Type 0} (r : Result Scanned E) (only : List (List Atom)) (skip : Skipped) (old new : Place) (rows : List Record) (pages : ℕ) → IsTable rows pages → due only skip old.held ≡ [] → IfOk r (Turns old new rows pages)
+    → IfOk r (λ scanned. StepsTo scanned (rest old rows only skip) (work old rows pages) (rest new rows only skip) (work new rows pages))
+step_after (Ok scanned) only skip old new rows pages table none turns = turned_step scanned only skip old new rows pages table none turns
+step_after (Err e) only skip old new rows pages table none turns = tt

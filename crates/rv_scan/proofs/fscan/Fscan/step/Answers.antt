@@ -1,0 +1,27 @@
+use Rattle.std.proofs.Common.{[]}
+use Rattle.rv_value.specs.declared.record.IndexEntry.{IndexEntry}
+use Rattle.rv_scan.specs.Due.{skipped}
+use Rattle.rv_scan.proofs.Fetches.{step_turned, follows_turned, step_fetched, follows_fetched}
+use Rattle.rv_scan.proofs.fscan.Fscan.step.Goals as goal
+
+pub returns-in-Some-clause-follows : goal.returns-in-Some-clause-follows
+returns-in-Some-clause-follows g c fits =
+    let shown = g.R.Reader.shown c.args.reader.now in
+    let found = c.in-Some.ensures in
+    follows_fetched c.fetch.result c.args.self.now c.fetch.new.self c.in-Some.passed (shown.entries c.args.self.now.walk.index c.args.self.now.walk.snap) found.0.0 c.fetch.ensures.after c.fetch.ensures.err fits
+
+pub returns-in-Some-clause-step : goal.returns-in-Some-clause-step
+returns-in-Some-clause-step g c =
+    let shown = g.R.Reader.shown c.args.reader.now in
+    let any : IndexEntry = record { key = []; row = c.in-Some.row } in
+    step_fetched c.fetch.result c.args.only.now (skipped c.args.skip.now) c.args.self.now c.fetch.new.self c.in-Some.passed c.in-Some.row any (shown.entries c.args.self.now.walk.index c.args.self.now.walk.snap) (shown.cuts c.args.self.now.walk.index c.args.self.now.walk.snap) (shown.rows c.args.self.now.table c.args.self.now.walk.snap) c.in-Some.ensures c.fetch.ensures.looked c.fetch.ensures.after
+
+pub returns-in-None-clause-follows : goal.returns-in-None-clause-follows
+returns-in-None-clause-follows g c fits =
+    let shown = g.R.Reader.shown c.args.reader.now in
+    follows_turned c.turn.result c.args.self.now c.turn.new.self (shown.entries c.args.self.now.walk.index c.args.self.now.walk.snap) (shown.cuts c.args.self.now.walk.index c.args.self.now.walk.snap) c.turn.ensures.turned c.turn.ensures.err fits
+
+pub returns-in-None-clause-step : goal.returns-in-None-clause-step
+returns-in-None-clause-step g c =
+    let shown = g.R.Reader.shown c.args.reader.now in
+    step_turned c.turn.result c.args.only.now (skipped c.args.skip.now) c.args.self.now c.turn.new.self (shown.entries c.args.self.now.walk.index c.args.self.now.walk.snap) (shown.cuts c.args.self.now.walk.index c.args.self.now.walk.snap) (shown.rows c.args.self.now.table c.args.self.now.walk.snap) c.in-None.ensures c.turn.ensures.turned

@@ -1,0 +1,3 @@
+pub mod Alongs
+pub mod Due
+pub mod Places

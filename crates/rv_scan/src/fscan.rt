@@ -1,0 +1,151 @@
+ghost use Rattle.std.specs.Prelude.{◌≡◌, ◌<◌, ◌+◌, [], drop, length, true, IfOk, OnOk, OnErr, IfSome};
+ghost use Rattle.rv_judge.specs.Counting.{leaf_read, record_read};
+ghost use Rattle.rv_restrict.specs.Truth.{names_only, row_has};
+ghost use Rattle.rv_reader.specs.Shown.{CanRead, CanScan, Suits};
+ghost use Rattle.rv_reader.specs.Tables.{row_at};
+ghost use Rattle.rv_scan.specs.Due.{HaveColumns, IsReady, StepsTo, skipped};
+ghost use Rattle.rv_scan.specs.Alongs.{Follows, FetchReads, FindsEntry, SamePlace, TriedOne, Turned, fetch_rest, leaf_work, looked};
+ghost use Rattle.rv_scan.specs.declared.along.Ahead.TheVariants.{First};
+
+use crate::along::{Walk, next_given};
+use crate::skip::{Scanned, Skip};
+use rv_judge::Steps;
+use rv_reader::Reader;
+use rv_restrict::{Restriction, Tri};
+use rv_value::{NoMemory, Range, Record, RowNo};
+use std::alloc::Global;
+use std::marker::Model;
+
+/// A scan of an index in a range, with a record fetched for each entry, in key order.
+///
+/// Contracts see the table and the walk along the index. The rest, the rows that it will still give in the order of
+/// their entries, is told of a reader's lists, a restriction and what is skipped.
+#[derive(Drop)]
+pub struct Fscan {
+    table: u32,
+    walk: Walk,
+}
+
+impl Model for Fscan {
+    ghost use Rattle.rv_scan.specs.Alongs.{Fetching};
+
+    ghost Value = { Fetching };
+
+    ghost view = { λ s. record { table = s.table; walk = s.walk } };
+}
+
+fn look(found: Option<Record>, only: &Restriction) -> Scanned
+    requires { IfSome found (λ r. names_only (row_has r.values) only.now ≡ true) }
+    ensures { result ≡ looked only.now found }
+{
+    match found {
+        None => Scanned::Working,
+        Some(found) => {
+            if only.truth(&found.values) == Tri::True {
+                Scanned::Found(found)
+            } else {
+                Scanned::Working
+            }
+        }
+    }
+}
+
+impl Fscan {
+    /// A scan that has read nothing. It takes no memory.
+    pub fn new(alloc: Global, table: u32, index: u32, snap: u64, range: Range) -> Fscan
+        ensures { result ≡ record { table = table; walk = record { index = index; snap = snap; range = range; ahead = First; held = [] } } }
+    {
+        Fscan {
+            table,
+            walk: Walk::new(alloc, index, snap, range),
+        }
+    }
+
+    /// Fetches the record of an entry behind so many others, and passes over it.
+    fn fetch<R: Reader>(
+        &mut self,
+        reader: &R,
+        passed: usize,
+        row: RowNo,
+        only: &Restriction,
+        steps: &mut Steps<R::Ledger>,
+    ) -> Result<Scanned, NoMemory>
+        requires can { CanRead (R.shown reader.now) self.old.table self.old.walk.snap }
+        requires columns { HaveColumns only.now ((R.shown reader.now).rows self.old.table self.old.walk.snap) }
+        requires within { passed < length self.old.walk.held }
+        ensures looked { IfOk result (λ scanned. scanned ≡ looked only.now (row_at ((R.shown reader.now).rows self.old.table self.old.walk.snap) row.0)) }
+        ensures after { OnOk result (self.new ≡ record self.old { walk = record self.old.walk { held = drop (passed + 1) self.old.walk.held } }) }
+        ensures reads { steps.new ≡ record_read steps.old }
+        ensures err { OnErr result (self.new ≡ self.old) }
+    {
+        let found = reader.fetch(
+            self.walk.allocator(),
+            self.table,
+            self.walk.snap(),
+            row,
+            steps,
+        )?;
+        let scanned = look(found, only);
+        self.walk.pass(passed);
+        Ok(scanned)
+    }
+
+    /// The number of the row of the next entry that is not skipped, and how many stand before it.
+    fn next(&self, skip: &Skip<'_>) -> Option<(usize, RowNo)>
+        requires { IsReady (skipped skip.now) }
+        ensures { FindsEntry (skipped skip.now) self.now.walk.held result }
+    {
+        let held = self.walk.held();
+        match next_given(held, skip) {
+            None => None,
+            Some(at) => Some((at, held[at].row)),
+        }
+    }
+
+    /// Fetches the next row that is not skipped, or reads the next leaf, or ends.
+    pub fn step<R: Reader>(
+        &mut self,
+        reader: &R,
+        only: &Restriction,
+        skip: &Skip<'_>,
+        steps: &mut Steps<R::Ledger>,
+    ) -> Result<Scanned, NoMemory>
+        requires can { CanRead (R.shown reader.now) self.old.table self.old.walk.snap }
+        requires scans { CanScan (R.shown reader.now) self.old.walk.index self.old.walk.snap }
+        requires suits { Suits (R.shown reader.now) self.old.walk.index self.old.walk.snap self.old.walk.range }
+        requires columns { HaveColumns only.now ((R.shown reader.now).rows self.old.table self.old.walk.snap) }
+        requires ready { IsReady (skipped skip.now) }
+        ensures place { SamePlace self.old self.new }
+        ensures follows { Follows self.old.walk ((R.shown reader.now).entries self.old.walk.index self.old.walk.snap) → Follows self.new.walk ((R.shown reader.now).entries self.old.walk.index self.old.walk.snap) }
+        ensures step { let shown = R.shown reader.now in let entries = shown.entries self.old.walk.index self.old.walk.snap in let cuts = shown.cuts self.old.walk.index self.old.walk.snap in let rows = shown.rows self.old.table self.old.walk.snap in IfOk result (λ scanned. StepsTo scanned (fetch_rest self.old.walk entries rows only.now (skipped skip.now)) (leaf_work self.old.walk entries cuts) (fetch_rest self.new.walk entries rows only.now (skipped skip.now)) (leaf_work self.new.walk entries cuts)) }
+        ensures reads { IfOk result (λ scanned. FetchReads scanned steps.old steps.new) }
+        ensures err { OnErr result (self.new ≡ self.old) }
+        ensures tried { OnErr result (TriedOne steps.old steps.new) }
+    {
+        match self.next(skip) {
+            Some((passed, row)) => self.fetch(reader, passed, row, only, steps),
+            None => self.turn(reader, steps),
+        }
+    }
+
+    /// Reads the next leaf, or ends where there is none.
+    fn turn<R: Reader>(
+        &mut self,
+        reader: &R,
+        steps: &mut Steps<R::Ledger>,
+    ) -> Result<Scanned, NoMemory>
+        requires scans { CanScan (R.shown reader.now) self.old.walk.index self.old.walk.snap }
+        requires suits { Suits (R.shown reader.now) self.old.walk.index self.old.walk.snap self.old.walk.range }
+        ensures turned { IfOk result (Turned self.old self.new ((R.shown reader.now).entries self.old.walk.index self.old.walk.snap) ((R.shown reader.now).cuts self.old.walk.index self.old.walk.snap)) }
+        ensures reads { IfOk result (λ scanned. FetchReads scanned steps.old steps.new) }
+        ensures err { OnErr result (self.new ≡ self.old) }
+        ensures tried { OnErr result (steps.new ≡ leaf_read steps.old) }
+    {
+        let more = self.walk.turn(reader, steps)?;
+        if more {
+            Ok(Scanned::Working)
+        } else {
+            Ok(Scanned::End)
+        }
+    }
+}
