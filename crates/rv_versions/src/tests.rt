@@ -2,7 +2,6 @@ use crate::Versions;
 use std::test::Fail;
 
 #[test]
-#[tactic(auto, using(crate::proofs::Values::chains_more))]
 fn versions_by_hand(rt: HostRuntime) -> Result<(), Fail> {
     let mut versions = Versions::new(rt.alloc());
     assert!(rt; versions.is_empty());
@@ -20,7 +19,6 @@ fn versions_by_hand(rt: HostRuntime) -> Result<(), Fail> {
 }
 
 #[test]
-#[tactic(auto, using(crate::proofs::Values::chains_more))]
 fn places_between_ids_are_empty(rt: HostRuntime) -> Result<(), Fail> {
     let mut versions = Versions::new(rt.alloc());
     assert!(rt; versions.write(3, 7, 'd').is_ok());

@@ -1,4 +1,4 @@
-use Rattle.std.proofs.Common.{◌≡◌, ◌≤◌, ◌-◌, length, vec_len, vec_capacity}
+use Rattle.std.proofs.Common.{◌≤◌, ◌-◌, length, vec_len, vec_capacity}
 use Rattle.rv_versions.specs.Chains.{IsFilled}
 use Rattle.rv_versions.proofs.versions.fill.Given as goal
 

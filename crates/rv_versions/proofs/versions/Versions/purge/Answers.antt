@@ -1,4 +1,4 @@
-use Rattle.std.proofs.Common.{[], arith, length, ap}
+use Rattle.std.proofs.Common.{[], arith}
 use Rattle.std.proofs.lemmas.List.{get_or_default}
 use Rattle.rv_versions.specs.Chains.{AllBelow}
 use Rattle.rv_versions.proofs.Values.{put_each}
