@@ -8,6 +8,3 @@ pub mod statements;
 pub mod transactions;
 
 pub use engine::Core;
-
-#[cfg(test)]
-mod tests;
