@@ -65,18 +65,21 @@ def qualifies(groups, row):
 
 
 class Database:
-    """One session's database. `answer` gives the set of replies that a statement may have and, told which one
-    came, goes on."""
+    """The database of eight sessions. `answer` gives the set of replies that a statement may have, and `given`
+    goes on once it is told which one came."""
 
     def __init__(self):
-        self.tables = {}  # name: (columns, rows by number, next number)
-        self.last, self.next, self.own, self.cursors = 0, 1, None, {}
+        self.tables = {}  # name: [columns, rows by number, next number]
+        self.last, self.next = 0, 1
+        self.active, self.cursors = {}, {}  # by session; by session and name
+        self.touched = {}  # by table and number: the commit that last wrote the row
 
     def answer(self, session, statement):
+        self.session, self.own = session, self.active.get(session)
         kind = statement[0]
         if kind == "syntax":
             return "syntax", None
-        if kind == "unbuilt" or session != 1:
+        if kind == "unbuilt":
             return "not built", None
         return getattr(self, kind)(*statement[1:])
 
@@ -91,16 +94,16 @@ class Database:
         for at, column in enumerate(names):
             if column in names[:at]:
                 return f"exists {column}", None
-        if self.own:
-            return "not built", None
+        if self.active:
+            return f"busy {min(own['number'] for own in self.active.values())}", None
         self.tables[name] = [columns, {}, 0]
         return "created", None
 
-    def begin(self):
+    def begin(self, read_only):
         if self.own:
-            return "not built", None
+            return f"active {self.own['number']}", None
         rows = {name: dict(table[1]) for name, table in self.tables.items()}
-        self.own = {"base": self.last, "rows": rows, "new": []}
+        self.active[self.session] = {"number": self.next, "base": self.last, "rows": rows, "new": {}, "read only": read_only}
         self.next += 1
         return f"began {self.next - 1}", None
 
@@ -111,27 +114,85 @@ class Database:
             return f"unknown {name}", None
         columns, _, number = self.tables[name]
         for (column, width), value in zip(columns, values):
-            fits = value is None or (isinstance(value, int) if width is None else isinstance(value, str) and len(value.encode()) <= width)
-            if not fits:
+            if not holds(value, width):
                 return f"kind {column}", None
         if len(values) != len(columns):
             return f"kind {columns[min(len(values), len(columns) - 1)][0]}", None
         if not self.own:
             return "no transaction", None
+        if self.own["read only"]:
+            return "read only", None
         self.tables[name][2] += 1
-        self.own["new"].append((name, number, values))
+        self.own["new"][name, number] = values
         return f"inserted {number}", None
+
+    def change(self, name, sets, groups):
+        """UPDATE with sets, DELETE without."""
+        if name not in self.tables:
+            return f"unknown {name}", None
+        columns = dict(self.tables[name][0])
+        places = {c[0]: at for at, c in enumerate(self.tables[name][0])}
+        for column in [c for c, _ in sets or []] + [n for g in groups for a in g for n in names_of(a)]:
+            if column not in columns:
+                return f"unknown {column}", None
+        for at, (column, _) in enumerate(sets or []):
+            if column in [c for c, _ in sets[:at]]:
+                return f"exists {column}", None
+        for column, value in sets or []:
+            if not holds(value, columns[column]):
+                return f"kind {column}", None
+        for atom in (a for g in groups for a in g):
+            if not suits(atom, columns):
+                return f"kind {atom[1]}", None
+        if not self.own:
+            return "no transaction", None
+        if self.own["read only"]:
+            return "read only", None
+        view = {number: values for number, values in self.own["rows"].get(name, {}).items()}
+        for (table, number), values in self.own["new"].items():
+            if table == name:
+                view[number] = values
+        hit = [n for n, values in sorted(view.items()) if values is not None and qualifies(groups, {c: values[at] for c, at in places.items()})]
+        for number in hit:
+            if self.touched.get((name, number), 0) > self.own["base"]:
+                return f"changed {number} by {self.touched[name, number]}", None
+        for number in hit:
+            holders = [o["number"] for s, o in self.active.items() if s != self.session and (name, number) in o["new"]]
+            if holders:
+                return f"held {number} by {holders[0]}", None
+        for number in hit:
+            values = None
+            if sets is not None:
+                values = list(view[number])
+                for column, value in sets:
+                    values[places[column]] = value
+            self.own["new"][name, number] = values
+        return f"touched {len(hit)}", None
+
+    def end(self):
+        del self.active[self.session]
+        self.cursors = {key: offers for key, offers in self.cursors.items() if key[0] != self.session}
 
     def commit(self):
         if not self.own:
             return "no transaction", None
-        own, self.own, self.cursors = self.own, None, {}
-        if not own["new"]:
-            return f"committed {own['base']}", None
+        self.end()
+        if not self.own["new"]:
+            return f"committed {self.own['base']}", None
         self.last += 1
-        for name, number, values in own["new"]:
-            self.tables[name][1][number] = values
+        for (name, number), values in self.own["new"].items():
+            self.touched[name, number] = self.last
+            if values is None:
+                self.tables[name][1].pop(number, None)
+            else:
+                self.tables[name][1][number] = values
         return f"committed {self.last}", None
+
+    def rollback(self):
+        if not self.own:
+            return "no transaction", None
+        self.end()
+        return "rolled back", None
 
     def open(self, cursor, returned, name, groups, order):
         if len(order) > 4:
@@ -149,36 +210,49 @@ class Database:
                 return f"kind {atom[1]}", None
         if not self.own:
             return "no transaction", None
-        if cursor in self.cursors:
-            return "not built", None
-        if any(new[0] == name for new in self.own["new"]):
-            return "not built", None
-        if len(self.cursors) > 15:
-            return "not built", None
+        if (self.session, cursor) in self.cursors:
+            return f"cursor open {cursor}", None
+        if any(table == name for table, _ in self.own["new"]):
+            return f"pending {name}", None
+        if len([key for key in self.cursors if key[0] == self.session]) > 15:
+            return "limit cursors 16", None
         offers = []
         for values in self.own["rows"].get(name, {}).values():
             row = {column: values[at] for column, at in places.items()}
             if qualifies(groups, row):
                 back = [row[c] for c in returned] if returned is not None else values
                 offers.append(([place(row[c]) for c in order], "row " + ", ".join(map(shown, back))))
-        self.cursors[cursor] = sorted(offers, key=lambda o: o[0])
+        self.cursors[self.session, cursor] = sorted(offers, key=lambda o: o[0])
         return "opened", None
 
     def fetch(self, cursor):
-        if cursor not in self.cursors:
+        key = self.session, cursor
+        if key not in self.cursors:
             return f"no cursor {cursor}", None
-        offers = self.cursors[cursor]
+        offers = self.cursors[key]
         if not offers:
             return "end", None
-        return {o[1] for o in offers if o[0] == offers[0][0]}, cursor
+        return {o[1] for o in offers if o[0] == offers[0][0]}, key
 
-    def given(self, cursor, reply):
-        offers = self.cursors[cursor]
+    def given(self, key, reply):
+        offers = self.cursors[key]
         offers.remove((offers[0][0], reply))
+
+    def close(self, cursor):
+        if self.cursors.pop((self.session, cursor), None) is None:
+            return f"no cursor {cursor}", None
+        return "closed", None
 
 
 def names_of(atom):
     return [atom[1], atom[3]] if atom[0] == "columns" else [atom[1]]
+
+
+def holds(value, width):
+    """Whether a column of this width, or a BIGINT where it is None, may have the value."""
+    if value is None or width is None:
+        return value is None or isinstance(value, int)
+    return isinstance(value, str) and len(value.encode()) <= width
 
 
 def suits(atom, columns):
@@ -202,6 +276,17 @@ class Maker:
     def __init__(self, rng):
         self.rng = rng
         self.known = {}
+        self.begun, self.opened = set(), []  # sessions; sessions and cursors
+
+    def follow(self, session, statement):
+        """Keeps in mind which transactions and cursors there may be."""
+        if statement[0] == "begin":
+            self.begun.add(session)
+        elif statement[0] == "open" and session in self.begun:
+            self.opened.append((session, statement[1]))
+        elif statement[0] in ("commit", "rollback"):
+            self.begun.discard(session)
+            self.opened = [o for o in self.opened if o[0] != session]
 
     def word(self, text):
         way = self.rng.random()
@@ -303,7 +388,31 @@ class Maker:
         return ("open", cursor, returned, table, groups, order), text
 
     def begin(self):
-        return ("begin",), self.spelled("BEGIN")
+        if self.rng.random() < 0.2:
+            return ("begin", True), self.spelled("BEGIN", "READ", "ONLY")
+        return ("begin", False), self.spelled("BEGIN")
+
+    def rollback(self):
+        return ("rollback",), self.spelled("ROLLBACK")
+
+    def close(self):
+        cursor = rng_name(self.rng)
+        return ("close", cursor), self.spelled("CLOSE", cursor)
+
+    def update(self):
+        rng, table = self.rng, self.table()
+        sets = []
+        for _ in range(rng.choice([1, 1, 1, 2, 2, 3])):
+            column = self.column(table)
+            sets.append((column, self.value(self.width(table, column))))
+        groups, where = self.where(table)
+        text = self.spelled("UPDATE", table, "SET") + " " + ", ".join(f"{c} = {shown(v)}" for c, v in sets) + where
+        return ("change", table, sets, groups), text
+
+    def delete(self):
+        table = self.table()
+        groups, where = self.where(table)
+        return ("change", table, None, groups), self.spelled("DELETE", "FROM", table) + where
 
     def commit(self):
         return ("commit",), self.spelled("COMMIT")
@@ -311,41 +420,58 @@ class Maker:
     def filled(self):
         """Statements that make tables and commit rows, and begin."""
         made = [self.create() for _ in range(self.rng.randint(1, 3))]
-        made += [self.begin()] + [self.insert() for _ in range(self.rng.randint(0, 25))]
+        made += [(("begin", False), "BEGIN")] + [self.insert() for _ in range(self.rng.randint(0, 25))]
         return made + [self.commit(), self.begin()]
 
-    def statement(self):
+    def statement(self, session):
+        """A statement of a session, mostly one that its own earlier ones make likely to be answered well."""
         rng = self.rng
+        if session not in self.begun and rng.random() < 0.7:
+            return self.begin()
+        opened = [name for of, name in self.opened if of == session]
+        if opened and rng.random() < 0.5:
+            cursor = rng.choice(opened)
+            return ("fetch", cursor), self.spelled("FETCH", cursor)
         way = rng.random()
         if way < 0.02:
             return self.create()
-        if way < 0.06:
+        if way < 0.04:
             return self.begin()
         if way < 0.16:
             return self.insert()
-        if way < 0.20:
+        if way < 0.36:
+            return self.update()
+        if way < 0.43:
+            return self.delete()
+        if way < 0.51:
             return self.commit()
-        if way < 0.32:
+        if way < 0.54:
+            return self.rollback()
+        if way < 0.90:
             return self.open()
-        if way < 0.95:
+        if way < 0.92:
             cursor = rng_name(rng)
             return ("fetch", cursor), self.spelled("FETCH", cursor)
-        if way < 0.975:
-            return ("unbuilt",), rng.choice(["BEGIN READ ONLY", "ROLLBACK", "CLOSE C", "SHOW C", "STEP C 5", "DELETE FROM T", "UPDATE T SET A = 1", "CREATE INDEX I ON T (A)", "OPEN C SELECT * FROM T, U"])
+        if way < 0.95:
+            return self.close()
+        if way < 0.97:
+            return ("unbuilt",), rng.choice(["SHOW C", "STEP C 5", "CREATE INDEX I ON T (A)", "OPEN C SELECT * FROM T, U"])
         return ("syntax",), rng.choice(["", "SELECT", "FETCH", "BEGIN BEGIN", "OPEN C SELECT * FROM T WHERE", "INSERT INTO T VALUES ()", "COMMIT ?", "FETCH 'C'", "CREATE TABLE T ()", "OPEN C SELECT * FROM T WHERE A = 1 OR A = 2 AND A = 3", "COMMIT;;", "FETCH C -1"])
 
     def script(self):
         rng, lines, calls = self.rng, [], []
+        sessions = [rng.randint(1, 8) for _ in range(rng.randint(1, 4))]
         waiting = self.filled() if rng.random() < 0.9 else []
         for _ in range(rng.randint(len(waiting), len(waiting) + 80)):
             way = rng.random()
             if way < 0.03:
                 lines.append(rng.choice(["# a note", "", "--", f"-- {rng.randint(0, 2)}"]))
                 continue
-            statement, text = waiting.pop(0) if waiting else self.statement()
+            session = 1 if waiting else rng.choice(sessions)
+            statement, text = waiting.pop(0) if waiting else self.statement(session)
+            self.follow(session, statement)
             if statement[0] != "syntax" and rng.random() < 0.05:
                 text += rng.choice([";", " ;", " "])
-            session = rng.randint(2, 8) if rng.random() < 0.02 else 1
             lines.append(f"{session} {text}")
             calls.append((session, text, statement))
         broken = rng.random() < 0.02

@@ -4,11 +4,16 @@ ghost use Rattle.rv_cli.specs.Script.{HasFirstCalls, calls_from, calls_in, calls
 ghost use Rattle.rv_cli.specs.Making.{FitsLine, FitsPhase, MakesCalls};
 
 use rv_core::Core;
+use rv_judge::Uncounted;
+use rv_reader::{Reader, Store};
 use rv_script::{Line, Phase};
 use rv_value::NoMemory;
 
 /// Makes the calls of all phases, the first of which is 1.
-pub fn make_calls(core: &mut Core, phases: &[Phase]) -> Result<(), NoMemory>
+pub fn make_calls<S: Store + Reader<Ledger = Uncounted> + Drop>(
+    core: &mut Core<S>,
+    phases: &[Phase],
+) -> Result<(), NoMemory>
     requires fresh { core.old.history ≡ [] }
     requires phase { core.old.phase ≡ 1 }
     requires few { length phases.now ≤ 200001 }
@@ -26,7 +31,7 @@ pub fn make_calls(core: &mut Core, phases: &[Phase]) -> Result<(), NoMemory>
 }
 
 /// Goes on to the phase behind so many others.
-fn enter_phase(core: &mut Core, number: u32)
+fn enter_phase<S: Store + Reader<Ledger = Uncounted> + Drop>(core: &mut Core<S>, number: u32)
     requires phase { core.old.phase ≡ max 1 number }
     requires few { number ≤ 200001 }
     ensures { core.new ≡ record core.old { phase = number + 1 } }
@@ -37,7 +42,10 @@ fn enter_phase(core: &mut Core, number: u32)
 }
 
 /// Makes the calls of a phase.
-fn make_phase(core: &mut Core, lines: &[Line]) -> Result<(), NoMemory>
+fn make_phase<S: Store + Reader<Ledger = Uncounted> + Drop>(
+    core: &mut Core<S>,
+    lines: &[Line],
+) -> Result<(), NoMemory>
     requires { All FitsLine lines.now }
     ensures ok { OnOk result (calls_made core.new.history ≡ calls_made core.old.history ++ calls_in core.old.phase lines.now) }
     ensures part { MakesCalls core.old.history core.new.history core.old.phase lines.now }
@@ -50,7 +58,10 @@ fn make_phase(core: &mut Core, lines: &[Line]) -> Result<(), NoMemory>
 }
 
 /// Makes the call of a line.
-fn make_call(core: &mut Core, line: &Line) -> Result<(), NoMemory>
+fn make_call<S: Store + Reader<Ledger = Uncounted> + Drop>(
+    core: &mut Core<S>,
+    line: &Line,
+) -> Result<(), NoMemory>
     requires { FitsLine line.now }
     ensures ok { OnOk result (calls_made core.new.history ≡ calls_made core.old.history ++ calls_in core.old.phase (line.now ∷ [])) }
     ensures err { OnErr result (core.new ≡ core.old) }

@@ -3,6 +3,8 @@
 
 mod calls;
 mod run;
+#[cfg(test)]
+mod session_tests;
 mod status;
 #[cfg(test)]
 mod tests;
@@ -10,6 +12,7 @@ mod tests;
 use crate::run::{Ran, run};
 use crate::status::Status;
 use rv_io::{StdSink, StdSource};
+use rv_plain::Plain;
 use rv_value::{NoMemory, Text};
 use std::alloc::Global;
 use std::io::BufWriter;
@@ -38,7 +41,13 @@ fn whole(rt: &HostRuntime) -> Result<Status, NoMemory> {
     let Ran {
         status,
         core: _core,
-    } = run(alloc, words.as_slice(), &mut source, &mut sink);
+    } = run(
+        alloc,
+        Plain::new(alloc)?,
+        words.as_slice(),
+        &mut source,
+        &mut sink,
+    );
     Ok(match sink.finish() {
         Ok(()) => status,
         Err(_fault) => Status::WriteFault,

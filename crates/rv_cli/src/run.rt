@@ -12,22 +12,33 @@ use crate::calls::make_calls;
 use crate::status::{Over, Status};
 use rv_core::Core;
 use rv_io::{ReadFault, Sink, Source, read_all};
+use rv_judge::Uncounted;
+use rv_reader::{Reader, Store};
 use rv_script::{Script, ScriptFault, read_script, write_text};
 use rv_value::Text;
 use std::alloc::Global;
 
 /// The end of a run, with the core that it made.
 #[derive(Drop)]
-pub struct Ran {
+pub struct Ran<P: Store + Reader<Ledger = Uncounted> + Drop> {
     pub status: Status,
-    pub core: Option<Core>,
+    pub core: Option<Core<P>>,
 }
 
 /// The greatest number of bytes of a script.
 const LIMIT: u32 = 16_777_216;
 
-/// All that the program does: it reads a script, makes its calls, and writes the transcript.
-pub fn run<S: Source, K: Sink>(alloc: Global, words: &[Text], source: &mut S, sink: &mut K) -> Ran
+/// All that the program does: it reads a script, makes its calls over the store, and writes the transcript.
+pub fn run<P: Store + Reader<Ledger = Uncounted> + Drop, S: Source, K: Sink>(
+    alloc: Global,
+    store: P,
+    words: &[Text],
+    source: &mut S,
+    sink: &mut K,
+) -> Ran<P>
+    requires tables { (P.shown store).tables ≡ 0 }
+    requires newest { (P.shown store).newest ≡ 0 }
+
     // The transcript of one legal history of a one-thread database was written, which holds each
     // session's calls, each once, in its order and phase.
     ensures done { result.status ≡ Status.Done → WritesAll (S.left source.old) (K.written sink.old) (K.written sink.new) result.core }
@@ -56,7 +67,7 @@ pub fn run<S: Source, K: Sink>(alloc: Global, words: &[Text], source: &mut S, si
         Err(fault) => return ended(after_reading(fault)),
     };
     match read_script(alloc, &bytes) {
-        Ok(script) => perform(alloc, &script, sink),
+        Ok(script) => perform(alloc, store, &script, sink),
         Err(fault) => ended(after_script(fault)),
     }
 }
@@ -86,7 +97,7 @@ fn after_script(fault: ScriptFault) -> Status
 }
 
 /// An end with nothing called.
-fn ended(status: Status) -> Ran
+fn ended<P: Store + Reader<Ledger = Uncounted> + Drop>(status: Status) -> Ran<P>
     ensures status { result.status ≡ status }
     ensures core { result.core ≡ None }
 {
@@ -94,7 +105,14 @@ fn ended(status: Status) -> Ran
 }
 
 /// Makes the calls of a script, and writes the transcript.
-fn perform<K: Sink>(alloc: Global, script: &Script, sink: &mut K) -> Ran
+fn perform<P: Store + Reader<Ledger = Uncounted> + Drop, K: Sink>(
+    alloc: Global,
+    store: P,
+    script: &Script,
+    sink: &mut K,
+) -> Ran<P>
+    requires tables { (P.shown store).tables ≡ 0 }
+    requires newest { (P.shown store).newest ≡ 0 }
     requires few { length script.now.phases ≤ 200001 }
     requires fits { All FitsPhase script.now.phases }
     ensures done { result.status ≡ Status.Done → IsSomeAnd result.core (Performs (K.written sink.old) (K.written sink.new) script.now) }
@@ -104,7 +122,7 @@ fn perform<K: Sink>(alloc: Global, script: &Script, sink: &mut K) -> Ran
     ensures kinds { IsPerformed result.status }
     ensures core { IsSome result.core }
 {
-    let mut core = Core::new(alloc);
+    let mut core = Core::new(alloc, store);
     let called = make_calls(&mut core, script.phases.as_slice()).is_ok();
     if write_text(sink, core.history()).is_err() {
         return Ran {

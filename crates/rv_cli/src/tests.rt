@@ -2,6 +2,7 @@
 use crate::run::{Ran, run};
 use crate::status::{Over, Status};
 use rv_io::{MemSink, MemSource, Sink, Source};
+use rv_plain::Plain;
 use rv_script::ScriptFault;
 use rv_value::{NoMemory, Text};
 use std::alloc::Global;
@@ -29,11 +30,11 @@ fn ran(
     let Ran {
         status,
         core: _core,
-    } = run(alloc, &[], &mut source, &mut sink);
+    } = run(alloc, Plain::new(alloc)?, &[], &mut source, &mut sink);
     Ok((status, Vec::from_slice(alloc, sink.written())?))
 }
 
-fn told(alloc: Global, script: &str) -> Result<(Status, Vec<u8>), NoMemory> {
+pub fn told(alloc: Global, script: &str) -> Result<(Status, Vec<u8>), NoMemory> {
     ran(alloc, script.as_bytes(), Vec::new(alloc), Vec::new(alloc))
 }
 
@@ -45,14 +46,14 @@ fn scripts_have_their_transcripts(rt: HostRuntime) -> Result<(), Fail> {
         (TWO_COLUMNS, TWO_COLUMNS_TOLD),
         (
             "1 FETCH C\n1 COMMIT\n1 INSERT INTO T VALUES (1)\n1 SELECT\n1 BEGIN\n1 BEGIN\n",
-            "1 FETCH C\n= no cursor C\n1 COMMIT\n= no transaction\n1 INSERT INTO T VALUES (1)\n= unknown T\n1 SELECT\n= syntax\n1 BEGIN\n= began 1\n1 BEGIN\n= not built\n",
+            "1 FETCH C\n= no cursor C\n1 COMMIT\n= no transaction\n1 INSERT INTO T VALUES (1)\n= unknown T\n1 SELECT\n= syntax\n1 BEGIN\n= began 1\n1 BEGIN\n= active 1\n",
         ),
         (
             "1 begin;\n1 fetch C ;\n",
             "1 begin;\n= began 1\n1 fetch C ;\n= no cursor C\n",
         ),
         ("1 BEGIN", "1 BEGIN\n= began 1\n"),
-        ("2 BEGIN\n", "2 BEGIN\n= not built\n"),
+        ("2 BEGIN\n", "2 BEGIN\n= began 1\n"),
         (
             "1 CREATE TABLE T (A BIGINT, B VARCHAR(4))\n1 BEGIN\n1 INSERT INTO T VALUES (1, 'x')\n1 INSERT INTO T VALUES (NULL, '')\n1 INSERT INTO T VALUES (NULL, NULL)\n1 COMMIT\n1 BEGIN\n1 OPEN C SELECT B FROM T WHERE A > 0 OR B IS NULL ORDER BY B\n1 FETCH C\n1 FETCH C\n1 FETCH C\n",
             "1 CREATE TABLE T (A BIGINT, B VARCHAR(4))\n= created\n1 BEGIN\n= began 1\n1 INSERT INTO T VALUES (1, 'x')\n= inserted 0\n1 INSERT INTO T VALUES (NULL, '')\n= inserted 1\n1 INSERT INTO T VALUES (NULL, NULL)\n= inserted 2\n1 COMMIT\n= committed 1\n1 BEGIN\n= began 2\n1 OPEN C SELECT B FROM T WHERE A > 0 OR B IS NULL ORDER BY B\n= opened\n1 FETCH C\n= row NULL\n1 FETCH C\n= row 'x'\n1 FETCH C\n= end\n",
@@ -136,7 +137,13 @@ fn a_word_is_a_faulty_command_line(rt: HostRuntime) -> Result<(), Fail> {
     let Ran {
         status,
         core: _core,
-    } = run(alloc, words.as_slice(), &mut source, &mut sink);
+    } = run(
+        alloc,
+        Plain::new(alloc)?,
+        words.as_slice(),
+        &mut source,
+        &mut sink,
+    );
     assert_eq!(rt; status.words().as_str(), "usage: rvdyn");
     assert_eq!(rt; status.code(), 1);
     assert!(rt; sink.written().is_empty());
@@ -154,7 +161,7 @@ fn refused_memory_leaves_a_front_of_the_transcript(rt: HostRuntime) -> Result<()
     let Ran {
         status,
         core: _core,
-    } = run(alloc, &[], &mut source, &mut sink);
+    } = run(alloc, Plain::new(alloc)?, &[], &mut source, &mut sink);
     assert!(rt; status == Status::Done || status == Status::Memory);
     assert!(rt; TWO_COLUMNS_TOLD.as_bytes().starts_with(sink.written()));
     Ok(())

@@ -1,4 +1,10 @@
-pub mod Keeping
-pub mod Lists
+pub mod Calling
+pub mod Opens
+pub mod Facts
+pub mod Giving
+pub mod Images
+pub mod Numbers
 pub mod Offering
 pub mod Soundness
+pub mod Standing
+pub mod Tied

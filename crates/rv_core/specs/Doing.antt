@@ -1,43 +1,57 @@
--- What the functions of the core do to a state: two equal replies, and the next state.
-use Rattle.std.specs.Prelude.{◌≡◌, ◌<◌, ◌≤◌, ℕ, List, [], ◌∷◌, Option, None, Result, Ok, Bool, true, length}
-use Rattle.std.specs.List.{list_all, slice_index_or}
-use Rattle.rv_value.specs.declared.record.Record.{Record}
+-- What the calls of a database do: two equal replies, and the next state. The store's horizon stays.
+use Rattle.std.specs.Prelude.{◌≡◌, ℕ, List, Option, Result, Ok, length, slice_set}
 use Rattle.rv_lang.specs.declared.statement.Statement.{Statement}
 use Rattle.rv_lang.specs.declared.reply.Refusal.{Refusal}
 use Rattle.rv_lang.specs.declared.reply.Reply.{Reply}
 use Rattle.rv_catalog.specs.declared.def.Resolved.{Resolved}
 use Rattle.rv_catalog.specs.declared.def.Resolved.TheVariants as asks
-use Rattle.rv_catalog.specs.declared.def.Select.{Select}
-use Rattle.rv_catalog.specs.Schema.{Schema, table_named, width}
-use Rattle.rv_model.specs.declared.state.State.{State}
 use Rattle.rv_model.specs.declared.state.Offer.{Offer}
-use Rattle.rv_model.specs.Database.{cursor_named}
-use Rattle.rv_model.specs.Step.{Outcome, reply_of, state_of, Allows, AllowsAsked, AllowsFetch, next, next_asked, fetched, Offers, offers_after}
+use Rattle.rv_catalog.specs.declared.def.TableDef.{TableDef}
+use Rattle.rv_catalog.specs.Answers.{◌>>=◌}
+use Rattle.rv_model.specs.declared.state.Cursor.{Cursor}
+use Rattle.rv_model.specs.declared.transactions.Transaction.{Transaction}
+use Rattle.rv_model.specs.Database.{cursor_at, cursor_named}
+use Rattle.rv_model.specs.Transactions.{transaction_at}
+use Rattle.rv_model.specs.Step.{Outcome, reply_of, state_of, Allows, AllowsAsked, AllowsFetch, next, next_asked, fetched, Offers, offers_after, opening}
+use Rattle.rv_core.specs.Db.{Stand}
 
 -- Two equal replies, and a new state, are those of the outcome.
-abbrev pub Does : Outcome → State → Reply × Reply → State → Type 0
-Does outcome old replies new = (replies.1 ≡ replies.0) × (replies.0 ≡ reply_of outcome) × (new ≡ state_of outcome old)
+abbrev pub Does : Outcome → Stand → Reply × Reply → Stand → Type 0
+Does outcome old replies new = (replies.1 ≡ replies.0) × (replies.0 ≡ reply_of outcome) × (new ≡ record old { db = state_of outcome old.db })
 
 -- the same of FETCH
-abbrev pub Fetches : State → ℕ → List ℕ → Reply × Reply → State → Type 0
+abbrev pub Fetches : Stand → ℕ → List ℕ → Reply × Reply → Stand → Type 0
 Fetches old session name replies new =
     (replies.1 ≡ replies.0)
-    × AllowsFetch (cursor_named old.cursors session name) old name replies.0
-    × (new ≡ fetched (cursor_named old.cursors session name) old replies.0)
+    × AllowsFetch (cursor_named old.db.cursors session name) old.db name replies.0
+    × (new ≡ record old { db = fetched (cursor_named old.db.cursors session name) old.db replies.0 })
 
 -- Two equal replies may be given by a cursor of these offers, and these are left.
 abbrev pub TakesOffer : List Offer → Reply × Reply → List Offer → Type 0
 TakesOffer old replies new = (replies.1 ≡ replies.0) × Offers old replies.0 × (new ≡ offers_after old replies.0)
 
+-- the same of the cursor in a place
+abbrev pub TakesAt : ℕ → List Cursor → Reply × Reply → List Cursor → Type 0
+TakesAt place old replies new =
+    (replies.1 ≡ replies.0)
+    × Offers (cursor_at old place).offers replies.0
+    × (new ≡ slice_set old place (record (cursor_at old place) { offers = offers_after (cursor_at old place).offers replies.0 }))
+
+-- The base of the session's transaction, where it may open the cursor.
+abbrev pub opening_base : List TableDef → List Transaction → List Cursor → ℕ → List ℕ → List ℕ → Result ℕ Refusal
+opening_base defs active cursors session name tables = do
+  own ← opening defs active cursors session name tables
+  Ok (transaction_at active own).base
+
 -- Two equal replies are allowed to what is asked, and the state is the one after them.
-abbrev pub DoesAsked : Result Resolved Refusal → State → ℕ → Reply × Reply → State → Type 0
+abbrev pub DoesAsked : Result Resolved Refusal → Stand → ℕ → Reply × Reply → Stand → Type 0
 DoesAsked asked old session replies new =
-    (replies.1 ≡ replies.0) × AllowsAsked asked old session replies.0 × (new ≡ next_asked asked old session replies.0)
+    (replies.1 ≡ replies.0) × AllowsAsked asked old.db session replies.0 × (new ≡ record old { db = next_asked asked old.db session replies.0 })
 
 -- the same of the statement of a text, where there is one
-abbrev pub Executes : State → ℕ → Option Statement → Reply × Reply → State → Type 0
+abbrev pub Executes : Stand → ℕ → Option Statement → Reply × Reply → Stand → Type 0
 Executes old session statement replies new =
-    (replies.1 ≡ replies.0) × Allows old session statement replies.0 × (new ≡ next old session statement replies.0)
+    (replies.1 ≡ replies.0) × Allows old.db session statement replies.0 × (new ≡ record old { db = next old.db session statement replies.0 })
 
 -- A query that is asked is over one FROM item.
 abbrev pub IsOneQuery : Resolved → Type 0

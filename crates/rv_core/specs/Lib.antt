@@ -1,2 +1,5 @@
 pub mod Core
+pub mod Db
 pub mod Doing
+pub mod Giving
+pub mod Storing

@@ -1,108 +1,146 @@
-//! OPEN and FETCH.
-ghost use Rattle.std.specs.Prelude.{◌≡◌, true, All, IfOk, OnErr, length, map};
+//! Cursors: how they are found, what they offer, and how they give it.
+ghost use Rattle.std.specs.Prelude.{◌≡◌, ◌<◌, true, Ok, IfErr, IfOk, OnErr, length, map, find};
 ghost use Rattle.std.specs.List.{slice_index_or};
 ghost use Rattle.rv_value.specs.declared.value.Value.TheVariants.{Null};
-ghost use Rattle.rv_restrict.specs.Truth.{names_only, row_has};
-ghost use Rattle.rv_catalog.specs.Fits.{IsQueryOf};
-ghost use Rattle.rv_model.specs.Standing.{IsWell};
-ghost use Rattle.rv_model.specs.Offers.{offer_of, offers_of, picked, qualifying, sorted};
-ghost use Rattle.rv_model.specs.Step.{base_rows, has_changed, opened};
-ghost use Rattle.rv_core.specs.Doing.{Does, Fetches, TakesOffer};
+ghost use Rattle.rv_reader.specs.Shown.{CanRead};
+ghost use Rattle.rv_restrict.specs.Bind.{passes_home};
+ghost use Rattle.rv_restrict.specs.Truth.{names_only};
+ghost use Rattle.rv_catalog.specs.Fits.{is_column};
+ghost use Rattle.rv_model.specs.Database.{cursor_named};
+ghost use Rattle.rv_model.specs.Offers.{offer_of, offers_of, picked};
+ghost use Rattle.rv_model.specs.Step.{other_cursors, own_cursors, table_of};
+ghost use Rattle.rv_model.specs.Transactions.{transaction_of};
+ghost use Rattle.rv_txn.specs.Calls.{IsFault, has_changed};
+ghost use Rattle.rv_core.specs.Db.{open_named, own_opens, seen_of};
+ghost use Rattle.rv_core.specs.Doing.{TakesAt, opening_base};
 
-use crate::finding::{count_cursors, cursor_named, transaction_of, twice};
-use rv_catalog::Select;
-use rv_lang::{Refusal, Reply};
-use rv_model::{Cursor, Offer, Queue, State, Transaction};
-use rv_restrict::{ColRef, Tri};
-use rv_rows::Changes;
-use rv_value::{Duplicate, NoMemory, Record, Text, Value, Values};
+use crate::offers::Offers;
+use crate::replies::{limit, table_name};
+use rv_catalog::{Catalog, Select};
+use rv_judge::Uncounted;
+use rv_lang::{Refusal, Reply, Which};
+use rv_model::Offer;
+use rv_reader::{Reader, Store};
+use rv_restrict::ColRef;
+use rv_txn::{TxnFault, Txns, kept_rows};
+use rv_value::{Duplicate, Items, NoMemory, Record, Text, Value, Values};
 use std::alloc::Global;
 
-/// FETCH.
-#[tactic(auto, using(rv_value::proofs::Places::put_back, rv_value::proofs::Places::read_as))]
-pub fn fetch(
+/// An open cursor of a session, and the offers that it has left.
+#[derive(Drop)]
+pub struct Open {
+    pub session: u8,
+    pub name: Text,
+    pub offers: Offers,
+}
+
+/// The place of the session's cursor of this name.
+#[tactic(auto, using(crate::proofs::Opens::named_seen))]
+pub fn cursor_named(cursors: &Items<Open>, session: u8, name: &Text) -> Option<usize>
+    ensures { result ≡ cursor_named (map seen_of cursors.now) session name.now }
+{
+    open_named(cursors, session, name)
+}
+
+fn open_named(cursors: &Items<Open>, session: u8, name: &Text) -> Option<usize>
+    ensures { result ≡ open_named cursors.now session name.now }
+{
+    cursors.as_slice().iter().position(|cursor| cursor.session == session
+        && cursor.name.is(name.as_str()))
+}
+
+/// How many cursors of the session are open.
+#[tactic(auto, using(crate::proofs::Opens::own_seen))]
+fn count_cursors(cursors: &Items<Open>, session: u8) -> usize
+    ensures { result ≡ length (own_cursors (map seen_of cursors.now) session) }
+{
+    count_open(cursors, session)
+}
+
+fn count_open(cursors: &Items<Open>, session: u8) -> usize
+    ensures { result ≡ length (own_opens cursors.now session) }
+{
+    cursors
+        .as_slice()
+        .iter()
+        .filter(|cursor| cursor.session == session)
+        .count()
+}
+
+/// Takes a session's cursors away.
+pub fn close_all(cursors: &mut Items<Open>, session: u8)
+    ensures { map seen_of cursors.new ≡ other_cursors (map seen_of cursors.old) session }
+{
+    cursors.retain(|cursor| cursor.session != session);
+}
+
+/// The base of the session's transaction, where it may open a cursor of a name over tables.
+pub fn opening(
     alloc: Global,
-    state: &mut State,
+    catalog: &Catalog,
+    txns: &Txns,
+    cursors: &Items<Open>,
     session: u8,
-    name: Text,
+    name: &Text,
+    tables: &[u32],
+) -> Result<u64, TxnFault>
+    ensures ok { IfOk result (λ base. opening_base catalog.now.tables txns.now.active (map seen_of cursors.now) session name.now tables.now ≡ Ok base) }
+    ensures fault { IfErr result (λ fault. IsFault (opening_base catalog.now.tables txns.now.active (map seen_of cursors.now) session name.now tables.now) fault) }
+{
+    let Some(standing) = txns.standing(session) else {
+        return Err(TxnFault::Refused(Refusal::NoTransaction));
+    };
+    if cursor_named(cursors, session, name).is_some() {
+        return Err(TxnFault::Refused(Refusal::CursorOpen(name.copy(alloc)?)));
+    }
+    if let Some(table) = first_touched(txns, session, tables) {
+        return Err(TxnFault::Refused(Refusal::Pending(table_name(alloc, catalog, table)?)));
+    }
+    if count_cursors(cursors, session) > 15 {
+        return Err(TxnFault::Refused(limit(Which::Cursors, 16)));
+    }
+    Ok(standing.base)
+}
+
+/// The first of these tables of which the session's transaction has changed a row.
+fn first_touched(txns: &Txns, session: u8, tables: &[u32]) -> Option<u32>
+    ensures { result ≡ find (λ table. has_changed txns.now.active (transaction_of txns.now.active session) table) tables.now }
+{
+    tables
+        .iter()
+        .copied()
+        .find(|table| txns.has_changed(session, *table))
+}
+
+/// FETCH of the cursor in a place.
+#[tactic(auto, using(crate::proofs::Opens::takes_at, crate::proofs::Opens::leaves_at, rv_value::proofs::Places::read_as))]
+pub fn fetch_at(
+    alloc: Global,
+    cursors: &mut Items<Open>,
+    place: usize,
 ) -> Result<(Reply, Reply), NoMemory>
-    ensures ok { IfOk result (λ replies. Fetches state.old session name replies state.new) }
-    ensures err { OnErr result (state.new ≡ state.old) }
+    requires { place < length cursors.old }
+    ensures ok { IfOk result (λ replies. TakesAt place (map seen_of cursors.old) replies (map seen_of cursors.new)) }
+    ensures err { OnErr result (map seen_of cursors.new ≡ map seen_of cursors.old) }
 {
-    let Some(place) = cursor_named(&state.cursors, session, &name) else {
-        return twice(alloc, Reply::Refused(Refusal::NoCursor(name)));
-    };
-    take_offer(alloc, &mut state.cursors.at_mut(place).offers)
+    cursors.at_mut(place).offers.take(alloc)
 }
 
-/// Gives the first offer, and takes it out once both replies are made.
-#[tactic(auto, using(crate::proofs::Offering::gives_first, crate::proofs::Offering::gives_end))]
-fn take_offer(alloc: Global, offers: &mut Queue<Offer>) -> Result<(Reply, Reply), NoMemory>
-    ensures ok { IfOk result (λ replies. TakesOffer offers.old replies offers.new) }
-    ensures err { OnErr result (offers.new ≡ offers.old) }
-{
-    let Some(first) = offers.front() else {
-        return twice(alloc, Reply::End);
-    };
-    let replies = twice(alloc, Reply::Row(first.returned.copy(alloc)?))?;
-    let _ = offers.pop_front();
-    Ok(replies)
-}
-
-/// OPEN of a query over one FROM item.
-#[tactic(auto, using(rv_value::proofs::Places::put_back, rv_value::proofs::Places::read_as))]
-pub fn open(
+/// What the rows of the one FROM item offer at a snapshot.
+pub fn offers_at<S: Store + Reader<Ledger = Uncounted>>(
     alloc: Global,
-    state: &mut State,
-    session: u8,
-    name: Text,
+    store: &S,
     select: &Select,
-) -> Result<(Reply, Reply), NoMemory>
-    requires well { IsWell state.old }
-    requires one { length select.now.tables ≡ 1 }
-    requires query { IsQueryOf state.old.schema select.now }
-    ensures ok { IfOk result (λ replies. Does (opened state.old session name select.now) state.old replies state.new) }
-    ensures err { OnErr result (state.new ≡ state.old) }
-{
-    let Some(own) = transaction_of(&state.active, session) else {
-        return twice(alloc, Reply::Refused(Refusal::NoTransaction));
-    };
-    if cursor_named(&state.cursors, session, &name).is_some() {
-        return twice(alloc, Reply::Refused(Refusal::NotBuilt));
-    }
-    let transaction = &state.active.as_slice()[own];
-    if has_changed(&transaction.changes, select.tables.as_slice()) {
-        return twice(alloc, Reply::Refused(Refusal::NotBuilt));
-    }
-    if count_cursors(&state.cursors, session) > 15 {
-        return twice(alloc, Reply::Refused(Refusal::NotBuilt));
-    }
-    let replies = twice(alloc, Reply::Opened)?;
-    let offers = offers_of(alloc, select, base_rows(transaction, select))?;
-    state.cursors.push(Cursor {
-        session,
-        name,
-        offers,
-    })?;
-    Ok(replies)
-}
-
-/// Whether a transaction has changed a row of one of these tables.
-fn has_changed(changes: &Changes, tables: &[u32]) -> bool
-    ensures { result ≡ has_changed changes.now tables.now }
-{
-    tables.iter().any(|table| changes.touches(*table))
-}
-
-/// The rows of the one FROM item at a transaction's base.
-fn base_rows<'a>(transaction: &'a Transaction, select: &Select) -> &'a [Record]
-    ensures { result.now ≡ base_rows transaction.now select.now }
+    snap: u64,
+) -> Result<Offers, NoMemory>
+    requires can { CanRead (S.shown store.now) (table_of select.now) snap }
+    requires over { names_only (passes_home (is_column ((S.shown store.now).columns (table_of select.now)))) select.now.only ≡ true }
+    ensures { IfOk result (λ offers. offers ≡ offers_of select.now ((S.shown store.now).rows (table_of select.now) snap)) }
 {
     let table = first_table(select.tables.as_slice());
-    match transaction.tables.as_slice().get(table as usize) {
-        None => &[],
-        Some(rows) => rows.as_slice(),
-    }
+    let rows = kept_rows(alloc, store, table, snap, &select.only)?;
+    let offers = offers_in(alloc, select, rows.as_slice())?;
+    Offers::from_vec(alloc, offers)
 }
 
 fn first_table(tables: &[u32]) -> u32
@@ -114,25 +152,13 @@ fn first_table(tables: &[u32]) -> u32
     }
 }
 
-/// What the qualifying rows offer, in order.
-fn offers_of(alloc: Global, select: &Select, rows: &[Record]) -> Result<Queue<Offer>, NoMemory>
-    requires { All (λ r. names_only (row_has r.values) select.now.only ≡ true) rows.now }
-    ensures { IfOk result (λ offers. offers ≡ offers_of select.now rows.now) }
+/// What rows offer, in their order.
+fn offers_in(alloc: Global, select: &Select, rows: &[Record]) -> Result<Vec<Offer>, NoMemory>
+    ensures { IfOk result (λ offers. offers.items ≡ map (offer_of select.now) rows.now) }
 {
-    let offers = in_order(unordered(alloc, select, rows)?)?;
-    queued(alloc, offers)
-}
-
-/// What the qualifying rows offer, in their order.
-fn unordered(alloc: Global, select: &Select, rows: &[Record]) -> Result<Vec<Offer>, NoMemory>
-    requires { All (λ r. names_only (row_has r.values) select.now.only ≡ true) rows.now }
-    ensures { IfOk result (λ offers. offers.items ≡ map (offer_of select.now) (qualifying select.now rows.now)) }
-{
-    let mut offers = Vec::new(alloc);
+    let mut offers = Vec::with_capacity(alloc, rows.len())?;
     'rows: for row in rows {
-        if select.only.truth(&row.values) == Tri::True {
-            offers.push(offer_of(alloc, select, row)?)?;
-        }
+        offers.push(offer_of(alloc, select, row)?)?;
     }
     Ok(offers)
 }
@@ -164,24 +190,4 @@ fn value_at(alloc: Global, row: &[Value], column: u32) -> Result<Value, NoMemory
         None => Ok(Value::Null),
         Some(value) => value.copy(alloc),
     }
-}
-
-/// The offers in order.
-#[tactic(auto, using(rv_model::proofs::Sorting::sorted_is))]
-fn in_order(offers: Vec<Offer>) -> Result<Vec<Offer>, NoMemory>
-    ensures { IfOk result (λ new. new.items ≡ sorted offers.items) }
-{
-    let mut new = offers;
-    new.sort()?;
-    Ok(new)
-}
-
-fn queued(alloc: Global, offers: Vec<Offer>) -> Result<Queue<Offer>, NoMemory>
-    ensures { IfOk result (λ queue. queue ≡ offers.items) }
-{
-    let mut queue = Queue::new(alloc);
-    'offers: for offer in offers {
-        queue.push(offer)?;
-    }
-    Ok(queue)
 }

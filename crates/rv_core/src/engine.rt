@@ -1,45 +1,48 @@
 ghost use Rattle.std.specs.Prelude.{◌≡◌, ◌+◌, ◌-◌, ◌<◌, ◌≤◌, ◌^◌, [], IfOk, OnErr, length};
 ghost use Rattle.rv_model.specs.Database.{empty};
-ghost use Rattle.rv_core.specs.Core.{Answers, IsSound};
+ghost use Rattle.rv_core.specs.Core.{Answers, IsSound, horizon_of};
 
+use crate::database::Database;
 use crate::statements::answer;
-use rv_catalog::Catalog;
+use rv_judge::Uncounted;
 use rv_lang::Reply;
-use rv_model::{Entry, State};
-use rv_value::{Items, NoMemory, Text};
+use rv_model::Entry;
+use rv_reader::{Reader, Store};
+use rv_value::{NoMemory, Text};
 use std::alloc::Global;
 use std::marker::Model;
 
-/// The database with the history of its calls. Contracts see the history, the phase and the database for
-/// which the core stands; the history is legal, and the database is the one after it.
+/// The database over a store, with the history of its calls. Contracts see the history, the phase, the one-thread
+/// database for which the core stands, and the horizon of the store; the history is legal, and the database is the
+/// one after it.
 #[derive(Drop)]
-pub struct Core {
+pub struct Core<S: Store + Reader<Ledger = Uncounted> + Drop> {
     alloc: Global,
-    state: State,
+    database: Database<S>,
     phase: u32,
     history: Vec<Entry>,
 }
 
-impl Model for Core {
+impl<S: Store + Reader<Ledger = Uncounted> + Drop> Model for Core<S> {
     ghost use Rattle.rv_core.specs.Core.{Shown, IsSound};
 
     ghost Value = { Shown };
 
-    ghost view = { λ c. record { history = c.history.items; phase = c.phase; db = c.state } };
+    ghost view = { λ c. record { history = c.history.items; phase = c.phase; db = c.database.db; horizon = c.database.horizon } };
 
-    ghost invariant = { λ c. IsSound (record { history = c.history.items; phase = c.phase; db = c.state }) };
+    ghost invariant = { λ c. IsSound (record { history = c.history.items; phase = c.phase; db = c.database.db; horizon = c.database.horizon }) };
 }
 
-impl Core {
-    /// A core with no call made, in phase 1. It takes no memory.
-    pub fn new(alloc: Global) -> Core
-        ensures history { result.history ≡ [] }
-        ensures phase { result.phase ≡ 1 }
-        ensures database { result.db ≡ empty }
+impl<S: Store + Reader<Ledger = Uncounted> + Drop> Core<S> {
+    /// A core with no call made, in phase 1, over a store without tables and commits. It takes no memory.
+    pub fn new(alloc: Global, store: S) -> Core<S>
+        requires tables { (S.shown store).tables ≡ 0 }
+        requires newest { (S.shown store).newest ≡ 0 }
+        ensures { result ≡ record { history = []; phase = 1; db = empty; horizon = 0 } }
     {
         Core {
             alloc,
-            state: empty_state(alloc),
+            database: Database::new(alloc, store),
             phase: 1,
             history: Vec::new(alloc),
         }
@@ -79,7 +82,8 @@ impl Core {
     {
         let copy = Text::read(self.alloc, text)?;
         self.history.reserve(1)?;
-        let (reply, kept) = answer(self.alloc, &mut self.state, session, text)?;
+        let (reply, kept) = answer(self.alloc, &mut self.database, session, text)?;
+        self.database.sweep();
         self.history
             .push(Entry {
                 session,
@@ -90,18 +94,11 @@ impl Core {
             .unwrap();
         Ok(reply)
     }
-}
 
-/// No table, last commit 0, next transaction 1.
-fn empty_state(alloc: Global) -> State
-    ensures { result ≡ empty }
-{
-    State {
-        schema: Catalog::new(alloc),
-        tables: Items::new(alloc),
-        last: 0,
-        next: 1,
-        active: Items::new(alloc),
-        cursors: Items::new(alloc),
+    /// Takes away what no transaction needs of the store, a part at a time, as each answered call does too.
+    pub fn sweep_step(&mut self)
+        ensures { self.new ≡ record self.old { horizon = horizon_of self.old.db } }
+    {
+        self.database.sweep();
     }
 }

@@ -1,10 +1,12 @@
-//! The core: the calls of the sessions one after another, and the history of them.
+//! The core: the calls of the sessions one after another over a store, and the history of them.
 #![tactic(auto)]
 
 pub mod cursors;
+pub mod database;
 pub mod engine;
-pub mod finding;
+pub mod offers;
+pub mod replies;
 pub mod statements;
-pub mod transactions;
+pub mod storing;
 
 pub use engine::Core;

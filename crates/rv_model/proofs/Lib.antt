@@ -5,7 +5,5 @@ pub mod Lines
 pub mod Replies
 pub mod Same
 pub mod Sorting
-pub mod Standings
 pub mod Traces
 pub mod Values
-pub mod Wide

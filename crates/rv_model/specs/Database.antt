@@ -3,13 +3,8 @@ use Rattle.std.specs.Prelude.{ℕ, List, [], Option, ◌==◌, ◌&&◌, positio
 use Rattle.std.specs.List.{slice_index_or}
 use Rattle.rv_value.specs.declared.record.Record.{Record}
 use Rattle.rv_model.specs.declared.state.State.{State}
-use Rattle.rv_model.specs.declared.state.Table.{Table}
-use Rattle.rv_model.specs.declared.state.Transaction.{Transaction}
 use Rattle.rv_model.specs.declared.state.Cursor.{Cursor}
-
--- the place of the session's transaction
-abbrev pub transaction_of : List Transaction → ℕ → Option ℕ
-transaction_of active session = position (λ (t : Transaction). t.session == session) active
+use Rattle.rv_model.specs.Transactions.{no_transactions}
 
 -- the place of the session's cursor of this name
 abbrev pub cursor_named : List Cursor → ℕ → List ℕ → Option ℕ
@@ -17,25 +12,18 @@ cursor_named cursors session name = position (λ (c : Cursor). (c.session == ses
 
 -- no table, last commit 0, next transaction 1
 abbrev pub empty : State
-empty = record { schema = record { tables = []; indexes = [] }; tables = []; last = 0; next = 1; active = []; cursors = [] }
-
-abbrev pub no_table : Table
-no_table = record { rows = []; next = 0 }
-
-abbrev pub no_transaction : Transaction
-no_transaction = record { number = 0; session = 0; base = 0; tables = []; changes = [] }
+empty = record { schema = record { tables = []; indexes = [] }; rows = []; last = 0; transactions = no_transactions; bases = []; cursors = [] }
 
 abbrev pub no_cursor : Cursor
 no_cursor = record { session = 0; name = []; offers = [] }
 
-abbrev pub table_at : List Table → ℕ → Table
-table_at tables number = slice_index_or tables number no_table
-
-abbrev pub transaction_at : List Transaction → ℕ → Transaction
-transaction_at active place = slice_index_or active place no_transaction
-
 abbrev pub cursor_at : List Cursor → ℕ → Cursor
 cursor_at cursors place = slice_index_or cursors place no_cursor
 
+-- the rows of a table, where each table has its rows
 abbrev pub rows_at : List (List Record) → ℕ → List Record
 rows_at tables number = slice_index_or tables number []
+
+-- the rows of a table at the base of the transaction in a place
+abbrev pub base_rows : State → ℕ → ℕ → List Record
+base_rows s own table = rows_at (slice_index_or s.bases own []) table

@@ -5,3 +5,4 @@ pub mod Offers
 pub mod Standing
 pub mod Step
 pub mod Transcript
+pub mod Transactions

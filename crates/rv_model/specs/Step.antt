@@ -1,134 +1,150 @@
 -- What each statement does: the replies that are allowed, and the next state.
-use Rattle.std.specs.Prelude.{◌≡◌, ℕ, ◌+◌, ◌-◌, ◌<◌, ◌≤◌, ◌^◌, List, [], ◌∷◌, ◌++◌, Option, Some, None, Result, Ok, Err, Bool, true, false, ◌==◌, ◌&&◌, if◌then◌else◌, IsSome, length, slice_set, filter, map, nat_lt, is_some, remove, not}
-use Rattle.std.specs.List.{list_any, slice_index_or}
+use Rattle.std.specs.Prelude.{◌≡◌, ℕ, ◌+◌, List, [], ◌∷◌, ◌++◌, Option, Some, None, Result, Ok, Err, Bool, true, false, ◌==◌, IsSome, length, slice_set, filter, find, map, nat_lt, is_some, remove, not}
+use Rattle.std.specs.List.{slice_index_or, range_with_len}
 use Rattle.rv_value.specs.declared.value.Value.{Value}
 use Rattle.rv_value.specs.declared.record.Record.{Record}
 use Rattle.rv_rows.specs.declared.changes.Change.{Change}
-use Rattle.rv_rows.specs.Changes.{with_change, applied}
+use Rattle.rv_rows.specs.Changes.{applied, touches}
 use Rattle.rv_lang.specs.declared.statement.Statement.{Statement}
 use Rattle.rv_lang.specs.declared.statement.Statement.TheVariants as statements
+use Rattle.rv_lang.specs.declared.reply.Which.TheVariants.{Tables, Cursors}
 use Rattle.rv_lang.specs.declared.reply.Refusal.{Refusal}
-use Rattle.rv_lang.specs.declared.reply.Refusal.TheVariants.{NotBuilt, Syntax, NoTransaction, NoCursor}
+use Rattle.rv_lang.specs.declared.reply.Refusal.TheVariants.{NotBuilt, Syntax, NoTransaction, Busy, NoCursor, CursorOpen, Limit, Pending}
 use Rattle.rv_lang.specs.declared.reply.Reply.{Reply}
-use Rattle.rv_lang.specs.declared.reply.Reply.TheVariants.{Created, Began, Inserted, Committed, Opened, Row, End, Refused}
+use Rattle.rv_lang.specs.declared.reply.Reply.TheVariants.{Created, Began, Inserted, Touched, Committed, RolledBack, Opened, Row, End, Closed, Refused}
+use Rattle.rv_restrict.specs.declared.atom.Atom.{Atom}
 use Rattle.rv_catalog.specs.declared.def.TableDef.{TableDef}
 use Rattle.rv_catalog.specs.declared.def.Select.{Select}
 use Rattle.rv_catalog.specs.declared.def.Resolved.{Resolved}
 use Rattle.rv_catalog.specs.declared.def.Resolved.TheVariants as asks
 use Rattle.rv_catalog.specs.Answers.{◌>>=◌, ok_or, refuse_if}
 use Rattle.rv_catalog.specs.Resolve.{resolved}
+use Rattle.rv_catalog.specs.Schema.{Schema, no_table}
 use Rattle.rv_model.specs.declared.state.State.{State}
-use Rattle.rv_model.specs.declared.state.Table.{Table}
-use Rattle.rv_model.specs.declared.state.Transaction.{Transaction}
 use Rattle.rv_model.specs.declared.state.Cursor.{Cursor}
 use Rattle.rv_model.specs.declared.state.Offer.{Offer}
-use Rattle.rv_model.specs.Database.{transaction_of, cursor_named, no_table, table_at, transaction_at, cursor_at, rows_at}
+use Rattle.rv_model.specs.declared.transactions.Transaction.{Transaction}
+use Rattle.rv_model.specs.declared.transactions.Transactions.{Transactions}
+use Rattle.rv_model.specs.Transactions as transactions
+use Rattle.rv_model.specs.Transactions.{transaction_of, transaction_at, refuse_at}
+use Rattle.rv_model.specs.Database.{cursor_named, cursor_at, rows_at, base_rows}
 use Rattle.rv_model.specs.Offers.{offers_of, place_of, without}
 
 -- the reply and the state after it, or why the statement is refused
 abbrev pub Outcome : Type 0
 Outcome = Result (Reply × State) Refusal
 
--- What is built: these forms, in session 1. A refusal that is not built yet is answered as NotBuilt in its own place.
+-- What is built: all but CREATE INDEX, STEP, SHOW and queries over several FROM items.
 
 abbrev pub is_one_item : List (List ℕ × Option (List ℕ)) → Bool
 is_one_item items = length items == 1
 
 abbrev pub is_built : Statement → Bool
-is_built (statements.CreateTable name columns) = true
-is_built (statements.Begin read_only) = not read_only
-is_built (statements.Insert table values) = true
-is_built statements.Commit = true
+is_built (statements.CreateIndex name table columns) = false
 is_built (statements.Open cursor returned items only order goal) = is_one_item items
-is_built (statements.Fetch cursor) = true
-is_built statement = false
+is_built (statements.Step cursor n) = false
+is_built (statements.Show cursor) = false
+is_built statement = true
 
--- what a text's statement asks, its names looked up, or the first refusal up to there
-abbrev pub understood : State → ℕ → Option Statement → Result Resolved Refusal
-understood s session statement = do
+-- what a text's statement asks, its names looked up in a schema, or the first refusal up to there
+abbrev pub understood : Schema → Option Statement → Result Resolved Refusal
+understood schema statement = do
   derived ← ok_or statement Syntax
-  built ← refuse_if (not (is_built derived && (session == 1))) NotBuilt
-  resolved s.schema derived
+  built ← refuse_if (not (is_built derived)) NotBuilt
+  resolved schema derived
 
--- CREATE TABLE: not while a transaction is active, and not a 65th table.
+-- CREATE TABLE: not while a transaction is active, and at most 64 tables.
 abbrev pub created : State → TableDef → Outcome
 created s def = do
-  idle ← refuse_if (nat_lt 0 (length s.active)) NotBuilt
-  room ← refuse_if (nat_lt 63 (length s.schema.tables)) NotBuilt
-  Ok (Created, record s { schema = record s.schema { tables = s.schema.tables ++ def ∷ [] }; tables = s.tables ++ no_table ∷ [] })
-
-abbrev pub rows_of : List Table → List (List Record)
-rows_of tables = map (λ (t : Table). t.rows) tables
+  idle ← refuse_at (transactions.lowest s.transactions.active) Busy
+  room ← refuse_if (nat_lt 63 (length s.schema.tables)) (Limit Tables 64)
+  Ok (Created, record s { schema = record s.schema { tables = s.schema.tables ++ def ∷ [] }; rows = s.rows ++ [] ∷ [] })
 
 -- BEGIN: a transaction on the last commit and its tables.
-abbrev pub began : State → ℕ → Outcome
-began s session = do
-  free ← refuse_if (is_some (transaction_of s.active session)) NotBuilt
-  Ok (Began s.next, record s { next = s.next + 1; active = s.active ++ record { number = s.next; session = session; base = s.last; tables = rows_of s.tables; changes = [] } ∷ [] })
+abbrev pub began : State → ℕ → Bool → Outcome
+began s session read_only = do
+  begun ← transactions.began s.transactions session read_only s.last
+  Ok (Began begun.0, record s { transactions = begun.1; bases = s.bases ++ s.rows ∷ [] })
 
--- a row of the next number that a transaction adds to a table
-abbrev pub with_row : State → ℕ → ℕ → List Value → State
-with_row s table own values =
-    let place = table_at s.tables table in
-    let transaction = transaction_at s.active own in
-    record s {
-      tables = slice_set s.tables table (record place { next = place.next + 1 });
-      active = slice_set s.active own (record transaction { changes = with_change (record { table = table; row = record { 0 = place.next }; values = Some values }) transaction.changes });
-    }
-
--- INSERT: not a row past the 1,000,000th of its table, and not a change past the 100,000th of its transaction.
+-- INSERT
 abbrev pub inserted : State → ℕ → ℕ → List Value → Outcome
 inserted s session table values = do
-  own ← ok_or (transaction_of s.active session) NoTransaction
-  numbers ← refuse_if (nat_lt 999999 (table_at s.tables table).next) NotBuilt
-  space ← refuse_if (nat_lt 99999 (length (transaction_at s.active own).changes)) NotBuilt
-  Ok (Inserted (record { 0 = (table_at s.tables table).next }), with_row s table own values)
+  more ← transactions.inserted s.transactions session table values
+  Ok (Inserted more.0, record s { transactions = more.1 })
 
--- the tables, numbered from one on, with these changes applied
-abbrev pub tables_changed : ℕ → List Change → List Table → List Table
-tables_changed number changes [] = []
-tables_changed number changes (t ∷ ts) = record t { rows = applied number changes t.rows } ∷ tables_changed (number + 1) changes ts
+-- the rows of a table at the base of the transaction in a place, where there is one
+abbrev pub rows_seen : State → Option ℕ → ℕ → List Record
+rows_seen s None table = []
+rows_seen s (Some own) table = base_rows s own table
+
+-- UPDATE, which sets columns, and DELETE, which sets none
+abbrev pub changed : State → ℕ → ℕ → Option (List (ℕ × Value)) → List (List Atom) → Outcome
+changed s session table sets only = do
+  done ← transactions.changed s.transactions session table only sets (λ base. rows_seen s (transaction_of s.transactions.active session) table)
+  Ok (Touched done.0, record s { transactions = done.1 })
+
+-- each table's rows with the changes of them applied
+abbrev pub tables_changed : List Change → List (List Record) → List (List Record)
+tables_changed changes rows = map (λ table. applied table changes (rows_at rows table)) (range_with_len 0 (length rows))
 
 -- the cursors of the other sessions
 abbrev pub other_cursors : List Cursor → ℕ → List Cursor
 other_cursors cursors session = filter (λ (c : Cursor). not (c.session == session)) cursors
 
--- without a transaction and the cursors of its session
-abbrev pub ended : State → ℕ → ℕ → State
-ended s own session = record s { active = remove s.active own; cursors = other_cursors s.cursors session }
+-- without the transaction in a place and the cursors of its session
+abbrev pub ended : State → ℕ → ℕ → Transactions → State
+ended s own session left = record s { transactions = left; bases = remove s.bases own; cursors = other_cursors s.cursors session }
 
 -- with its changes applied as the next commit; without a change there is no commit, and the base is answered
-abbrev pub finished : State → ℕ → ℕ → Transaction → Reply × State
-finished s own session transaction =
-    if nat_lt 0 (length transaction.changes)
-    then (Committed (s.last + 1), record (ended s own session) { tables = tables_changed 0 transaction.changes s.tables; last = s.last + 1 })
-    else (Committed transaction.base, ended s own session)
+abbrev pub committed_with : List Change → State → ℕ → ℕ → Reply × State
+committed_with [] s session own =
+    let base = (transaction_at s.transactions.active own).base in
+    (Committed base, ended s own session (transactions.done s.transactions own base))
+committed_with (c ∷ cs) s session own =
+    (Committed (s.last + 1), record (ended s own session (transactions.done s.transactions own (s.last + 1))) { rows = tables_changed (c ∷ cs) s.rows; last = s.last + 1 })
 
 -- COMMIT
 abbrev pub committed : State → ℕ → Outcome
 committed s session = do
-  own ← ok_or (transaction_of s.active session) NoTransaction
-  Ok (finished s own session (transaction_at s.active own))
+  own ← ok_or (transaction_of s.transactions.active session) NoTransaction
+  Ok (committed_with (transaction_at s.transactions.active own).changes s session own)
 
--- whether a transaction has changed a row of one of these tables
-abbrev pub has_changed : List Change → List ℕ → Bool
-has_changed changes tables = list_any (λ (table : ℕ). list_any (λ (c : Change). c.table == table) changes) tables
+-- ROLLBACK
+abbrev pub rolled_back : State → ℕ → Outcome
+rolled_back s session = do
+  own ← ok_or (transaction_of s.transactions.active session) NoTransaction
+  Ok (RolledBack, ended s own session (transactions.without s.transactions own))
+
+-- the first of these tables of which a row is changed
+abbrev pub first_touched : List Change → List ℕ → Option ℕ
+first_touched changes tables = find (λ (table : ℕ). touches table changes) tables
+
+-- the name of a table
+abbrev pub table_name : List TableDef → ℕ → List ℕ
+table_name defs table = (slice_index_or defs table no_table).name
 
 abbrev pub own_cursors : List Cursor → ℕ → List Cursor
 own_cursors cursors session = filter (λ (c : Cursor). c.session == session) cursors
 
--- the rows of the one FROM item at a transaction's base
-abbrev pub base_rows : Transaction → Select → List Record
-base_rows transaction select = rows_at transaction.tables (slice_index_or select.tables 0 0)
+-- the table of the one FROM item
+abbrev pub table_of : Select → ℕ
+table_of select = slice_index_or select.tables 0 0
 
--- OPEN: not a name that is open in the session, not over a table that the transaction has changed, and not a 17th cursor.
+-- the place of the session's transaction, where it may open a cursor of a name over tables: not a name that is open in the
+-- session, not over a table that the transaction has changed, and at most 16 cursors
+abbrev pub opening : List TableDef → List Transaction → List Cursor → ℕ → List ℕ → List ℕ → Result ℕ Refusal
+opening defs active cursors session name tables = do
+  own ← ok_or (transaction_of active session) NoTransaction
+  free ← refuse_if (is_some (cursor_named cursors session name)) (CursorOpen name)
+  clean ← refuse_at (first_touched (transaction_at active own).changes tables) (λ table. Pending (table_name defs table))
+  room ← refuse_if (nat_lt 15 (length (own_cursors cursors session))) (Limit Cursors 16)
+  Ok own
+
+-- OPEN: a cursor over the rows at the transaction's base.
 abbrev pub opened : State → ℕ → List ℕ → Select → Outcome
 opened s session cursor select = do
-  own ← ok_or (transaction_of s.active session) NoTransaction
-  free ← refuse_if (is_some (cursor_named s.cursors session cursor)) NotBuilt
-  clean ← refuse_if (has_changed (transaction_at s.active own).changes select.tables) NotBuilt
-  room ← refuse_if (nat_lt 15 (length (own_cursors s.cursors session))) NotBuilt
-  Ok (Opened, record s { cursors = s.cursors ++ record { session = session; name = cursor; offers = offers_of select (base_rows (transaction_at s.active own) select) } ∷ [] })
+  own ← opening s.schema.tables s.transactions.active s.cursors session cursor select.tables
+  Ok (Opened, record s { cursors = s.cursors ++ record { session = session; name = cursor; offers = offers_of select (base_rows s own (table_of select)) } ∷ [] })
 
 -- A reply that a cursor with these offers may give: the values of some offer whose order values equal the first offer's,
 -- and End exactly where there is no offer.
@@ -153,13 +169,23 @@ fetched (Some place) s reply =
     let cursor = cursor_at s.cursors place in
     record s { cursors = slice_set s.cursors place (record cursor { offers = offers_after cursor.offers reply }) }
 
+-- CLOSE
+abbrev pub closed : State → ℕ → List ℕ → Outcome
+closed s session cursor = do
+  place ← ok_or (cursor_named s.cursors session cursor) (NoCursor cursor)
+  Ok (Closed, record s { cursors = remove s.cursors place })
+
 -- what a statement other than FETCH does
 abbrev pub performed : State → ℕ → Resolved → Outcome
 performed s session (asks.CreateTable def) = created s def
-performed s session (asks.Begin read_only) = began s session
+performed s session (asks.Begin read_only) = began s session read_only
 performed s session (asks.Insert table values) = inserted s session table values
+performed s session (asks.Update table sets only) = changed s session table (Some sets) only
+performed s session (asks.Delete table only) = changed s session table None only
 performed s session asks.Commit = committed s session
+performed s session asks.Rollback = rolled_back s session
 performed s session (asks.Open cursor select) = opened s session cursor select
+performed s session (asks.Close cursor) = closed s session cursor
 performed s session other = Err NotBuilt
 
 abbrev pub reply_of : Outcome → Reply
@@ -182,8 +208,8 @@ next_asked (Ok other) s session reply = state_of (performed s session other) s
 
 -- The reply may be given to the statement of a text, where there is one.
 abbrev pub Allows : State → ℕ → Option Statement → Reply → Type 0
-Allows s session statement reply = AllowsAsked (understood s session statement) s session reply
+Allows s session statement reply = AllowsAsked (understood s.schema statement) s session reply
 
 -- the state after it
 abbrev pub next : State → ℕ → Option Statement → Reply → State
-next s session statement reply = next_asked (understood s session statement) s session reply
+next s session statement reply = next_asked (understood s.schema statement) s session reply

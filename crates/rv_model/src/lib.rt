@@ -6,11 +6,13 @@ pub mod laws;
 pub mod offers;
 pub mod queue;
 pub mod state;
+pub mod transactions;
 
 pub use entry::Entry;
 pub use queue::Queue;
 pub use rv_lang::{Refusal, Reply, Shown, ShownEvent, Which};
-pub use state::{Cursor, Offer, State, Table, Transaction};
+pub use state::{Cursor, Offer, State};
+pub use transactions::{Transaction, Transactions};
 
 #[cfg(test)]
 mod tests;

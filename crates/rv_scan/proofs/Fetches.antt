@@ -1,9 +1,9 @@
 -- The rows of entries, one fetched after another.
-use Rattle.std.proofs.Common.{◌≡◌, ℕ, ◌+◌, ◌<◌, ◌≤◌, List, [], ◌∷◌, ◌++◌, Bool, true, false, not, ◌&&◌, ◌==◌, cond, refl, ap, sym, ◌∙◌, inl, inr, arith, length, zero, suc, filter, drop, take, Option, Some, None, IfSome, Result, Ok, Err, IfOk, OnOk, OnErr, length-append, subst, append-nil, find}
+use Rattle.std.proofs.Common.{◌≡◌, ℕ, ◌+◌, ◌<◌, ◌≤◌, List, [], ◌∷◌, ◌++◌, Bool, true, false, not, ◌==◌, cond, refl, ap, sym, ◌∙◌, inl, inr, arith, length, zero, suc, drop, take, Option, Some, None, IfSome, Result, Ok, Err, IfOk, OnOk, OnErr, length-append}
 use Rattle.std.proofs.Math.Seq.{drop-drop}
 use Rattle.std.proofs.lemmas.Bool.{cases_Bool}
 use Rattle.std.proofs.lemmas.Bool.Decides.{nat_tests}
-use Rattle.std.specs.List.{list_all, slice_index_or, filter_map, cons_option}
+use Rattle.std.specs.List.{list_all, slice_index_or, cons_option}
 use Rattle.rv_value.specs.declared.record.Record.{Record}
 use Rattle.rv_value.specs.declared.record.RowNo.{RowNo}
 use Rattle.rv_value.specs.declared.record.IndexEntry.{IndexEntry}
@@ -14,10 +14,8 @@ use Rattle.rv_reader.specs.Tables.{row_at}
 use Rattle.rv_reader.proofs.Filters.{both}
 use Rattle.rv_scan.specs.declared.skip.Scanned.{Scanned}
 use Rattle.rv_scan.specs.declared.skip.Scanned.TheVariants.{Found, Working, End}
-use Rattle.rv_scan.specs.declared.along.Ahead.{Ahead}
-use Rattle.rv_scan.specs.declared.along.Ahead.TheVariants.{Nothing}
-use Rattle.rv_scan.specs.Due.{Skipped, is_due, due, skips, HaveColumns, StepsTo}
-use Rattle.rv_scan.specs.Alongs.{Along, Fetching, Follows, FindsEntry, FindsGiven, Moves, Turned, fetched, fetch_rest, is_given, leaf_work, leaves_ahead, left, looked, to_come}
+use Rattle.rv_scan.specs.Due.{Skipped, due, skips, HaveColumns, StepsTo}
+use Rattle.rv_scan.specs.Alongs.{Along, Fetching, Follows, FindsEntry, FindsGiven, Turned, fetched, fetch_rest, is_given, leaf_work, looked, to_come}
 
 found_number : (rows : List Record) (number : ℕ) (r : Record) → row_at rows number ≡ Some r → r.row.0 ≡ number
 found_number [] number r e = cc
@@ -74,16 +72,16 @@ cut_front (suc at) (x ∷ xs) d h =
     let e : suc at + 1 ≡ suc (at + 1) = omega arith in
     rw e (ap (λ ys. x ∷ ys) (cut_front at xs d (omega arith)))
 
-drop_front : (at : ℕ) (xs ys : List IndexEntry) → at ≤ length xs → drop at (xs ++ ys) ≡ drop at xs ++ ys
+pub drop_front : (at : ℕ) (xs ys : List IndexEntry) → at ≤ length xs → drop at (xs ++ ys) ≡ drop at xs ++ ys
 drop_front zero xs ys h = refl
 drop_front (suc at) [] ys h = absurd (omega arith)
 drop_front (suc at) (x ∷ xs) ys h = drop_front at xs ys (omega arith)
 
-drop_all : (xs ys : List IndexEntry) → drop (length xs) (xs ++ ys) ≡ ys
+pub drop_all : (xs ys : List IndexEntry) → drop (length xs) (xs ++ ys) ≡ ys
 drop_all [] ys = refl
 drop_all (x ∷ xs) ys = drop_all xs ys
 
-length_drop : (at : ℕ) (xs : List IndexEntry) → at < length xs → length (drop (at + 1) xs) < length xs
+pub length_drop : (at : ℕ) (xs : List IndexEntry) → at < length xs → length (drop (at + 1) xs) < length xs
 length_drop at [] h = absurd (omega arith)
 length_drop zero (x ∷ xs) h = omega arith
 length_drop (suc at) (x ∷ xs) h =

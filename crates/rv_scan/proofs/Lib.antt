@@ -1,3 +1,4 @@
 pub mod Fetches
 pub mod Found
 pub mod Pages
+pub mod Telling

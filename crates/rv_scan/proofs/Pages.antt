@@ -1,11 +1,10 @@
 -- The rows from a page on are that page, and the rows from the next one on.
-use Rattle.std.proofs.Common.{◌≡◌, ℕ, ◌+◌, ◌-◌, ◌*◌, ◌/◌, ◌<◌, ◌≤◌, List, [], ◌∷◌, ◌++◌, Bool, true, false, not, ◌&&◌, ◌==◌, refl, ap, sym, ◌∙◌, inl, inr, arith, length, zero, suc, filter, drop, nat_le, nat_lt, subst, length-append, Option, Some, None, Result, Ok, Err, IfOk, OnErr}
+use Rattle.std.proofs.Common.{◌≡◌, ℕ, ◌+◌, ◌*◌, ◌/◌, ◌<◌, ◌≤◌, List, [], ◌∷◌, ◌++◌, Bool, true, false, not, ◌&&◌, ◌==◌, refl, ap, sym, ◌∙◌, arith, length, zero, suc, filter, drop, nat_le, nat_lt, subst, length-append, Some, Result, Ok, Err, IfOk, OnErr}
 use Rattle.std.proofs.Math.Seq.{drop-drop}
-use Rattle.std.proofs.lemmas.Bool.{cases_Bool}
 use Rattle.std.proofs.lemmas.Bool.Decides.{nat_tests}
 use Rattle.std.proofs.lemmas.List.Folds.{list_all-append}
 use Rattle.std.proofs.lemmas.List.Elements.{filter-append}
-use Rattle.std.specs.List.{list_all, AllByRecursion, slice_index_or}
+use Rattle.std.specs.List.{AllByRecursion, slice_index_or}
 use Rattle.rv_value.specs.declared.record.Record.{Record}
 use Rattle.rv_rows.specs.Rows.{Ascend, comes_below}
 use Rattle.rv_restrict.specs.declared.atom.Atom.{Atom}
@@ -14,7 +13,7 @@ use Rattle.rv_reader.proofs.Filters.{both, rising_cut}
 use Rattle.rv_scan.specs.declared.skip.Scanned.{Scanned}
 use Rattle.rv_scan.specs.declared.skip.Scanned.TheVariants.{Found, Working, End}
 use Rattle.rv_scan.specs.Due.{Skipped, is_due, due, FindsDue, HaveColumns, StepsTo}
-use Rattle.rv_scan.specs.Places.{Place, Turns, rows_from, unseen, Fits, rest, work}
+use Rattle.rv_scan.specs.Places.{Place, Turns, rows_from, Fits, rest, work}
 
 tests_same : (p q : Record → Bool) → ((r : Record) → p r ≡ q r) → (rows : List Record) → filter p rows ≡ filter q rows
 tests_same p q same [] = refl

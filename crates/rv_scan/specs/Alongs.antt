@@ -1,5 +1,5 @@
 -- What a scan of an index holds, and what it still has to look at.
-use Rattle.std.specs.Prelude.{◌≡◌, ℕ, ◌+◌, ◌<◌, List, [], ◌∷◌, ◌++◌, Bool, true, false, not, ◌⊎◌, if◌then◌else◌, Option, Some, None, length, drop, take}
+use Rattle.std.specs.Prelude.{◌≡◌, ℕ, ◌+◌, ◌<◌, List, [], ◌++◌, Bool, true, false, not, ◌⊎◌, if◌then◌else◌, Option, Some, None, length, drop, take}
 use Rattle.std.specs.List.{filter_map, list_all, slice_index_or}
 use Rattle.rv_value.specs.declared.record.Record.{Record}
 use Rattle.rv_value.specs.declared.record.IndexEntry.{IndexEntry}

@@ -1,3 +1,4 @@
 pub mod Alongs
 pub mod Due
 pub mod Places
+pub mod Told

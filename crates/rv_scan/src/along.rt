@@ -93,7 +93,6 @@ impl Walk {
         requires { passed < length self.old.held }
         ensures { self.new ≡ record self.old { held = drop (passed + 1) self.old.held } }
     {
-        let _held = &self.held;
         let place = self.at + passed;
         self.at = place + 1;
     }

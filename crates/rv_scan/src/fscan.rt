@@ -1,10 +1,14 @@
-ghost use Rattle.std.specs.Prelude.{◌≡◌, ◌<◌, ◌+◌, [], drop, length, true, IfOk, OnOk, OnErr, IfSome};
+ghost use Rattle.std.specs.Prelude.{◌≡◌, ◌<◌, ◌+◌, List, [], drop, length, true, IfOk, OnOk, OnErr, IfSome};
+ghost use Rattle.rv_value.specs.declared.record.Record.{Record as OneRecord};
+ghost use Rattle.rv_value.specs.declared.record.IndexEntry.{IndexEntry as OneEntry};
+ghost use Rattle.rv_restrict.specs.declared.atom.Atom.{Atom};
+ghost use Rattle.rv_reader.specs.Entries.{run};
 ghost use Rattle.rv_judge.specs.Counting.{leaf_read, record_read};
 ghost use Rattle.rv_restrict.specs.Truth.{names_only, row_has};
 ghost use Rattle.rv_reader.specs.Shown.{CanRead, CanScan, Suits};
 ghost use Rattle.rv_reader.specs.Tables.{row_at};
-ghost use Rattle.rv_scan.specs.Due.{HaveColumns, IsReady, StepsTo, skipped};
-ghost use Rattle.rv_scan.specs.Alongs.{Follows, FetchReads, FindsEntry, SamePlace, TriedOne, Turned, fetch_rest, leaf_work, looked};
+ghost use Rattle.rv_scan.specs.Due.{HaveColumns, IsReady, Skipped, StepsTo, due, skipped};
+ghost use Rattle.rv_scan.specs.Alongs.{Follows, FetchReads, FindsEntry, SamePlace, TriedOne, Turned, fetch_rest, fetched, leaf_work, looked};
 ghost use Rattle.rv_scan.specs.declared.along.Ahead.TheVariants.{First};
 
 use crate::along::{Walk, next_given};
@@ -53,7 +57,10 @@ fn look(found: Option<Record>, only: &Restriction) -> Scanned
 impl Fscan {
     /// A scan that has read nothing. It takes no memory.
     pub fn new(alloc: Global, table: u32, index: u32, snap: u64, range: Range) -> Fscan
-        ensures { result ≡ record { table = table; walk = record { index = index; snap = snap; range = range; ahead = First; held = [] } } }
+        ensures place { result ≡ record { table = table; walk = record { index = index; snap = snap; range = range; ahead = First; held = [] } } }
+        ensures follows { (entries : List OneEntry) → Follows result.walk entries }
+        ensures rest { (entries : List OneEntry) (rows : List OneRecord) (only : List (List Atom)) (skip : Skipped) → fetch_rest result.walk entries rows only skip ≡ due only skip (fetched rows (run entries range)) }
+        ensures work { (entries cuts : List OneEntry) → leaf_work result.walk entries cuts ≡ length (run entries range) + (length cuts + 1) }
     {
         Fscan {
             table,

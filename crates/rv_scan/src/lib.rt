@@ -1,11 +1,13 @@
-//! Scans of one table over any reader: by its pages, and by an index with a fetch for each entry.
+//! Scans of one table over any reader: by its pages, by an index with a fetch for each entry, and by an index alone.
 #![tactic(auto)]
 
 mod along;
 mod fscan;
 mod skip;
+mod sscan;
 mod tscan;
 
 pub use fscan::Fscan;
 pub use skip::{Scanned, Skip};
+pub use sscan::Sscan;
 pub use tscan::Tscan;

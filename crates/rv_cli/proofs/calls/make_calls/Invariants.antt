@@ -3,7 +3,7 @@ use Rattle.rv_cli.specs.Script.{calls_from, calls_made}
 use Rattle.rv_cli.proofs.calls.make_calls.Given as goal
 
 abbrev pub invariant-phases : goal.invariant-phases
-invariant-phases l = record {
+invariant-phases g l = record {
   number : l.number ≡ l.phase-index;
   phase : l.core.phase ≡ max 1 l.number;
   calls : calls_made l.core.history ++ calls_from (l.number + 1) (drop l.phase-index l.phases) ≡ calls_from 1 l.phases;

@@ -9,5 +9,5 @@ perform-requires-clause-few g c = (script_fits c.deref.result.now c.in-Ok-read_s
 pub perform-requires-clause-fits : goal.perform-requires-clause-fits
 perform-requires-clause-fits g c = (script_fits c.deref.result.now c.in-Ok-read_script.script c.in-Ok-read_script.ensures).fits
 
-pub returns-clause-limit : goal.returns-clause-limit
-returns-clause-limit g c = λ which e. limit_after c.in-Err-read_script.fault _ _ c.deref.result.now _ c.ended-in-Err-read_script.result.status which (c.ended-in-Err-read_script.ensures.status ∙ c.after_script.ensures) c.in-Err-read_script.ensures (rw (← c.deref.ensures.value) at c.in-Ok.ensures.bytes) e
+pub returns-in-Err-read_script-clause-limit : goal.returns-in-Err-read_script-clause-limit
+returns-in-Err-read_script-clause-limit g c = λ which e. limit_after c.in-Err-read_script.fault _ _ c.deref.result.now _ c.ended-in-Err-read_script.result.status which (c.ended-in-Err-read_script.ensures.status ∙ c.after_script.ensures) c.in-Err-read_script.ensures (rw (← c.deref.ensures.value) at c.in-Ok.ensures.bytes) e

@@ -1,4 +1,4 @@
-use Rattle.std.proofs.Common.{ap, length, arith, drop, [], ◌++◌}
+use Rattle.std.proofs.Common.{ap, length, arith}
 use Rattle.rv_scan.specs.Due.{due}
 use Rattle.rv_scan.proofs.Pages.{all_from}
 use Rattle.rv_scan.proofs.tscan.Tscan.new.Goals as goal

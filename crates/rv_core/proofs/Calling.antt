@@ -1,0 +1,142 @@
+-- What the methods of a database owe, from what the calls below them say.
+use Rattle.std.proofs.Common.{◌≡◌, ℕ, ◌-◌, ◌<◌, ◌≤◌, List, [], ◌∷◌, ◌++◌, refl, ap, ◌∙◌, subst, arith, length, length-append, Result, Ok, Err, IfSome, Option, Some, None, false, nat_lt, is_some}
+use Rattle.std.specs.List.{AllByRecursion}
+use Rattle.std.proofs.lemmas.Bool.Decides.{nat_tests}
+use Rattle.rv_rows.specs.declared.changes.Change.{Change}
+use Rattle.rv_rows.specs.Changes.{Rise}
+use Rattle.rv_lang.specs.declared.reply.Refusal.{Refusal}
+use Rattle.rv_lang.specs.declared.reply.Refusal.TheVariants.{NoTransaction, CursorOpen, Limit}
+use Rattle.rv_lang.specs.declared.reply.Which.TheVariants.{Cursors}
+use Rattle.rv_lang.specs.declared.reply.Reply.TheVariants.{Created, Committed, Opened, RolledBack}
+use Rattle.rv_catalog.specs.declared.def.TableDef.{TableDef}
+use Rattle.rv_catalog.specs.declared.def.Select.{Select}
+use Rattle.rv_catalog.specs.Answers.{◌>>=◌, ok_or, refuse_if}
+use Rattle.rv_catalog.proofs.Steps.{answer, bind_ok, ok_is, was_some}
+use Rattle.rv_catalog.specs.Kept.{indexes_over}
+use Rattle.rv_catalog.specs.Schema.{Schema}
+use Rattle.rv_reader.specs.Shown.{Shown, IsSnapshot}
+use Rattle.rv_reader.specs.Storing.{IsSame, CanCommit, Created as CreatedIn}
+use Rattle.rv_model.specs.declared.state.State.{State}
+use Rattle.rv_model.specs.declared.state.Cursor.{Cursor}
+use Rattle.rv_model.specs.declared.state.Offer.{Offer}
+use Rattle.rv_model.specs.declared.transactions.Transaction.{Transaction}
+use Rattle.rv_model.specs.declared.transactions.Transactions.{Transactions}
+use Rattle.rv_model.specs.Database.{cursor_named}
+use Rattle.rv_model.specs.Offers.{offers_of}
+use Rattle.rv_model.specs.Transactions.{transaction_of, transaction_at, refuse_at, done, lowest}
+use Rattle.rv_model.specs.Step.{committed, created, first_touched, opened, opening, other_cursors, own_cursors, rolled_back, table_of}
+use Rattle.rv_txn.specs.Calls.{finished, rolled_back as undone}
+use Rattle.rv_core.specs.Db.{db_of, stand_of, IsOwn, IsTied}
+use Rattle.rv_core.specs.Doing.{Does, opening_base}
+use Rattle.rv_core.specs.Storing.{CommitsTo}
+use Rattle.rv_core.proofs.Images.{base_at}
+use Rattle.rv_core.proofs.Tied.{changes_fit, own_changes, tied_committed, tied_created, tied_done, tied_same, tied_without}
+use Rattle.rv_core.proofs.Standing.{base_known, db_committed, db_rolled_back, finished_is, own_within, rolled_is, stand_created, stand_same}
+
+-- CREATE TABLE
+
+-- a table that was added is taken away where no index is over it
+pub undo_alone : (old new : Schema) (def : TableDef) → new ≡ record old { tables = old.tables ++ def ∷ [] } → indexes_over (length old.tables) old.indexes ≡ 0 → indexes_over (length new.tables - 1) new.indexes ≡ 0
+undo_alone old new def is none =
+    let count : length (old.tables ++ def ∷ []) - 1 ≡ length old.tables = last_place old.tables def in
+    rw (is, count) none
+  where
+    last_place : {X : Type 0} (xs : List X) (x : X) → length (xs ++ x ∷ []) - 1 ≡ length xs
+    last_place xs x = let e = length-append xs (x ∷ []) in omega arith
+
+pub creates_tied : (old new : Shown) (schema left : Schema) (def : TableDef) (txns : Transactions) → lowest txns.active ≡ None → left ≡ record schema { tables = schema.tables ++ def ∷ [] } → CreatedIn old new (length def.columns) → IsTied old schema txns → IsTied new left txns
+creates_tied old new schema left def txns idle is more tied = rw is (tied_created old new schema def txns idle more tied)
+
+pub creates : (old new : Shown) (schema left : Schema) (def : TableDef) (txns : Transactions) (cursors : List Cursor) → lowest txns.active ≡ None → nat_lt 63 (length schema.tables) ≡ false → left ≡ record schema { tables = schema.tables ++ def ∷ [] } → CreatedIn old new (length def.columns) → IsTied old schema txns
+    → Does (created (db_of old schema txns cursors) def) (stand_of old schema txns cursors) (Created, Created) (stand_of new left txns cursors)
+creates old new schema left def txns cursors idle room is more tied =
+    let stand = stand_created old new schema def txns cursors idle tied more in
+    rw (idle, room, is, stand) (refl, refl, refl)
+
+-- nothing was added
+pub same_tied : (old new : Shown) (schema left : Schema) (txns : Transactions) → left ≡ schema → IsSame old new → IsTied old schema txns → IsTied new left txns
+same_tied old new schema left txns is same tied = rw is (tied_same old new schema txns same tied)
+
+pub same_stand : (old new : Shown) (schema left : Schema) (txns : Transactions) (cursors : List Cursor) → left ≡ schema → IsSame old new → IsTied old schema txns → stand_of new left txns cursors ≡ stand_of old schema txns cursors
+same_stand old new schema left txns cursors is same tied = rw is (stand_same old new schema txns cursors tied same)
+
+-- COMMIT
+
+pub can_commit : (shown : Shown) (schema : Schema) (txns : Transactions) (session n base : ℕ) (changes : List Change) → IsTied shown schema txns → finished txns session ≡ Ok (n, base, changes) → Rise changes → CanCommit shown changes
+can_commit shown schema txns session n base changes tied h rise =
+    let f = finished_is txns session n base changes h in
+    record { rise = rise; each = rw (← f.3) (changes_fit shown schema txns f.0 tied) }
+
+-- a fact of the place of the session's transaction
+at_own : (o : Option ℕ) (own : ℕ) (P : ℕ → Type 0) → o ≡ Some own → IfSome o P → P own
+at_own None own P e h = cc
+at_own (Some other) own P e h = let same : other ≡ own = cc in subst P same h
+
+pub commits_tied : (old new : Shown) (schema : Schema) (txns left : Transactions) (session n base c : ℕ) (changes : List Change) → IsTied old schema txns → finished txns session ≡ Ok (n, base, changes) → CommitsTo old new base changes c → IfSome (transaction_of txns.active session) (λ own. left ≡ done txns own c) → IsTied new schema left
+commits_tied old new schema txns left session n base c changes tied h told is =
+    let f = finished_is txns session n base changes h in
+    let at = at_own (transaction_of txns.active session) f.0 (λ own. left ≡ done txns own c) f.1 is in
+    let owns = own_changes old txns.touched txns.active f.0 tied.active in
+    rw at (tied_done new schema txns f.0 c (by_changes changes (rw f.3 at owns) told))
+  where
+    by_changes : (cs : List Change) → AllByRecursion (IsOwn old txns.touched) cs → CommitsTo old new base cs c → IsTied new schema txns
+    by_changes [] owns told = rw told.0 tied
+    by_changes (x ∷ xs) owns told = tied_committed old new schema txns (x ∷ xs) owns told.0 tied
+
+pub commits_does : (old new : Shown) (schema : Schema) (txns left : Transactions) (cursors others : List Cursor) (session n base c : ℕ) (changes : List Change) → IsTied old schema txns → finished txns session ≡ Ok (n, base, changes) → CommitsTo old new base changes c → IfSome (transaction_of txns.active session) (λ own. left ≡ done txns own c) → others ≡ other_cursors cursors session
+    → Does (committed (db_of old schema txns cursors) session) (stand_of old schema txns cursors) (Committed c, Committed c) (stand_of new schema left others)
+commits_does old new schema txns left cursors others session n base c changes tied h told is kept =
+    let f = finished_is txns session n base changes h in
+    let at = at_own (transaction_of txns.active session) f.0 (λ own. left ≡ done txns own c) f.1 is in
+    rw (at, kept) (db_committed old new schema txns cursors session f.0 base c changes tied f.1 f.3 f.2 told)
+
+-- ROLLBACK
+
+pub rolls_tied : (shown : Shown) (schema : Schema) (txns left : Transactions) (session : ℕ) → undone txns session ≡ Ok left → IsTied shown schema txns → IsTied shown schema left
+rolls_tied shown schema txns left session h tied = let r = rolled_is txns left session h in rw r.2 (tied_without shown schema txns r.0 tied)
+
+pub rolls_does : (shown : Shown) (schema : Schema) (txns left : Transactions) (cursors others : List Cursor) (session : ℕ) → undone txns session ≡ Ok left → others ≡ other_cursors cursors session
+    → Does (rolled_back (db_of shown schema txns cursors) session) (stand_of shown schema txns cursors) (RolledBack, RolledBack) (stand_of shown schema left others)
+rolls_does shown schema txns left cursors others session h kept =
+    let r = rolled_is txns left session h in
+    rw (r.2, kept) (db_rolled_back shown schema txns cursors session r.0 r.1)
+
+-- OPEN
+
+-- the session's transaction in a place may open, and this is its base
+pub opening_is : (defs : List TableDef) (active : List Transaction) (cursors : List Cursor) (session base : ℕ) (name tables : List ℕ) → opening_base defs active cursors session name tables ≡ Ok base
+    → (own : ℕ) × (opening defs active cursors session name tables ≡ Ok own) × (transaction_of active session ≡ Some own) × ((transaction_at active own).base ≡ base)
+opening_is defs active cursors session base name tables h =
+    let o = bind_ok (opening defs active cursors session name tables) _ base h in
+    let t = bind_ok (ok_or (transaction_of active session) NoTransaction) _ o.0 o.1 in
+    let free = bind_ok (refuse_if (is_some (cursor_named cursors session name)) (CursorOpen name)) _ o.0 t.2 in
+    let clean = bind_ok (refuse_at (first_touched (transaction_at active t.0).changes tables) _) _ o.0 free.2 in
+    let room = bind_ok (refuse_if (nat_lt 15 (length (own_cursors cursors session))) (Limit Cursors 16)) _ o.0 clean.2 in
+    let same : t.0 ≡ o.0 = ok_is t.0 o.0 room.2 in
+    let found : transaction_of active session ≡ Some o.0 = was_some (transaction_of active session) NoTransaction t.0 t.1 ∙ ap (λ (n : ℕ). Some n) same in
+    (o.0, o.1, found, ok_is (transaction_at active o.0).base base o.2)
+
+opening_err : (r : Result ℕ Refusal) (f : ℕ → ℕ) (refusal : Refusal) → (r >>= (λ n. answer (f n))) ≡ Err refusal → r ≡ Err refusal
+opening_err (Ok n) f refusal h = cc
+opening_err (Err e) f refusal h = let same : e ≡ refusal = cc in rw same refl
+
+pub opens_err : (s : State) (session : ℕ) (name : List ℕ) (select : Select) (refusal : Refusal) → opening_base s.schema.tables s.transactions.active s.cursors session name select.tables ≡ Err refusal → opened s session name select ≡ Err refusal
+opens_err s session name select refusal h =
+    let e = opening_err (opening s.schema.tables s.transactions.active s.cursors session name select.tables) (λ own. (transaction_at s.transactions.active own).base) refusal h in
+    rw e refl
+
+pub opening_snapshot : (shown : Shown) (schema : Schema) (txns : Transactions) (cursors : List Cursor) (session base : ℕ) (name tables : List ℕ) → IsTied shown schema txns → opening_base schema.tables txns.active cursors session name tables ≡ Ok base → IsSnapshot shown base
+opening_snapshot shown schema txns cursors session base name tables tied h =
+    let o = opening_is schema.tables txns.active cursors session base name tables h in
+    rw (← o.3) (base_known shown txns.touched txns.active o.0 (own_within txns.active session o.0 o.2) tied.active)
+
+pub opens_does : (shown : Shown) (schema : Schema) (txns : Transactions) (cursors more : List Cursor) (session base : ℕ) (name : List ℕ) (select : Select) (offers : List Offer) → opening_base schema.tables txns.active cursors session name select.tables ≡ Ok base → table_of select < length schema.tables
+    → offers ≡ offers_of select (shown.rows (table_of select) base) → more ≡ cursors ++ record { session = session; name = name; offers = offers } ∷ []
+    → Does (opened (db_of shown schema txns cursors) session name select) (stand_of shown schema txns cursors) (Opened, Opened) (stand_of shown schema txns more)
+opens_does shown schema txns cursors more session base name select offers h there is pushed =
+    let o = opening_is schema.tables txns.active cursors session base name select.tables h in
+    let at = base_at shown (length schema.tables) (table_of select) txns.active o.0 (own_within txns.active session o.0 o.2) there in
+    rw (pushed, o.1, at, o.3, ← is) (refl, refl, refl)
+
+pub low_room : (n m : ℕ) → m ≡ n → m ≤ 63 → nat_lt 63 n ≡ false
+low_room n m e h = grind (arith, nat_tests)

@@ -1,0 +1,50 @@
+-- Facts of all items of a list.
+use Rattle.std.proofs.Common.{ℕ, zero, suc, List, [], ◌∷◌, ◌++◌, Bool, true, false, cond, filter, map, take, drop, remove, slice_set}
+use Rattle.std.specs.List.{AllByRecursion, slice_index_or}
+use Rattle.rv_rows.specs.Rising.{put_in}
+
+pub all_append : {X : Type 0} (P : X → Type 0) (xs ys : List X) → AllByRecursion P xs → AllByRecursion P ys → AllByRecursion P (xs ++ ys)
+all_append P [] ys a b = b
+all_append P (x ∷ xs) ys a b = (a.0, all_append P xs ys a.1 b)
+
+pub all_filter : {X : Type 0} (P : X → Type 0) (p : X → Bool) (xs : List X) → AllByRecursion P xs → AllByRecursion P (filter p xs)
+all_filter P p [] a = tt
+all_filter P p (x ∷ xs) a =
+    let rest = all_filter P p xs a.1 in
+    elim (p x) as (λ b. AllByRecursion P (cond b (x ∷ filter p xs) (filter p xs))) [ true ↦ (a.0, rest) | false ↦ rest ]
+
+pub all_put : {X : Type 0} (P : X → Type 0) (before : X → X → Bool) (x : X) (xs : List X) → P x → AllByRecursion P xs → AllByRecursion P (put_in before x xs)
+all_put P before x xs here a = all_append P (filter (λ y. before y x) xs) (x ∷ filter (λ y. before x y) xs) (all_filter P (λ y. before y x) xs a) (here, all_filter P (λ y. before x y) xs a)
+
+pub all_set : {X : Type 0} (P : X → Type 0) (xs : List X) (i : ℕ) (x : X) → P x → AllByRecursion P xs → AllByRecursion P (slice_set xs i x)
+all_set P [] i x here a = tt
+all_set P (y ∷ ys) zero x here a = (here, a.1)
+all_set P (y ∷ ys) (suc i) x here a = (a.0, all_set P ys i x here a.1)
+
+pub all_at : {X : Type 0} (P : X → Type 0) (xs : List X) (i : ℕ) (d : X) → P d → AllByRecursion P xs → P (slice_index_or xs i d)
+all_at P [] i d other a = other
+all_at P (x ∷ xs) zero d other a = a.0
+all_at P (x ∷ xs) (suc i) d other a = all_at P xs i d other a.1
+
+pub all_take : {X : Type 0} (P : X → Type 0) (i : ℕ) (xs : List X) → AllByRecursion P xs → AllByRecursion P (take i xs)
+all_take P zero [] a = tt
+all_take P zero (x ∷ xs) a = tt
+all_take P (suc i) [] a = tt
+all_take P (suc i) (x ∷ xs) a = (a.0, all_take P i xs a.1)
+
+pub all_drop : {X : Type 0} (P : X → Type 0) (i : ℕ) (xs : List X) → AllByRecursion P xs → AllByRecursion P (drop i xs)
+all_drop P zero [] a = tt
+all_drop P zero (x ∷ xs) a = a
+all_drop P (suc i) [] a = tt
+all_drop P (suc i) (x ∷ xs) a = all_drop P i xs a.1
+
+pub all_remove : {X : Type 0} (P : X → Type 0) (xs : List X) (i : ℕ) → AllByRecursion P xs → AllByRecursion P (remove xs i)
+all_remove P xs i a = all_append P (take i xs) (drop (suc i) xs) (all_take P i xs a) (all_drop P (suc i) xs a)
+
+pub all_more : {X : Type 0} (P Q : X → Type 0) → ((x : X) → P x → Q x) → (xs : List X) → AllByRecursion P xs → AllByRecursion Q xs
+all_more P Q more [] a = tt
+all_more P Q more (x ∷ xs) a = (more x a.0, all_more P Q more xs a.1)
+
+pub all_map : {X Y : Type 0} (P : Y → Type 0) (f : X → Y) (xs : List X) → AllByRecursion (λ x. P (f x)) xs → AllByRecursion P (map f xs)
+all_map P f [] a = tt
+all_map P f (x ∷ xs) a = (a.0, all_map P f xs a.1)

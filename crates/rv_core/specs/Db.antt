@@ -1,0 +1,78 @@
+-- The database for which a store, a catalog and transactions stand.
+use Rattle.std.specs.Prelude.{◌≡◌, ℕ, ◌<◌, ◌≤◌, ◌==◌, ◌&&◌, List, Option, map, filter, length, position, bytes_eq, IfSome}
+use Rattle.std.specs.List.{AllByRecursion, range_with_len}
+use Rattle.rv_value.specs.declared.record.Record.{Record}
+use Rattle.rv_rows.specs.declared.changes.Change.{Change}
+use Rattle.rv_catalog.specs.Kept.{indexes_over}
+use Rattle.rv_catalog.specs.Schema.{Schema, width}
+use Rattle.rv_reader.specs.Shown.{Shown, IsSnapshot, CanRead}
+use Rattle.rv_model.specs.declared.state.State.{State}
+use Rattle.rv_model.specs.declared.state.Cursor.{Cursor}
+use Rattle.rv_model.specs.declared.transactions.Transaction.{Transaction}
+use Rattle.rv_model.specs.declared.transactions.Transactions.{Transactions}
+use Rattle.rv_model.specs.Transactions.{next_row}
+use Rattle.rv_core.specs.declared.cursors.Open.{Open}
+
+-- the rows of each table at a snapshot
+abbrev pub image : Shown → ℕ → ℕ → List (List Record)
+image shown tables snap = map (λ table. shown.rows table snap) (range_with_len 0 tables)
+
+-- of each active transaction the rows of each table at its base
+abbrev pub bases_of : Shown → ℕ → List Transaction → List (List (List Record))
+bases_of shown tables active = map (λ (t : Transaction). image shown tables t.base) active
+
+-- the committed rows are those of the store at its newest commit
+abbrev pub db_of : Shown → Schema → Transactions → List Cursor → State
+db_of shown schema transactions cursors = record {
+  schema = schema;
+  rows = image shown (length schema.tables) shown.newest;
+  last = shown.newest;
+  transactions = transactions;
+  bases = bases_of shown (length schema.tables) transactions.active;
+  cursors = cursors;
+}
+
+-- an open cursor as the definitions have it
+abbrev pub seen_of : Open → Cursor
+seen_of c = record { session = c.session; name = c.name; offers = c.offers }
+
+-- the place of the session's open cursor of a name, and the cursors of the session
+abbrev pub open_named : List Open → ℕ → List ℕ → Option ℕ
+open_named cursors session name = position (λ (c : Open). (c.session == session) && bytes_eq c.name name) cursors
+
+abbrev pub own_opens : List Open → ℕ → List Open
+own_opens cursors session = filter (λ (c : Open). c.session == session) cursors
+
+-- a database, and the horizon of its store
+pub record Stand : Type 0 where
+  pub db : State
+  pub horizon : ℕ
+
+abbrev pub stand_of : Shown → Schema → Transactions → List Cursor → Stand
+stand_of shown schema transactions cursors = record { db = db_of shown schema transactions cursors; horizon = shown.horizon }
+
+-- a change that the store takes, of a row whose number was taken
+pub record IsOwn (shown : Shown) (touched : List (List ℕ)) (c : Change) : Type 0 where
+  pub there : c.table < shown.tables
+  pub taken : c.row.0 < next_row touched c.table
+  pub width : IfSome c.values (λ values. length values ≡ shown.columns c.table)
+
+-- a transaction whose base is a snapshot of the store
+pub record IsActive (shown : Shown) (touched : List (List ℕ)) (t : Transaction) : Type 0 where
+  pub base : IsSnapshot shown t.base
+  pub changes : AllByRecursion (IsOwn shown touched) t.changes
+
+-- row numbers below the next one of a table
+abbrev pub AreTaken : List (List ℕ) → ℕ → List Record → Type 0
+AreTaken touched table rows = AllByRecursion (λ (r : Record). r.row.0 < next_row touched table) rows
+
+-- The store has the tables of the schema, indexes are over these, each row has a number that was taken, at most 1,000,000 were taken of a table,
+-- and each base is a snapshot.
+pub record IsTied (shown : Shown) (schema : Schema) (transactions : Transactions) : Type 0 where
+  pub count : shown.tables ≡ length schema.tables
+  pub columns : (table : ℕ) → table < length schema.tables → shown.columns table ≡ width schema.tables table
+  pub indexes : (table : ℕ) → length schema.tables ≤ table → indexes_over table schema.indexes ≡ 0
+  pub standing : shown.horizon ≤ shown.newest
+  pub given : (table snap : ℕ) → CanRead shown table snap → AreTaken transactions.touched table (shown.rows table snap)
+  pub few : (table : ℕ) → next_row transactions.touched table ≤ 1000000
+  pub active : AllByRecursion (IsActive shown transactions.touched) transactions.active

@@ -1,0 +1,86 @@
+//! Calls on the catalog and the store that go together.
+ghost use Rattle.std.specs.Prelude.{◌≡◌, ◌<◌, ◌≤◌, ◌-◌, ◌^◌, ◌++◌, ◌∷◌, [], None, Ok, true, IfOk, IfErr, OnOk, OnErr, length};
+ghost use Rattle.std.specs.Option.{option_copied};
+ghost use Rattle.rv_catalog.specs.Fits.{is_over_table};
+ghost use Rattle.rv_catalog.specs.Kept.{indexes_over};
+ghost use Rattle.rv_catalog.specs.Schema.{table_named};
+ghost use Rattle.rv_reader.specs.Storing.{CanCommit, Created, IsSame};
+ghost use Rattle.rv_txn.specs.Calls.{IsFault};
+ghost use Rattle.rv_core.specs.Db.{IsTied};
+ghost use Rattle.rv_core.specs.Storing.{CommitsTo, changed_over};
+
+use rv_catalog::{Catalog, TableDef};
+use rv_judge::Uncounted;
+use rv_reader::{Reader, Store};
+use rv_restrict::Restriction;
+use rv_txn::{Finished, TxnFault, Txns};
+use rv_value::{NoMemory, Value};
+
+/// A table more in both. Without memory neither has it.
+pub fn add_table<S: Store + Reader<Ledger = Uncounted>>(
+    catalog: &mut Catalog,
+    store: &mut S,
+    def: TableDef,
+) -> Result<(), NoMemory>
+    requires fresh { table_named catalog.old.tables def.name ≡ None }
+    requires room { length catalog.old.tables < 64 }
+    requires narrow { length def.columns ≤ 16 }
+    requires unindexed { indexes_over (length catalog.old.tables) catalog.old.indexes ≡ 0 }
+    requires next { (S.shown store.old).tables ≡ length catalog.old.tables }
+    ensures catalog { OnOk result (catalog.new ≡ record catalog.old { tables = catalog.old.tables ++ def ∷ [] }) }
+    ensures store { OnOk result (Created (S.shown store.old) (S.shown store.new) (length def.columns)) }
+    ensures err_catalog { OnErr result (catalog.new ≡ catalog.old) }
+    ensures err_store { OnErr result (IsSame (S.shown store.old) (S.shown store.new)) }
+{
+    let columns = def.columns.len() as u32;
+    let table = match catalog.add_table(def) {
+        Ok(table) => table,
+        Err(NoMemory) => return Err(NoMemory),
+    };
+    match store.create_table(table, columns) {
+        Ok(()) => Ok(()),
+        Err(NoMemory) => {
+            catalog.undo_table();
+            Err(NoMemory)
+        }
+    }
+}
+
+/// Commits the changes, where there are some, and gives the number of the commit, or the base where there are none.
+pub fn commit_some<S: Store + Reader<Ledger = Uncounted>>(
+    store: &mut S,
+    finished: &Finished,
+) -> Result<u64, NoMemory>
+    requires changes { CanCommit (S.shown store.old) finished.now.changes.items }
+    requires room { (S.shown store.old).newest < 2 ^ 64 - 1 }
+    ensures ok { IfOk result (λ c. CommitsTo (S.shown store.old) (S.shown store.new) finished.now.base finished.now.changes.items c) }
+    ensures err { OnErr result (IsSame (S.shown store.old) (S.shown store.new)) }
+{
+    match finished.changes.as_slice() {
+        [] => Ok(finished.base),
+        [_first, _more @ ..] => store.commit(&finished.changes),
+    }
+}
+
+/// UPDATE, which sets columns, and DELETE, which sets none: how many rows are changed.
+pub fn change_rows<S: Store + Reader<Ledger = Uncounted>>(
+    catalog: &Catalog,
+    store: &S,
+    txns: &mut Txns,
+    session: u8,
+    table: u32,
+    sets: Option<&[(u32, Value)]>,
+    only: &Restriction,
+) -> Result<u64, TxnFault>
+    requires tied { IsTied (S.shown store.now) catalog.now txns.old }
+    requires there { table < length catalog.now.tables }
+    requires over { is_over_table catalog.now.tables table only.now ≡ true }
+    ensures ok { IfOk result (λ count. changed_over (S.shown store.now) catalog.now txns.old session table (option_copied sets.entry) only.now ≡ Ok (count, txns.new)) }
+    ensures fault { IfErr result (λ fault. IsFault (changed_over (S.shown store.now) catalog.now txns.old session table (option_copied sets.entry) only.now) fault) }
+    ensures err { OnErr result (txns.new ≡ txns.old) }
+    ensures tied { IsTied (S.shown store.now) catalog.now txns.new }
+{
+    // What a store tells with its newest commit holds of all its rows.
+    let _newest = store.last();
+    txns.change(session, store, table, only, sets)
+}

@@ -1,7 +1,0 @@
-use Rattle.std.proofs.Common.{◌≡◌, ◌++◌, drop, filter, nat_lt}
-use Rattle.rv_rows.specs.declared.changes.Change.{Change}
-use Rattle.rv_rows.specs.Changes.{is_before}
-use Rattle.rv_rows.proofs.changes.those_before.Given as goal
-
-abbrev pub invariant-changes : goal.invariant-changes
-invariant-changes l = l.all.items ++ filter (λ (c : Change). is_before c l.change) (drop l.other-index l.changes) ≡ filter (λ (c : Change). is_before c l.change) l.changes

@@ -1,0 +1,4 @@
+pub mod Beginning
+pub mod Pages
+pub mod Touching
+pub mod Views

@@ -1,0 +1,15 @@
+use Rattle.std.proofs.Common.{◌≡◌, ◌++◌, map}
+use Rattle.std.specs.List.{AllByRecursion}
+use Rattle.rv_rows.specs.Rows.{Ascend}
+use Rattle.rv_rows.specs.Changes.{Rise, applied, change_at}
+use Rattle.rv_txn.specs.Changing.{LeavesColumns, kept_change}
+use Rattle.rv_txn.proofs.changing.lay_over.Given as goal
+
+-- what was put and what the changes left make of the rows left is what all changes make of all rows
+abbrev pub invariant-changes : goal.invariant-changes
+invariant-changes l = record {
+  ascend : Ascend l.rest;
+  rise : Rise (map change_at l.key-iterator);
+  columns : AllByRecursion (LeavesColumns l.table l.only) (map change_at l.key-iterator);
+  same : l.all.items ++ applied l.table (map (kept_change l.only) (map change_at l.key-iterator)) l.rest ≡ applied l.table (map (kept_change l.only) l.changes) l.rows;
+}

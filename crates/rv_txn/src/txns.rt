@@ -1,0 +1,260 @@
+ghost use Rattle.std.specs.Prelude.{◌≡◌, ◌<◌, ◌-◌, ◌^◌, Ok, Err, IfOk, IfErr, OnOk, OnErr, IfSome, IsSome, length};
+ghost use Rattle.rv_rows.specs.Changes.{Rise};
+ghost use Rattle.rv_model.specs.Transactions.{began, changed, done, horizon, inserted, lowest, no_transactions, transaction_at, transaction_of};
+ghost use Rattle.std.specs.Option.{option_copied};
+ghost use Rattle.rv_txn.specs.Changing.{CanChange};
+ghost use Rattle.rv_txn.specs.Calls.{IsFault, finished, has_changed, rolled_back, standing};
+
+use crate::active::{
+    changes_at, horizon, limit, lowest, standing_at, transaction_at, transaction_of, writer,
+};
+use crate::changing::{changes_of, is_full, met_rows};
+use crate::conflicts::unharmed;
+use crate::touched::{next_row, put_and_take, touch_all};
+use rv_judge::Uncounted;
+use rv_model::{Refusal, Transaction, Transactions, Which};
+use rv_reader::{Reader, Store};
+use rv_restrict::Restriction;
+use rv_rows::{Change, Changes};
+use rv_value::{Items, NoMemory, RowNo, Value, Values};
+use std::alloc::Global;
+use std::marker::Model;
+
+/// Why a call on transactions did nothing.
+#[derive(Drop, Debug, PartialEq, Eq)]
+pub enum TxnFault {
+    Refused(Refusal),
+    NoMemory,
+}
+
+impl From<NoMemory> for TxnFault {
+    ghost use Rattle.std.specs.Prelude.{◌≡◌};
+    ghost use Rattle.rv_txn.specs.declared.txns.TxnFault.TheVariants.{NoMemory as NoRoom};
+
+    ghost from_gives = { λ _ e. e ≡ NoRoom };
+
+    fn from(_error: NoMemory) -> TxnFault {
+        TxnFault::NoMemory
+    }
+}
+
+/// What others may know of a session's transaction.
+#[derive(Clone, Copy, Debug, PartialEq, Eq)]
+pub struct Standing {
+    pub txn: u64,
+    pub read_only: bool,
+    pub base: u64,
+}
+
+/// What a commit needs of a transaction.
+#[derive(Drop, Debug)]
+pub struct Finished {
+    pub txn: u64,
+    pub base: u64,
+    pub changes: Vec<Change>,
+}
+
+/// The active transactions, the number of the next one, and each table's row numbers that were taken, with the commits
+/// that last wrote these rows.
+#[derive(Drop)]
+pub struct Txns {
+    alloc: Global,
+    transactions: Transactions,
+}
+
+impl Model for Txns {
+    ghost use Rattle.rv_model.specs.declared.transactions.Transactions.{Transactions};
+
+    ghost Value = { Transactions };
+
+    ghost view = { λ t. t.transactions };
+}
+
+impl Txns {
+    /// No transaction, the next one 1, and no row number taken. It takes no memory.
+    pub fn new(alloc: Global) -> Txns
+        ensures { result ≡ no_transactions }
+    {
+        Txns {
+            alloc,
+            transactions: Transactions {
+                active: Items::new(alloc),
+                next: 1,
+                touched: Items::new(alloc),
+            },
+        }
+    }
+
+    /// BEGIN: the number of a new transaction on a commit.
+    #[tactic(auto, using(rv_value::proofs::Places::put_back, rv_value::proofs::Places::read_as))]
+    pub fn begin(&mut self, session: u8, read_only: bool, base: u64) -> Result<u64, TxnFault>
+        requires { self.old.next < 2 ^ 64 - 1 }
+        ensures ok { IfOk result (λ number. began self.old session read_only base ≡ Ok (number, self.new)) }
+        ensures fault { IfErr result (λ fault. IsFault (began self.old session read_only base) fault) }
+        ensures err { OnErr result (self.new ≡ self.old) }
+    {
+        if let Some(own) = transaction_of(&self.transactions.active, session) {
+            let number = transaction_at(&self.transactions.active, own).number;
+            return Err(TxnFault::Refused(Refusal::Active(number)));
+        }
+        let number = self.transactions.next;
+        self.transactions.active.push(Transaction {
+            number,
+            session,
+            read_only,
+            base,
+            changes: Changes::new(self.alloc),
+        })?;
+        self.transactions.next += 1;
+        Ok(number)
+    }
+
+    /// INSERT: the number of a new row of the table.
+    #[tactic(auto, using(rv_value::proofs::Places::put_back, rv_value::proofs::Places::read_as))]
+    pub fn insert(&mut self, session: u8, table: u32, values: Values) -> Result<RowNo, TxnFault>
+        ensures ok { IfOk result (λ row. inserted self.old session table values ≡ Ok (row, self.new)) }
+        ensures fault { IfErr result (λ fault. IsFault (inserted self.old session table values) fault) }
+        ensures err { OnErr result (self.new ≡ self.old) }
+    {
+        let own = match writer(&self.transactions.active, session) {
+            Ok(own) => own,
+            Err(refusal) => return Err(TxnFault::Refused(refusal)),
+        };
+        let number = next_row(&self.transactions.touched, table);
+        if number > 999_999 {
+            return Err(TxnFault::Refused(limit(Which::Rows, 1_000_000)));
+        }
+        if changes_at(&self.transactions.active, own).len() > 99_999 {
+            return Err(TxnFault::Refused(limit(Which::Pending, 100_000)));
+        }
+        let row = RowNo(number);
+        put_and_take(
+            self.alloc,
+            &mut self.transactions.active.at_mut(own).changes,
+            Change {
+                table,
+                row,
+                values: Some(values),
+            },
+            &mut self.transactions.touched,
+        )?;
+        Ok(row)
+    }
+
+    /// UPDATE, which sets columns, and DELETE, which sets none: how many rows are changed.
+    #[tactic(auto, using(rv_value::proofs::Places::put_back, rv_value::proofs::Places::read_as))]
+    pub fn change<S: Store + Reader<Ledger = Uncounted>>(
+        &mut self,
+        session: u8,
+        store: &S,
+        table: u32,
+        only: &Restriction,
+        sets: Option<&[(u32, Value)]>,
+    ) -> Result<u64, TxnFault>
+        requires { IfSome (transaction_of self.old.active session) (λ own. CanChange (S.shown store.now) (transaction_at self.old.active own) table only.now) }
+        ensures ok { IfOk result (λ count. changed self.old session table only.now (option_copied sets.entry) ((S.shown store.now).rows table) ≡ Ok (count, self.new)) }
+        ensures fault { IfErr result (λ fault. IsFault (changed self.old session table only.now (option_copied sets.entry) ((S.shown store.now).rows table)) fault) }
+        ensures err { OnErr result (self.new ≡ self.old) }
+    {
+        let own = match writer(&self.transactions.active, session) {
+            Ok(own) => own,
+            Err(refusal) => return Err(TxnFault::Refused(refusal)),
+        };
+        let transaction = transaction_at(&self.transactions.active, own);
+        let rows = met_rows(self.alloc, transaction, store, table, only)?;
+        if is_full(&transaction.changes, table, rows.as_slice()) {
+            return Err(TxnFault::Refused(limit(Which::Pending, 100_000)));
+        }
+        match unharmed(
+            &self.transactions.touched,
+            &self.transactions.active,
+            session,
+            transaction.base,
+            table,
+            rows.as_slice(),
+        ) {
+            Ok(()) => {}
+            Err(refusal) => return Err(TxnFault::Refused(refusal)),
+        }
+        let new = changes_of(self.alloc, table, sets, rows.as_slice())?;
+        self.transactions.active.at_mut(own).changes.put_all(new)?;
+        Ok(rows.len() as u64)
+    }
+
+    /// What a commit needs of the session's transaction, which stays active.
+    pub fn finish(&self, session: u8) -> Result<Finished, TxnFault>
+        ensures ok { IfOk result (λ f. finished self.now session ≡ Ok (f.txn, f.base, f.changes.items)) }
+        ensures rise { IfOk result (λ f. Rise f.changes.items) }
+        ensures fault { IfErr result (λ fault. IsFault (finished self.now session) fault) }
+    {
+        let Some(own) = transaction_of(&self.transactions.active, session) else {
+            return Err(TxnFault::Refused(Refusal::NoTransaction));
+        };
+        let transaction = transaction_at(&self.transactions.active, own);
+        let changes = transaction.changes.to_vec()?;
+        Ok(Finished {
+            txn: transaction.number,
+            base: transaction.base,
+            changes,
+        })
+    }
+
+    /// The session's transaction ends, its changes being those of a commit. It takes no memory.
+    #[tactic(auto, using(rv_value::proofs::Places::put_back, rv_value::proofs::Places::read_as))]
+    pub fn commit_done(&mut self, session: u8, commit: u64)
+        requires { IsSome (transaction_of self.old.active session) }
+        ensures { IfSome (transaction_of self.old.active session) (λ own. self.new ≡ done self.old own commit) }
+    {
+        if let Some(own) = transaction_of(&self.transactions.active, session) {
+            let transaction = self.transactions.active.remove(own);
+            touch_all(&mut self.transactions.touched, &transaction.changes, commit);
+        }
+    }
+
+    /// ROLLBACK. It takes no memory.
+    pub fn rollback(&mut self, session: u8) -> Result<(), Refusal>
+        ensures ok { OnOk result (rolled_back self.old session ≡ Ok self.new) }
+        ensures fault { IfErr result (λ refusal. rolled_back self.old session ≡ Err refusal) }
+        ensures err { OnErr result (self.new ≡ self.old) }
+    {
+        let Some(own) = transaction_of(&self.transactions.active, session) else {
+            return Err(Refusal::NoTransaction);
+        };
+        let _ended = self.transactions.active.remove(own);
+        Ok(())
+    }
+
+    /// What may be known of the session's transaction; None exactly where it has none. It takes no memory.
+    pub fn standing(&self, session: u8) -> Option<Standing>
+        ensures { result ≡ standing self.now.active (transaction_of self.now.active session) }
+    {
+        match transaction_of(&self.transactions.active, session) {
+            Some(own) => Some(standing_at(&self.transactions.active, own)),
+            None => None,
+        }
+    }
+
+    /// Whether the session's transaction has changed a row of the table. It takes no memory.
+    pub fn has_changed(&self, session: u8, table: u32) -> bool
+        ensures { result ≡ has_changed self.now.active (transaction_of self.now.active session) table }
+    {
+        match transaction_of(&self.transactions.active, session) {
+            Some(own) => changes_at(&self.transactions.active, own).touches(table),
+            None => false,
+        }
+    }
+
+    /// The lowest number of an active transaction. It takes no memory.
+    pub fn active(&self) -> Option<u64>
+        ensures { result ≡ lowest self.now.active }
+    {
+        lowest(self.transactions.active.as_slice())
+    }
+
+    /// The lowest base of an active transaction, or the last commit where there is none. It takes no memory.
+    pub fn horizon(&self, last: u64) -> u64
+        ensures { result ≡ horizon self.now.active last }
+    {
+        horizon(self.transactions.active.as_slice(), last)
+    }
+}
