@@ -1,0 +1,147 @@
+-- A leaf read, an accepted piece and an abandoned scan keep what a joint scan holds drawn from the entries.
+use Rattle.std.proofs.Common.{◌≡◌, ℕ, ◌<◌, ◌≤◌, List, [], ◌++◌, length, length-set, slice_set, Bool, true, false, ◌&&◌, ◌||◌, refl, ap, sym, ◌∙◌, arith, subst, Option, Some, None, nat_eq, IfSome, IsPermutation, inl, inr}
+use Rattle.std.proofs.lemmas.Bool.{cases_Bool}
+use Rattle.std.proofs.lemmas.Bool.Decides.{nat_tests}
+use Rattle.std.proofs.lemmas.List.{get_or-set_other, get_or-set_same}
+use Rattle.std.proofs.lemmas.List.Elements.{filter-append}
+use Rattle.std.proofs.lemmas.List.Sorted.{list_any-IsPermutation}
+use Rattle.rv_value.specs.declared.record.IndexEntry.{IndexEntry}
+use Rattle.rv_restrict.specs.Parts.{Parted, passes}
+use Rattle.rv_keys.specs.Keys.{has_key}
+use Rattle.rv_keylist.proofs.Bits.{may_key-never_denies}
+use Rattle.rv_reader.specs.declared.reader.Chunk.{Chunk}
+use Rattle.rv_reader.specs.Leaves.{run_after}
+use Rattle.rv_reader.specs.Shown.{Shown}
+use Rattle.rv_jscan.specs.declared.jscan.ScanCounts.{ScanCounts}
+use Rattle.rv_jscan.specs.Entries.{has_entry, Apart, Disjoint}
+use Rattle.rv_jscan.specs.Pieces.{Pieced, kept_rows, may}
+use Rattle.rv_reader.specs.Storing.{AreKeys}
+use Rattle.rv_jscan.specs.Joint.{CanTake, Joint, JointFits, InCompleted, Covers, IsNextLeaf, counts_at, meets, no_counts, passing, present, to_sieve, under_way}
+use Rattle.rv_jscan.specs.Steps.{Accepts, Awaits, HasEntries, abandoned, completed, counts_after, going, held_next, kept_of}
+use Rattle.rv_jscan.proofs.Parts.{chunk_apart, chunk_keys, Apart-cross, Apart-run, has_append, key_append}
+use Rattle.rv_jscan.proofs.Kept.{kept_has, kept_in}
+
+pub way_within : (j : Joint) → under_way j ≡ true → j.ended < length j.plans
+way_within j w = grind (arith, nat_tests)
+
+some_more : {X : Type 0} (P Q : X → Type 0) (o : Option X) → ((x : X) → P x → Q x) → IfSome o P → IfSome o Q
+some_more P Q None f h = h
+some_more P Q (Some x) f h = f x h
+
+-- what the counts of the scans that ended say stays where those of the present scan change
+in_completed_before : (j : Joint) (shown : Shown) (counts : ScanCounts) (n : ℕ) → InCompleted (record j { counts = slice_set j.counts j.ended counts }) shown n → InCompleted j shown n
+in_completed_before j shown counts n inc i lt l = inc i lt (ap (λ (c : ScanCounts). c.listed) (get_or-set_other j.counts j.ended i counts no_counts (λ e. absurd (omega arith))) ∙ l)
+
+pub counted_fits : (j : Joint) (shown : Shown) (counts : ScanCounts) → JointFits j shown → JointFits (record j { counts = slice_set j.counts j.ended counts }) shown
+counted_fits j shown counts f = record {
+  room = subst (λ (n : ℕ). length j.plans ≤ n) (sym (length-set j.counts j.ended counts)) f.room;
+  within = f.within;
+  apart = f.apart;
+  covers = some_more (Covers j shown) (Covers (record j { counts = slice_set j.counts j.ended counts }) shown) j.list (λ keys c n inc. c n (in_completed_before j shown counts n inc)) f.covers;
+  builds = λ n inc m. f.builds n (in_completed_before j shown counts n inc) m;
+  fresh = f.fresh;
+  drawn = f.drawn;
+}
+
+pub leaf_keys : (j : Joint) (shown : Shown) (chunk : Chunk) → under_way j ≡ true → CanTake j shown → IsNextLeaf j shown chunk → AreKeys (length (present j).part.columns) chunk.entries
+leaf_keys j shown chunk way can leaf = chunk_keys (length (present j).part.columns) (shown.entries (present j).index j.snap) (shown.cuts (present j).index j.snap) (present j).range j.place chunk leaf (can.each j.ended (way_within j way)).keys
+
+pub leaf_apart : (j : Joint) (shown : Shown) (chunk : Chunk) → under_way j ≡ true → JointFits j shown → IsNextLeaf j shown chunk → Apart chunk.entries
+leaf_apart j shown chunk way f leaf = chunk_apart (shown.entries (present j).index j.snap) (shown.cuts (present j).index j.snap) (present j).range j.place chunk leaf (f.apart j.ended (way_within j way))
+
+pub held_fits : (j : Joint) (shown : Shown) (chunk : Chunk) → IsNextLeaf j shown chunk → JointFits j shown → JointFits (record j { held = Some chunk }) shown
+held_fits j shown chunk d f = record { room = f.room; within = f.within; apart = f.apart; covers = f.covers; builds = f.builds; fresh = f.fresh; drawn = d }
+
+pub abandoned_fits : (j : Joint) (shown : Shown) → under_way j ≡ true → JointFits j shown → JointFits (abandoned j) shown
+abandoned_fits j shown way f = record {
+  room = f.room;
+  within = omega (arith, way_within j way);
+  apart = f.apart;
+  covers = some_more (Covers j shown) (Covers (abandoned j) shown) j.list (λ keys c n inc. c n (λ i lt l. inc i (omega arith) l)) f.covers;
+  builds = λ n inc m. m;
+  fresh = λ n. refl;
+  drawn = tt;
+}
+
+-- a row that is in each completed scan may be in the last list
+covered_may : (j : Joint) (shown : Shown) (n : ℕ) → IfSome j.list (Covers j shown) → InCompleted j shown n → may j.list n ≡ true
+covered_may j shown n c inc = by_list j.list c
+  where
+    by_list : (l : Option (List ℕ)) → IfSome l (Covers j shown) → may l n ≡ true
+    by_list None c = refl
+    by_list (Some keys) c = may_key-never_denies n keys (c n inc)
+
+builds_bool : (b e a ea m k bk : Bool) → (b || ea) ≡ true → ea ≡ (e || a) → k ≡ (e && m) → m ≡ true → bk ≡ (b || k) → (bk || a) ≡ true
+builds_bool b e a ea m k bk h1 h2 h3 h4 h5 = grind arith
+
+or_false : (b : Bool) → (b || false) ≡ true → b ≡ true
+or_false b h = grind arith
+
+-- a row that the scan has to find stands among those it built, in the leaf or after it
+builds_split : (j : Joint) (shown : Shown) (n : ℕ) (entries after : List IndexEntry) → JointFits j shown → to_sieve j shown ≡ entries ++ after → InCompleted j shown n → meets (present j) shown j.snap n ≡ true → (has_key n (j.building ++ kept_of j entries) || has_entry n (passing (present j).part after)) ≡ true
+builds_split j shown n entries after f parts inc m =
+    let part = (present j).part in
+    let b : (has_key n j.building || has_entry n (passing part (entries ++ after))) ≡ true = subst (λ (left : List IndexEntry). (has_key n j.building || has_entry n (passing part left)) ≡ true) parts (f.builds n inc m) in
+    let s : passing part (entries ++ after) ≡ passing part entries ++ passing part after = filter-append (λ (e : IndexEntry). passes part e.key) entries after in
+    let h = has_append n (passing part entries) (passing part after) in
+    let k = kept_has part j.list n entries in
+    let y = covered_may j shown n f.covers inc in
+    let a = key_append n j.building (kept_of j entries) in
+    builds_bool (has_key n j.building) (has_entry n (passing part entries)) (has_entry n (passing part after)) _ (may j.list n) _ _ (subst (λ (left : List IndexEntry). (has_key n j.building || has_entry n left) ≡ true) s b) h k y a
+
+fresh_yes : (b bk a : Bool) → a ≡ false → (bk && a) ≡ false
+fresh_yes b bk a h = grind arith
+
+fresh_no : (b k bk e a ea : Bool) → (b && ea) ≡ false → ea ≡ (e || a) → bk ≡ (b || k) → k ≡ false → (bk && a) ≡ false
+fresh_no b k bk e a ea h1 h2 h3 h4 = grind arith
+
+fresh_after : (building : List ℕ) (part : Parted) (list : Option (List ℕ)) (entries after : List IndexEntry) → Apart (entries ++ after) → Disjoint building (entries ++ after) → Disjoint (building ++ kept_rows part list entries) after
+fresh_after building part list entries after a d n =
+    elim (cases_Bool (has_entry n entries)) [
+      | inl here ↦ fresh_yes true _ _ (Apart-cross n entries after a here)
+      | inr other ↦ fresh_no (has_key n building) (has_key n (kept_rows part list entries)) _ (has_entry n entries) _ _ (d n) (has_append n entries after) (key_append n building (kept_rows part list entries)) (kept_in part list n entries other)
+    ]
+
+going_fits : (j : Joint) (shown : Shown) (entries : List IndexEntry) (cut : IndexEntry) → under_way j ≡ true → JointFits j shown → to_sieve j shown ≡ entries ++ run_after (shown.entries (present j).index j.snap) (present j).range (Some cut) → JointFits (going j entries cut) shown
+going_fits j shown entries cut way f parts =
+    let all = shown.entries (present j).index j.snap in
+    let after = run_after all (present j).range (Some cut) in
+    record {
+      room = subst (λ (n : ℕ). length j.plans ≤ n) (sym (length-set j.counts j.ended _)) f.room;
+      within = f.within;
+      apart = f.apart;
+      covers = some_more (Covers j shown) (Covers (going j entries cut) shown) j.list (λ keys c n inc. c n (in_completed_before j shown _ n inc)) f.covers;
+      builds = λ n inc m. builds_split j shown n entries after f parts (in_completed_before j shown _ n inc) m;
+      fresh = fresh_after j.building (present j).part j.list entries after (subst Apart parts (Apart-run all (present j).range j.place (f.apart j.ended (way_within j way)))) (subst (Disjoint j.building) parts f.fresh);
+      drawn = tt;
+    }
+
+completed_fits : (j : Joint) (shown : Shown) (entries : List IndexEntry) (keys : List ℕ) → under_way j ≡ true → JointFits j shown → to_sieve j shown ≡ entries ++ [] → IsPermutation (j.building ++ kept_of j entries) keys → JointFits (completed j entries keys) shown
+completed_fits j shown entries keys way f parts perm =
+    let within = way_within j way in
+    let listed : (counts_at (counts_after j entries true) j.ended).listed ≡ true = ap (λ (c : ScanCounts). c.listed) (get_or-set_same j.counts j.ended _ no_counts (omega (arith, f.room))) in
+    record {
+      room = subst (λ (n : ℕ). length j.plans ≤ n) (sym (length-set j.counts j.ended _)) f.room;
+      within = omega (arith, within);
+      apart = f.apart;
+      covers = λ n inc.
+          let before : InCompleted j shown n = in_completed_before j shown _ n (λ i lt l. inc i (omega arith) l) in
+          let b = builds_split j shown n entries [] f parts before (inc j.ended (omega arith) listed) in
+          sym (list_any-IsPermutation (nat_eq n) (j.building ++ kept_of j entries) keys perm) ∙ or_false _ b;
+      builds = λ n inc m. m;
+      fresh = λ n. refl;
+      drawn = tt;
+    }
+
+by_next : (old new : Joint) (shown : Shown) (entries : List IndexEntry) (next : Option IndexEntry) → under_way old ≡ true → Accepts old new entries next → to_sieve old shown ≡ entries ++ run_after (shown.entries (present old).index old.snap) (present old).range next → JointFits old shown → JointFits new shown
+by_next old new shown entries (Some cut) way a parts f = subst (λ (j : Joint). JointFits j shown) (sym a) (going_fits old shown entries cut way f parts)
+by_next old new shown entries None way a parts f = subst (λ (j : Joint). JointFits j shown) (sym a.3) (completed_fits old shown entries a.0 way f parts a.1)
+
+-- the entries of the leaf held, and the parts of what is to be sieved
+pub by_held : (old : Joint) (shown : Shown) (entries : List IndexEntry) (h : Option Chunk) → HasEntries h entries → IfSome h (IsNextLeaf old shown) → to_sieve old shown ≡ entries ++ run_after (shown.entries (present old).index old.snap) (present old).range (held_next h)
+by_held old shown entries None i d = absurd i
+by_held old shown entries (Some h) i d = d.parts ∙ ap (λ (es : List IndexEntry). es ++ run_after (shown.entries (present old).index old.snap) (present old).range h.next) i
+
+-- what give accepts keeps the fit
+pub accepts_fits : (old new : Joint) (piece : Pieced) (shown : Shown) → Awaits old piece → Accepts old new piece.entries (held_next old.held) → JointFits old shown → JointFits new shown
+accepts_fits old new piece shown w a f = by_next old new shown piece.entries (held_next old.held) w.way a (by_held old shown piece.entries old.held w.entries f.drawn) f

@@ -1,0 +1,6 @@
+pub mod Same
+pub mod Marks
+pub mod Parts
+pub mod Kept
+pub mod Fits
+pub mod Leaves
