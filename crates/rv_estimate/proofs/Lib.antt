@@ -1,0 +1,3 @@
+mod Empty
+pub mod Exact
+pub mod Steps

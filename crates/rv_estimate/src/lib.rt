@@ -1,0 +1,9 @@
+//! Estimates of ranges of index trees.
+#![tactic(auto)]
+
+mod descent;
+
+pub use descent::split;
+
+#[cfg(test)]
+mod tests;

@@ -1,0 +1,6 @@
+pub mod Descents
+pub mod Facts
+pub mod Growing
+pub mod Halves
+pub mod Rooting
+pub mod Starting

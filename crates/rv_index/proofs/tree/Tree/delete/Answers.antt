@@ -1,0 +1,16 @@
+use Rattle.std.proofs.Common.{length, Result, Ok, Err, OnOk}
+use Rattle.rv_index.specs.Index.{nodes_at, IsDeleted}
+use Rattle.rv_index.proofs.Rooting.{deleted_by, deleted_is}
+use Rattle.rv_index.proofs.tree.Tree.delete.Goals as goal
+
+OnOk-map : {A E : Type 0} (r : Result A E) (P Q : Type 0) → (P → Q) → OnOk r P → OnOk r Q
+OnOk-map (Ok x) P Q f h = f h
+OnOk-map (Err e) P Q f h = tt
+
+pub returns-clause-ok : goal.returns-clause-ok
+returns-clause-ok c =
+    let at = nodes_at c.args.self.now c.args.commit in let at' = nodes_at c.shrink.new.self c.args.commit in
+    OnOk-map c.shrink.result _ (IsDeleted c.args.commit c.args.entry.now c.args.self.now c.shrink.new.self)
+    (λ shrunk. deleted_is c.args.commit c.args.entry.now c.args.self.now c.shrink.new.self c.requires.sound
+    (deleted_by (length c.args.self.now) (length c.shrink.new.self) c.level-level.result c.args.entry.now at at' c.level-level.ensures c.requires.sound shrunk))
+    c.shrink.ensures.ok

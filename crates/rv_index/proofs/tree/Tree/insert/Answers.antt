@@ -1,0 +1,28 @@
+use Rattle.std.proofs.Common.{ℕ, length, Option, subst, Result, Ok, Err, OnOk}
+use Rattle.rv_value.specs.declared.record.IndexEntry.{IndexEntry}
+use Rattle.rv_reader.specs.Entries.{comes_before}
+use Rattle.rv_node.specs.Trees.{grow}
+use Rattle.rv_index.specs.Index.{nodes_at, IsInserted}
+use Rattle.rv_index.specs.Steps.{IsGrown}
+use Rattle.rv_index.proofs.Rooting.{inserted_is, inserted_none, inserted_some}
+use Rattle.rv_index.proofs.tree.Tree.insert.Goals as goal
+
+OnOk-map : {A E : Type 0} (r : Result A E) (P Q : Type 0) → (P → Q) → OnOk r P → OnOk r Q
+OnOk-map (Ok x) P Q f h = f h
+OnOk-map (Err e) P Q f h = tt
+
+pub returns-in-None-clause-ok : goal.returns-in-None-clause-ok
+returns-in-None-clause-ok c =
+    let at = nodes_at c.args.self.now c.args.commit in let at' = nodes_at c.grow.new.self c.args.commit in
+    inserted_is c.args.commit c.args.entry c.args.self.now c.grow.new.self c.requires.sound c.requires.absent
+    (inserted_none (length c.args.self.now) (length c.grow.new.self) c.level-level.result c.args.entry at at' c.level-level.ensures c.requires.sound
+    (subst (λ (r : Option (IndexEntry × ℕ)). IsGrown (length c.args.self.now) (length c.grow.new.self) c.level-level.result 0 (grow c.level-level.result comes_before c.args.entry) r at at') c.in-None.is c.in_ok-grow.ensures.ok))
+
+pub returns-clause-ok : goal.returns-clause-ok
+returns-clause-ok c =
+    let at = nodes_at c.args.self.now c.args.commit in let at' = nodes_at c.grow.new.self c.args.commit in let at2 = nodes_at c.raise.new.self c.args.commit in
+    OnOk-map c.raise.result _ (IsInserted c.args.commit c.args.entry c.args.self.now c.raise.new.self)
+    (λ raised. inserted_is c.args.commit c.args.entry c.args.self.now c.raise.new.self c.requires.sound c.requires.absent
+    (inserted_some (length c.args.self.now) (length c.grow.new.self) (length c.raise.new.self) c.level-level.result c.args.entry c.in-Some.cut c.in-Some.right at at' at2 c.level-level.ensures c.requires.sound
+    (subst (λ (r : Option (IndexEntry × ℕ)). IsGrown (length c.args.self.now) (length c.grow.new.self) c.level-level.result 0 (grow c.level-level.result comes_before c.args.entry) r at at') c.in-Some.is c.in_ok-grow.ensures.ok) raised))
+    c.raise.ensures.ok

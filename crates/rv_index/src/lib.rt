@@ -1,0 +1,10 @@
+//! Index trees whose nodes keep their older versions, so that each snapshot reads its own tree.
+#![tactic(auto)]
+
+mod parts;
+mod tree;
+
+pub use tree::Tree;
+
+#[cfg(test)]
+mod tests;

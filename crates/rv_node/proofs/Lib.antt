@@ -1,0 +1,13 @@
+pub mod Bounds
+pub mod Counts
+pub mod Cuts
+pub mod Growth
+pub mod Kept
+pub mod Kids
+pub mod Leaves
+pub mod Lists
+pub mod Orders
+pub mod Rising
+pub mod Shrinking
+pub mod Storing
+pub mod Whole

@@ -1,0 +1,6 @@
+pub mod Indexing
+pub mod Changing
+pub mod Listing
+pub mod Tabling
+pub mod Turning
+pub mod Standing

@@ -1,0 +1,159 @@
+ghost use Rattle.std.specs.Prelude.{◌≡◌, ◌<◌, ◌≤◌, [], length, slice_get, IfOk, IfSome};
+ghost use Rattle.rv_reader.specs.Storing.{Swept};
+ghost use Rattle.rv_store.specs.Paged.{shown_of};
+ghost use Rattle.rv_store.specs.Places.{next_place, IsPurged};
+
+use crate::indexes::{Index, new_index};
+use crate::places::Places;
+use crate::tables::Table;
+use crate::whole::{add_index, commit_changes, purge_place};
+use rv_estimate::split;
+use rv_judge::{Steps, Uncounted};
+use rv_reader::{Change, Chunk, Estimate, Reader, Sizes, Store};
+use rv_records::Records;
+use rv_value::{IndexEntry, NoMemory, Range, Record, RowNo};
+use std::alloc::Global;
+use std::marker::Model;
+
+/// A store of record pages and index trees. Each page and each node keeps its older versions, so that a commit copies
+/// what it changes and no more, and each snapshot reads its own.
+///
+/// Each sweep takes older versions of one page or node away, in turn, by a list that grows only at its end.
+#[derive(Drop)]
+pub struct Paged {
+    alloc: Global,
+    horizon: u64,
+    newest: u64,
+    tables: Vec<Table>,
+    indexes: Vec<Index>,
+    places: Places,
+}
+
+impl Model for Paged {
+    ghost use Rattle.rv_store.specs.Paged.{Kept, IsKept};
+
+    ghost Value = { Kept };
+
+    ghost view = { λ p. record { horizon = p.horizon; newest = p.newest; tables = p.tables.items; indexes = p.indexes.items; turns = p.places } };
+
+    ghost invariant = { λ p. IsKept (record { horizon = p.horizon; newest = p.newest; tables = p.tables.items; indexes = p.indexes.items; turns = p.places }) };
+}
+
+impl Paged {
+    /// The store without tables and indexes, at commit 0.
+    pub fn new(alloc: Global) -> Result<Paged, NoMemory>
+        ensures { IfOk result (λ store. store ≡ record { horizon = 0; newest = 0; tables = []; indexes = []; turns = record { places = []; next = 0 } }) }
+    {
+        Ok(Paged {
+            alloc,
+            horizon: 0,
+            newest: 0,
+            tables: Vec::new(alloc),
+            indexes: Vec::new(alloc),
+            places: Places::new(alloc),
+        })
+    }
+}
+
+impl Reader for Paged {
+    type Ledger = Uncounted;
+
+    ghost shown = { shown_of };
+
+    fn page(
+        &self,
+        _alloc: Global,
+        table: u32,
+        snap: u64,
+        n: u32,
+        steps: &mut Steps<Uncounted>,
+    ) -> Result<Vec<Record>, NoMemory> {
+        steps.page();
+        self.tables[table as usize].records.page(n, snap)
+    }
+
+    fn fetch(
+        &self,
+        _alloc: Global,
+        table: u32,
+        snap: u64,
+        row: RowNo,
+        steps: &mut Steps<Uncounted>,
+    ) -> Result<Option<Record>, NoMemory> {
+        steps.fetch();
+        self.tables[table as usize].records.fetch(row, snap)
+    }
+
+    fn chunk(
+        &self,
+        _alloc: Global,
+        index: u32,
+        snap: u64,
+        from: Option<&IndexEntry>,
+        range: &Range,
+        steps: &mut Steps<Uncounted>,
+    ) -> Result<Chunk, NoMemory> {
+        steps.leaf();
+        self.indexes[index as usize].tree.chunk(snap, from, range)
+    }
+
+    fn estimate(&self, index: u32, snap: u64, range: &Range) -> Estimate {
+        split(&self.indexes[index as usize].tree, snap, range)
+    }
+
+    fn sizes(&self, table: u32, snap: u64) -> Sizes {
+        self.tables[table as usize].records.sizes(snap)
+    }
+}
+
+impl Store for Paged {
+    fn last(&self) -> u64 {
+        self.newest
+    }
+
+    fn create_table(&mut self, _table: u32, columns: u32) -> Result<(), NoMemory> {
+        self.tables.push(Table {
+            width: columns,
+            records: Records::new(self.alloc),
+        })?;
+        Ok(())
+    }
+
+    fn create_index(&mut self, _index: u32, table: u32, columns: &[u32]) -> Result<(), NoMemory> {
+        let records = &self.tables[table as usize].records;
+        let index = new_index(self.alloc, table, records, columns, self.newest)?;
+        add_index(
+            self.tables.as_slice(),
+            &mut self.indexes,
+            &mut self.places,
+            index,
+        )
+    }
+
+    fn commit(&mut self, changes: &[Change]) -> Result<u64, NoMemory> {
+        let commit = self.newest + 1;
+        commit_changes(
+            self.alloc,
+            &mut self.tables,
+            &mut self.indexes,
+            &mut self.places,
+            changes,
+            commit,
+        )?;
+        self.newest = commit;
+        Ok(commit)
+    }
+
+    fn sweep(&mut self, horizon: u64)
+        requires low { (shown_of self.old).horizon ≤ horizon }
+        requires high { horizon ≤ (shown_of self.old).newest }
+        ensures swept { Swept (shown_of self.old) (shown_of self.new) horizon }
+        ensures places { self.new.turns.places ≡ self.old.turns.places }
+        ensures next { self.new.turns.next ≡ next_place self.old.turns.next (length self.old.turns.places) }
+        ensures purged { IfSome (slice_get self.old.turns.places self.old.turns.next) (IsPurged horizon self.new.tables self.new.indexes) }
+    {
+        let place = self.places.turn();
+        purge_place(&mut self.tables, &mut self.indexes, place, horizon);
+        self.horizon = horizon;
+    }
+}

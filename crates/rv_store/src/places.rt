@@ -1,0 +1,195 @@
+ghost use Rattle.std.specs.Prelude.{◌≡◌, ◌<◌, ◌≤◌, [], length, map, slice_get, IfOk, OnErr};
+ghost use Rattle.std.specs.List.{slice_index_or};
+ghost use Rattle.rv_store.specs.declared.tables.Table.{Table as OneTable};
+ghost use Rattle.rv_store.specs.declared.indexes.Index.{Index as OneIndex};
+ghost use Rattle.rv_store.specs.Places.{next_place, AreIndexesFrom, AreSameFrom, IsLonger, IsNodePurged, IsPagePurged};
+
+use crate::indexes::Index;
+use crate::tables::Table;
+use rv_value::NoMemory;
+use std::alloc::Global;
+use std::marker::Model;
+
+/// A record page of a table, or a node of an index's tree, which a sweep purges.
+#[derive(Clone, Copy, PartialEq, Eq, Debug)]
+pub enum Place {
+    Page { table: u32, n: u32 },
+    Node { index: u32, id: u32 },
+}
+
+/// The record pages and nodes in the order in which they came, and the one that the next sweep purges. The counts are
+/// of the pages of each table and of the nodes of each index that stand in the list.
+#[derive(Drop)]
+pub struct Places {
+    alloc: Global,
+    places: Vec<Place>,
+    next: usize,
+    pages: Vec<usize>,
+    nodes: Vec<usize>,
+}
+
+impl Model for Places {
+    ghost use Rattle.std.specs.Prelude.{◌≤◌, length};
+    ghost use Rattle.rv_store.specs.Places.{Turns};
+
+    ghost Value = { Turns };
+
+    ghost view = { λ p. record { places = p.places.items; next = p.next } };
+
+    ghost invariant = { λ p. p.next ≤ length p.places.items };
+}
+
+fn place_at(places: &[Place], at: usize) -> Option<Place>
+    ensures { result ≡ slice_get places.now at }
+{
+    match places.get(at) {
+        Some(place) => Some(*place),
+        None => None,
+    }
+}
+
+impl Places {
+    /// No page and no node. It takes no memory.
+    pub fn new(alloc: Global) -> Places
+        ensures { result ≡ record { places = []; next = 0 } }
+    {
+        Places {
+            alloc,
+            places: Vec::new(alloc),
+            next: 0,
+            pages: Vec::new(alloc),
+            nodes: Vec::new(alloc),
+        }
+    }
+
+    /// The page or node whose turn it is, and the turn moves on by one, from the last to the first.
+    pub fn turn(&mut self) -> Option<Place>
+        ensures place { result ≡ slice_get self.old.places self.old.next }
+        ensures places { self.new.places ≡ self.old.places }
+        ensures next { self.new.next ≡ next_place self.old.next (length self.old.places) }
+    {
+        let place = place_at(self.places.as_slice(), self.next);
+        self.next = if self.next + 1 < self.places.len() {
+            self.next + 1
+        } else {
+            0
+        };
+        place
+    }
+
+    /// Adds the pages and nodes that have come at the end.
+    pub fn list(&mut self, tables: &[Table], indexes: &[Index]) -> Result<(), NoMemory>
+        requires tables { length tables.now ≤ 4294967296 }
+        requires indexes { length indexes.now ≤ 4294967296 }
+        ensures longer { IsLonger self.old.places self.new.places }
+        ensures next { self.new.next ≡ self.old.next }
+        ensures err { OnErr result (self.new ≡ self.old) }
+    {
+        let pages = count_pages(self.alloc, tables)?;
+        let nodes = count_nodes(self.alloc, indexes)?;
+        let mut more = Vec::new(self.alloc);
+        list_pages(&mut more, self.pages.as_slice(), tables)?;
+        list_nodes(&mut more, self.nodes.as_slice(), indexes)?;
+        self.places.append(&mut more)?;
+        self.pages = pages;
+        self.nodes = nodes;
+        Ok(())
+    }
+}
+
+fn count_pages(alloc: Global, tables: &[Table]) -> Result<Vec<usize>, NoMemory>
+    ensures { IfOk result (λ counts. counts.items ≡ map (λ (t : OneTable). length t.records.pages) tables.now) }
+{
+    let mut counts = Vec::new(alloc);
+    'tables: for table in tables {
+        counts.push(table.records.len())?;
+    }
+    Ok(counts)
+}
+
+fn count_nodes(alloc: Global, indexes: &[Index]) -> Result<Vec<usize>, NoMemory>
+    ensures { IfOk result (λ counts. counts.items ≡ map (λ (i : OneIndex). length i.tree) indexes.now) }
+{
+    let mut counts = Vec::new(alloc);
+    'indexes: for index in indexes {
+        counts.push(index.tree.len())?;
+    }
+    Ok(counts)
+}
+
+/// The count in a place, 0 where it came later.
+fn count_at(counts: &[usize], at: usize) -> usize
+    ensures { result ≡ slice_index_or counts.now at 0 }
+{
+    match counts.get(at) {
+        Some(count) => *count,
+        None => 0,
+    }
+}
+
+fn list_pages(more: &mut Vec<Place>, listed: &[usize], tables: &[Table]) -> Result<(), NoMemory>
+    requires { length tables.now ≤ 4294967296 }
+{
+    'tables: for at in 0..tables.len() {
+        let count = tables[at].records.len();
+        add_pages(more, at as u32, count_at(listed, at), count)?;
+    }
+    Ok(())
+}
+
+fn add_pages(more: &mut Vec<Place>, table: u32, from: usize, to: usize) -> Result<(), NoMemory>
+    requires { to ≤ 4294967296 }
+{
+    'pages: for n in from..to {
+        more.push(Place::Page { table, n: n as u32 })?;
+    }
+    Ok(())
+}
+
+fn list_nodes(more: &mut Vec<Place>, listed: &[usize], indexes: &[Index]) -> Result<(), NoMemory>
+    requires { length indexes.now ≤ 4294967296 }
+{
+    'indexes: for at in 0..indexes.len() {
+        let count = indexes[at].tree.len();
+        add_nodes(more, at as u32, count_at(listed, at), count)?;
+    }
+    Ok(())
+}
+
+fn add_nodes(more: &mut Vec<Place>, index: u32, from: usize, to: usize) -> Result<(), NoMemory>
+    requires { to ≤ 4294967296 }
+{
+    'nodes: for id in from..to {
+        more.push(Place::Node {
+            index,
+            id: id as u32,
+        })?;
+    }
+    Ok(())
+}
+
+/// Takes the versions of a page away that no snapshot from the horizon on reads, where the table is there.
+#[tactic(auto, using(crate::proofs::Turning::from_itself, crate::proofs::Turning::page_none))]
+pub fn purge_page(tables: &mut Vec<Table>, table: u32, n: u32, horizon: u64)
+    ensures same { AreSameFrom horizon tables.old.items tables.new.items }
+    ensures purged { IsPagePurged horizon tables.new.items table n }
+{
+    let table = table as usize;
+    if table >= tables.len() {
+        return;
+    }
+    tables[table].records.purge(n, horizon);
+}
+
+/// Takes the versions of a node away that no snapshot from the horizon on reads, where the index is there.
+#[tactic(auto, using(crate::proofs::Turning::indexes_itself, crate::proofs::Turning::node_none))]
+pub fn purge_node(indexes: &mut Vec<Index>, index: u32, id: u32, horizon: u64)
+    ensures same { AreIndexesFrom horizon indexes.old.items indexes.new.items }
+    ensures purged { IsNodePurged horizon indexes.new.items index id }
+{
+    let index = index as usize;
+    if index >= indexes.len() {
+        return;
+    }
+    indexes[index].tree.purge(id, horizon);
+}
