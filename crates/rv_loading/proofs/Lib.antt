@@ -1,0 +1,4 @@
+pub mod Laying
+pub mod Batches
+pub mod Reading
+pub mod Columns
