@@ -26,7 +26,9 @@ new_is nodes one put below =
     ] in
     let same : (snap : ℕ) → no_nodes ≡ nodes_at nodes snap = λ snap. λ i id. sym (each snap id) i in
     record {
+      one = one;
       sound = λ snap. subst (λ len. IsIndexTree len (nodes_at nodes snap)) (sym one) (subst (IsIndexTree 1) (same snap) none_index);
+      tree = λ snap. ap whole_at (sym (same snap));
       entries = λ snap. ap (λ at. entries_all (whole_at at)) (sym (same snap));
       cuts = λ snap. ap (λ at. cuts_all (whole_at at)) (sym (same snap));
       newest = below;

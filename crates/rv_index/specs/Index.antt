@@ -28,6 +28,10 @@ whole_at at = (level_at at, tree_at at (level_at at) 0)
 abbrev pub tree_of : Nodes → ℕ → Whole IndexEntry
 tree_of nodes snap = whole_at (nodes_at nodes snap)
 
+-- the tree without entries: one empty leaf
+abbrev pub empty_tree : Whole IndexEntry
+empty_tree = (0, [])
+
 -- its sorted entries, and the cuts at which its leaves after the first begin
 abbrev pub entries_of : Nodes → ℕ → List IndexEntry
 entries_of nodes snap = entries_all (tree_of nodes snap)
@@ -50,9 +54,11 @@ pub record IsIndexTree (len : ℕ) (at : ℕ → Parts) : Type 0 where
 abbrev pub IsSound : Nodes → ℕ → Type 0
 IsSound nodes snap = IsIndexTree (length nodes) (nodes_at nodes snap)
 
--- a new tree has no entry and one leaf at every snapshot
+-- a new tree is one empty leaf at every snapshot
 pub record IsNew (nodes : Nodes) : Type 0 where
+  pub one : length nodes ≡ 1
   pub sound : (snap : ℕ) → IsSound nodes snap
+  pub tree : (snap : ℕ) → tree_of nodes snap ≡ empty_tree
   pub entries : (snap : ℕ) → entries_of nodes snap ≡ []
   pub cuts : (snap : ℕ) → cuts_of nodes snap ≡ []
   pub newest : AllChainsBelow 1 nodes

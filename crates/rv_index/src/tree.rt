@@ -2,7 +2,7 @@ ghost use Rattle.std.specs.Prelude.{◌≡◌, ℕ, ◌+◌, ◌-◌, ◌<◌, �
 ghost use Rattle.std.specs.Option.{option_copied};
 ghost use Rattle.rv_reader.specs.Entries.{comes_before, AreLong};
 ghost use Rattle.rv_reader.specs.Leaves.{is_wanted, IsChunk};
-ghost use Rattle.rv_versions.specs.Chains.{versions_to, AllChainsBelow};
+ghost use Rattle.rv_versions.specs.Chains.{value_of, versions_to, AllChainsBelow};
 ghost use Rattle.rv_node.specs.Nodes.{empty_node, AreParts};
 ghost use Rattle.rv_node.specs.Descent.{child_in};
 ghost use Rattle.rv_node.specs.Sound.{Absent};
@@ -69,9 +69,10 @@ impl Tree {
         self.nodes.is_empty()
     }
 
-    /// A node at a snapshot. One that the snapshot does not have is as an empty leaf.
+    /// A node at a snapshot; None exactly where no commit up to the snapshot wrote it, which is as an empty leaf.
     pub fn node(&self, id: u32, snap: u64) -> Option<&Node>
-        ensures { unwrap_or (option_copied result) empty_node ≡ nodes_at self.now snap id }
+        ensures read { option_copied result ≡ value_of self.now id snap }
+        ensures node { unwrap_or (option_copied result) empty_node ≡ nodes_at self.now snap id }
     {
         self.nodes.read(id, snap)
     }

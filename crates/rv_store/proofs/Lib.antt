@@ -4,3 +4,4 @@ pub mod Listing
 pub mod Tabling
 pub mod Turning
 pub mod Standing
+pub mod Placing

@@ -17,12 +17,14 @@ use Rattle.rv_versions.specs.Chains.{AllChainsBelow}
 use Rattle.rv_versions.proofs.Values.{put_each, chains_more}
 use Rattle.rv_records.specs.Pages.{rows_at, rows_of}
 use Rattle.rv_node.specs.Sound.{Absent}
+use Rattle.rv_node.specs.Trees.{Whole, inserted}
+use Rattle.rv_value.specs.declared.record.IndexEntry.{IndexEntry}
 use Rattle.rv_index.specs.Index.{Nodes, tree_of, entries_of, cuts_of, IsNew, IsInserted}
 use Rattle.rv_store.specs.declared.tables.Table.{Table}
 use Rattle.rv_store.specs.declared.indexes.Index.{Index}
 use Rattle.rv_store.specs.Tables.{table_at}
 use Rattle.rv_store.specs.Indexes.{no_index, index_at, AreFew, AreIndexesBelow, AreSameIndexes, IsSameIndex, IsThrough}
-use Rattle.rv_store.specs.Indexing.{tree_through, IsIndexed}
+use Rattle.rv_store.specs.Indexing.{tree_over, tree_through, IsIndexed}
 use Rattle.rv_store.proofs.Indexing.{is_others, all_sorted, sorted_middle}
 use Rattle.rv_store.proofs.Changing.{absent_all, has_key, keys_all, all_keys, key_of_row, same_index_trans}
 
@@ -153,3 +155,11 @@ page_apart page k n i r d h l e ascend =
     let all : page n ≡ take i (page n) ++ r ∷ drop (i + 1) (page n) = taken_apart (page n) i ∙ ap (λ ys. take i (page n) ++ ys) rest in
     let joined = append_assoc (rows_of page n) (take i (page n)) (r ∷ drop (i + 1) (page n)) in
     subst Ascend (ap (λ ys. rows_of page n ++ ys) all ∙ sym joined) (ascend_pages page k n h ascend)
+
+-- The entries of more rows are put into the tree of those of the rows before them.
+pub tree_over_more : (columns : List ℕ) (rows more : List Record) (tree : Whole IndexEntry) → tree_over columns (rows ++ more) tree ≡ tree_over columns more (tree_over columns rows tree)
+tree_over_more columns [] more tree = refl
+tree_over_more columns (r ∷ rows) more tree = tree_over_more columns rows more (inserted comes_before (entry_of columns r) tree)
+
+pub rows_more : (page : ℕ → List Record) (n : ℕ) → rows_of page (n + 1) ≡ rows_of page n ++ page n
+rows_more page n = let e : n + 1 ≡ suc n = omega arith in ap (rows_of page) e

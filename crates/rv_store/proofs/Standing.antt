@@ -19,17 +19,17 @@ use Rattle.rv_records.specs.Pages.{IsBelow, IsSame, rows_at, pages_at}
 use Rattle.rv_records.proofs.Keeping.{below_more, same_above, value_of_above}
 use Rattle.rv_node.specs.Nodes.{Parts, empty_node}
 use Rattle.rv_node.specs.Trees.{entries_all, cuts_all}
-use Rattle.rv_index.specs.Index.{Nodes, nodes_at, whole_at, entries_of, IsIndexTree}
+use Rattle.rv_index.specs.Index.{Nodes, empty_tree, nodes_at, whole_at, tree_of, entries_of, IsIndexTree}
 use Rattle.rv_index.proofs.Facts.{few_cuts}
 use Rattle.rv_estimate.specs.Estimates.{estimate}
 use Rattle.rv_store.specs.declared.tables.Table.{Table}
 use Rattle.rv_store.specs.declared.indexes.Index.{Index}
 use Rattle.rv_store.specs.Tables.{no_table, table_at, rows_in, pages_in, AreOpen, AreSameBelow, CanPut}
-use Rattle.rv_store.specs.Indexes.{index_at, IsOpen, IsNewIndex, AreSameIndexes}
-use Rattle.rv_store.specs.Indexing.{IsIndexed}
+use Rattle.rv_store.specs.Indexes.{index_at, tree_in, IsOpen, IsNewIndex, AreSameIndexes}
+use Rattle.rv_store.specs.Indexing.{tree_over, tree_through, IsIndexed}
 use Rattle.rv_store.specs.Whole.{AreThrough, AreBack}
 use Rattle.rv_store.specs.Places.{Turns, AreSameFrom, AreIndexesFrom}
-use Rattle.rv_store.specs.Paged.{Kept, IsKept, IsIndexOf, shown_of}
+use Rattle.rv_store.specs.Paged.{Kept, IsKept, IsIndexOf, AreTreesThrough, shown_of}
 use Rattle.rv_store.proofs.Changing.{applied_ascends}
 
 -- Trees of the same nodes.
@@ -307,6 +307,13 @@ committed_is k changes tables indexes turns kept same same_indexes through = rec
   pages = λ table h. through.changed.pages table (k.newest + 1) (omega arith) ∙ ap (pages_after table changes) (pages_next k table kept);
 }
 
+pub trees_committed : (k : Kept) (changes : List Change) (tables : List Table) (indexes : List Index) (turns : Turns) → IsKept k → AreThrough (k.newest + 1) changes k.tables tables k.indexes indexes → AreTreesThrough changes k (with_lists k (k.newest + 1) tables indexes turns)
+trees_committed k changes tables indexes turns kept through index h =
+    let one = index_at k.indexes index in
+    (through.through index h).tree
+    ∙ ap (λ rows. tree_through one.columns one.table changes rows (tree_of one.tree (k.newest + 1))) (rows_next k one.table kept)
+    ∙ ap (λ (at : ℕ → Parts). tree_through one.columns one.table changes (rows_in k.tables one.table k.newest) (whole_at at)) (nodes_above one.tree k.newest (k.newest + 1) (kept.indexes index h).below (omega arith))
+
 -- A sweep.
 
 pub kept_swept : (k : Kept) (horizon : ℕ) (tables : List Table) (indexes : List Index) (turns : Turns) → IsKept k → k.horizon ≤ horizon → horizon ≤ k.newest → AreSameFrom horizon k.tables tables → AreIndexesFrom horizon k.indexes indexes
@@ -520,3 +527,6 @@ kept_turns k turns kept = record {
 pub err_any : {A E : Type 0} (r : Result A E) (Q : Type 0) → Q → OnErr r Q
 err_any (Ok a) Q q = tt
 err_any (Err e) Q q = q
+
+pub tree_indexed : (k : Kept) (table : ℕ) (columns : List ℕ) (new : Index) → IsNewIndex table columns (rows_in k.tables table k.newest) k.newest new → tree_in (k.indexes ++ new ∷ []) (length k.indexes) k.newest ≡ tree_over columns (rows_in k.tables table k.newest) empty_tree
+tree_indexed k table columns new made = ap (λ (x : Index). tree_of x.tree k.newest) (index_new k.indexes new (length k.indexes) refl) ∙ made.tree

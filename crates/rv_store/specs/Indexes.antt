@@ -7,11 +7,12 @@ use Rattle.rv_rows.specs.declared.changes.Change.{Change}
 use Rattle.rv_rows.specs.Rows.{Ascend}
 use Rattle.rv_rows.specs.Changes.{applied}
 use Rattle.rv_versions.specs.Chains.{AllChainsBelow}
-use Rattle.rv_index.specs.Index.{entries_of, cuts_of, tree_of, IsOlderSame}
+use Rattle.rv_node.specs.Trees.{Whole}
+use Rattle.rv_index.specs.Index.{empty_tree, entries_of, cuts_of, tree_of, IsOlderSame}
 use Rattle.rv_store.specs.declared.tables.Table.{Table}
 use Rattle.rv_store.specs.Tables.{table_at, rows_in}
 use Rattle.rv_store.specs.declared.indexes.Index.{Index}
-use Rattle.rv_store.specs.Indexing.{entry_at, row_with, tree_through, IsIndexed, IsTreeChanged}
+use Rattle.rv_store.specs.Indexing.{entry_at, row_with, tree_over, tree_through, IsIndexed, IsTreeChanged}
 
 abbrev pub no_index : Index
 no_index = record { table = 0; columns = []; tree = [] }
@@ -21,6 +22,10 @@ index_at indexes index = slice_index_or indexes index no_index
 
 abbrev pub entries_in : List Index → ℕ → ℕ → List IndexEntry
 entries_in indexes index snap = entries_of (index_at indexes index).tree snap
+
+-- the tree of an index at a snapshot
+abbrev pub tree_in : List Index → ℕ → ℕ → Whole IndexEntry
+tree_in indexes index snap = tree_of (index_at indexes index).tree snap
 
 abbrev pub cuts_in : List Index → ℕ → ℕ → List IndexEntry
 cuts_in indexes index snap = cuts_of (index_at indexes index).tree snap
@@ -67,10 +72,11 @@ AreIndexesBelow commit indexes = (index : ℕ) → AllChainsBelow commit (index_
 abbrev pub AreFew : List Index → Type 0
 AreFew indexes = (index : ℕ) → length (index_at indexes index).tree ≤ 4294967296
 
--- a new index of the rows of a table at a snapshot
+-- a new index of the rows of a table at a snapshot: its tree is that of their entries put in one after another
 pub record IsNewIndex (table : ℕ) (columns : List ℕ) (rows : List Record) (snap : ℕ) (index : Index) : Type 0 where
   pub table_is : index.table ≡ table
   pub columns_are : index.columns ≡ columns
   pub indexed : IsIndexed columns rows snap index.tree
+  pub tree : tree_of index.tree snap ≡ tree_over columns rows empty_tree
   pub newest : AllChainsBelow (snap + 1) index.tree
   pub few : length index.tree ≤ 4294967296

@@ -1,5 +1,6 @@
 -- A store of record pages and index trees as contracts see it, and what it shows.
-use Rattle.std.specs.Prelude.{ℕ, ◌+◌, ◌<◌, ◌≤◌, List, length}
+use Rattle.std.specs.Prelude.{◌≡◌, ℕ, ◌+◌, ◌<◌, ◌≤◌, List, length}
+use Rattle.rv_rows.specs.declared.changes.Change.{Change}
 use Rattle.rv_reader.specs.Shown.{Shown}
 use Rattle.rv_reader.specs.Storing.{AreColumns}
 use Rattle.rv_versions.specs.Chains.{AllChainsBelow}
@@ -8,8 +9,8 @@ use Rattle.rv_estimate.specs.Estimates.{estimate}
 use Rattle.rv_store.specs.declared.tables.Table.{Table}
 use Rattle.rv_store.specs.declared.indexes.Index.{Index}
 use Rattle.rv_store.specs.Tables.{table_at, rows_in, pages_in, AreTables}
-use Rattle.rv_store.specs.Indexes.{index_at, entries_in, cuts_in}
-use Rattle.rv_store.specs.Indexing.{IsIndexed}
+use Rattle.rv_store.specs.Indexes.{index_at, entries_in, cuts_in, tree_in}
+use Rattle.rv_store.specs.Indexing.{tree_through, IsIndexed}
 use Rattle.rv_store.specs.Places.{Turns}
 
 -- the horizon and the newest commit, the tables, the indexes, and the pages and nodes that are swept in turn
@@ -52,3 +53,10 @@ pub record IsKept (kept : Kept) : Type 0 where
   pub few_indexes : length kept.indexes ≤ 4294967296
   pub tables : AreTables kept.horizon kept.newest kept.tables
   pub indexes : (index : ℕ) → index < length kept.indexes → IsIndexOf kept.horizon kept.newest kept.tables (index_at kept.indexes index)
+
+-- the tree of each index at a new commit is what the changes, made one after another, make of its tree before them
+abbrev pub AreTreesThrough : List Change → Kept → Kept → Type 0
+AreTreesThrough changes old new =
+    (index : ℕ) → index < length old.indexes →
+    let one = index_at old.indexes index in
+    tree_in new.indexes index new.newest ≡ tree_through one.columns one.table changes (rows_in old.tables one.table old.newest) (tree_in old.indexes index old.newest)

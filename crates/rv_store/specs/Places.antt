@@ -1,6 +1,6 @@
 -- The list of record pages and nodes that are purged in turn.
-use Rattle.std.specs.Prelude.{◌≡◌, ℕ, ◌+◌, ◌≤◌, List, [], ◌++◌, length, nat_lt, max, if◌then◌else◌}
-use Rattle.std.specs.List.{slice_index_or}
+use Rattle.std.specs.Prelude.{◌≡◌, ℕ, ◌+◌, ◌<◌, ◌≤◌, List, [], ◌++◌, length, nat_lt, max, if◌then◌else◌}
+use Rattle.std.specs.List.{slice_index_or, Contains}
 use Rattle.rv_versions.specs.Chains.{versions_to, AllChainsBelow}
 use Rattle.rv_records.specs.Pages.{IsBelow, IsSame}
 use Rattle.rv_index.specs.Index.{nodes_at}
@@ -20,6 +20,34 @@ pub record Turns : Type 0 where
 pub record IsLonger (old new : List Place) : Type 0 where
   pub more : List Place
   pub is : new ≡ old ++ more
+
+-- those of a row of places from one number on and below another one stand in the list
+abbrev pub HasRange : (ℕ → Place) → List Place → ℕ → ℕ → Type 0
+HasRange place places from to = (n : ℕ) → from ≤ n → n < to → Contains places (place n)
+
+abbrev pub page_places : ℕ → ℕ → Place
+page_places table n = Page table n
+
+abbrev pub node_places : ℕ → ℕ → Place
+node_places index id = Node index id
+
+-- so many pages of each table, and so many nodes of each index, stand in the list
+abbrev pub HasPages : List Place → (ℕ → ℕ) → Type 0
+HasPages places count = (table : ℕ) → HasRange (page_places table) places 0 (count table)
+
+abbrev pub HasNodes : List Place → (ℕ → ℕ) → Type 0
+HasNodes places count = (index : ℕ) → HasRange (node_places index) places 0 (count index)
+
+-- every page and every node stands in the list
+pub record HasAll (places : List Place) (tables : List Table) (indexes : List Index) : Type 0 where
+  pub pages : HasPages places (λ table. length (table_at tables table).records.pages)
+  pub nodes : HasNodes places (λ index. length (index_at indexes index).tree)
+
+-- what always holds of the list: the turn is at a place of it, and it has as many pages and nodes as were counted
+pub record AreInTurn (places : List Place) (next : ℕ) (pages nodes : List ℕ) : Type 0 where
+  pub turn : next ≤ length places
+  pub has_pages : HasPages places (λ table. slice_index_or pages table 0)
+  pub has_nodes : HasNodes places (λ index. slice_index_or nodes index 0)
 
 -- the place moves on by one, from the last to the first
 abbrev pub next_place : ℕ → ℕ → ℕ

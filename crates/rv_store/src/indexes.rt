@@ -7,7 +7,7 @@ ghost use Rattle.rv_versions.specs.Chains.{AllChainsBelow};
 ghost use Rattle.rv_records.specs.Pages.{page_at, rows_at, rows_of};
 ghost use Rattle.rv_index.specs.Index.{entries_of, tree_of, IsOlderSame, IsSound};
 ghost use Rattle.rv_store.specs.Indexes.{index_at, AreFew, AreIndexesBelow, AreSameIndexes, IsNewIndex, IsOpen, IsPassed, IsSameIndex, IsThrough};
-ghost use Rattle.rv_store.specs.Indexing.{entry_at, row_with, stays, taken_out, tree_through, IsAbsent, IsIndexed, IsPutIn, IsTakenOut, IsTreeChanged};
+ghost use Rattle.rv_store.specs.Indexing.{entry_at, row_with, stays, taken_out, tree_over, tree_through, IsAbsent, IsIndexed, IsPutIn, IsTakenOut, IsTreeChanged};
 
 use crate::entries::{new_entry, old_entry, row_entry};
 use crate::tables::Table;
@@ -231,6 +231,7 @@ fn index_page(
     requires indexed { IsIndexed columns.now (rows_of (page_at records.now snap) n) snap tree.old }
     requires newest { AllChainsBelow (snap + 1) tree.old }
     ensures ok { OnOk result (IsIndexed columns.now (rows_of (page_at records.now snap) (n + 1)) snap tree.new) }
+    ensures tree { OnOk result (tree_of tree.new snap ≡ tree_over columns.now (page_at records.now snap n) (tree_of tree.old snap)) }
     ensures newest { AllChainsBelow (snap + 1) tree.new }
 {
     'rows: for row in records.rows(n, snap) {

@@ -1,7 +1,11 @@
-ghost use Rattle.std.specs.Prelude.{◌≡◌, ◌<◌, ◌≤◌, [], length, slice_get, IfOk, IfSome};
-ghost use Rattle.rv_reader.specs.Storing.{Swept};
-ghost use Rattle.rv_store.specs.Paged.{shown_of};
-ghost use Rattle.rv_store.specs.Places.{next_place, IsPurged};
+ghost use Rattle.std.specs.Prelude.{◌≡◌, ◌-◌, ◌^◌, ◌<◌, ◌≤◌, [], length, slice_get, IfOk, IfSome, OnErr, OnOk};
+ghost use Rattle.rv_index.specs.Index.{empty_tree};
+ghost use Rattle.rv_reader.specs.Storing.{AreColumns, CanCommit, Committed, Indexed, IsSame, Swept};
+ghost use Rattle.rv_store.specs.Indexes.{tree_in};
+ghost use Rattle.rv_store.specs.Indexing.{tree_over};
+ghost use Rattle.rv_store.specs.Paged.{AreTreesThrough, shown_of};
+ghost use Rattle.rv_store.specs.Tables.{rows_in};
+ghost use Rattle.rv_store.specs.Places.{next_place, HasAll, IsPurged};
 
 use crate::indexes::{Index, new_index};
 use crate::places::Places;
@@ -119,7 +123,16 @@ impl Store for Paged {
         Ok(())
     }
 
-    fn create_index(&mut self, _index: u32, table: u32, columns: &[u32]) -> Result<(), NoMemory> {
+    fn create_index(&mut self, index: u32, table: u32, columns: &[u32]) -> Result<(), NoMemory>
+        requires next { index ≡ (shown_of self.old).indexes }
+        requires there { table < (shown_of self.old).tables }
+        requires columns { AreColumns ((shown_of self.old).columns table) columns.now }
+        requires alone { (shown_of self.old).horizon ≡ (shown_of self.old).newest }
+        ensures ok { OnOk result (Indexed (shown_of self.old) (shown_of self.new) table columns.now) }
+        ensures err { OnErr result (IsSame (shown_of self.old) (shown_of self.new)) }
+        ensures tree { OnOk result (tree_in self.new.indexes index self.old.newest ≡ tree_over columns.now (rows_in self.old.tables table self.old.newest) empty_tree) }
+        ensures listed { OnOk result (HasAll self.new.turns.places self.new.tables self.new.indexes) }
+    {
         let records = &self.tables[table as usize].records;
         let index = new_index(self.alloc, table, records, columns, self.newest)?;
         add_index(
@@ -130,7 +143,15 @@ impl Store for Paged {
         )
     }
 
-    fn commit(&mut self, changes: &[Change]) -> Result<u64, NoMemory> {
+    fn commit(&mut self, changes: &[Change]) -> Result<u64, NoMemory>
+        requires changes { CanCommit (shown_of self.old) changes.now }
+        requires room { (shown_of self.old).newest < 2 ^ 64 - 1 }
+        ensures number { IfOk result (λ commit. commit ≡ (shown_of self.new).newest) }
+        ensures ok { OnOk result (Committed (shown_of self.old) (shown_of self.new) changes.now) }
+        ensures err { OnErr result (IsSame (shown_of self.old) (shown_of self.new)) }
+        ensures trees { OnOk result (AreTreesThrough changes.now self.old self.new) }
+        ensures listed { OnOk result (HasAll self.new.turns.places self.new.tables self.new.indexes) }
+    {
         let commit = self.newest + 1;
         commit_changes(
             self.alloc,

@@ -1,8 +1,10 @@
-ghost use Rattle.std.specs.Prelude.{◌≡◌, ◌<◌, ◌≤◌, [], length, map, slice_get, IfOk, OnErr};
+ghost use Rattle.std.specs.Prelude.{◌≡◌, ◌<◌, ◌≤◌, ℕ, [], length, map, slice_get, IfOk, OnErr, OnOk};
 ghost use Rattle.std.specs.List.{slice_index_or};
 ghost use Rattle.rv_store.specs.declared.tables.Table.{Table as OneTable};
 ghost use Rattle.rv_store.specs.declared.indexes.Index.{Index as OneIndex};
-ghost use Rattle.rv_store.specs.Places.{next_place, AreIndexesFrom, AreSameFrom, IsLonger, IsNodePurged, IsPagePurged};
+ghost use Rattle.rv_store.specs.Places.{next_place, node_places, page_places, AreIndexesFrom, AreSameFrom, HasAll, HasRange, IsLonger, IsNodePurged, IsPagePurged};
+ghost use Rattle.rv_store.specs.Indexes.{index_at};
+ghost use Rattle.rv_store.specs.Tables.{table_at};
 
 use crate::indexes::Index;
 use crate::tables::Table;
@@ -29,14 +31,13 @@ pub struct Places {
 }
 
 impl Model for Places {
-    ghost use Rattle.std.specs.Prelude.{◌≤◌, length};
-    ghost use Rattle.rv_store.specs.Places.{Turns};
+    ghost use Rattle.rv_store.specs.Places.{AreInTurn, Turns};
 
     ghost Value = { Turns };
 
     ghost view = { λ p. record { places = p.places.items; next = p.next } };
 
-    ghost invariant = { λ p. p.next ≤ length p.places.items };
+    ghost invariant = { λ p. AreInTurn p.places.items p.next p.pages.items p.nodes.items };
 }
 
 fn place_at(places: &[Place], at: usize) -> Option<Place>
@@ -77,12 +78,13 @@ impl Places {
         place
     }
 
-    /// Adds the pages and nodes that have come at the end.
+    /// Adds the pages and nodes that have come at the end, so that the list has all.
     pub fn list(&mut self, tables: &[Table], indexes: &[Index]) -> Result<(), NoMemory>
         requires tables { length tables.now ≤ 4294967296 }
         requires indexes { length indexes.now ≤ 4294967296 }
         ensures longer { IsLonger self.old.places self.new.places }
         ensures next { self.new.next ≡ self.old.next }
+        ensures ok { OnOk result (HasAll self.new.places tables.now indexes.now) }
         ensures err { OnErr result (self.new ≡ self.old) }
     {
         let pages = count_pages(self.alloc, tables)?;
@@ -129,6 +131,8 @@ fn count_at(counts: &[usize], at: usize) -> usize
 
 fn list_pages(more: &mut Vec<Place>, listed: &[usize], tables: &[Table]) -> Result<(), NoMemory>
     requires { length tables.now ≤ 4294967296 }
+    ensures longer { IsLonger more.old.items more.new.items }
+    ensures ok { OnOk result ((table : ℕ) → HasRange (page_places table) more.new.items (slice_index_or listed.now table 0) (length (table_at tables.now table).records.pages)) }
 {
     'tables: for at in 0..tables.len() {
         let count = tables[at].records.len();
@@ -139,6 +143,8 @@ fn list_pages(more: &mut Vec<Place>, listed: &[usize], tables: &[Table]) -> Resu
 
 fn add_pages(more: &mut Vec<Place>, table: u32, from: usize, to: usize) -> Result<(), NoMemory>
     requires { to ≤ 4294967296 }
+    ensures longer { IsLonger more.old.items more.new.items }
+    ensures ok { OnOk result (HasRange (page_places table) more.new.items from to) }
 {
     'pages: for n in from..to {
         more.push(Place::Page { table, n: n as u32 })?;
@@ -148,6 +154,8 @@ fn add_pages(more: &mut Vec<Place>, table: u32, from: usize, to: usize) -> Resul
 
 fn list_nodes(more: &mut Vec<Place>, listed: &[usize], indexes: &[Index]) -> Result<(), NoMemory>
     requires { length indexes.now ≤ 4294967296 }
+    ensures longer { IsLonger more.old.items more.new.items }
+    ensures ok { OnOk result ((index : ℕ) → HasRange (node_places index) more.new.items (slice_index_or listed.now index 0) (length (index_at indexes.now index).tree)) }
 {
     'indexes: for at in 0..indexes.len() {
         let count = indexes[at].tree.len();
@@ -158,6 +166,8 @@ fn list_nodes(more: &mut Vec<Place>, listed: &[usize], indexes: &[Index]) -> Res
 
 fn add_nodes(more: &mut Vec<Place>, index: u32, from: usize, to: usize) -> Result<(), NoMemory>
     requires { to ≤ 4294967296 }
+    ensures longer { IsLonger more.old.items more.new.items }
+    ensures ok { OnOk result (HasRange (node_places index) more.new.items from to) }
 {
     'nodes: for id in from..to {
         more.push(Place::Node {

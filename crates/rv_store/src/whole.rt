@@ -3,7 +3,7 @@ ghost use Rattle.std.specs.List.{AllByRecursion};
 ghost use Rattle.rv_rows.specs.Changes.{Rise};
 ghost use Rattle.rv_store.specs.Tables.{AreOpen, AreSameBelow, CanPut};
 ghost use Rattle.rv_store.specs.Indexes.{index_at, AreIndexesBelow, AreSameIndexes, IsOpen};
-ghost use Rattle.rv_store.specs.Places.{AreIndexesFrom, AreSameFrom, IsPurged};
+ghost use Rattle.rv_store.specs.Places.{AreIndexesFrom, AreSameFrom, HasAll, IsPurged};
 ghost use Rattle.rv_store.specs.Whole.{AreBack, AreThrough};
 
 use crate::indexes::{Index, abandon_indexes, change_indexes};
@@ -53,6 +53,7 @@ pub fn commit_changes(
     requires few_indexes { length indexes.old.items ≤ 4294967296 }
     ensures ok { OnOk result (AreThrough commit changes.now tables.old.items tables.new.items indexes.old.items indexes.new.items) }
     ensures err { OnErr result (AreBack commit tables.new.items indexes.new.items) }
+    ensures listed { OnOk result (HasAll places.new.places tables.new.items indexes.new.items) }
     ensures tables { AreSameBelow commit tables.old.items tables.new.items }
     ensures indexes { AreSameIndexes commit indexes.old.items indexes.new.items }
 {
@@ -89,6 +90,7 @@ pub fn add_index(
     requires few { length tables.now ≤ 4294967296 }
     requires few_indexes { length indexes.old.items < 4294967296 }
     ensures ok { OnOk result (indexes.new.items ≡ indexes.old.items ++ index ∷ []) }
+    ensures listed { OnOk result (HasAll places.new.places tables.now indexes.new.items) }
     ensures err { OnErr result (indexes.new.items ≡ indexes.old.items) }
 {
     let count = indexes.len();

@@ -14,7 +14,7 @@ pub returns-then-first-last : goal.returns-then-first-last
 returns-then-first-last c =
     let at = nodes_at c.args.tree.now c.args.snap in
     let range = c.args.range.now in
-    let node_is = sym (ap (λ v. unwrap_or (option_copied v) empty_node) c.in-Some.is) ∙ c.node.ensures in
+    let node_is = sym (ap (λ v. unwrap_or (option_copied v) empty_node) c.in-Some.is) ∙ c.node.ensures.node in
     let first_is = c.children_for-first.ensures.first ∙ ap (λ x. first_child range x.entries) node_is in
     let last_is = c.children_for-first.ensures.last ∙ ap (λ x. last_child range x.entries) node_is in
     c.spread.ensures ∙ (λ i. guess c.down.level (first_is i) (last_is i))
@@ -24,7 +24,7 @@ pub down-preserved : goal.down-preserved
 down-preserved c =
     let at = nodes_at c.args.tree.now c.args.snap in
     let range = c.args.range.now in
-    let node_is = sym (ap (λ v. unwrap_or (option_copied v) empty_node) c.in-Some.is) ∙ c.node.ensures in
+    let node_is = sym (ap (λ v. unwrap_or (option_copied v) empty_node) c.in-Some.is) ∙ c.node.ensures.node in
     let kids_is = c.children.ensures.same ∙ ap (λ x. x.children) node_is in
     let first = c.children_for-first.result.0 in
     let first_is = c.children_for-first.ensures.first ∙ ap (λ x. first_child range x.entries) node_is in
@@ -39,7 +39,7 @@ pub returns-in-Some-node : goal.returns-in-Some-node
 returns-in-Some-node c =
     let at = nodes_at c.args.tree.now c.args.snap in
     let range = c.args.range.now in
-    let node_is = sym (ap (λ v. unwrap_or (option_copied v) empty_node) c.in-Some-node.is) ∙ c.node-2.ensures in
+    let node_is = sym (ap (λ v. unwrap_or (option_copied v) empty_node) c.in-Some-node.is) ∙ c.node-2.ensures.node in
     let leaf_is = c.entries.ensures.same ∙ ap (λ x. x.entries) node_is in
     c.counted.ensures ∙ ap (λ es. exactly (length (run es range))) leaf_is
     ∙ sym (estimate_leaf at range c.down.level c.down.id (omega arith)) ∙ c.down.invariant.same
@@ -48,6 +48,6 @@ pub returns-in-None : goal.returns-in-None
 returns-in-None c =
     let at = nodes_at c.args.tree.now c.args.snap in
     let range = c.args.range.now in
-    let node_is = sym (ap (λ v. unwrap_or (option_copied v) empty_node) c.in-None.is) ∙ c.node-2.ensures in
+    let node_is = sym (ap (λ v. unwrap_or (option_copied v) empty_node) c.in-None.is) ∙ c.node-2.ensures.node in
     c.counted-in-None.ensures ∙ ap (λ x. exactly (length (run x.entries range))) node_is
     ∙ sym (estimate_leaf at range c.down.level c.down.id (omega arith)) ∙ c.down.invariant.same

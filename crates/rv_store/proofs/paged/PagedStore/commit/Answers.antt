@@ -1,4 +1,4 @@
-use Rattle.rv_store.proofs.Standing.{can_put, committed_is, err_any, failed_same, index_open, kept_committed, kept_failed, open_is}
+use Rattle.rv_store.proofs.Standing.{can_put, committed_is, err_any, failed_same, index_open, kept_committed, kept_failed, open_is, trees_committed}
 use Rattle.rv_store.proofs.paged.PagedStore.commit.Goals as goal
 
 pub commit_changes-requires-clause-open : goal.commit_changes-requires-clause-open
@@ -32,3 +32,8 @@ pub returns-clause-ok : goal.returns-clause-ok
 returns-clause-ok c =
     rw (← c.self.view_is) (committed_is (record { horizon = c.self.inside.horizon; newest = c.self.inside.newest; tables = c.self.inside.tables.items; indexes = c.self.inside.indexes.items; turns = c.self.inside.places }) c.args.changes.now c.commit_changes.new.tables.items c.commit_changes.new.indexes.items c.commit_changes.new.places c.self.invariant
     c.commit_changes.ensures.tables c.commit_changes.ensures.indexes c.in_ok-commit_changes.ensures.ok)
+
+pub returns-clause-trees : goal.returns-clause-trees
+returns-clause-trees c =
+    rw (← c.self.view_is) (trees_committed (record { horizon = c.self.inside.horizon; newest = c.self.inside.newest; tables = c.self.inside.tables.items; indexes = c.self.inside.indexes.items; turns = c.self.inside.places }) c.args.changes.now c.commit_changes.new.tables.items c.commit_changes.new.indexes.items c.commit_changes.new.places c.self.invariant
+    c.in_ok-commit_changes.ensures.ok)
