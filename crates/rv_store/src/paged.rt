@@ -5,7 +5,7 @@ ghost use Rattle.rv_store.specs.Indexes.{tree_in};
 ghost use Rattle.rv_store.specs.Indexing.{tree_over};
 ghost use Rattle.rv_store.specs.Paged.{AreTreesThrough, shown_of};
 ghost use Rattle.rv_store.specs.Tables.{rows_in};
-ghost use Rattle.rv_store.specs.Places.{next_place, HasAll, IsPurged};
+ghost use Rattle.rv_store.specs.Places.{next_place, HasAll, IsLonger, IsPurged};
 
 use crate::indexes::{Index, new_index};
 use crate::places::Places;
@@ -123,6 +123,7 @@ impl Store for Paged {
         Ok(())
     }
 
+    #[tactic(auto, using(crate::proofs::Placing::longer_none))]
     fn create_index(&mut self, index: u32, table: u32, columns: &[u32]) -> Result<(), NoMemory>
         requires next { index ≡ (shown_of self.old).indexes }
         requires there { table < (shown_of self.old).tables }
@@ -132,6 +133,8 @@ impl Store for Paged {
         ensures err { OnErr result (IsSame (shown_of self.old) (shown_of self.new)) }
         ensures tree { OnOk result (tree_in self.new.indexes index self.old.newest ≡ tree_over columns.now (rows_in self.old.tables table self.old.newest) empty_tree) }
         ensures listed { OnOk result (HasAll self.new.turns.places self.new.tables self.new.indexes) }
+        ensures longer { IsLonger self.old.turns.places self.new.turns.places }
+        ensures next { self.new.turns.next ≡ self.old.turns.next }
     {
         let records = &self.tables[table as usize].records;
         let index = new_index(self.alloc, table, records, columns, self.newest)?;
@@ -151,6 +154,8 @@ impl Store for Paged {
         ensures err { OnErr result (IsSame (shown_of self.old) (shown_of self.new)) }
         ensures trees { OnOk result (AreTreesThrough changes.now self.old self.new) }
         ensures listed { OnOk result (HasAll self.new.turns.places self.new.tables self.new.indexes) }
+        ensures longer { IsLonger self.old.turns.places self.new.turns.places }
+        ensures next { self.new.turns.next ≡ self.old.turns.next }
     {
         let commit = self.newest + 1;
         commit_changes(

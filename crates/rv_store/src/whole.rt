@@ -3,7 +3,7 @@ ghost use Rattle.std.specs.List.{AllByRecursion};
 ghost use Rattle.rv_rows.specs.Changes.{Rise};
 ghost use Rattle.rv_store.specs.Tables.{AreOpen, AreSameBelow, CanPut};
 ghost use Rattle.rv_store.specs.Indexes.{index_at, AreIndexesBelow, AreSameIndexes, IsOpen};
-ghost use Rattle.rv_store.specs.Places.{AreIndexesFrom, AreSameFrom, HasAll, IsPurged};
+ghost use Rattle.rv_store.specs.Places.{AreIndexesFrom, AreSameFrom, HasAll, IsLonger, IsPurged};
 ghost use Rattle.rv_store.specs.Whole.{AreBack, AreThrough};
 
 use crate::indexes::{Index, abandon_indexes, change_indexes};
@@ -36,7 +36,7 @@ fn write_changes(
 }
 
 /// Makes the changes of a commit in all tables and indexes, or in none, and lists the pages and nodes that came.
-#[tactic(auto, using(crate::proofs::Tabling::same_below_trans, crate::proofs::Listing::same_indexes_trans))]
+#[tactic(auto, using(crate::proofs::Tabling::same_below_trans, crate::proofs::Listing::same_indexes_trans, crate::proofs::Placing::longer_none))]
 pub fn commit_changes(
     alloc: Global,
     tables: &mut Vec<Table>,
@@ -54,6 +54,8 @@ pub fn commit_changes(
     ensures ok { OnOk result (AreThrough commit changes.now tables.old.items tables.new.items indexes.old.items indexes.new.items) }
     ensures err { OnErr result (AreBack commit tables.new.items indexes.new.items) }
     ensures listed { OnOk result (HasAll places.new.places tables.new.items indexes.new.items) }
+    ensures longer { IsLonger places.old.places places.new.places }
+    ensures next { places.new.next ≡ places.old.next }
     ensures tables { AreSameBelow commit tables.old.items tables.new.items }
     ensures indexes { AreSameIndexes commit indexes.old.items indexes.new.items }
 {
@@ -91,6 +93,8 @@ pub fn add_index(
     requires few_indexes { length indexes.old.items < 4294967296 }
     ensures ok { OnOk result (indexes.new.items ≡ indexes.old.items ++ index ∷ []) }
     ensures listed { OnOk result (HasAll places.new.places tables.now indexes.new.items) }
+    ensures longer { IsLonger places.old.places places.new.places }
+    ensures next { places.new.next ≡ places.old.next }
     ensures err { OnErr result (indexes.new.items ≡ indexes.old.items) }
 {
     let count = indexes.len();
