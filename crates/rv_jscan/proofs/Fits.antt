@@ -64,7 +64,7 @@ abandoned_fits j shown way f = record {
 }
 
 -- a row that is in each completed scan may be in the last list
-covered_may : (j : Joint) (shown : Shown) (n : ℕ) → IfSome j.list (Covers j shown) → InCompleted j shown n → may j.list n ≡ true
+pub covered_may : (j : Joint) (shown : Shown) (n : ℕ) → IfSome j.list (Covers j shown) → InCompleted j shown n → may j.list n ≡ true
 covered_may j shown n c inc = by_list j.list c
   where
     by_list : (l : Option (List ℕ)) → IfSome l (Covers j shown) → may l n ≡ true

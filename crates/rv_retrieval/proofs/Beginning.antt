@@ -1,0 +1,127 @@
+-- A retrieval before its first step.
+use Rattle.std.proofs.Common.{◌≡◌, ℕ, ◌<◌, List, [], ◌∷◌, length, filter, Bool, true, false, not, cond, ◌&&◌, ◌||◌, refl, ap, sym, ◌∙◌, arith, subst, None, inl}
+use Rattle.rv_value.specs.declared.record.Record.{Record}
+use Rattle.rv_restrict.specs.declared.atom.Atom.{Atom}
+use Rattle.rv_restrict.specs.Truth.{qualifies}
+use Rattle.rv_keys.specs.Keys.{has_key}
+use Rattle.rv_judge.specs.declared.events.Strategy.{Strategy}
+use Rattle.rv_judge.specs.declared.events.Strategy.TheVariants.{Table, BackgroundOnly, FastFirst, Sorted, IndexOnly}
+use Rattle.rv_judge.specs.declared.events.Control.{Control}
+use Rattle.rv_reader.specs.Shown.{Shown}
+use Rattle.rv_scan.specs.Due.{Skipped, due}
+use Rattle.rv_scan.specs.Places.{Place, unseen, Fits as PlaceFits, rest as pages_rest}
+use Rattle.rv_jscan.specs.declared.jscan.ScanPlan.{ScanPlan}
+use Rattle.rv_jscan.specs.Joint.{CanTake, Joint, JointFits, meets, plan_at}
+use Rattle.rv_jscan.specs.Steps.{begun}
+use Rattle.rv_retrieval.specs.Rest.{qualifies_at, qualifying, rest_by, has_row}
+use Rattle.rv_retrieval.specs.Opens.{Opens, first_of}
+use Rattle.rv_retrieval.specs.Shape.{Shape, RetrievalFits, Source, Undelivered, Ahead, Keys, Pages, rest, source, source_of, left_at, rows_of, is_building, is_index_only, is_sorted, is_led}
+use Rattle.rv_retrieval.proofs.Rests.{same_rest}
+use Rattle.rv_retrieval.proofs.Switching.{row_there}
+
+filter_all : (rows : List Record) → filter (λ (r : Record). true) rows ≡ rows
+filter_all [] = refl
+filter_all (r ∷ rows) = ap (λ (rs : List Record). r ∷ rs) (filter_all rows)
+
+pub no_skip : Skipped
+no_skip = record { delivered = None; list = None }
+
+-- a scan of the table that gives all rows has looked at none
+pub unseen_all : (place : Place) (rows : List Record) → pages_rest place rows [] no_skip ≡ due [] no_skip rows → unseen place rows ≡ rows
+unfolding no_skip
+unseen_all place rows e = sym (filter_all (unseen place rows)) ∙ e ∙ filter_all rows
+
+pub all_qualifying : (only : List (List Atom)) (rows : List Record) → rest_by (λ n. true) only rows ≡ qualifying only rows
+all_qualifying only [] = refl
+all_qualifying only (r ∷ rows) = elim (qualifies only r.values) as (λ b. cond (b && true) (r ∷ rest_by (λ n. true) only rows) (rest_by (λ n. true) only rows) ≡ cond b (r ∷ qualifying only rows) (qualifying only rows)) [
+  | true ↦ ap (λ (rs : List Record). r ∷ rs) (all_qualifying only rows)
+  | false ↦ all_qualifying only rows
+]
+
+first_led : (s : Strategy) (b : Bool) → source_of (first_of s b) s ≡ Ahead → is_led s ≡ true
+first_led Table b h = absurd (let bad : Pages ≡ Ahead = h in cc)
+first_led BackgroundOnly b h = absurd (let bad : Undelivered ≡ Ahead = h in cc)
+first_led FastFirst b h = absurd (let bad : Undelivered ≡ Ahead = h in cc)
+first_led Sorted b h = refl
+first_led IndexOnly b h = refl
+
+first_no_keys : (s : Strategy) (b : Bool) → source_of (first_of s b) s ≡ Keys → true ≡ false
+first_no_keys Table b h = absurd (let bad : Pages ≡ Keys = h in cc)
+first_no_keys BackgroundOnly b h = absurd (let bad : Undelivered ≡ Keys = h in cc)
+first_no_keys FastFirst b h = absurd (let bad : Undelivered ≡ Keys = h in cc)
+first_no_keys Sorted true h = absurd (let bad : Ahead ≡ Keys = h in cc)
+first_no_keys Sorted false h = absurd (let bad : Ahead ≡ Keys = h in cc)
+first_no_keys IndexOnly true h = absurd (let bad : Ahead ≡ Keys = h in cc)
+first_no_keys IndexOnly false h = absurd (let bad : Ahead ≡ Keys = h in cc)
+
+first_sorted : (s : Strategy) (b : Bool) → is_sorted s ≡ true → source_of (first_of s b) s ≡ Ahead
+first_sorted Table b h = absurd (cc)
+first_sorted BackgroundOnly b h = absurd (cc)
+first_sorted FastFirst b h = absurd (cc)
+first_sorted Sorted true h = refl
+first_sorted Sorted false h = refl
+first_sorted IndexOnly b h = absurd (cc)
+
+index_only_led : (s : Strategy) → is_index_only s ≡ true → is_led s ≡ true
+index_only_led s h = out (is_sorted s) (is_index_only s) h
+  where
+    out : (a b : Bool) → b ≡ true → (a || b) ≡ true
+    out a b h = grind arith
+
+-- what is known of a retrieval that was made of its parts
+pub record Fresh (v : Shape) (scans : List ScanPlan) (cursor opening : ℕ) (some : Bool) : Type 0 where
+  pub joint : v.joint ≡ begun v.query.table v.query.snap scans cursor opening
+  pub control : v.control ≡ first_of v.strategy some
+  pub delivered : v.delivered ≡ []
+  pub at : v.at ≡ 0
+  pub of_table : v.last.table ≡ v.query.table
+  pub at_snap : v.last.snap ≡ v.query.snap
+  pub drawn : (rows : List Record) → PlaceFits v.last rows
+  pub pages : (rows : List Record) → unseen v.last rows ≡ rows
+
+source_first : (v : Shape) (scans : List ScanPlan) (cursor opening : ℕ) (some : Bool) → Fresh v scans cursor opening some → source v ≡ source_of (first_of v.strategy some) v.strategy
+source_first v scans cursor opening some n = ap (λ (c : Control). source_of c v.strategy) n.control
+
+none_delivered : (v : Shape) (scans : List ScanPlan) (cursor opening : ℕ) (some : Bool) (n : ℕ) → Fresh v scans cursor opening some → not (has_key n v.delivered) ≡ true
+none_delivered v scans cursor opening some n f = ap (λ (ks : List ℕ). not (has_key n ks)) f.delivered
+
+pub opened_fits : (v : Shape) (scans : List ScanPlan) (cursor opening : ℕ) (some : Bool) (shown : Shown) → Fresh v scans cursor opening some → JointFits v.joint shown → Opens v.query v.strategy scans v.front shown → RetrievalFits v shown
+opened_fits v scans cursor opening some shown n j o = record {
+  ascend = o.ascend;
+  read = o.read;
+  columns = o.columns;
+  at_snap = ap (λ (x : Joint). x.snap) n.joint;
+  joint = j;
+  scans = subst (λ (x : Joint). CanTake x shown) (sym n.joint) (record { each = o.each });
+  planned = subst (λ (x : Joint). (i : ℕ) → i < length x.plans → (k : ℕ) → qualifies_at v.query.only (rows_of v shown) k ≡ true → meets (plan_at x.plans i) shown x.snap k ≡ true) (sym n.joint) o.planned;
+  front = o.led;
+  led = λ h. first_led v.strategy some (sym (source_first v scans cursor opening some n) ∙ h);
+  last = record { of_table = n.of_table; at_snap = n.at_snap; drawn = n.drawn (rows_of v shown) };
+  unbegun = λ h. record { keys = n.at; pages = n.pages };
+  listed = λ h. absurd (let bad = first_no_keys v.strategy some (sym (source_first v scans cursor opening some n) ∙ h) in cc);
+  room = λ h. let z = ap length n.delivered in omega arith;
+  remembered = λ h k q. o.all (index_only_led v.strategy (right (is_building v.control) (is_index_only v.strategy) h)) k q ∙ sym (none_delivered v scans cursor opening some k n);
+  ordered = o.ordered;
+  sorted = λ h. inl (source_first v scans cursor opening some n ∙ first_sorted v.strategy some h);
+}
+  where
+    right : (a b : Bool) → (a && b) ≡ true → b ≡ true
+    right a b h = grind arith
+
+both_true : (a b : Bool) → a ≡ true → b ≡ true → (a && b) ≡ true
+both_true a b h i = grind arith
+
+pub opened_rest : (v : Shape) (scans : List ScanPlan) (cursor opening : ℕ) (some : Bool) (shown : Shown) → Fresh v scans cursor opening some → Opens v.query v.strategy scans v.front shown → rest v shown ≡ qualifying v.query.only (rows_of v shown)
+opened_rest v scans cursor opening some shown n o = same_rest v.query.only (rows_of v shown) (λ k. true) (left_at (source v) v shown) (λ k q. ap (λ (x : Source). left_at x v shown k) (source_first v scans cursor opening some n) ∙ go v.strategy some refl k q) ∙ all_qualifying v.query.only (rows_of v shown)
+  where
+    undelivered : (k : ℕ) → left_at Undelivered v shown k ≡ true
+    undelivered k = none_delivered v scans cursor opening some k n
+
+    go : (s : Strategy) (b : Bool) → v.strategy ≡ s → (k : ℕ) → qualifies_at v.query.only (rows_of v shown) k ≡ true → left_at (source_of (first_of s b) s) v shown k ≡ true
+    go Table b e k q = both_true (has_row k (unseen v.last (rows_of v shown))) (not (has_key k v.delivered)) (ap (has_row k) (n.pages (rows_of v shown)) ∙ row_there v.query.only (rows_of v shown) k q) (none_delivered v scans cursor opening some k n)
+    go BackgroundOnly b e k q = undelivered k
+    go FastFirst b e k q = undelivered k
+    go Sorted true e k q = o.all (ap is_led e) k q
+    go Sorted false e k q = o.all (ap is_led e) k q
+    go IndexOnly true e k q = o.all (ap is_led e) k q
+    go IndexOnly false e k q = o.all (ap is_led e) k q

@@ -1,0 +1,237 @@
+-- The entries of a table's rows, and what a scan of them looks through.
+use Rattle.std.proofs.Common.{◌≡◌, ℕ, List, [], ◌∷◌, filter, map, drop, Bool, true, false, cond, ◌&&◌, ◌||◌, refl, ap, sym, ◌∙◌, arith, subst, Some, None, Option, nat_eq, zero, suc, inl, inr}
+use Rattle.std.specs.List.{list_any, AllByRecursion, cons_option}
+use Rattle.std.proofs.lemmas.Bool.{cases_Bool}
+use Rattle.std.proofs.lemmas.Bool.Decides.{nat_tests}
+use Rattle.rv_value.specs.declared.record.Record.{Record}
+use Rattle.rv_value.specs.declared.record.IndexEntry.{IndexEntry}
+use Rattle.rv_rows.specs.Rows.{Ascend}
+use Rattle.rv_restrict.specs.declared.atom.Atom.{Atom}
+use Rattle.rv_restrict.specs.Parts.{stands_among}
+use Rattle.rv_restrict.specs.Truth.{qualifies}
+use Rattle.rv_reader.specs.Entries.{comes_before, entries_of, entry_of, is_in, run, sorted, sorted_in}
+use Rattle.rv_reader.specs.Tables.{row_at}
+use Rattle.rv_scan.specs.Alongs.{Along, Follows, fetched, left}
+use Rattle.rv_scan.specs.Told.{NamesThese, told}
+use Rattle.rv_scan.proofs.Telling.{told_reads, told_truth}
+use Rattle.rv_jscan.specs.Entries.{has_entry, Apart}
+use Rattle.rv_jscan.proofs.Parts.{Apart-filter}
+use Rattle.rv_retrieval.specs.Rest.{qualifies_at, has_row}
+use Rattle.rv_retrieval.proofs.Rests.{below_all, found_row, rows_found}
+use Rattle.rv_retrieval.proofs.Dues.{StandsFor, RowsApart, Looks}
+
+-- an entry of a row
+pub record EntryOf (columns : List ℕ) (rows : List Record) (e : IndexEntry) : Type 0 where
+  pub row : Record
+  pub there : row_at rows e.row.0 ≡ Some row
+  pub is : e ≡ entry_of columns row
+
+abbrev pub AreOf : List ℕ → List Record → List IndexEntry → Type 0
+AreOf columns rows entries = AllByRecursion (EntryOf columns rows) entries
+
+all_in : (P : IndexEntry → Type 0) (e : IndexEntry) (xs : List IndexEntry) → P e → AllByRecursion P xs → AllByRecursion P (sorted_in e xs)
+all_in P e [] p a = (p, tt)
+all_in P e (x ∷ xs) p a = elim (comes_before x e) as (λ b. AllByRecursion P (cond b (x ∷ sorted_in e xs) (e ∷ x ∷ xs))) [
+  | true ↦ (a.0, all_in P e xs p a.1)
+  | false ↦ (p, a)
+]
+
+all_sorted : (P : IndexEntry → Type 0) (xs : List IndexEntry) → AllByRecursion P xs → AllByRecursion P (sorted xs)
+all_sorted P [] a = tt
+all_sorted P (x ∷ xs) a = all_in P x (sorted xs) a.0 (all_sorted P xs a.1)
+
+any_in : (p : IndexEntry → Bool) (e : IndexEntry) (xs : List IndexEntry) → list_any p (sorted_in e xs) ≡ (p e || list_any p xs)
+any_in p e [] = refl
+any_in p e (x ∷ xs) = elim (comes_before x e) as (λ b. list_any p (cond b (x ∷ sorted_in e xs) (e ∷ x ∷ xs)) ≡ (p e || list_any p (x ∷ xs))) [
+  | true ↦ ap (λ (b : Bool). p x || b) (any_in p e xs) ∙ swapped (p x) (p e) (list_any p xs)
+  | false ↦ refl
+]
+  where
+    swapped : (a b c : Bool) → (a || (b || c)) ≡ (b || (a || c))
+    swapped a b c = grind arith
+
+any_sorted : (p : IndexEntry → Bool) (xs : List IndexEntry) → list_any p (sorted xs) ≡ list_any p xs
+any_sorted p [] = refl
+any_sorted p (x ∷ xs) = any_in p x (sorted xs) ∙ ap (λ (b : Bool). p x || b) (any_sorted p xs)
+
+apart_in : (e : IndexEntry) (xs : List IndexEntry) → has_entry e.row.0 xs ≡ false → Apart xs → Apart (sorted_in e xs)
+apart_in e [] h a = (refl, tt)
+apart_in e (x ∷ xs) h a =
+    let here : nat_eq e.row.0 x.row.0 ≡ false = left_false _ _ h in
+    let later : has_entry e.row.0 xs ≡ false = right_false _ _ h in
+    elim (comes_before x e) as (λ b. Apart (cond b (x ∷ sorted_in e xs) (e ∷ x ∷ xs))) [
+      | true ↦ (any_in (λ (y : IndexEntry). nat_eq x.row.0 y.row.0) e xs ∙ or_false _ _ (turned e.row.0 x.row.0 here) a.0, apart_in e xs later a.1)
+      | false ↦ (h, a)
+    ]
+  where
+    left_false : (a b : Bool) → (a || b) ≡ false → a ≡ false
+    left_false a b h = grind arith
+
+    right_false : (a b : Bool) → (a || b) ≡ false → b ≡ false
+    right_false a b h = grind arith
+
+    or_false : (a b : Bool) → a ≡ false → b ≡ false → (a || b) ≡ false
+    or_false a b h i = grind arith
+
+    turned : (a b : ℕ) → nat_eq a b ≡ false → nat_eq b a ≡ false
+    turned a b h = grind (arith, nat_tests)
+
+mapped_has : (columns : List ℕ) (n : ℕ) (rows : List Record) → has_entry n (map (entry_of columns) rows) ≡ has_row n rows
+mapped_has columns n [] = refl
+mapped_has columns n (r ∷ rows) = ap (λ (b : Bool). nat_eq n r.row.0 || b) (mapped_has columns n rows)
+
+pub rows_apart : (rows : List Record) → Ascend rows → RowsApart rows
+rows_apart [] a = tt
+rows_apart (r ∷ rows) a = (below_all r rows r.row.0 (omega arith) a.0, rows_apart rows a.1)
+
+apart_mapped : (columns : List ℕ) (rows : List Record) → RowsApart rows → Apart (sorted (map (entry_of columns) rows))
+apart_mapped columns [] a = tt
+apart_mapped columns (r ∷ rows) a = apart_in (entry_of columns r) (sorted (map (entry_of columns) rows)) (any_sorted (λ (y : IndexEntry). nat_eq r.row.0 y.row.0) (map (entry_of columns) rows) ∙ mapped_has columns r.row.0 rows ∙ a.0) (apart_mapped columns rows a.1)
+
+-- no row stands in two entries of a table
+pub entries_apart : (columns : List ℕ) (rows : List Record) → Ascend rows → Apart (entries_of columns rows)
+entries_apart columns rows asc = apart_mapped columns rows (rows_apart rows asc)
+
+stand_mapped : (columns : List ℕ) (rows some : List Record) → AllByRecursion (λ (x : Record). row_at rows x.row.0 ≡ Some x) some → AreOf columns rows (map (entry_of columns) some)
+stand_mapped columns rows [] a = tt
+stand_mapped columns rows (r ∷ some) a = (record { row = r; there = a.0; is = refl }, stand_mapped columns rows some a.1)
+
+pub entries_stand : (columns : List ℕ) (rows : List Record) → Ascend rows → AreOf columns rows (entries_of columns rows)
+entries_stand columns rows asc = all_sorted (EntryOf columns rows) (map (entry_of columns) rows) (stand_mapped columns rows rows (rows_found rows asc))
+
+pub all_kept : {X : Type 0} (P : X → Type 0) (p : X → Bool) (xs : List X) → AllByRecursion P xs → AllByRecursion P (filter p xs)
+all_kept P p [] a = tt
+all_kept P p (x ∷ xs) a = elim (p x) as (λ b. AllByRecursion P (cond b (x ∷ filter p xs) (filter p xs))) [ true ↦ (a.0, all_kept P p xs a.1) | false ↦ all_kept P p xs a.1 ]
+
+pub all_dropped : {X : Type 0} (P : X → Type 0) (k : ℕ) (xs : List X) → AllByRecursion P xs → AllByRecursion P (drop k xs)
+all_dropped P zero xs a = a
+all_dropped P (suc k) [] a = a
+all_dropped P (suc k) (x ∷ xs) a = all_dropped P k xs a.1
+
+apart_dropped : (k : ℕ) (xs : List IndexEntry) → Apart xs → Apart (drop k xs)
+apart_dropped zero xs a = a
+apart_dropped (suc k) [] a = a
+apart_dropped (suc k) (x ∷ xs) a = apart_dropped k xs a.1
+
+rows_apart_dropped : (k : ℕ) (xs : List Record) → RowsApart xs → RowsApart (drop k xs)
+rows_apart_dropped zero xs a = a
+rows_apart_dropped (suc k) [] a = a
+rows_apart_dropped (suc k) (x ∷ xs) a = rows_apart_dropped k xs a.1
+
+-- what a walk did not look at
+pub left_apart : (along : Along) (entries : List IndexEntry) → Follows along entries → Apart entries → Apart (left along entries)
+left_apart along entries f a = subst Apart (sym f.1) (apart_dropped f.0 (run entries along.range) (Apart-filter (is_in along.range) entries a))
+
+pub left_stands : (along : Along) (columns : List ℕ) (rows : List Record) (entries : List IndexEntry) → Follows along entries → AreOf columns rows entries → AreOf columns rows (left along entries)
+left_stands along columns rows entries f a = subst (AreOf columns rows) (sym f.1) (all_dropped (EntryOf columns rows) f.0 (run entries along.range) (all_kept (EntryOf columns rows) (is_in along.range) entries a))
+
+-- records fetched
+fetched_has : (columns : List ℕ) (rows : List Record) (es : List IndexEntry) (n : ℕ) → AreOf columns rows es → has_row n (fetched rows es) ≡ has_entry n es
+fetched_has columns rows [] n a = refl
+fetched_has columns rows (e ∷ es) n a =
+    let o = a.0 in
+    let is = found_row rows e.row.0 o.row o.there in
+    subst (λ (f : Option Record). has_row n (cons_option f (fetched rows es)) ≡ (nat_eq n e.row.0 || has_entry n es)) (sym o.there) (ap (λ (m : ℕ). nat_eq n m || has_row n (fetched rows es)) is ∙ ap (λ (b : Bool). nat_eq n e.row.0 || b) (fetched_has columns rows es n a.1))
+
+fetched_stand : (need : List ℕ) (only : List (List Atom)) (columns : List ℕ) (rows : List Record) (es : List IndexEntry) → AreOf columns rows es → AllByRecursion (StandsFor need only rows) (fetched rows es)
+fetched_stand need only columns rows [] a = tt
+fetched_stand need only columns rows (e ∷ es) a = by (row_at rows e.row.0) refl (fetched_stand need only columns rows es a.1)
+  where
+    by : (f : Option Record) → row_at rows e.row.0 ≡ f → AllByRecursion (StandsFor need only rows) (fetched rows es) → AllByRecursion (StandsFor need only rows) (fetched rows (e ∷ es))
+    by None is more = rw is more
+    by (Some x) is more =
+        let number = found_row rows e.row.0 x is in
+        rw is (record { row = x; there = ap (row_at rows) number ∙ is; agrees = λ c h. refl; same = refl }, more)
+
+fetched_apart : (columns : List ℕ) (rows : List Record) (es : List IndexEntry) → AreOf columns rows es → Apart es → RowsApart (fetched rows es)
+fetched_apart columns rows [] a d = tt
+fetched_apart columns rows (e ∷ es) a d =
+    let o = a.0 in
+    let is = found_row rows e.row.0 o.row o.there in
+    rw o.there (ap (λ (m : ℕ). has_row m (fetched rows es)) is ∙ fetched_has columns rows es e.row.0 a.1 ∙ d.0, fetched_apart columns rows es a.1 d.1)
+
+pub fetched_looks : (need : List ℕ) (only : List (List Atom)) (columns : List ℕ) (rows : List Record) (es : List IndexEntry) → AreOf columns rows es → Apart es → Looks need only rows (fetched rows es)
+fetched_looks need only columns rows es a d = record { each = fetched_stand need only columns rows es a; apart = fetched_apart columns rows es a d }
+
+pub fetched_open : (columns : List ℕ) (rows : List Record) (es : List IndexEntry) (n : ℕ) → AreOf columns rows es → has_row n (fetched rows es) ≡ has_entry n es
+fetched_open columns rows es n a = fetched_has columns rows es n a
+
+-- records told by the index
+told_has : (columns : List ℕ) (es : List IndexEntry) (n : ℕ) → has_row n (map (told columns) es) ≡ has_entry n es
+told_has columns [] n = refl
+told_has columns (e ∷ es) n = ap (λ (b : Bool). nat_eq n e.row.0 || b) (told_has columns es n)
+
+-- the index has the columns needed
+abbrev pub Covering : List ℕ → List ℕ → Type 0
+Covering columns need = (c : ℕ) → stands_among need c ≡ true → stands_among columns c ≡ true
+
+told_stand : (need : List ℕ) (only : List (List Atom)) (columns : List ℕ) (rows : List Record) (es : List IndexEntry) → NamesThese columns only → Covering columns need → AreOf columns rows es → AllByRecursion (StandsFor need only rows) (map (told columns) es)
+told_stand need only columns rows [] names covering a = tt
+told_stand need only columns rows (e ∷ es) names covering a =
+    let o = a.0 in (
+      subst (λ (x : IndexEntry). row_at rows x.row.0 ≡ Some o.row → StandsFor need only rows (told columns x)) (sym o.is) (λ there. record {
+        row = o.row;
+        there = there;
+        agrees = λ c h. told_reads columns o.row c (covering c h);
+        same = told_truth columns only o.row names;
+      }) o.there,
+      told_stand need only columns rows es names covering a.1,
+    )
+
+told_apart : (columns : List ℕ) (es : List IndexEntry) → Apart es → RowsApart (map (told columns) es)
+told_apart columns [] d = tt
+told_apart columns (e ∷ es) d = (told_has columns es e.row.0 ∙ d.0, told_apart columns es d.1)
+
+pub told_looks : (need : List ℕ) (only : List (List Atom)) (columns : List ℕ) (rows : List Record) (es : List IndexEntry) → NamesThese columns only → Covering columns need → AreOf columns rows es → Apart es → Looks need only rows (map (told columns) es)
+told_looks need only columns rows es names covering a d = record { each = told_stand need only columns rows es names covering a; apart = told_apart columns es d }
+
+pub told_open : (columns : List ℕ) (es : List IndexEntry) (n : ℕ) → has_row n (map (told columns) es) ≡ has_entry n es
+told_open columns es n = told_has columns es n
+
+-- rows of a table
+pub rows_looks : (need : List ℕ) (only : List (List Atom)) (rows : List Record) (k : ℕ) → Ascend rows → Looks need only rows (drop k rows)
+rows_looks need only rows k asc = record {
+  each = stands (drop k rows) (all_dropped (λ (x : Record). row_at rows x.row.0 ≡ Some x) k rows (rows_found rows asc));
+  apart = rows_apart_dropped k rows (rows_apart rows asc);
+}
+  where
+    stands : (xs : List Record) → AllByRecursion (λ (x : Record). row_at rows x.row.0 ≡ Some x) xs → AllByRecursion (StandsFor need only rows) xs
+    stands [] a = tt
+    stands (x ∷ xs) a = (record { row = x; there = a.0; agrees = λ c h. refl; same = refl }, stands xs a.1)
+
+-- a row that qualifies has an entry that passes each test that its own entry passes
+any_filter : (p : IndexEntry → Bool) (n : ℕ) (es : List IndexEntry) → has_entry n (filter p es) ≡ list_any (λ (e : IndexEntry). nat_eq n e.row.0 && p e) es
+any_filter p n [] = refl
+any_filter p n (e ∷ es) = elim (p e) as (λ b. p e ≡ b → has_entry n (cond b (e ∷ filter p es) (filter p es)) ≡ ((nat_eq n e.row.0 && p e) || list_any (λ (e : IndexEntry). nat_eq n e.row.0 && p e) es)) [
+  | true ↦ λ t. taken _ _ _ _ t (any_filter p n es)
+  | false ↦ λ f. passed _ _ _ _ f (any_filter p n es)
+] refl
+  where
+    taken : (a b c d : Bool) → b ≡ true → c ≡ d → (a || c) ≡ ((a && b) || d)
+    taken a b c d h i = grind arith
+
+    passed : (a b c d : Bool) → b ≡ false → c ≡ d → c ≡ ((a && b) || d)
+    passed a b c d h i = grind arith
+
+any_mapped : (p : IndexEntry → Bool) (columns : List ℕ) (only : List (List Atom)) (n : ℕ) (rows : List Record) → ((r : Record) → qualifies only r.values ≡ true → p (entry_of columns r) ≡ true) → qualifies_at only rows n ≡ true → list_any (λ (e : IndexEntry). nat_eq n e.row.0 && p e) (map (entry_of columns) rows) ≡ true
+any_mapped p columns only n [] h q = q
+any_mapped p columns only n (r ∷ rows) h q =
+    elim (cases_Bool (nat_eq n r.row.0 && qualifies only r.values)) [
+      | inl here ↦ first (nat_eq n r.row.0) (qualifies only r.values) (p (entry_of columns r)) (list_any (λ (e : IndexEntry). nat_eq n e.row.0 && p e) (map (entry_of columns) rows)) here (h r (second (nat_eq n r.row.0) (qualifies only r.values) here))
+      | inr other ↦ later (nat_eq n r.row.0 && p (entry_of columns r)) (list_any (λ (e : IndexEntry). nat_eq n e.row.0 && p e) (map (entry_of columns) rows)) (any_mapped p columns only n rows h (rest (nat_eq n r.row.0 && qualifies only r.values) (qualifies_at only rows n) other q))
+    ]
+  where
+    second : (a b : Bool) → (a && b) ≡ true → b ≡ true
+    second a b h = grind arith
+
+    first : (a b c d : Bool) → (a && b) ≡ true → c ≡ true → ((a && c) || d) ≡ true
+    first a b c d h i = grind arith
+
+    rest : (a b : Bool) → a ≡ false → (a || b) ≡ true → b ≡ true
+    rest a b h i = grind arith
+
+    later : (a b : Bool) → b ≡ true → (a || b) ≡ true
+    later a b h = grind arith
+
+pub entered : (p : IndexEntry → Bool) (columns : List ℕ) (only : List (List Atom)) (n : ℕ) (rows : List Record) → ((r : Record) → qualifies only r.values ≡ true → p (entry_of columns r) ≡ true) → qualifies_at only rows n ≡ true → has_entry n (filter p (entries_of columns rows)) ≡ true
+entered p columns only n rows h q = any_filter p n (entries_of columns rows) ∙ any_sorted (λ (e : IndexEntry). nat_eq n e.row.0 && p e) (map (entry_of columns) rows) ∙ any_mapped p columns only n rows h q

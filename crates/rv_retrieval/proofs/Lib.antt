@@ -1,0 +1,14 @@
+pub mod Rests
+pub mod Dues
+pub mod Entered
+pub mod Fronting
+pub mod Switching
+pub mod Controls
+pub mod Delivering
+pub mod Least
+pub mod Beginning
+pub mod Planning
+pub mod Choices
+pub mod Chosen
+pub mod AtOnce
+pub mod Accounting

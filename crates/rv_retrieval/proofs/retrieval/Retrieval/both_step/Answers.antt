@@ -1,0 +1,60 @@
+use Rattle.std.proofs.Common.{◌∙◌, ap, sym}
+use Rattle.rv_scan.specs.declared.skip.Scanned.TheVariants.{Working, End}
+use Rattle.rv_retrieval.proofs.Controls.{ended, ends_fits}
+use Rattle.rv_keys.specs.Keys.{has_key}
+use Rattle.rv_retrieval.specs.Shape.{Shape}
+use Rattle.rv_retrieval.proofs.Delivering.{both_found_does, both_found_fits, fresh_row, front_ends, moved_does, moved_fits}
+use Rattle.rv_retrieval.proofs.Switching.{both_ahead}
+use Rattle.rv_retrieval.proofs.retrieval.Retrieval.both_step.Goals as goal
+
+pub deliver-requires-clause-fresh : goal.deliver-requires-clause-fresh
+deliver-requires-clause-fresh g c =
+    let shown = g.R.Reader.shown c.args.reader.now in
+    let v = c.args.self.now in
+    let marks = rw c.in-Found.is at c.in_ok-record.ensures.marks in
+    ap (λ (x : Shape). has_key c.in-Found.record.row.0 x.delivered) c.scan_front.ensures.same ∙ fresh_row v c.scan_front.new.self.front shown c.in-Found.record c.requires.fits c.requires.both marks
+
+pub returns-in-Found-clause-fits : goal.returns-in-Found-clause-fits
+returns-in-Found-clause-fits g c =
+    let shown = g.R.Reader.shown c.args.reader.now in
+    let v = c.args.self.now in
+    let marks = rw c.in-Found.is at c.in_ok-record.ensures.marks in
+    both_found_fits v c.scan_front.new.self c.deliver.new.self c.in-Found.record shown c.requires.both c.scan_front.ensures.same c.scan_front.ensures.front c.scan_front.ensures.follows c.deliver.ensures marks c.requires.fits
+
+pub returns-in-Found-clause-step : goal.returns-in-Found-clause-step
+returns-in-Found-clause-step g c =
+    let shown = g.R.Reader.shown c.args.reader.now in
+    let v = c.args.self.now in
+    let marks = rw c.in-Found.is at c.in_ok-record.ensures.marks in
+    both_found_does v c.scan_front.new.self c.deliver.new.self c.in-Found.record shown c.requires.both c.scan_front.ensures.same c.scan_front.ensures.front c.deliver.ensures marks c.requires.fits
+
+pub returns-in-Working-clause-fits : goal.returns-in-Working-clause-fits
+returns-in-Working-clause-fits g c =
+    let shown = g.R.Reader.shown c.args.reader.now in
+    let v = c.args.self.now in
+    let marks = rw c.in-Working.is at c.in_ok-record.ensures.marks in
+    moved_fits v c.scan_front.new.self shown c.scan_front.ensures.same c.scan_front.ensures.front c.scan_front.ensures.follows (λ b n q. marks n q ∙ c.requires.fits.remembered b n q) c.requires.fits
+
+pub returns-in-Working-clause-step : goal.returns-in-Working-clause-step
+returns-in-Working-clause-step g c =
+    let shown = g.R.Reader.shown c.args.reader.now in
+    let v = c.args.self.now in
+    moved_does v c.scan_front.new.self shown Working c.scan_front.ensures.same (both_ahead v.control v.strategy c.requires.both) c.scan_front.ensures.front c.requires.fits (λ h. tt) (rw c.in-Working.is at c.in_ok-record.ensures.marks)
+
+pub returns-in-End-clause-fits : goal.returns-in-End-clause-fits
+returns-in-End-clause-fits g c =
+    let shown = g.R.Reader.shown c.args.reader.now in
+    let v = c.args.self.now in
+    let mid = c.scan_front.new.self in
+    let ahead = both_ahead v.control v.strategy c.requires.both in
+    let marks = rw c.in-End.is at c.in_ok-record.ensures.marks in
+    ends_fits mid c.go.new.self shown (moved_fits v mid shown c.scan_front.ensures.same c.scan_front.ensures.front c.scan_front.ensures.follows (λ b n q. marks.1 n q ∙ sym (marks.0 n q) ∙ c.requires.fits.remembered b n q) c.requires.fits) (front_ends v mid c.go.new.self c.scan_front.ensures.same ahead (c.requires.fits.led ahead) c.go.ensures.same)
+
+pub returns-in-End-clause-step : goal.returns-in-End-clause-step
+returns-in-End-clause-step g c =
+    let shown = g.R.Reader.shown c.args.reader.now in
+    let v = c.args.self.now in
+    let mid = c.scan_front.new.self in
+    let ahead = both_ahead v.control v.strategy c.requires.both in
+    let none = moved_does v mid shown End c.scan_front.ensures.same ahead c.scan_front.ensures.front c.requires.fits (λ h. tt) (rw c.in-End.is at c.in_ok-record.ensures.marks) in
+    ended v mid c.go.new.self shown none.0 (front_ends v mid c.go.new.self c.scan_front.ensures.same ahead (c.requires.fits.led ahead) c.go.ensures.same)

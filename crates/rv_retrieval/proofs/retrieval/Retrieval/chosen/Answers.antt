@@ -1,0 +1,16 @@
+use Rattle.rv_retrieval.proofs.Chosen.{begun_back, chosen_opens, few_scans, one_background, one_found}
+use Rattle.rv_retrieval.proofs.retrieval.Retrieval.chosen.Goals as goal
+
+pub begin-requires : goal.begin-requires
+begin-requires g c = few_scans c.args.query (g.R.Reader.shown c.args.reader.now) c.args.choice.background c.in_ok-scans.scans.items c.args.candidates.now c.requires.candidates c.requires.can c.in_ok-scans.ensures
+
+pub returns-clause-fits : goal.returns-clause-fits
+returns-clause-fits g c = c.begin.ensures.fits (g.R.Reader.shown c.args.reader.now) (chosen_opens c.args.query (g.R.Reader.shown c.args.reader.now) c.args.choice c.in_ok-scans.scans.items c.in_ok-front.front c.args.candidates.now c.requires.candidates c.requires.can c.requires.choice c.in_ok-scans.ensures c.in_ok-front.ensures)
+
+pub returns-clause-rest : goal.returns-clause-rest
+returns-clause-rest g c = c.begin.ensures.rest (g.R.Reader.shown c.args.reader.now) (chosen_opens c.args.query (g.R.Reader.shown c.args.reader.now) c.args.choice c.in_ok-scans.scans.items c.in_ok-front.front c.args.candidates.now c.requires.candidates c.requires.can c.requires.choice c.in_ok-scans.ensures c.in_ok-front.ensures)
+
+pub returns-clause-back : goal.returns-clause-back
+returns-clause-back g c one =
+    let found = one_found c.args.choice.background one in
+    begun_back c.begin.result c.args.query c.args.choice.strategy c.in_ok-scans.scans.items c.in_ok-front.front _ c.args.cursor c.args.opening (one_background c.args.query.only c.args.query.order c.args.query.goal c.args.candidates.now c.args.choice c.in_ok-scans.scans.items found.0 c.requires.choice c.in_ok-scans.ensures found.1) c.begin.ensures.begun

@@ -1,0 +1,16 @@
+use Rattle.std.proofs.Common.{◌∙◌}
+use Rattle.rv_retrieval.proofs.AtOnce.{gives_step}
+use Rattle.rv_retrieval.proofs.Switching.{trace_keeps}
+use Rattle.rv_retrieval.proofs.retrieval.Retrieval.fg_step.Goals as goal
+
+pub returns-in-Ok-clause-step : goal.returns-in-Ok-clause-step
+returns-in-Ok-clause-step g c =
+    let shown = g.R.Reader.shown c.args.reader.now in
+    let mid = c.step-stepped.new.self in
+    gives_step c.args.self.now mid c.count.new.self shown c.in-Ok.scanned c.answer.result c.in-Ok.ensures.step ((trace_keeps mid c.count.new.self _ c.count.ensures).rest shown c.step-stepped.ensures.fits) c.answer.ensures
+
+pub returns-in-Err-clause-err : goal.returns-in-Err-clause-err
+returns-in-Err-clause-err g c =
+    let shown = g.R.Reader.shown c.args.reader.now in
+    let mid = c.step-stepped.new.self in
+    (trace_keeps mid c.count.new.self _ c.count.ensures).rest shown c.step-stepped.ensures.fits ∙ c.in-Err.ensures.err

@@ -1,0 +1,15 @@
+use Rattle.std.proofs.Common.{◌≡◌}
+use Rattle.rv_jscan.specs.Joint.{CanTake, JointFits, leaves_ahead}
+use Rattle.rv_retrieval.specs.Opened.{SameScans}
+use Rattle.rv_retrieval.proofs.retrieval.Retrieval.scan_all.Given as goal
+
+abbrev pub invariant-pieces : goal.invariant-pieces
+invariant-pieces g l = record {
+  same : l.self ≡ record l.initial.self { joint = l.self.joint };
+  scans : SameScans l.initial.self.joint l.self.joint;
+  can : CanTake l.self.joint (g.R.Reader.shown l.reader);
+  fits : JointFits l.self.joint (g.R.Reader.shown l.reader);
+}
+
+abbrev pub decreases-pieces : goal.decreases-pieces
+decreases-pieces g l = leaves_ahead l.self.joint (g.R.Reader.shown l.reader)

@@ -1,0 +1,32 @@
+use Rattle.std.proofs.Common.{◌≡◌, IfOk, None, subst}
+use Rattle.std.specs.Prelude.{if◌then◌else◌}
+use Rattle.std.specs.Option.{option_copied}
+use Rattle.rv_scan.specs.Alongs.{Follows}
+use Rattle.rv_jscan.specs.Joint.{keys_of}
+use Rattle.rv_retrieval.specs.Fronts.{SameFront, walk_of}
+use Rattle.rv_retrieval.specs.Shape.{Shape, is_sorted}
+use Rattle.rv_retrieval.proofs.Fronting.{FrontStep, front_marks, own_entries, own_follows, skips_by}
+use Rattle.rv_retrieval.proofs.Least.{front_least}
+use Rattle.rv_retrieval.proofs.retrieval.Retrieval.scan_front.Goals as goal
+
+pub returns-clause-marks : goal.returns-clause-marks
+returns-clause-marks g c =
+    let shown = g.R.Reader.shown c.args.reader.now in
+    let v = c.args.self.now in
+    let new = c.step.new.self in
+    let hides = subst (λ (x : Shape). option_copied c.hiding.result ≡ (if is_sorted x.strategy then option_copied c.list.result else None)) c.self.view_is c.hiding.ensures in
+    let keys = subst (λ (x : Shape). keys_of (option_copied c.list.result) ≡ x.joint.list) c.self.view_is c.list.ensures.keys in
+    let same = subst (λ (x : Shape). SameFront x.front new) c.self.view_is c.step.ensures.same in
+    let follows = subst (λ (x : Shape). Follows (walk_of x.front) (own_entries x shown) → Follows (walk_of new) (own_entries x shown)) c.self.view_is c.step.ensures.follows in
+    let step = subst (λ (x : Shape). IfOk c.step.result (FrontStep x new shown (record { delivered = None; list = option_copied c.hiding.result }))) c.self.view_is c.step.ensures.step in
+    front_marks c.step.result v new shown (record { delivered = None; list = option_copied c.hiding.result }) c.requires.fits c.requires.led (skips_by v (option_copied c.hiding.result) (option_copied c.list.result) hides keys) same (own_follows v new shown c.requires.fits c.requires.led follows) step
+
+pub returns-clause-least : goal.returns-clause-least
+returns-clause-least g c sorted =
+    let shown = g.R.Reader.shown c.args.reader.now in
+    let v = c.args.self.now in
+    let new = c.step.new.self in
+    let hides = subst (λ (x : Shape). option_copied c.hiding.result ≡ (if is_sorted x.strategy then option_copied c.list.result else None)) c.self.view_is c.hiding.ensures in
+    let keys = subst (λ (x : Shape). keys_of (option_copied c.list.result) ≡ x.joint.list) c.self.view_is c.list.ensures.keys in
+    let step = subst (λ (x : Shape). IfOk c.step.result (FrontStep x new shown (record { delivered = None; list = option_copied c.hiding.result }))) c.self.view_is c.step.ensures.step in
+    front_least c.step.result v new shown (record { delivered = None; list = option_copied c.hiding.result }) c.requires.fits sorted (skips_by v (option_copied c.hiding.result) (option_copied c.list.result) hides keys) step

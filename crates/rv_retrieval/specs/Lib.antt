@@ -1,0 +1,11 @@
+pub mod Rest
+pub mod Fronts
+pub mod Shape
+pub mod Given
+pub mod Telling
+pub mod Accounts
+pub mod Choice
+pub mod Asked
+pub mod Opens
+pub mod Opened
+pub mod Rulings

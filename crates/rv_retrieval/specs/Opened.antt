@@ -1,0 +1,91 @@
+-- What a retrieval is when it was opened.
+use Rattle.std.specs.Prelude.{◌≡◌, ℕ, Bool, true, false, Option, Some, None, List, [], length, nat_lt, if◌then◌else◌}
+use Rattle.rv_judge.specs.declared.events.Strategy.{Strategy}
+use Rattle.rv_judge.specs.Account.{first_guarantee}
+use Rattle.rv_judge.specs.declared.events.Event.TheVariants.{At, Scan}
+use Rattle.rv_judge.specs.declared.events.Trace.{Trace}
+use Rattle.rv_reader.specs.Shown.{Shown}
+use Rattle.rv_jscan.specs.declared.jscan.ScanPlan.{ScanPlan}
+use Rattle.rv_jscan.specs.Joint.{Joint}
+use Rattle.rv_jscan.specs.Steps.{begun}
+use Rattle.rv_scan.specs.Alongs.{Along}
+use Rattle.rv_scan.specs.declared.along.Ahead.TheVariants.{First}
+use Rattle.rv_retrieval.specs.declared.query.Query.{Query}
+use Rattle.rv_retrieval.specs.declared.choosing.Candidate.{Candidate}
+use Rattle.rv_retrieval.specs.declared.choosing.Choice.{Choice}
+use Rattle.rv_retrieval.specs.Choice.{AreScans, IsChosen, candidate_at, candidates_of, no_candidate}
+use Rattle.rv_retrieval.specs.Fronts.{Front}
+use Rattle.rv_retrieval.specs.Opens.{first_of}
+use Rattle.rv_retrieval.specs.Shape.{Shape, is_background}
+use Rattle.rv_retrieval.specs.declared.choosing.Background.{Background}
+use Rattle.rv_retrieval.specs.declared.choosing.Background.TheVariants.{Nothing, One, Each, EachBut}
+use Rattle.rv_retrieval.specs.Telling.{events_for, index_of, noted, noted_all}
+
+-- a walk along the whole range of an index
+abbrev pub walk_begun : Query → Candidate → Along
+walk_begun query c = record { index = c.index; snap = query.snap; range = c.range; ahead = First; held = [] }
+
+-- the foreground's scan of an index: by the index alone where it has every column needed
+abbrev pub front_begun : Query → Candidate → Front
+front_begun query c = record { alone = c.sufficient; columns = c.columns; fetching = record { table = query.table; walk = walk_begun query c }; telling = walk_begun query c }
+
+-- the index of the foreground's scan
+abbrev pub front_candidate : List Candidate → Option ℕ → Candidate
+front_candidate cs None = no_candidate
+front_candidate cs (Some at) = candidate_at cs at
+
+-- the guarantee at opening
+abbrev pub guarantee_of : Query → Shown → List Candidate → Choice → ℕ
+guarantee_of query shown cs choice = first_guarantee choice.strategy (shown.pages query.table query.snap) (front_candidate cs choice.front).estimate.value
+
+-- the strategy, the scans and the foreground are those of the five rules
+pub record Opened (query : Query) (shown : Shown) (cursor opening : ℕ) (v : Shape) : Type 0 where
+  pub choice : Choice
+  pub chosen : IsChosen query.order query.goal (candidates_of query shown) choice
+  pub asked : v.query ≡ query
+  pub strategy : v.strategy ≡ choice.strategy
+  pub scans : AreScans query.only (candidates_of query shown) choice.background v.joint.plans
+  pub front : v.front ≡ front_begun query (front_candidate (candidates_of query shown) choice.front)
+  pub fresh : v.delivered ≡ []
+  pub cursor_number : v.joint.cursor ≡ cursor
+  pub opening_number : v.joint.opening ≡ opening
+
+-- whether a background scan is planned
+abbrev pub has_scans : List ScanPlan → Bool
+has_scans plans = nat_lt 0 (length plans)
+
+-- made of these parts, without a step
+pub record Begun (query : Query) (strategy : Strategy) (plans : List ScanPlan) (foreground : Front) (guaranteed cursor opening : ℕ) (v : Shape) : Type 0 where
+  pub asked : v.query ≡ query
+  pub chosen : v.strategy ≡ strategy
+  pub joint : v.joint ≡ begun query.table query.snap plans cursor opening
+  pub front : v.front ≡ foreground
+  pub fresh : v.delivered ≡ []
+  pub bound : v.guaranteed ≡ guaranteed
+  pub started : v.control ≡ first_of strategy (has_scans plans)
+
+-- the first control, and the scan with which a background begins
+abbrev pub start_told : Shape → Trace
+start_told v = noted_all (noted v.trace (At v.control)) (if is_background v.control then events_for Scan (index_of v.joint v.joint.ended) else [])
+
+-- a joint scan of the same plans at the same snapshot, for the same pieces
+pub record SameScans (old new : Joint) : Type 0 where
+  pub plans : new.plans ≡ old.plans
+  pub snap : new.snap ≡ old.snap
+  pub cursor : new.cursor ≡ old.cursor
+  pub opening : new.opening ≡ old.opening
+
+-- what stays where the index is scanned at opening
+pub record Scanned (old new : Shape) : Type 0 where
+  pub asked : new.query ≡ old.query
+  pub chosen : new.strategy ≡ old.strategy
+  pub scans : SameScans old.joint new.joint
+  pub front : new.front ≡ old.front
+  pub delivered : new.delivered ≡ old.delivered
+
+-- a single index is scanned at once
+abbrev pub is_one : Background → Bool
+is_one Nothing = false
+is_one (One index) = true
+is_one Each = false
+is_one (EachBut index) = false

@@ -1,0 +1,330 @@
+ghost use Rattle.std.specs.Prelude.{◌≡◌, ◌+◌, ◌<◌, ◌≤◌, ◌++◌, ◌∷◌, [], length, Option, IfOk, IfSome, OnOk, true};
+ghost use Rattle.rv_restrict.specs.Parts.{stands_among};
+ghost use Rattle.rv_reader.specs.Shown.{Shown};
+ghost use Rattle.rv_retrieval.specs.Asked.{CanAsk, IsIndexOf};
+ghost use Rattle.rv_retrieval.specs.Choice.{AreScans, IsChosen, IsLeastOf, LeastBelow, candidate_at, candidate_of, candidates_of, free_choice, has_all, is_scanned, leads, order_index, ordered_choice, plan_of, plans_of, plays, restricted_choice};
+
+use crate::query::{Goal2, Query};
+use rv_jscan::ScanPlan;
+use rv_judge::Strategy;
+use rv_reader::{Estimate, Reader};
+use rv_restrict::Restriction;
+use rv_value::{Duplicate, Items, NoMemory, Range};
+use std::alloc::Global;
+
+/// An index as a query sees it.
+#[derive(Drop, Debug)]
+pub struct Candidate {
+    pub index: u32,
+    pub columns: Items<u32>,
+    /// Where its keys may lie of rows for which the restriction is True.
+    pub range: Range,
+    /// About how many entries are in the range.
+    pub estimate: Estimate,
+    /// Whether the range is not whole.
+    pub restricted: bool,
+    /// Whether the index has every column needed.
+    pub sufficient: bool,
+}
+
+/// A part that an index may play.
+#[derive(Clone, Copy, PartialEq, Eq, Debug)]
+pub enum Role {
+    /// It is restricted, and its range has exactly so few entries that they are scanned at once.
+    Short,
+    /// It has every column needed.
+    Sufficient,
+    /// Its range is not whole.
+    Restricted,
+}
+
+/// The indexes that the background scans.
+#[derive(Clone, Copy, PartialEq, Eq, Debug)]
+pub enum Background {
+    Nothing,
+    /// The index of this number.
+    One(u32),
+    /// Each that is restricted.
+    Each,
+    /// Each that is restricted but the one of this number.
+    EachBut(u32),
+}
+
+/// What is chosen: the strategy, the place of the index that the foreground scans, and the background's indexes.
+#[derive(Clone, Copy, PartialEq, Eq, Debug)]
+pub struct Choice {
+    pub strategy: Strategy,
+    pub front: Option<usize>,
+    pub background: Background,
+}
+
+impl Candidate {
+    fn plays(&self, role: Role) -> bool
+        ensures { result ≡ plays role self.now }
+    {
+        match role {
+            Role::Short => self.restricted && self.estimate.exact && self.estimate.value <= 20,
+            Role::Sufficient => self.sufficient,
+            Role::Restricted => self.restricted,
+        }
+    }
+}
+
+impl Background {
+    fn scans(&self, candidate: &Candidate) -> bool
+        ensures { result ≡ is_scanned self.now candidate.now }
+    {
+        match self {
+            Background::Nothing => false,
+            Background::One(index) => candidate.index == *index,
+            Background::Each => candidate.restricted,
+            Background::EachBut(index) => candidate.restricted && candidate.index != *index,
+        }
+    }
+}
+
+fn stands_among(columns: &[u32], column: u32) -> bool
+    ensures { result ≡ stands_among columns.now column }
+{
+    match columns {
+        [] => false,
+        [first, more @ ..] => *first == column || stands_among(more, column),
+    }
+}
+
+/// Whether the columns needed are among an index's.
+fn has_all(columns: &[u32], need: &[u32]) -> bool
+    ensures { result ≡ has_all columns.now need.now }
+{
+    need.iter().all(|column| stands_among(columns, *column))
+}
+
+/// An index as the query sees it. The estimate reads nothing.
+fn view<R: Reader>(
+    alloc: Global,
+    reader: &R,
+    query: &Query,
+    index: u32,
+    columns: &Items<u32>,
+) -> Result<Candidate, NoMemory>
+    requires { IsIndexOf query.now (R.shown reader.now) index columns.now }
+    ensures { IfOk result (λ c. c ≡ candidate_of query.now (R.shown reader.now) (index, columns.now)) }
+{
+    let range = query.only.range_for(alloc, columns.as_slice())?;
+    let estimate = reader.estimate(index, query.snap, &range);
+    let restricted = !range.is_whole();
+    let sufficient = has_all(columns.as_slice(), query.need.as_slice());
+    Ok(Candidate {
+        index,
+        columns: columns.copy(alloc)?,
+        range,
+        estimate,
+        restricted,
+        sufficient,
+    })
+}
+
+/// The table's indexes as the query sees them.
+pub fn candidates<R: Reader>(
+    alloc: Global,
+    reader: &R,
+    query: &Query,
+) -> Result<Vec<Candidate>, NoMemory>
+    requires { CanAsk query.now (R.shown reader.now) }
+    ensures { IfOk result (λ cs. cs.items ≡ candidates_of query.now (R.shown reader.now)) }
+{
+    let mut found = Vec::new(alloc);
+    'indexes: for index in query.indexes.as_slice() {
+        found.push(view(alloc, reader, query, index.0, &index.1)?)?;
+    }
+    Ok(found)
+}
+
+/// Of the best so far and one more candidate the one that plays the part with the lesser estimate, or the first.
+fn nearer(candidates: &[Candidate], role: Role, best: Option<usize>, at: usize) -> Option<usize>
+    requires at { at < length candidates.now }
+    requires best { LeastBelow role candidates.now at best }
+    ensures { LeastBelow role candidates.now (at + 1) result }
+{
+    let candidate = &candidates[at];
+    if !candidate.plays(role) {
+        return best;
+    }
+    match best {
+        None => Some(at),
+        Some(before) => {
+            if candidate.estimate.value < candidates[before].estimate.value {
+                Some(at)
+            } else {
+                best
+            }
+        }
+    }
+}
+
+/// The first of those with the least estimate that play a part.
+fn least(candidates: &[Candidate], role: Role) -> Option<usize>
+    ensures { IsLeastOf role candidates.now result }
+{
+    let mut best = None;
+    'candidates: for at in 0..candidates.len() {
+        best = nearer(candidates, role, best, at);
+    }
+    best
+}
+
+fn leads(order: &[u32], columns: &[u32]) -> bool
+    ensures { result ≡ leads order.now columns.now }
+{
+    !order.is_empty() && columns.starts_with(order)
+}
+
+/// The first index that begins with the order's columns, where an order is asked.
+fn order_index(candidates: &[Candidate], order: &[u32]) -> Option<usize>
+    ensures { result ≡ order_index order.now candidates.now }
+{
+    candidates
+        .iter()
+        .position(|candidate| leads(order, candidate.columns.as_slice()))
+}
+
+fn ordered_choice(candidates: &[Candidate], front: usize, short: Option<usize>) -> Choice
+    requires front { front < length candidates.now }
+    requires short { IfSome short (λ at. at < length candidates.now) }
+    ensures { result ≡ ordered_choice candidates.now front short }
+{
+    let background = match short {
+        Some(short) => Background::One(candidates[short].index),
+        None => {
+            let leading = &candidates[front];
+            if leading.sufficient {
+                Background::Nothing
+            } else {
+                Background::EachBut(leading.index)
+            }
+        }
+    };
+    Choice {
+        strategy: Strategy::Sorted,
+        front: Some(front),
+        background,
+    }
+}
+
+fn restricted_choice(goal: Goal2, restricted: Option<usize>) -> Choice
+    ensures { result ≡ restricted_choice goal restricted }
+{
+    match (goal, restricted) {
+        (Goal2::FastFirst, Some(_)) => Choice {
+            strategy: Strategy::FastFirst,
+            front: None,
+            background: Background::Each,
+        },
+        (Goal2::TotalTime, Some(_)) => Choice {
+            strategy: Strategy::BackgroundOnly,
+            front: None,
+            background: Background::Each,
+        },
+        (_, None) => Choice {
+            strategy: Strategy::Table,
+            front: None,
+            background: Background::Nothing,
+        },
+    }
+}
+
+fn free_choice(
+    candidates: &[Candidate],
+    goal: Goal2,
+    short: Option<usize>,
+    sufficient: Option<usize>,
+    restricted: Option<usize>,
+) -> Choice
+    requires short { IfSome short (λ at. at < length candidates.now) }
+    requires sufficient { IfSome sufficient (λ at. at < length candidates.now) }
+    ensures { result ≡ free_choice candidates.now goal short sufficient restricted }
+{
+    match (short, sufficient) {
+        (Some(short), _) => Choice {
+            strategy: Strategy::BackgroundOnly,
+            front: None,
+            background: Background::One(candidates[short].index),
+        },
+        (None, Some(front)) => Choice {
+            strategy: Strategy::IndexOnly,
+            front: Some(front),
+            background: Background::EachBut(candidates[front].index),
+        },
+        (None, None) => restricted_choice(goal, restricted),
+    }
+}
+
+/// Chooses among the indexes; ties go to the one created first.
+pub fn choose(candidates: &[Candidate], order: &[u32], goal: Goal2) -> Choice
+    ensures { IsChosen order.now goal candidates.now result }
+{
+    let short = least(candidates, Role::Short);
+    let sufficient = least(candidates, Role::Sufficient);
+    let restricted = least(candidates, Role::Restricted);
+    match order_index(candidates, order) {
+        Some(front) => ordered_choice(candidates, front, short),
+        None => free_choice(candidates, goal, short, sufficient, restricted),
+    }
+}
+
+fn plan(alloc: Global, only: &Restriction, candidate: &Candidate) -> Result<ScanPlan, NoMemory>
+    ensures { IfOk result (λ plan. plan ≡ plan_of only.now candidate.now) }
+{
+    Ok(ScanPlan {
+        index: candidate.index,
+        range: candidate.range.copy(alloc)?,
+        part: only.index_part(alloc, candidate.columns.as_slice())?,
+        estimate: candidate.estimate.value,
+    })
+}
+
+/// Adds the scan of an index that the background scans.
+fn add_plan(
+    alloc: Global,
+    only: &Restriction,
+    candidate: &Candidate,
+    background: Background,
+    plans: &mut Vec<ScanPlan>,
+) -> Result<(), NoMemory>
+    ensures { OnOk result (plans.new.items ≡ plans.old.items ++ plans_of only.now background (candidate.now ∷ [])) }
+{
+    if background.scans(candidate) {
+        plans.push(plan(alloc, only, candidate)?)?;
+    }
+    Ok(())
+}
+
+fn plans(
+    alloc: Global,
+    only: &Restriction,
+    candidates: &[Candidate],
+    background: Background,
+) -> Result<Vec<ScanPlan>, NoMemory>
+    ensures { IfOk result (λ plans. plans.items ≡ plans_of only.now background candidates.now) }
+{
+    let mut plans = Vec::new(alloc);
+    'candidates: for candidate in candidates {
+        add_plan(alloc, only, candidate, background, &mut plans)?;
+    }
+    Ok(plans)
+}
+
+/// The scans of the background in ascending order of estimates; of equal ones that of the index created first comes
+/// first.
+pub fn scans(
+    alloc: Global,
+    only: &Restriction,
+    candidates: &[Candidate],
+    background: Background,
+) -> Result<Vec<ScanPlan>, NoMemory>
+    ensures { IfOk result (λ scans. AreScans only.now candidates.now background scans.items) }
+{
+    let mut scans = plans(alloc, only, candidates, background)?;
+    scans.sort_by_key(|scan| scan.estimate)?;
+    Ok(scans)
+}

@@ -1,0 +1,295 @@
+ghost use Rattle.std.specs.Prelude.{◌≡◌, ◌<◌, ◌≤◌, length, None, true, IfOk, IfSome, OnOk, OnErr};
+ghost use Rattle.rv_judge.specs.Account.{first_guarantee};
+ghost use Rattle.rv_reader.specs.Shown.{CanRead, Shown};
+ghost use Rattle.rv_jscan.specs.Joint.{CanTake, JointFits, leaves_ahead};
+ghost use Rattle.rv_retrieval.specs.Asked.{CanAsk};
+ghost use Rattle.rv_retrieval.specs.Choice.{IsChosen, candidates_of, no_candidate};
+ghost use Rattle.rv_retrieval.specs.Opened.{Begun, Opened, SameScans, Scanned, front_begun, front_candidate, guarantee_of, is_one, start_told};
+ghost use Rattle.rv_retrieval.specs.Opens.{Opens};
+ghost use Rattle.rv_retrieval.specs.Rest.{qualifying};
+ghost use Rattle.rv_retrieval.specs.Shape.{RetrievalFits, is_background, rest};
+
+use crate::choosing::{Background, Candidate, Choice, candidates, choose, scans};
+use crate::front::Front;
+use crate::query::Query;
+use crate::retrieval::Retrieval;
+use rv_jscan::{ScanPlan, Taken, sieve};
+use rv_judge::{Event, Steps, Strategy};
+use rv_reader::{Estimate, Reader};
+use rv_scan::{Fscan, Sscan};
+use rv_value::{Duplicate, Items, NoMemory, Range};
+use std::alloc::Global;
+
+/// The scan of an index as the foreground.
+fn front(alloc: Global, query: &Query, candidate: &Candidate) -> Result<Front, NoMemory>
+    ensures { IfOk result (λ front. front ≡ front_begun query.now candidate.now) }
+{
+    let fetching = Fscan::new(
+        alloc,
+        query.table,
+        candidate.index,
+        query.snap,
+        candidate.range.copy(alloc)?,
+    );
+    let telling = Sscan::new(
+        alloc,
+        candidate.index,
+        query.snap,
+        candidate.range.copy(alloc)?,
+    );
+    Ok(Front::new(
+        candidate.sufficient,
+        candidate.columns.copy(alloc)?,
+        fetching,
+        telling,
+    ))
+}
+
+/// What stands for the foreground's index where no index is scanned by the foreground. It is never read.
+fn no_candidate(alloc: Global) -> Candidate
+    ensures { result ≡ no_candidate }
+{
+    Candidate {
+        index: 0,
+        columns: Items::new(alloc),
+        range: Range {
+            low: None,
+            high: None,
+            starts: false,
+        },
+        estimate: Estimate {
+            value: 0,
+            exact: false,
+        },
+        restricted: false,
+        sufficient: false,
+    }
+}
+
+fn chosen_front(
+    alloc: Global,
+    query: &Query,
+    candidates: &[Candidate],
+    place: Option<usize>,
+) -> Result<Front, NoMemory>
+    requires { IfSome place (λ at. at < length candidates.now) }
+    ensures { IfOk result (λ front. front ≡ front_begun query.now (front_candidate candidates.now place)) }
+{
+    match place {
+        Some(at) => front(alloc, query, &candidates[at]),
+        None => front(alloc, query, &no_candidate(alloc)),
+    }
+}
+
+/// About how many entries the foreground's scan has.
+fn front_entries(candidates: &[Candidate], place: Option<usize>) -> u64
+    requires { IfSome place (λ at. at < length candidates.now) }
+    ensures { result ≡ (front_candidate candidates.now place).estimate.value }
+{
+    match place {
+        Some(at) => candidates[at].estimate.value,
+        None => 0,
+    }
+}
+
+fn first_guarantee(strategy: Strategy, pages: u64, entries: u64) -> u64
+    ensures { result ≡ first_guarantee strategy pages entries }
+{
+    match strategy {
+        Strategy::Table | Strategy::BackgroundOnly | Strategy::FastFirst => pages,
+        Strategy::Sorted => entries,
+        Strategy::IndexOnly => entries.div_ceil(16),
+    }
+}
+
+/// The cost at which the retrieval can be finished without a background.
+fn guarantee<R: Reader>(reader: &R, query: &Query, candidates: &[Candidate], choice: Choice) -> u64
+    requires can { CanRead (R.shown reader.now) query.now.table query.now.snap }
+    requires place { IfSome choice.front (λ at. at < length candidates.now) }
+    ensures { result ≡ guarantee_of query.now (R.shown reader.now) candidates.now choice }
+{
+    let pages = u64::from(reader.sizes(query.table, query.snap).pages);
+    first_guarantee(
+        choice.strategy,
+        pages,
+        front_entries(candidates, choice.front),
+    )
+}
+
+impl Retrieval {
+    /// Writes the first control into the trace, and the scan with which a background begins.
+    fn tell_start(&mut self)
+        ensures { self.new ≡ record self.old { trace = start_told self.old } }
+    {
+        self.note(Event::At(self.control()));
+        if self.is_background() {
+            self.note_scan();
+        }
+    }
+
+    /// A retrieval under a strategy, with these background scans and this scan of an index as the foreground, which is
+    /// used where the strategy is sorted or index-only. It has read nothing.
+    fn begin(
+        alloc: Global,
+        query: Query,
+        strategy: Strategy,
+        scans: Vec<ScanPlan>,
+        front: Front,
+        guaranteed: u64,
+        cursor: u64,
+        opening: u64,
+    ) -> Result<Retrieval, NoMemory>
+        requires { length scans.items ≤ 8 }
+        ensures begun { IfOk result (Begun query strategy scans.items front guaranteed cursor opening) }
+        ensures fits { (shown : Shown) → Opens query strategy scans.items front shown → IfOk result (λ r. RetrievalFits r shown) }
+        ensures rest { (shown : Shown) → Opens query strategy scans.items front shown → IfOk result (λ r. rest r shown ≡ qualifying query.only (shown.rows query.table query.snap)) }
+    {
+        let mut retrieval = Retrieval::make(
+            alloc, query, strategy, scans, front, guaranteed, cursor, opening,
+        )?;
+        retrieval.tell_start();
+        Ok(retrieval)
+    }
+
+    /// Takes, sieves and gives the next piece; false where none is awaited.
+    fn scan_piece<R: Reader>(
+        &mut self,
+        reader: &R,
+        steps: &mut Steps<R::Ledger>,
+    ) -> Result<bool, NoMemory>
+        requires can { CanTake self.old.joint (R.shown reader.now) }
+        requires fits { JointFits self.old.joint (R.shown reader.now) }
+        ensures same { self.new ≡ record self.old { joint = self.new.joint } }
+        ensures scans { SameScans self.old.joint self.new.joint }
+        ensures fits { JointFits self.new.joint (R.shown reader.now) }
+        ensures nearer { IfOk result (λ given. given ≡ true → leaves_ahead self.new.joint (R.shown reader.now) < leaves_ahead self.old.joint (R.shown reader.now)) }
+    {
+        match self.take_joint(reader, steps)? {
+            Taken::Piece(piece) => {
+                let _accepted = self.give_joint(sieve(piece))?;
+                Ok(true)
+            }
+            Taken::Nothing => Ok(false),
+        }
+    }
+
+    /// Scans to the end what the background is to scan.
+    fn scan_all<R: Reader>(
+        &mut self,
+        reader: &R,
+        steps: &mut Steps<R::Ledger>,
+    ) -> Result<(), NoMemory>
+        requires can { CanTake self.old.joint (R.shown reader.now) }
+        requires fits { JointFits self.old.joint (R.shown reader.now) }
+        ensures same { self.new ≡ record self.old { joint = self.new.joint } }
+        ensures scans { SameScans self.old.joint self.new.joint }
+        ensures fits { JointFits self.new.joint (R.shown reader.now) }
+    {
+        'pieces: while self.scan_piece(reader, steps)? {}
+        Ok(())
+    }
+
+    /// Scans the one planned index at once.
+    fn scan_at_once<R: Reader>(
+        &mut self,
+        reader: &R,
+        steps: &mut Steps<R::Ledger>,
+    ) -> Result<(), NoMemory>
+        requires fits { RetrievalFits self.old (R.shown reader.now) }
+        requires back { is_background self.old.control ≡ true }
+        ensures scanned { OnOk result (Scanned self.old self.new) }
+        ensures fits { OnOk result (RetrievalFits self.new (R.shown reader.now)) }
+        ensures rest { OnOk result (rest self.new (R.shown reader.now) ≡ rest self.old (R.shown reader.now)) }
+    {
+        self.scan_all(reader, steps)?;
+        self.scan_ended(0);
+        Ok(())
+    }
+
+    /// Scans a single index at once.
+    fn settle<R: Reader>(
+        &mut self,
+        background: Background,
+        reader: &R,
+        steps: &mut Steps<R::Ledger>,
+    ) -> Result<(), NoMemory>
+        requires fits { RetrievalFits self.old (R.shown reader.now) }
+        requires back { is_one background ≡ true → is_background self.old.control ≡ true }
+        ensures scanned { OnOk result (Scanned self.old self.new) }
+        ensures fits { OnOk result (RetrievalFits self.new (R.shown reader.now)) }
+        ensures rest { OnOk result (rest self.new (R.shown reader.now) ≡ rest self.old (R.shown reader.now)) }
+    {
+        match background {
+            Background::One(_) => self.scan_at_once(reader, steps),
+            Background::Nothing | Background::Each | Background::EachBut(_) => Ok(()),
+        }
+    }
+
+    /// A retrieval with what was chosen. It has read nothing.
+    fn chosen<R: Reader>(
+        alloc: Global,
+        reader: &R,
+        query: Query,
+        candidates: &[Candidate],
+        choice: Choice,
+        cursor: u64,
+        opening: u64,
+    ) -> Result<Retrieval, NoMemory>
+        requires can { CanAsk query (R.shown reader.now) }
+        requires candidates { candidates.now ≡ candidates_of query (R.shown reader.now) }
+        requires choice { IsChosen query.order query.goal candidates.now choice }
+        ensures opened { IfOk result (λ r. Opened query (R.shown reader.now) cursor opening r) }
+        ensures back { is_one choice.background ≡ true → IfOk result (λ r. is_background r.control ≡ true) }
+        ensures fits { IfOk result (λ r. RetrievalFits r (R.shown reader.now)) }
+        ensures rest { IfOk result (λ r. rest r (R.shown reader.now) ≡ qualifying query.only ((R.shown reader.now).rows query.table query.snap)) }
+    {
+        let scans = scans(alloc, &query.only, candidates, choice.background)?;
+        let front = chosen_front(alloc, &query, candidates, choice.front)?;
+        let guaranteed = guarantee(reader, &query, candidates, choice);
+        Retrieval::begin(
+            alloc,
+            query,
+            choice.strategy,
+            scans,
+            front,
+            guaranteed,
+            cursor,
+            opening,
+        )
+    }
+
+    /// Opens a retrieval: it looks at the ranges that the restriction has for the indexes and at their estimates, and
+    /// chooses the strategy, the foreground's scan and the background's.
+    ///
+    /// Where a restricted index has an exact estimate of at most 20 its leaves are read at once. `cursor` and `opening`
+    /// go into the ids of the retrieval's pieces.
+    pub fn open<R: Reader>(
+        alloc: Global,
+        reader: &R,
+        query: Query,
+        cursor: u64,
+        opening: u64,
+        steps: &mut Steps<R::Ledger>,
+    ) -> Result<Retrieval, NoMemory>
+        requires { CanAsk query (R.shown reader.now) }
+        ensures opened { IfOk result (λ r. Opened query (R.shown reader.now) cursor opening r) }
+        ensures fits { IfOk result (λ r. RetrievalFits r (R.shown reader.now)) }
+        ensures rest { IfOk result (λ r. rest r (R.shown reader.now) ≡ qualifying query.only ((R.shown reader.now).rows query.table query.snap)) }
+    {
+        let before = steps.counts();
+        let candidates = candidates(alloc, reader, &query)?;
+        let choice = choose(candidates.as_slice(), query.order.as_slice(), query.goal);
+        let mut retrieval = Retrieval::chosen(
+            alloc,
+            reader,
+            query,
+            candidates.as_slice(),
+            choice,
+            cursor,
+            opening,
+        )?;
+        retrieval.settle(choice.background, reader, steps)?;
+        retrieval.count(before, steps.counts());
+        Ok(retrieval)
+    }
+}

@@ -1,0 +1,464 @@
+ghost use Rattle.std.specs.Prelude.{if◌then◌else◌, ◌≡◌, ℕ, ◌+◌, ◌-◌, ◌^◌, ◌<◌, ◌≤◌, ◌++◌, ◌∷◌, [], ◌&&◌, ◌==◌, ◌⊎◌, true, false, is_some, length, min, Some, None, IfOk, IfSome, IsSome, IsTrue, OnOk, OnErr, Ok};
+ghost use Rattle.std.specs.Option.{option_copied};
+ghost use Rattle.rv_keys.specs.Keys.{has_key, Once};
+ghost use Rattle.rv_restrict.specs.Truth.{names_only, row_has};
+ghost use Rattle.rv_reader.specs.Shown.{Shown, CanRead};
+ghost use Rattle.rv_reader.specs.Tables.{row_at};
+ghost use Rattle.rv_scan.specs.Alongs.{Follows, looked};
+ghost use Rattle.rv_scan.specs.Places.{Fits as PlaceFits, unseen};
+ghost use Rattle.rv_scan.specs.Due.{HaveColumns};
+ghost use Rattle.rv_jscan.specs.Joint.{CanTake, JointFits, keys_of, under_way};
+ghost use Rattle.rv_jscan.specs.Steps.{Gives, Nearer, TakeLeaves, Takes, abandoned, awaited_id, begun};
+ghost use Rattle.rv_judge.specs.Account.{facts_of, guarantee_with};
+ghost use Rattle.rv_retrieval.specs.Accounts.{account_of};
+ghost use Rattle.rv_retrieval.specs.Fronts.{SameFront, front_left, walk_of};
+ghost use Rattle.rv_retrieval.specs.Given.{awaited, more_behind};
+ghost use Rattle.rv_retrieval.specs.Opened.{Begun, has_scans};
+ghost use Rattle.rv_retrieval.specs.Opens.{Opens, first_of};
+ghost use Rattle.rv_retrieval.specs.Rest.{StepMarks, qualifying};
+ghost use Rattle.rv_retrieval.specs.Shape.{KeyAt, LastFits, LeastOf, NextKey, Remembers, RetrievalFits, Source, given_as, left_at, lending, front_entries, is_background, is_led, is_sorted, keys_left, rest, rows_of};
+ghost use Rattle.rv_retrieval.specs.Telling.{counted, index_of, list_len, noted};
+
+use crate::front::Front;
+use crate::query::Query;
+use rv_delivered::Delivered;
+use rv_jscan::{Given, Jscan, PieceId, ScanPlan, Sieved, Taken};
+use rv_judge::{Control, Counts, Event, Facts, Steps, Strategy, Trace, project};
+use rv_keylist::KeyList;
+use rv_reader::Reader;
+use rv_restrict::Tri;
+use rv_scan::{Scanned, Skip, Tscan};
+use rv_value::{NoMemory, Record, RowNo};
+use std::alloc::Global;
+use std::marker::Model;
+
+/// The list that hides rows from a foreground's scan.
+fn hiding(strategy: Strategy, list: Option<&KeyList>) -> Option<&KeyList>
+    ensures { option_copied result ≡ (if is_sorted strategy then option_copied list.entry else None) }
+{
+    match strategy {
+        Strategy::Sorted => list,
+        Strategy::Table | Strategy::BackgroundOnly | Strategy::FastFirst | Strategy::IndexOnly =>
+            None,
+    }
+}
+
+fn has_scans(scans: &[ScanPlan]) -> bool
+    ensures { result ≡ has_scans scans.now }
+{
+    !scans.is_empty()
+}
+
+/// The first control of a strategy.
+fn first_control(strategy: Strategy, scans: bool) -> Control
+    ensures { result ≡ first_of strategy scans }
+{
+    match strategy {
+        Strategy::Table => Control::FinalTable,
+        Strategy::BackgroundOnly => Control::BackgroundAlone,
+        Strategy::FastFirst => Control::Building,
+        Strategy::Sorted | Strategy::IndexOnly => {
+            if scans {
+                Control::Building
+            } else {
+                Control::ForegroundAlone
+            }
+        }
+    }
+}
+
+/// A retrieval from one table at a snapshot.
+#[derive(Drop)]
+pub struct Retrieval {
+    alloc: Global,
+    query: Query,
+    strategy: Strategy,
+    control: Control,
+    joint: Jscan,
+    front: Front,
+    delivered: Delivered,
+    borrowed: u64,
+    at: u64,
+    last: Tscan,
+    guaranteed: u64,
+    trace: Trace,
+}
+
+impl Model for Retrieval {
+    ghost use Rattle.rv_retrieval.specs.Shape.{Shape};
+
+    ghost Value = { Shape };
+
+    ghost view = { λ r. record { query = r.query; strategy = r.strategy; control = r.control; joint = r.joint; front = r.front; delivered = r.delivered; borrowed = r.borrowed; at = r.at; last = r.last; guaranteed = r.guaranteed; trace = r.trace } };
+}
+
+impl Retrieval {
+    /// Which sides run.
+    pub fn control(&self) -> Control
+        ensures { result ≡ self.now.control }
+    {
+        self.control
+    }
+
+    pub(crate) fn strategy(&self) -> Strategy
+        ensures { result ≡ self.now.strategy }
+    {
+        self.strategy
+    }
+
+    pub(crate) fn is_background(&self) -> bool
+        ensures { result ≡ is_background self.now.control }
+    {
+        match self.control {
+            Control::Building | Control::BackgroundAlone => true,
+            Control::ForegroundAlone | Control::FinalList | Control::FinalTable | Control::Done =>
+                false,
+        }
+    }
+
+    /// The id of the awaited piece; None exactly where no background scan is under way.
+    pub fn awaited(&self) -> Option<PieceId>
+        ensures { result ≡ awaited self.now }
+    {
+        if self.is_background() {
+            self.joint.awaited()
+        } else {
+            None
+        }
+    }
+
+    pub(crate) fn set_control(&mut self, control: Control)
+        ensures { self.new ≡ record self.old { control = control } }
+    {
+        self.control = control;
+    }
+
+    pub(crate) fn was_delivered(&self, row: RowNo) -> bool
+        ensures { result ≡ has_key row.0 self.now.delivered }
+    {
+        self.delivered.has(row)
+    }
+
+    /// The row of a number, where it qualifies. It is one record read.
+    pub(crate) fn examine<R: Reader>(
+        &self,
+        reader: &R,
+        row: RowNo,
+        steps: &mut Steps<R::Ledger>,
+    ) -> Result<Option<Record>, NoMemory>
+        requires can { CanRead (R.shown reader.now) self.now.query.table self.now.query.snap }
+        requires columns { HaveColumns self.now.query.only (rows_of self.now (R.shown reader.now)) }
+        ensures { IfOk result (λ found. given_as found ≡ looked self.now.query.only (row_at (rows_of self.now (R.shown reader.now)) row.0)) }
+    {
+        let found = reader.fetch(self.alloc, self.query.table, self.query.snap, row, steps)?;
+        Ok(self.look(found))
+    }
+
+    pub(crate) fn look(&self, found: Option<Record>) -> Option<Record>
+        requires { IfSome found (λ r. names_only (row_has r.values) self.now.query.only ≡ true) }
+        ensures { given_as result ≡ looked self.now.query.only found }
+    {
+        match found {
+            None => None,
+            Some(found) => {
+                if self.query.only.truth(&found.values) == Tri::True {
+                    Some(found)
+                } else {
+                    None
+                }
+            }
+        }
+    }
+
+    pub(crate) fn more_behind(&self) -> bool
+        ensures { result ≡ more_behind self.now.joint }
+    {
+        self.joint.ended() < self.joint.planned().saturating_sub(1)
+            && match self.joint.list() {
+                Some(list) => list.len() != 0,
+                None => true,
+            }
+    }
+
+    pub(crate) fn is_listed(&self) -> bool
+        ensures { result ≡ is_some self.now.joint.list }
+    {
+        self.joint.list().is_some()
+    }
+
+    pub(crate) fn is_under_way(&self) -> bool
+        ensures { result ≡ under_way self.now.joint }
+    {
+        self.joint.awaited().is_some()
+    }
+
+    pub(crate) fn ended(&self) -> u32
+        ensures { result ≡ self.now.joint.ended }
+    {
+        self.joint.ended()
+    }
+
+    pub(crate) fn give_joint(&mut self, sieved: Sieved) -> Result<Given, NoMemory>
+        ensures same { self.new ≡ record self.old { joint = self.new.joint } }
+        ensures given { IfOk result (λ g. Gives self.old.joint sieved g self.new.joint) }
+        ensures err { OnErr result (self.new ≡ self.old) }
+        ensures fits { (shown : Shown) → JointFits self.old.joint shown → JointFits self.new.joint shown }
+        ensures nearer { (shown : Shown) → JointFits self.old.joint shown → IfOk result (λ g. Nearer self.old.joint self.new.joint g shown) }
+    {
+        self.joint.give(sieved)
+    }
+
+    pub(crate) fn take_joint<R: Reader>(
+        &mut self,
+        reader: &R,
+        steps: &mut Steps<R::Ledger>,
+    ) -> Result<Taken, NoMemory>
+        requires can { CanTake self.old.joint (R.shown reader.now) }
+        requires fits { JointFits self.old.joint (R.shown reader.now) }
+        ensures same { self.new ≡ record self.old { joint = self.new.joint } }
+        ensures leaves { TakeLeaves self.old.joint self.new.joint }
+        ensures taken { IfOk result (Takes self.new.joint) }
+        ensures fits { JointFits self.new.joint (R.shown reader.now) }
+    {
+        self.joint.take(reader, steps)
+    }
+
+    pub(crate) fn drop_scan(&mut self)
+        requires { under_way self.old.joint ≡ true }
+        ensures same { self.new ≡ record self.old { joint = abandoned self.old.joint } }
+        ensures fits { (shown : Shown) → JointFits self.old.joint shown → JointFits self.new.joint shown }
+    {
+        self.joint.abandon_scan();
+    }
+
+    /// Another list is borrowed from: borrowing begins again at its first key.
+    pub(crate) fn borrow_anew(&mut self)
+        ensures { self.new ≡ record self.old { borrowed = 0 } }
+    {
+        self.borrowed = 0;
+    }
+
+    /// A scan was dropped: where no list is complete, borrowing goes over to the next scan's list.
+    pub(crate) fn borrow_next(&mut self, listed: bool)
+        ensures { self.new ≡ record self.old { borrowed = (if listed then self.old.borrowed else 0) } }
+    {
+        if !listed {
+            self.borrow_anew();
+        }
+    }
+
+    pub(crate) fn scan_front<R: Reader>(
+        &mut self,
+        reader: &R,
+        steps: &mut Steps<R::Ledger>,
+    ) -> Result<Scanned, NoMemory>
+        requires fits { RetrievalFits self.old (R.shown reader.now) }
+        requires led { is_led self.old.strategy ≡ true }
+        ensures same { self.new ≡ record self.old { front = self.new.front } }
+        ensures front { SameFront self.old.front self.new.front }
+        ensures follows { Follows (walk_of self.new.front) (front_entries self.old (R.shown reader.now)) }
+        ensures least { is_sorted self.old.strategy ≡ true → IfOk result (LeastOf self.old (R.shown reader.now)) }
+        ensures marks { let shown = R.shown reader.now in IfOk result (λ s. StepMarks self.old.query.need self.old.query.only (rows_of self.old shown) s (front_left self.old.front (front_entries self.old shown)) (front_left self.new.front (front_entries self.old shown))) }
+        ensures err { OnErr result (self.new ≡ self.old) }
+    {
+        let skip = Skip {
+            delivered: None,
+            list: hiding(self.strategy, self.joint.list()),
+        };
+        self.front.step(reader, &self.query.only, &skip, steps)
+    }
+
+    pub(crate) fn key_at(&self) -> Option<RowNo>
+        ensures { KeyAt self.now.joint.list self.now.at result }
+    {
+        match self.joint.list() {
+            Some(list) => {
+                if self.at < list.len() {
+                    Some(list.get(self.at))
+                } else {
+                    None
+                }
+            }
+            None => None,
+        }
+    }
+
+    pub(crate) fn pass_key(&mut self)
+        requires { self.old.at < 2 ^ 64 - 1 }
+        ensures { self.new ≡ record self.old { at = self.old.at + 1 } }
+    {
+        self.at += 1;
+    }
+
+    pub(crate) fn scan_last<R: Reader>(
+        &mut self,
+        reader: &R,
+        steps: &mut Steps<R::Ledger>,
+    ) -> Result<Scanned, NoMemory>
+        requires fits { RetrievalFits self.old (R.shown reader.now) }
+        ensures same { self.new ≡ record self.old { last = self.new.last } }
+        ensures last { LastFits self.old.query self.new.last (R.shown reader.now) }
+        ensures marks { let shown = R.shown reader.now in IfOk result (λ s. StepMarks self.old.query.need self.old.query.only (rows_of self.old shown) s (left_at Source.Pages self.old shown) (left_at Source.Pages self.new shown)) }
+        ensures err { OnErr result (self.new ≡ self.old) }
+    {
+        let skip = Skip {
+            delivered: Some(&self.delivered),
+            list: None,
+        };
+        self.last.step(reader, &self.query.only, &skip, steps)
+    }
+
+    /// The next key of the list that is borrowed from.
+    pub(crate) fn borrowed_key(&self) -> Option<RowNo>
+        ensures near { IfSome result (λ row. self.now.borrowed < length (lending self.now.joint)) }
+        ensures small { IfSome result (λ row. self.now.borrowed < 2 ^ 64 - 1) }
+    {
+        let list = match self.joint.list() {
+            Some(list) => list,
+            None => self.joint.building()?,
+        };
+        if self.borrowed < list.len() {
+            Some(list.get(self.borrowed))
+        } else {
+            None
+        }
+    }
+
+    pub(crate) fn pass_borrowed(&mut self)
+        requires { self.old.borrowed < 2 ^ 64 - 1 }
+        ensures { self.new ≡ record self.old { borrowed = self.old.borrowed + 1 } }
+    {
+        self.borrowed += 1;
+    }
+
+    pub(crate) fn remember(&mut self, row: RowNo)
+        requires room { length self.old.delivered < 1024 }
+        requires fresh { has_key row.0 self.old.delivered ≡ false }
+        ensures { Remembers self.old self.new row.0 }
+    {
+        self.delivered.add(row);
+    }
+
+    pub(crate) fn is_full(&self) -> bool
+        ensures full { result ≡ (length self.now.delivered == 1024) }
+        ensures most { length self.now.delivered ≤ 1024 }
+    {
+        let _len = self.delivered.len();
+        self.delivered.full()
+    }
+
+    /// What the judge is told of the scan under way.
+    pub(crate) fn facts(&self) -> Facts
+        requires { under_way self.now.joint ≡ true }
+        ensures { result ≡ facts_of (account_of self.now) self.now.joint.ended }
+    {
+        let scan = self.joint.ended();
+        let estimate = self.joint.plan(scan).estimate;
+        let scanned = self.joint.scanned(scan);
+        let kept = self.joint.kept(scan);
+        Facts {
+            control: self.control,
+            scan,
+            scanned,
+            kept,
+            estimate,
+            spent: self.joint.leaves(scan),
+            projected: project(estimate.max(scanned), scanned, kept),
+            guaranteed: self.guaranteed,
+            delivered: u64::from(self.delivered.len()),
+        }
+    }
+}
+
+impl Retrieval {
+    /// A retrieval under a strategy, with these background scans and this scan of an index as the foreground, which is
+    /// used where the strategy is sorted or index-only. It has read nothing, and nothing stands in its trace.
+    pub(crate) fn make(
+        alloc: Global,
+        query: Query,
+        strategy: Strategy,
+        scans: Vec<ScanPlan>,
+        front: Front,
+        guaranteed: u64,
+        cursor: u64,
+        opening: u64,
+    ) -> Result<Retrieval, NoMemory>
+        requires { length scans.items ≤ 8 }
+        ensures begun { IfOk result (Begun query strategy scans.items front guaranteed cursor opening) }
+        ensures fits { (shown : Shown) → Opens query strategy scans.items front shown → IfOk result (λ r. RetrievalFits r shown) }
+        ensures rest { (shown : Shown) → Opens query strategy scans.items front shown → IfOk result (λ r. rest r shown ≡ qualifying query.only (shown.rows query.table query.snap)) }
+    {
+        let delivered = Delivered::new(alloc)?;
+        let control = first_control(strategy, has_scans(scans.as_slice()));
+        let last = Tscan::new(alloc, query.table, query.snap);
+        let joint = Jscan::new(alloc, query.table, query.snap, scans, cursor, opening);
+        Ok(Retrieval {
+            alloc,
+            query,
+            strategy,
+            control,
+            joint,
+            front,
+            delivered,
+            borrowed: 0,
+            at: 0,
+            last,
+            guaranteed,
+            trace: Trace::new(strategy),
+        })
+    }
+
+    /// Writes an event into the trace, which has room for all that a retrieval comes to.
+    pub(crate) fn note(&mut self, event: Event)
+        ensures { self.new ≡ record self.old { trace = noted self.old.trace event } }
+    {
+        let _full = self.trace.events.try_push(event);
+    }
+
+    /// The index of a planned scan.
+    pub(crate) fn index_of(&self, scan: u32) -> Option<u32>
+        ensures { result ≡ index_of self.now.joint scan }
+    {
+        if scan < self.joint.planned() {
+            Some(self.joint.plan(scan).index)
+        } else {
+            None
+        }
+    }
+
+    /// The number of keys of the complete list.
+    pub(crate) fn list_len(&self) -> u64
+        ensures { result ≡ list_len self.now.joint.list }
+    {
+        match self.joint.list() {
+            Some(list) => list.len(),
+            None => 0,
+        }
+    }
+
+    /// A list of so many keys is complete: so many fetches finish the retrieval.
+    pub(crate) fn lower_guarantee(&mut self, keys: u64)
+        ensures { self.new ≡ record self.old { guaranteed = guarantee_with self.old.guaranteed keys } }
+    {
+        self.guaranteed = keys.min(self.guaranteed);
+    }
+
+    /// Adds to the trace what a call has read.
+    pub(crate) fn count(&mut self, before: Counts, after: Counts)
+        ensures { self.new ≡ record self.old { trace = counted self.old.trace before after } }
+    {
+        let pages = after.pages.saturating_sub(before.pages);
+        let leaves = after.leaves.saturating_sub(before.leaves);
+        let fetches = after.records.saturating_sub(before.records);
+        self.trace.pages = self.trace.pages.saturating_add(pages);
+        self.trace.leaves = self.trace.leaves.saturating_add(leaves);
+        self.trace.fetches = self.trace.fetches.saturating_add(fetches);
+    }
+
+    /// What it did so far.
+    pub fn trace(&self) -> &Trace
+        ensures { result.now ≡ self.now.trace }
+    {
+        &self.trace
+    }
+}
