@@ -5,5 +5,3 @@ mod descent;
 
 pub use descent::split;
 
-#[cfg(test)]
-mod tests;

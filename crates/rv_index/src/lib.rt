@@ -6,5 +6,3 @@ mod tree;
 
 pub use tree::Tree;
 
-#[cfg(test)]
-mod tests;
