@@ -4,4 +4,3 @@
 mod descent;
 
 pub use descent::split;
-

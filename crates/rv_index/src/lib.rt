@@ -5,4 +5,3 @@ mod parts;
 mod tree;
 
 pub use tree::Tree;
-
