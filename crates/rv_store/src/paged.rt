@@ -1,6 +1,6 @@
 ghost use Rattle.std.specs.Prelude.{◌≡◌, ◌-◌, ◌^◌, ◌<◌, ◌≤◌, [], length, slice_get, IfOk, IfSome, OnErr, OnOk};
 ghost use Rattle.rv_index.specs.Index.{empty_tree};
-ghost use Rattle.rv_reader.specs.Storing.{AreColumns, CanCommit, Committed, Indexed, IsSame, Swept};
+ghost use Rattle.rv_reader.specs.Storing.{AreColumns, CanCommit, Committed, Created, Indexed, IsSame, Swept};
 ghost use Rattle.rv_store.specs.Indexes.{tree_in};
 ghost use Rattle.rv_store.specs.Indexing.{tree_over};
 ghost use Rattle.rv_store.specs.Paged.{AreTreesThrough, shown_of};
@@ -115,7 +115,12 @@ impl Store for Paged {
         self.newest
     }
 
-    fn create_table(&mut self, _table: u32, columns: u32) -> Result<(), NoMemory> {
+    fn create_table(&mut self, table: u32, columns: u32) -> Result<(), NoMemory>
+        requires { table ≡ (shown_of self.old).tables }
+        ensures ok { OnOk result (Created (shown_of self.old) (shown_of self.new) columns) }
+        ensures err { OnErr result (IsSame (shown_of self.old) (shown_of self.new)) }
+        ensures turns { self.new.turns ≡ self.old.turns }
+    {
         self.tables.push(Table {
             width: columns,
             records: Records::new(self.alloc),
