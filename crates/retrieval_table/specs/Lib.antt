@@ -1,0 +1,4 @@
+pub mod Laying
+pub mod Standing
+pub mod Asking
+pub mod Driving

@@ -1,0 +1,94 @@
+//! A retrieval for what is asked of a loaded store, and the line that tells of it.
+ghost use Rattle.std.specs.Prelude.{◌≡◌, IfOk, IsPermutation, true};
+ghost use Rattle.rv_plain.specs.Kept.{shown_of};
+ghost use Rattle.rv_retrieval.specs.Rest.{qualifying};
+ghost use Rattle.retrieval_table.specs.Asking.{spans_of};
+ghost use Rattle.retrieval_table.specs.Driving.{numbers_of};
+ghost use Rattle.retrieval_table.specs.Standing.{Stands};
+
+use crate::asked::{Asked, query};
+use crate::checked::is_right;
+use crate::drive::{Driven, Way, drive};
+use crate::judges::{Ruling, verdicts};
+use crate::lines::rows_text;
+use crate::load::Loaded;
+use crate::trace::trace_text;
+use rv_judge::{Contrary, Judge, Listed, Patient, Steps, Threshold, Uncounted};
+use rv_retrieval::Retrieval;
+use rv_value::NoMemory;
+use std::alloc::Global;
+
+fn verdict_word(right: bool, ended: bool) -> &'static str {
+    match (right, ended) {
+        (true, true) => "right",
+        (false, true) => "WRONG",
+        (_, false) => "NOT ENDED",
+    }
+}
+
+fn told(
+    alloc: Global,
+    loaded: &Loaded,
+    asked: &Asked,
+    driven: &Driven,
+    retrieval: &Retrieval,
+) -> Result<String, NoMemory>
+    requires { Stands loaded.now }
+{
+    let rows = driven.rows.as_slice();
+    let right = is_right(alloc, asked, rows, loaded.rows, loaded.second)?;
+    let rows = rows_text(alloc, rows)?;
+    let trace = trace_text(alloc, retrieval.trace())?;
+    let word = verdict_word(right, driven.ended);
+    Ok(format!(in alloc; "{word}, {}; {}", rows.as_str(), trace.as_str())?)
+}
+
+/// Opens a retrieval for what is asked, and drives it to its end. The rows of one that ended are those of the snapshot
+/// that qualify, each once.
+fn retrieve(
+    alloc: Global,
+    loaded: &Loaded,
+    asked: &Asked,
+    ruling: Ruling,
+    way: Way,
+) -> Result<(Driven, Retrieval), NoMemory>
+    requires { Stands loaded.now }
+    ensures { IfOk result (λ found. found.0.ended ≡ true → IsPermutation (numbers_of (qualifying (spans_of asked.now) ((shown_of loaded.now.store).rows 0 loaded.now.snap))) (numbers_of found.0.rows.items)) }
+{
+    let query = query(alloc, loaded.snap, asked)?;
+    let mut judge: Box<dyn Judge> = match ruling {
+        Ruling::Threshold => Box::new(alloc, Threshold::new())?,
+        Ruling::Patient => Box::new(alloc, Patient::new())?,
+        Ruling::Contrary => Box::new(alloc, Contrary::new())?,
+        Ruling::StopsFirst
+        | Ruling::EndsSecond
+        | Ruling::DropsThenStops
+        | Ruling::EndsFourth
+        | Ruling::DropsThird => Box::new(alloc, Listed::new(verdicts(alloc, ruling)?))?,
+    };
+    let mut steps = Steps::new(Uncounted);
+    let mut retrieval = Retrieval::open(alloc, &loaded.store, query, 1, 1, &mut steps)?;
+    let driven = drive(
+        alloc,
+        &loaded.store,
+        &mut retrieval,
+        &mut judge,
+        way,
+        &mut steps,
+    )?;
+    Ok((driven, retrieval))
+}
+
+/// What comes of a retrieval.
+pub fn outcome(
+    alloc: Global,
+    loaded: &Loaded,
+    asked: &Asked,
+    ruling: Ruling,
+    way: Way,
+) -> Result<String, NoMemory>
+    requires { Stands loaded.now }
+{
+    let (driven, retrieval) = retrieve(alloc, loaded, asked, ruling, way)?;
+    told(alloc, loaded, asked, &driven, &retrieval)
+}

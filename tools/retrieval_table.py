@@ -1,0 +1,550 @@
+#!/usr/bin/env python3
+"""Writes what the program `retrieval_table` is to print, by the rules in words.
+
+A table has the rows 0 to n - 1. Row i has the values i, then i or 0, and then NULL where 11 divides i, else
+37 * (i mod 50) mod 50. There are indexes over the first column (IA), the second (IB), the third and the first (ICA) and
+the third (IC); NULL is the least value, and entries are ordered by key and then by row. A leaf has 32 entries, a page the
+rows of 32 numbers. An estimate is the number of entries in the range.
+
+A retrieval is asked for the rows whose columns lie in spans, by some of the indexes, with some columns, in the order of
+the third column or in any, the first rows soon or all rows soon. How it goes is written at each function below."""
+
+import sys
+
+NULL = (0, 0)
+NAMES = ["IA", "IB", "ICA", "IC"]
+COLUMNS = [(0,), (1,), (2, 0), (2,)]
+LEAF = PAGE = 32
+SHORT, BUFFER, SMALL = 20, 1024, 1024
+
+
+def value(number):
+    return (1, number)
+
+
+class Table:
+    """The rows of a table and the entries of its indexes."""
+
+    def __init__(self, count, same):
+        self.rows = []
+        for i in range(count):
+            third = NULL if i % 11 == 0 else value(i % 50 * 37 % 50)
+            self.rows.append((value(i), value(i if same else 0), third))
+        self.entries = []
+        for columns in COLUMNS:
+            found = [(tuple(row[c] for c in columns), n) for n, row in enumerate(self.rows)]
+            self.entries.append(sorted(found))
+        self.pages = -(-count // PAGE)
+
+
+class Asked:
+    def __init__(self, spans, uses, whole=True, ordered=False, soon=False):
+        self.spans = spans  # column -> (low, high)
+        self.uses = uses
+        self.needed = {0, 2} | ({1} if whole or 1 in spans else set())
+        self.ordered = ordered and any(COLUMNS[i][0] == 2 for i in uses)
+        self.soon = soon
+
+    def qualifies(self, row):
+        return all(in_span(row[c], span) for c, span in self.spans.items())
+
+
+def in_span(v, span):
+    """A comparison with NULL is not True."""
+    return v != NULL and span[0] <= v[1] <= span[1]
+
+
+class Index:
+    """An index as a query sees it: its range is the span of its first column, whole where that has none."""
+
+    def __init__(self, table, asked, number):
+        self.number, self.columns = number, COLUMNS[number]
+        self.entries = table.entries[number]
+        self.range = asked.spans.get(self.columns[0])
+        self.restricted = self.range is not None
+        self.estimate = sum(self.side(key) == 0 for key, _ in self.entries)
+        self.covers = asked.needed <= set(self.columns)
+        # the part of the restriction that it tests by itself
+        self.part = {c: span for c, span in asked.spans.items() if c in self.columns}
+
+    def side(self, key):
+        """-1 before the range, 0 in it, 1 after it."""
+        if self.range is None:
+            return 0
+        low, high = value(self.range[0]), value(self.range[1])
+        return -1 if key[0] < low else 1 if key[0] > high else 0
+
+    def passes(self, key):
+        values = dict(zip(self.columns, key))
+        return all(in_span(values[c], span) for c, span in self.part.items())
+
+    def leaf(self, start):
+        """The entries in the range of a leaf, and the place at which the next one begins where that may have more. The
+        first reading is of the last leaf whose first key is before the range, or of the first leaf."""
+        if start is None:
+            start = 0
+            while start + LEAF < len(self.entries) and self.side(self.entries[start + LEAF][0]) < 0:
+                start += LEAF
+        inside = [e for e in self.entries[start:start + LEAF] if self.side(e[0]) == 0]
+        following = start + LEAF
+        more = following < len(self.entries) and self.side(self.entries[following][0]) <= 0
+        return inside, following if more else None
+
+
+class KeyList:
+    """A list of keys: in the order in which they came, then ascending. Up to 1,024 keys it tells exactly whether it has
+    a key, above that by a filter of 65,536 bits."""
+
+    def __init__(self, keys):
+        self.keys = keys
+        self.exact = set(keys)
+        self.bits = {self.bit(k) for k in keys} if len(keys) > SMALL else None
+
+    @staticmethod
+    def bit(key):
+        return (key * 0x9E3779B97F4A7C15 % 2**64) >> 48
+
+    def may_have(self, key):
+        return key in self.exact if self.bits is None else self.bit(key) in self.bits
+
+
+# The judges.
+
+
+def threshold(facts):
+    """A scan is dropped that is not projected to cost less than 19 of 20 parts of what is guaranteed."""
+    return "drop" if 20 * facts["projected"] >= 19 * facts["guaranteed"] else "go on"
+
+
+def patient(facts):
+    return "go on"
+
+
+def in_turn(verdicts, again):
+    left = list(verdicts)
+
+    def rule(facts):
+        if not left:
+            return "go on"
+        verdict = left.pop(0)
+        if again:
+            left.append(verdict)
+        return verdict
+
+    return rule
+
+
+JUDGES = [
+    ("threshold", lambda: threshold),
+    ("patient", lambda: patient),
+    ("contrary", lambda: in_turn(["stop", "go on", "drop", "end"], True)),
+    ("stops first", lambda: in_turn(["stop"], False)),
+    ("ends second", lambda: in_turn(["go on", "end"], False)),
+    ("drops, then stops", lambda: in_turn(["drop", "stop"], False)),
+    ("ends fourth", lambda: in_turn(["go on", "go on", "go on", "end"], False)),
+    ("drops third", lambda: in_turn(["go on", "go on", "drop", "drop"], False)),
+]
+
+
+def project(estimate, scanned, kept):
+    """The leaves to come, at 16 entries each, and the records of the list that is to be expected."""
+    total = max(estimate, scanned)
+    keys = total if scanned == 0 else -(-kept * total // scanned)
+    return -(-(total - scanned) // 16) + keys
+
+
+class Scan:
+    """A background scan: where it stands, and the keys that it has listed."""
+
+    def __init__(self, index):
+        self.index = index
+        self.place, self.held = None, None
+        self.scanned, self.kept, self.keys = 0, 0, []
+
+
+class Walk:
+    """A foreground's scan of an index: the entries held, and the place at which the next leaf begins."""
+
+    def __init__(self, index):
+        self.index, self.held = index, []
+        self.place, self.more = None, True
+
+    def read_on(self):
+        self.held, self.place = self.index.leaf(self.place)
+        self.more = self.place is not None
+
+
+class Retrieval:
+    def __init__(self, table, asked, judge):
+        self.table, self.asked, self.judge = table, asked, judge
+        self.pages = self.leaves = self.fetches = 0
+        self.delivered = []
+        self.list = None  # the complete list
+        self.lent, self.borrowed = None, 0  # which list is borrowed from, and how many of its keys were
+        self.number = 1  # of the piece awaited
+        self.at, self.page, self.held = 0, 0, []  # the final stages
+        self.choose()
+        self.events = []
+        self.to(self.first())
+        self.begin()
+        if self.at_once:
+            while self.scan is not None:
+                self.give(self.take())
+
+    # The choice.
+
+    def choose(self):
+        asked = self.asked
+        indexes = [Index(self.table, asked, n) for n in asked.uses]
+        restricted = [i for i in indexes if i.restricted]
+        few = [i for i in restricted if i.estimate <= SHORT]
+        covering = [i for i in indexes if i.covers]
+        leading = [i for i in indexes if asked.ordered and i.columns[0] == 2]
+        least = lambda some: min(some, key=lambda i: i.estimate)  # of equal ones the first
+        self.front, self.at_once, planned = None, False, []
+        if asked.ordered:
+            self.strategy, self.front = "sorted", leading[0]
+            if not self.front.covers:
+                planned = [i for i in restricted if i is not self.front]
+        elif covering and not few:
+            self.strategy, self.front = "index-only", least(covering)
+            planned = [i for i in restricted if i is not self.front]
+        elif restricted:
+            self.strategy = "fast-first" if asked.soon and not few else "background-only"
+            planned = restricted
+        else:
+            self.strategy = "table"
+        if few:
+            self.at_once, planned = True, [least(few)]
+        self.planned = sorted(planned, key=lambda i: i.estimate)
+        self.walk = Walk(self.front) if self.front else None
+        if self.strategy == "sorted":
+            self.guaranteed = self.front.estimate
+        elif self.strategy == "index-only":
+            self.guaranteed = -(-self.front.estimate // 16)
+        else:
+            self.guaranteed = self.table.pages
+
+    def first(self):
+        if self.strategy == "table":
+            return "final-table"
+        if self.strategy == "background-only":
+            return "background"
+        return "building" if self.planned else "foreground"
+
+    # The course.
+
+    def to(self, control):
+        self.control = control
+        self.events.append(control)
+
+    def in_background(self):
+        return self.control in ("building", "background")
+
+    def begin(self):
+        """The next background scan begins, where one is planned."""
+        self.scan = None
+        if self.planned:
+            self.scan = Scan(self.planned.pop(0))
+            if self.in_background():
+                self.events.append("scan " + NAMES[self.scan.index.number])
+
+    def more(self):
+        return bool(self.planned) and (self.list is None or bool(self.list.keys))
+
+    def ends(self, verdict):
+        """A scan completed or was dropped and nothing is to follow, or the background was ended."""
+        self.scan = None
+        if self.control == "building" and self.strategy == "sorted":
+            self.to("foreground")
+        elif self.control == "building" and self.strategy == "index-only" and (verdict == "end" or self.list is None):
+            self.to("foreground")
+        else:
+            self.to("final-table" if self.list is None else "final-list")
+
+    def completed(self):
+        scan = self.scan
+        self.list = KeyList(sorted(scan.keys))
+        self.guaranteed = min(self.guaranteed, len(scan.keys))
+        self.events.append(f"list {NAMES[scan.index.number]} {len(scan.keys)}")
+        if self.more():
+            self.begin()
+        else:
+            self.ends(None)
+
+    def obey(self, verdict):
+        if verdict == "stop" and self.control == "building" and self.strategy in ("fast-first", "index-only"):
+            self.events.append("stop")
+            self.to("background")
+        if verdict in ("drop", "end"):
+            more = self.more()
+            self.events.append("drop " + NAMES[self.scan.index.number])
+            if verdict == "drop" and more:
+                self.begin()
+            else:
+                self.ends(verdict)
+
+    # The background: pieces.
+
+    def take(self):
+        """The awaited piece; its leaf is read where it was not yet."""
+        if not self.in_background() or self.scan is None:
+            return None
+        scan = self.scan
+        if scan.held is None:
+            self.leaves += 1
+            scan.held = scan.index.leaf(scan.place)
+        return (self.number, scan.held[0])
+
+    def give(self, piece):
+        """Whether the piece was accepted. That of another number is not, nor one that was never taken."""
+        if not self.in_background() or self.scan is None or piece[0] != self.number or self.scan.held is None:
+            return False
+        scan, (entries, following) = self.scan, self.scan.held
+        kept = [n for key, n in entries if scan.index.passes(key) and (self.list is None or self.list.may_have(n))]
+        scan.scanned += len(entries)
+        scan.kept += len(kept)
+        scan.keys += kept
+        scan.place, scan.held = following, None
+        self.number += 1
+        if following is None:
+            self.completed()
+        elif not self.at_once:
+            self.obey(self.judge({
+                "projected": project(scan.index.estimate, scan.scanned, scan.kept),
+                "guaranteed": self.guaranteed,
+            }))
+        return True
+
+    # The foreground.
+
+    def fetch(self, number):
+        self.fetches += 1
+        return self.asked.qualifies(self.table.rows[number])
+
+    def remember(self, number):
+        self.delivered.append(number)
+        if len(self.delivered) == BUFFER:
+            self.events.append("full")
+            self.to("background" if self.strategy == "fast-first" else "foreground")
+
+    def step(self):
+        """A row's number, None where no row came yet, or "end"."""
+        return {
+            "building": self.building_step,
+            "background": self.background_step,
+            "foreground": self.walk_step,
+            "final-list": self.list_step,
+            "final-table": self.table_step,
+            "done": lambda: "end",
+        }[self.control]()
+
+    def background_step(self):
+        self.give(self.take())
+        return None
+
+    def building_step(self):
+        if self.strategy == "fast-first":
+            return self.borrow_step()
+        return self.walk_step()
+
+    def borrow_step(self):
+        """A key is fetched of the complete list, or else of the list that is built; where another list is borrowed from,
+        borrowing begins anew. Without a fresh key it is a background step."""
+        if self.list is not None:
+            lent, keys = self.list, self.list.keys
+        else:
+            lent, keys = self.scan, self.scan.keys
+        if lent is not self.lent:
+            self.lent, self.borrowed = lent, 0
+        while self.borrowed < len(keys) and keys[self.borrowed] in self.delivered:
+            self.borrowed += 1
+        if self.borrowed == len(keys):
+            return self.background_step()
+        number = keys[self.borrowed]
+        self.borrowed += 1
+        if not self.fetch(number):
+            return None
+        self.remember(number)
+        return number
+
+    def walk_step(self):
+        """A step of the foreground's scan of its index. One by the index alone passes over what does not qualify; one with
+        fetches answers nothing for a row that does not qualify. Sorted skips what a complete list cannot have."""
+        walk, sorts = self.walk, self.strategy == "sorted"
+        while walk.held:
+            key, number = walk.held.pop(0)
+            if sorts and self.list is not None and not self.list.may_have(number):
+                continue
+            if not walk.index.covers:
+                return number if self.fetch(number) else None
+            if self.asked.qualifies(self.table.rows[number]):
+                if self.control == "building" and not sorts:
+                    self.remember(number)
+                return number
+        if not walk.more:
+            self.to("done")
+            return "end"
+        self.leaves += 1
+        walk.read_on()
+        return None
+
+    def list_step(self):
+        keys = self.list.keys
+        while self.at < len(keys) and keys[self.at] in self.delivered:
+            self.at += 1
+        if self.at == len(keys):
+            self.to("done")
+            return "end"
+        number = keys[self.at]
+        self.at += 1
+        return number if self.fetch(number) else None
+
+    def table_step(self):
+        while self.held:
+            number = self.held.pop(0)
+            if number not in self.delivered and self.asked.qualifies(self.table.rows[number]):
+                return number
+        if self.page == self.table.pages:
+            self.to("done")
+            return "end"
+        self.pages += 1
+        first = self.page * PAGE
+        self.held = list(range(first, min(first + PAGE, len(self.table.rows))))
+        self.page += 1
+        return None
+
+    def trace(self):
+        counts = f"pages {self.pages} leaves {self.leaves} fetches {self.fetches}"
+        return " ".join([self.strategy] + self.events + [counts])
+
+
+class Way:
+    """What is done of the background between two foreground steps: so many times the awaited piece is taken and put
+    behind those in hand; where none is awaited, or more than `late` are in hand, the oldest is given, so many times."""
+
+    def __init__(self, steps, late=0, times=1, after=None):
+        self.steps, self.late, self.times, self.after = steps, late, times, after
+
+    def work(self, retrieval, hand):
+        for _ in range(self.steps):
+            piece = retrieval.take()
+            if piece is not None:
+                hand.append(piece)
+            if hand and (piece is None or len(hand) > self.late):
+                oldest = hand.pop(0)
+                for _ in range(self.times):
+                    retrieval.give(oldest)
+
+
+def mixed(rows):
+    mix = 0
+    for row in rows:
+        mix = (mix * 31 + row + 1) % 1000003
+    return mix
+
+
+def rows_text(rows):
+    """How many rows there are, and their runs, or where these are more than 40 a number that is mixed of all rows."""
+    runs = []
+    for row in rows:
+        if runs and row == runs[-1][1] + 1:
+            runs[-1][1] = row
+        else:
+            runs.append([row, row])
+    text = f"{len(rows)} rows"
+    if len(runs) > 40:
+        return text + f" mixed {mixed(rows)}"
+    return text + "".join(f" {a}" if a == b else f" {a}-{b}" for a, b in runs)
+
+
+def outcome(table, asked, judge, way):
+    retrieval = Retrieval(table, asked, judge)
+    rows, hand = [], []
+    while True:
+        found = retrieval.step()
+        if found == "end":
+            break
+        if found is not None:
+            rows.append(found)
+        if way.after is None or way.after == len(rows):
+            way.work(retrieval, hand)
+    # each row that qualifies came once, and in order
+    wanted = [n for n, row in enumerate(table.rows) if asked.qualifies(row)]
+    assert sorted(rows) == wanted, (retrieval.trace(), rows, wanted)
+    if asked.ordered:
+        assert all(table.rows[a][2] <= table.rows[b][2] for a, b in zip(rows, rows[1:]))
+    return f"right, {rows_text(rows)}; {retrieval.trace()}"
+
+
+WAYS = [
+    ("no step", Way(0)),
+    ("one step", Way(1)),
+    ("five steps", Way(5)),
+    ("late", Way(1, late=1)),
+    ("twice", Way(1, times=2)),
+    ("never", Way(1, times=0)),
+    ("late and twice", Way(2, late=3, times=2)),
+]
+
+IA, IB, ICA, IC = range(4)
+MUCH = 2**63 - 1
+
+
+def singles():
+    """Single retrievals whose reads are known from hand."""
+    eighty = Table(80, True)
+    both = Asked({0: (10, 40), 1: (30, 70)}, [IA, IB])
+    yield "two lists", eighty, both, patient, Way(0)
+    yield "two scans dropped", eighty, both, threshold, Way(0)
+    flat = Table(80, False)
+    soon = Asked({0: (10, 40)}, [IA], soon=True)
+    after = Way(5, after=4)
+    yield "fast first borrows", flat, soon, patient, after
+    yield "threshold drops", flat, soon, threshold, after
+    yield "contrary stops", flat, soon, JUDGES[2][1](), after
+    many = Table(1100, False)
+    yield "full buffer", many, Asked({0: (0, MUCH)}, [IA], soon=True), patient, Way(0)
+    yield "full buffer, by index alone", many, Asked({0: (0, MUCH)}, [IA, ICA], whole=False), patient, Way(0)
+
+
+def kinds():
+    wide = {0: (60, 300), 1: (120, 380), 2: (10, 12)}
+    narrow = {0: (100, 140), 1: (50, 350), 2: (10, 14)}
+    equal = {0: (100, 160), 1: (90, 150), 2: (10, 19)}
+    short = {0: (100, 115), 1: (50, 350), 2: (10, 29)}
+    none = {0: (900, 950), 2: (10, 29)}
+    yield "table", Asked({2: (10, 11)}, [IA, IB])
+    yield "table without an index", Asked({}, [])
+    for name, soon in [("background only", False), ("fast first", True)]:
+        yield name, Asked(wide, [IA, IB], soon=soon)
+        yield name + ", narrow", Asked(narrow, [IB, ICA], soon=soon)
+        yield name + ", equal", Asked(equal, [IA, IB], soon=soon)
+    yield "sorted", Asked({0: (100, 150), 1: (130, 380)}, [IA, IB, IC], ordered=True)
+    yield "sorted without background", Asked({2: (10, 11)}, [IC], ordered=True)
+    yield "sorted by index alone", Asked({0: (100, 130)}, [IA, ICA], whole=False, ordered=True)
+    yield "index only", Asked({0: (100, 160), 2: (10, 19)}, [IA, ICA, IC], whole=False)
+    yield "index only without background", Asked({2: (10, 11)}, [ICA], whole=False)
+    yield "short", Asked(short, [IA, IB], soon=True)
+    yield "short, sorted", Asked(short, [IA, IB, IC], ordered=True)
+    yield "short, of the order's index", Asked({2: (10, 10)}, [IC], ordered=True)
+    yield "no entry", Asked(none, [IA])
+    yield "no entry, sorted", Asked(none, [IA, IC], ordered=True)
+    yield "crossed", Asked({0: (40, 10), 2: (10, 29)}, [IA])
+
+
+def main(out):
+    for name, table, asked, judge, way in singles():
+        out.write(f"{name}: {outcome(table, asked, judge, way)}\n")
+    table = Table(400, True)
+    for name, asked in kinds():
+        out.write(name + "\n")
+        for ruling, judge in JUDGES:
+            before = ""
+            for pace, way in WAYS:
+                told = outcome(table, asked, judge(), way)
+                out.write(f"  {ruling}, {pace}: {'the same' if told == before else told}\n")
+                before = told
+
+
+main(sys.stdout)
