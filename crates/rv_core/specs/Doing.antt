@@ -1,5 +1,5 @@
 -- What the calls of a database do: two equal replies, and the next state. The store's horizon stays.
-use Rattle.std.specs.Prelude.{◌≡◌, ℕ, List, Option, Result, Ok, length, slice_set}
+use Rattle.std.specs.Prelude.{◌≡◌, ◌≤◌, ℕ, List, Option, Result, Ok, length, slice_set}
 use Rattle.rv_lang.specs.declared.statement.Statement.{Statement}
 use Rattle.rv_lang.specs.declared.reply.Refusal.{Refusal}
 use Rattle.rv_lang.specs.declared.reply.Reply.{Reply}
@@ -53,7 +53,8 @@ abbrev pub Executes : Stand → ℕ → Option Statement → Reply × Reply → 
 Executes old session statement replies new =
     (replies.1 ≡ replies.0) × Allows old.db session statement replies.0 × (new ≡ record old { db = next old.db session statement replies.0 })
 
--- A query that is asked is over one FROM item.
-abbrev pub IsOneQuery : Resolved → Type 0
-IsOneQuery (asks.Open cursor select) = length select.tables ≡ 1
-IsOneQuery asked = Unit {0}
+-- A new index has a column, and a query is over one FROM item.
+abbrev pub IsWhole : Resolved → Type 0
+IsWhole (asks.CreateIndex def) = 1 ≤ length def.columns
+IsWhole (asks.Open cursor select) = length select.tables ≡ 1
+IsWhole asked = Unit {0}

@@ -1,17 +1,17 @@
 //! The database: a catalog, a store, transactions and cursors, and what each statement does to them.
-ghost use Rattle.std.specs.Prelude.{◌≡◌, ◌<◌, true, IfOk, OnErr, length};
+ghost use Rattle.std.specs.Prelude.{◌≡◌, ◌<◌, ◌≤◌, true, IfOk, OnErr, length};
 ghost use Rattle.std.specs.Option.{option_copied};
-ghost use Rattle.rv_catalog.specs.Fits.{IsNewTable, IsQueryOf, IsRowOf, is_over_table};
+ghost use Rattle.rv_catalog.specs.Fits.{IsNewIndex, IsNewTable, IsQueryOf, IsRowOf, is_over_table};
 ghost use Rattle.rv_model.specs.Database.{empty};
 ghost use Rattle.rv_model.specs.Standing.{HasRoom};
-ghost use Rattle.rv_model.specs.Step.{began, changed, closed, committed, created, inserted, opened, rolled_back};
+ghost use Rattle.rv_model.specs.Step.{began, changed, closed, committed, created, indexed, inserted, opened, rolled_back};
 ghost use Rattle.rv_core.specs.Core.{horizon_of};
 ghost use Rattle.rv_core.specs.Doing.{Does, Fetches};
 
 use crate::cursors::{Open, close_all, cursor_named, fetch_at, offers_at, opening};
 use crate::replies::{limit, refused};
-use crate::storing::{add_table, change_rows, commit_some};
-use rv_catalog::{Catalog, Select, TableDef};
+use crate::storing::{add_index, add_table, change_rows, commit_some};
+use rv_catalog::{Catalog, IndexDef, Select, TableDef};
 use rv_judge::Uncounted;
 use rv_lang::{Refusal, Reply, Which};
 use rv_reader::{Reader, Store};
@@ -81,6 +81,27 @@ impl<S: Store + Reader<Ledger = Uncounted> + Drop> Database<S> {
             return refused(self.alloc, limit(Which::Tables, 64));
         }
         match add_table(&mut self.catalog, &mut self.store, def) {
+            Ok(()) => {}
+            Err(NoMemory) => return Err(NoMemory),
+        }
+        Ok((Reply::Created, Reply::Created))
+    }
+
+    /// CREATE INDEX.
+    pub fn create_index(&mut self, def: IndexDef) -> Result<(Reply, Reply), NoMemory>
+        requires new { IsNewIndex self.old.db.schema def }
+        requires some { 1 ≤ length def.columns }
+        requires swept { self.old.horizon ≡ horizon_of self.old.db }
+        ensures ok { IfOk result (λ replies. Does (indexed self.old.db def) self.old replies self.new) }
+        ensures err { OnErr result (self.new ≡ self.old) }
+    {
+        if let Some(lowest) = self.txns.active() {
+            return refused(self.alloc, Refusal::Busy(lowest));
+        }
+        if self.catalog.count_indexes(def.table) > 7 {
+            return refused(self.alloc, limit(Which::Indexes, 8));
+        }
+        match add_index(&mut self.catalog, &mut self.store, def) {
             Ok(()) => {}
             Err(NoMemory) => return Err(NoMemory),
         }
