@@ -1,5 +1,5 @@
 -- What a retrieval of an item is asked can be asked of the reader, and its restriction can be bound.
-use Rattle.std.proofs.Common.{◌≡◌, ◌⊎◌, ℕ, ◌+◌, ◌<◌, ◌≤◌, ◌-◌, List, [], ◌∷◌, ◌++◌, length, max, Bool, true, false, cond, not, ◌&&◌, ◌||◌, ◌==◌, nat_lt, nat_eq, refl, ap, sym, ◌∙◌, arith, subst, slice_index_or, replicate, zero, suc}
+use Rattle.std.proofs.Common.{◌≡◌, ◌⊎◌, ℕ, ◌+◌, ◌<◌, ◌≤◌, ◌-◌, List, [], ◌∷◌, ◌++◌, length, max, Bool, true, false, cond, not, ◌&&◌, ◌||◌, ◌==◌, nat_lt, nat_eq, refl, ap, sym, ◌∙◌, arith, subst, slice_index_or, replicate, zero, suc, filter, Result, Ok, Err, IfOk}
 use Rattle.std.specs.List.{AllByRecursion, list_all, list_any}
 use Rattle.std.proofs.lemmas.Bool.Decides.{nat_tests}
 use Rattle.std.proofs.lemmas.Grind.{common_steps}
@@ -16,8 +16,11 @@ use Rattle.rv_reader.specs.Shown.{Shown}
 use Rattle.rv_scan.specs.Told.{width}
 use Rattle.rv_retrieval.specs.declared.query.Query.{Query}
 use Rattle.rv_retrieval.specs.Asked.{CanAsk, IsIndexOf}
+use Rattle.rv_retrieval.specs.Opened.{Opened}
+use Rattle.rv_retrieval.specs.Rest.{qualifying}
+use Rattle.rv_retrieval.specs.Shape.{RetrievalFits, Shape, rest}
 use Rattle.rv_join.specs.declared.places.Asked.{Asked}
-use Rattle.rv_join.specs.Asking.{AreWide, Asks, AsksItem, CanRun, IsIndexAt, asked_uses, col_at, have_column, item_at, only_names, rows_at, same_column}
+use Rattle.rv_join.specs.Asking.{AreWide, Asks, AsksItem, CanRun, IsIndexAt, OpensItem, asked_uses, col_at, have_column, item_at, only_names, rows_at, same_column}
 use Rattle.rv_join.specs.Levels.{widened}
 use Rattle.rv_join.proofs.Naming.{only_named, or_right, taken_named}
 
@@ -77,6 +80,22 @@ can_ask a shown outer query can inside asks =
       needs = rw (item.order, item.need) here.within;
     }
 
+filter_same : {A : Type 0} (p q : A → Bool) → ((x : A) → p x ≡ q x) → (xs : List A) → filter p xs ≡ filter q xs
+filter_same p q same [] = refl
+filter_same p q same (x ∷ xs) =
+    let tail = filter_same p q same xs in
+    let here = same x in
+    rw here (elim (q x) as (λ b. cond b (x ∷ filter p xs) (filter p xs) ≡ cond b (x ∷ filter q xs) (filter q xs)) [ true ↦ ap (λ l. x ∷ l) tail | false ↦ tail ])
+
+-- what was opened for it has the rows of which the groups of the place are True
+pub opens_if : {E : Type 0} (r : Result Shape E) (a : Asked) (shown : Shown) (outer : List (List Value)) (query : Query) (cursor opening : ℕ) → Asks a outer query → IfOk r (Opened query shown cursor opening) → IfOk r (λ v. RetrievalFits v shown) → IfOk r (λ v. rest v shown ≡ qualifying query.only (shown.rows query.table query.snap)) → IfOk r (OpensItem a shown outer)
+opens_if (Err e) a shown outer query cursor opening asks opened fits left = tt
+opens_if (Ok v) a shown outer query cursor opening asks opened fits left = record {
+  fits = fits;
+  asks = subst (Asks a outer) (sym opened.asked) asks;
+  rest_is = left ∙ ap (qualifying query.only) (ap (λ t. shown.rows t query.snap) asks.item.table ∙ ap (λ n. shown.rows (item_at a (length outer)).table n) asks.item.snap) ∙ filter_same _ _ (λ (x : Record). asks.binds x.values) (rows_at a shown (length outer));
+}
+
 -- A row that was widened to the columns needed has them.
 
 width_above : (need : List ℕ) (c : ℕ) → stands_among need c ≡ true → c < width need
@@ -92,7 +111,7 @@ width_above (n ∷ need) c h = elim (n == c) as (λ b. (n == c) ≡ b → (b || 
 widened_long : (n : ℕ) (row : List Value) → n ≤ length (widened n row)
 widened_long n row = grind (arith, common_steps)
 
-last_row : {A : Type 0} (xs : List A) (x d : A) → slice_index_or (xs ++ x ∷ []) (length xs) d ≡ x
+pub last_row : {A : Type 0} (xs : List A) (x d : A) → slice_index_or (xs ++ x ∷ []) (length xs) d ≡ x
 last_row [] x d = refl
 last_row (y ∷ xs) x d = last_row xs x d
 

@@ -3,13 +3,15 @@ use Rattle.std.proofs.Common.{◌≡◌, ◌⊎◌, ℕ, ◌+◌, ◌<◌, ◌�
 use Rattle.std.specs.List.{AllByRecursion, IsDistinct, list_all, list_any}
 use Rattle.std.proofs.lemmas.Bool.Decides.{nat_tests}
 use Rattle.std.proofs.lemmas.Grind.{common_steps}
+use Rattle.std.proofs.lemmas.List.{get_or_append_left}
+use Rattle.rv_rows.specs.Rows.{Ascend}
 use Rattle.rv_restrict.specs.declared.atom.ColRef.{ColRef}
 use Rattle.rv_restrict.specs.declared.atom.Atom.{Atom}
 use Rattle.rv_restrict.specs.Bind.{atom_place, group_place}
 use Rattle.rv_restrict.specs.Parts.{stands_among}
 use Rattle.rv_catalog.specs.declared.def.Select.{Select}
 use Rattle.rv_catalog.specs.declared.def.IndexDef.{IndexDef}
-use Rattle.rv_reader.specs.Shown.{Shown}
+use Rattle.rv_reader.specs.Shown.{CanRead, Shown}
 use Rattle.rv_retrieval.specs.Asked.{begins_any}
 use Rattle.rv_join.specs.declared.places.Asked.{Asked}
 use Rattle.rv_join.specs.declared.places.Item.{Item}
@@ -17,11 +19,12 @@ use Rattle.rv_restrict.specs.declared.atom.Operand.TheVariants.{Literal, Column}
 use Rattle.rv_restrict.specs.declared.atom.Atom.TheVariants.{Compare, Between, Among, IsNull, Starts, Const}
 use Rattle.rv_restrict.proofs.Tests.{and_both, and_left, and_right}
 use Rattle.rv_join.specs.declared.gather.Stage.TheVariants.{AsFound, Gathering}
-use Rattle.rv_join.specs.Asking.{CanPlan, CanRun, CanRunItem, IsAsked, IsIndexAt, asked_uses, atom_names, by_index, col_at, columns_of, group_names, index_at, indexes_from, is_first, item_at, no_item, only_names, order_at, same_column, select_uses, table_at}
+use Rattle.rv_join.specs.Asking.{CanPlan, CanRun, CanRunItem, IsAsked, IsIndexAt, IsItem, asked_uses, atom_names, by_index, col_at, columns_of, group_names, have_column, index_at, indexes_from, is_first, item_at, no_item, only_names, order_at, rows_at, same_column, select_uses, table_at}
 use Rattle.rv_join.specs.Levels.{table_rows, tables_of, under}
 use Rattle.rv_model.specs.Offering.{offers_over}
 use Rattle.rv_join.specs.Order.{IsByFirst}
 use Rattle.rv_join.specs.Plans.{stage_of}
+use Rattle.rv_join.proofs.Binding.{last_row}
 use Rattle.rv_join.proofs.Naming.{or_left, or_right, same_itself}
 use Rattle.rv_join.proofs.Product.{are_placed, loops_are}
 
@@ -99,17 +102,21 @@ same_uses s indexes snap cursor a c asked = rw (asked.only, asked.returns, asked
 runs_item : (s : Select) (indexes : List IndexDef) (shown : Shown) (snap cursor : ℕ) (a : Asked) (p : ℕ) → CanPlan s indexes shown snap → IsAsked s indexes snap cursor a → p < length s.tables → CanRunItem a shown p
 runs_item s indexes shown snap cursor a p can asked inside =
     let item = asked.items p inside in
+    let rows = rows_are item.table in
     record {
-      ascend = rw (item.table, asked.snap) (can.ascend p inside);
-      read = rw (item.table, asked.snap) (can.read p inside);
-      columns = λ c n. rw (item.table, asked.snap) (can.columns (col_at p c) (rw item.need at n));
+      ascend = subst Ascend (sym rows) (can.ascend p inside);
+      read = subst (λ t. CanRead shown t a.snap) (sym item.table) (subst (CanRead shown (table_at s p)) (sym asked.snap) (can.read p inside));
+      columns = λ c n. ap (have_column c) rows ∙ can.columns (col_at p c) (sym (item.need c) ∙ n);
       few = rw item.over (can.few p inside);
       different = rw item.over (numbers_differ (table_at s p) 0 indexes);
-      indexes = rw (item.table, asked.snap, item.over) (each_index shown snap (table_at s p) 0 indexes (λ i le. can.each i le));
-      need = λ c u. rw item.need (sym (same_uses s indexes snap cursor a (col_at p c) asked) ∙ u);
+      indexes = subst (AllByRecursion (λ (i : ℕ × List ℕ). IsIndexAt shown (item_at a p).table a.snap i.0 i.1)) (sym item.over) (subst (λ t. AllByRecursion (λ (i : ℕ × List ℕ). IsIndexAt shown t a.snap i.0 i.1) (indexes_from (table_at s p) 0 indexes)) (sym item.table) (subst (λ n. AllByRecursion (λ (i : ℕ × List ℕ). IsIndexAt shown (table_at s p) n i.0 i.1) (indexes_from (table_at s p) 0 indexes)) (sym asked.snap) (each_index shown snap (table_at s p) 0 indexes (λ i le. let none : 0 + i ≡ i = omega arith in subst (λ k. IsIndexAt shown (index_at indexes i).table snap k (index_at indexes i).columns) (sym none) (can.each i le)))));
+      need = λ c u. item.need c ∙ sym (same_uses s indexes snap cursor a (col_at p c) asked) ∙ u;
       ordered = rw (item.order, item.over) (order_led s indexes p);
-      within = λ c n. rw item.need (within s indexes p c (rw item.order at n));
+      within = λ c n. item.need c ∙ within s indexes p c (rw item.order at n);
     }
+  where
+    rows_are : (item_at a p).table ≡ table_at s p → rows_at a shown p ≡ shown.rows (table_at s p) snap
+    rows_are e = ap (λ t. shown.rows t a.snap) e ∙ ap (λ n. shown.rows (table_at s p) n) asked.snap
 
 pub can_run : (s : Select) (indexes : List IndexDef) (shown : Shown) (snap cursor : ℕ) (a : Asked) → CanPlan s indexes shown snap → IsAsked s indexes snap cursor a → CanRun a shown
 can_run s indexes shown snap cursor a can asked = record {
@@ -118,6 +125,19 @@ can_run s indexes shown snap cursor a can asked = record {
   places = λ c u. rw asked.count (can.places c (sym (same_uses s indexes snap cursor a c asked) ∙ u));
   each = λ p le. runs_item s indexes shown snap cursor a p can asked (rw asked.count at le);
 }
+
+-- one more item
+pub items_more : (s : Select) (indexes : List IndexDef) (items : List Item) (n : ℕ) (i : Item) → length items ≡ n → ((p : ℕ) → p < n → IsItem s indexes p (slice_index_or items p no_item)) → IsItem s indexes n i → (p : ℕ) → p < n + 1 → IsItem s indexes p (slice_index_or (items ++ i ∷ []) p no_item)
+items_more s indexes items n i long each here p le = elim (nat_lt p n) as (λ b. nat_lt p n ≡ b → IsItem s indexes p (slice_index_or (items ++ i ∷ []) p no_item)) [
+  | true ↦ λ e. let h = below e in subst (IsItem s indexes p) (sym (get_or_append_left items (i ∷ []) no_item p (omega (arith, h, long)))) (each p h)
+  | false ↦ λ e. let at = there e in subst (λ q. IsItem s indexes q (slice_index_or (items ++ i ∷ []) q no_item)) (long ∙ sym at) (subst (IsItem s indexes (length items)) (sym (last_row items i no_item)) (subst (λ q. IsItem s indexes q i) (sym long) here))
+] refl
+  where
+    below : nat_lt p n ≡ true → p < n
+    below e = grind (arith, nat_tests, e)
+
+    there : nat_lt p n ≡ false → p ≡ n
+    there e = grind (arith, nat_tests, e, le)
 
 -- the tables of the items are those of the select
 tables_same : (tables : List ℕ) (items : List Item) → length items ≡ length tables → ((p : ℕ) → p < length tables → (slice_index_or items p no_item).table ≡ slice_index_or tables p 0) → map (λ (i : Item). i.table) items ≡ tables
