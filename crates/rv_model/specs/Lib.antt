@@ -1,6 +1,7 @@
 pub mod Database
 pub mod History
 pub mod OfferOrder
+pub mod Offering
 pub mod Offers
 pub mod Standing
 pub mod Step

@@ -29,7 +29,7 @@ use Rattle.rv_reader.proofs.Suiting.{long_keys}
 use Rattle.rv_scan.specs.Alongs.{Along, Follows, left}
 use Rattle.rv_jscan.specs.declared.jscan.ScanPlan.{ScanPlan}
 use Rattle.rv_jscan.specs.Entries.{has_entry}
-use Rattle.rv_jscan.specs.Joint.{CanMake, no_plan, plan_at}
+use Rattle.rv_jscan.specs.Joint.{CanMake, no_plan, plan_at, under_way}
 use Rattle.rv_retrieval.specs.declared.query.Query.{Query}
 use Rattle.rv_retrieval.specs.declared.query.Goal2.{Goal2}
 use Rattle.rv_retrieval.specs.declared.query.Goal2.TheVariants.{FastFirst as Soon, TotalTime}
@@ -121,7 +121,7 @@ chosen_front order goal cs choice chosen led = go (order_index order cs) chosen.
     }
     go None None None restricted e l r = no_lead goal choice restricted r led
 
-no_way : {X : Type 0} → true ≡ false → X
+pub no_way : {X : Type 0} → true ≡ false → X
 no_way bad = absurd (cc)
 
 -- where some index begins with the order's columns there is an order index
@@ -277,8 +277,8 @@ no_one i background (inl e) o = absurd (let bad : Nothing ≡ One i = sym e ∙ 
 no_one i background (inr (inl e)) o = absurd (let bad : Each ≡ One i = sym e ∙ o in cc)
 no_one i background (inr (inr e)) o = absurd (let bad : EachBut e.0 ≡ One i = sym e.1 ∙ o in cc)
 
--- a single index is scanned in the background, and there is one
-pub one_background : (only : List (List Atom)) (order : List ℕ) (goal : Goal2) (cs : List Candidate) (choice : Choice) (scans : List ScanPlan) (i : ℕ) → IsChosen order goal cs choice → AreScans only cs choice.background scans → choice.background ≡ One i → is_background (first_of choice.strategy (has_scans scans)) ≡ true
+-- a single index is scanned in the background: there is one, and the first control has a background
+pub one_background : (only : List (List Atom)) (order : List ℕ) (goal : Goal2) (cs : List Candidate) (choice : Choice) (scans : List ScanPlan) (i : ℕ) → IsChosen order goal cs choice → AreScans only cs choice.background scans → choice.background ≡ One i → (has_scans scans ≡ true) × (is_background (first_of choice.strategy (has_scans scans)) ≡ true)
 one_background only order goal cs choice scans i chosen s one = go (order_index order cs) chosen.short chosen.sufficient chosen.restricted chosen.least_short chosen.rules
   where
     itself : (n : ℕ) → nat_eq n n ≡ true
@@ -310,10 +310,12 @@ one_background only order goal cs choice scans i chosen s one = go (order_index 
     restricted_only Soon None e = inl (ap (λ (c : Choice). c.background) e)
     restricted_only TotalTime None e = inl (ap (λ (c : Choice). c.background) e)
 
-    go : (found short sufficient restricted : Option ℕ) → IsLeastOf Short cs short → choice ≡ choice_of cs goal found short sufficient restricted → is_background (first_of choice.strategy (has_scans scans)) ≡ true
-    go (Some at) (Some n) sufficient restricted l r = sorted (has_scans scans) (ap (λ (c : Choice). c.strategy) r) (some n l.below (ap (λ (c : Choice). c.background) r))
+    go : (found short sufficient restricted : Option ℕ) → IsLeastOf Short cs short → choice ≡ choice_of cs goal found short sufficient restricted → (has_scans scans ≡ true) × (is_background (first_of choice.strategy (has_scans scans)) ≡ true)
+    go (Some at) (Some n) sufficient restricted l r =
+        let planned = some n l.below (ap (λ (c : Choice). c.background) r) in
+        (planned, sorted (has_scans scans) (ap (λ (c : Choice). c.strategy) r) planned)
     go (Some at) None sufficient restricted l r = no_one i choice.background (but (candidate_at cs at).sufficient (candidate_at cs at).index (ap (λ (c : Choice). c.background) r)) one
-    go None (Some n) sufficient restricted l r = alone (has_scans scans) (ap (λ (c : Choice). c.strategy) r)
+    go None (Some n) sufficient restricted l r = (some n l.below (ap (λ (c : Choice). c.background) r), alone (has_scans scans) (ap (λ (c : Choice). c.strategy) r))
     go None None (Some at) restricted l r = no_one i choice.background (inr (inr ((candidate_at cs at).index, ap (λ (c : Choice). c.background) r))) one
     go None None None restricted l r = no_one i choice.background (restricted_only goal restricted r) one
 
@@ -326,3 +328,7 @@ one_found (EachBut i) h = absurd (cc)
 pub begun_back : {E : Type 0} (r : Result Shape E) (query : Query) (strategy : Strategy) (plans : List ScanPlan) (front : Front) (guaranteed cursor opening : ℕ) → is_background (first_of strategy (has_scans plans)) ≡ true → IfOk r (Begun query strategy plans front guaranteed cursor opening) → IfOk r (λ v. is_background v.control ≡ true)
 begun_back (Ok v) query strategy plans front guaranteed cursor opening h b = ap is_background b.started ∙ h
 begun_back (Err x) query strategy plans front guaranteed cursor opening h b = tt
+
+pub begun_way : {E : Type 0} (r : Result Shape E) (query : Query) (strategy : Strategy) (plans : List ScanPlan) (front : Front) (guaranteed cursor opening : ℕ) → has_scans plans ≡ true → IfOk r (Begun query strategy plans front guaranteed cursor opening) → IfOk r (λ v. under_way v.joint ≡ true)
+begun_way (Ok v) query strategy plans front guaranteed cursor opening h b = ap under_way b.joint ∙ ap (λ (x : Bool). x && true) h
+begun_way (Err x) query strategy plans front guaranteed cursor opening h b = tt

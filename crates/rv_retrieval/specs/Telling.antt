@@ -61,3 +61,15 @@ pub record CountsRise (old new : Trace) (before after : Counts) : Type 0 where
   pub pages : new.pages ≡ raised old.pages (after.pages - before.pages)
   pub leaves : new.leaves ≡ raised old.leaves (after.leaves - before.leaves)
   pub fetches : new.fetches ≡ raised old.fetches (after.records - before.records)
+
+-- nothing was counted yet
+pub record NothingCounted (t : Trace) : Type 0 where
+  pub pages : t.pages ≡ 0
+  pub leaves : t.leaves ≡ 0
+  pub fetches : t.fetches ≡ 0
+
+-- THE COUNTS OF A NEW TRACE ARE WHAT THE CALL ADDED TO THE COUNTER
+pub record CountsAll (t : Trace) (before after : Counts) : Type 0 where
+  pub pages : t.pages ≡ raised 0 (after.pages - before.pages)
+  pub leaves : t.leaves ≡ raised 0 (after.leaves - before.leaves)
+  pub fetches : t.fetches ≡ raised 0 (after.records - before.records)

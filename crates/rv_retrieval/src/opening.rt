@@ -1,13 +1,14 @@
-ghost use Rattle.std.specs.Prelude.{◌≡◌, ◌<◌, ◌≤◌, length, None, true, IfOk, IfSome, OnOk, OnErr};
+ghost use Rattle.std.specs.Prelude.{◌≡◌, ◌<◌, ◌≤◌, length, None, true, false, IfOk, IfSome, OnOk, OnErr};
 ghost use Rattle.rv_judge.specs.Account.{first_guarantee};
 ghost use Rattle.rv_reader.specs.Shown.{CanRead, Shown};
-ghost use Rattle.rv_jscan.specs.Joint.{CanTake, JointFits, leaves_ahead};
+ghost use Rattle.rv_jscan.specs.Joint.{CanTake, JointFits, leaves_ahead, under_way};
 ghost use Rattle.rv_retrieval.specs.Asked.{CanAsk};
 ghost use Rattle.rv_retrieval.specs.Choice.{IsChosen, candidates_of, no_candidate};
-ghost use Rattle.rv_retrieval.specs.Opened.{Begun, Opened, SameScans, Scanned, front_begun, front_candidate, guarantee_of, is_one, start_told};
+ghost use Rattle.rv_retrieval.specs.Opened.{Begun, IsMade, OnlyLists, Opened, RunsOut, SameScans, Scanned, Starts, front_begun, front_candidate, guarantee_of, is_one, start_told};
 ghost use Rattle.rv_retrieval.specs.Opens.{Opens};
 ghost use Rattle.rv_retrieval.specs.Rest.{qualifying};
 ghost use Rattle.rv_retrieval.specs.Shape.{RetrievalFits, is_background, rest};
+ghost use Rattle.rv_retrieval.specs.Telling.{CountsAll, NothingCounted};
 
 use crate::choosing::{Background, Candidate, Choice, candidates, choose, scans};
 use crate::front::Front;
@@ -163,6 +164,8 @@ impl Retrieval {
         ensures scans { SameScans self.old.joint self.new.joint }
         ensures fits { JointFits self.new.joint (R.shown reader.now) }
         ensures nearer { IfOk result (λ given. given ≡ true → leaves_ahead self.new.joint (R.shown reader.now) < leaves_ahead self.old.joint (R.shown reader.now)) }
+        ensures done { IfOk result (λ given. given ≡ false → under_way self.new.joint ≡ false) }
+        ensures lists { OnlyLists self.old.joint self.new.joint }
     {
         match self.take_joint(reader, steps)? {
             Taken::Piece(piece) => {
@@ -184,6 +187,8 @@ impl Retrieval {
         ensures same { self.new ≡ record self.old { joint = self.new.joint } }
         ensures scans { SameScans self.old.joint self.new.joint }
         ensures fits { JointFits self.new.joint (R.shown reader.now) }
+        ensures done { OnOk result (under_way self.new.joint ≡ false) }
+        ensures lists { OnlyLists self.old.joint self.new.joint }
     {
         'pieces: while self.scan_piece(reader, steps)? {}
         Ok(())
@@ -197,9 +202,11 @@ impl Retrieval {
     ) -> Result<(), NoMemory>
         requires fits { RetrievalFits self.old (R.shown reader.now) }
         requires back { is_background self.old.control ≡ true }
+        requires way { under_way self.old.joint ≡ true }
         ensures scanned { OnOk result (Scanned self.old self.new) }
         ensures fits { OnOk result (RetrievalFits self.new (R.shown reader.now)) }
         ensures rest { OnOk result (rest self.new (R.shown reader.now) ≡ rest self.old (R.shown reader.now)) }
+        ensures runs { OnOk result (RunsOut self.old self.new) }
     {
         self.scan_all(reader, steps)?;
         self.scan_ended(0);
@@ -215,9 +222,12 @@ impl Retrieval {
     ) -> Result<(), NoMemory>
         requires fits { RetrievalFits self.old (R.shown reader.now) }
         requires back { is_one background ≡ true → is_background self.old.control ≡ true }
+        requires way { is_one background ≡ true → under_way self.old.joint ≡ true }
         ensures scanned { OnOk result (Scanned self.old self.new) }
         ensures fits { OnOk result (RetrievalFits self.new (R.shown reader.now)) }
         ensures rest { OnOk result (rest self.new (R.shown reader.now) ≡ rest self.old (R.shown reader.now)) }
+        ensures runs { OnOk result (is_one background ≡ true → RunsOut self.old self.new) }
+        ensures same { is_one background ≡ false → self.new ≡ self.old }
     {
         match background {
             Background::One(_) => self.scan_at_once(reader, steps),
@@ -238,8 +248,12 @@ impl Retrieval {
         requires can { CanAsk query (R.shown reader.now) }
         requires candidates { candidates.now ≡ candidates_of query (R.shown reader.now) }
         requires choice { IsChosen query.order query.goal candidates.now choice }
-        ensures opened { IfOk result (λ r. Opened query (R.shown reader.now) cursor opening r) }
+        ensures made { IfOk result (IsMade query (R.shown reader.now) choice cursor opening) }
+        ensures started { IfOk result (Starts cursor opening) }
+        ensures bound { IfOk result (λ r. r.guaranteed ≡ guarantee_of query (R.shown reader.now) candidates.now choice) }
+        ensures counts { IfOk result (λ r. NothingCounted r.trace) }
         ensures back { is_one choice.background ≡ true → IfOk result (λ r. is_background r.control ≡ true) }
+        ensures way { is_one choice.background ≡ true → IfOk result (λ r. under_way r.joint ≡ true) }
         ensures fits { IfOk result (λ r. RetrievalFits r (R.shown reader.now)) }
         ensures rest { IfOk result (λ r. rest r (R.shown reader.now) ≡ qualifying query.only ((R.shown reader.now).rows query.table query.snap)) }
     {
@@ -273,6 +287,7 @@ impl Retrieval {
     ) -> Result<Retrieval, NoMemory>
         requires { CanAsk query (R.shown reader.now) }
         ensures opened { IfOk result (λ r. Opened query (R.shown reader.now) cursor opening r) }
+        ensures counts { IfOk result (λ r. CountsAll r.trace steps.old steps.new) }
         ensures fits { IfOk result (λ r. RetrievalFits r (R.shown reader.now)) }
         ensures rest { IfOk result (λ r. rest r (R.shown reader.now) ≡ qualifying query.only ((R.shown reader.now).rows query.table query.snap)) }
     {

@@ -1,4 +1,4 @@
-use Rattle.rv_retrieval.proofs.Chosen.{begun_back, chosen_opens, few_scans, one_background, one_found}
+use Rattle.rv_retrieval.proofs.Chosen.{begun_back, begun_way, chosen_opens, few_scans, one_background, one_found}
 use Rattle.rv_retrieval.proofs.retrieval.Retrieval.chosen.Goals as goal
 
 pub begin-requires : goal.begin-requires
@@ -13,4 +13,9 @@ returns-clause-rest g c = c.begin.ensures.rest (g.R.Reader.shown c.args.reader.n
 pub returns-clause-back : goal.returns-clause-back
 returns-clause-back g c one =
     let found = one_found c.args.choice.background one in
-    begun_back c.begin.result c.args.query c.args.choice.strategy c.in_ok-scans.scans.items c.in_ok-front.front _ c.args.cursor c.args.opening (one_background c.args.query.only c.args.query.order c.args.query.goal c.args.candidates.now c.args.choice c.in_ok-scans.scans.items found.0 c.requires.choice c.in_ok-scans.ensures found.1) c.begin.ensures.begun
+    begun_back c.begin.result c.args.query c.args.choice.strategy c.in_ok-scans.scans.items c.in_ok-front.front _ c.args.cursor c.args.opening (one_background c.args.query.only c.args.query.order c.args.query.goal c.args.candidates.now c.args.choice c.in_ok-scans.scans.items found.0 c.requires.choice c.in_ok-scans.ensures found.1).1 c.begin.ensures.begun
+
+pub returns-clause-way : goal.returns-clause-way
+returns-clause-way g c one =
+    let found = one_found c.args.choice.background one in
+    begun_way c.begin.result c.args.query c.args.choice.strategy c.in_ok-scans.scans.items c.in_ok-front.front _ c.args.cursor c.args.opening (one_background c.args.query.only c.args.query.order c.args.query.goal c.args.candidates.now c.args.choice c.in_ok-scans.scans.items found.0 c.requires.choice c.in_ok-scans.ensures found.1).0 c.begin.ensures.begun

@@ -1,6 +1,24 @@
-use Rattle.std.proofs.Common.{◌∙◌}
+use Rattle.std.proofs.Common.{◌≡◌, ◌∙◌, ℕ, List, rules, subst}
+use Rattle.rv_retrieval.specs.declared.choosing.Candidate.{Candidate}
+use Rattle.rv_retrieval.specs.Choice.{IsChosen}
+use Rattle.rv_retrieval.specs.Opened.{guarantee_of}
+use Rattle.rv_retrieval.proofs.AtOnce.{counts_all, opened_by}
 use Rattle.rv_retrieval.proofs.Switching.{trace_keeps}
 use Rattle.rv_retrieval.proofs.retrieval.Retrieval.open.Goals as goal
 
 pub returns-clause-rest : goal.returns-clause-rest
 returns-clause-rest g c = (trace_keeps c.settle.new.self c.count.new.self _ c.count.ensures).rest (g.R.Reader.shown c.args.reader.now) c.in_ok-settle.ensures.fits ∙ c.in_ok-settle.ensures.rest ∙ c.in_ok-retrieval.ensures.rest
+
+pub returns-clause-opened : goal.returns-clause-opened
+returns-clause-opened g c =
+    let query = c.args.query in
+    let shown = g.R.Reader.shown c.args.reader.now in
+    let choice = c.choose-choice.result in
+    let made = c.in_ok-retrieval.retrieval in
+    let mid = c.settle.new.self in
+    let chosen = subst (λ (cs : List Candidate). IsChosen query.order query.goal cs choice) (c.as_slice.ensures.value ∙ c.in_ok-candidates.ensures) (subst (λ (order : List ℕ). IsChosen order query.goal c.as_slice.result.now choice) c.as_slice-2.ensures c.choose-choice.ensures) in
+    let bound = subst (λ (cs : List Candidate). made.guaranteed ≡ guarantee_of query shown cs choice) (c.as_slice-3.ensures.value ∙ c.in_ok-candidates.ensures) c.in_ok-retrieval.ensures.bound in
+    opened_by query shown choice c.args.cursor c.args.opening made mid c.count.new.self chosen c.in_ok-retrieval.ensures.made c.in_ok-retrieval.ensures.started bound c.in_ok-retrieval.ensures.way c.in_ok-settle.ensures.scanned c.in_ok-settle.ensures.runs c.settle.ensures.same (search rules)
+
+pub returns-clause-counts : goal.returns-clause-counts
+returns-clause-counts g c = counts_all c.choose-choice.result.background c.in_ok-retrieval.retrieval c.settle.new.self c.count.new.self c.args.steps.now _ c.in_ok-retrieval.ensures.counts c.in_ok-settle.ensures.runs c.settle.ensures.same (rw c.counts.ensures at rw c.counts-before.ensures at c.count.ensures)

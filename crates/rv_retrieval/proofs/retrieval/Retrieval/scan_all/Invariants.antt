@@ -1,6 +1,6 @@
 use Rattle.std.proofs.Common.{◌≡◌}
 use Rattle.rv_jscan.specs.Joint.{CanTake, JointFits, leaves_ahead}
-use Rattle.rv_retrieval.specs.Opened.{SameScans}
+use Rattle.rv_retrieval.specs.Opened.{OnlyLists, SameScans}
 use Rattle.rv_retrieval.proofs.retrieval.Retrieval.scan_all.Given as goal
 
 abbrev pub invariant-pieces : goal.invariant-pieces
@@ -9,6 +9,7 @@ invariant-pieces g l = record {
   scans : SameScans l.initial.self.joint l.self.joint;
   can : CanTake l.self.joint (g.R.Reader.shown l.reader);
   fits : JointFits l.self.joint (g.R.Reader.shown l.reader);
+  lists : OnlyLists l.initial.self.joint l.self.joint;
 }
 
 abbrev pub decreases-pieces : goal.decreases-pieces

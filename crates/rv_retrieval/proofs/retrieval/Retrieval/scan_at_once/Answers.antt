@@ -1,5 +1,5 @@
 use Rattle.std.proofs.Common.{◌∙◌}
-use Rattle.rv_retrieval.proofs.AtOnce.{all_fits, all_rest, all_scanned}
+use Rattle.rv_retrieval.proofs.AtOnce.{all_fits, all_rest, all_scanned, runs_out}
 use Rattle.rv_retrieval.proofs.retrieval.Retrieval.scan_at_once.Goals as goal
 
 pub returns-clause-scanned : goal.returns-clause-scanned
@@ -12,3 +12,6 @@ pub returns-clause-rest : goal.returns-clause-rest
 returns-clause-rest g c =
     let shown = g.R.Reader.shown c.args.reader.now in
     c.scan_ended.ensures.keeps.rest shown (all_fits c.args.self.now c.scan_all.new.self shown c.scan_all.ensures.same c.scan_all.ensures.scans c.requires.back c.scan_all.ensures.fits c.requires.fits) ∙ all_rest c.args.self.now c.scan_all.new.self shown c.scan_all.ensures.same c.requires.back
+
+pub returns-clause-runs : goal.returns-clause-runs
+returns-clause-runs g c = runs_out c.args.self.now c.scan_all.new.self c.scan_ended.new.self c.scan_all.ensures.same c.requires.way c.in_ok-scan_all.ensures.done c.scan_all.ensures.lists c.scan_all.ensures.scans c.scan_ended.ensures.over

@@ -1,0 +1,73 @@
+-- What a plan has read, and over one FROM item what its one retrieval has read.
+use Rattle.std.proofs.Common.{◌≡◌, ◌⊎◌, ℕ, ◌+◌, ◌<◌, List, [], ◌∷◌, length, true, false, nat_eq, None, refl, ap, sym, ◌∙◌, arith, subst, inl, inr}
+use Rattle.std.proofs.lemmas.Bool.Decides.{nat_tests}
+use Rattle.rv_judge.specs.declared.counting.Counts.{Counts}
+use Rattle.rv_judge.specs.declared.events.Trace.{Trace}
+use Rattle.rv_reader.specs.Shown.{Shown}
+use Rattle.rv_retrieval.specs.Shape.{Shape}
+use Rattle.rv_retrieval.specs.Telling.{CountsRise}
+use Rattle.rv_join.specs.declared.places.Asked.{Asked}
+use Rattle.rv_join.specs.declared.level.Level.{Level}
+use Rattle.rv_join.specs.Levels.{StackFits, Stacked, first_in, first_of, is_last, used}
+use Rattle.rv_join.specs.Moves.{Rises}
+use Rattle.rv_join.specs.Plans.{AreReads, HoldsGood, PlanFits, Planned, RisesAlone, plan_trace, reads_with}
+
+no_levels : {A : Type 0} (xs : List A) → length xs ≡ 0 → xs ≡ []
+no_levels [] h = refl
+no_levels (x ∷ xs) h = absurd (omega (arith, h))
+
+-- over one FROM item one level is open
+pub alone_above : (a : Asked) (shown : Shown) (v : Stacked) → StackFits a shown v → length a.items ≡ 1 → v.above ≡ []
+alone_above a shown v fits one = let deep = fits.deep in let inside = fits.at.inside in no_levels v.above (omega (arith, deep, inside, one))
+
+-- it is the last
+pub alone_last : {X : Type 0} (a : Asked) (shown : Shown) (v : Stacked) → StackFits a shown v → length a.items ≡ 1 → is_last a v ≡ false → X
+alone_last a shown v fits one last = let inside = fits.at.inside in absurd (differs (length v.at.outer) (length a.items) inside one last)
+  where
+    differs : (n m : ℕ) → n < m → m ≡ 1 → nat_eq (n + 1) m ≡ false → ⊥
+    differs n m h i e = grind (arith, nat_tests, h, i, e)
+
+first_used : (above : List Level) (at : Level) → (first_in above (record at { row = None })).here ≡ (first_in above at).here
+first_used [] at = refl
+first_used (f ∷ ls) at = refl
+
+pub used_first : (v : Stacked) → (first_of (used v)).here ≡ (first_of v).here
+used_first v = first_used v.above v.at
+
+-- where no call was made, the counts stay
+pub rises_none : (old new : Shape) (before after : Counts) → new ≡ old → after ≡ before → Rises old new before after
+rises_none old new before after same none = inr (same, none)
+
+pub reads_rise : (t u : Trace) (reads before after : Counts) → AreReads t reads → CountsRise t u before after → AreReads u (reads_with reads before after)
+reads_rise t u reads before after are rise = record {
+  pages = rw (are.pages, rise.pages) refl;
+  leaves = rw (are.leaves, rise.leaves) refl;
+  fetches = rw (are.fetches, rise.fetches) refl;
+}
+
+-- the counts of a plan rise by what its call reads
+pub plan_rises : (old mid new : Planned) (before after : Counts) → mid.reads ≡ old.reads → new ≡ record mid { reads = reads_with mid.reads before after } → CountsRise (plan_trace old) (plan_trace new) before after
+plan_rises old mid new before after reads same = rw (same, reads) (record { pages = refl; leaves = refl; fetches = refl })
+
+-- what a plan keeps is kept where its reads are counted
+pub good_counted : (shown : Shown) (old new : Planned) (before after : Counts) → HoldsGood shown old → new ≡ record old { reads = reads_with old.reads before after } → HoldsGood shown new
+good_counted shown old new before after holds same = rw same (record { can = holds.can; stack = holds.stack; ordered = holds.ordered; led = holds.led; sorted = holds.sorted })
+
+pub fits_counted : (shown : Shown) (old mid new : Planned) (before after : Counts) → PlanFits shown old → HoldsGood shown mid → RisesAlone old mid before after → mid.reads ≡ old.reads → mid.asked ≡ old.asked → new ≡ record mid { reads = reads_with mid.reads before after } → (after ≡ before → new ≡ mid) → PlanFits shown new
+fits_counted shown old mid new before after fits holds rises reads asked same none = record {
+  holds = good_counted shown mid new before after holds same;
+  counted = λ one. counts (subst (λ (a : Asked). length a.items ≡ 1) (ap (λ (p : Planned). p.asked) same ∙ asked) one);
+}
+  where
+    counts : length old.asked.items ≡ 1 → AreReads (first_of new.stack).here.trace new.reads
+    counts one = elim (rises one) [
+      | inl rise ↦ rw (same, reads) (reads_rise (first_of old.stack).here.trace (first_of mid.stack).here.trace old.reads before after (fits.counted one) rise)
+      | inr still ↦ rw (none still.1, reads, still.0) (fits.counted one)
+    ]
+
+-- over one FROM item the trace is that of the one retrieval
+pub alone_trace : (shown : Shown) (p : Planned) → PlanFits shown p → length p.asked.items ≡ 1 → plan_trace p ≡ p.stack.at.here.trace
+alone_trace shown p fits one =
+    let none = alone_above p.asked shown p.stack fits.holds.stack one in
+    let are = fits.counted one in
+    rw (are.pages, are.leaves, are.fetches, none) refl

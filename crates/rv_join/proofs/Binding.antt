@@ -1,0 +1,146 @@
+-- What a retrieval of an item is asked can be asked of the reader, and its restriction can be bound.
+use Rattle.std.proofs.Common.{◌≡◌, ◌⊎◌, ℕ, ◌+◌, ◌<◌, ◌≤◌, ◌-◌, List, [], ◌∷◌, ◌++◌, length, max, Bool, true, false, cond, not, ◌&&◌, ◌||◌, ◌==◌, nat_lt, nat_eq, refl, ap, sym, ◌∙◌, arith, subst, slice_index_or, replicate, zero, suc, filter, Result, Ok, Err, IfOk}
+use Rattle.std.specs.List.{AllByRecursion, list_all, list_any}
+use Rattle.std.proofs.lemmas.Bool.Decides.{nat_tests}
+use Rattle.std.proofs.lemmas.Grind.{common_steps}
+use Rattle.std.proofs.lemmas.List.{get_or_append_left}
+use Rattle.rv_value.specs.declared.value.Value.{Value}
+use Rattle.rv_value.specs.declared.value.Value.TheVariants.{Null}
+use Rattle.rv_value.specs.declared.record.Record.{Record}
+use Rattle.rv_restrict.specs.declared.atom.ColRef.{ColRef}
+use Rattle.rv_restrict.specs.Bind.{can_bind, outer_fits, passes_at, rows_has, taken}
+use Rattle.rv_restrict.specs.Parts.{stands_among}
+use Rattle.rv_restrict.specs.Truth.{names_only, row_has}
+use Rattle.rv_restrict.proofs.Tests.{and_both, and_left, and_right}
+use Rattle.rv_reader.specs.Shown.{Shown}
+use Rattle.rv_scan.specs.Told.{width}
+use Rattle.rv_retrieval.specs.declared.query.Query.{Query}
+use Rattle.rv_retrieval.specs.Asked.{CanAsk, IsIndexOf}
+use Rattle.rv_retrieval.specs.Opened.{Opened}
+use Rattle.rv_retrieval.specs.Rest.{qualifying}
+use Rattle.rv_retrieval.specs.Shape.{RetrievalFits, Shape, rest}
+use Rattle.rv_join.specs.declared.places.Asked.{Asked}
+use Rattle.rv_join.specs.Asking.{AreWide, Asks, AsksItem, CanRun, IsIndexAt, OpensItem, asked_uses, col_at, have_column, item_at, only_names, rows_at, same_column}
+use Rattle.rv_join.specs.Levels.{widened}
+use Rattle.rv_join.proofs.Naming.{only_named, or_right, taken_named}
+
+used_named : (a : Asked) (c : ColRef) → only_names c a.only ≡ true → asked_uses a c ≡ true
+used_named a c n = or_right (list_any (same_column c) a.returns) _ (or_right (list_any (same_column c) a.order) _ n)
+
+-- a test that each column used of a place passes
+passes_used : (a : Asked) (place : ℕ) (p : ℕ → Bool) → ((c : ℕ) → asked_uses a (col_at place c) ≡ true → p c ≡ true) → names_only (passes_at place p) (taken place a.only) ≡ true
+passes_used a place p h = taken_named (passes_at place p) place a.only (only_named (passes_at place p) a.only (λ c n. by_place c (used_named a c n)))
+  where
+    at_place : (q : ℕ) → (q == place) ≡ true → q ≡ place
+    at_place q e = grind (arith, nat_tests)
+
+    by_place : (c : ColRef) → asked_uses a c ≡ true → (not (c.place == place) || p c.column) ≡ true
+    by_place c u = elim (c.place == place) as (λ b. (c.place == place) ≡ b → (not b || p c.column) ≡ true) [
+      | true ↦ λ e. h c.column (subst (λ q. asked_uses a (col_at q c.column) ≡ true) (at_place c.place e) u)
+      | false ↦ λ e. refl
+    ] refl
+
+-- the outer rows have every column that the groups taken name of their places
+pub can_be_bound : (a : Asked) (outer : List (List Value)) → AreWide a outer → can_bind (length outer) outer a.only ≡ true
+can_be_bound a outer wide = taken_named (outer_fits (length outer) outer) (length outer) a.only (only_named (outer_fits (length outer) outer) a.only (λ c n. by_place c (used_named a c n)))
+  where
+    below : (q : ℕ) → nat_lt q (length outer) ≡ true → q < length outer
+    below q e = grind (arith, nat_tests, e)
+
+    by_place : (c : ColRef) → asked_uses a c ≡ true → (not (nat_lt c.place (length outer)) || rows_has outer c) ≡ true
+    by_place c u = elim (nat_lt c.place (length outer)) as (λ b. nat_lt c.place (length outer) ≡ b → (not b || rows_has outer c) ≡ true) [
+      | true ↦ λ e. wide c (below c.place e) u
+      | false ↦ λ e. refl
+    ] refl
+
+have_columns : (a : Asked) (outer : List (List Value)) (query : Query) (need : List ℕ) (rows : List Record) → Asks a outer query → ((c : ℕ) → asked_uses a (col_at (length outer) c) ≡ true → stands_among need c ≡ true) → ((c : ℕ) → stands_among need c ≡ true → have_column c rows ≡ true) → list_all (λ (r : Record). names_only (row_has r.values) query.only) rows ≡ true
+have_columns a outer query need [] asks covers have = refl
+have_columns a outer query need (r ∷ rows) asks covers have = and_both (names_only (row_has r.values) query.only) (list_all (λ (r : Record). names_only (row_has r.values) query.only) rows)
+    (asks.names (λ n. nat_lt n (length r.values)) (passes_used a (length outer) (λ n. nat_lt n (length r.values)) (λ c u. and_left (nat_lt c (length r.values)) (have_column c rows) (have c (covers c u)))))
+    (have_columns a outer query need rows asks covers (λ c s. and_right (nat_lt c (length r.values)) (have_column c rows) (have c s)))
+
+indexes_of : (query : Query) (shown : Shown) (is : List (ℕ × List ℕ)) → AllByRecursion (λ (i : ℕ × List ℕ). IsIndexAt shown query.table query.snap i.0 i.1) is → AllByRecursion (λ (i : ℕ × List ℕ). IsIndexOf query shown i.0 i.1) is
+indexes_of query shown [] all = all
+indexes_of query shown (i ∷ is) all = let here = all.0 in (record { can = here.can; some = here.some; few = here.few; different = here.different; entries = here.entries; cuts = here.cuts }, indexes_of query shown is all.1)
+
+-- the query can be asked
+pub can_ask : (a : Asked) (shown : Shown) (outer : List (List Value)) (query : Query) → CanRun a shown → length outer < length a.items → Asks a outer query → CanAsk query shown
+can_ask a shown outer query can inside asks =
+    let here = can.each (length outer) inside in
+    let item = asks.item in
+    record {
+      ascend = rw (item.table, item.snap) here.ascend;
+      read = rw (item.table, item.snap) here.read;
+      columns = rw (item.table, item.snap) (have_columns a outer query (item_at a (length outer)).need (rows_at a shown (length outer)) asks here.need here.columns);
+      few = rw item.over here.few;
+      different = rw item.over here.different;
+      indexes = subst (AllByRecursion (λ (i : ℕ × List ℕ). IsIndexOf query shown i.0 i.1)) (sym item.over) (indexes_of query shown (item_at a (length outer)).indexes (rw (item.table, item.snap) here.indexes));
+      named = asks.names (stands_among query.need) (passes_used a (length outer) (stands_among query.need) (λ c u. rw item.need (here.need c u)));
+      ordered = rw (item.order, item.over) here.ordered;
+      needs = rw (item.order, item.need) here.within;
+    }
+
+filter_same : {A : Type 0} (p q : A → Bool) → ((x : A) → p x ≡ q x) → (xs : List A) → filter p xs ≡ filter q xs
+filter_same p q same [] = refl
+filter_same p q same (x ∷ xs) =
+    let tail = filter_same p q same xs in
+    let here = same x in
+    rw here (elim (q x) as (λ b. cond b (x ∷ filter p xs) (filter p xs) ≡ cond b (x ∷ filter q xs) (filter q xs)) [ true ↦ ap (λ l. x ∷ l) tail | false ↦ tail ])
+
+-- what was opened for it has the rows of which the groups of the place are True
+pub opens_if : {E : Type 0} (r : Result Shape E) (a : Asked) (shown : Shown) (outer : List (List Value)) (query : Query) (cursor opening : ℕ) → Asks a outer query → IfOk r (Opened query shown cursor opening) → IfOk r (λ v. RetrievalFits v shown) → IfOk r (λ v. rest v shown ≡ qualifying query.only (shown.rows query.table query.snap)) → IfOk r (OpensItem a shown outer)
+opens_if (Err e) a shown outer query cursor opening asks opened fits left = tt
+opens_if (Ok v) a shown outer query cursor opening asks opened fits left = record {
+  fits = fits;
+  asks = subst (Asks a outer) (sym opened.asked) asks;
+  rest_is = left ∙ ap (qualifying query.only) (ap (λ t. shown.rows t query.snap) asks.item.table ∙ ap (λ n. shown.rows (item_at a (length outer)).table n) asks.item.snap) ∙ filter_same _ _ (λ (x : Record). asks.binds x.values) (rows_at a shown (length outer));
+}
+
+-- A row that was widened to the columns needed has them.
+
+width_above : (need : List ℕ) (c : ℕ) → stands_among need c ≡ true → c < width need
+width_above [] c h = absurd (cc)
+width_above (n ∷ need) c h = elim (n == c) as (λ b. (n == c) ≡ b → (b || stands_among need c) ≡ true → c < max (n + 1) (width need)) [
+  | true ↦ λ e g. here e
+  | false ↦ λ e g. let tail = width_above need c g in grind (arith, tail)
+] refl h
+  where
+    here : (n == c) ≡ true → c < max (n + 1) (width need)
+    here e = grind (arith, nat_tests, e)
+
+widened_long : (n : ℕ) (row : List Value) → n ≤ length (widened n row)
+widened_long n row = grind (arith, common_steps)
+
+pub last_row : {A : Type 0} (xs : List A) (x d : A) → slice_index_or (xs ++ x ∷ []) (length xs) d ≡ x
+last_row [] x d = refl
+last_row (y ∷ xs) x d = last_row xs x d
+
+pub wide_more : (a : Asked) (shown : Shown) (outer : List (List Value)) (row : List Value) → CanRun a shown → length outer < length a.items → AreWide a outer → AreWide a (outer ++ widened (width (item_at a (length outer)).need) row ∷ [])
+wide_more a shown outer row can inside wide c le u = elim (nat_lt c.place (length outer)) as (λ b. nat_lt c.place (length outer) ≡ b → rows_has (outer ++ last ∷ []) c ≡ true) [
+  | true ↦ λ e. front (below c.place e)
+  | false ↦ λ e. behind (there c.place e (rw long at le))
+] refl
+  where
+    last : List Value
+    last = widened (width (item_at a (length outer)).need) row
+
+    long : length (outer ++ last ∷ []) ≡ length outer + 1
+    long = grind (arith, common_steps)
+
+    below : (q : ℕ) → nat_lt q (length outer) ≡ true → q < length outer
+    below q e = grind (arith, nat_tests, e)
+
+    there : (q : ℕ) → nat_lt q (length outer) ≡ false → q < length outer + 1 → q ≡ length outer
+    there q e h = grind (arith, nat_tests, e, h)
+
+    less : (q n : ℕ) → q < n → nat_lt q n ≡ true
+    less q n h = grind (arith, nat_tests, h)
+
+    front : c.place < length outer → rows_has (outer ++ last ∷ []) c ≡ true
+    front h = and_both (nat_lt c.place (length (outer ++ last ∷ []))) (nat_lt c.column (length (slice_index_or (outer ++ last ∷ []) c.place []))) (less _ _ le) (let same = get_or_append_left outer (last ∷ []) [] c.place h in rw same (and_right (nat_lt c.place (length outer)) (nat_lt c.column (length (slice_index_or outer c.place []))) (wide c h u)))
+
+    behind : c.place ≡ length outer → rows_has (outer ++ last ∷ []) c ≡ true
+    behind e = and_both (nat_lt c.place (length (outer ++ last ∷ []))) (nat_lt c.column (length (slice_index_or (outer ++ last ∷ []) c.place []))) (less _ _ le) (rw (e, last_row outer last []) (less c.column (length last) (reached (widened_long (width (item_at a (length outer)).need) row) (width_above (item_at a (length outer)).need c.column ((can.each (length outer) inside).need c.column (subst (λ q. asked_uses a (col_at q c.column) ≡ true) e u))))))
+      where
+        reached : {q n m : ℕ} → n ≤ m → q < n → q < m
+        reached h i = omega (arith, h, i)

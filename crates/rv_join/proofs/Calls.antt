@@ -1,0 +1,69 @@
+-- A call of one level's retrieval that owes what it owed leaves the bag and what leads.
+use Rattle.std.proofs.Common.{◌≡◌, ℕ, ◌+◌, ◌<◌, ◌≤◌, List, [], ◌∷◌, ◌++◌, length, refl, ap, sym, ◌∙◌, arith, subst, zero, suc, slice_index_or, slice_set}
+use Rattle.std.specs.List.{flat_map}
+use Rattle.rv_reader.specs.Shown.{Shown}
+use Rattle.rv_join.specs.declared.places.Asked.{Asked}
+use Rattle.rv_join.specs.declared.level.Level.{Level}
+use Rattle.rv_join.specs.Levels.{AllFit, LevelFits, StackFits, Stacked, bag, given, given_in, over_held, still}
+use Rattle.rv_join.specs.Moves.{LevelStays, LevelsStay, SameFirst, StackStays}
+use Rattle.rv_join.specs.Order.{Lead, Led}
+use Rattle.rv_join.proofs.Opening.{stays_held, stays_still}
+
+pub fit_at : (a : Asked) (shown : Shown) (place : ℕ) (ls : List Level) (i : ℕ) (d : Level) → i < length ls → AllFit a shown place ls → LevelFits a shown (slice_index_or ls i d)
+fit_at a shown place [] i d le all = absurd (omega (arith, le))
+fit_at a shown place (l ∷ ls) zero d le all = all.1
+fit_at a shown place (l ∷ ls) (suc i) d le all = fit_at a shown (place + 1) ls i d (omega (arith, le)) all.2
+
+levels_set : (a : Asked) (shown : Shown) (place : ℕ) (ls : List Level) (i : ℕ) (d new : Level) → i < length ls → AllFit a shown place ls → LevelStays a shown (slice_index_or ls i d) new → LevelsStay a shown place ls (slice_set ls i new)
+levels_set a shown place [] i d new le all stays = absurd (omega (arith, le))
+levels_set a shown place (l ∷ ls) zero d new le all stays = record {
+  fits = (ap length stays.outer ∙ all.0, stays.fits, all.2);
+  count = refl;
+  bag = ap (λ x. x ++ flat_map (still a shown) ls) (stays_still a shown l new stays);
+}
+levels_set a shown place (l ∷ ls) (suc i) d new le all stays =
+    let tail = levels_set a shown (place + 1) ls i d new (omega (arith, le)) all.2 stays in
+    record { fits = (all.0, all.1, tail.fits); count = ap suc tail.count; bag = ap (λ x. still a shown l ++ x) tail.bag }
+
+first_set : (a : Asked) (shown : Shown) (place : ℕ) (ls : List Level) (i : ℕ) (d new : Level) → i < length ls → AllFit a shown place ls → LevelStays a shown (slice_index_or ls i d) new → SameFirst a shown ls (slice_set ls i new)
+first_set a shown place [] i d new le all stays = absurd (omega (arith, le))
+first_set a shown place (l ∷ ls) zero d new le all stays = (stays_held a shown l new stays, refl)
+first_set a shown place (l ∷ ls) (suc i) d new le all stays = (refl, (levels_set a shown (place + 1) ls i d new (omega (arith, le)) all.2 stays).bag)
+
+-- the level of a place was called
+pub levels_at : (a : Asked) (shown : Shown) (ls : List Level) (i : ℕ) (old new : Level) → i < length ls → AllFit a shown 0 ls → old ≡ slice_index_or ls i old → (LevelFits a shown old → LevelStays a shown old new) → LevelsStay a shown 0 ls (slice_set ls i new) × SameFirst a shown ls (slice_set ls i new)
+levels_at a shown ls i old new le all is stays =
+    let fits = subst (λ l. LevelFits a shown l) (sym is) (fit_at a shown 0 ls i old le all) in
+    let there = subst (λ l. LevelStays a shown l new) is (stays fits) in
+    (levels_set a shown 0 ls i old new le all there, first_set a shown 0 ls i old new le all there)
+
+-- no level was called
+pub levels_same : (a : Asked) (shown : Shown) (ls : List Level) → AllFit a shown 0 ls → LevelsStay a shown 0 ls ls × SameFirst a shown ls ls
+levels_same a shown [] all = (record { fits = all; count = refl; bag = refl }, refl)
+levels_same a shown (f ∷ ls) all = (record { fits = all; count = refl; bag = refl }, (refl, refl))
+
+given_same : (a : Asked) (shown : Shown) (old new : List Level) (at : Level) → SameFirst a shown old new → given_in a shown new at ≡ given_in a shown old at
+given_same a shown [] new at same = rw same refl
+given_same a shown (f ∷ ls) [] at same = absurd same
+given_same a shown (f ∷ ls) (g ∷ ms) at same = rw (same.0, same.1) refl
+
+given_at : (a : Asked) (shown : Shown) (above : List Level) (old new : Level) → LevelStays a shown old new → given_in a shown above new ≡ given_in a shown above old
+given_at a shown [] old new stays = stays_held a shown old new stays
+given_at a shown (f ∷ ls) old new stays = ap (λ x. over_held a shown f f.row ++ (flat_map (still a shown) ls ++ x)) (stays_still a shown old new stays)
+
+led_same : (a : Asked) (shown : Shown) (old new : Stacked) → given a shown new ≡ given a shown old → bag a shown new ≡ bag a shown old → Led a shown old → Led a shown new
+led_same a shown old new g b led = subst (λ l. Lead l (bag a shown new)) (sym g) (subst (λ l. Lead (given a shown old) l) (sym b) led)
+
+pub stays_above : (a : Asked) (shown : Shown) (old new : Stacked) → StackFits a shown old → LevelsStay a shown 0 old.above new.above → SameFirst a shown old.above new.above → new ≡ record old { above = new.above } → StackStays a shown old new
+stays_above a shown old new fits stay first same = rw same (record {
+  fits = record { above = stay.fits; at = fits.at; deep = fits.deep ∙ sym stay.count };
+  bag = ap (λ x. x ++ still a shown old.at) stay.bag;
+  led = led_same a shown old (record old { above = new.above }) (given_same a shown old.above new.above old.at first) (ap (λ x. x ++ still a shown old.at) stay.bag);
+})
+
+pub stays_at : (a : Asked) (shown : Shown) (old new : Stacked) → StackFits a shown old → LevelStays a shown old.at new.at → new ≡ record old { at = new.at } → StackStays a shown old new
+stays_at a shown old new fits stays same = rw same (record {
+  fits = record { above = fits.above; at = stays.fits; deep = ap length stays.outer ∙ fits.deep };
+  bag = ap (λ x. flat_map (still a shown) old.above ++ x) (stays_still a shown old.at new.at stays);
+  led = led_same a shown old (record old { at = new.at }) (given_at a shown old.above old.at new.at stays) (ap (λ x. flat_map (still a shown) old.above ++ x) (stays_still a shown old.at new.at stays));
+})

@@ -1,0 +1,13 @@
+pub mod Naming
+pub mod Same
+pub mod Opening
+pub mod Leading
+pub mod Stacking
+pub mod Product
+pub mod Catching
+pub mod Calls
+pub mod Planning
+pub mod Binding
+pub mod Running
+pub mod Beginning
+pub mod Accounting

@@ -1,0 +1,109 @@
+-- Levels: a row that is found, a retrieval that is opened, a call that keeps the rest.
+use Rattle.std.proofs.Common.{◌≡◌, ℕ, ◌+◌, ◌<◌, ◌≤◌, List, [], ◌∷◌, ◌++◌, length, filter, map, drop, Bool, true, false, not, cond, Option, Some, None, refl, ap, sym, ◌∙◌, arith, subst, slice_index_or, zero, suc}
+use Rattle.std.specs.List.{Contains, flat_map}
+use Rattle.std.specs.List.Sorted.{IsPermutation}
+use Rattle.std.proofs.lemmas.List.{drop_more, length-append}
+use Rattle.std.proofs.lemmas.List.Sorted.{IsPermutation-refl, IsPermutation-append_comm, IsPermutation-append_left}
+use Rattle.std.proofs.lemmas.List.Concat.{flat_map-append}
+use Rattle.std.proofs.lemmas.Grind.{common_steps}
+use Rattle.rv_value.specs.declared.value.Value.{Value}
+use Rattle.rv_value.specs.declared.record.Record.{Record}
+use Rattle.rv_restrict.specs.declared.atom.ColRef.{ColRef}
+use Rattle.rv_restrict.specs.Parts.{stands_among}
+use Rattle.rv_reader.specs.Shown.{Shown}
+use Rattle.rv_retrieval.specs.Rest.{AgreesIn, TakesOut}
+use Rattle.rv_retrieval.specs.Shape.{Keeps, RetrievalFits, Shape, rest}
+use Rattle.rv_join.specs.declared.places.Asked.{Asked}
+use Rattle.rv_join.specs.declared.places.Item.{Item}
+use Rattle.rv_join.specs.declared.level.Level.{Level}
+use Rattle.rv_join.specs.Asking.{AreWide, Asks, AsksItem, CanRun, OpensItem, asked_uses, col_at, holds, item_at, no_item, rows_at}
+use Rattle.rv_join.specs.Levels.{LevelFits, below, over_held, over_rest, over_row, still, tables_of, under, widened}
+use Rattle.rv_join.specs.Moves.{Descends, LevelStays}
+use Rattle.rv_join.proofs.Same.{alike_last, alike_wide, flat_filter_same, under_same}
+
+pub assoc : {B : Type 0} (a b c : List B) → (a ++ b) ++ c ≡ a ++ (b ++ c)
+assoc [] b c = refl
+assoc (x ∷ a) b c = ap (λ l. x ∷ l) (assoc a b c)
+
+pub append_nil : {A : Type 0} (xs : List A) → xs ++ [] ≡ xs
+append_nil [] = refl
+append_nil (x ∷ xs) = ap (λ l. x ∷ l) (append_nil xs)
+
+-- one item's part goes to the front
+pub flat_out : {A B : Type 0} (f : A → List B) (front : List A) (x : A) (behind : List A) → IsPermutation (flat_map f (front ++ x ∷ behind)) (f x ++ flat_map f (front ++ behind))
+flat_out f front x behind = rw (flat_map-append f front (x ∷ behind), flat_map-append f front behind) (swapped (flat_map f front) (f x) (flat_map f behind))
+  where
+    swapped : {B : Type 0} (a b c : List B) → IsPermutation (a ++ (b ++ c)) (b ++ (a ++ c))
+    swapped a b c = subst (λ l. IsPermutation l (b ++ (a ++ c))) (assoc a b c) (subst (λ l. IsPermutation ((a ++ b) ++ c) l) (assoc b a c) (IsPermutation-append_left c (a ++ b) (b ++ a) (IsPermutation-append_comm a b)))
+
+-- the row that is told has the same offers over it as the table's
+pub told_same : (a : Asked) (shown : Shown) (l : Level) (r taken : Record) → CanRun a shown → LevelFits a shown l → AgreesIn l.here.query.need r taken → over_row a shown l r.values ≡ over_row a shown l taken.values
+told_same a shown l r taken can fits agrees = under_same a shown (below a l) _ _ (alike_last a l.outer r.values taken.values (λ n u. agrees n (rw fits.asks.item.need ((can.each (length l.outer) fits.inside).need n u))))
+
+-- a row goes out of the rest and is held
+pub found_bag : (a : Asked) (shown : Shown) (old : Level) (new : Shape) (r : Record) → CanRun a shown → LevelFits a shown old → TakesOut old.here.query.need r (rest old.here shown) (rest new shown) → IsPermutation (over_rest a shown old) (over_row a shown old r.values ++ flat_map (λ (x : Record). over_row a shown old x.values) (rest new shown))
+found_bag a shown old new r can fits out = rw (out.before, out.after, told_same a shown old r out.taken can fits out.agrees) (flat_out (λ (x : Record). over_row a shown old x.values) out.front out.taken out.behind)
+
+pub stays_fits : (a : Asked) (shown : Shown) (old : Level) (new : Shape) → LevelFits a shown old → new.query ≡ old.here.query → RetrievalFits new shown → (row : Option (List Value)) → LevelFits a shown (record { outer = old.outer; row = row; here = new })
+stays_fits a shown old new fits query here row = record {
+  inside = fits.inside;
+  here = here;
+  asks = subst (λ q. Asks a old.outer q) (sym query) fits.asks;
+  wide = fits.wide;
+}
+
+pub level_stays : (a : Asked) (shown : Shown) (old : Level) (new : Shape) → LevelFits a shown old → new.query ≡ old.here.query → RetrievalFits new shown → rest new shown ≡ rest old.here shown → LevelStays a shown old (record old { here = new })
+level_stays a shown old new fits query here same = record {
+  fits = stays_fits a shown old new fits query here old.row;
+  outer = refl;
+  row = refl;
+  left = same;
+}
+
+-- the tables of the items from a place on
+tables_at : (items : List Item) (p : ℕ) → p < length items → drop p (map (λ (i : Item). i.table) items) ≡ (slice_index_or items p no_item).table ∷ drop (p + 1) (map (λ (i : Item). i.table) items)
+tables_at [] p le = absurd (omega (arith, le))
+tables_at (i ∷ items) zero le = refl
+tables_at (i ∷ items) (suc p) le = let next : suc p + 1 ≡ suc (p + 1) = omega arith in rw next (tables_at items p (omega (arith, le)))
+
+-- a retrieval that is opened over rows owes what is under them
+pub opened_is : (a : Asked) (shown : Shown) (outer : List (List Value)) (v : Shape) → length outer < length a.items → OpensItem a shown outer v → still a shown (record { outer = outer; row = None; here = v }) ≡ under a shown (drop (length outer) (tables_of a)) outer
+opened_is a shown outer v inside opens = rw (opens.rest_is, tables_at a.items (length outer) inside) (flat_filter_same (rows_at a shown (length outer)) _ _ _ _ (λ r. refl) (λ r. refl))
+
+pub opened_fits : (a : Asked) (shown : Shown) (outer : List (List Value)) (v : Shape) → length outer < length a.items → AreWide a outer → OpensItem a shown outer v → LevelFits a shown (record { outer = outer; row = None; here = v })
+opened_fits a shown outer v inside wide opens = record { inside = inside; here = opens.fits; asks = opens.asks; wide = wide }
+
+-- an inner retrieval over the row that is held, padded
+pub descends : (a : Asked) (shown : Shown) (old : Level) (row : List Value) (width : ℕ) (outer : List (List Value)) (v : Shape)
+    → old.row ≡ Some row → outer ≡ old.outer ++ widened width row ∷ [] → length old.outer + 1 < length a.items → AreWide a outer → OpensItem a shown outer v
+    → Descends a shown old (record { outer = outer; row = None; here = v })
+descends a shown old row width outer v held is inside wide opens =
+    let long : length outer ≡ length old.outer + 1 = rw is (grind (arith, common_steps)) in
+    let in_it : length outer < length a.items = omega (arith, long, inside) in
+    record {
+      fits = opened_fits a shown outer v in_it wide opens;
+      deeper = long;
+      none = refl;
+      bag = opened_is a shown outer v in_it opens ∙ rw (held, long, is) (under_same a shown (below a old) _ _ (alike_wide a old.outer width row));
+    }
+
+-- a level that owes what it owed has the same offers
+pub stays_held : (a : Asked) (shown : Shown) (old new : Level) → LevelStays a shown old new → over_held a shown new new.row ≡ over_held a shown old old.row
+stays_held a shown old new stays = rw stays.row (same_held old.row)
+  where
+    same_held : (o : Option (List Value)) → over_held a shown new o ≡ over_held a shown old o
+    same_held None = refl
+    same_held (Some row) = rw stays.outer refl
+
+pub stays_still : (a : Asked) (shown : Shown) (old new : Level) → LevelStays a shown old new → still a shown new ≡ still a shown old
+stays_still a shown old new stays = let held = stays_held a shown old new stays in rw held (ap (λ l. over_held a shown old old.row ++ l) over)
+  where
+    over : over_rest a shown new ≡ over_rest a shown old
+    over = rw (stays.left, stays.outer) refl
+
+pub level_same : (a : Asked) (shown : Shown) (l : Level) → LevelFits a shown l → LevelStays a shown l l
+level_same a shown l fits = record { fits = fits; outer = refl; row = refl; left = refl }
+
+-- a call that keeps what every reader shows
+pub level_keeps : (a : Asked) (shown : Shown) (old : Level) (new : Shape) → LevelFits a shown old → Keeps old.here new → LevelStays a shown old (record old { here = new })
+level_keeps a shown old new fits keeps = level_stays a shown old new fits keeps.query (keeps.fits shown fits.here) (keeps.rest shown fits.here)

@@ -1,0 +1,20 @@
+use Rattle.std.proofs.Common.{refl, sym, ◌∙◌}
+use Rattle.rv_join.proofs.Beginning.{begins_good, begins_with}
+use Rattle.rv_join.proofs.Running.{can_run, offers_are}
+use Rattle.rv_join.proofs.plan.Plan.open.Goals as goal
+
+pub open-requires : goal.open-requires
+open-requires g c = can_run c.args.select.now c.args.indexes.now (g.R.Reader.shown c.args.reader.now) c.args.snap c.args.cursor c.in_ok-asked.asked c.requires c.in_ok-asked.ensures
+
+pub returns-clause-fits : goal.returns-clause-fits
+returns-clause-fits g c = rw (c.new.ensures, c.in_ok-stage.ensures) (record {
+  holds = begins_good c.args.select.now c.args.indexes.now (g.R.Reader.shown c.args.reader.now) c.args.snap c.args.cursor c.in_ok-asked.asked c.in_ok-stack.stack c.reads_of-reads.result c.requires c.in_ok-asked.ensures c.in_ok-stack.ensures.starts;
+  counted = λ one. rw c.first_trace.ensures at c.reads_of-reads.ensures;
+})
+
+pub returns-clause-rest : goal.returns-clause-rest
+returns-clause-rest g c =
+    let select = c.args.select.now in
+    let indexes = c.args.indexes.now in
+    let shown = g.R.Reader.shown c.args.reader.now in
+    begins_with c.in_ok-asked.asked shown select indexes _ refl c.new.ensures c.in_ok-stage.ensures ∙ c.in_ok-stack.ensures.starts.bag ∙ offers_are select indexes shown c.args.snap c.args.cursor c.in_ok-asked.asked c.requires c.in_ok-asked.ensures

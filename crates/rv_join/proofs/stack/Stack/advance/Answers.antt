@@ -1,0 +1,31 @@
+use Rattle.rv_join.proofs.Catching.{stays_moves}
+use Rattle.rv_join.proofs.Stacking.{kept_at, kept_if_not, kept_then, kept_then_if}
+use Rattle.rv_join.proofs.stack.Stack.advance.Goals as goal
+
+pub returns-in_err-ready-clause-err : goal.returns-in_err-ready-clause-err
+returns-in_err-ready-clause-err g c =
+    let asked = c.args.asked.now in
+    let shown = g.R.Reader.shown c.args.reader.now in
+    kept_if_not _ _ (kept_at asked shown c.args.self.now c.ready.new.self c.requires.fits c.ready.ensures.same (stays_moves asked shown c.args.self.now.at c.ready.new.self.at c.in_err-ready.ensures.err))
+
+pub returns-in-Worked-clause-moves : goal.returns-in-Worked-clause-moves
+returns-in-Worked-clause-moves g c =
+    let asked = c.args.asked.now in
+    let shown = g.R.Reader.shown c.args.reader.now in
+    kept_at asked shown c.args.self.now c.ready.new.self c.requires.fits c.ready.ensures.same (rw c.in-Worked.is at c.in_ok-ready.ensures.caught)
+
+pub returns-in-Ended-clause-moves : goal.returns-in-Ended-clause-moves
+returns-in-Ended-clause-moves g c =
+    let asked = c.args.asked.now in
+    let shown = g.R.Reader.shown c.args.reader.now in
+    let caught = rw c.in-Ended.is at c.in_ok-ready.ensures.caught in
+    let kept = kept_at asked shown c.args.self.now c.ready.new.self c.requires.fits c.ready.ensures.same caught.0 in
+    kept_then asked shown c.end.result c.args.self.now c.ready.new.self c.end.new.self kept (c.end.ensures.moves asked shown kept.fits caught.1)
+
+pub returns-in-Ready-clause-moves : goal.returns-in-Ready-clause-moves
+returns-in-Ready-clause-moves g c =
+    let asked = c.args.asked.now in
+    let shown = g.R.Reader.shown c.args.reader.now in
+    let caught = rw c.in-Ready.is at c.in_ok-ready.ensures.caught in
+    let kept = kept_at asked shown c.args.self.now c.ready.new.self c.requires.fits c.ready.ensures.same caught.0 in
+    kept_then_if asked shown c.use_row.result c.args.self.now c.ready.new.self _ kept c.use_row.ensures.moves

@@ -1,0 +1,7 @@
+use Rattle.std.proofs.Common.{subst, sym}
+use Rattle.rv_join.specs.Asking.{OpensItem}
+use Rattle.rv_join.proofs.Beginning.{starts}
+use Rattle.rv_join.proofs.stack.open.Goals as goal
+
+pub returns-clause-starts : goal.returns-clause-starts
+returns-clause-starts g c = rw (c.new.ensures.items, c.new-2.ensures) (starts c.args.asked.now (g.R.Reader.shown c.args.reader.now) c.in_ok-here.here 1 c.requires c.in_ok-here.ensures.opens)

@@ -1,0 +1,6 @@
+pub mod Asking
+pub mod Levels
+pub mod Order
+pub mod Moves
+pub mod Plans
+pub mod Pieces

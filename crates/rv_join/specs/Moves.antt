@@ -1,0 +1,91 @@
+-- What the calls do to open levels: whatever they answer, the bag of offers stays but for an offer that is given.
+use Rattle.std.specs.Prelude.{◌≡◌, ◌⊎◌, ℕ, ◌+◌, length, List, [], ◌∷◌, ◌++◌, None, IsSome, Option, Some}
+use Rattle.std.specs.List.{flat_map}
+use Rattle.std.specs.List.Sorted.{IsPermutation}
+use Rattle.rv_value.specs.declared.value.Value.{Value}
+use Rattle.rv_model.specs.declared.state.Offer.{Offer}
+use Rattle.rv_reader.specs.Shown.{Shown}
+use Rattle.rv_judge.specs.declared.counting.Counts.{Counts}
+use Rattle.rv_retrieval.specs.Shape.{Shape, rest}
+use Rattle.rv_retrieval.specs.Telling.{CountsRise}
+use Rattle.rv_join.specs.declared.places.Asked.{Asked}
+use Rattle.rv_join.specs.declared.level.Level.{Level}
+use Rattle.rv_join.specs.declared.level.Caught.{Caught}
+use Rattle.rv_join.specs.declared.level.Caught.TheVariants.{Ready, Ended, Worked}
+use Rattle.rv_join.specs.declared.stack.Moved.{Moved}
+use Rattle.rv_join.specs.declared.stack.Moved.TheVariants.{Gave, Done, Moving}
+use Rattle.rv_join.specs.Levels.{AllFit, LevelFits, Stacked, StackFits, bag, over_held, still, tables_of, under}
+use Rattle.rv_join.specs.Order.{IsByFirst, IsLeastOf, Led, LevelLed}
+
+-- a level's retrieval was called, and owes what it owed
+pub record LevelStays (a : Asked) (shown : Shown) (old new : Level) : Type 0 where
+  pub fits : LevelFits a shown new
+  pub outer : new.outer ≡ old.outer
+  pub row : new.row ≡ old.row
+  pub left : rest new.here shown ≡ rest old.here shown
+
+-- a level may have taken a row out of its retrieval, and holds it
+pub record LevelMoves (a : Asked) (shown : Shown) (old new : Level) : Type 0 where
+  pub fits : LevelFits a shown new
+  pub outer : new.outer ≡ old.outer
+  pub bag : IsPermutation (still a shown old) (still a shown new)
+  pub led : old.outer ≡ [] → IsByFirst a → LevelLed a shown old → LevelLed a shown new
+
+abbrev pub Catches : Asked → Shown → Caught → Level → Level → Type 0
+Catches a shown Ready old new = LevelMoves a shown old new × IsSome new.row
+Catches a shown Ended old new = LevelMoves a shown old new × (still a shown new ≡ [])
+Catches a shown Worked old new = LevelMoves a shown old new
+
+-- A call of a retrieval was made, whose counts rise by what is counted, or none was.
+abbrev pub Rises : Shape → Shape → Counts → Counts → Type 0
+Rises old new before after = CountsRise old.trace new.trace before after ⊎ ((new ≡ old) × (after ≡ before))
+
+-- a level over the row that another holds
+pub record Descends (a : Asked) (shown : Shown) (old new : Level) : Type 0 where
+  pub fits : LevelFits a shown new
+  pub deeper : length new.outer ≡ length old.outer + 1
+  pub none : new.row ≡ None
+  pub bag : still a shown new ≡ over_held a shown old old.row
+
+-- the bag stays
+pub record Kept (a : Asked) (shown : Shown) (old new : Stacked) : Type 0 where
+  pub fits : StackFits a shown new
+  pub bag : IsPermutation (bag a shown old) (bag a shown new)
+  pub led : IsByFirst a → Led a shown old → Led a shown new
+
+-- an offer was taken out, least of those that are left
+pub record Takes (a : Asked) (shown : Shown) (o : Offer) (old new : Stacked) : Type 0 where
+  pub fits : StackFits a shown new
+  pub least : IsByFirst a → Led a shown old → IsLeastOf o (bag a shown new)
+  pub led : IsByFirst a → Led a shown old → Led a shown new
+  pub bag : IsPermutation (bag a shown old) (o ∷ bag a shown new)
+
+abbrev pub Moves : Asked → Shown → Moved → Stacked → Stacked → Type 0
+Moves a shown (Gave o) old new = Takes a shown o old new
+Moves a shown Done old new = Kept a shown old new × (bag a shown old ≡ [])
+Moves a shown Moving old new = Kept a shown old new
+
+-- one of some levels was called
+pub record LevelsStay (a : Asked) (shown : Shown) (place : ℕ) (old new : List Level) : Type 0 where
+  pub fits : AllFit a shown place new
+  pub count : length new ≡ length old
+  pub bag : flat_map (still a shown) new ≡ flat_map (still a shown) old
+
+-- the first of some levels holds what it held
+abbrev pub SameFirst : Asked → Shown → List Level → List Level → Type 0
+SameFirst a shown [] new = new ≡ []
+SameFirst a shown (f ∷ ls) [] = ⊥
+SameFirst a shown (f ∷ ls) (g ∷ ms) = (over_held a shown g g.row ≡ over_held a shown f f.row) × (flat_map (still a shown) ms ≡ flat_map (still a shown) ls)
+
+-- a stack was called, and owes what it owed
+pub record StackStays (a : Asked) (shown : Shown) (old new : Stacked) : Type 0 where
+  pub fits : StackFits a shown new
+  pub bag : bag a shown new ≡ bag a shown old
+  pub led : Led a shown old → Led a shown new
+
+-- a stack that was just opened
+pub record Starts (a : Asked) (shown : Shown) (v : Stacked) : Type 0 where
+  pub fits : StackFits a shown v
+  pub top : v.above ≡ []
+  pub bag : bag a shown v ≡ under a shown (tables_of a) []
+  pub led : IsByFirst a → Led a shown v

@@ -1,0 +1,126 @@
+//! Offers that are gathered, sorted, and given in order.
+ghost use Rattle.std.specs.Prelude.{◌≡◌, ◌<◌, List, [], ◌∷◌, ◌++◌, length, reverse, IfOk, OnOk, OnErr};
+ghost use Rattle.std.specs.List.Sorted.{IsPermutation, IsSortedBy};
+ghost use Rattle.rv_value.specs.Order.{values_cmp};
+ghost use Rattle.rv_join.specs.Asking.{CanRun};
+ghost use Rattle.rv_join.specs.Levels.{StackFits, first_of};
+ghost use Rattle.rv_join.specs.Moves.{Kept, Rises};
+ghost use Rattle.rv_join.specs.Order.{before};
+ghost use Rattle.rv_join.specs.Plans.{Gathers, Taken};
+
+use crate::places::Asked;
+use crate::stack::{Moved, Stack};
+use rv_judge::{Judge, Steps};
+use rv_model::Offer;
+use rv_reader::Reader;
+use rv_value::{NoMemory, cmp_values};
+use std::alloc::Global;
+use std::cmp::Ordering;
+use std::marker::Model;
+
+/// How a plan's offers come.
+#[derive(Clone, Copy, PartialEq, Eq, Debug)]
+pub enum Stage {
+    /// As the nested loops find them.
+    AsFound,
+    /// They are gathered first.
+    Gathering,
+    /// All are gathered and sorted, and are given one after another.
+    Giving,
+}
+
+/// Offers gathered, those to be given later in front.
+#[derive(Drop)]
+pub struct Gathered {
+    offers: Vec<Offer>,
+}
+
+impl Model for Gathered {
+    ghost use Rattle.std.specs.Prelude.{List, reverse};
+    ghost use Rattle.rv_model.specs.declared.state.Offer.{Offer};
+
+    ghost Value = { List Offer };
+
+    ghost view = { λ g. reverse g.offers.items };
+}
+
+/// By the order values alone.
+fn order_of(a: &Offer, b: &Offer) -> Ordering
+    ensures { result ≡ values_cmp a.now.order b.now.order }
+{
+    cmp_values(a.order.as_slice(), b.order.as_slice())
+}
+
+/// Sorted by the order values; those of equal ones stay in the order in which they came.
+fn sort_offers(offers: &mut Vec<Offer>) -> Result<(), NoMemory>
+    ensures same { IsPermutation offers.old.items offers.new.items }
+    ensures sorted { OnOk result (IsSortedBy before offers.new.items) }
+{
+    offers.sort_by(|a, b| order_of(a, b))?;
+    Ok(())
+}
+
+fn turn(offers: &mut Vec<Offer>)
+    ensures { offers.new.items ≡ reverse offers.old.items }
+{
+    offers.as_mut_slice().reverse();
+}
+
+impl Gathered {
+    /// No offers.
+    pub fn new(alloc: Global) -> Gathered
+        ensures { result ≡ [] }
+    {
+        Gathered {
+            offers: Vec::new(alloc),
+        }
+    }
+
+    /// One step of nested loops, whose combination, if it gives one, is put to those gathered. The answer is whether all
+    /// are gathered.
+    #[tactic(auto, using(crate::proofs::Planning::gathered_more, crate::proofs::Planning::moving_more))]
+    pub fn gather<R: Reader>(
+        &mut self,
+        alloc: Global,
+        asked: &Asked,
+        stack: &mut Stack,
+        reader: &R,
+        judge: &mut Box<dyn Judge>,
+        steps: &mut Steps<R::Ledger>,
+    ) -> Result<bool, NoMemory>
+        requires can { CanRun asked.now (R.shown reader.now) }
+        requires fits { StackFits asked.now (R.shown reader.now) stack.old }
+        ensures gathers { IfOk result (λ all. Gathers all asked.now (R.shown reader.now) stack.old self.old stack.new self.new) }
+        ensures alone { length asked.now.items ≡ 1 → Rises (first_of stack.old).here (first_of stack.new).here steps.old steps.new }
+        ensures kept { OnErr result (Kept asked.now (R.shown reader.now) stack.old stack.new) }
+        ensures same { OnErr result (self.new ≡ self.old) }
+    {
+        self.offers.reserve(1)?;
+        match stack.advance(alloc, asked, reader, judge, steps)? {
+            Moved::Gave(offer) => {
+                self.offers.push(offer).unwrap();
+                Ok(false)
+            }
+            Moved::Moving => Ok(false),
+            Moved::Done => Ok(true),
+        }
+    }
+
+    /// Sorts all that is gathered.
+    #[tactic(auto, using(crate::proofs::Planning::sorted_value))]
+    pub fn sort(&mut self) -> Result<(), NoMemory>
+        ensures same { IsPermutation self.old self.new }
+        ensures sorted { OnOk result (IsSortedBy before self.new) }
+    {
+        sort_offers(&mut self.offers)?;
+        turn(&mut self.offers);
+        Ok(())
+    }
+
+    /// Takes the first offer.
+    pub fn take(&mut self) -> Option<Offer>
+        ensures { Taken result self.old self.new }
+    {
+        self.offers.pop()
+    }
+}

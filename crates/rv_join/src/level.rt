@@ -1,0 +1,245 @@
+//! Levels: an open retrieval over the rows chosen of the FROM items before its own.
+ghost use Rattle.std.specs.Prelude.{◌≡◌, ℕ, ◌+◌, ◌<◌, ◌≤◌, List, [], ◌∷◌, ◌++◌, length, map, true, None, IfOk, OnOk, OnErr};
+ghost use Rattle.std.specs.List.{slice_index_or};
+ghost use Rattle.rv_restrict.specs.Bind.{rows_reads};
+ghost use Rattle.rv_reader.specs.Shown.{Shown};
+ghost use Rattle.rv_scan.specs.Told.{width};
+ghost use Rattle.rv_retrieval.specs.Shape.{is_building};
+ghost use Rattle.rv_join.specs.Asking.{CanRun, item_at};
+ghost use Rattle.rv_join.specs.Levels.{LevelFits, offered, widened};
+ghost use Rattle.rv_join.specs.Moves.{Catches, Descends, LevelStays, Rises};
+ghost use Rattle.rv_model.specs.Offering.{picked_over};
+ghost use Rattle.rv_join.specs.Pieces.{is_waiting};
+
+use crate::places::{Asked, open_item};
+use rv_judge::{Control, Judge, Steps};
+use rv_model::Offer;
+use rv_reader::Reader;
+use rv_restrict::ColRef;
+use rv_retrieval::{Fg, Retrieval};
+use rv_value::{Duplicate, Items, NoMemory, Record, Value, Values, copy_slice};
+use std::alloc::Global;
+
+/// An open retrieval over the rows chosen of the FROM items before its own, and the row that it gave last, while
+/// nothing is open over that row.
+#[derive(Drop)]
+pub struct Level {
+    pub outer: Items<Values>,
+    pub row: Option<Values>,
+    pub here: Retrieval,
+}
+
+/// What a look for a level's next row came to.
+#[derive(Clone, Copy, PartialEq, Eq, Debug)]
+pub enum Caught {
+    /// A row is held.
+    Ready,
+    /// The retrieval has ended.
+    Ended,
+    /// There is no row yet.
+    Worked,
+}
+
+/// The number of columns up to the last of these.
+fn width(columns: &[u32]) -> usize
+    ensures { result ≡ width columns.now }
+{
+    match columns {
+        [] => 0,
+        [first, more @ ..] => (*first as usize + 1).max(width(more)),
+    }
+}
+
+/// Adds NULL for the columns that a row lacks below a width.
+#[tactic(auto, using(crate::proofs::Same::padded_more))]
+fn widen(values: &mut Vec<Value>, width: usize) -> Result<(), NoMemory>
+    ensures { OnOk result (values.new.items ≡ widened width values.old.items) }
+{
+    let missing = width.saturating_sub(values.len());
+    'nulls: for _count in 0..missing {
+        values.push(Value::Null)?;
+    }
+    Ok(())
+}
+
+/// A copy of a row with a value in each column needed. A row told by an index alone has the index's columns and those
+/// before them; a restriction that is bound over it may ask for a value in each column needed.
+fn copy_wide(alloc: Global, row: &Values, need: &[u32]) -> Result<Values, NoMemory>
+    ensures { IfOk result (λ copy. copy ≡ widened (width need.now) row.now) }
+{
+    let mut values = copy_slice(alloc, row.as_slice())?;
+    widen(&mut values, width(need))?;
+    Ok(Values::from_vec(values))
+}
+
+/// The value that a reference reads in one row for each place, NULL where there is none.
+fn value_at(alloc: Global, rows: &[Values], column: ColRef) -> Result<Value, NoMemory>
+    ensures { IfOk result (λ value. value ≡ rows_reads rows.now column) }
+{
+    match rows.get(column.place as usize) {
+        Some(row) => match row.as_slice().get(column.column as usize) {
+            Some(value) => value.copy(alloc),
+            None => Ok(Value::Null),
+        },
+        None => Ok(Value::Null),
+    }
+}
+
+fn pick_into(
+    alloc: Global,
+    columns: &[ColRef],
+    rows: &[Values],
+    values: &mut Vec<Value>,
+) -> Result<(), NoMemory>
+    ensures { OnOk result (values.new.items ≡ values.old.items ++ picked_over columns.now rows.now) }
+{
+    match columns {
+        [] => Ok(()),
+        [column, more @ ..] => {
+            values.push(value_at(alloc, rows, *column)?)?;
+            pick_into(alloc, more, rows, values)
+        }
+    }
+}
+
+/// The values that references read in one row for each place.
+fn pick(alloc: Global, columns: &[ColRef], rows: &[Values]) -> Result<Values, NoMemory>
+    ensures { IfOk result (λ values. values ≡ picked_over columns.now rows.now) }
+{
+    let mut values = Vec::with_capacity(alloc, columns.len())?;
+    pick_into(alloc, columns, rows, &mut values)?;
+    Ok(Values::from_vec(values))
+}
+
+impl Level {
+    /// Whether its retrieval awaits a piece.
+    pub fn is_waiting(&self) -> bool
+        ensures { result ≡ is_waiting self.now }
+    {
+        self.here.awaited().is_some()
+    }
+
+    /// Whether both sides of its retrieval run.
+    pub fn is_building(&self) -> bool
+        ensures { result ≡ is_building self.now.here.control }
+    {
+        match self.here.control() {
+            Control::Building => true,
+            Control::ForegroundAlone
+            | Control::BackgroundAlone
+            | Control::FinalList
+            | Control::FinalTable
+            | Control::Done => false,
+        }
+    }
+
+    /// Takes the next row of the retrieval, and holds it.
+    #[tactic(auto, using(crate::proofs::Catching::found_moves, crate::proofs::Catching::stays_moves, crate::proofs::Catching::ended_moves, crate::proofs::Opening::level_stays))]
+    fn catch<R: Reader>(
+        &mut self,
+        _asked: &Asked,
+        reader: &R,
+        judge: &mut Box<dyn Judge>,
+        steps: &mut Steps<R::Ledger>,
+    ) -> Result<Caught, NoMemory>
+        requires can { CanRun _asked.now (R.shown reader.now) }
+        requires fits { LevelFits _asked.now (R.shown reader.now) self.old }
+        requires none { self.old.row ≡ None }
+        ensures caught { IfOk result (λ c. Catches _asked.now (R.shown reader.now) c self.old self.new) }
+        ensures counts { Rises self.old.here self.new.here steps.old steps.new }
+        ensures err { OnErr result (LevelStays _asked.now (R.shown reader.now) self.old self.new) }
+    {
+        match self.here.fg_step(reader, judge, steps)? {
+            Fg::Row(record) => {
+                let Record { row: _, values } = record;
+                let _before = self.row.replace(values);
+                Ok(Caught::Ready)
+            }
+            Fg::End => Ok(Caught::Ended),
+            Fg::Working => Ok(Caught::Worked),
+        }
+    }
+
+    /// Holds a row, or tells why there is none. A row that is held already, since its use found no memory, stays.
+    #[tactic(auto, using(crate::proofs::Catching::same_moves, crate::proofs::Opening::level_same))]
+    pub fn ready<R: Reader>(
+        &mut self,
+        asked: &Asked,
+        reader: &R,
+        judge: &mut Box<dyn Judge>,
+        steps: &mut Steps<R::Ledger>,
+    ) -> Result<Caught, NoMemory>
+        requires can { CanRun asked.now (R.shown reader.now) }
+        requires fits { LevelFits asked.now (R.shown reader.now) self.old }
+        ensures caught { IfOk result (λ c. Catches asked.now (R.shown reader.now) c self.old self.new) }
+        ensures counts { Rises self.old.here self.new.here steps.old steps.new }
+        ensures err { OnErr result (LevelStays asked.now (R.shown reader.now) self.old self.new) }
+    {
+        if self.row.is_some() {
+            return Ok(Caught::Ready);
+        }
+        self.catch(asked, reader, judge, steps)
+    }
+
+    /// The rows chosen so far and this one, wide enough for restrictions that are bound over them.
+    fn wide_rows(
+        &self,
+        alloc: Global,
+        asked: &Asked,
+        row: &Values,
+    ) -> Result<Items<Values>, NoMemory>
+        requires { length self.now.outer < length asked.now.items }
+        ensures { IfOk result (λ rows. rows ≡ self.now.outer ++ widened (width (item_at asked.now (length self.now.outer)).need) row.now ∷ []) }
+    {
+        let item = asked.item(self.outer.len());
+        let mut rows = self.outer.copy(alloc)?;
+        rows.push(copy_wide(alloc, row, item.need.as_slice())?)?;
+        Ok(rows)
+    }
+
+    /// The rows chosen so far and this one.
+    fn rows(&self, alloc: Global, row: &Values) -> Result<Items<Values>, NoMemory>
+        ensures { IfOk result (λ rows. rows ≡ self.now.outer ++ row.now ∷ []) }
+    {
+        let mut rows = self.outer.copy(alloc)?;
+        rows.push(row.copy(alloc)?)?;
+        Ok(rows)
+    }
+
+    /// Opens the level of the next FROM item over a row that is held.
+    #[tactic(auto, using(crate::proofs::Binding::wide_more, crate::proofs::Opening::descends))]
+    pub fn inner<R: Reader>(
+        &self,
+        alloc: Global,
+        reader: &R,
+        asked: &Asked,
+        row: &Values,
+        opening: u64,
+        steps: &mut Steps<R::Ledger>,
+    ) -> Result<Level, NoMemory>
+        requires can { CanRun asked.now (R.shown reader.now) }
+        requires fits { LevelFits asked.now (R.shown reader.now) self.now }
+        requires holds { self.now.row ≡ Rattle.std.specs.Prelude.Some row.now }
+        requires inside { length self.now.outer + 1 < length asked.now.items }
+        ensures { IfOk result (Descends asked.now (R.shown reader.now) self.now) }
+    {
+        let outer = self.wide_rows(alloc, asked, row)?;
+        let here = open_item(alloc, reader, asked, outer.as_slice(), opening, steps)?;
+        Ok(Level {
+            outer,
+            row: None,
+            here,
+        })
+    }
+
+    /// What the rows chosen so far and this one offer.
+    pub fn offer(&self, alloc: Global, asked: &Asked, row: &Values) -> Result<Offer, NoMemory>
+        ensures { IfOk result (λ offer. offer ≡ offered asked.now (self.now.outer ++ row.now ∷ [])) }
+    {
+        let rows = self.rows(alloc, row)?;
+        Ok(Offer {
+            order: pick(alloc, asked.order.as_slice(), rows.as_slice())?,
+            returned: pick(alloc, asked.returns.as_slice(), rows.as_slice())?,
+        })
+    }
+}

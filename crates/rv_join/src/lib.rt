@@ -1,0 +1,12 @@
+//! Plans: nested loops of up to four retrievals in FROM order, whose combinations of rows come as they are found, or are
+//! gathered and sorted.
+#![tactic(auto)]
+
+mod gather;
+mod level;
+mod places;
+mod plan;
+mod stack;
+mod steps;
+
+pub use plan::{Plan, PlanStep};

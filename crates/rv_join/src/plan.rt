@@ -1,0 +1,278 @@
+//! Plans: what they keep, and how one is opened.
+ghost use Rattle.std.specs.Prelude.{◌≡◌, ◌<◌, ◌≤◌, ◌^◌, length, Ok, Option, IfOk, OnOk, OnErr};
+ghost use Rattle.std.specs.List.Sorted.{IsPermutation};
+ghost use Rattle.rv_reader.specs.Shown.{Shown};
+ghost use Rattle.rv_retrieval.specs.Rulings.{GivesOn};
+ghost use Rattle.rv_retrieval.specs.Given.{Answers, TakesPiece};
+ghost use Rattle.rv_retrieval.specs.Shape.{RetrievalFits};
+ghost use Rattle.rv_retrieval.specs.Telling.{CountsRise, SameCounts};
+ghost use Rattle.rv_jscan.specs.declared.piece.PieceId.{PieceId as Id};
+ghost use Rattle.rv_jscan.specs.declared.jscan.Given.{Given as TheGiven};
+ghost use Rattle.rv_join.specs.Asking.{Asks, CanPlan, CanRun, IsAsked};
+ghost use Rattle.rv_join.specs.Levels.{StackFits, first_of, table_rows};
+ghost use Rattle.rv_join.specs.Moves.{Kept, Moves, Rises, StackStays, Starts};
+ghost use Rattle.rv_model.specs.Offering.{offers_over};
+ghost use Rattle.rv_join.specs.Pieces.{level_at, plan_awaited, stack_builds, waits};
+ghost use Rattle.rv_join.specs.Plans.{AreReads, Gathers, Gives, LeadsWith, PlanFits, Sorts, plan_rest, plan_trace, reads_with, stage_of};
+
+use crate::gather::{Gathered, Stage};
+use crate::places::{Asked, ask, by_index};
+use crate::stack::{Moved, Stack, open};
+use rv_catalog::{IndexDef, Select};
+use rv_jscan::{Given, PieceId, Sieved, Taken};
+use rv_judge::{Counts, Judge, Steps, Trace};
+use rv_model::Offer;
+use rv_reader::Reader;
+use rv_value::NoMemory;
+use std::alloc::Global;
+use std::marker::Model;
+
+/// What a step of a plan answers.
+#[derive(Drop)]
+pub enum PlanStep {
+    /// A combination: the values by which it is ordered, and those that it returns.
+    Row(Offer),
+    /// Nothing is left.
+    End,
+    /// No combination yet; the rest is as before.
+    Working,
+}
+
+/// The plan of a cursor: nested loops of up to four retrievals in FROM order.
+#[derive(Drop)]
+pub struct Plan {
+    alloc: Global,
+    asked: Asked,
+    stack: Stack,
+    gathered: Gathered,
+    stage: Stage,
+    reads: Counts,
+}
+
+impl Model for Plan {
+    ghost use Rattle.rv_join.specs.Plans.{Planned};
+
+    ghost Value = { Planned };
+
+    ghost view = { λ p. record { asked = p.asked; stack = p.stack; gathered = p.gathered; stage = p.stage; reads = p.reads } };
+}
+
+/// The counts of a trace.
+fn reads_of(trace: &Trace) -> Counts
+    ensures { AreReads trace.now result }
+{
+    Counts {
+        pages: trace.pages,
+        leaves: trace.leaves,
+        records: trace.fetches,
+    }
+}
+
+/// The stage in which a plan begins.
+fn first_stage(alloc: Global, select: &Select, indexes: &[IndexDef]) -> Result<Stage, NoMemory>
+    requires some { 1 ≤ length select.now.tables }
+    requires numbers { length indexes.now < 2 ^ 32 }
+    ensures { IfOk result (λ stage. stage ≡ stage_of select.now indexes.now) }
+{
+    if select.order.is_empty() {
+        return Ok(Stage::AsFound);
+    }
+    if by_index(alloc, select, indexes)? {
+        Ok(Stage::AsFound)
+    } else {
+        Ok(Stage::Gathering)
+    }
+}
+
+impl Plan {
+    /// Opens a plan of a select at a snapshot, for the cursor of this number. An index's number is its position in
+    /// `indexes`. It opens the retrieval of the first FROM item; each further one is opened over a row of the items
+    /// before it. Where an order is asked that no index of the first item gives, all offers are gathered and sorted
+    /// before the first comes.
+    #[tactic(auto, using(crate::proofs::Beginning::begins_with, crate::proofs::Beginning::begins_good, crate::proofs::Running::offers_are))]
+    pub fn open<R: Reader>(
+        alloc: Global,
+        reader: &R,
+        select: &Select,
+        indexes: &[IndexDef],
+        snap: u64,
+        cursor: u64,
+        steps: &mut Steps<R::Ledger>,
+    ) -> Result<Plan, NoMemory>
+        requires { CanPlan select.now indexes.now (R.shown reader.now) snap }
+        ensures fits { IfOk result (PlanFits (R.shown reader.now)) }
+        ensures rest { IfOk result (λ p. plan_rest (R.shown reader.now) p ≡ offers_over select.now (table_rows (R.shown reader.now) snap)) }
+        ensures asked { IfOk result (λ p. IsAsked select.now indexes.now snap cursor p.asked) }
+        ensures leads { IfOk result (LeadsWith (R.shown reader.now)) }
+        ensures stage { IfOk result (λ p. p.stage ≡ stage_of select.now indexes.now) }
+    {
+        let stage = first_stage(alloc, select, indexes)?;
+        let asked = ask(alloc, select, indexes, snap, cursor)?;
+        let stack = open(alloc, reader, &asked, steps)?;
+        let reads = reads_of(&stack.first_trace());
+        Ok(Plan {
+            alloc,
+            asked,
+            stack,
+            gathered: Gathered::new(alloc),
+            stage,
+            reads,
+        })
+    }
+
+    /// What it did so far: the strategy and the events of the first FROM item's retrieval, with the counts of all its
+    /// retrievals.
+    #[tactic(auto, using(crate::proofs::Accounting::alone_trace))]
+    pub fn trace(&self) -> Trace
+        ensures told { result ≡ plan_trace self.now }
+        ensures alone { (shown : Shown) → PlanFits shown self.now → length self.now.asked.items ≡ 1 → result ≡ self.now.stack.at.here.trace }
+    {
+        let mut trace = self.stack.first_trace();
+        trace.pages = self.reads.pages;
+        trace.leaves = self.reads.leaves;
+        trace.fetches = self.reads.records;
+        trace
+    }
+
+    /// The id of the piece that is awaited by the first retrieval in FROM order that awaits one.
+    pub fn awaited(&self) -> Option<PieceId>
+        ensures { result ≡ plan_awaited self.now }
+    {
+        self.stack.level(self.stack.waits()).here.awaited()
+    }
+
+    /// Whether both sides of some retrieval run.
+    pub fn is_building(&self) -> bool
+        ensures { result ≡ stack_builds self.now.stack }
+    {
+        self.stack.is_building()
+    }
+}
+
+/// Changes of fields.
+impl Plan {
+    pub(crate) fn stage(&self) -> Stage
+        ensures { result ≡ self.now.stage }
+    {
+        self.stage
+    }
+
+    /// Adds what a call has read.
+    pub(crate) fn count(&mut self, before: Counts, after: Counts)
+        ensures same { self.new ≡ record self.old { reads = reads_with self.old.reads before after } }
+        ensures none { after ≡ before → self.new ≡ self.old }
+    {
+        let pages = after.pages.saturating_sub(before.pages);
+        let leaves = after.leaves.saturating_sub(before.leaves);
+        let records = after.records.saturating_sub(before.records);
+        self.reads.pages = self.reads.pages.saturating_add(pages);
+        self.reads.leaves = self.reads.leaves.saturating_add(leaves);
+        self.reads.records = self.reads.records.saturating_add(records);
+    }
+
+    /// A step of the nested loops.
+    pub(crate) fn advance<R: Reader>(
+        &mut self,
+        reader: &R,
+        judge: &mut Box<dyn Judge>,
+        steps: &mut Steps<R::Ledger>,
+    ) -> Result<Moved, NoMemory>
+        requires can { CanRun self.old.asked (R.shown reader.now) }
+        requires fits { StackFits self.old.asked (R.shown reader.now) self.old.stack }
+        ensures moves { IfOk result (λ m. Moves self.old.asked (R.shown reader.now) m self.old.stack self.new.stack) }
+        ensures alone { length self.old.asked.items ≡ 1 → Rises (first_of self.old.stack).here (first_of self.new.stack).here steps.old steps.new }
+        ensures same { self.new ≡ record self.old { stack = self.new.stack } }
+        ensures err { OnErr result (Kept self.old.asked (R.shown reader.now) self.old.stack self.new.stack) }
+    {
+        self.stack
+            .advance(self.alloc, &self.asked, reader, judge, steps)
+    }
+
+    /// A step of the nested loops, whose combination is put to those gathered.
+    pub(crate) fn gather<R: Reader>(
+        &mut self,
+        reader: &R,
+        judge: &mut Box<dyn Judge>,
+        steps: &mut Steps<R::Ledger>,
+    ) -> Result<bool, NoMemory>
+        requires can { CanRun self.old.asked (R.shown reader.now) }
+        requires fits { StackFits self.old.asked (R.shown reader.now) self.old.stack }
+        ensures gathers { IfOk result (λ all. Gathers all self.old.asked (R.shown reader.now) self.old.stack self.old.gathered self.new.stack self.new.gathered) }
+        ensures alone { length self.old.asked.items ≡ 1 → Rises (first_of self.old.stack).here (first_of self.new.stack).here steps.old steps.new }
+        ensures same { self.new ≡ record self.old { stack = self.new.stack; gathered = self.new.gathered } }
+        ensures kept { OnErr result (Kept self.old.asked (R.shown reader.now) self.old.stack self.new.stack) }
+        ensures none { OnErr result (self.new.gathered ≡ self.old.gathered) }
+    {
+        self.gathered.gather(
+            self.alloc,
+            &self.asked,
+            &mut self.stack,
+            reader,
+            judge,
+            steps,
+        )
+    }
+
+    /// Sorts all that is gathered, which is then to be given.
+    pub(crate) fn sort(&mut self) -> Result<(), NoMemory>
+        ensures ok { OnOk result (Sorts self.old self.new) }
+        ensures same { OnErr result (IsPermutation self.old.gathered self.new.gathered) }
+        ensures err { OnErr result (self.new ≡ record self.old { gathered = self.new.gathered }) }
+    {
+        self.gathered.sort()?;
+        self.stage = Stage::Giving;
+        Ok(())
+    }
+
+    /// Gives the next of the offers that are sorted.
+    pub(crate) fn give_next(&mut self) -> PlanStep
+        ensures given { Gives result self.old.gathered self.new.gathered }
+        ensures same { self.new ≡ record self.old { gathered = self.new.gathered } }
+    {
+        match self.gathered.take() {
+            Some(offer) => PlanStep::Row(offer),
+            None => PlanStep::End,
+        }
+    }
+
+    /// The place of the first level that awaits a piece, that of the innermost one where none does.
+    pub(crate) fn waits(&self) -> usize
+        ensures { result ≡ waits self.now.stack }
+    {
+        self.stack.waits()
+    }
+
+    pub(crate) fn take_at<R: Reader>(
+        &mut self,
+        at: usize,
+        reader: &R,
+        steps: &mut Steps<R::Ledger>,
+    ) -> Result<Taken, NoMemory>
+        requires fits { RetrievalFits (level_at self.old.stack at).here (R.shown reader.now) }
+        ensures same { self.new ≡ record self.old { stack = self.new.stack } }
+        ensures taken { IfOk result (TakesPiece (level_at self.new.stack at).here) }
+        ensures counts { CountsRise (level_at self.old.stack at).here.trace (level_at self.new.stack at).here.trace steps.old steps.new }
+        ensures stays { StackFits self.old.asked (R.shown reader.now) self.old.stack → StackStays self.old.asked (R.shown reader.now) self.old.stack self.new.stack }
+    {
+        self.stack.take(at, reader, steps)
+    }
+
+    pub(crate) fn give_at<L: Drop>(
+        &mut self,
+        at: usize,
+        sieved: Sieved,
+        judge: &mut Box<dyn Judge>,
+        steps: &mut Steps<L>,
+    ) -> Result<Given, NoMemory>
+        ensures same { self.new ≡ record self.old { stack = self.new.stack } }
+        ensures given { IfOk result (λ g. Answers (level_at self.old.stack at).here sieved g (level_at self.new.stack at).here) }
+        ensures obeys { IfOk result (λ g. GivesOn (would judge.old) (state judge.old) (state judge.new) sieved g (level_at self.old.stack at).here (level_at self.new.stack at).here) }
+        ensures stale { (asked : Id) (now : Option Id) → result ≡ Ok (TheGiven.Stale asked now) → self.new ≡ self.old }
+        ensures counts { SameCounts (level_at self.old.stack at).here.trace (level_at self.new.stack at).here.trace }
+        ensures stays { (shown : Shown) → StackFits self.old.asked shown self.old.stack → StackStays self.old.asked shown self.old.stack self.new.stack }
+        ensures err { OnErr result (self.new ≡ self.old) }
+        ensures reads { steps.new ≡ steps.old }
+    {
+        self.stack.give(at, sieved, judge, steps)
+    }
+}

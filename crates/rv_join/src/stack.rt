@@ -1,0 +1,434 @@
+//! The open levels of nested loops.
+ghost use Rattle.std.specs.Prelude.{◌≡◌, ℕ, ◌+◌, ◌<◌, ◌≤◌, List, [], ◌∷◌, ◌++◌, length, true, false, None, Some, IsSome, Ok, Option, IfOk, IfSome, OnOk, OnErr};
+ghost use Rattle.std.specs.List.{slice_index_or};
+ghost use Rattle.rv_value.specs.declared.value.Value.{Value as OneValue};
+ghost use Rattle.rv_reader.specs.Shown.{Shown};
+ghost use Rattle.rv_join.specs.declared.places.Asked.{Asked as TheAsked};
+ghost use Rattle.rv_join.specs.Asking.{Asks, CanRun};
+ghost use Rattle.rv_join.specs.Levels.{AllFit, LevelFits, StackFits, Stacked, bag, down, first_of, is_last, offered, still, used};
+ghost use Rattle.rv_join.specs.Moves.{Catches, Descends, Kept, LevelStays, LevelsStay, Moves, Rises, SameFirst, StackStays, Starts};
+ghost use Rattle.rv_join.specs.Pieces.{level_at, stack_builds, waits};
+ghost use Rattle.rv_join.specs.declared.level.Level.{Level as TheLevel};
+ghost use Rattle.rv_jscan.specs.declared.piece.PieceId.{PieceId as Id};
+ghost use Rattle.rv_retrieval.specs.Given.{Answers, TakesPiece};
+ghost use Rattle.rv_retrieval.specs.Opened.{Opened};
+ghost use Rattle.rv_retrieval.specs.Rulings.{GivesOn};
+ghost use Rattle.rv_retrieval.specs.Shape.{RetrievalFits};
+ghost use Rattle.rv_retrieval.specs.Telling.{CountsRise, SameCounts};
+
+use crate::level::{Caught, Level};
+use crate::places::{Asked, open_item};
+use rv_jscan::{Given, Sieved, Taken};
+use rv_judge::{Judge, Steps, Trace};
+use rv_model::Offer;
+use rv_reader::Reader;
+use rv_value::{Items, NoMemory};
+use std::alloc::Global;
+use std::marker::Model;
+use std::mem;
+
+/// What a step of nested loops came to.
+#[derive(Drop)]
+pub enum Moved {
+    /// A combination was given.
+    Gave(Offer),
+    /// Nothing is left.
+    Done,
+    /// No combination yet.
+    Moving,
+}
+
+/// The open levels, those above the innermost one first, and the count of retrievals opened.
+#[derive(Drop)]
+pub struct Stack {
+    above: Vec<Level>,
+    at: Level,
+    openings: u64,
+}
+
+impl Model for Stack {
+    ghost use Rattle.rv_join.specs.Levels.{Stacked};
+
+    ghost Value = { Stacked };
+
+    ghost view = { λ s. record { above = s.above.items; at = s.at; openings = s.openings } };
+}
+
+/// Opens the retrieval of the first FROM item.
+#[tactic(auto, using(crate::proofs::Beginning::starts))]
+pub fn open<R: Reader>(
+    alloc: Global,
+    reader: &R,
+    asked: &Asked,
+    steps: &mut Steps<R::Ledger>,
+) -> Result<Stack, NoMemory>
+    requires { CanRun asked.now (R.shown reader.now) }
+    ensures starts { IfOk result (Starts asked.now (R.shown reader.now)) }
+    ensures asks { IfOk result (λ s. Asks asked.now [] s.at.here.query) }
+    ensures opened { IfOk result (λ s. Opened s.at.here.query (R.shown reader.now) asked.now.cursor 1 s.at.here) }
+{
+    let here = open_item(alloc, reader, asked, &[], 1, steps)?;
+    Ok(Stack {
+        above: Vec::new(alloc),
+        at: Level {
+            outer: Items::new(alloc),
+            row: None,
+            here,
+        },
+        openings: 1,
+    })
+}
+
+/// The open levels: changes of fields, and looks.
+impl Stack {
+    fn ready<R: Reader>(
+        &mut self,
+        asked: &Asked,
+        reader: &R,
+        judge: &mut Box<dyn Judge>,
+        steps: &mut Steps<R::Ledger>,
+    ) -> Result<Caught, NoMemory>
+        requires can { CanRun asked.now (R.shown reader.now) }
+        requires fits { LevelFits asked.now (R.shown reader.now) self.old.at }
+        ensures same { self.new ≡ record self.old { at = self.new.at } }
+        ensures caught { IfOk result (λ c. Catches asked.now (R.shown reader.now) c self.old.at self.new.at) }
+        ensures counts { Rises self.old.at.here self.new.at.here steps.old steps.new }
+        ensures err { OnErr result (LevelStays asked.now (R.shown reader.now) self.old.at self.new.at) }
+    {
+        self.at.ready(asked, reader, judge, steps)
+    }
+
+    /// Leaves the innermost level, where there is one above.
+    fn climb(&mut self) -> bool
+        ensures up { result ≡ true → self.old.above ≡ self.new.above ++ self.new.at ∷ [] }
+        ensures top { result ≡ false → (self.old.above ≡ []) × (self.new ≡ self.old) }
+    {
+        match self.above.pop() {
+            Some(level) => {
+                let _left = mem::replace(&mut self.at, level);
+                true
+            }
+            None => false,
+        }
+    }
+
+    /// Goes on in an inner level, over the row that is held.
+    fn descend(&mut self, inner: Level) -> Result<(), NoMemory>
+        ensures ok { OnOk result (self.new ≡ down self.old inner) }
+        ensures err { OnErr result (self.new ≡ self.old) }
+    {
+        self.above.reserve(1)?;
+        let mut outer = mem::replace(&mut self.at, inner);
+        let _row = outer.row.take();
+        self.above.push(outer).unwrap();
+        self.openings = self.openings.saturating_add(1);
+        Ok(())
+    }
+
+    fn drop_row(&mut self)
+        ensures { self.new ≡ used self.old }
+    {
+        let _row = self.at.row.take();
+    }
+
+    fn is_last(&self, asked: &Asked) -> bool
+        requires { length self.now.at.outer < length asked.now.items }
+        ensures { result ≡ is_last asked.now self.now }
+    {
+        let items = asked.items.len();
+        self.at.outer.len() + 1 == items
+    }
+
+    /// The level over the row that is held.
+    fn inner<R: Reader>(
+        &self,
+        alloc: Global,
+        reader: &R,
+        asked: &Asked,
+        steps: &mut Steps<R::Ledger>,
+    ) -> Result<Level, NoMemory>
+        requires can { CanRun asked.now (R.shown reader.now) }
+        requires fits { LevelFits asked.now (R.shown reader.now) self.now.at }
+        requires some { IsSome self.now.at.row }
+        requires inside { length self.now.at.outer + 1 < length asked.now.items }
+        ensures { IfOk result (Descends asked.now (R.shown reader.now) self.now.at) }
+    {
+        match &self.at.row {
+            Some(row) => {
+                let opening = self.openings.saturating_add(1);
+                self.at.inner(alloc, reader, asked, row, opening, steps)
+            }
+            None => unreachable!(),
+        }
+    }
+
+    /// What the row that is held offers.
+    fn offer(&self, alloc: Global, asked: &Asked) -> Result<Offer, NoMemory>
+        requires some { IsSome self.now.at.row }
+        ensures { (row : List OneValue) → self.now.at.row ≡ Some row → IfOk result (λ offer. offer ≡ offered asked.now (self.now.at.outer ++ row ∷ [])) }
+    {
+        match &self.at.row {
+            Some(row) => self.at.offer(alloc, asked, row),
+            None => unreachable!(),
+        }
+    }
+
+    /// The place of the first level that awaits a piece, that of the innermost one where none does.
+    pub fn waits(&self) -> usize
+        ensures { result ≡ waits self.now }
+    {
+        match self.above.iter().position(|level| level.is_waiting()) {
+            Some(at) => at,
+            None => self.above.len(),
+        }
+    }
+
+    /// The level of a place.
+    pub fn level(&self, at: usize) -> &Level
+        ensures { result.now ≡ level_at self.now at }
+    {
+        match self.above.get(at) {
+            Some(level) => level,
+            None => &self.at,
+        }
+    }
+
+    /// Whether both sides of some retrieval run.
+    pub fn is_building(&self) -> bool
+        ensures { result ≡ stack_builds self.now }
+    {
+        self.above.iter().any(|level| level.is_building()) || self.at.is_building()
+    }
+
+    /// The trace of the first FROM item's retrieval.
+    pub fn first_trace(&self) -> Trace
+        ensures { result ≡ (first_of self.now).here.trace }
+    {
+        match self.above.first() {
+            Some(level) => level.here.trace().copy(),
+            None => self.at.here.trace().copy(),
+        }
+    }
+}
+
+/// A step of nested loops.
+impl Stack {
+    /// Opens the inner level over the row that is held.
+    #[tactic(auto, using(crate::proofs::Stacking::opens))]
+    fn open_inner<R: Reader>(
+        &mut self,
+        alloc: Global,
+        reader: &R,
+        asked: &Asked,
+        steps: &mut Steps<R::Ledger>,
+    ) -> Result<Moved, NoMemory>
+        requires can { CanRun asked.now (R.shown reader.now) }
+        requires fits { StackFits asked.now (R.shown reader.now) self.old }
+        requires some { IsSome self.old.at.row }
+        requires inside { length self.old.at.outer + 1 < length asked.now.items }
+        ensures moves { IfOk result (λ m. Moves asked.now (R.shown reader.now) m self.old self.new) }
+        ensures err { OnErr result (self.new ≡ self.old) }
+    {
+        let inner = self.inner(alloc, reader, asked, steps)?;
+        self.descend(inner)?;
+        Ok(Moved::Moving)
+    }
+
+    /// Gives what the row that is held offers.
+    #[tactic(auto, using(crate::proofs::Stacking::delivers, crate::proofs::Accounting::used_first))]
+    fn deliver(&mut self, alloc: Global, asked: &Asked) -> Result<Moved, NoMemory>
+        requires some { IsSome self.old.at.row }
+        requires last { is_last asked.now self.old ≡ true }
+        ensures moves { (shown : Shown) → StackFits asked.now shown self.old → IfOk result (λ m. Moves asked.now shown m self.old self.new) }
+        ensures same { (first_of self.new).here ≡ (first_of self.old).here }
+        ensures err { OnErr result (self.new ≡ self.old) }
+    {
+        let offer = self.offer(alloc, asked)?;
+        self.drop_row();
+        Ok(Moved::Gave(offer))
+    }
+
+    /// Uses the row that is held: over the last FROM item it gives a combination, else the next item's retrieval is
+    /// opened over it.
+    fn use_row<R: Reader>(
+        &mut self,
+        alloc: Global,
+        reader: &R,
+        asked: &Asked,
+        steps: &mut Steps<R::Ledger>,
+    ) -> Result<Moved, NoMemory>
+        requires can { CanRun asked.now (R.shown reader.now) }
+        requires fits { StackFits asked.now (R.shown reader.now) self.old }
+        requires some { IsSome self.old.at.row }
+        ensures moves { IfOk result (λ m. Moves asked.now (R.shown reader.now) m self.old self.new) }
+        ensures alone { length asked.now.items ≡ 1 → ((first_of self.new).here ≡ (first_of self.old).here) × (steps.new ≡ steps.old) }
+        ensures err { OnErr result (self.new ≡ self.old) }
+    {
+        if self.is_last(asked) {
+            self.deliver(alloc, asked)
+        } else {
+            self.open_inner(alloc, reader, asked, steps)
+        }
+    }
+
+    /// The innermost level is at its end: goes on in the one above.
+    #[tactic(auto, using(crate::proofs::Stacking::climbs, crate::proofs::Stacking::ends))]
+    fn end(&mut self) -> Moved
+        ensures moves { (a : TheAsked) (shown : Shown) → StackFits a shown self.old → still a shown self.old.at ≡ [] → Moves a shown result self.old self.new }
+        ensures alone { self.old.above ≡ [] → self.new ≡ self.old }
+    {
+        if self.climb() {
+            Moved::Moving
+        } else {
+            Moved::Done
+        }
+    }
+
+    /// One step: the innermost retrieval makes one, and the row that it gives is used. The end of an inner retrieval is
+    /// a step by itself.
+    #[tactic(auto, using(crate::proofs::Stacking::kept_at, crate::proofs::Stacking::kept_then_if, crate::proofs::Stacking::kept_then, crate::proofs::Catching::stays_moves))]
+    pub fn advance<R: Reader>(
+        &mut self,
+        alloc: Global,
+        asked: &Asked,
+        reader: &R,
+        judge: &mut Box<dyn Judge>,
+        steps: &mut Steps<R::Ledger>,
+    ) -> Result<Moved, NoMemory>
+        requires can { CanRun asked.now (R.shown reader.now) }
+        requires fits { StackFits asked.now (R.shown reader.now) self.old }
+        ensures moves { IfOk result (λ m. Moves asked.now (R.shown reader.now) m self.old self.new) }
+        ensures alone { length asked.now.items ≡ 1 → Rises (first_of self.old).here (first_of self.new).here steps.old steps.new }
+        ensures err { OnErr result (Kept asked.now (R.shown reader.now) self.old self.new) }
+    {
+        match self.ready(asked, reader, judge, steps)? {
+            Caught::Worked => Ok(Moved::Moving),
+            Caught::Ended => Ok(self.end()),
+            Caught::Ready => self.use_row(alloc, reader, asked, steps),
+        }
+    }
+}
+
+/// A level's retrieval has its awaited piece taken.
+#[tactic(auto, using(crate::proofs::Opening::level_stays))]
+fn take_level<R: Reader>(
+    reader: &R,
+    level: &mut Level,
+    steps: &mut Steps<R::Ledger>,
+) -> Result<Taken, NoMemory>
+    requires fits { RetrievalFits level.old.here (R.shown reader.now) }
+    ensures taken { IfOk result (TakesPiece level.new.here) }
+    ensures counts { CountsRise level.old.here.trace level.new.here.trace steps.old steps.new }
+    ensures stays { (a : TheAsked) → LevelFits a (R.shown reader.now) level.old → LevelStays a (R.shown reader.now) level.old level.new }
+{
+    level.here.take(reader, steps)
+}
+
+#[tactic(auto, using(crate::proofs::Calls::levels_at))]
+fn take_at<R: Reader>(
+    reader: &R,
+    levels: &mut Vec<Level>,
+    at: usize,
+    steps: &mut Steps<R::Ledger>,
+) -> Result<Taken, NoMemory>
+    requires at { at < length levels.old.items }
+    requires fits { (d : TheLevel) → RetrievalFits (slice_index_or levels.old.items at d).here (R.shown reader.now) }
+    ensures taken { (d : TheLevel) → IfOk result (TakesPiece (slice_index_or levels.new.items at d).here) }
+    ensures counts { (d : TheLevel) → CountsRise (slice_index_or levels.old.items at d).here.trace (slice_index_or levels.new.items at d).here.trace steps.old steps.new }
+    ensures stay { (a : TheAsked) → AllFit a (R.shown reader.now) 0 levels.old.items → LevelsStay a (R.shown reader.now) 0 levels.old.items levels.new.items }
+    ensures led { (a : TheAsked) → AllFit a (R.shown reader.now) 0 levels.old.items → SameFirst a (R.shown reader.now) levels.old.items levels.new.items }
+{
+    take_level(reader, &mut levels[at], steps)
+}
+
+/// A level's retrieval is given a sieved piece.
+#[tactic(auto, using(crate::proofs::Opening::level_keeps))]
+fn give_level<L: Drop>(
+    level: &mut Level,
+    sieved: Sieved,
+    judge: &mut Box<dyn Judge>,
+    steps: &mut Steps<L>,
+) -> Result<Given, NoMemory>
+    ensures given { IfOk result (λ g. Answers level.old.here sieved g level.new.here) }
+    ensures obeys { IfOk result (λ g. GivesOn (would judge.old) (state judge.old) (state judge.new) sieved g level.old.here level.new.here) }
+    ensures same { level.new ≡ record level.old { here = level.new.here } }
+    ensures counts { SameCounts level.old.here.trace level.new.here.trace }
+    ensures stays { (a : TheAsked) (shown : Shown) → LevelFits a shown level.old → LevelStays a shown level.old level.new }
+    ensures err { OnErr result (level.new ≡ level.old) }
+    ensures reads { steps.new ≡ steps.old }
+{
+    level.here.give(sieved, judge, steps)
+}
+
+#[tactic(auto, using(crate::proofs::Calls::levels_at, crate::proofs::Calls::levels_same))]
+fn give_at<L: Drop>(
+    levels: &mut Vec<Level>,
+    at: usize,
+    sieved: Sieved,
+    judge: &mut Box<dyn Judge>,
+    steps: &mut Steps<L>,
+) -> Result<Given, NoMemory>
+    ensures given { at < length levels.old.items → (d : TheLevel) → IfOk result (λ g. Answers (slice_index_or levels.old.items at d).here sieved g (slice_index_or levels.new.items at d).here) }
+    ensures obeys { at < length levels.old.items → (d : TheLevel) → IfOk result (λ g. GivesOn (would judge.old) (state judge.old) (state judge.new) sieved g (slice_index_or levels.old.items at d).here (slice_index_or levels.new.items at d).here) }
+    ensures stale { (asked : Id) (now : Option Id) → result ≡ Ok (Given.Stale asked now) → levels.new.items ≡ levels.old.items }
+    ensures counts { at < length levels.old.items → (d : TheLevel) → SameCounts (slice_index_or levels.old.items at d).here.trace (slice_index_or levels.new.items at d).here.trace }
+    ensures stay { (a : TheAsked) (shown : Shown) → AllFit a shown 0 levels.old.items → LevelsStay a shown 0 levels.old.items levels.new.items }
+    ensures led { (a : TheAsked) (shown : Shown) → AllFit a shown 0 levels.old.items → SameFirst a shown levels.old.items levels.new.items }
+    ensures err { OnErr result (levels.new.items ≡ levels.old.items) }
+    ensures reads { steps.new ≡ steps.old }
+{
+    match levels.get_mut(at) {
+        Some(level) => give_level(level, sieved, judge, steps),
+        None => Ok(Given::Stale {
+            asked: sieved.id(),
+            now: None,
+        }),
+    }
+}
+
+/// The pieces of the retrieval of a place.
+impl Stack {
+    /// Takes the awaited piece of the retrieval of a place.
+    #[tactic(auto, using(crate::proofs::Calls::stays_above, crate::proofs::Calls::stays_at))]
+    pub fn take<R: Reader>(
+        &mut self,
+        at: usize,
+        reader: &R,
+        steps: &mut Steps<R::Ledger>,
+    ) -> Result<Taken, NoMemory>
+        requires fits { RetrievalFits (level_at self.old at).here (R.shown reader.now) }
+        ensures taken { IfOk result (TakesPiece (level_at self.new at).here) }
+        ensures counts { CountsRise (level_at self.old at).here.trace (level_at self.new at).here.trace steps.old steps.new }
+        ensures stays { (a : TheAsked) → StackFits a (R.shown reader.now) self.old → StackStays a (R.shown reader.now) self.old self.new }
+    {
+        if at < self.above.len() {
+            take_at(reader, &mut self.above, at, steps)
+        } else {
+            take_level(reader, &mut self.at, steps)
+        }
+    }
+
+    /// Gives a sieved piece to the retrieval of a place.
+    #[tactic(auto, using(crate::proofs::Calls::stays_above, crate::proofs::Calls::stays_at))]
+    pub fn give<L: Drop>(
+        &mut self,
+        at: usize,
+        sieved: Sieved,
+        judge: &mut Box<dyn Judge>,
+        steps: &mut Steps<L>,
+    ) -> Result<Given, NoMemory>
+        ensures given { IfOk result (λ g. Answers (level_at self.old at).here sieved g (level_at self.new at).here) }
+        ensures obeys { IfOk result (λ g. GivesOn (would judge.old) (state judge.old) (state judge.new) sieved g (level_at self.old at).here (level_at self.new at).here) }
+        ensures stale { (asked : Id) (now : Option Id) → result ≡ Ok (Given.Stale asked now) → self.new ≡ self.old }
+        ensures counts { SameCounts (level_at self.old at).here.trace (level_at self.new at).here.trace }
+        ensures stays { (a : TheAsked) (shown : Shown) → StackFits a shown self.old → StackStays a shown self.old self.new }
+        ensures err { OnErr result (self.new ≡ self.old) }
+        ensures reads { steps.new ≡ steps.old }
+    {
+        if at < self.above.len() {
+            give_at(&mut self.above, at, sieved, judge, steps)
+        } else {
+            give_level(&mut self.at, sieved, judge, steps)
+        }
+    }
+}

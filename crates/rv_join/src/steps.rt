@@ -1,0 +1,164 @@
+//! The calls on a plan: steps, and the pieces of its retrievals.
+ghost use Rattle.std.specs.Prelude.{◌≡◌, IfOk, OnErr};
+ghost use Rattle.rv_reader.specs.Shown.{Shown};
+ghost use Rattle.rv_retrieval.specs.Given.{TakesPiece};
+ghost use Rattle.rv_retrieval.specs.Rulings.{GivesOn};
+ghost use Rattle.rv_retrieval.specs.Telling.{CountsRise, SameCounts};
+ghost use Rattle.rv_join.specs.Pieces.{GivesPiece, waited, waiting};
+ghost use Rattle.rv_join.specs.Plans.{HoldsGood, PlanFits, PlanKept, PlanMoves, PlanStays, RisesAlone, plan_trace, step_of};
+
+use crate::gather::Stage;
+use crate::plan::{Plan, PlanStep};
+use crate::stack::Moved;
+use rv_jscan::{Given, Sieved, Taken};
+use rv_judge::{Judge, Steps};
+use rv_reader::Reader;
+use rv_value::NoMemory;
+
+fn answer(moved: Moved) -> PlanStep
+    ensures { result ≡ step_of moved }
+{
+    match moved {
+        Moved::Gave(offer) => PlanStep::Row(offer),
+        Moved::Done => PlanStep::End,
+        Moved::Moving => PlanStep::Working,
+    }
+}
+
+impl Plan {
+    /// A step where offers are given as they are found.
+    #[tactic(auto, using(crate::proofs::Planning::found_moves, crate::proofs::Planning::found_good, crate::proofs::Planning::found_kept, crate::proofs::Planning::found_holds))]
+    fn found_step<R: Reader>(
+        &mut self,
+        reader: &R,
+        judge: &mut Box<dyn Judge>,
+        steps: &mut Steps<R::Ledger>,
+    ) -> Result<PlanStep, NoMemory>
+        requires fits { HoldsGood (R.shown reader.now) self.old }
+        requires stage { self.old.stage ≡ Stage.AsFound }
+        ensures step { IfOk result (λ m. PlanMoves (R.shown reader.now) m self.old self.new) }
+        ensures holds { HoldsGood (R.shown reader.now) self.new }
+        ensures alone { RisesAlone self.old self.new steps.old steps.new }
+        ensures reads { self.new.reads ≡ self.old.reads }
+        ensures err { OnErr result (PlanKept (R.shown reader.now) self.old self.new) }
+    {
+        let moved = self.advance(reader, judge, steps)?;
+        Ok(answer(moved))
+    }
+
+    /// A step where all offers are gathered first. At the last one they are sorted, and the first is given.
+    #[tactic(auto, using(crate::proofs::Planning::gather_moves, crate::proofs::Planning::gather_good, crate::proofs::Planning::gather_kept, crate::proofs::Planning::all_moves))]
+    fn gather_step<R: Reader>(
+        &mut self,
+        reader: &R,
+        judge: &mut Box<dyn Judge>,
+        steps: &mut Steps<R::Ledger>,
+    ) -> Result<PlanStep, NoMemory>
+        requires fits { HoldsGood (R.shown reader.now) self.old }
+        requires stage { self.old.stage ≡ Stage.Gathering }
+        ensures step { IfOk result (λ m. PlanMoves (R.shown reader.now) m self.old self.new) }
+        ensures holds { HoldsGood (R.shown reader.now) self.new }
+        ensures alone { RisesAlone self.old self.new steps.old steps.new }
+        ensures reads { self.new.reads ≡ self.old.reads }
+        ensures err { OnErr result (PlanKept (R.shown reader.now) self.old self.new) }
+    {
+        if self.gather(reader, judge, steps)? {
+            self.sort()?;
+            Ok(self.give_next())
+        } else {
+            Ok(PlanStep::Working)
+        }
+    }
+
+    /// A step where the offers are sorted.
+    #[tactic(auto, using(crate::proofs::Planning::given_moves, crate::proofs::Planning::given_good))]
+    fn give_step(&mut self) -> PlanStep
+        requires stage { self.old.stage ≡ Stage.Giving }
+        ensures step { (shown : Shown) → HoldsGood shown self.old → PlanMoves shown result self.old self.new }
+        ensures holds { (shown : Shown) → HoldsGood shown self.old → HoldsGood shown self.new }
+        ensures same { self.new ≡ record self.old { gathered = self.new.gathered } }
+    {
+        self.give_next()
+    }
+
+    fn stage_step<R: Reader>(
+        &mut self,
+        reader: &R,
+        judge: &mut Box<dyn Judge>,
+        steps: &mut Steps<R::Ledger>,
+    ) -> Result<PlanStep, NoMemory>
+        requires fits { HoldsGood (R.shown reader.now) self.old }
+        ensures step { IfOk result (λ m. PlanMoves (R.shown reader.now) m self.old self.new) }
+        ensures holds { HoldsGood (R.shown reader.now) self.new }
+        ensures alone { RisesAlone self.old self.new steps.old steps.new }
+        ensures reads { self.new.reads ≡ self.old.reads }
+        ensures err { OnErr result (PlanKept (R.shown reader.now) self.old self.new) }
+    {
+        match self.stage() {
+            Stage::AsFound => self.found_step(reader, judge, steps),
+            Stage::Gathering => self.gather_step(reader, judge, steps),
+            Stage::Giving => Ok(self.give_step()),
+        }
+    }
+
+    /// Gives a combination of the rest, works on, or ends.
+    ///
+    /// `Row` takes one combination out of the rest, none of which has lesser order values. `End` comes only where the
+    /// rest is empty. `Working` leaves the rest; so does `NoMemory`.
+    #[tactic(auto, using(crate::proofs::Accounting::plan_rises, crate::proofs::Accounting::fits_counted))]
+    pub fn step<R: Reader>(
+        &mut self,
+        reader: &R,
+        judge: &mut Box<dyn Judge>,
+        steps: &mut Steps<R::Ledger>,
+    ) -> Result<PlanStep, NoMemory>
+        requires fits { PlanFits (R.shown reader.now) self.old }
+        ensures counts { CountsRise (plan_trace self.old) (plan_trace self.new) steps.old steps.new }
+        ensures fits { PlanFits (R.shown reader.now) self.new }
+        ensures step { IfOk result (λ m. PlanMoves (R.shown reader.now) m self.old self.new) }
+        ensures err { OnErr result (PlanKept (R.shown reader.now) self.old self.new) }
+    {
+        let before = steps.counts();
+        let stepped = self.stage_step(reader, judge, steps);
+        self.count(before, steps.counts());
+        stepped
+    }
+
+    /// Takes the awaited piece of the first retrieval in FROM order that awaits one. `Nothing` where none does.
+    pub fn take<R: Reader>(
+        &mut self,
+        reader: &R,
+        steps: &mut Steps<R::Ledger>,
+    ) -> Result<Taken, NoMemory>
+        requires fits { PlanFits (R.shown reader.now) self.old }
+        ensures counts { CountsRise (plan_trace self.old) (plan_trace self.new) steps.old steps.new }
+        ensures taken { IfOk result (TakesPiece (waited self.old self.new)) }
+        ensures fits { PlanFits (R.shown reader.now) self.new }
+        ensures stays { PlanStays (R.shown reader.now) self.old self.new }
+    {
+        let before = steps.counts();
+        let at = self.waits();
+        let taken = self.take_at(at, reader, steps);
+        self.count(before, steps.counts());
+        taken
+    }
+
+    /// Gives a sieved piece to the first retrieval in FROM order that awaits one. It is stale where none does.
+    pub fn give<L: Drop>(
+        &mut self,
+        sieved: Sieved,
+        judge: &mut Box<dyn Judge>,
+        steps: &mut Steps<L>,
+    ) -> Result<Given, NoMemory>
+        ensures given { IfOk result (λ g. GivesPiece self.old sieved g self.new) }
+        ensures obeys { IfOk result (λ g. GivesOn (would judge.old) (state judge.old) (state judge.new) sieved g (waiting self.old) (waited self.old self.new)) }
+        ensures counts { SameCounts (plan_trace self.old) (plan_trace self.new) }
+        ensures fits { (shown : Shown) → PlanFits shown self.old → PlanFits shown self.new }
+        ensures stays { (shown : Shown) → PlanFits shown self.old → PlanStays shown self.old self.new }
+        ensures err { OnErr result (self.new ≡ self.old) }
+        ensures reads { steps.new ≡ steps.old }
+    {
+        let at = self.waits();
+        self.give_at(at, sieved, judge, steps)
+    }
+}
