@@ -70,6 +70,7 @@ fetched_marks need only rows old new k (Some r) asc f l a =
         qualifies = p;
         left = ap old is ∙ l;
         agrees = λ c h. refl;
+        wide = λ c h l. l;
         others = subst (λ (m : ℕ). Agree only rows (λ n. old n && not (nat_eq n m)) new) (sym is) a;
       }
       | false ↦ λ p. λ n q.

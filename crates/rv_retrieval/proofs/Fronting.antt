@@ -77,6 +77,7 @@ marks_move need only rows (Found r) old new o n asc a b m =
       qualifies = m.qualifies;
       left = a r.row.0 q ∙ m.left;
       agrees = m.agrees;
+      wide = m.wide;
       others = λ k p. b k p ∙ m.others k p ∙ ap (λ (x : Bool). x && not (nat_eq k r.row.0)) (sym (a k p));
     }
 marks_move need only rows Working old new o n asc a b m = λ k p. b k p ∙ m k p ∙ sym (a k p)

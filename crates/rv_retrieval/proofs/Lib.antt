@@ -12,3 +12,8 @@ pub mod Choices
 pub mod Chosen
 pub mod AtOnce
 pub mod Accounting
+pub mod Turns
+pub mod Running
+pub mod Tellings
+pub mod Starting
+pub mod Stepped

@@ -9,3 +9,5 @@ pub mod Asked
 pub mod Opens
 pub mod Opened
 pub mod Rulings
+pub mod Runs
+pub mod Stepping

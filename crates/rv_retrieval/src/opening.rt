@@ -7,8 +7,9 @@ ghost use Rattle.rv_retrieval.specs.Choice.{IsChosen, candidates_of, no_candidat
 ghost use Rattle.rv_retrieval.specs.Opened.{Begun, IsMade, OnlyLists, Opened, RunsOut, SameScans, Scanned, Starts, front_begun, front_candidate, guarantee_of, is_one, start_told};
 ghost use Rattle.rv_retrieval.specs.Opens.{Opens};
 ghost use Rattle.rv_retrieval.specs.Rest.{qualifying};
+ghost use Rattle.rv_retrieval.specs.Runs.{Tells};
 ghost use Rattle.rv_retrieval.specs.Shape.{RetrievalFits, is_background, rest};
-ghost use Rattle.rv_retrieval.specs.Telling.{CountsAll, NothingCounted};
+ghost use Rattle.rv_retrieval.specs.Telling.{CountsAll, NothingCounted, new_trace};
 
 use crate::choosing::{Background, Candidate, Choice, candidates, choose, scans};
 use crate::front::Front;
@@ -142,6 +143,7 @@ impl Retrieval {
     ) -> Result<Retrieval, NoMemory>
         requires { length scans.items ≤ 8 }
         ensures begun { IfOk result (Begun query strategy scans.items front guaranteed cursor opening) }
+        ensures told { IfOk result (λ r. r.trace ≡ start_told (record r { trace = new_trace strategy })) }
         ensures fits { (shown : Shown) → Opens query strategy scans.items front shown → IfOk result (λ r. RetrievalFits r shown) }
         ensures rest { (shown : Shown) → Opens query strategy scans.items front shown → IfOk result (λ r. rest r shown ≡ qualifying query.only (shown.rows query.table query.snap)) }
     {
@@ -254,6 +256,8 @@ impl Retrieval {
         ensures counts { IfOk result (λ r. NothingCounted r.trace) }
         ensures back { is_one choice.background ≡ true → IfOk result (λ r. is_background r.control ≡ true) }
         ensures way { is_one choice.background ≡ true → IfOk result (λ r. under_way r.joint ≡ true) }
+        ensures tells { IfOk result Tells }
+        ensures short { is_one choice.background ≡ true → IfOk result (λ r. length r.joint.plans ≤ 1) }
         ensures fits { IfOk result (λ r. RetrievalFits r (R.shown reader.now)) }
         ensures rest { IfOk result (λ r. rest r (R.shown reader.now) ≡ qualifying query.only ((R.shown reader.now).rows query.table query.snap)) }
     {
@@ -288,6 +292,7 @@ impl Retrieval {
         requires { CanAsk query (R.shown reader.now) }
         ensures opened { IfOk result (λ r. Opened query (R.shown reader.now) cursor opening r) }
         ensures counts { IfOk result (λ r. CountsAll r.trace steps.old steps.new) }
+        ensures tells { IfOk result Tells }
         ensures fits { IfOk result (λ r. RetrievalFits r (R.shown reader.now)) }
         ensures rest { IfOk result (λ r. rest r (R.shown reader.now) ≡ qualifying query.only ((R.shown reader.now).rows query.table query.snap)) }
     {

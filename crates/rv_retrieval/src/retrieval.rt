@@ -10,14 +10,15 @@ ghost use Rattle.rv_scan.specs.Due.{HaveColumns};
 ghost use Rattle.rv_jscan.specs.Joint.{CanTake, JointFits, keys_of, under_way};
 ghost use Rattle.rv_jscan.specs.Steps.{Gives, Nearer, TakeLeaves, Takes, abandoned, awaited_id, begun};
 ghost use Rattle.rv_judge.specs.Account.{facts_of, guarantee_with};
-ghost use Rattle.rv_retrieval.specs.Accounts.{account_of};
+ghost use Rattle.rv_judge.specs.Counting.{record_read};
+ghost use Rattle.rv_retrieval.specs.Accounts.{NextBorrowed, account_of};
 ghost use Rattle.rv_retrieval.specs.Fronts.{SameFront, front_left, walk_of};
 ghost use Rattle.rv_retrieval.specs.Given.{awaited, more_behind};
 ghost use Rattle.rv_retrieval.specs.Opened.{Begun, has_scans};
 ghost use Rattle.rv_retrieval.specs.Opens.{Opens, first_of};
 ghost use Rattle.rv_retrieval.specs.Rest.{StepMarks, qualifying};
 ghost use Rattle.rv_retrieval.specs.Shape.{KeyAt, LastFits, LeastOf, NextKey, Remembers, RetrievalFits, Source, given_as, left_at, lending, front_entries, is_background, is_led, is_sorted, keys_left, rest, rows_of};
-ghost use Rattle.rv_retrieval.specs.Telling.{counted, index_of, list_len, noted};
+ghost use Rattle.rv_retrieval.specs.Telling.{counted, index_of, list_len, new_trace, noted};
 
 use crate::front::Front;
 use crate::query::Query;
@@ -148,7 +149,8 @@ impl Retrieval {
     ) -> Result<Option<Record>, NoMemory>
         requires can { CanRead (R.shown reader.now) self.now.query.table self.now.query.snap }
         requires columns { HaveColumns self.now.query.only (rows_of self.now (R.shown reader.now)) }
-        ensures { IfOk result (λ found. given_as found ≡ looked self.now.query.only (row_at (rows_of self.now (R.shown reader.now)) row.0)) }
+        ensures found { IfOk result (λ found. given_as found ≡ looked self.now.query.only (row_at (rows_of self.now (R.shown reader.now)) row.0)) }
+        ensures reads { steps.new ≡ record_read steps.old }
     {
         let found = reader.fetch(self.alloc, self.query.table, self.query.snap, row, steps)?;
         Ok(self.look(found))
@@ -312,6 +314,7 @@ impl Retrieval {
     pub(crate) fn borrowed_key(&self) -> Option<RowNo>
         ensures near { IfSome result (λ row. self.now.borrowed < length (lending self.now.joint)) }
         ensures small { IfSome result (λ row. self.now.borrowed < 2 ^ 64 - 1) }
+        ensures next { under_way self.now.joint ≡ true → NextBorrowed self.now result }
     {
         let list = match self.joint.list() {
             Some(list) => list,
@@ -385,6 +388,7 @@ impl Retrieval {
     ) -> Result<Retrieval, NoMemory>
         requires { length scans.items ≤ 8 }
         ensures begun { IfOk result (Begun query strategy scans.items front guaranteed cursor opening) }
+        ensures told { IfOk result (λ r. r.trace ≡ new_trace strategy) }
         ensures fits { (shown : Shown) → Opens query strategy scans.items front shown → IfOk result (λ r. RetrievalFits r shown) }
         ensures rest { (shown : Shown) → Opens query strategy scans.items front shown → IfOk result (λ r. rest r shown ≡ qualifying query.only (shown.rows query.table query.snap)) }
     {

@@ -1,8 +1,12 @@
 ghost use Rattle.std.specs.Prelude.{◌≡◌, ◌+◌, ◌-◌, ◌^◌, ◌<◌, ◌≤◌, ◌&&◌, ◌⊎◌, true, false, length, IfOk, IfSome, OnErr, Ok};
 ghost use Rattle.rv_keys.specs.Keys.{has_key};
 ghost use Rattle.rv_reader.specs.Shown.{Shown};
+ghost use Rattle.rv_jscan.specs.Joint.{under_way};
+ghost use Rattle.rv_retrieval.specs.Accounts.{IsFresh, first_fresh};
 ghost use Rattle.rv_retrieval.specs.Opens.{GivesStep, fg_of};
-ghost use Rattle.rv_retrieval.specs.Shape.{Delivers, DoesStep, EndsIn, KeyAt, NextKey, PassesKeys, RetrievalFits, Source, given_as, is_building, is_index_only, rest, source};
+ghost use Rattle.rv_retrieval.specs.Runs.{SameCourse, Tells};
+ghost use Rattle.rv_retrieval.specs.Shape.{Delivers, DoesStep, EndsIn, KeyAt, NextKey, PassesKeys, RetrievalFits, Source, given_as, is_background, is_building, is_index_only, rest, source};
+ghost use Rattle.rv_retrieval.specs.Stepping.{Borrows, DoesIts, Remembered, RemembersBy, StepsAs, ended_by};
 ghost use Rattle.rv_retrieval.specs.Telling.{CountsRise, SameCounts};
 
 use crate::retrieval::Retrieval;
@@ -79,6 +83,8 @@ impl Retrieval {
         ensures step { IfOk result (DoesStep self.old self.new (R.shown reader.now)) }
         ensures ends { IfOk result (EndsIn self.new) }
         ensures err { OnErr result (rest self.new (R.shown reader.now) ≡ rest self.old (R.shown reader.now)) }
+        ensures does { IfOk result (λ s. self.new ≡ ended_by Happening.FinalEnded s (record self.old { at = self.new.at })) }
+        ensures course { OnErr result (SameCourse self.old self.new) }
     {
         match self.final_key() {
             None => {
@@ -105,6 +111,7 @@ impl Retrieval {
         ensures step { IfOk result (DoesStep self.old self.new (R.shown reader.now)) }
         ensures ends { IfOk result (EndsIn self.new) }
         ensures err { OnErr result (self.new ≡ self.old) }
+        ensures does { IfOk result (λ s. self.new ≡ ended_by Happening.FinalEnded s (record self.old { at = self.new.at })) }
     {
         let found = self.examine(reader, row, steps)?;
         self.pass_key();
@@ -125,6 +132,7 @@ impl Retrieval {
         ensures step { IfOk result (DoesStep self.old self.new (R.shown reader.now)) }
         ensures ends { IfOk result (EndsIn self.new) }
         ensures err { OnErr result (self.new ≡ self.old) }
+        ensures does { IfOk result (λ s. self.new ≡ ended_by Happening.FinalEnded s (record self.old { last = self.new.last })) }
     {
         match self.scan_last(reader, steps)? {
             Scanned::Found(record) => Ok(Scanned::Found(record)),
@@ -142,6 +150,8 @@ impl Retrieval {
         ensures same { self.new ≡ record self.old { borrowed = self.new.borrowed } }
         ensures fresh { IfSome result (λ row. has_key row.0 self.old.delivered ≡ false) }
         ensures small { IfSome result (λ row. self.new.borrowed < 2 ^ 64 - 1) }
+        ensures first { under_way self.old.joint ≡ true → IsFresh self.old result }
+        ensures passes { under_way self.old.joint ≡ true → first_fresh self.new ≡ first_fresh self.old }
     {
         match self.borrowed_key() {
             None => None,
@@ -160,7 +170,8 @@ impl Retrieval {
     fn deliver(&mut self, row: RowNo)
         requires room { length self.old.delivered < 1024 }
         requires fresh { has_key row.0 self.old.delivered ≡ false }
-        ensures { Delivers self.old self.new row.0 }
+        ensures delivers { Delivers self.old self.new row.0 }
+        ensures fills { Remembered row.0 self.old self.new }
     {
         self.remember(row);
         if self.is_full() {
@@ -187,6 +198,7 @@ impl Retrieval {
         ensures step { IfOk result (DoesStep self.old self.new (R.shown reader.now)) }
         ensures ends { IfOk result (EndsIn self.new) }
         ensures err { OnErr result (self.new ≡ self.old) }
+        ensures does { IfOk result (λ s. Borrows row.0 (R.shown reader.now) steps.old steps.new s self.old self.new) }
     {
         match self.examine(reader, row, steps)? {
             Some(found) => {
@@ -217,6 +229,9 @@ impl Retrieval {
         ensures step { IfOk result (DoesStep self.old self.new (R.shown reader.now)) }
         ensures ends { IfOk result (EndsIn self.new) }
         ensures err { OnErr result (rest self.new (R.shown reader.now) ≡ rest self.old (R.shown reader.now)) }
+        ensures does { under_way self.old.joint ≡ true → IfOk result (λ s. DoesIts (would judge.old) (state judge.old) (state judge.new) (R.shown reader.now) steps.old steps.new s self.old self.new) }
+        ensures quiet { OnErr result (state judge.new ≡ state judge.old) }
+        ensures course { OnErr result (SameCourse self.old self.new) }
     {
         match self.fresh_key() {
             None => self.background_step(reader, judge, steps),
@@ -239,6 +254,7 @@ impl Retrieval {
         ensures step { IfOk result (DoesStep self.old self.new (R.shown reader.now)) }
         ensures ends { IfOk result (EndsIn self.new) }
         ensures err { OnErr result (self.new ≡ self.old) }
+        ensures does { IfOk result (λ s. self.new ≡ ended_by Happening.FrontEnded s (record self.old { front = self.new.front })) }
     {
         match self.scan_front(reader, steps)? {
             Scanned::Found(record) => Ok(Scanned::Found(record)),
@@ -264,6 +280,7 @@ impl Retrieval {
         ensures step { IfOk result (DoesStep self.old self.new (R.shown reader.now)) }
         ensures ends { IfOk result (EndsIn self.new) }
         ensures err { OnErr result (self.new ≡ self.old) }
+        ensures does { IfOk result (λ s. RemembersBy s (record self.old { front = self.new.front }) self.new) }
     {
         match self.scan_front(reader, steps)? {
             Scanned::Found(record) => {
@@ -292,6 +309,9 @@ impl Retrieval {
         ensures step { IfOk result (DoesStep self.old self.new (R.shown reader.now)) }
         ensures ends { IfOk result (EndsIn self.new) }
         ensures err { OnErr result (rest self.new (R.shown reader.now) ≡ rest self.old (R.shown reader.now)) }
+        ensures does { (is_background self.old.control ≡ true → under_way self.old.joint ≡ true) → IfOk result (λ s. DoesIts (would judge.old) (state judge.old) (state judge.new) (R.shown reader.now) steps.old steps.new s self.old self.new) }
+        ensures quiet { OnErr result (state judge.new ≡ state judge.old) }
+        ensures course { OnErr result (SameCourse self.old self.new) }
     {
         match self.strategy() {
             Strategy::FastFirst => self.fast_step(reader, judge, steps),
@@ -317,6 +337,9 @@ impl Retrieval {
         ensures ends { IfOk result (EndsIn self.new) }
         ensures again { self.old.control ≡ Control.Done → result ≡ Ok Scanned.End }
         ensures err { OnErr result (rest self.new (R.shown reader.now) ≡ rest self.old (R.shown reader.now)) }
+        ensures does { (is_background self.old.control ≡ true → under_way self.old.joint ≡ true) → IfOk result (λ s. DoesIts (would judge.old) (state judge.old) (state judge.new) (R.shown reader.now) steps.old steps.new s self.old self.new) }
+        ensures quiet { OnErr result (state judge.new ≡ state judge.old) }
+        ensures course { OnErr result (SameCourse self.old self.new) }
     {
         match self.control() {
             Control::Building => self.building_step(reader, judge, steps),
@@ -347,6 +370,10 @@ impl Retrieval {
         ensures ends { result ≡ Ok Fg.End → self.new.control ≡ Control.Done }
         ensures again { self.old.control ≡ Control.Done → result ≡ Ok Fg.End }
         ensures err { OnErr result (rest self.new (R.shown reader.now) ≡ rest self.old (R.shown reader.now)) }
+        ensures does { Tells self.old → IfOk result (λ fg. StepsAs (would judge.old) (state judge.old) (state judge.new) (R.shown reader.now) steps.old steps.new fg self.old self.new) }
+        ensures quiet { OnErr result (state judge.new ≡ state judge.old) }
+        ensures course { OnErr result (SameCourse self.old self.new) }
+        ensures tells { Tells self.old → Tells self.new }
     {
         let before = steps.counts();
         let stepped = self.step(reader, judge, steps);

@@ -19,14 +19,14 @@ returns-in-Found-clause-fits g c =
     let shown = g.R.Reader.shown c.args.reader.now in
     let v = c.args.self.now in
     let marks = rw c.in-Found.is at c.in_ok-record.ensures.marks in
-    both_found_fits v c.scan_front.new.self c.deliver.new.self c.in-Found.record shown c.requires.both c.scan_front.ensures.same c.scan_front.ensures.front c.scan_front.ensures.follows c.deliver.ensures marks c.requires.fits
+    both_found_fits v c.scan_front.new.self c.deliver.new.self c.in-Found.record shown c.requires.both c.scan_front.ensures.same c.scan_front.ensures.front c.scan_front.ensures.follows c.deliver.ensures.delivers marks c.requires.fits
 
 pub returns-in-Found-clause-step : goal.returns-in-Found-clause-step
 returns-in-Found-clause-step g c =
     let shown = g.R.Reader.shown c.args.reader.now in
     let v = c.args.self.now in
     let marks = rw c.in-Found.is at c.in_ok-record.ensures.marks in
-    both_found_does v c.scan_front.new.self c.deliver.new.self c.in-Found.record shown c.requires.both c.scan_front.ensures.same c.scan_front.ensures.front c.deliver.ensures marks c.requires.fits
+    both_found_does v c.scan_front.new.self c.deliver.new.self c.in-Found.record shown c.requires.both c.scan_front.ensures.same c.scan_front.ensures.front c.deliver.ensures.delivers marks c.requires.fits
 
 pub returns-in-Working-clause-fits : goal.returns-in-Working-clause-fits
 returns-in-Working-clause-fits g c =

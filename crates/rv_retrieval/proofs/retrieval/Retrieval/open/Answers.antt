@@ -3,6 +3,7 @@ use Rattle.rv_retrieval.specs.declared.choosing.Candidate.{Candidate}
 use Rattle.rv_retrieval.specs.Choice.{IsChosen}
 use Rattle.rv_retrieval.specs.Opened.{guarantee_of}
 use Rattle.rv_retrieval.proofs.AtOnce.{counts_all, opened_by}
+use Rattle.rv_retrieval.proofs.Starting.{opened_tells}
 use Rattle.rv_retrieval.proofs.Switching.{trace_keeps}
 use Rattle.rv_retrieval.proofs.retrieval.Retrieval.open.Goals as goal
 
@@ -22,3 +23,6 @@ returns-clause-opened g c =
 
 pub returns-clause-counts : goal.returns-clause-counts
 returns-clause-counts g c = counts_all c.choose-choice.result.background c.in_ok-retrieval.retrieval c.settle.new.self c.count.new.self c.args.steps.now _ c.in_ok-retrieval.ensures.counts c.in_ok-settle.ensures.runs c.settle.ensures.same (rw c.counts.ensures at rw c.counts-before.ensures at c.count.ensures)
+
+pub returns-clause-tells : goal.returns-clause-tells
+returns-clause-tells g c = opened_tells c.choose-choice.result.background c.in_ok-retrieval.retrieval c.settle.new.self c.count.new.self c.args.cursor c.args.opening _ _ c.in_ok-retrieval.ensures.tells c.in_ok-retrieval.ensures.back c.in_ok-retrieval.ensures.short c.in_ok-retrieval.ensures.started c.in_ok-settle.ensures.scanned.scans.plans c.in_ok-settle.ensures.runs c.settle.ensures.same c.count.ensures
