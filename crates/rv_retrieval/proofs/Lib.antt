@@ -12,3 +12,9 @@ pub mod Choices
 pub mod Chosen
 pub mod AtOnce
 pub mod Accounting
+pub mod BackWork
+pub mod Courses
+pub mod Efforts
+pub mod Spending
+pub mod Lives
+pub mod Openings

@@ -9,3 +9,4 @@ pub mod Asked
 pub mod Opens
 pub mod Opened
 pub mod Rulings
+pub mod Effort

@@ -1,4 +1,5 @@
-ghost use Rattle.std.specs.Prelude.{◌≡◌, ◌<◌, if◌then◌else◌, true, false, min, IfOk, OnErr};
+ghost use Rattle.std.specs.Prelude.{◌≡◌, ◌+◌, ◌<◌, ◌≤◌, if◌then◌else◌, true, false, min, IfOk, OnOk, OnErr};
+ghost use Rattle.rv_reader.specs.Shown.{Shown};
 ghost use Rattle.rv_judge.specs.Course.{next_control};
 ghost use Rattle.rv_judge.specs.declared.events.Event.{Event as TheEvent};
 ghost use Rattle.rv_jscan.specs.Joint.{under_way};
@@ -6,6 +7,8 @@ ghost use Rattle.rv_retrieval.specs.Given.{Answers, TakesPiece};
 ghost use Rattle.rv_retrieval.specs.Rulings.{GivesOn, Obeys, dropped, listed, ruled, scan_over, stopped};
 ghost use Rattle.rv_retrieval.specs.Shape.{DoesStep, EndsIn, Keeps, RetrievalFits, is_background, rest};
 ghost use Rattle.rv_retrieval.specs.Telling.{CountsRise, SameCounts, can_stop, list_len, noted, noted_drop, noted_list, noted_scan};
+ghost use Rattle.rv_retrieval.specs.Effort.{Awaiting, Falls, GiveSpends, Tries, effort};
+ghost use Rattle.rv_judge.specs.Counting.{reads};
 
 use crate::retrieval::Retrieval;
 use rv_jscan::{Given, Sieved, Taken, sieve};
@@ -160,6 +163,9 @@ impl Retrieval {
         ensures keeps { Keeps self.old self.new }
         ensures err { OnErr result (self.new ≡ self.old) }
         ensures reads { _steps.new ≡ _steps.old }
+        ensures less { (shown : Shown) → RetrievalFits self.old shown → effort self.new shown ≤ effort self.old shown }
+        ensures spends { (shown : Shown) → RetrievalFits self.old shown → IfOk result (λ g. GiveSpends g (effort self.old shown) (effort self.new shown)) }
+        ensures awaiting { Awaiting self.old → Awaiting self.new }
     {
         self.give_piece(sieved, judge)
     }
@@ -213,6 +219,9 @@ impl Retrieval {
         ensures query { self.new.query ≡ self.old.query }
         ensures fits { RetrievalFits self.new (R.shown reader.now) }
         ensures rest { rest self.new (R.shown reader.now) ≡ rest self.old (R.shown reader.now) }
+        ensures tries { Tries steps.old steps.new (effort self.old (R.shown reader.now)) (effort self.new (R.shown reader.now)) }
+        ensures spends { IfOk result (λ taken. reads steps.new + effort self.new (R.shown reader.now) ≤ reads steps.old + effort self.old (R.shown reader.now)) }
+        ensures awaiting { Awaiting self.old → Awaiting self.new }
     {
         let before = steps.counts();
         let taken = self.take_piece(reader, steps);
@@ -231,6 +240,10 @@ impl Retrieval {
         ensures query { self.new.query ≡ self.old.query }
         ensures fits { RetrievalFits self.new (R.shown reader.now) }
         ensures rest { rest self.new (R.shown reader.now) ≡ rest self.old (R.shown reader.now) }
+        ensures tries { Tries steps.old steps.new (effort self.old (R.shown reader.now)) (effort self.new (R.shown reader.now)) }
+        ensures spends { IfOk result (λ taken. reads steps.new + effort self.new (R.shown reader.now) ≤ reads steps.old + effort self.old (R.shown reader.now)) }
+        ensures awaiting { Awaiting self.old → Awaiting self.new }
+        ensures control { self.new.control ≡ self.old.control }
     {
         if !self.is_background() {
             return Ok(Taken::Nothing);
@@ -250,6 +263,9 @@ impl Retrieval {
         ensures query { self.new.query ≡ self.old.query }
         ensures fits { RetrievalFits self.new (R.shown reader.now) }
         ensures rest { rest self.new (R.shown reader.now) ≡ rest self.old (R.shown reader.now) }
+        ensures tries { Tries steps.old steps.new (effort self.old (R.shown reader.now)) (effort self.new (R.shown reader.now)) }
+        ensures falls { is_background self.old.control ≡ true → Awaiting self.old → OnOk result (effort self.new (R.shown reader.now) < effort self.old (R.shown reader.now)) }
+        ensures awaiting { Awaiting self.old → Awaiting self.new }
     {
         match self.take_piece(reader, steps)? {
             Taken::Piece(piece) => {
@@ -273,6 +289,9 @@ impl Retrieval {
         ensures step { IfOk result (DoesStep self.old self.new (R.shown reader.now)) }
         ensures ends { IfOk result (EndsIn self.new) }
         ensures err { OnErr result (rest self.new (R.shown reader.now) ≡ rest self.old (R.shown reader.now)) }
+        ensures tries { Tries steps.old steps.new (effort self.old (R.shown reader.now)) (effort self.new (R.shown reader.now)) }
+        ensures falls { is_background self.old.control ≡ true → Awaiting self.old → IfOk result (λ s. Falls s steps.old steps.new (effort self.old (R.shown reader.now)) (effort self.new (R.shown reader.now))) }
+        ensures awaiting { Awaiting self.old → Awaiting self.new }
     {
         self.background(reader, judge, steps)?;
         Ok(Scanned::Working)

@@ -2,8 +2,9 @@ ghost use Rattle.std.specs.Prelude.{◌≡◌, ◌+◌, ◌-◌, ◌^◌, ◌<�
 ghost use Rattle.rv_keys.specs.Keys.{has_key};
 ghost use Rattle.rv_reader.specs.Shown.{Shown};
 ghost use Rattle.rv_retrieval.specs.Opens.{GivesStep, fg_of};
-ghost use Rattle.rv_retrieval.specs.Shape.{Delivers, DoesStep, EndsIn, KeyAt, NextKey, PassesKeys, RetrievalFits, Source, given_as, is_building, is_index_only, rest, source};
+ghost use Rattle.rv_retrieval.specs.Shape.{Delivers, DoesStep, EndsIn, KeyAt, NextKey, PassesKeys, RetrievalFits, Source, given_as, is_building, is_index_only, lending, rest, source};
 ghost use Rattle.rv_retrieval.specs.Telling.{CountsRise, SameCounts};
+ghost use Rattle.rv_retrieval.specs.Effort.{Awaiting, Falls, FgSpends, Tries, effort, keys_work, to_borrow};
 
 use crate::retrieval::Retrieval;
 use rv_judge::{Control, Event, Happening, Judge, Steps, Strategy};
@@ -50,6 +51,7 @@ impl Retrieval {
         ensures passed { PassesKeys self.old.joint.list self.old.delivered self.old.at self.new.at }
         ensures key { KeyAt self.old.joint.list self.new.at result }
         ensures fresh { IfSome result (λ row. has_key row.0 self.old.delivered ≡ false) }
+        ensures fewer { keys_work self.new ≤ keys_work self.old }
     {
         match self.key_at() {
             None => None,
@@ -79,6 +81,9 @@ impl Retrieval {
         ensures step { IfOk result (DoesStep self.old self.new (R.shown reader.now)) }
         ensures ends { IfOk result (EndsIn self.new) }
         ensures err { OnErr result (rest self.new (R.shown reader.now) ≡ rest self.old (R.shown reader.now)) }
+        ensures tries { Tries steps.old steps.new (effort self.old (R.shown reader.now)) (effort self.new (R.shown reader.now)) }
+        ensures falls { IfOk result (λ s. Falls s steps.old steps.new (effort self.old (R.shown reader.now)) (effort self.new (R.shown reader.now))) }
+        ensures awaiting { Awaiting self.old → Awaiting self.new }
     {
         match self.final_key() {
             None => {
@@ -105,6 +110,9 @@ impl Retrieval {
         ensures step { IfOk result (DoesStep self.old self.new (R.shown reader.now)) }
         ensures ends { IfOk result (EndsIn self.new) }
         ensures err { OnErr result (self.new ≡ self.old) }
+        ensures tries { Tries steps.old steps.new (effort self.old (R.shown reader.now)) (effort self.new (R.shown reader.now)) }
+        ensures falls { IfOk result (λ s. Falls s steps.old steps.new (effort self.old (R.shown reader.now)) (effort self.new (R.shown reader.now))) }
+        ensures awaiting { Awaiting self.old → Awaiting self.new }
     {
         let found = self.examine(reader, row, steps)?;
         self.pass_key();
@@ -125,6 +133,9 @@ impl Retrieval {
         ensures step { IfOk result (DoesStep self.old self.new (R.shown reader.now)) }
         ensures ends { IfOk result (EndsIn self.new) }
         ensures err { OnErr result (self.new ≡ self.old) }
+        ensures tries { Tries steps.old steps.new (effort self.old (R.shown reader.now)) (effort self.new (R.shown reader.now)) }
+        ensures falls { IfOk result (λ s. Falls s steps.old steps.new (effort self.old (R.shown reader.now)) (effort self.new (R.shown reader.now))) }
+        ensures awaiting { Awaiting self.old → Awaiting self.new }
     {
         match self.scan_last(reader, steps)? {
             Scanned::Found(record) => Ok(Scanned::Found(record)),
@@ -142,6 +153,8 @@ impl Retrieval {
         ensures same { self.new ≡ record self.old { borrowed = self.new.borrowed } }
         ensures fresh { IfSome result (λ row. has_key row.0 self.old.delivered ≡ false) }
         ensures small { IfSome result (λ row. self.new.borrowed < 2 ^ 64 - 1) }
+        ensures near { IfSome result (λ row. self.new.borrowed < length (lending self.new.joint)) }
+        ensures fewer { to_borrow self.new.joint self.new.borrowed ≤ to_borrow self.old.joint self.old.borrowed }
     {
         match self.borrowed_key() {
             None => None,
@@ -187,6 +200,9 @@ impl Retrieval {
         ensures step { IfOk result (DoesStep self.old self.new (R.shown reader.now)) }
         ensures ends { IfOk result (EndsIn self.new) }
         ensures err { OnErr result (self.new ≡ self.old) }
+        ensures tries { Tries steps.old steps.new (effort self.old (R.shown reader.now)) (effort self.new (R.shown reader.now)) }
+        ensures falls { self.old.borrowed < length (lending self.old.joint) → IfOk result (λ s. Falls s steps.old steps.new (effort self.old (R.shown reader.now)) (effort self.new (R.shown reader.now))) }
+        ensures awaiting { Awaiting self.old → Awaiting self.new }
     {
         match self.examine(reader, row, steps)? {
             Some(found) => {
@@ -217,6 +233,9 @@ impl Retrieval {
         ensures step { IfOk result (DoesStep self.old self.new (R.shown reader.now)) }
         ensures ends { IfOk result (EndsIn self.new) }
         ensures err { OnErr result (rest self.new (R.shown reader.now) ≡ rest self.old (R.shown reader.now)) }
+        ensures tries { Tries steps.old steps.new (effort self.old (R.shown reader.now)) (effort self.new (R.shown reader.now)) }
+        ensures falls { Awaiting self.old → IfOk result (λ s. Falls s steps.old steps.new (effort self.old (R.shown reader.now)) (effort self.new (R.shown reader.now))) }
+        ensures awaiting { Awaiting self.old → Awaiting self.new }
     {
         match self.fresh_key() {
             None => self.background_step(reader, judge, steps),
@@ -239,6 +258,9 @@ impl Retrieval {
         ensures step { IfOk result (DoesStep self.old self.new (R.shown reader.now)) }
         ensures ends { IfOk result (EndsIn self.new) }
         ensures err { OnErr result (self.new ≡ self.old) }
+        ensures tries { Tries steps.old steps.new (effort self.old (R.shown reader.now)) (effort self.new (R.shown reader.now)) }
+        ensures falls { IfOk result (λ s. Falls s steps.old steps.new (effort self.old (R.shown reader.now)) (effort self.new (R.shown reader.now))) }
+        ensures awaiting { Awaiting self.old → Awaiting self.new }
     {
         match self.scan_front(reader, steps)? {
             Scanned::Found(record) => Ok(Scanned::Found(record)),
@@ -264,6 +286,9 @@ impl Retrieval {
         ensures step { IfOk result (DoesStep self.old self.new (R.shown reader.now)) }
         ensures ends { IfOk result (EndsIn self.new) }
         ensures err { OnErr result (self.new ≡ self.old) }
+        ensures tries { Tries steps.old steps.new (effort self.old (R.shown reader.now)) (effort self.new (R.shown reader.now)) }
+        ensures falls { IfOk result (λ s. Falls s steps.old steps.new (effort self.old (R.shown reader.now)) (effort self.new (R.shown reader.now))) }
+        ensures awaiting { Awaiting self.old → Awaiting self.new }
     {
         match self.scan_front(reader, steps)? {
             Scanned::Found(record) => {
@@ -292,6 +317,9 @@ impl Retrieval {
         ensures step { IfOk result (DoesStep self.old self.new (R.shown reader.now)) }
         ensures ends { IfOk result (EndsIn self.new) }
         ensures err { OnErr result (rest self.new (R.shown reader.now) ≡ rest self.old (R.shown reader.now)) }
+        ensures tries { Tries steps.old steps.new (effort self.old (R.shown reader.now)) (effort self.new (R.shown reader.now)) }
+        ensures falls { Awaiting self.old → IfOk result (λ s. Falls s steps.old steps.new (effort self.old (R.shown reader.now)) (effort self.new (R.shown reader.now))) }
+        ensures awaiting { Awaiting self.old → Awaiting self.new }
     {
         match self.strategy() {
             Strategy::FastFirst => self.fast_step(reader, judge, steps),
@@ -317,6 +345,9 @@ impl Retrieval {
         ensures ends { IfOk result (EndsIn self.new) }
         ensures again { self.old.control ≡ Control.Done → result ≡ Ok Scanned.End }
         ensures err { OnErr result (rest self.new (R.shown reader.now) ≡ rest self.old (R.shown reader.now)) }
+        ensures tries { Tries steps.old steps.new (effort self.old (R.shown reader.now)) (effort self.new (R.shown reader.now)) }
+        ensures falls { Awaiting self.old → IfOk result (λ s. Falls s steps.old steps.new (effort self.old (R.shown reader.now)) (effort self.new (R.shown reader.now))) }
+        ensures awaiting { Awaiting self.old → Awaiting self.new }
     {
         match self.control() {
             Control::Building => self.building_step(reader, judge, steps),
@@ -347,6 +378,9 @@ impl Retrieval {
         ensures ends { result ≡ Ok Fg.End → self.new.control ≡ Control.Done }
         ensures again { self.old.control ≡ Control.Done → result ≡ Ok Fg.End }
         ensures err { OnErr result (rest self.new (R.shown reader.now) ≡ rest self.old (R.shown reader.now)) }
+        ensures tries { Tries steps.old steps.new (effort self.old (R.shown reader.now)) (effort self.new (R.shown reader.now)) }
+        ensures spends { Awaiting self.old → IfOk result (λ fg. FgSpends fg steps.old steps.new (effort self.old (R.shown reader.now)) (effort self.new (R.shown reader.now))) }
+        ensures awaiting { Awaiting self.old → Awaiting self.new }
     {
         let before = steps.counts();
         let stepped = self.step(reader, judge, steps);

@@ -7,4 +7,4 @@ pub returns-in-Some-clause-step : goal.returns-in-Some-clause-step
 returns-in-Some-clause-step g c =
     let shown = g.R.Reader.shown c.args.reader.now in
     let v = c.args.self.now in
-    borrow_step v c.pass_borrowed.new.self c.deliver.new.self (v.borrowed + 1) c.args.row.0 shown _ (Found c.in-Some.found) c.requires.control c.requires.strategy c.pass_borrowed.ensures c.deliver.ensures c.requires.fresh c.requires.fits refl (rw c.in-Some.is at c.in_ok-found.ensures)
+    borrow_step v c.pass_borrowed.new.self c.deliver.new.self (v.borrowed + 1) c.args.row.0 shown _ (Found c.in-Some.found) c.requires.control c.requires.strategy c.pass_borrowed.ensures c.deliver.ensures c.requires.fresh c.requires.fits refl (rw c.in-Some.is at c.in_ok-found.ensures.found)

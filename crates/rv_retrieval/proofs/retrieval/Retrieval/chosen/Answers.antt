@@ -1,4 +1,5 @@
 use Rattle.rv_retrieval.proofs.Chosen.{begun_back, chosen_opens, few_scans, one_background, one_found}
+use Rattle.rv_retrieval.proofs.Lives.{awaits_if, life_if}
 use Rattle.rv_retrieval.proofs.retrieval.Retrieval.chosen.Goals as goal
 
 pub begin-requires : goal.begin-requires
@@ -14,3 +15,9 @@ pub returns-clause-back : goal.returns-clause-back
 returns-clause-back g c one =
     let found = one_found c.args.choice.background one in
     begun_back c.begin.result c.args.query c.args.choice.strategy c.in_ok-scans.scans.items c.in_ok-front.front _ c.args.cursor c.args.opening (one_background c.args.query.only c.args.query.order c.args.query.goal c.args.candidates.now c.args.choice c.in_ok-scans.scans.items found.0 c.requires.choice c.in_ok-scans.ensures found.1) c.begin.ensures.begun
+
+pub returns-clause-life : goal.returns-clause-life
+returns-clause-life g c = life_if c.begin.result c.args.query (g.R.Reader.shown c.args.reader.now) c.args.choice c.in_ok-scans.scans.items c.in_ok-front.front c.args.candidates.now _ c.args.cursor c.args.opening c.requires.candidates c.requires.can c.guarantee-guaranteed.ensures.table c.requires.choice c.in_ok-scans.ensures c.in_ok-front.ensures c.begin.ensures.begun c.begin.ensures.last
+
+pub returns-clause-awaiting : goal.returns-clause-awaiting
+returns-clause-awaiting g c = awaits_if c.begin.result c.args.query c.args.choice c.args.candidates.now c.in_ok-scans.scans.items c.in_ok-front.front _ c.args.cursor c.args.opening c.requires.choice c.in_ok-scans.ensures c.begin.ensures.begun
