@@ -1,44 +1,28 @@
 -- The work of the background falls with each leaf read, each piece accepted and each scan dropped.
-use Rattle.std.proofs.Common.{◌≡◌, ℕ, ◌+◌, ◌-◌, ◌*◌, ◌<◌, ◌≤◌, List, [], ◌∷◌, ◌++◌, length, drop, filter, Bool, true, false, cond, ◌&&◌, refl, ap, sym, ◌∙◌, arith, subst, Option, Some, None, is_some, IfSome, IsPermutation, Result, Ok, Err, IfOk, OnErr, nat_eq, not}
+use Rattle.std.proofs.Common.{◌≡◌, ℕ, ◌+◌, ◌-◌, ◌<◌, ◌≤◌, List, [], ◌∷◌, ◌++◌, length, drop, filter, Bool, true, false, cond, ◌&&◌, refl, ap, sym, ◌∙◌, arith, subst, Option, Some, None, is_some, IsPermutation, not}
 use Rattle.std.specs.Prelude.{if◌then◌else◌}
-use Rattle.std.proofs.lemmas.Bool.Decides.{nat_tests}
-use Rattle.std.proofs.lemmas.List.{drop_more, length-append, length-drop, length-map}
+use Rattle.std.proofs.lemmas.List.{drop_more, length-append, length-map}
 use Rattle.std.proofs.lemmas.List.Sorted.{length_permutation}
 use Rattle.rv_value.specs.declared.record.IndexEntry.{IndexEntry}
 use Rattle.rv_judge.specs.declared.counting.Counts.{Counts}
-use Rattle.rv_judge.specs.Counting.{leaf_read, one_more, page_read, reads, record_read}
+use Rattle.rv_judge.specs.Counting.{leaf_read, one_more, reads}
 use Rattle.rv_reader.specs.declared.reader.Chunk.{Chunk}
 use Rattle.rv_reader.specs.Leaves.{run_after, run_from}
 use Rattle.rv_reader.specs.Shown.{Shown}
-use Rattle.rv_jscan.specs.declared.jscan.ScanCounts.{ScanCounts}
 use Rattle.rv_jscan.specs.declared.jscan.ScanPlan.{ScanPlan}
 use Rattle.rv_jscan.specs.declared.jscan.Taken.{Taken}
 use Rattle.rv_jscan.specs.declared.jscan.Taken.TheVariants.{Piece, Nothing}
 use Rattle.rv_jscan.specs.Pieces.{Pieced, is_kept}
 use Rattle.rv_jscan.specs.Joint.{Joint, JointFits, leaves_ahead, no_plan, present, to_sieve, under_way}
-use Rattle.rv_jscan.specs.Steps.{Accepts, Awaits, HasEntries, TakeLeaves, Takes, abandoned, completed, counts_read, going, held_next, kept_of, reads_leaf, steps_read}
+use Rattle.rv_jscan.specs.Steps.{Accepts, Awaits, HasEntries, TakeLeaves, Takes, abandoned, completed, going, held_next, kept_of, reads_leaf, steps_read}
 use Rattle.rv_jscan.proofs.Fits.{by_held, way_within}
 use Rattle.rv_jscan.proofs.Leaves.{abandoned_nearer, accepts_nearer}
-use Rattle.rv_retrieval.specs.Effort.{back_work, entries_ahead, entries_of_scans, entries_planned, to_borrow, to_read}
-use Rattle.rv_retrieval.specs.Shape.{lending, lending_of}
-use Rattle.rv_retrieval.specs.Telling.{list_len}
+use Rattle.rv_retrieval.specs.Effort.{back_work, entries_ahead, entries_of_scans, entries_planned, to_read}
+use Rattle.rv_retrieval.specs.Shape.{lending_of}
 
--- One read raises the reads by at most one.
-
-pub page_once : (c : Counts) → reads (page_read c) ≤ reads c + 1
-page_once c = let m = one_few c.pages in omega arith
-  where
-    one_few : (n : ℕ) → one_more n ≤ n + 1
-    one_few n = omega arith
-
+-- a leaf read raises the reads by at most one
 pub leaf_once : (c : Counts) → reads (leaf_read c) ≤ reads c + 1
 leaf_once c = let m = one_few c.leaves in omega arith
-  where
-    one_few : (n : ℕ) → one_more n ≤ n + 1
-    one_few n = omega arith
-
-pub record_once : (c : Counts) → reads (record_read c) ≤ reads c + 1
-record_once c = let m = one_few c.records in omega arith
   where
     one_few : (n : ℕ) → one_more n ≤ n + 1
     one_few n = omega arith
@@ -103,9 +87,6 @@ accepted_less old new piece shown borrowed w a f = by (held_next old.held) a (by
 dropped_lent : (list : Option (List ℕ)) (b : List ℕ) (n : ℕ) → length (lending_of list []) - (if is_some list then n else 0) ≤ length (lending_of list b) - n
 dropped_lent None b n = omega arith
 dropped_lent (Some keys) b n = omega arith
-
-left_behind : (plans : List ScanPlan) (shown : Shown) (snap : ℕ) → entries_of_scans plans None shown snap ≡ entries_planned plans shown snap
-left_behind plans shown snap = entries_sum plans shown snap
 
 read_once : (h : Option Chunk) → to_read h ≤ 1
 read_once None = omega arith

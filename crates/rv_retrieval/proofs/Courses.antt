@@ -1,5 +1,5 @@
 -- Where a control may lead, and what a change of it does to the effort.
-use Rattle.std.proofs.Common.{◌≡◌, ℕ, ◌+◌, ◌<◌, ◌≤◌, List, [], ◌∷◌, length, drop, Bool, true, false, not, ◌&&◌, ◌||◌, refl, ap, sym, ◌∙◌, arith, subst, Option, Some, None}
+use Rattle.std.proofs.Common.{◌≡◌, ℕ, ◌<◌, ◌≤◌, List, [], ◌∷◌, length, Bool, true, false, not, ◌&&◌, ◌||◌, refl, arith, Option, Some, None}
 use Rattle.std.specs.Prelude.{if◌then◌else◌}
 use Rattle.std.specs.List.{list_all}
 use Rattle.std.proofs.lemmas.List.{length-drop}
@@ -10,9 +10,8 @@ use Rattle.rv_judge.specs.declared.events.Control.TheVariants.{Building, Foregro
 use Rattle.rv_judge.specs.declared.events.Happening.{Happening}
 use Rattle.rv_judge.specs.declared.events.Happening.TheVariants.{ScanEnded, Ruled}
 use Rattle.rv_judge.specs.declared.judging.Verdict.TheVariants.{AbandonScan, AbandonBackground}
-use Rattle.rv_judge.specs.Course.{Row, course, fast_first, next_by, next_control, stands}
+use Rattle.rv_judge.specs.Course.{Row, course, fast_first, next_by, next_control}
 use Rattle.rv_reader.specs.Shown.{Shown}
-use Rattle.rv_jscan.specs.Joint.{Joint}
 use Rattle.rv_retrieval.specs.Effort.{back_work, keys_work, sum_of}
 use Rattle.rv_retrieval.specs.Shape.{Shape, is_background, is_building, is_led, keys_left}
 use Rattle.rv_retrieval.specs.Telling.{list_len}
@@ -76,14 +75,6 @@ goes_lower s BackgroundAlone h = leads_by course s BackgroundAlone h refl refl
 goes_lower s FinalList h = leads_by course s FinalList h refl refl
 goes_lower s FinalTable h = leads_by course s FinalTable h refl refl
 goes_lower s Done h = leads_by course s Done h refl refl
-
-pub stays_lower : (c : Control) → may_lead c c ≡ true
-stays_lower Building = refl
-stays_lower ForegroundAlone = refl
-stays_lower BackgroundAlone = refl
-stays_lower FinalList = refl
-stays_lower FinalTable = refl
-stays_lower Done = refl
 
 -- pieces were awaited before
 pub lower_back : (c d : Control) → may_lead c d ≡ true → is_background d ≡ true → is_background c ≡ true

@@ -1,12 +1,11 @@
 -- The effort where a verdict is obeyed, a scan ends and a piece is given.
-use Rattle.std.proofs.Common.{◌≡◌, ℕ, ◌+◌, ◌<◌, ◌≤◌, List, [], ◌∷◌, ◌++◌, length, Bool, true, false, not, ◌&&◌, ◌||◌, refl, ap, sym, ◌∙◌, arith, subst, Option, Some, None, is_some, IsPermutation, Result, Ok, Err, IfOk, OnErr, nat_eq}
+use Rattle.std.proofs.Common.{◌≡◌, ℕ, ◌+◌, ◌<◌, ◌≤◌, ◌++◌, Bool, true, false, refl, ap, sym, ◌∙◌, arith, subst, Option, Some, None, is_some, Result, Ok, Err, IfOk, OnErr, nat_eq}
 use Rattle.std.specs.Prelude.{if◌then◌else◌}
 use Rattle.std.proofs.lemmas.Bool.Decides.{nat_tests}
 use Rattle.rv_value.specs.declared.record.IndexEntry.{IndexEntry}
 use Rattle.rv_judge.specs.declared.events.Event.TheVariants.{Stop}
 use Rattle.rv_judge.specs.declared.events.Happening.{Happening}
 use Rattle.rv_judge.specs.declared.events.Happening.TheVariants.{ScanEnded, Ruled}
-use Rattle.rv_judge.specs.declared.events.Trace.{Trace}
 use Rattle.rv_judge.specs.declared.judging.Facts.{Facts}
 use Rattle.rv_judge.specs.declared.judging.Verdict.{Verdict}
 use Rattle.rv_judge.specs.declared.judging.Verdict.TheVariants.{Continue, AbandonScan, AbandonForeground, AbandonBackground}
@@ -18,23 +17,20 @@ use Rattle.rv_jscan.specs.declared.jscan.Given.{Given}
 use Rattle.rv_jscan.specs.declared.jscan.Given.TheVariants.{Accepted, Stale}
 use Rattle.rv_jscan.specs.Joint.{Joint, JointFits, leaves_ahead, present, to_sieve, under_way}
 use Rattle.rv_jscan.specs.Pieces.{Pieced}
-use Rattle.rv_jscan.specs.Steps.{Accepts, Awaits, abandoned, completed, going, held_next}
+use Rattle.rv_jscan.specs.Steps.{Accepts, Awaits, abandoned, held_next}
 use Rattle.rv_jscan.proofs.Fits.{by_held}
 use Rattle.rv_jscan.proofs.Leaves.{accepts_nearer}
 use Rattle.rv_retrieval.specs.Accounts.{account_of}
 use Rattle.rv_retrieval.specs.Effort.{Awaiting, GiveSpends, back_work, effort, front_work, keys_work, table_work}
-use Rattle.rv_retrieval.specs.Given.{Answers, AwaitsPiece, more_behind}
+use Rattle.rv_retrieval.specs.Given.{Answers, more_behind}
 use Rattle.rv_retrieval.specs.Rulings.{GivesOn, Obeyed, Obeys, dropped, dropping, going_on, gone, listed, ruled, scan_over, stopped}
-use Rattle.rv_retrieval.specs.Shape.{RetrievalFits, Shape, is_background, is_building}
+use Rattle.rv_retrieval.specs.Shape.{RetrievalFits, Shape, is_background}
 use Rattle.rv_retrieval.specs.Telling.{can_stop, noted}
 use Rattle.rv_retrieval.proofs.BackWork.{abandoned_less, accepted_less, completed_less}
-use Rattle.rv_retrieval.proofs.Courses.{HasFront, back_none, building_back, ended_none, goes_lower, keys_back, lower_back, lower_building, may_lead, scan_none, sum_back, sum_less, sum_lower, sum_near}
+use Rattle.rv_retrieval.proofs.Courses.{HasFront, back_none, building_back, ended_none, goes_lower, keys_back, lower_back, lower_building, may_lead, scan_none, sum_less, sum_lower, sum_near}
 
 no_way : {X : Type 0} → true ≡ false → X
 no_way bad = absurd (cc)
-
-pub traced_effort : (v new : Shape) (t : Trace) (shown : Shown) → new ≡ record v { trace = t } → effort new shown ≡ effort v shown
-traced_effort v new t shown e = ap (λ (x : Shape). effort x shown) e
 
 -- The control changes.
 

@@ -15,6 +15,5 @@ pub mod Accounting
 pub mod BackWork
 pub mod Courses
 pub mod Efforts
-pub mod Spending
 pub mod Lives
 pub mod Openings

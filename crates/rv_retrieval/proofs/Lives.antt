@@ -1,5 +1,5 @@
 -- The effort of a retrieval that was just made is at most the bound of the reader's lists.
-use Rattle.std.proofs.Common.{◌≡◌, ℕ, zero, suc, ◌+◌, ◌*◌, ◌<◌, ◌≤◌, List, [], ◌∷◌, length, filter, map, Bool, true, false, cond, not, ◌&&◌, ◌||◌, refl, ap, sym, ◌∙◌, arith, subst, Option, Some, None, Result, Ok, Err, IfOk, nat_eq, nat_lt}
+use Rattle.std.proofs.Common.{◌≡◌, ℕ, zero, suc, ◌+◌, ◌*◌, ◌<◌, ◌≤◌, List, [], ◌∷◌, length, filter, map, Bool, true, false, cond, ◌&&◌, ◌||◌, refl, ap, sym, ◌∙◌, arith, subst, Option, Some, None, Result, Ok, Err, IfOk, nat_eq, nat_lt}
 use Rattle.std.specs.Prelude.{if◌then◌else◌}
 use Rattle.std.specs.List.{AllByRecursion, list_all, sum_by}
 use Rattle.std.proofs.lemmas.Bool.Decides.{nat_tests}
@@ -7,9 +7,8 @@ use Rattle.std.proofs.lemmas.List.{length-map}
 use Rattle.std.proofs.lemmas.List.Sums.{sum_by-cons}
 use Rattle.std.proofs.lemmas.List.Sorted.{length_permutation, sum_by-IsPermutation}
 use Rattle.rv_value.specs.declared.record.Record.{Record}
-use Rattle.rv_value.specs.declared.record.IndexEntry.{IndexEntry}
 use Rattle.rv_judge.specs.declared.events.Control.{Control}
-use Rattle.rv_judge.specs.declared.events.Control.TheVariants.{Building, ForegroundAlone, BackgroundAlone, FinalList, FinalTable, Done}
+use Rattle.rv_judge.specs.declared.events.Control.TheVariants.{Building}
 use Rattle.rv_judge.specs.declared.events.Strategy.{Strategy}
 use Rattle.rv_judge.specs.declared.events.Strategy.TheVariants.{Table, BackgroundOnly, FastFirst, Sorted, IndexOnly}
 use Rattle.rv_judge.specs.Course.{fast_first}
@@ -18,12 +17,11 @@ use Rattle.rv_reader.specs.Entries.{is_in}
 use Rattle.rv_reader.specs.Leaves.{run_from}
 use Rattle.rv_reader.specs.Shown.{Shown}
 use Rattle.rv_reader.specs.Tables.{IsTable}
-use Rattle.rv_rows.specs.Rows.{Ascend, comes_below}
+use Rattle.rv_rows.specs.Rows.{Ascend}
 use Rattle.rv_scan.specs.Alongs.{Along, leaf_work}
 use Rattle.rv_scan.specs.Places.{work as pages_work}
 use Rattle.rv_jscan.specs.declared.jscan.ScanPlan.{ScanPlan}
-use Rattle.rv_jscan.specs.Joint.{Joint, leaves_ahead, leaves_of, leaves_planned, under_way}
-use Rattle.rv_jscan.specs.Steps.{begun}
+use Rattle.rv_jscan.specs.Joint.{Joint, leaves_of, leaves_planned, under_way}
 use Rattle.rv_retrieval.specs.declared.query.Query.{Query}
 use Rattle.rv_retrieval.specs.declared.choosing.Background.{Background}
 use Rattle.rv_retrieval.specs.declared.choosing.Background.TheVariants.{Each, One}
@@ -33,12 +31,12 @@ use Rattle.rv_retrieval.specs.declared.query.Goal2.TheVariants.{FastFirst as Soo
 use Rattle.rv_retrieval.specs.declared.choosing.Candidate.{Candidate}
 use Rattle.rv_retrieval.specs.declared.choosing.Choice.{Choice}
 use Rattle.rv_retrieval.specs.Asked.{CanAsk}
-use Rattle.rv_retrieval.specs.Choice.{AreScans, IsChosen, IsLeastOf, candidate_at, choice_of, order_index, restricted_choice, candidate_of, candidates_of, is_scanned, no_candidate, plan_of}
-use Rattle.rv_retrieval.specs.Effort.{Awaiting, back_work, cuts_and_entries, effort, entries_ahead, entries_of_scans, entries_planned, front_work, keys_work, life_of, sum_of, table_work}
+use Rattle.rv_retrieval.specs.Choice.{AreScans, IsChosen, IsLeastOf, candidate_at, choice_of, order_index, restricted_choice, candidate_of, candidates_of, is_scanned, plan_of}
+use Rattle.rv_retrieval.specs.Effort.{Awaiting, back_work, cuts_and_entries, effort, entries_of_scans, entries_planned, front_work, keys_work, life_of, sum_of, table_work}
 use Rattle.rv_retrieval.specs.Fronts.{Front, walk_of}
 use Rattle.rv_retrieval.specs.Opened.{Begun, front_begun, front_candidate, has_scans, walk_begun}
 use Rattle.rv_retrieval.specs.Opens.{first_of}
-use Rattle.rv_retrieval.specs.Shape.{Shape, front_entries, is_background, is_building, is_led, rows_of}
+use Rattle.rv_retrieval.specs.Shape.{Shape, is_background, is_building, is_led}
 use Rattle.rv_retrieval.proofs.Chosen.{chosen_front, walk_same}
 use Rattle.rv_retrieval.proofs.Courses.{HasFront, keys_back, sum_lower}
 

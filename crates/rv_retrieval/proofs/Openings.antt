@@ -1,5 +1,5 @@
 -- What the scan of a single index at opening spends, and what a background step spends.
-use Rattle.std.proofs.Common.{◌≡◌, ℕ, ◌+◌, ◌<◌, ◌≤◌, Bool, true, false, refl, ap, sym, ◌∙◌, arith, subst, Option, Some, None, Result, Ok, Err, IfOk, OnErr}
+use Rattle.std.proofs.Common.{◌≡◌, ℕ, ◌+◌, ◌<◌, ◌≤◌, Bool, true, ap, sym, ◌∙◌, arith, subst, Some, None}
 use Rattle.std.specs.Prelude.{if◌then◌else◌}
 use Rattle.rv_judge.specs.declared.counting.Counts.{Counts}
 use Rattle.rv_judge.specs.declared.events.Control.{Control}
@@ -12,18 +12,16 @@ use Rattle.rv_jscan.specs.declared.jscan.Given.{Given}
 use Rattle.rv_jscan.specs.declared.jscan.Given.TheVariants.{Accepted, Stale}
 use Rattle.rv_jscan.specs.declared.jscan.Taken.{Taken}
 use Rattle.rv_jscan.specs.declared.jscan.Taken.TheVariants.{Piece, Nothing}
-use Rattle.rv_jscan.specs.declared.piece.PieceId.{PieceId}
 use Rattle.rv_jscan.specs.Joint.{Joint, JointFits, under_way}
 use Rattle.rv_jscan.specs.Pieces.{Pieced}
-use Rattle.rv_jscan.specs.Steps.{Gives, TakeLeaves, Takes, awaited_id, next_id, steps_read}
-use Rattle.rv_retrieval.specs.Effort.{Awaiting, GiveSpends, Tries, back_work, effort, front_work, keys_work, sum_of, table_work}
-use Rattle.rv_retrieval.specs.Given.{Answers, AwaitsPiece, TakesPiece, awaited}
+use Rattle.rv_jscan.specs.Steps.{Gives, TakeLeaves, Takes, next_id, steps_read}
+use Rattle.rv_retrieval.specs.Effort.{Awaiting, Tries, back_work, effort, front_work, keys_work, sum_of, table_work}
+use Rattle.rv_retrieval.specs.Given.{Answers, AwaitsPiece, TakesPiece}
 use Rattle.rv_retrieval.specs.Rulings.{GivesOn, scan_over}
 use Rattle.rv_retrieval.specs.Shape.{RetrievalFits, Shape, is_background}
 use Rattle.rv_retrieval.proofs.BackWork.{accepted_less, leaf_spends, take_spends}
-use Rattle.rv_retrieval.proofs.Courses.{HasFront, sum_back}
-use Rattle.rv_retrieval.proofs.Efforts.{awaits_from, give_spends, over_awaits, scan_over_less}
-use Rattle.rv_retrieval.proofs.Spending.{awaits_by}
+use Rattle.rv_retrieval.proofs.Courses.{sum_back}
+use Rattle.rv_retrieval.proofs.Efforts.{give_spends, scan_over_less}
 
 -- The sum where the background's work and the reads change.
 
@@ -35,42 +33,10 @@ sum_spends FinalList r q a b f t k l h n = absurd (cc)
 sum_spends FinalTable r q a b f t k l h n = absurd (cc)
 sum_spends Done r q a b f t k l h n = absurd (cc)
 
-back_in : (c : Control) (b f t k : ℕ) → is_background c ≡ true → b ≤ sum_of c b f t k
-back_in Building b f t k h = omega arith
-back_in BackgroundAlone b f t k h = omega arith
-back_in ForegroundAlone b f t k h = absurd (cc)
-back_in FinalList b f t k h = absurd (cc)
-back_in FinalTable b f t k h = absurd (cc)
-back_in Done b f t k h = absurd (cc)
-
--- A take.
-
-pub take_tries : (v mid : Shape) (shown : Shown) (before after : Counts) → is_background v.control ≡ true → mid ≡ record v { joint = mid.joint } → TakeLeaves v.joint mid.joint → after ≡ steps_read v.joint before → Tries before after (effort v shown) (effort mid shown)
-take_tries v mid shown before after back e t r =
-    let spent = leaf_spends v.joint mid.joint shown v.borrowed before after t r in
-    let once = spent.0 in
-    let same = ap (λ (x : Shape). effort x shown) e in
-    let less = sum_back v.control (back_work mid.joint v.borrowed shown) (back_work v.joint v.borrowed shown) (front_work v shown) (table_work v shown) (keys_work (record v { joint = mid.joint })) (keys_work v) back spent.1 in
-    record { once = once; less = omega arith }
-
-pub take_effort : (v mid : Shape) (shown : Shown) (before after : Counts) (taken : Taken) → is_background v.control ≡ true → mid ≡ record v { joint = mid.joint } → TakeLeaves v.joint mid.joint → Takes mid.joint taken → after ≡ steps_read v.joint before → reads after + effort mid shown ≤ reads before + effort v shown
-take_effort v mid shown before after taken back e t k r =
-    let spent = take_spends v.joint mid.joint shown v.borrowed before after taken t k r in
-    let same = ap (λ (x : Shape). effort x shown) e in
-    let sum = sum_spends v.control (reads after) (reads before) (back_work mid.joint v.borrowed shown) (back_work v.joint v.borrowed shown) (front_work v shown) (table_work v shown) (keys_work (record v { joint = mid.joint })) (keys_work v) back spent in
-    omega arith
-
-pub take_if : {E : Type 0} (r : Result Taken E) (v mid : Shape) (shown : Shown) (before after : Counts) → is_background v.control ≡ true → mid ≡ record v { joint = mid.joint } → TakeLeaves v.joint mid.joint → IfOk r (Takes mid.joint) → after ≡ steps_read v.joint before → IfOk r (λ taken. reads after + effort mid shown ≤ reads before + effort v shown)
-take_if (Ok taken) v mid shown before after back e t k r = take_effort v mid shown before after taken back e t k r
-take_if (Err x) v mid shown before after back e t k r = tt
-
-pub take_awaits : (v mid : Shape) → mid ≡ record v { joint = mid.joint } → TakeLeaves v.joint mid.joint → Awaiting v → Awaiting mid
-take_awaits v mid e t a = record {
-  way = λ b. ap under_way t.same ∙ a.way (sym (ap (λ (x : Shape). is_background x.control) e) ∙ b);
-  both = subst (λ (x : Shape). HasFront x.strategy x.control) (sym e) a.both;
-}
-
 -- A piece that was taken is given.
+
+pub tries_to : (before after : Counts) (old mid new : ℕ) → Tries before after old mid → new ≤ mid → Tries before after old new
+tries_to before after old mid new t l = let less = t.less in record { once = t.once; less = omega arith }
 
 pub gave_less : (would : ℕ → Facts → Verdict) (state after : ℕ) (piece sieved : Pieced) (g : Given) (mid new : Shape) (shown : Shown) → TakesPiece mid (Piece piece) → sieved ≡ piece → Answers mid sieved g new → GivesOn would state after sieved g mid new → RetrievalFits mid shown → effort new shown < effort mid shown
 gave_less would state after piece sieved Accepted mid new shown p e a o f = give_spends would state after sieved Accepted mid new shown a o f
@@ -101,9 +67,6 @@ joint_spends v mid new piece taken g shown before after t k r gives f =
     let gave = gives_less mid.joint new.joint piece g shown 0 gives f in
     omega arith
 
-pub joint_took : (v mid : Shape) (taken : Taken) (shown : Shown) (before after : Counts) → TakeLeaves v.joint mid.joint → Takes mid.joint taken → after ≡ steps_read v.joint before → reads after + back_work mid.joint 0 shown ≤ reads before + back_work v.joint 0 shown
-joint_took v mid taken shown before after t k r = take_spends v.joint mid.joint shown 0 before after taken t k r
-
 -- what the scan and its end leave
 over_less : (v mid new : Shape) (shown : Shown) → mid ≡ record v { joint = mid.joint } → new ≡ scan_over 0 mid → effort new shown ≤ sum_of v.control (back_work mid.joint 0 shown) (front_work v shown) (table_work v shown) (keys_work (record v { joint = mid.joint }))
 over_less v mid new shown e o =
@@ -128,15 +91,6 @@ at_once_less v mid new shown back z e o spent =
     let was = unborrowed v shown z in
     let sum = sum_back v.control (back_work mid.joint 0 shown) (back_work v.joint 0 shown) (front_work v shown) (table_work v shown) (keys_work (record v { joint = mid.joint })) (keys_work v) back spent in
     omega arith
-
-pub at_once_tried : (v : Shape) (shown : Shown) (before after : Counts) → is_background v.control ≡ true → v.borrowed ≡ 0 → reads after ≤ reads before + back_work v.joint 0 shown + 1 → reads after ≤ reads before + effort v shown + 1
-at_once_tried v shown before after back z spent =
-    let was = unborrowed v shown z in
-    let part = back_in v.control (back_work v.joint 0 shown) (front_work v shown) (table_work v shown) (keys_work v) back in
-    omega arith
-
-pub at_once_awaits : (v mid new : Shape) → is_background v.control ≡ true → mid ≡ record v { joint = mid.joint } → new ≡ scan_over 0 mid → Awaiting v → Awaiting new
-at_once_awaits v mid new back e o a = subst Awaiting (sym o) (over_awaits 0 mid (ap (λ (x : Shape). is_background x.control) e ∙ back) (subst (λ (x : Shape). HasFront x.strategy x.control) (sym e) a.both))
 
 pub below : (a b c : ℕ) → a < b → b ≤ c → a < c
 below a b c h i = omega arith

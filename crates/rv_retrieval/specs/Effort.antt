@@ -1,7 +1,7 @@
 -- HOW MUCH WORK A RETRIEVAL STILL HAS, as a number over what it holds and what a reader shows: a sum of parts, one each
 -- for the background's scans with the keys that may be fetched of them, the foreground's scan, the final scan of the
 -- table and the final list.
-use Rattle.std.specs.Prelude.{◌≡◌, ℕ, ◌+◌, ◌-◌, ◌*◌, ◌<◌, ◌≤◌, Bool, true, List, [], ◌∷◌, length, drop, Option, Some, None, if◌then◌else◌}
+use Rattle.std.specs.Prelude.{◌≡◌, ℕ, ◌+◌, ◌-◌, ◌*◌, ◌<◌, ◌≤◌, true, List, [], ◌∷◌, length, drop, Option, Some, None, if◌then◌else◌}
 use Rattle.rv_value.specs.declared.record.IndexEntry.{IndexEntry}
 use Rattle.rv_judge.specs.declared.counting.Counts.{Counts}
 use Rattle.rv_judge.specs.declared.events.Control.{Control}
@@ -22,12 +22,11 @@ use Rattle.rv_jscan.specs.Joint.{Joint, leaves_ahead, under_way}
 use Rattle.rv_retrieval.specs.declared.query.Query.{Query}
 use Rattle.rv_retrieval.specs.declared.steps.Fg.{Fg}
 use Rattle.rv_retrieval.specs.declared.steps.Fg.TheVariants.{Row, Working as FgWorking, End as FgEnd}
-use Rattle.rv_retrieval.specs.Fronts.{Front, walk_of}
+use Rattle.rv_retrieval.specs.Fronts.{walk_of}
 use Rattle.rv_retrieval.specs.Shape.{Shape, front_entries, is_background, is_building, is_led, keys_left, lending, rows_of}
 use Rattle.rv_retrieval.specs.Telling.{list_len}
-use Rattle.rv_judge.specs.Course.{fast_first, index_only, sorted}
+use Rattle.rv_judge.specs.Course.{fast_first}
 use Rattle.std.specs.Prelude.{◌||◌}
-use Rattle.rv_judge.specs.declared.events.Strategy.{Strategy}
 
 -- The background.
 

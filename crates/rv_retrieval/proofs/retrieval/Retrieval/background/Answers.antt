@@ -1,8 +1,7 @@
-use Rattle.std.proofs.Common.{◌∙◌, ap, sym}
+use Rattle.std.proofs.Common.{◌∙◌, ap}
 use Rattle.rv_retrieval.specs.Shape.{is_background}
 use Rattle.rv_retrieval.proofs.Efforts.{give_awaits, give_less}
-use Rattle.rv_retrieval.proofs.Openings.{below, gave_less, nothing_awaited}
-use Rattle.rv_retrieval.proofs.Spending.{tries_to}
+use Rattle.rv_retrieval.proofs.Openings.{below, gave_less, nothing_awaited, tries_to}
 use Rattle.rv_retrieval.proofs.retrieval.Retrieval.background.Goals as goal
 
 pub returns-in_ok-_given-in-Piece-clause-tries : goal.returns-in_ok-_given-in-Piece-clause-tries
