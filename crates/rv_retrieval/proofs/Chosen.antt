@@ -175,7 +175,7 @@ no_order query shown choice can chosen other = by can.ordered
           no_way (sym (sorted at chosen.short (chosen_at None at found)) ∙ other)
     ]
 
-walk_same : (query : Query) (c : Candidate) → walk_of (front_begun query c) ≡ walk_begun query c
+pub walk_same : (query : Query) (c : Candidate) → walk_of (front_begun query c) ≡ walk_begun query c
 walk_same query c = elim c.sufficient as (λ b. cond b (walk_begun query c) (walk_begun query c) ≡ walk_begun query c) [ true ↦ refl | false ↦ refl ]
 
 begun_fits : (query : Query) (shown : Shown) (c : Candidate) (strategy : Strategy) → CanAsk query shown → IsCandidate query shown c → (is_sorted strategy ≡ true → leads query.order c.columns ≡ true) → FrontFits query strategy (front_begun query c) shown

@@ -17,3 +17,8 @@ pub mod Running
 pub mod Tellings
 pub mod Starting
 pub mod Stepped
+pub mod BackWork
+pub mod Courses
+pub mod Efforts
+pub mod Lives
+pub mod Openings

@@ -1,5 +1,5 @@
 -- What a step does, from what its parts do.
-use Rattle.std.proofs.Common.{◌≡◌, ◌∙◌, ℕ, ◌+◌, List, [], ◌∷◌, Bool, true, false, not, cond, ◌&&◌, Option, Some, None, Result, Ok, Err, IfOk, drop, find, is_some, length, nat_lt, refl, ap, sym, subst, arith, inl, inr, ◌==◌}
+use Rattle.std.proofs.Common.{◌≡◌, ◌⊎◌, ◌∙◌, ℕ, ◌+◌, List, [], ◌∷◌, Bool, true, false, not, cond, ◌&&◌, Option, Some, None, Result, Ok, Err, IfOk, drop, find, is_some, length, nat_lt, refl, ap, sym, subst, arith, inl, inr, ◌==◌}
 use Rattle.std.specs.Prelude.{if◌then◌else◌}
 use Rattle.std.proofs.lemmas.Bool.{cases_Bool}
 use Rattle.rv_value.specs.declared.record.Record.{Record}
@@ -11,7 +11,7 @@ use Rattle.rv_judge.specs.declared.counting.Counts.{Counts}
 use Rattle.rv_judge.specs.declared.events.Control.{Control}
 use Rattle.rv_judge.specs.declared.events.Control.TheVariants.{Building}
 use Rattle.rv_judge.specs.declared.events.Strategy.{Strategy}
-use Rattle.rv_judge.specs.declared.events.Strategy.TheVariants.{FastFirst}
+use Rattle.rv_judge.specs.declared.events.Strategy.TheVariants.{Table, BackgroundOnly, FastFirst}
 use Rattle.rv_judge.specs.declared.judging.Facts.{Facts}
 use Rattle.rv_judge.specs.declared.judging.Verdict.{Verdict}
 use Rattle.rv_restrict.specs.declared.atom.Atom.{Atom}
@@ -117,3 +117,12 @@ fast_behind (Ok s) would state after shown c d v mid new ec es e f none b =
     let fresh : fresh_of v ≡ None = ap (λ (x : Control). if building x && fast_first v.strategy then first_fresh v else None) ec ∙ ap (λ (x : Strategy). if fast_first x then first_fresh v else None) es ∙ none in
     let kind : kind_of v.control v.strategy (fresh_of v) ≡ Piece = ap (λ (x : Control). kind_of x v.strategy (fresh_of v)) ec ∙ ap (λ (x : Strategy). while_both x (fresh_of v)) es ∙ ap (while_both FastFirst) fresh in
     subst (λ (k : Kind). DoesAs k would state after shown c d s v new) (sym kind) (b.0, passed_first would state after v mid new e f b.1)
+
+-- a step while both sides run, of a strategy whose foreground gives nothing, is a background step
+background_kind : (control : Control) (strategy : Strategy) (fresh : Option ℕ) → control ≡ Building → (strategy ≡ Table) ⊎ (strategy ≡ BackgroundOnly) → kind_of control strategy fresh ≡ Piece
+background_kind control strategy fresh both (inl table) = rw (both, table) refl
+background_kind control strategy fresh both (inr alone) = rw (both, alone) refl
+
+pub piece_does : {E : Type 0} (r : Result Scanned E) (would : ℕ → Facts → Verdict) (state after : ℕ) (shown : Shown) (c d : Counts) (old new : Shape) → old.control ≡ Building → (old.strategy ≡ Table) ⊎ (old.strategy ≡ BackgroundOnly) → IfOk r (λ s. (s ≡ Working) × StepsBackground would state after old new) → IfOk r (λ s. DoesIts would state after shown c d s old new)
+piece_does (Ok s) would state after shown c d old new both which h = subst (λ (k : Kind). DoesAs k would state after shown c d s old new) (sym (background_kind old.control old.strategy (fresh_of old) both which)) h
+piece_does (Err e) would state after shown c d old new both which h = tt

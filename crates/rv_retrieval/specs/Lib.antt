@@ -11,3 +11,4 @@ pub mod Opened
 pub mod Rulings
 pub mod Runs
 pub mod Stepping
+pub mod Effort

@@ -1,4 +1,5 @@
-ghost use Rattle.std.specs.Prelude.{◌≡◌, ◌<◌, if◌then◌else◌, true, false, min, IfOk, OnOk, OnErr};
+ghost use Rattle.std.specs.Prelude.{◌≡◌, ◌<◌, if◌then◌else◌, true, false, min, IfOk, OnOk, OnErr, ◌+◌, ◌≤◌};
+ghost use Rattle.rv_reader.specs.Shown.{Shown};
 ghost use Rattle.rv_judge.specs.Course.{next_control};
 ghost use Rattle.rv_judge.specs.declared.events.Event.{Event as TheEvent};
 ghost use Rattle.rv_jscan.specs.Joint.{under_way};
@@ -8,6 +9,8 @@ ghost use Rattle.rv_retrieval.specs.Runs.{SameCourse, Tells};
 ghost use Rattle.rv_retrieval.specs.Shape.{DoesStep, EndsIn, Keeps, RetrievalFits, is_background, rest};
 ghost use Rattle.rv_retrieval.specs.Stepping.{StepsBackground, StepsBehind, is_awaiting};
 ghost use Rattle.rv_retrieval.specs.Telling.{CountsRise, SameCounts, can_stop, list_len, noted, noted_drop, noted_list, noted_scan};
+ghost use Rattle.rv_retrieval.specs.Effort.{Awaiting, Falls, GiveSpends, Tries, effort};
+ghost use Rattle.rv_judge.specs.Counting.{reads};
 
 use crate::retrieval::Retrieval;
 use rv_jscan::{Given, Sieved, Taken, sieve};
@@ -164,6 +167,9 @@ impl Retrieval {
         ensures reads { _steps.new ≡ _steps.old }
         ensures quiet { OnErr result (state judge.new ≡ state judge.old) }
         ensures tells { Tells self.old → Tells self.new }
+        ensures less { (shown : Shown) → RetrievalFits self.old shown → effort self.new shown ≤ effort self.old shown }
+        ensures spends { (shown : Shown) → RetrievalFits self.old shown → IfOk result (λ g. GiveSpends g (effort self.old shown) (effort self.new shown)) }
+        ensures awaiting { Awaiting self.old → Awaiting self.new }
     {
         self.give_piece(sieved, judge)
     }
@@ -221,6 +227,9 @@ impl Retrieval {
         ensures same { self.new ≡ record self.old { joint = self.new.joint; trace = self.new.trace } }
         ensures leaves { TakesLeaf self.old self.new.joint }
         ensures tells { Tells self.old → Tells self.new }
+        ensures tries { Tries steps.old steps.new (effort self.old (R.shown reader.now)) (effort self.new (R.shown reader.now)) }
+        ensures spends { IfOk result (λ taken. reads steps.new + effort self.new (R.shown reader.now) ≤ reads steps.old + effort self.old (R.shown reader.now)) }
+        ensures awaiting { Awaiting self.old → Awaiting self.new }
     {
         let before = steps.counts();
         let taken = self.take_piece(reader, steps);
@@ -241,6 +250,10 @@ impl Retrieval {
         ensures rest { rest self.new (R.shown reader.now) ≡ rest self.old (R.shown reader.now) }
         ensures same { self.new ≡ record self.old { joint = self.new.joint } }
         ensures leaves { TakesLeaf self.old self.new.joint }
+        ensures tries { Tries steps.old steps.new (effort self.old (R.shown reader.now)) (effort self.new (R.shown reader.now)) }
+        ensures spends { IfOk result (λ taken. reads steps.new + effort self.new (R.shown reader.now) ≤ reads steps.old + effort self.old (R.shown reader.now)) }
+        ensures awaiting { Awaiting self.old → Awaiting self.new }
+        ensures control { self.new.control ≡ self.old.control }
     {
         if !self.is_background() {
             return Ok(Taken::Nothing);
@@ -263,6 +276,9 @@ impl Retrieval {
         ensures does { OnOk result (StepsBehind (is_awaiting self.old) (would judge.old) (state judge.old) (state judge.new) self.old self.new) }
         ensures quiet { OnErr result (state judge.new ≡ state judge.old) }
         ensures course { OnErr result (SameCourse self.old self.new) }
+        ensures tries { Tries steps.old steps.new (effort self.old (R.shown reader.now)) (effort self.new (R.shown reader.now)) }
+        ensures falls { is_background self.old.control ≡ true → Awaiting self.old → OnOk result (effort self.new (R.shown reader.now) < effort self.old (R.shown reader.now)) }
+        ensures awaiting { Awaiting self.old → Awaiting self.new }
     {
         match self.take_piece(reader, steps)? {
             Taken::Piece(piece) => {
@@ -289,6 +305,9 @@ impl Retrieval {
         ensures does { IfOk result (λ s. (s ≡ Scanned.Working) × StepsBackground (would judge.old) (state judge.old) (state judge.new) self.old self.new) }
         ensures quiet { OnErr result (state judge.new ≡ state judge.old) }
         ensures course { OnErr result (SameCourse self.old self.new) }
+        ensures tries { Tries steps.old steps.new (effort self.old (R.shown reader.now)) (effort self.new (R.shown reader.now)) }
+        ensures falls { is_background self.old.control ≡ true → Awaiting self.old → IfOk result (λ s. Falls s steps.old steps.new (effort self.old (R.shown reader.now)) (effort self.new (R.shown reader.now))) }
+        ensures awaiting { Awaiting self.old → Awaiting self.new }
     {
         self.background(reader, judge, steps)?;
         Ok(Scanned::Working)

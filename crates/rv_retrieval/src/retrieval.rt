@@ -1,14 +1,14 @@
-ghost use Rattle.std.specs.Prelude.{if◌then◌else◌, ◌≡◌, ℕ, ◌+◌, ◌-◌, ◌^◌, ◌<◌, ◌≤◌, ◌++◌, ◌∷◌, [], ◌&&◌, ◌==◌, ◌⊎◌, true, false, is_some, length, min, Some, None, IfOk, IfSome, IsSome, IsTrue, OnOk, OnErr, Ok};
+ghost use Rattle.std.specs.Prelude.{if◌then◌else◌, ◌≡◌, ℕ, List, ◌+◌, ◌-◌, ◌^◌, ◌<◌, ◌≤◌, ◌++◌, ◌∷◌, [], ◌&&◌, ◌==◌, ◌⊎◌, true, false, is_some, length, min, Some, None, IfOk, IfSome, IsSome, IsTrue, OnOk, OnErr, Ok};
 ghost use Rattle.std.specs.Option.{option_copied};
 ghost use Rattle.rv_keys.specs.Keys.{has_key, Once};
 ghost use Rattle.rv_restrict.specs.Truth.{names_only, row_has};
 ghost use Rattle.rv_reader.specs.Shown.{Shown, CanRead};
 ghost use Rattle.rv_reader.specs.Tables.{row_at};
 ghost use Rattle.rv_scan.specs.Alongs.{Follows, looked};
-ghost use Rattle.rv_scan.specs.Places.{Fits as PlaceFits, unseen};
+ghost use Rattle.rv_scan.specs.Places.{Fits as PlaceFits, unseen, work as pages_work};
 ghost use Rattle.rv_scan.specs.Due.{HaveColumns};
 ghost use Rattle.rv_jscan.specs.Joint.{CanTake, JointFits, keys_of, under_way};
-ghost use Rattle.rv_jscan.specs.Steps.{Gives, Nearer, TakeLeaves, Takes, abandoned, awaited_id, begun};
+ghost use Rattle.rv_jscan.specs.Steps.{Gives, Nearer, TakeLeaves, Takes, abandoned, awaited_id, begun, steps_read};
 ghost use Rattle.rv_judge.specs.Account.{facts_of, guarantee_with};
 ghost use Rattle.rv_judge.specs.Counting.{record_read};
 ghost use Rattle.rv_retrieval.specs.Accounts.{NextBorrowed, account_of};
@@ -19,6 +19,9 @@ ghost use Rattle.rv_retrieval.specs.Opens.{Opens, first_of};
 ghost use Rattle.rv_retrieval.specs.Rest.{StepMarks, qualifying};
 ghost use Rattle.rv_retrieval.specs.Shape.{KeyAt, LastFits, LeastOf, NextKey, Remembers, RetrievalFits, Source, given_as, left_at, lending, front_entries, is_background, is_led, is_sorted, keys_left, rest, rows_of};
 ghost use Rattle.rv_retrieval.specs.Telling.{counted, index_of, list_len, new_trace, noted};
+ghost use Rattle.rv_retrieval.specs.Effort.{Falls, Tries, front_work, table_work};
+ghost use Rattle.rv_judge.specs.Counting.{record_read};
+ghost use Rattle.rv_value.specs.declared.record.Record.{Record as OneRecord};
 
 use crate::front::Front;
 use crate::query::Query;
@@ -221,6 +224,7 @@ impl Retrieval {
         ensures leaves { TakeLeaves self.old.joint self.new.joint }
         ensures taken { IfOk result (Takes self.new.joint) }
         ensures fits { JointFits self.new.joint (R.shown reader.now) }
+        ensures reads { steps.new ≡ steps_read self.old.joint steps.old }
     {
         self.joint.take(reader, steps)
     }
@@ -262,6 +266,8 @@ impl Retrieval {
         ensures least { is_sorted self.old.strategy ≡ true → IfOk result (LeastOf self.old (R.shown reader.now)) }
         ensures marks { let shown = R.shown reader.now in IfOk result (λ s. StepMarks self.old.query.need self.old.query.only (rows_of self.old shown) s (front_left self.old.front (front_entries self.old shown)) (front_left self.new.front (front_entries self.old shown))) }
         ensures err { OnErr result (self.new ≡ self.old) }
+        ensures tries { Tries steps.old steps.new (front_work self.old (R.shown reader.now)) (front_work self.new (R.shown reader.now)) }
+        ensures falls { IfOk result (λ s. Falls s steps.old steps.new (front_work self.old (R.shown reader.now)) (front_work self.new (R.shown reader.now))) }
     {
         let skip = Skip {
             delivered: None,
@@ -302,6 +308,8 @@ impl Retrieval {
         ensures last { LastFits self.old.query self.new.last (R.shown reader.now) }
         ensures marks { let shown = R.shown reader.now in IfOk result (λ s. StepMarks self.old.query.need self.old.query.only (rows_of self.old shown) s (left_at Source.Pages self.old shown) (left_at Source.Pages self.new shown)) }
         ensures err { OnErr result (self.new ≡ self.old) }
+        ensures tries { Tries steps.old steps.new (table_work self.old (R.shown reader.now)) (table_work self.new (R.shown reader.now)) }
+        ensures falls { IfOk result (λ s. Falls s steps.old steps.new (table_work self.old (R.shown reader.now)) (table_work self.new (R.shown reader.now))) }
     {
         let skip = Skip {
             delivered: Some(&self.delivered),
@@ -391,6 +399,8 @@ impl Retrieval {
         ensures told { IfOk result (λ r. r.trace ≡ new_trace strategy) }
         ensures fits { (shown : Shown) → Opens query strategy scans.items front shown → IfOk result (λ r. RetrievalFits r shown) }
         ensures rest { (shown : Shown) → Opens query strategy scans.items front shown → IfOk result (λ r. rest r shown ≡ qualifying query.only (shown.rows query.table query.snap)) }
+        ensures unborrowed { IfOk result (λ r. r.borrowed ≡ 0) }
+        ensures last { (rows : List OneRecord) (pages : ℕ) → IfOk result (λ r. pages_work r.last rows pages ≡ length rows + pages) }
     {
         let delivered = Delivered::new(alloc)?;
         let control = first_control(strategy, has_scans(scans.as_slice()));

@@ -5,9 +5,10 @@ ghost use Rattle.rv_jscan.specs.Joint.{under_way};
 ghost use Rattle.rv_retrieval.specs.Accounts.{IsFresh, first_fresh};
 ghost use Rattle.rv_retrieval.specs.Opens.{GivesStep, fg_of};
 ghost use Rattle.rv_retrieval.specs.Runs.{SameCourse, Tells};
-ghost use Rattle.rv_retrieval.specs.Shape.{Delivers, DoesStep, EndsIn, KeyAt, NextKey, PassesKeys, RetrievalFits, Source, given_as, is_background, is_building, is_index_only, rest, source};
+ghost use Rattle.rv_retrieval.specs.Shape.{Delivers, DoesStep, EndsIn, KeyAt, NextKey, PassesKeys, RetrievalFits, Source, given_as, is_background, is_building, is_index_only, rest, source, lending};
 ghost use Rattle.rv_retrieval.specs.Stepping.{Borrows, DoesIts, Remembered, RemembersBy, StepsAs, ended_by};
 ghost use Rattle.rv_retrieval.specs.Telling.{CountsRise, SameCounts};
+ghost use Rattle.rv_retrieval.specs.Effort.{Awaiting, Falls, FgSpends, Tries, effort, keys_work, to_borrow};
 
 use crate::retrieval::Retrieval;
 use rv_judge::{Control, Event, Happening, Judge, Steps, Strategy};
@@ -54,6 +55,7 @@ impl Retrieval {
         ensures passed { PassesKeys self.old.joint.list self.old.delivered self.old.at self.new.at }
         ensures key { KeyAt self.old.joint.list self.new.at result }
         ensures fresh { IfSome result (λ row. has_key row.0 self.old.delivered ≡ false) }
+        ensures fewer { keys_work self.new ≤ keys_work self.old }
     {
         match self.key_at() {
             None => None,
@@ -85,6 +87,9 @@ impl Retrieval {
         ensures err { OnErr result (rest self.new (R.shown reader.now) ≡ rest self.old (R.shown reader.now)) }
         ensures does { IfOk result (λ s. self.new ≡ ended_by Happening.FinalEnded s (record self.old { at = self.new.at })) }
         ensures course { OnErr result (SameCourse self.old self.new) }
+        ensures tries { Tries steps.old steps.new (effort self.old (R.shown reader.now)) (effort self.new (R.shown reader.now)) }
+        ensures falls { IfOk result (λ s. Falls s steps.old steps.new (effort self.old (R.shown reader.now)) (effort self.new (R.shown reader.now))) }
+        ensures awaiting { Awaiting self.old → Awaiting self.new }
     {
         match self.final_key() {
             None => {
@@ -112,6 +117,9 @@ impl Retrieval {
         ensures ends { IfOk result (EndsIn self.new) }
         ensures err { OnErr result (self.new ≡ self.old) }
         ensures does { IfOk result (λ s. self.new ≡ ended_by Happening.FinalEnded s (record self.old { at = self.new.at })) }
+        ensures tries { Tries steps.old steps.new (effort self.old (R.shown reader.now)) (effort self.new (R.shown reader.now)) }
+        ensures falls { IfOk result (λ s. Falls s steps.old steps.new (effort self.old (R.shown reader.now)) (effort self.new (R.shown reader.now))) }
+        ensures awaiting { Awaiting self.old → Awaiting self.new }
     {
         let found = self.examine(reader, row, steps)?;
         self.pass_key();
@@ -133,6 +141,9 @@ impl Retrieval {
         ensures ends { IfOk result (EndsIn self.new) }
         ensures err { OnErr result (self.new ≡ self.old) }
         ensures does { IfOk result (λ s. self.new ≡ ended_by Happening.FinalEnded s (record self.old { last = self.new.last })) }
+        ensures tries { Tries steps.old steps.new (effort self.old (R.shown reader.now)) (effort self.new (R.shown reader.now)) }
+        ensures falls { IfOk result (λ s. Falls s steps.old steps.new (effort self.old (R.shown reader.now)) (effort self.new (R.shown reader.now))) }
+        ensures awaiting { Awaiting self.old → Awaiting self.new }
     {
         match self.scan_last(reader, steps)? {
             Scanned::Found(record) => Ok(Scanned::Found(record)),
@@ -152,6 +163,8 @@ impl Retrieval {
         ensures small { IfSome result (λ row. self.new.borrowed < 2 ^ 64 - 1) }
         ensures first { under_way self.old.joint ≡ true → IsFresh self.old result }
         ensures passes { under_way self.old.joint ≡ true → first_fresh self.new ≡ first_fresh self.old }
+        ensures near { IfSome result (λ row. self.new.borrowed < length (lending self.new.joint)) }
+        ensures fewer { to_borrow self.new.joint self.new.borrowed ≤ to_borrow self.old.joint self.old.borrowed }
     {
         match self.borrowed_key() {
             None => None,
@@ -199,6 +212,9 @@ impl Retrieval {
         ensures ends { IfOk result (EndsIn self.new) }
         ensures err { OnErr result (self.new ≡ self.old) }
         ensures does { IfOk result (λ s. Borrows row.0 (R.shown reader.now) steps.old steps.new s self.old self.new) }
+        ensures tries { Tries steps.old steps.new (effort self.old (R.shown reader.now)) (effort self.new (R.shown reader.now)) }
+        ensures falls { self.old.borrowed < length (lending self.old.joint) → IfOk result (λ s. Falls s steps.old steps.new (effort self.old (R.shown reader.now)) (effort self.new (R.shown reader.now))) }
+        ensures awaiting { Awaiting self.old → Awaiting self.new }
     {
         match self.examine(reader, row, steps)? {
             Some(found) => {
@@ -232,6 +248,9 @@ impl Retrieval {
         ensures does { under_way self.old.joint ≡ true → IfOk result (λ s. DoesIts (would judge.old) (state judge.old) (state judge.new) (R.shown reader.now) steps.old steps.new s self.old self.new) }
         ensures quiet { OnErr result (state judge.new ≡ state judge.old) }
         ensures course { OnErr result (SameCourse self.old self.new) }
+        ensures tries { Tries steps.old steps.new (effort self.old (R.shown reader.now)) (effort self.new (R.shown reader.now)) }
+        ensures falls { Awaiting self.old → IfOk result (λ s. Falls s steps.old steps.new (effort self.old (R.shown reader.now)) (effort self.new (R.shown reader.now))) }
+        ensures awaiting { Awaiting self.old → Awaiting self.new }
     {
         match self.fresh_key() {
             None => self.background_step(reader, judge, steps),
@@ -255,6 +274,9 @@ impl Retrieval {
         ensures ends { IfOk result (EndsIn self.new) }
         ensures err { OnErr result (self.new ≡ self.old) }
         ensures does { IfOk result (λ s. self.new ≡ ended_by Happening.FrontEnded s (record self.old { front = self.new.front })) }
+        ensures tries { Tries steps.old steps.new (effort self.old (R.shown reader.now)) (effort self.new (R.shown reader.now)) }
+        ensures falls { IfOk result (λ s. Falls s steps.old steps.new (effort self.old (R.shown reader.now)) (effort self.new (R.shown reader.now))) }
+        ensures awaiting { Awaiting self.old → Awaiting self.new }
     {
         match self.scan_front(reader, steps)? {
             Scanned::Found(record) => Ok(Scanned::Found(record)),
@@ -281,6 +303,9 @@ impl Retrieval {
         ensures ends { IfOk result (EndsIn self.new) }
         ensures err { OnErr result (self.new ≡ self.old) }
         ensures does { IfOk result (λ s. RemembersBy s (record self.old { front = self.new.front }) self.new) }
+        ensures tries { Tries steps.old steps.new (effort self.old (R.shown reader.now)) (effort self.new (R.shown reader.now)) }
+        ensures falls { IfOk result (λ s. Falls s steps.old steps.new (effort self.old (R.shown reader.now)) (effort self.new (R.shown reader.now))) }
+        ensures awaiting { Awaiting self.old → Awaiting self.new }
     {
         match self.scan_front(reader, steps)? {
             Scanned::Found(record) => {
@@ -312,6 +337,9 @@ impl Retrieval {
         ensures does { (is_background self.old.control ≡ true → under_way self.old.joint ≡ true) → IfOk result (λ s. DoesIts (would judge.old) (state judge.old) (state judge.new) (R.shown reader.now) steps.old steps.new s self.old self.new) }
         ensures quiet { OnErr result (state judge.new ≡ state judge.old) }
         ensures course { OnErr result (SameCourse self.old self.new) }
+        ensures tries { Tries steps.old steps.new (effort self.old (R.shown reader.now)) (effort self.new (R.shown reader.now)) }
+        ensures falls { Awaiting self.old → IfOk result (λ s. Falls s steps.old steps.new (effort self.old (R.shown reader.now)) (effort self.new (R.shown reader.now))) }
+        ensures awaiting { Awaiting self.old → Awaiting self.new }
     {
         match self.strategy() {
             Strategy::FastFirst => self.fast_step(reader, judge, steps),
@@ -340,6 +368,9 @@ impl Retrieval {
         ensures does { (is_background self.old.control ≡ true → under_way self.old.joint ≡ true) → IfOk result (λ s. DoesIts (would judge.old) (state judge.old) (state judge.new) (R.shown reader.now) steps.old steps.new s self.old self.new) }
         ensures quiet { OnErr result (state judge.new ≡ state judge.old) }
         ensures course { OnErr result (SameCourse self.old self.new) }
+        ensures tries { Tries steps.old steps.new (effort self.old (R.shown reader.now)) (effort self.new (R.shown reader.now)) }
+        ensures falls { Awaiting self.old → IfOk result (λ s. Falls s steps.old steps.new (effort self.old (R.shown reader.now)) (effort self.new (R.shown reader.now))) }
+        ensures awaiting { Awaiting self.old → Awaiting self.new }
     {
         match self.control() {
             Control::Building => self.building_step(reader, judge, steps),
@@ -374,6 +405,9 @@ impl Retrieval {
         ensures quiet { OnErr result (state judge.new ≡ state judge.old) }
         ensures course { OnErr result (SameCourse self.old self.new) }
         ensures tells { Tells self.old → Tells self.new }
+        ensures tries { Tries steps.old steps.new (effort self.old (R.shown reader.now)) (effort self.new (R.shown reader.now)) }
+        ensures spends { Awaiting self.old → IfOk result (λ fg. FgSpends fg steps.old steps.new (effort self.old (R.shown reader.now)) (effort self.new (R.shown reader.now))) }
+        ensures awaiting { Awaiting self.old → Awaiting self.new }
     {
         let before = steps.counts();
         let stepped = self.step(reader, judge, steps);

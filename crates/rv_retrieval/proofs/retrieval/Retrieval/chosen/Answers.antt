@@ -1,5 +1,6 @@
 use Rattle.rv_retrieval.proofs.Chosen.{begun_back, begun_way, chosen_opens, few_scans, one_background, one_found}
 use Rattle.rv_retrieval.proofs.Starting.{begun_tells_if, chosen_has, one_scan, planned_known, planned_once, short_if}
+use Rattle.rv_retrieval.proofs.Lives.{awaits_if, life_if}
 use Rattle.rv_retrieval.proofs.retrieval.Retrieval.chosen.Goals as goal
 
 pub begin-requires : goal.begin-requires
@@ -32,3 +33,9 @@ returns-clause-tells g c =
 
 pub returns-clause-short : goal.returns-clause-short
 returns-clause-short g c one = short_if c.begin.result c.args.query c.args.choice.strategy c.in_ok-scans.scans.items c.in_ok-front.front _ c.args.cursor c.args.opening (one_scan c.args.query (g.R.Reader.shown c.args.reader.now) c.args.choice.background c.args.candidates.now c.in_ok-scans.scans.items c.requires.candidates c.requires.can c.in_ok-scans.ensures one) c.begin.ensures.begun
+
+pub returns-clause-life : goal.returns-clause-life
+returns-clause-life g c = life_if c.begin.result c.args.query (g.R.Reader.shown c.args.reader.now) c.args.choice c.in_ok-scans.scans.items c.in_ok-front.front c.args.candidates.now _ c.args.cursor c.args.opening c.requires.candidates c.requires.can c.guarantee-guaranteed.ensures.table c.requires.choice c.in_ok-scans.ensures c.in_ok-front.ensures c.begin.ensures.begun c.begin.ensures.last
+
+pub returns-clause-awaiting : goal.returns-clause-awaiting
+returns-clause-awaiting g c = awaits_if c.begin.result c.args.query c.args.choice c.args.candidates.now c.in_ok-scans.scans.items c.in_ok-front.front _ c.args.cursor c.args.opening c.requires.choice c.in_ok-scans.ensures c.begin.ensures.begun
