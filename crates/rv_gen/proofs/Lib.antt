@@ -1,0 +1,3 @@
+pub mod Goings
+mod Counts
+pub mod Runs
