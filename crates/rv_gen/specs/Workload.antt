@@ -1,5 +1,5 @@
 -- The generated workload: a table of 2,000 rows with two indexes, then four cursors that are fetched from while their table is updated.
-use Rattle.std.specs.Prelude.{ℕ, ◌+◌, ◌-◌, ◌*◌, ◌%◌, ◌==◌, List, [], ◌∷◌, ◌++◌, None, codes, decimal, map, flat_map, if◌then◌else◌}
+use Rattle.std.specs.Prelude.{◌≡◌, ◌≤◌, ℕ, ◌+◌, ◌-◌, ◌*◌, ◌%◌, ◌==◌, All, List, [], ◌∷◌, ◌++◌, None, codes, decimal, length, map, flat_map, if◌then◌else◌}
 use Rattle.std.specs.List.{range_with_len}
 use Rattle.rv_script.specs.declared.scripts.Line.{Line}
 use Rattle.rv_script.specs.declared.scripts.Phase.{Phase}
@@ -88,3 +88,18 @@ workload seed rows count = record {
 -- 2,000 rows and 250 rounds
 abbrev pub generated : ℕ → Script
 generated seed = workload seed 2000 250
+
+-- ---- what a run needs of it
+
+-- A call that may be made: the session is 1 to 8, and the text is short enough.
+pub record IsCall (l : Line) : Type 0 where
+  pub from : 1 ≤ l.session
+  pub to : l.session ≤ 8
+  pub short : length l.text ≤ 4096
+
+abbrev pub HasCalls : Phase → Type 0
+HasCalls p = All IsCall p.lines
+
+pub record IsRunnable (script : Script) : Type 0 where
+  pub phases : length script.phases ≡ 2
+  pub calls : All HasCalls script.phases

@@ -1,7 +1,7 @@
 //! The generated workload.
 ghost use Rattle.std.specs.Prelude.{◌≡◌, ◌*◌, ◌<◌, ◌++◌, ◌∷◌, [], IfOk, OnOk, codes, string_bytes};
 ghost use Rattle.rv_gen.specs.Draws.{state_after};
-ghost use Rattle.rv_gen.specs.Workload.{fetches_of, generated, insert_of, insert_text, inserts, line, open_of, open_text, opening, openings_of, phase, readers, round, rounds, tables, update_of, update_text, workload};
+ghost use Rattle.rv_gen.specs.Workload.{IsRunnable, fetches_of, generated, insert_of, insert_text, inserts, line, open_of, open_text, opening, openings_of, phase, readers, round, rounds, tables, update_of, update_text, workload};
 
 use crate::draws::Draws;
 use rv_script::{Line, Phase, Script};
@@ -16,8 +16,10 @@ const ROUNDS: u32 = 250;
 
 /// The generated script: session 1 makes a table of 2,000 rows with two indexes; then sessions 2 to 5 fetch in turn from a
 /// cursor each, while session 1 updates the table. Equal seeds give equal scripts.
+#[tactic(auto, using(crate::proofs::Calls::runnable))]
 pub fn generate(alloc: Global, seed: u32) -> Result<Script, NoMemory>
-    ensures { IfOk result (λ script. script ≡ generated seed) }
+    ensures is { IfOk result (λ script. script ≡ generated seed) }
+    ensures runnable { IfOk result IsRunnable }
 {
     written(alloc, u64::from(seed), ROWS, ROUNDS)
 }
