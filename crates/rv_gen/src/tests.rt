@@ -72,7 +72,7 @@ fn a_summary_counts_replies(rt: HostRuntime) -> Result<(), Fail> {
     assert!(rt; write_summary(&mut sink, &summary).is_ok());
     assert_eq!(rt;
         sink.written(),
-        b"calls 7\nrows 1\nends 2\ncommits 1\nrefused 1\n"
+        b"calls 7\nrows 1\nends 2\ncommits 1\nrefused 1\n".as_slice()
     );
     Ok(())
 }
@@ -82,6 +82,6 @@ fn a_failed_write_ends_the_summary(rt: HostRuntime) -> Result<(), Fail> {
     let alloc = rt.alloc();
     let mut sink = MemSink::new(alloc, 100, vec![in alloc; 3]?)?;
     assert!(rt; write_summary(&mut sink, &summary_of(&[])).is_err());
-    assert_eq!(rt; sink.written(), b"calls 0");
+    assert_eq!(rt; sink.written(), b"calls 0".as_slice());
     Ok(())
 }

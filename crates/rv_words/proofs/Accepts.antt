@@ -3,9 +3,9 @@ use Rattle.std.proofs.Common.{◌≡◌, ◌≢◌, ℕ, ◌+◌, ◌≤◌, Lis
 use Rattle.std.specs.Prelude.{option_and_then}
 use Rattle.std.specs.List.{AllByRecursion}
 use Rattle.std.proofs.lemmas.Bool.{cases_Bool}
-use Rattle.rv_words.specs.declared.asked.Asked.{Asked}
-use Rattle.rv_words.specs.declared.asked.Choice.{Choice}
-use Rattle.rv_words.specs.declared.asked.Choice.TheVariants.{Judge, Steps, Gen}
+use Rattle.rv_words.specs.declared.choices.Asked.{Asked}
+use Rattle.rv_words.specs.declared.choices.Choice.{Choice}
+use Rattle.rv_words.specs.declared.choices.Choice.TheVariants.{Judge, Steps, Gen}
 use Rattle.rv_words.specs.declared.reading.Sofar.{Sofar}
 use Rattle.rv_words.specs.Words.{Item, IsItem, IsValue, Lacks, Once, is_option, name_of, number, value_of, words_of}
 use Rattle.rv_words.specs.Reading.{Form, Named, Joined, Other, asked_from, ended, form, given, value, with_form, with_new, with_value, with_word}
@@ -65,7 +65,7 @@ new_idle s option n free = rw (given_idle s option, free) (ap (λ (t : Sofar). S
 takes_value : (s : Sofar) (option : Choice) (digits : List ℕ) → IsValue option digits → given option s ≡ None → with_new (idle s) option (value option digits) ≡ Some (idle (with_value s option (number digits)))
 takes_value s option digits is free = ap (with_new (idle s) option) (is_value option digits is) ∙ new_idle s option (number digits) free
 
-takes_joined : (s : Sofar) (option : Choice) (digits : List ℕ) → IsValue option digits → given option s ≡ None → with_word (idle s) (name_of option ++ codes "=" ++ digits) ≡ Some (idle (with_value s option (number digits)))
+takes_joined : (s : Sofar) (option : Choice) (digits : List ℕ) → IsValue option digits → given option s ≡ None → with_word (idle s) (name_of option ++ (codes "=" ++ digits)) ≡ Some (idle (with_value s option (number digits)))
 takes_joined s option digits is free = ap (with_form (idle s)) (is_joined option digits) ∙ takes_value s option digits is free
 
 takes_name : (s : Sofar) (option : Choice) → with_word (idle s) (name_of option) ≡ Some (awaiting s option)
@@ -94,7 +94,7 @@ read_items s (item ∷ items) all once free =
     let more = with_value s item.option (number item.digits) in
     let rest = flat_map words_of items in
     let on = read_items more items all.1 once.1 (free_more s item.option (number item.digits) items once.0 free.1) in
-    elim (item.behind) as (λ b. asked_from (idle s) ((if b then (name_of item.option ++ codes "=" ++ item.digits) ∷ [] else name_of item.option ∷ item.digits ∷ []) ++ rest) ≡ ended (idle (with_items more items))) [
+    elim (item.behind) as (λ b. asked_from (idle s) ((if b then (name_of item.option ++ (codes "=" ++ item.digits)) ∷ [] else name_of item.option ∷ item.digits ∷ []) ++ rest) ≡ ended (idle (with_items more items))) [
       | true ↦ ap (asked_with rest) (takes_joined s item.option item.digits all.0 free.0) ∙ on
       | false ↦
           ap (asked_with (item.digits ∷ rest)) (takes_name s item.option)
@@ -106,7 +106,7 @@ read_items s (item ∷ items) all once free =
 
 pub record Read (s : Sofar) (words : List (List ℕ)) (asked : Asked) : Type 0 where
   pub items : List Item
-  pub words : words ≡ flat_map words_of items
+  pub whole : words ≡ flat_map words_of items
   pub all : AllByRecursion IsItem items
   pub once : Once items
   pub free : Free s items
@@ -154,7 +154,7 @@ with_item s item words rest asked is free e read =
     let apart = others s item.option (number item.digits) read.items read.free in
     record {
       items = item ∷ read.items;
-      words = e ∙ ap (λ (ws : List (List ℕ)). words_of item ++ ws) read.words;
+      whole = e ∙ ap (λ (ws : List (List ℕ)). words_of item ++ ws) read.whole;
       all = (is, read.all);
       once = (apart.lacks, read.once);
       free = (free, apart.free);
@@ -171,9 +171,7 @@ read_one s word asked (Named option) e told = cc
 read_one s word asked (Joined option digits) e told =
     let t = taken s option digits [] asked told in
     with_item s (item_of option digits true) (word ∷ []) [] asked t.is t.free (ap (λ (w : List ℕ). w ∷ []) (joined_word word option digits e))
-    (record { items = []; words = refl; all = tt; once = tt; free = tt; end = t.more })
-
-pub read_words : (s : Sofar) (words : List (List ℕ)) (asked : Asked) → asked_from (idle s) words ≡ Some asked → Read s words asked
+    (record { items = []; whole = refl; all = tt; once = tt; free = tt; end = t.more })
 
 read_two : (s : Sofar) (word next : List ℕ) (rest : List (List ℕ)) (asked : Asked) (f : Form) → form word ≡ f → asked_with (next ∷ rest) (with_form (idle s) f) ≡ Some asked
     → ((t : Sofar) → asked_from (idle t) (next ∷ rest) ≡ Some asked → Read t (next ∷ rest) asked) → ((t : Sofar) → asked_from (idle t) rest ≡ Some asked → Read t rest asked) → Read s (word ∷ next ∷ rest) asked
@@ -185,6 +183,7 @@ read_two s word next rest asked (Joined option digits) e told more on =
     let t = taken s option digits (next ∷ rest) asked told in
     with_item s (item_of option digits true) (word ∷ next ∷ rest) (next ∷ rest) asked t.is t.free (ap (λ (w : List ℕ). w ∷ next ∷ rest) (joined_word word option digits e)) (more (with_value s option (number digits)) t.more)
 
-read_words s [] asked told = record { items = []; words = refl; all = tt; once = tt; free = tt; end = told }
+pub read_words : (s : Sofar) (words : List (List ℕ)) (asked : Asked) → asked_from (idle s) words ≡ Some asked → Read s words asked
+read_words s [] asked told = record { items = []; whole = refl; all = tt; once = tt; free = tt; end = told }
 read_words s (word ∷ []) asked told = read_one s word asked (form word) refl told
 read_words s (word ∷ next ∷ rest) asked told = read_two s word next rest asked (form word) refl told (λ t h. read_words t (next ∷ rest) asked h) (λ t h. read_words t rest asked h)

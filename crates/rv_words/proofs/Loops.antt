@@ -2,7 +2,7 @@
 use Rattle.std.proofs.Common.{◌≡◌, ℕ, ◌+◌, ◌<◌, ◌≤◌, List, [], ◌∷◌, refl, sym, ap, ◌∙◌, Option, Some, None, length, get_or, drop}
 use Rattle.std.specs.Prelude.{option_and_then}
 use Rattle.std.proofs.lemmas.List.{at_drop_more, at_drop_all}
-use Rattle.rv_words.specs.declared.asked.Asked.{Asked}
+use Rattle.rv_words.specs.declared.choices.Asked.{Asked}
 use Rattle.rv_words.specs.declared.reading.Sofar.{Sofar}
 use Rattle.rv_words.specs.Reading.{asked_from, ended, number_from, with_digit, with_word}
 

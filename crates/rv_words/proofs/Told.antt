@@ -1,10 +1,10 @@
 -- What is read is what the words ask.
-use Rattle.std.proofs.Common.{◌≡◌, ◌≢◌, ℕ, List, [], ◌∷◌, refl, sym, ap, ◌∙◌, Option, Some, None, inl, inr, ¬◌, flat_map, true, false, unwrap_or, if◌then◌else◌}
+use Rattle.std.proofs.Common.{◌≡◌, ◌≢◌, ℕ, List, [], ◌∷◌, refl, sym, ap, ◌∙◌, Option, Some, None, inl, inr, flat_map, true, false, unwrap_or, if◌then◌else◌}
 use Rattle.std.specs.Prelude.{IfSome}
 use Rattle.std.specs.List.{AllByRecursion}
-use Rattle.rv_words.specs.declared.asked.Asked.{Asked}
-use Rattle.rv_words.specs.declared.asked.Choice.{Choice}
-use Rattle.rv_words.specs.declared.asked.Choice.TheVariants.{Judge, Steps, Gen}
+use Rattle.rv_words.specs.declared.choices.Asked.{Asked}
+use Rattle.rv_words.specs.declared.choices.Choice.{Choice}
+use Rattle.rv_words.specs.declared.choices.Choice.TheVariants.{Judge, Steps, Gen}
 use Rattle.rv_words.specs.declared.reading.Sofar.{Sofar}
 use Rattle.rv_words.specs.Words.{AreAccepted, Ask, Item, Lacks, Once, Spell, asked_of, is_option, number, value_of, words_of}
 use Rattle.rv_words.specs.Reading.{asked_from, ended, given, start, with_value}
@@ -19,9 +19,9 @@ given_items s option [] free once = free
 given_items s option (item ∷ items) free once = elim (option_cases option item.option) [
   | inl same ↦
       rw same.1 (
-        ap (λ (c : Choice). given c (with_items (with_value s item.option (number item.digits)) items)) same.0
-        ∙ kept (with_value s item.option (number item.digits)) item.option items once.0
-        ∙ given_same s item.option (number item.digits))
+      ap (λ (c : Choice). given c (with_items (with_value s item.option (number item.digits)) items)) same.0
+      ∙ kept (with_value s item.option (number item.digits)) item.option items once.0
+      ∙ given_same s item.option (number item.digits))
   | inr other ↦
       rw other.1 (given_items (with_value s item.option (number item.digits)) option items (given_other s option item.option (number item.digits) other.0 ∙ free) once.1)
 ]
@@ -49,7 +49,7 @@ told_some : (words : List (List ℕ)) (asked : Asked) → asked_from start words
 told_some words asked e =
     let read = read_words start words asked e in
     let same : Some asked ≡ Some (asked_of read.items) = sym read.end ∙ asks read.items read.once in
-    record { items = read.items; spelled = record { words = read.words; items = read.all; once = read.once }; asks = cc }
+    record { items = read.items; spelled = record { whole = read.whole; fit = read.all; once = read.once }; asks = cc }
 
 pub ask_of : (words : List (List ℕ)) (told : Option Asked) → told ≡ asked_from start words → IfSome told (Ask words)
 ask_of words None e = tt
@@ -59,5 +59,5 @@ pub none_accepted : (words : List (List ℕ)) (told : Option Asked) → told ≡
 none_accepted words told e none = λ accepted.
     let spelled = accepted.spelled in
     let read : asked_from start words ≡ Some (asked_of accepted.items) =
-        ap (asked_from start) spelled.words ∙ read_items start accepted.items spelled.items spelled.once (free_start accepted.items) ∙ asks accepted.items spelled.once in
+    ap (asked_from start) spelled.whole ∙ read_items start accepted.items spelled.fit spelled.once (free_start accepted.items) ∙ asks accepted.items spelled.once in
     let wrong : None ≡ Some (asked_of accepted.items) = sym none ∙ e ∙ read in cc

@@ -3,7 +3,7 @@ use Rattle.std.proofs.Common.{◌≡◌, ℕ, ◌+◌, ◌-◌, ◌*◌, ◌<◌
 use Rattle.std.specs.List.{list_all}
 use Rattle.std.proofs.lemmas.Bool.{cases_Bool}
 use Rattle.std.proofs.lemmas.Bool.Decides.{nat_tests}
-use Rattle.rv_words.specs.declared.asked.Choice.{Choice}
+use Rattle.rv_words.specs.declared.choices.Choice.{Choice}
 use Rattle.rv_words.specs.Words.{IsValue, greatest, is_digit, number_behind, number}
 use Rattle.rv_words.specs.Reading.{held_to, number_from, value}
 
@@ -59,7 +59,7 @@ held_value option digits n (Some m) some few r e = elim (cases_Bool (nat_le m (g
       let same : m ≡ n = cc in
       let parts = reads 0 m digits r in
       let within : m ≤ greatest option = at_most m (greatest option) t in
-      record { is = record { some = some; few = few; decimal = parts.decimal; within = rw ← parts.number within }; number = sym same ∙ parts.number }
+      record { is = record { some = some; few = few; decimal = parts.decimal; within = rw (← parts.number) within }; number = sym same ∙ parts.number }
   | inr f ↦ let wrong = rw f at e in cc
 ]
 

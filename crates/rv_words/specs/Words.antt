@@ -1,9 +1,9 @@
 -- The words that the program accepts, and what they ask.
-use Rattle.std.specs.Prelude.{◌≡◌, ℕ, ◌+◌, ◌-◌, ◌*◌, ◌≤◌, ◌&&◌, ◌≢◌, List, [], ◌∷◌, ◌++◌, Bool, true, Option, Some, None, codes, flat_map, if◌then◌else◌, length, nat_le, unwrap_or, option_map}
+use Rattle.std.specs.Prelude.{◌≡◌, ℕ, ◌+◌, ◌-◌, ◌*◌, ◌≤◌, ◌&&◌, ◌≢◌, List, [], ◌∷◌, ◌++◌, Bool, true, false, Option, Some, None, codes, flat_map, if◌then◌else◌, length, nat_le, unwrap_or, option_map}
 use Rattle.std.specs.List.{AllByRecursion, list_all}
-use Rattle.rv_words.specs.declared.asked.Choice.{Choice}
-use Rattle.rv_words.specs.declared.asked.Choice.TheVariants.{Judge, Steps, Gen}
-use Rattle.rv_words.specs.declared.asked.Asked.{Asked}
+use Rattle.rv_words.specs.declared.choices.Choice.{Choice}
+use Rattle.rv_words.specs.declared.choices.Choice.TheVariants.{Judge, Steps, Gen}
+use Rattle.rv_words.specs.declared.choices.Asked.{Asked}
 
 -- ---- the options
 
@@ -48,7 +48,7 @@ pub record Item : Type 0 where
 
 abbrev pub words_of : Item → List (List ℕ)
 words_of item = if item.behind
-    then (name_of item.option ++ codes "=" ++ item.digits) ∷ []
+    then (name_of item.option ++ (codes "=" ++ item.digits)) ∷ []
     else name_of item.option ∷ item.digits ∷ []
 
 abbrev pub IsItem : Item → Type 0
@@ -64,8 +64,8 @@ Once (item ∷ items) = Lacks item.option items × Once items
 
 -- The words are these items, one after another, each option at most once.
 pub record Spell (words : List (List ℕ)) (items : List Item) : Type 0 where
-  pub words : words ≡ flat_map words_of items
-  pub items : AllByRecursion IsItem items
+  pub whole : words ≡ flat_map words_of items
+  pub fit : AllByRecursion IsItem items
   pub once : Once items
 
 -- The words are a list of items.

@@ -3,7 +3,7 @@ ghost use Rattle.std.specs.Prelude.{◌≡◌, ◌==◌, ◌<◌, Option, Some, 
 ghost use Rattle.rv_words.specs.Reading.{choice_of, form};
 ghost use Rattle.rv_words.specs.Forms.{form_of};
 
-use crate::asked::Choice;
+use crate::choices::Choice;
 
 /// What a word is where an item begins.
 #[derive(Clone, Copy)]
@@ -16,7 +16,7 @@ pub enum Form<'a> {
 }
 
 /// What a word is: it is cut at its first `=`, where there is one.
-pub fn form(word: &[u8]) -> Form<'_>
+pub fn read_form(word: &[u8]) -> Form<'_>
     ensures { form_of result ≡ form word.now }
 {
     match equals_sign(word) {
@@ -54,13 +54,13 @@ fn joined(option: Option<Choice>, digits: &[u8]) -> Form<'_>
 fn choice(name: &[u8]) -> Option<Choice>
     ensures { result ≡ choice_of name.now }
 {
-    if name == b"--judge" {
+    if name == b"--judge".as_slice() {
         return Some(Choice::Judge);
     }
-    if name == b"--steps" {
+    if name == b"--steps".as_slice() {
         return Some(Choice::Steps);
     }
-    if name == b"--gen" {
+    if name == b"--gen".as_slice() {
         return Some(Choice::Gen);
     }
     None

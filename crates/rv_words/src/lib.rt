@@ -1,11 +1,11 @@
 //! The words of the command line: which are accepted, and what they ask.
 #![tactic(auto)]
 
-pub mod asked;
+pub mod choices;
 mod form;
 mod reading;
 #[cfg(test)]
 mod tests;
 
-pub use asked::{Asked, Choice};
+pub use choices::{Asked, Choice};
 pub use reading::{accepted, asked};

@@ -1,11 +1,11 @@
 //! Words read one after another.
-ghost use Rattle.std.specs.Prelude.{◌≡◌, ◌≤◌, ◌↔◌, ¬◌, None, IfSome, IsTrue};
+ghost use Rattle.std.specs.Prelude.{◌≡◌, ◌≤◌, ◌↔◌, None, IfSome, IsTrue};
 ghost use Rattle.rv_words.specs.Forms.{form_of};
 ghost use Rattle.rv_words.specs.Reading.{asked_from, ended, number_from, start, value, with_form, with_new, with_word};
 ghost use Rattle.rv_words.specs.Words.{AreAccepted, Ask, greatest};
 
-use crate::asked::{Asked, Choice};
-use crate::form::{Form, form};
+use crate::choices::{Asked, Choice};
+use crate::form::{Form, read_form};
 use rv_value::Text;
 
 /// The values that were read so far, and the option whose value is the next word.
@@ -56,7 +56,7 @@ fn with_word(sofar: Sofar, word: &[u8]) -> Option<Sofar>
     ensures { result ≡ with_word sofar word.now }
 {
     match sofar.waiting {
-        None => with_form(sofar, form(word)),
+        None => with_form(sofar, read_form(word)),
         Some(option) => with_new(without_waiting(sofar), option, value(option, word)),
     }
 }
@@ -71,7 +71,7 @@ fn without_waiting(sofar: Sofar) -> Sofar
 }
 
 fn with_form(sofar: Sofar, form: Form<'_>) -> Option<Sofar>
-    ensures { result ≡ with_form sofar (form_of form) }
+    ensures { result ≡ with_form sofar (form_of form.entry) }
 {
     match form {
         Form::Named(option) => Some(Sofar {
