@@ -1,5 +1,5 @@
 -- A trace goes on telling a run of the course, happening by happening.
-use Rattle.std.proofs.Common.{◌≡◌, ◌∙◌, ℕ, ◌+◌, ◌*◌, ◌-◌, ◌<◌, ◌≤◌, List, [], ◌∷◌, ◌++◌, Bool, true, false, not, ◌&&◌, ◌||◌, Option, Some, None, is_some, length, drop, map, nat_lt, nat_eq, refl, ap, sym, subst, arith, append_assoc, append-nil, length-append, zero, suc, inl, inr}
+use Rattle.std.proofs.Common.{◌≡◌, ◌∙◌, ℕ, ◌+◌, ◌*◌, ◌-◌, ◌<◌, ◌≤◌, List, [], ◌∷◌, ◌++◌, Bool, true, false, not, ◌&&◌, ◌||◌, Option, Some, None, is_some, length, drop, nat_lt, nat_eq, refl, ap, sym, subst, arith, append_assoc, append-nil, length-append, zero, suc, inl, inr}
 use Rattle.std.proofs.lemmas.Bool.{cases_Bool}
 use Rattle.std.proofs.lemmas.Bool.Decides.{nat_tests}
 use Rattle.rv_judge.specs.declared.events.Control.{Control}

@@ -1,5 +1,5 @@
 -- What a step does, from what its parts do.
-use Rattle.std.proofs.Common.{◌≡◌, ◌∙◌, ℕ, ◌+◌, List, [], ◌∷◌, Bool, true, false, not, cond, ◌&&◌, Option, Some, None, Result, Ok, Err, IfOk, drop, find, is_some, length, nat_lt, refl, ap, sym, subst, arith, inl, inr, ◌==◌}
+use Rattle.std.proofs.Common.{◌≡◌, ◌∙◌, ℕ, ◌+◌, ◌∷◌, Bool, true, false, not, ◌&&◌, Option, Some, None, Result, Ok, Err, IfOk, drop, find, length, refl, ap, sym, subst, arith, inl, inr, ◌==◌}
 use Rattle.std.specs.Prelude.{if◌then◌else◌}
 use Rattle.std.proofs.lemmas.Bool.{cases_Bool}
 use Rattle.rv_value.specs.declared.record.Record.{Record}
@@ -14,13 +14,12 @@ use Rattle.rv_judge.specs.declared.events.Strategy.{Strategy}
 use Rattle.rv_judge.specs.declared.events.Strategy.TheVariants.{FastFirst}
 use Rattle.rv_judge.specs.declared.judging.Facts.{Facts}
 use Rattle.rv_judge.specs.declared.judging.Verdict.{Verdict}
-use Rattle.rv_restrict.specs.declared.atom.Atom.{Atom}
 use Rattle.rv_restrict.specs.Truth.{qualifies}
 use Rattle.rv_reader.specs.Shown.{Shown}
 use Rattle.rv_reader.specs.Tables.{row_at}
 use Rattle.rv_scan.specs.Alongs.{looked}
 use Rattle.rv_scan.specs.declared.skip.Scanned.{Scanned}
-use Rattle.rv_scan.specs.declared.skip.Scanned.TheVariants.{Found, Working, End}
+use Rattle.rv_scan.specs.declared.skip.Scanned.TheVariants.{Found, Working}
 use Rattle.rv_jscan.specs.declared.jscan.Given.{Given}
 use Rattle.rv_jscan.specs.declared.jscan.Given.TheVariants.{Accepted, Stale}
 use Rattle.rv_jscan.specs.Joint.{Joint, under_way}
@@ -29,9 +28,8 @@ use Rattle.rv_jscan.specs.Steps.{TakeLeaves}
 use Rattle.rv_retrieval.specs.Accounts.{IsFresh, NextBorrowed, first_fresh, fresh_of}
 use Rattle.rv_retrieval.specs.Given.{Answers, AwaitsPiece, TakesLeafBy}
 use Rattle.rv_retrieval.specs.Rulings.{GivesOn}
-use Rattle.rv_retrieval.specs.Shape.{Shape, given_as, is_background, lending, rows_of}
+use Rattle.rv_retrieval.specs.Shape.{Shape, is_background, lending, rows_of}
 use Rattle.rv_retrieval.specs.Stepping.{Borrows, DoesAs, DoesIts, Kind, Piece, Remembered, StepsBackground, StepsBehind, filled, is_awaiting, kind_of, while_both}
-use Rattle.rv_retrieval.proofs.Chosen.{no_way}
 use Rattle.rv_retrieval.proofs.Rests.{found_row}
 
 -- a delivered key is passed over

@@ -1,5 +1,5 @@
 -- What a retrieval's calls do keeps its trace telling a run of the course.
-use Rattle.std.proofs.Common.{◌≡◌, ◌∙◌, ℕ, ◌+◌, ◌<◌, ◌≤◌, ◌==◌, List, [], ◌∷◌, Bool, true, false, not, cond, ◌&&◌, ◌||◌, Option, Some, None, Result, Ok, Err, IfOk, IsSome, OnErr, inl, inr, is_some, length, nat_lt, nat_eq, refl, ap, sym, subst, arith}
+use Rattle.std.proofs.Common.{◌≡◌, ◌∙◌, ℕ, ◌+◌, ◌<◌, ◌≤◌, ◌==◌, List, [], ◌∷◌, Bool, true, false, not, ◌&&◌, ◌||◌, Option, Some, None, Result, Ok, Err, IfOk, OnErr, inl, inr, is_some, length, nat_lt, nat_eq, refl, ap, sym, subst, arith}
 use Rattle.std.specs.Prelude.{if◌then◌else◌}
 use Rattle.std.proofs.lemmas.Bool.{cases_Bool}
 use Rattle.std.proofs.lemmas.Bool.Decides.{nat_tests}
@@ -17,7 +17,6 @@ use Rattle.rv_judge.specs.declared.events.Event.TheVariants.{At, Scan, List as L
 use Rattle.rv_judge.specs.declared.events.Happening.TheVariants.{ScanEnded, Ruled, Full, FrontEnded, FinalEnded}
 use Rattle.rv_judge.specs.declared.events.Strategy.{Strategy}
 use Rattle.rv_judge.specs.declared.events.Strategy.TheVariants.{Table, BackgroundOnly, FastFirst, Sorted, IndexOnly}
-use Rattle.rv_judge.specs.declared.events.Trace.{Trace}
 use Rattle.rv_judge.specs.declared.judging.Facts.{Facts}
 use Rattle.rv_judge.specs.declared.judging.Verdict.{Verdict}
 use Rattle.rv_judge.specs.declared.judging.Verdict.TheVariants.{Continue, AbandonScan, AbandonForeground, AbandonBackground}
@@ -29,18 +28,17 @@ use Rattle.rv_jscan.specs.declared.jscan.Given.TheVariants.{Accepted, Stale}
 use Rattle.rv_jscan.specs.declared.jscan.ScanPlan.{ScanPlan}
 use Rattle.rv_jscan.specs.Joint.{Joint, is_empty_list, plan_at, under_way}
 use Rattle.rv_jscan.specs.Pieces.{Pieced}
-use Rattle.rv_jscan.specs.Steps.{Accepts, TakeLeaves, abandoned, completed, counts_read, going, held_next}
+use Rattle.rv_jscan.specs.Steps.{Accepts, abandoned, completed, counts_read, going, held_next}
 use Rattle.rv_reader.specs.Shown.{Shown}
 use Rattle.rv_scan.specs.declared.skip.Scanned.{Scanned}
 use Rattle.rv_scan.specs.declared.skip.Scanned.TheVariants.{Found, Working, End}
 use Rattle.rv_retrieval.specs.Accounts.{account_of, fresh_of}
-use Rattle.rv_retrieval.specs.Given.{Answers, AwaitsPiece, more_behind}
+use Rattle.rv_retrieval.specs.Given.{Answers, more_behind}
 use Rattle.rv_retrieval.specs.Rulings.{GivesOn, Obeyed, Obeys, dropping, going_on, gone, listed, ruled, scan_over}
 use Rattle.rv_retrieval.specs.Runs.{SameCourse, Tells, TellsOf, events_left, goes_on, indexes_asked, indexes_of}
-use Rattle.rv_retrieval.specs.Shape.{Ahead, Shape, is_background, is_building, is_led, rows_of, source, source_of}
-use Rattle.rv_retrieval.specs.Stepping.{Borrows, DoesAs, DoesIts, Remembered, RemembersBy, StepsBackground, StepsBehind, ended_by, filled, is_awaiting, kind_of}
+use Rattle.rv_retrieval.specs.Shape.{Ahead, Shape, is_background, is_led, rows_of, source, source_of}
+use Rattle.rv_retrieval.specs.Stepping.{Borrows, DoesAs, DoesIts, RemembersBy, StepsBackground, StepsBehind, ended_by, filled, is_awaiting, kind_of}
 use Rattle.rv_retrieval.specs.Telling.{can_stop, counted, events_for, index_of, list_len, noted, with_events}
-use Rattle.rv_retrieval.proofs.Chosen.{no_way}
 use Rattle.rv_retrieval.proofs.Running.{all_tells, drop_tells_last, drop_tells_on, final_tells, front_tells, full_tells_fast, full_tells_index, list_tells_last, list_tells_on, stop_tells}
 use Rattle.rv_retrieval.proofs.Turns.{final_row, front_row}
 

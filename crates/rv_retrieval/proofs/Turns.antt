@@ -10,10 +10,9 @@ use Rattle.rv_judge.specs.declared.events.Strategy.{Strategy}
 use Rattle.rv_judge.specs.declared.events.Strategy.TheVariants.{Table, BackgroundOnly, FastFirst, Sorted, IndexOnly}
 use Rattle.rv_judge.specs.declared.judging.Verdict.TheVariants.{AbandonScan, AbandonForeground, AbandonBackground}
 use Rattle.rv_judge.specs.Course.{building, fast_first, final, foreground_alone, has_row, index_only, next_control}
-use Rattle.rv_judge.specs.Runs.{Standing, Turn, after, begun, events_of, idle, scan_events, scans}
+use Rattle.rv_judge.specs.Runs.{Standing, after, begun, events_of, idle, scan_events}
 use Rattle.rv_retrieval.specs.Shape.{is_background, is_building, is_led}
 use Rattle.rv_retrieval.specs.Runs.{runs_both}
-use Rattle.rv_retrieval.proofs.Chosen.{no_way}
 
 -- a turn where the run stands puts these events into the trace and leads there
 pub record OneTurn (strategy : Strategy) (s : Standing) (happening : Happening) (keys : ℕ) (events : List Event) (next : Standing) : Type 0 where
@@ -25,28 +24,28 @@ standing now scan ahead listed = record { control = now; scan = scan; ahead = ah
 
 -- a scan completes
 pub list_on : (st : Strategy) (now : Control) (i : ℕ) (ahead : List ℕ) (l : Option ℕ) (keys : ℕ) → is_background now ≡ true → (is_building now ≡ true → runs_both st ≡ true) → OneTurn st (standing now (Some i) ahead l) (ScanEnded true true) keys (ListOf i keys ∷ scan_events (begun now ahead (Some keys)).scan) (begun now ahead (Some keys))
-list_on st BackgroundAlone i ahead l keys  back both = record { told = refl; moves = refl }
-list_on FastFirst Building i ahead l keys  back both = record { told = refl; moves = refl }
-list_on Sorted Building i ahead l keys  back both = record { told = refl; moves = refl }
-list_on IndexOnly Building i ahead l keys  back both = record { told = refl; moves = refl }
-list_on Table Building i ahead l keys  back both = let bad : false ≡ true = both refl in absurd (cc)
-list_on BackgroundOnly Building i ahead l keys  back both = let bad : false ≡ true = both refl in absurd (cc)
-list_on st ForegroundAlone i ahead l keys  back both = absurd (cc)
-list_on st FinalList i ahead l keys  back both = absurd (cc)
-list_on st FinalTable i ahead l keys  back both = absurd (cc)
-list_on st Done i ahead l keys  back both = absurd (cc)
+list_on st BackgroundAlone i ahead l keys back both = record { told = refl; moves = refl }
+list_on FastFirst Building i ahead l keys back both = record { told = refl; moves = refl }
+list_on Sorted Building i ahead l keys back both = record { told = refl; moves = refl }
+list_on IndexOnly Building i ahead l keys back both = record { told = refl; moves = refl }
+list_on Table Building i ahead l keys back both = let bad : false ≡ true = both refl in absurd (cc)
+list_on BackgroundOnly Building i ahead l keys back both = let bad : false ≡ true = both refl in absurd (cc)
+list_on st ForegroundAlone i ahead l keys back both = absurd (cc)
+list_on st FinalList i ahead l keys back both = absurd (cc)
+list_on st FinalTable i ahead l keys back both = absurd (cc)
+list_on st Done i ahead l keys back both = absurd (cc)
 
 pub list_last : (st : Strategy) (now : Control) (i : ℕ) (ahead : List ℕ) (l : Option ℕ) (keys : ℕ) → is_background now ≡ true → (is_building now ≡ true → runs_both st ≡ true) → OneTurn st (standing now (Some i) ahead l) (ScanEnded false true) keys (ListOf i keys ∷ At (next_control st now (ScanEnded false true)) ∷ []) (idle (next_control st now (ScanEnded false true)) ahead (Some keys))
-list_last st BackgroundAlone i ahead l keys  back both = record { told = refl; moves = refl }
-list_last FastFirst Building i ahead l keys  back both = record { told = refl; moves = refl }
-list_last Sorted Building i ahead l keys  back both = record { told = refl; moves = refl }
-list_last IndexOnly Building i ahead l keys  back both = record { told = refl; moves = refl }
-list_last Table Building i ahead l keys  back both = let bad : false ≡ true = both refl in absurd (cc)
-list_last BackgroundOnly Building i ahead l keys  back both = let bad : false ≡ true = both refl in absurd (cc)
-list_last st ForegroundAlone i ahead l keys  back both = absurd (cc)
-list_last st FinalList i ahead l keys  back both = absurd (cc)
-list_last st FinalTable i ahead l keys  back both = absurd (cc)
-list_last st Done i ahead l keys  back both = absurd (cc)
+list_last st BackgroundAlone i ahead l keys back both = record { told = refl; moves = refl }
+list_last FastFirst Building i ahead l keys back both = record { told = refl; moves = refl }
+list_last Sorted Building i ahead l keys back both = record { told = refl; moves = refl }
+list_last IndexOnly Building i ahead l keys back both = record { told = refl; moves = refl }
+list_last Table Building i ahead l keys back both = let bad : false ≡ true = both refl in absurd (cc)
+list_last BackgroundOnly Building i ahead l keys back both = let bad : false ≡ true = both refl in absurd (cc)
+list_last st ForegroundAlone i ahead l keys back both = absurd (cc)
+list_last st FinalList i ahead l keys back both = absurd (cc)
+list_last st FinalTable i ahead l keys back both = absurd (cc)
+list_last st Done i ahead l keys back both = absurd (cc)
 
 -- a scan is dropped
 pub drop_on : (st : Strategy) (now : Control) (i : ℕ) (ahead : List ℕ) (l : Option ℕ) (listed : Bool) → is_background now ≡ true → (is_building now ≡ true → runs_both st ≡ true) → OneTurn st (standing now (Some i) ahead l) (Ruled AbandonScan true listed) 0 (Drop i ∷ scan_events (begun now ahead l).scan) (begun now ahead l)
@@ -108,16 +107,16 @@ drop_all st Done i ahead l a b back both = absurd (cc)
 
 -- none of these leads to a background
 pub list_rests : (st : Strategy) (now : Control) → is_background now ≡ true → (is_building now ≡ true → runs_both st ≡ true) → is_background (next_control st now (ScanEnded false true)) ≡ false
-list_rests st BackgroundAlone  back both = refl
-list_rests FastFirst Building  back both = refl
-list_rests Sorted Building  back both = refl
-list_rests IndexOnly Building  back both = refl
-list_rests Table Building  back both = let bad : false ≡ true = both refl in absurd (cc)
-list_rests BackgroundOnly Building  back both = let bad : false ≡ true = both refl in absurd (cc)
-list_rests st ForegroundAlone  back both = absurd (cc)
-list_rests st FinalList  back both = absurd (cc)
-list_rests st FinalTable  back both = absurd (cc)
-list_rests st Done  back both = absurd (cc)
+list_rests st BackgroundAlone back both = refl
+list_rests FastFirst Building back both = refl
+list_rests Sorted Building back both = refl
+list_rests IndexOnly Building back both = refl
+list_rests Table Building back both = let bad : false ≡ true = both refl in absurd (cc)
+list_rests BackgroundOnly Building back both = let bad : false ≡ true = both refl in absurd (cc)
+list_rests st ForegroundAlone back both = absurd (cc)
+list_rests st FinalList back both = absurd (cc)
+list_rests st FinalTable back both = absurd (cc)
+list_rests st Done back both = absurd (cc)
 
 pub drop_rests : (st : Strategy) (now : Control) (listed : Bool) → is_background now ≡ true → (is_building now ≡ true → runs_both st ≡ true) → is_background (next_control st now (Ruled AbandonScan false listed)) ≡ false
 drop_rests st BackgroundAlone true back both = refl
