@@ -233,6 +233,7 @@ opens_alone st now plans indexes begins told off shut most few has once known = 
   scanned = has;
   once = once;
   known = known;
+  undropped = λ k low high. refl;
 }
 
 opens_with : (st : Strategy) (now : Control) (p : ScanPlan) (plans : List ScanPlan) (indexes : List ℕ) → start st (indexes_of (p ∷ plans)) ≡ standing_of now (p ∷ plans) 0 None → start_events st (indexes_of (p ∷ plans)) ≡ At now ∷ Scan p.index ∷ [] → (is_building now ≡ true → runs_both st ≡ true) → events_left now ≤ 4 → length (p ∷ plans) ≤ 8 → HasScans st (indexes_of (p ∷ plans)) → EachOnce (indexes_of (p ∷ plans)) → list_all (λ i. has_index i indexes) (indexes_of (p ∷ plans)) ≡ true → TellsOf st st now (p ∷ plans) 0 None indexes (At now ∷ Scan p.index ∷ [])
@@ -251,6 +252,7 @@ opens_with st now p plans indexes begins told both most few has once known = rec
   scanned = has;
   once = once;
   known = known;
+  undropped = λ k low high. refl;
 }
   where
     less : (a : Bool) → a ≡ true → (a && true) ≡ true

@@ -26,16 +26,18 @@ use Rattle.rv_judge.specs.Runs.{Allowed}
 use Rattle.rv_jscan.specs.declared.jscan.Given.{Given}
 use Rattle.rv_jscan.specs.declared.jscan.Given.TheVariants.{Accepted, Stale}
 use Rattle.rv_jscan.specs.declared.jscan.ScanPlan.{ScanPlan}
-use Rattle.rv_jscan.specs.Joint.{Joint, is_empty_list, plan_at, under_way}
+use Rattle.rv_jscan.specs.declared.jscan.Taken.{Taken}
+use Rattle.rv_jscan.specs.declared.jscan.Taken.TheVariants.{Piece, Nothing}
+use Rattle.rv_jscan.specs.Joint.{Joint, is_empty_list, plan_at, present, under_way}
 use Rattle.rv_jscan.specs.Pieces.{Pieced}
 use Rattle.rv_jscan.specs.Steps.{Accepts, abandoned, completed, counts_read, going, held_next}
 use Rattle.rv_reader.specs.Shown.{Shown}
 use Rattle.rv_scan.specs.declared.skip.Scanned.{Scanned}
 use Rattle.rv_scan.specs.declared.skip.Scanned.TheVariants.{Found, Working, End}
 use Rattle.rv_retrieval.specs.Accounts.{account_of, fresh_of}
-use Rattle.rv_retrieval.specs.Given.{Answers, more_behind}
+use Rattle.rv_retrieval.specs.Given.{Answers, TakesPiece, more_behind}
 use Rattle.rv_retrieval.specs.Rulings.{GivesOn, Obeyed, Obeys, dropping, going_on, gone, listed, ruled, scan_over}
-use Rattle.rv_retrieval.specs.Runs.{SameCourse, Tells, TellsOf, events_left, goes_on, indexes_asked, indexes_of}
+use Rattle.rv_retrieval.specs.Runs.{IsOfUndropped, SameCourse, Tells, TellsOf, events_left, goes_on, indexes_asked, indexes_of}
 use Rattle.rv_retrieval.specs.Shape.{Ahead, Shape, is_background, is_led, rows_of, source, source_of}
 use Rattle.rv_retrieval.specs.Stepping.{Borrows, DoesAs, DoesIts, RemembersBy, StepsBackground, StepsBehind, ended_by, filled, is_awaiting, kind_of}
 use Rattle.rv_retrieval.specs.Telling.{can_stop, counted, events_for, index_of, list_len, noted, with_events}
@@ -327,3 +329,12 @@ allowed v t = subst (λ (st : Strategy). Allowed (record v.trace { strategy = st
   run = t.run;
   told = t.told;
 })
+
+-- A piece that is handed out is of a scan that was not dropped.
+pub undropped_piece : {E : Type 0} (r : Result Taken E) (mid new : Shape) (c d : Counts) → IfOk r (TakesPiece mid) → new ≡ record mid { trace = counted mid.trace c d } → Tells new → IfOk r (IsOfUndropped new)
+undropped_piece (Ok (Piece piece)) mid new c d a e t =
+    let back : is_background new.control ≡ true = ap (λ (x : Shape). is_background x.control) e ∙ a.back in
+    let part = ap (λ (x : Shape). (present x.joint).part) (sym e) in
+    (a.awaits.part ∙ part, t.undropped new.joint.ended (omega arith) (less_is new.joint.ended (length new.joint.plans) (way_lt new.joint.plans new.joint.ended new.joint.list (t.way back))))
+undropped_piece (Ok Nothing) mid new c d a e t = tt
+undropped_piece (Err x) mid new c d a e t = tt

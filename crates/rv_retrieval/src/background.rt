@@ -4,7 +4,7 @@ ghost use Rattle.rv_judge.specs.declared.events.Event.{Event as TheEvent};
 ghost use Rattle.rv_jscan.specs.Joint.{under_way};
 ghost use Rattle.rv_retrieval.specs.Given.{Answers, TakesLeaf, TakesPiece};
 ghost use Rattle.rv_retrieval.specs.Rulings.{GivesOn, Obeys, dropped, listed, ruled, scan_over, stopped};
-ghost use Rattle.rv_retrieval.specs.Runs.{SameCourse, Tells};
+ghost use Rattle.rv_retrieval.specs.Runs.{IsOfUndropped, SameCourse, Tells};
 ghost use Rattle.rv_retrieval.specs.Shape.{DoesStep, EndsIn, Keeps, RetrievalFits, is_background, rest};
 ghost use Rattle.rv_retrieval.specs.Stepping.{StepsBackground, StepsBehind, is_awaiting};
 ghost use Rattle.rv_retrieval.specs.Telling.{CountsRise, SameCounts, can_stop, list_len, noted, noted_drop, noted_list, noted_scan};
@@ -221,6 +221,7 @@ impl Retrieval {
         ensures same { self.new ≡ record self.old { joint = self.new.joint; trace = self.new.trace } }
         ensures leaves { TakesLeaf self.old self.new.joint }
         ensures tells { Tells self.old → Tells self.new }
+        ensures undropped { Tells self.old → IfOk result (IsOfUndropped self.new) }
     {
         let before = steps.counts();
         let taken = self.take_piece(reader, steps);

@@ -16,7 +16,9 @@ ghost use Rattle.rv_retrieval.specs.Fronts.{SameFront, front_left, walk_of};
 ghost use Rattle.rv_retrieval.specs.Given.{awaited, more_behind};
 ghost use Rattle.rv_retrieval.specs.Opened.{Begun, has_scans};
 ghost use Rattle.rv_retrieval.specs.Opens.{Opens, first_of};
+ghost use Rattle.rv_judge.specs.Runs.{Allowed};
 ghost use Rattle.rv_retrieval.specs.Rest.{StepMarks, qualifying};
+ghost use Rattle.rv_retrieval.specs.Runs.{Tells, indexes_asked};
 ghost use Rattle.rv_retrieval.specs.Shape.{KeyAt, LastFits, LeastOf, NextKey, Remembers, RetrievalFits, Source, given_as, left_at, lending, front_entries, is_background, is_led, is_sorted, keys_left, rest, rows_of};
 ghost use Rattle.rv_retrieval.specs.Telling.{counted, index_of, list_len, new_trace, noted};
 
@@ -461,7 +463,8 @@ impl Retrieval {
 
     /// What it did so far.
     pub fn trace(&self) -> &Trace
-        ensures { result.now ≡ self.now.trace }
+        ensures now { result.now ≡ self.now.trace }
+        ensures allowed { Tells self.now → Allowed result.now (indexes_asked self.now.query) }
     {
         &self.trace
     }
