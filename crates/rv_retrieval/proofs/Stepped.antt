@@ -19,7 +19,7 @@ use Rattle.rv_reader.specs.Shown.{Shown}
 use Rattle.rv_reader.specs.Tables.{row_at}
 use Rattle.rv_scan.specs.Alongs.{looked}
 use Rattle.rv_scan.specs.declared.skip.Scanned.{Scanned}
-use Rattle.rv_scan.specs.declared.skip.Scanned.TheVariants.{Found, Working}
+use Rattle.rv_scan.specs.declared.skip.Scanned.TheVariants.{Found, Working, End}
 use Rattle.rv_jscan.specs.declared.jscan.Given.{Given}
 use Rattle.rv_jscan.specs.declared.jscan.Given.TheVariants.{Accepted, Stale}
 use Rattle.rv_jscan.specs.Joint.{Joint, under_way}
@@ -28,8 +28,8 @@ use Rattle.rv_jscan.specs.Steps.{TakeLeaves}
 use Rattle.rv_retrieval.specs.Accounts.{IsFresh, NextBorrowed, first_fresh, fresh_of}
 use Rattle.rv_retrieval.specs.Given.{Answers, AwaitsPiece, TakesLeafBy}
 use Rattle.rv_retrieval.specs.Rulings.{GivesOn}
-use Rattle.rv_retrieval.specs.Shape.{Shape, is_background, lending, rows_of}
-use Rattle.rv_retrieval.specs.Stepping.{Borrows, DoesAs, DoesIts, Kind, Piece, Remembered, StepsBackground, StepsBehind, filled, is_awaiting, kind_of, while_both}
+use Rattle.rv_retrieval.specs.Shape.{NextKey, Shape, keys_left, is_background, lending, rows_of}
+use Rattle.rv_retrieval.specs.Stepping.{Borrows, DoesAs, DoesIts, FetchesKey, IsFirstLeft, ListReads, first_left, Kind, Piece, Remembered, StepsBackground, StepsBehind, filled, is_awaiting, kind_of, while_both}
 use Rattle.rv_retrieval.proofs.Rests.{found_row}
 
 -- a delivered key is passed over
@@ -115,3 +115,22 @@ fast_behind (Ok s) would state after shown c d v mid new ec es e f none b =
     let fresh : fresh_of v ≡ None = ap (λ (x : Control). if building x && fast_first v.strategy then first_fresh v else None) ec ∙ ap (λ (x : Strategy). if fast_first x then first_fresh v else None) es ∙ none in
     let kind : kind_of v.control v.strategy (fresh_of v) ≡ Piece = ap (λ (x : Control). kind_of x v.strategy (fresh_of v)) ec ∙ ap (λ (x : Strategy). while_both x (fresh_of v)) es ∙ ap (while_both FastFirst) fresh in
     subst (λ (k : Kind). DoesAs k would state after shown c d s v new) (sym kind) (b.0, passed_first would state after v mid new e f b.1)
+
+-- The complete list in the final stage.
+
+pub passes_left : (v mid : Shape) (row : RowNo) → mid ≡ record v { at = v.at + 1 } → has_key row.0 v.delivered ≡ true → NextKey v.joint.list v.at row.0 → first_left mid ≡ first_left v
+passes_left v mid row e h n = ap first_left e ∙ sym (ap (find (λ (k : ℕ). not (has_key k v.delivered))) n.split ∙ gone)
+  where
+    gone : find (λ (k : ℕ). not (has_key k v.delivered)) (row.0 ∷ keys_left v.joint.list (v.at + 1)) ≡ find (λ (k : ℕ). not (has_key k v.delivered)) (keys_left v.joint.list (v.at + 1))
+    gone = rw h refl
+
+pub left_on : (v mid : Shape) (r : Option RowNo) → first_left mid ≡ first_left v → IsFirstLeft mid r → IsFirstLeft v r
+left_on v mid None e f = sym e ∙ f
+left_on v mid (Some row) e f = sym e ∙ f
+
+pub list_fetches : {E : Type 0} (r : Result Scanned E) (v mid : Shape) (row : RowNo) (shown : Shown) (c d : Counts) → mid ≡ record v { at = mid.at } → first_left v ≡ Some row.0 → d ≡ record_read c → IfOk r (λ s. s ≡ looked mid.query.only (row_at (rows_of mid shown) row.0)) → IfOk r (ListReads v shown c d)
+list_fetches (Err x) v mid row shown c d e f reads looks = tt
+list_fetches (Ok s) v mid row shown c d e f reads looks = subst (λ (k : Option ℕ). FetchesKey k v shown c d s) (sym f) (reads, looks ∙ ap (λ (x : Shape). looked x.query.only (row_at (rows_of x shown) row.0)) e)
+
+pub list_ends : (v : Shape) (shown : Shown) (c : Counts) → first_left v ≡ None → ListReads v shown c c End
+list_ends v shown c f = subst (λ (k : Option ℕ). FetchesKey k v shown c c End) (sym f) (refl, refl)

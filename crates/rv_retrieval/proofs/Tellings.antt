@@ -305,11 +305,11 @@ steps_tells would state after shown c d s v new led does t = go v.control v.stra
     go Building FastFirst None ec es b = behind (ap is_background ec) b.1
     go Building Table fresh ec es b = behind (ap is_background ec) b.1
     go Building BackgroundOnly fresh ec es b = behind (ap is_background ec) b.1
-    go Building Sorted fresh ec es b = walked s (record v { front = new.front }) new (ap is_led es) (ap (λ (x : Control). building x || foreground_alone x) ec) b.1 t
+    go Building Sorted fresh ec es b = walked s (record v { front = new.front }) new (ap is_led es) (ap (λ (x : Control). building x || foreground_alone x) ec) b.2 t
     go Building IndexOnly fresh ec es b = remembers s (record v { front = new.front }) new (can v.control v.strategy (ap building ec) (ap (λ (x : Strategy). fast_first x || index_only x) es)) (λ e. ap is_led es) b.1 t
-    go ForegroundAlone st fresh ec es b = walked s (record v { front = new.front }) new (led (ap (λ (x : Control). source_of x v.strategy) ec)) (ap (λ (x : Control). building x || foreground_alone x) ec) b.1 t
+    go ForegroundAlone st fresh ec es b = walked s (record v { front = new.front }) new (led (ap (λ (x : Control). source_of x v.strategy) ec)) (ap (λ (x : Control). building x || foreground_alone x) ec) b.2 t
     go BackgroundAlone st fresh ec es b = behind (ap is_background ec) b.1
-    go FinalList st fresh ec es b = passed s (record v { at = new.at }) new (ap final ec) b.1 t
+    go FinalList st fresh ec es b = passed s (record v { at = new.at }) new (ap final ec) b.2 t
     go FinalTable st fresh ec es b = passed s (record v { last = new.last }) new (ap final ec) b.1 t
     go Done st fresh ec es (_, _, e) = subst Tells (sym e) t
 

@@ -20,6 +20,7 @@ ghost use Rattle.rv_judge.specs.Runs.{Allowed};
 ghost use Rattle.rv_retrieval.specs.Rest.{StepMarks, qualifying};
 ghost use Rattle.rv_retrieval.specs.Runs.{Tells, indexes_asked};
 ghost use Rattle.rv_retrieval.specs.Shape.{KeyAt, LastFits, LeastOf, NextKey, Remembers, RetrievalFits, Source, given_as, left_at, lending, front_entries, is_background, is_led, is_sorted, keys_left, rest, rows_of};
+ghost use Rattle.rv_retrieval.specs.Stepping.{WalkReads};
 ghost use Rattle.rv_retrieval.specs.Telling.{counted, index_of, list_len, new_trace, noted};
 
 use crate::front::Front;
@@ -263,6 +264,7 @@ impl Retrieval {
         ensures follows { Follows (walk_of self.new.front) (front_entries self.old (R.shown reader.now)) }
         ensures least { is_sorted self.old.strategy ≡ true → IfOk result (LeastOf self.old (R.shown reader.now)) }
         ensures marks { let shown = R.shown reader.now in IfOk result (λ s. StepMarks self.old.query.need self.old.query.only (rows_of self.old shown) s (front_left self.old.front (front_entries self.old shown)) (front_left self.new.front (front_entries self.old shown))) }
+        ensures fetches { IfOk result (WalkReads self.old (R.shown reader.now) steps.old steps.new) }
         ensures err { OnErr result (self.new ≡ self.old) }
     {
         let skip = Skip {
