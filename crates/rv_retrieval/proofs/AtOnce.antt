@@ -1,5 +1,5 @@
 -- A scan at opening, and what a call counts.
-use Rattle.std.proofs.Common.{◌≡◌, ◌⊎◌, ◌∙◌, ◌-◌, ◌<◌, ℕ, ap, sym, subst, refl, true, false, Bool, ◌&&◌, List, Option, Some, None, IsSome, is_some, inl, inr, arith}
+use Rattle.std.proofs.Common.{◌≡◌, ◌⊎◌, ◌∙◌, ◌-◌, ◌<◌, ℕ, ap, sym, subst, refl, true, false, Bool, ◌&&◌, List, Option, IsSome, is_some, inl, inr, arith}
 use Rattle.std.specs.Prelude.{if◌then◌else◌}
 use Rattle.std.proofs.lemmas.Bool.{cases_Bool}
 use Rattle.rv_value.specs.declared.record.Record.{Record}

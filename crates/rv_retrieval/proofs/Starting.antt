@@ -1,5 +1,5 @@
 -- What was chosen begins a run of the course.
-use Rattle.std.proofs.Common.{◌≡◌, ◌∙◌, ℕ, zero, suc, ◌+◌, ◌*◌, ◌-◌, ◌<◌, ◌≤◌, List, [], ◌∷◌, ◌++◌, Bool, true, false, not, cond, ◌&&◌, ◌||◌, Option, Some, None, Result, Ok, Err, IfOk, IsSome, filter, map, length, nat_lt, nat_eq, refl, ap, sym, subst, arith, inl, inr}
+use Rattle.std.proofs.Common.{◌≡◌, ◌∙◌, ℕ, ◌<◌, ◌≤◌, List, [], ◌∷◌, ◌++◌, Bool, true, false, cond, ◌&&◌, ◌||◌, Option, Some, None, Result, Ok, Err, IfOk, IsSome, filter, map, length, nat_lt, nat_eq, refl, ap, sym, subst, arith, inl, inr}
 use Rattle.std.specs.List.{AllByRecursion, list_all}
 use Rattle.std.specs.Prelude.{if◌then◌else◌}
 use Rattle.std.proofs.lemmas.Bool.{cases_Bool, or_parts}
@@ -7,7 +7,7 @@ use Rattle.std.proofs.lemmas.Bool.Decides.{nat_tests}
 use Rattle.std.proofs.lemmas.List.{length-map}
 use Rattle.std.proofs.lemmas.List.Sorted.{All-permutation, IsPermutation-map, length_permutation}
 use Rattle.rv_keys.specs.Keys.{Once, has_key}
-use Rattle.rv_keys.proofs.Onces.{Once-IsPermutation, Once-cons, Once-head, Once-nil, Once-tail}
+use Rattle.rv_keys.proofs.Onces.{Once-IsPermutation, Once-cons, Once-head, Once-tail}
 use Rattle.rv_judge.specs.declared.counting.Counts.{Counts}
 use Rattle.rv_judge.specs.declared.events.Control.{Control}
 use Rattle.rv_judge.specs.declared.events.Control.TheVariants.{Building, ForegroundAlone, BackgroundAlone, FinalTable}
@@ -16,11 +16,11 @@ use Rattle.rv_judge.specs.declared.events.Event.TheVariants.{At, Scan}
 use Rattle.rv_judge.specs.declared.events.Happening.TheVariants.{ScanEnded}
 use Rattle.rv_judge.specs.declared.events.Strategy.{Strategy}
 use Rattle.rv_judge.specs.declared.events.Strategy.TheVariants.{Table, BackgroundOnly, FastFirst, Sorted, IndexOnly}
-use Rattle.rv_judge.specs.Runs.{EachOnce, HasScans, Standing, has_index, idle, start, start_events}
+use Rattle.rv_judge.specs.Runs.{EachOnce, HasScans, has_index, idle, start, start_events}
 use Rattle.rv_restrict.specs.declared.atom.Atom.{Atom}
 use Rattle.rv_reader.specs.Shown.{Shown}
 use Rattle.rv_jscan.specs.declared.jscan.ScanPlan.{ScanPlan}
-use Rattle.rv_jscan.specs.Joint.{Joint, plan_at}
+use Rattle.rv_jscan.specs.Joint.{Joint}
 use Rattle.rv_jscan.specs.Steps.{begun}
 use Rattle.rv_retrieval.specs.Asked.{CanAsk}
 use Rattle.rv_retrieval.specs.Choice.{AreScans, IsChosen, IsLeastOf, candidate_at, candidate_of, candidates_of, choice_of, is_scanned, order_index, plan_of, plans_of, restricted_choice}
@@ -36,7 +36,7 @@ use Rattle.rv_retrieval.specs.Fronts.{Front}
 use Rattle.rv_retrieval.specs.Opened.{Begun, RunsOut, Starts, has_scans, is_one, start_told}
 use Rattle.rv_retrieval.specs.Opens.{first_of}
 use Rattle.rv_retrieval.specs.Rulings.{gone, listed}
-use Rattle.rv_retrieval.specs.Runs.{Tells, TellsOf, events_left, goes_on, indexes_asked, indexes_of, runs_both, standing_of}
+use Rattle.rv_retrieval.specs.Runs.{Tells, TellsOf, events_left, indexes_asked, indexes_of, runs_both, standing_of}
 use Rattle.rv_retrieval.specs.Shape.{Shape, is_background, is_building}
 use Rattle.rv_retrieval.specs.Telling.{counted, events_for, index_of, new_trace, with_events}
 use Rattle.rv_retrieval.proofs.Chosen.{filter_some, from_all, no_way, one_found, to_all}
@@ -233,6 +233,7 @@ opens_alone st now plans indexes begins told off shut most few has once known = 
   scanned = has;
   once = once;
   known = known;
+  undropped = λ k low high. refl;
 }
 
 opens_with : (st : Strategy) (now : Control) (p : ScanPlan) (plans : List ScanPlan) (indexes : List ℕ) → start st (indexes_of (p ∷ plans)) ≡ standing_of now (p ∷ plans) 0 None → start_events st (indexes_of (p ∷ plans)) ≡ At now ∷ Scan p.index ∷ [] → (is_building now ≡ true → runs_both st ≡ true) → events_left now ≤ 4 → length (p ∷ plans) ≤ 8 → HasScans st (indexes_of (p ∷ plans)) → EachOnce (indexes_of (p ∷ plans)) → list_all (λ i. has_index i indexes) (indexes_of (p ∷ plans)) ≡ true → TellsOf st st now (p ∷ plans) 0 None indexes (At now ∷ Scan p.index ∷ [])
@@ -251,6 +252,7 @@ opens_with st now p plans indexes begins told both most few has once known = rec
   scanned = has;
   once = once;
   known = known;
+  undropped = λ k low high. refl;
 }
   where
     less : (a : Bool) → a ≡ true → (a && true) ≡ true

@@ -1,5 +1,5 @@
 -- What a retrieval's calls do keeps its trace telling a run of the course.
-use Rattle.std.proofs.Common.{◌≡◌, ◌∙◌, ℕ, ◌+◌, ◌<◌, ◌≤◌, ◌==◌, List, [], ◌∷◌, Bool, true, false, not, cond, ◌&&◌, ◌||◌, Option, Some, None, Result, Ok, Err, IfOk, IsSome, OnErr, inl, inr, is_some, length, nat_lt, nat_eq, refl, ap, sym, subst, arith}
+use Rattle.std.proofs.Common.{◌≡◌, ◌∙◌, ℕ, ◌+◌, ◌<◌, ◌≤◌, ◌==◌, List, [], ◌∷◌, Bool, true, false, not, ◌&&◌, ◌||◌, Option, Some, None, Result, Ok, Err, IfOk, OnErr, inl, inr, is_some, length, nat_lt, nat_eq, refl, ap, sym, subst, arith}
 use Rattle.std.specs.Prelude.{if◌then◌else◌}
 use Rattle.std.proofs.lemmas.Bool.{cases_Bool}
 use Rattle.std.proofs.lemmas.Bool.Decides.{nat_tests}
@@ -17,7 +17,6 @@ use Rattle.rv_judge.specs.declared.events.Event.TheVariants.{At, Scan, List as L
 use Rattle.rv_judge.specs.declared.events.Happening.TheVariants.{ScanEnded, Ruled, Full, FrontEnded, FinalEnded}
 use Rattle.rv_judge.specs.declared.events.Strategy.{Strategy}
 use Rattle.rv_judge.specs.declared.events.Strategy.TheVariants.{Table, BackgroundOnly, FastFirst, Sorted, IndexOnly}
-use Rattle.rv_judge.specs.declared.events.Trace.{Trace}
 use Rattle.rv_judge.specs.declared.judging.Facts.{Facts}
 use Rattle.rv_judge.specs.declared.judging.Verdict.{Verdict}
 use Rattle.rv_judge.specs.declared.judging.Verdict.TheVariants.{Continue, AbandonScan, AbandonForeground, AbandonBackground}
@@ -27,20 +26,21 @@ use Rattle.rv_judge.specs.Runs.{Allowed}
 use Rattle.rv_jscan.specs.declared.jscan.Given.{Given}
 use Rattle.rv_jscan.specs.declared.jscan.Given.TheVariants.{Accepted, Stale}
 use Rattle.rv_jscan.specs.declared.jscan.ScanPlan.{ScanPlan}
-use Rattle.rv_jscan.specs.Joint.{Joint, is_empty_list, plan_at, under_way}
+use Rattle.rv_jscan.specs.declared.jscan.Taken.{Taken}
+use Rattle.rv_jscan.specs.declared.jscan.Taken.TheVariants.{Piece, Nothing}
+use Rattle.rv_jscan.specs.Joint.{Joint, is_empty_list, plan_at, present, under_way}
 use Rattle.rv_jscan.specs.Pieces.{Pieced}
-use Rattle.rv_jscan.specs.Steps.{Accepts, TakeLeaves, abandoned, completed, counts_read, going, held_next}
+use Rattle.rv_jscan.specs.Steps.{Accepts, abandoned, completed, counts_read, going, held_next}
 use Rattle.rv_reader.specs.Shown.{Shown}
 use Rattle.rv_scan.specs.declared.skip.Scanned.{Scanned}
 use Rattle.rv_scan.specs.declared.skip.Scanned.TheVariants.{Found, Working, End}
 use Rattle.rv_retrieval.specs.Accounts.{account_of, fresh_of}
-use Rattle.rv_retrieval.specs.Given.{Answers, AwaitsPiece, more_behind}
+use Rattle.rv_retrieval.specs.Given.{Answers, TakesPiece, more_behind}
 use Rattle.rv_retrieval.specs.Rulings.{GivesOn, Obeyed, Obeys, dropping, going_on, gone, listed, ruled, scan_over}
-use Rattle.rv_retrieval.specs.Runs.{SameCourse, Tells, TellsOf, events_left, goes_on, indexes_asked, indexes_of}
-use Rattle.rv_retrieval.specs.Shape.{Ahead, Shape, is_background, is_building, is_led, rows_of, source, source_of}
-use Rattle.rv_retrieval.specs.Stepping.{Borrows, DoesAs, DoesIts, Remembered, RemembersBy, StepsBackground, StepsBehind, ended_by, filled, is_awaiting, kind_of}
+use Rattle.rv_retrieval.specs.Runs.{IsOfUndropped, SameCourse, Tells, TellsOf, events_left, goes_on, indexes_asked, indexes_of}
+use Rattle.rv_retrieval.specs.Shape.{Ahead, Shape, is_background, is_led, rows_of, source, source_of}
+use Rattle.rv_retrieval.specs.Stepping.{Borrows, DoesAs, DoesIts, RemembersBy, StepsBackground, StepsBehind, ended_by, filled, is_awaiting, kind_of}
 use Rattle.rv_retrieval.specs.Telling.{can_stop, counted, events_for, index_of, list_len, noted, with_events}
-use Rattle.rv_retrieval.proofs.Chosen.{no_way}
 use Rattle.rv_retrieval.proofs.Running.{all_tells, drop_tells_last, drop_tells_on, final_tells, front_tells, full_tells_fast, full_tells_index, list_tells_last, list_tells_on, stop_tells}
 use Rattle.rv_retrieval.proofs.Turns.{final_row, front_row}
 
@@ -305,11 +305,11 @@ steps_tells would state after shown c d s v new led does t = go v.control v.stra
     go Building FastFirst None ec es b = behind (ap is_background ec) b.1
     go Building Table fresh ec es b = behind (ap is_background ec) b.1
     go Building BackgroundOnly fresh ec es b = behind (ap is_background ec) b.1
-    go Building Sorted fresh ec es b = walked s (record v { front = new.front }) new (ap is_led es) (ap (λ (x : Control). building x || foreground_alone x) ec) b.1 t
+    go Building Sorted fresh ec es b = walked s (record v { front = new.front }) new (ap is_led es) (ap (λ (x : Control). building x || foreground_alone x) ec) b.2 t
     go Building IndexOnly fresh ec es b = remembers s (record v { front = new.front }) new (can v.control v.strategy (ap building ec) (ap (λ (x : Strategy). fast_first x || index_only x) es)) (λ e. ap is_led es) b.1 t
-    go ForegroundAlone st fresh ec es b = walked s (record v { front = new.front }) new (led (ap (λ (x : Control). source_of x v.strategy) ec)) (ap (λ (x : Control). building x || foreground_alone x) ec) b.1 t
+    go ForegroundAlone st fresh ec es b = walked s (record v { front = new.front }) new (led (ap (λ (x : Control). source_of x v.strategy) ec)) (ap (λ (x : Control). building x || foreground_alone x) ec) b.2 t
     go BackgroundAlone st fresh ec es b = behind (ap is_background ec) b.1
-    go FinalList st fresh ec es b = passed s (record v { at = new.at }) new (ap final ec) b.1 t
+    go FinalList st fresh ec es b = passed s (record v { at = new.at }) new (ap final ec) b.2 t
     go FinalTable st fresh ec es b = passed s (record v { last = new.last }) new (ap final ec) b.1 t
     go Done st fresh ec es (_, _, e) = subst Tells (sym e) t
 
@@ -329,3 +329,12 @@ allowed v t = subst (λ (st : Strategy). Allowed (record v.trace { strategy = st
   run = t.run;
   told = t.told;
 })
+
+-- A piece that is handed out is of a scan that was not dropped.
+pub undropped_piece : {E : Type 0} (r : Result Taken E) (mid new : Shape) (c d : Counts) → IfOk r (TakesPiece mid) → new ≡ record mid { trace = counted mid.trace c d } → Tells new → IfOk r (IsOfUndropped new)
+undropped_piece (Ok (Piece piece)) mid new c d a e t =
+    let back : is_background new.control ≡ true = ap (λ (x : Shape). is_background x.control) e ∙ a.back in
+    let part = ap (λ (x : Shape). (present x.joint).part) (sym e) in
+    (a.awaits.part ∙ part, t.undropped new.joint.ended (omega arith) (less_is new.joint.ended (length new.joint.plans) (way_lt new.joint.plans new.joint.ended new.joint.list (t.way back))))
+undropped_piece (Ok Nothing) mid new c d a e t = tt
+undropped_piece (Err x) mid new c d a e t = tt

@@ -10,10 +10,9 @@ use Rattle.rv_judge.specs.declared.events.Strategy.{Strategy}
 use Rattle.rv_judge.specs.declared.events.Strategy.TheVariants.{Table, BackgroundOnly, FastFirst, Sorted, IndexOnly}
 use Rattle.rv_judge.specs.declared.judging.Verdict.TheVariants.{AbandonScan, AbandonForeground, AbandonBackground}
 use Rattle.rv_judge.specs.Course.{building, fast_first, final, foreground_alone, has_row, index_only, next_control}
-use Rattle.rv_judge.specs.Runs.{Standing, Turn, after, begun, events_of, idle, scan_events, scans}
+use Rattle.rv_judge.specs.Runs.{Standing, after, begun, events_of, idle, scan_events}
 use Rattle.rv_retrieval.specs.Shape.{is_background, is_building, is_led}
 use Rattle.rv_retrieval.specs.Runs.{runs_both}
-use Rattle.rv_retrieval.proofs.Chosen.{no_way}
 
 -- a turn where the run stands puts these events into the trace and leads there
 pub record OneTurn (strategy : Strategy) (s : Standing) (happening : Happening) (keys : ℕ) (events : List Event) (next : Standing) : Type 0 where

@@ -1,14 +1,17 @@
 -- The run of the course that a retrieval has taken, as its trace tells it.
-use Rattle.std.specs.Prelude.{◌≡◌, ℕ, ◌+◌, ◌*◌, ◌-◌, ◌≤◌, Bool, true, false, not, ◌&&◌, ◌||◌, List, ◌++◌, map, drop, length, nat_lt, Option, Some}
-use Rattle.std.specs.List.{list_all}
+use Rattle.std.specs.Prelude.{◌≡◌, ℕ, ◌+◌, ◌*◌, ◌-◌, ◌<◌, ◌≤◌, Bool, true, false, not, ◌&&◌, ◌||◌, List, ◌++◌, map, drop, length, nat_lt, nat_eq, Option, Some}
+use Rattle.std.specs.List.{list_all, list_any}
 use Rattle.rv_judge.specs.declared.events.Control.{Control}
 use Rattle.rv_judge.specs.declared.events.Control.TheVariants.{Building, ForegroundAlone, BackgroundAlone, FinalList, FinalTable, Done}
 use Rattle.rv_judge.specs.declared.events.Event.{Event}
+use Rattle.rv_judge.specs.declared.events.Event.TheVariants.{At, Scan, List as ListOf, Drop, Full, Stop}
 use Rattle.rv_judge.specs.declared.events.Strategy.{Strategy}
 use Rattle.rv_judge.specs.Course.{fast_first, index_only, sorted}
 use Rattle.rv_judge.specs.Runs.{EachOnce, HasScans, IsRun, Standing, Turn, has_index, run_end, run_events, start, start_events}
 use Rattle.rv_jscan.specs.declared.jscan.ScanPlan.{ScanPlan}
-use Rattle.rv_jscan.specs.Joint.{is_empty_list, plan_at}
+use Rattle.rv_jscan.specs.declared.jscan.Taken.{Taken}
+use Rattle.rv_jscan.specs.declared.jscan.Taken.TheVariants.{Piece, Nothing}
+use Rattle.rv_jscan.specs.Joint.{is_empty_list, plan_at, present}
 use Rattle.rv_retrieval.specs.Accounts.{list_length}
 use Rattle.rv_retrieval.specs.declared.query.Query.{Query}
 use Rattle.rv_retrieval.specs.Shape.{Shape, is_background, is_building}
@@ -28,6 +31,18 @@ standing_of now plans ended list = record { control = now; scan = Some (plan_at 
 abbrev pub goes_on : List ScanPlan → ℕ → Option (List ℕ) → Bool
 goes_on plans ended list = nat_lt ended (length plans) && not (is_empty_list list)
 
+-- the events tell that the scan of an index was dropped
+abbrev pub is_drop : ℕ → Event → Bool
+is_drop index (At now) = false
+is_drop index (Scan k) = false
+is_drop index (ListOf k keys) = false
+is_drop index (Drop k) = nat_eq k index
+is_drop index Full = false
+is_drop index Stop = false
+
+abbrev pub was_dropped : ℕ → List Event → Bool
+was_dropped index events = list_any (is_drop index) events
+
 -- how many events may follow beside those of the scans
 abbrev pub events_left : Control → ℕ
 events_left Building = 4
@@ -42,7 +57,8 @@ abbrev pub runs_both : Strategy → Bool
 runs_both strategy = fast_first strategy || (sorted strategy || index_only strategy)
 
 -- The events are those of a run of the course over the planned scans, which are of these indexes, each once. The run
--- stands at the control, and while the background runs at the scan under way. There is room for what may follow.
+-- stands at the control, and while the background runs at the scan under way. A scan that has not ended was not dropped.
+-- There is room for what may follow.
 pub record TellsOf (named strategy : Strategy) (now : Control) (plans : List ScanPlan) (ended : ℕ) (list : Option (List ℕ)) (indexes : List ℕ) (events : List Event) : Type 0 where
   pub standing : Standing
   pub turns : List Turn
@@ -58,10 +74,16 @@ pub record TellsOf (named strategy : Strategy) (now : Control) (plans : List Sca
   pub scanned : HasScans strategy (indexes_of plans)
   pub once : EachOnce (indexes_of plans)
   pub known : list_all (λ i. has_index i indexes) (indexes_of plans) ≡ true
+  pub undropped : (k : ℕ) → ended ≤ k → k < length plans → was_dropped (plan_at plans k).index events ≡ false
 
 -- WHAT THE TRACE TELLS IS ONE RUN OF THE COURSE
 abbrev pub Tells : Shape → Type 0
 Tells v = TellsOf v.trace.strategy v.strategy v.control v.joint.plans v.joint.ended v.joint.list (indexes_asked v.query) v.trace.events.items
+
+-- a piece that is handed out is of a scan that was not dropped
+abbrev pub IsOfUndropped : Shape → Taken → Type 0
+IsOfUndropped v (Piece piece) = (piece.part ≡ (present v.joint).part) × (was_dropped (present v.joint).index v.trace.events.items ≡ false)
+IsOfUndropped v Nothing = Unit {0}
 
 -- the control, the scans and the events stay
 pub record SameCourse (old new : Shape) : Type 0 where

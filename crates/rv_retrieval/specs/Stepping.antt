@@ -1,6 +1,8 @@
 -- What a foreground step does, by the control, the strategy and the fresh key.
-use Rattle.std.specs.Prelude.{◌≡◌, ℕ, Bool, true, false, ◌&&◌, ◌==◌, length, Option, Some, None, if◌then◌else◌}
+use Rattle.std.specs.Prelude.{◌≡◌, ◌⊎◌, ℕ, Bool, true, false, not, ◌&&◌, ◌==◌, find, length, Option, Some, None, if◌then◌else◌}
 use Rattle.rv_delivered.specs.Rows.{AddsRow}
+use Rattle.rv_keys.specs.Keys.{has_key}
+use Rattle.rv_value.specs.declared.record.RowNo.{RowNo}
 use Rattle.rv_judge.specs.Counting.{record_read}
 use Rattle.rv_judge.specs.declared.counting.Counts.{Counts}
 use Rattle.rv_judge.specs.declared.events.Control.{Control}
@@ -19,13 +21,13 @@ use Rattle.rv_scan.specs.declared.skip.Scanned.{Scanned}
 use Rattle.rv_scan.specs.declared.skip.Scanned.TheVariants.{Found, Working, End}
 use Rattle.rv_jscan.specs.declared.jscan.Given.TheVariants.{Accepted}
 use Rattle.rv_jscan.specs.Joint.{Joint, under_way}
-use Rattle.rv_jscan.specs.Pieces.{Pieced}
+use Rattle.rv_jscan.specs.Pieces.{Pieced, may}
 use Rattle.rv_jscan.specs.Steps.{Awaits, TakeLeaves}
 use Rattle.rv_retrieval.specs.Accounts.{fresh_of}
 use Rattle.rv_retrieval.specs.declared.steps.Fg.{Fg}
 use Rattle.rv_retrieval.specs.Opens.{fg_of}
 use Rattle.rv_retrieval.specs.Rulings.{GivesOn, gone}
-use Rattle.rv_retrieval.specs.Shape.{Shape, is_background, rows_of}
+use Rattle.rv_retrieval.specs.Shape.{Shape, keys_left, is_background, is_sorted, rows_of}
 use Rattle.rv_retrieval.specs.Telling.{counted, noted}
 
 -- a piece is awaited
@@ -64,6 +66,32 @@ abbrev pub RemembersBy : Scanned → Shape → Shape → Type 0
 RemembersBy (Found r) old new = Remembered r.row.0 old new
 RemembersBy Working old new = new ≡ old
 RemembersBy End old new = new ≡ gone FrontEnded old
+
+-- the record of a row was read; a sorted foreground reads none that the complete list cannot have
+pub record WalkRow (v : Shape) (shown : Shown) (c d : Counts) (s : Scanned) : Type 0 where
+  pub row : ℕ
+  pub listed : is_sorted v.strategy ≡ true → may v.joint.list row ≡ true
+  pub read : d ≡ record_read c
+  pub looks : s ≡ looked v.query.only (row_at (rows_of v shown) row)
+
+abbrev pub WalkReads : Shape → Shown → Counts → Counts → Scanned → Type 0
+WalkReads v shown c d s = WalkRow v shown c d s ⊎ (d.records ≡ c.records)
+
+-- the first key of the complete list that is left and was not delivered
+abbrev pub first_left : Shape → Option ℕ
+first_left v = find (λ (k : ℕ). not (has_key k v.delivered)) (keys_left v.joint.list v.at)
+
+abbrev pub IsFirstLeft : Shape → Option RowNo → Type 0
+IsFirstLeft v None = first_left v ≡ None
+IsFirstLeft v (Some row) = first_left v ≡ Some row.0
+
+-- that key's row is fetched, and given exactly where it qualifies; where there is none it is the end
+abbrev pub FetchesKey : Option ℕ → Shape → Shown → Counts → Counts → Scanned → Type 0
+FetchesKey None v shown c d s = (s ≡ End) × (d ≡ c)
+FetchesKey (Some key) v shown c d s = (d ≡ record_read c) × (s ≡ looked v.query.only (row_at (rows_of v shown) key))
+
+abbrev pub ListReads : Shape → Shown → Counts → Counts → Scanned → Type 0
+ListReads v shown c d s = FetchesKey (first_left v) v shown c d s
 
 -- a source at its end leads to the last control
 abbrev pub ended_by : Happening → Scanned → Shape → Shape
@@ -108,9 +136,9 @@ kind_of Done strategy fresh = Over
 abbrev pub DoesAs : Kind → (ℕ → Facts → Verdict) → ℕ → ℕ → Shown → Counts → Counts → Scanned → Shape → Shape → Type 0
 DoesAs (Borrow key) would state after shown c d s old new = (after ≡ state) × Borrows key shown c d s old new
 DoesAs Piece would state after shown c d s old new = (s ≡ Working) × StepsBackground would state after old new
-DoesAs Walk would state after shown c d s old new = (after ≡ state) × (new ≡ ended_by FrontEnded s (record old { front = new.front }))
+DoesAs Walk would state after shown c d s old new = (after ≡ state) × WalkReads old shown c d s × (new ≡ ended_by FrontEnded s (record old { front = new.front }))
 DoesAs WalkBoth would state after shown c d s old new = (after ≡ state) × RemembersBy s (record old { front = new.front }) new
-DoesAs NextKey would state after shown c d s old new = (after ≡ state) × (new ≡ ended_by FinalEnded s (record old { at = new.at }))
+DoesAs NextKey would state after shown c d s old new = (after ≡ state) × ListReads old shown c d s × (new ≡ ended_by FinalEnded s (record old { at = new.at }))
 DoesAs NextPage would state after shown c d s old new = (after ≡ state) × (new ≡ ended_by FinalEnded s (record old { last = new.last }))
 DoesAs Over would state after shown c d s old new = (after ≡ state) × (s ≡ End) × (new ≡ old)
 

@@ -5,7 +5,7 @@ ghost use Rattle.rv_judge.specs.declared.events.Event.{Event as TheEvent};
 ghost use Rattle.rv_jscan.specs.Joint.{under_way};
 ghost use Rattle.rv_retrieval.specs.Given.{Answers, TakesLeaf, TakesPiece};
 ghost use Rattle.rv_retrieval.specs.Rulings.{GivesOn, Obeys, dropped, listed, ruled, scan_over, stopped};
-ghost use Rattle.rv_retrieval.specs.Runs.{SameCourse, Tells};
+ghost use Rattle.rv_retrieval.specs.Runs.{IsOfUndropped, SameCourse, Tells};
 ghost use Rattle.rv_retrieval.specs.Shape.{DoesStep, EndsIn, Keeps, RetrievalFits, is_background, rest};
 ghost use Rattle.rv_retrieval.specs.Stepping.{StepsBackground, StepsBehind, is_awaiting};
 ghost use Rattle.rv_retrieval.specs.Telling.{CountsRise, SameCounts, can_stop, list_len, noted, noted_drop, noted_list, noted_scan};
@@ -230,6 +230,7 @@ impl Retrieval {
         ensures tries { Tries steps.old steps.new (effort self.old (R.shown reader.now)) (effort self.new (R.shown reader.now)) }
         ensures spends { IfOk result (λ taken. reads steps.new + effort self.new (R.shown reader.now) ≤ reads steps.old + effort self.old (R.shown reader.now)) }
         ensures awaiting { Awaiting self.old → Awaiting self.new }
+        ensures undropped { Tells self.old → IfOk result (IsOfUndropped self.new) }
     {
         let before = steps.counts();
         let taken = self.take_piece(reader, steps);

@@ -1,5 +1,5 @@
 ghost use Rattle.std.specs.Prelude.{◌≡◌, ◌+◌, ◌≤◌, ℕ, IfOk, OnErr, true};
-ghost use Rattle.rv_scan.specs.Alongs.{Follows, leaf_work};
+ghost use Rattle.rv_scan.specs.Alongs.{Follows, leaf_work, FetchesDue};
 ghost use Rattle.rv_scan.specs.Due.{IsReady, StepsTo, skipped};
 ghost use Rattle.rv_retrieval.specs.Fronts.{CanFront, SameFront, front_rest, walk_of};
 ghost use Rattle.rv_retrieval.specs.Effort.{ReadsNone};
@@ -60,6 +60,7 @@ impl Front {
         ensures same { SameFront self.old self.new }
         ensures follows { Follows (walk_of self.old) ((R.shown reader.now).entries (walk_of self.old).index (walk_of self.old).snap) → Follows (walk_of self.new) ((R.shown reader.now).entries (walk_of self.old).index (walk_of self.old).snap) }
         ensures step { let shown = R.shown reader.now in let entries = shown.entries (walk_of self.old).index (walk_of self.old).snap in let cuts = shown.cuts (walk_of self.old).index (walk_of self.old).snap in let rows = shown.rows self.old.fetching.table (walk_of self.old).snap in IfOk result (λ scanned. StepsTo scanned (front_rest self.old entries rows only.now (skipped skip.now)) (leaf_work (walk_of self.old) entries cuts) (front_rest self.new entries rows only.now (skipped skip.now)) (leaf_work (walk_of self.new) entries cuts)) }
+        ensures fetches { IfOk result (λ scanned. FetchesDue (skipped skip.now) only.now ((R.shown reader.now).rows self.old.fetching.table (walk_of self.old).snap) scanned steps.old steps.new) }
         ensures err { OnErr result (self.new ≡ self.old) }
         ensures once { reads steps.new ≤ reads steps.old + 1 }
         ensures none { IfOk result (λ scanned. ReadsNone scanned steps.old steps.new) }
@@ -80,6 +81,7 @@ impl Front {
         ensures same { SameFront self.old self.new }
         ensures follows { Follows (walk_of self.old) ((R.shown reader.now).entries (walk_of self.old).index (walk_of self.old).snap) → Follows (walk_of self.new) ((R.shown reader.now).entries (walk_of self.old).index (walk_of self.old).snap) }
         ensures step { let shown = R.shown reader.now in let entries = shown.entries (walk_of self.old).index (walk_of self.old).snap in let cuts = shown.cuts (walk_of self.old).index (walk_of self.old).snap in let rows = shown.rows self.old.fetching.table (walk_of self.old).snap in IfOk result (λ scanned. StepsTo scanned (front_rest self.old entries rows only.now (skipped skip.now)) (leaf_work (walk_of self.old) entries cuts) (front_rest self.new entries rows only.now (skipped skip.now)) (leaf_work (walk_of self.new) entries cuts)) }
+        ensures fetches { IfOk result (λ scanned. FetchesDue (skipped skip.now) only.now ((R.shown reader.now).rows self.old.fetching.table (walk_of self.old).snap) scanned steps.old steps.new) }
         ensures err { OnErr result (self.new ≡ self.old) }
         ensures once { reads steps.new ≤ reads steps.old + 1 }
         ensures none { IfOk result (λ scanned. ReadsNone scanned steps.old steps.new) }
@@ -101,6 +103,7 @@ impl Front {
         ensures same { SameFront self.old self.new }
         ensures follows { Follows (walk_of self.old) ((R.shown reader.now).entries (walk_of self.old).index (walk_of self.old).snap) → Follows (walk_of self.new) ((R.shown reader.now).entries (walk_of self.old).index (walk_of self.old).snap) }
         ensures step { let shown = R.shown reader.now in let entries = shown.entries (walk_of self.old).index (walk_of self.old).snap in let cuts = shown.cuts (walk_of self.old).index (walk_of self.old).snap in let rows = shown.rows self.old.fetching.table (walk_of self.old).snap in IfOk result (λ scanned. StepsTo scanned (front_rest self.old entries rows only.now (skipped skip.now)) (leaf_work (walk_of self.old) entries cuts) (front_rest self.new entries rows only.now (skipped skip.now)) (leaf_work (walk_of self.new) entries cuts)) }
+        ensures fetches { IfOk result (λ scanned. FetchesDue (skipped skip.now) only.now ((R.shown reader.now).rows self.old.fetching.table (walk_of self.old).snap) scanned steps.old steps.new) }
         ensures err { OnErr result (self.new ≡ self.old) }
         ensures once { reads steps.new ≤ reads steps.old + 1 }
         ensures none { IfOk result (λ scanned. ReadsNone scanned steps.old steps.new) }

@@ -16,8 +16,11 @@ ghost use Rattle.rv_retrieval.specs.Fronts.{SameFront, front_left, walk_of};
 ghost use Rattle.rv_retrieval.specs.Given.{awaited, more_behind};
 ghost use Rattle.rv_retrieval.specs.Opened.{Begun, has_scans};
 ghost use Rattle.rv_retrieval.specs.Opens.{Opens, first_of};
+ghost use Rattle.rv_judge.specs.Runs.{Allowed};
 ghost use Rattle.rv_retrieval.specs.Rest.{StepMarks, qualifying};
+ghost use Rattle.rv_retrieval.specs.Runs.{Tells, indexes_asked};
 ghost use Rattle.rv_retrieval.specs.Shape.{KeyAt, LastFits, LeastOf, NextKey, Remembers, RetrievalFits, Source, given_as, left_at, lending, front_entries, is_background, is_led, is_sorted, keys_left, rest, rows_of};
+ghost use Rattle.rv_retrieval.specs.Stepping.{WalkReads};
 ghost use Rattle.rv_retrieval.specs.Telling.{counted, index_of, list_len, new_trace, noted};
 ghost use Rattle.rv_retrieval.specs.Effort.{Falls, Tries, front_work, table_work};
 ghost use Rattle.rv_judge.specs.Counting.{record_read};
@@ -265,6 +268,7 @@ impl Retrieval {
         ensures follows { Follows (walk_of self.new.front) (front_entries self.old (R.shown reader.now)) }
         ensures least { is_sorted self.old.strategy ≡ true → IfOk result (LeastOf self.old (R.shown reader.now)) }
         ensures marks { let shown = R.shown reader.now in IfOk result (λ s. StepMarks self.old.query.need self.old.query.only (rows_of self.old shown) s (front_left self.old.front (front_entries self.old shown)) (front_left self.new.front (front_entries self.old shown))) }
+        ensures fetches { IfOk result (WalkReads self.old (R.shown reader.now) steps.old steps.new) }
         ensures err { OnErr result (self.new ≡ self.old) }
         ensures tries { Tries steps.old steps.new (front_work self.old (R.shown reader.now)) (front_work self.new (R.shown reader.now)) }
         ensures falls { IfOk result (λ s. Falls s steps.old steps.new (front_work self.old (R.shown reader.now)) (front_work self.new (R.shown reader.now))) }
@@ -471,7 +475,8 @@ impl Retrieval {
 
     /// What it did so far.
     pub fn trace(&self) -> &Trace
-        ensures { result.now ≡ self.now.trace }
+        ensures now { result.now ≡ self.now.trace }
+        ensures allowed { Tells self.now → Allowed result.now (indexes_asked self.now.query) }
     {
         &self.trace
     }

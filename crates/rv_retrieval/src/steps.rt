@@ -1,12 +1,15 @@
 ghost use Rattle.std.specs.Prelude.{◌≡◌, ◌+◌, ◌-◌, ◌^◌, ◌<◌, ◌≤◌, ◌&&◌, ◌⊎◌, true, false, length, IfOk, IfSome, OnErr, Ok};
 ghost use Rattle.rv_keys.specs.Keys.{has_key};
+ghost use Rattle.rv_judge.specs.Counting.{record_read};
 ghost use Rattle.rv_reader.specs.Shown.{Shown};
+ghost use Rattle.rv_reader.specs.Tables.{row_at};
+ghost use Rattle.rv_scan.specs.Alongs.{looked};
 ghost use Rattle.rv_jscan.specs.Joint.{under_way};
 ghost use Rattle.rv_retrieval.specs.Accounts.{IsFresh, first_fresh};
 ghost use Rattle.rv_retrieval.specs.Opens.{GivesStep, fg_of};
 ghost use Rattle.rv_retrieval.specs.Runs.{SameCourse, Tells};
-ghost use Rattle.rv_retrieval.specs.Shape.{Delivers, DoesStep, EndsIn, KeyAt, NextKey, PassesKeys, RetrievalFits, Source, given_as, is_background, is_building, is_index_only, rest, source, lending};
-ghost use Rattle.rv_retrieval.specs.Stepping.{Borrows, DoesIts, Remembered, RemembersBy, StepsAs, ended_by};
+ghost use Rattle.rv_retrieval.specs.Shape.{Delivers, DoesStep, EndsIn, KeyAt, NextKey, PassesKeys, RetrievalFits, Source, given_as, is_background, is_building, is_index_only, rest, source, lending, rows_of};
+ghost use Rattle.rv_retrieval.specs.Stepping.{Borrows, DoesIts, Remembered, RemembersBy, StepsAs, ended_by, IsFirstLeft, ListReads, WalkReads};
 ghost use Rattle.rv_retrieval.specs.Telling.{CountsRise, SameCounts};
 ghost use Rattle.rv_retrieval.specs.Effort.{Awaiting, Falls, FgSpends, Tries, effort, keys_work, to_borrow};
 
@@ -54,6 +57,7 @@ impl Retrieval {
         ensures same { self.new ≡ record self.old { at = self.new.at } }
         ensures passed { PassesKeys self.old.joint.list self.old.delivered self.old.at self.new.at }
         ensures key { KeyAt self.old.joint.list self.new.at result }
+        ensures first { IsFirstLeft self.old result }
         ensures fresh { IfSome result (λ row. has_key row.0 self.old.delivered ≡ false) }
         ensures fewer { keys_work self.new ≤ keys_work self.old }
     {
@@ -86,6 +90,7 @@ impl Retrieval {
         ensures ends { IfOk result (EndsIn self.new) }
         ensures err { OnErr result (rest self.new (R.shown reader.now) ≡ rest self.old (R.shown reader.now)) }
         ensures does { IfOk result (λ s. self.new ≡ ended_by Happening.FinalEnded s (record self.old { at = self.new.at })) }
+        ensures fetches { IfOk result (ListReads self.old (R.shown reader.now) steps.old steps.new) }
         ensures course { OnErr result (SameCourse self.old self.new) }
         ensures tries { Tries steps.old steps.new (effort self.old (R.shown reader.now)) (effort self.new (R.shown reader.now)) }
         ensures falls { IfOk result (λ s. Falls s steps.old steps.new (effort self.old (R.shown reader.now)) (effort self.new (R.shown reader.now))) }
@@ -120,6 +125,8 @@ impl Retrieval {
         ensures tries { Tries steps.old steps.new (effort self.old (R.shown reader.now)) (effort self.new (R.shown reader.now)) }
         ensures falls { IfOk result (λ s. Falls s steps.old steps.new (effort self.old (R.shown reader.now)) (effort self.new (R.shown reader.now))) }
         ensures awaiting { Awaiting self.old → Awaiting self.new }
+        ensures reads { steps.new ≡ record_read steps.old }
+        ensures looks { IfOk result (λ s. s ≡ looked self.old.query.only (row_at (rows_of self.old (R.shown reader.now)) row.0)) }
     {
         let found = self.examine(reader, row, steps)?;
         self.pass_key();
@@ -277,6 +284,7 @@ impl Retrieval {
         ensures tries { Tries steps.old steps.new (effort self.old (R.shown reader.now)) (effort self.new (R.shown reader.now)) }
         ensures falls { IfOk result (λ s. Falls s steps.old steps.new (effort self.old (R.shown reader.now)) (effort self.new (R.shown reader.now))) }
         ensures awaiting { Awaiting self.old → Awaiting self.new }
+        ensures fetches { IfOk result (WalkReads self.old (R.shown reader.now) steps.old steps.new) }
     {
         match self.scan_front(reader, steps)? {
             Scanned::Found(record) => Ok(Scanned::Found(record)),

@@ -123,3 +123,14 @@ abbrev pub FetchReads : Scanned → Counts → Counts → Type 0
 FetchReads (Found r) old new = new ≡ record_read old
 FetchReads Working old new = TriedOne old new
 FetchReads End old new = new ≡ old
+
+-- the record of a row that is not skipped was read, and it is the answer where it qualifies
+pub record FetchesRow (skip : Skipped) (only : List (List Atom)) (rows : List Record) (scanned : Scanned) (old new : Counts) : Type 0 where
+  pub row : ℕ
+  pub unskipped : skips skip row ≡ false
+  pub read : new ≡ record_read old
+  pub looks : scanned ≡ looked only (row_at rows row)
+
+-- no other record is read
+abbrev pub FetchesDue : Skipped → List (List Atom) → List Record → Scanned → Counts → Counts → Type 0
+FetchesDue skip only rows scanned old new = FetchesRow skip only rows scanned old new ⊎ (new.records ≡ old.records)
