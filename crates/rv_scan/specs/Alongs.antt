@@ -1,5 +1,5 @@
 -- What a scan of an index holds, and what it still has to look at.
-use Rattle.std.specs.Prelude.{◌≡◌, ℕ, ◌+◌, ◌<◌, List, [], ◌++◌, Bool, true, false, not, ◌⊎◌, if◌then◌else◌, Option, Some, None, length, drop, take}
+use Rattle.std.specs.Prelude.{◌≡◌, ℕ, ◌+◌, ◌<◌, List, [], ◌++◌, Bool, true, false, not, ◌⊎◌, if◌then◌else◌, Option, Some, None, length, drop, filter, take}
 use Rattle.std.specs.List.{filter_map, list_all, slice_index_or}
 use Rattle.rv_value.specs.declared.record.Record.{Record}
 use Rattle.rv_value.specs.declared.record.IndexEntry.{IndexEntry}
@@ -123,3 +123,8 @@ abbrev pub FetchReads : Scanned → Counts → Counts → Type 0
 FetchReads (Found r) old new = new ≡ record_read old
 FetchReads Working old new = TriedOne old new
 FetchReads End old new = new ≡ old
+
+-- how many records a scan with fetches may still fetch: one for each entry that it did not look at and whose row is not
+-- skipped
+abbrev pub to_fetch : Along → List IndexEntry → Skipped → ℕ
+to_fetch along entries skip = length (filter (is_given skip) (left along entries))
