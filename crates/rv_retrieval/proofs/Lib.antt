@@ -17,3 +17,5 @@ pub mod Courses
 pub mod Efforts
 pub mod Lives
 pub mod Openings
+pub mod Fetches
+pub mod Shorts

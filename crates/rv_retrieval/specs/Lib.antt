@@ -10,3 +10,4 @@ pub mod Opens
 pub mod Opened
 pub mod Rulings
 pub mod Effort
+pub mod Short

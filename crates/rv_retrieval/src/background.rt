@@ -9,6 +9,7 @@ ghost use Rattle.rv_retrieval.specs.Shape.{DoesStep, EndsIn, Keeps, RetrievalFit
 ghost use Rattle.rv_retrieval.specs.Telling.{CountsRise, SameCounts, can_stop, list_len, noted, noted_drop, noted_list, noted_scan};
 ghost use Rattle.rv_retrieval.specs.Effort.{Awaiting, Falls, GiveSpends, Tries, effort};
 ghost use Rattle.rv_judge.specs.Counting.{reads};
+ghost use Rattle.rv_retrieval.specs.Short.{Settled};
 
 use crate::retrieval::Retrieval;
 use rv_jscan::{Given, Sieved, Taken, sieve};
@@ -166,6 +167,7 @@ impl Retrieval {
         ensures less { (shown : Shown) → RetrievalFits self.old shown → effort self.new shown ≤ effort self.old shown }
         ensures spends { (shown : Shown) → RetrievalFits self.old shown → IfOk result (λ g. GiveSpends g (effort self.old shown) (effort self.new shown)) }
         ensures awaiting { Awaiting self.old → Awaiting self.new }
+        ensures settled { Settled self.old → (self.new ≡ self.old) × (state judge.new ≡ state judge.old) }
     {
         self.give_piece(sieved, judge)
     }
@@ -176,6 +178,7 @@ impl Retrieval {
         ensures obeys { IfOk result (λ g. GivesOn (would judge.old) (state judge.old) (state judge.new) sieved g self.old self.new) }
         ensures keeps { Keeps self.old self.new }
         ensures err { OnErr result (self.new ≡ self.old) }
+        ensures settled { Settled self.old → (self.new ≡ self.old) × (state judge.new ≡ state judge.old) }
     {
         if !self.is_background() {
             return Ok(Given::Stale {
@@ -222,6 +225,7 @@ impl Retrieval {
         ensures tries { Tries steps.old steps.new (effort self.old (R.shown reader.now)) (effort self.new (R.shown reader.now)) }
         ensures spends { IfOk result (λ taken. reads steps.new + effort self.new (R.shown reader.now) ≤ reads steps.old + effort self.old (R.shown reader.now)) }
         ensures awaiting { Awaiting self.old → Awaiting self.new }
+        ensures settled { Settled self.old → Settled self.new × (steps.new ≡ steps.old) }
     {
         let before = steps.counts();
         let taken = self.take_piece(reader, steps);
@@ -244,6 +248,7 @@ impl Retrieval {
         ensures spends { IfOk result (λ taken. reads steps.new + effort self.new (R.shown reader.now) ≤ reads steps.old + effort self.old (R.shown reader.now)) }
         ensures awaiting { Awaiting self.old → Awaiting self.new }
         ensures control { self.new.control ≡ self.old.control }
+        ensures settled { Settled self.old → Settled self.new × (steps.new ≡ steps.old) }
     {
         if !self.is_background() {
             return Ok(Taken::Nothing);

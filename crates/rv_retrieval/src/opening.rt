@@ -1,7 +1,7 @@
-ghost use Rattle.std.specs.Prelude.{◌≡◌, ◌+◌, ◌<◌, ◌≤◌, ℕ, List, length, None, true, IfOk, IfSome, OnOk, OnErr};
+ghost use Rattle.std.specs.Prelude.{◌≡◌, ◌+◌, ◌<◌, ◌≤◌, ℕ, List, length, None, false, true, IfOk, IfSome, OnOk, OnErr};
 ghost use Rattle.rv_judge.specs.Account.{first_guarantee};
 ghost use Rattle.rv_reader.specs.Shown.{CanRead, Shown};
-ghost use Rattle.rv_jscan.specs.Joint.{CanTake, JointFits, leaves_ahead};
+ghost use Rattle.rv_jscan.specs.Joint.{CanTake, JointFits, leaves_ahead, under_way};
 ghost use Rattle.rv_retrieval.specs.Asked.{CanAsk};
 ghost use Rattle.rv_retrieval.specs.Choice.{IsChosen, candidates_of, no_candidate};
 ghost use Rattle.rv_retrieval.specs.Opened.{Begun, Opened, SameScans, Scanned, front_begun, front_candidate, guarantee_of, is_one, start_told};
@@ -13,6 +13,8 @@ ghost use Rattle.rv_reader.specs.Tables.{IsTable};
 ghost use Rattle.rv_retrieval.specs.Effort.{Awaiting, back_work, effort, life_of};
 ghost use Rattle.rv_scan.specs.Places.{work as pages_work};
 ghost use Rattle.rv_value.specs.declared.record.Record.{Record as OneRecord};
+ghost use Rattle.std.specs.List.{AllByRecursion};
+ghost use Rattle.rv_retrieval.specs.Short.{IsRight, Lists, OnlyLeaves, Settled, fetches_left, has_short, keys_most};
 
 use crate::choosing::{Background, Candidate, Choice, candidates, choose, scans};
 use crate::front::Front;
@@ -174,6 +176,10 @@ impl Retrieval {
         ensures spends { IfOk result (λ given. reads steps.new + back_work self.new.joint 0 (R.shown reader.now) ≤ reads steps.old + back_work self.old.joint 0 (R.shown reader.now)) }
         ensures less { back_work self.new.joint 0 (R.shown reader.now) ≤ back_work self.old.joint 0 (R.shown reader.now) }
         ensures once { reads steps.new ≤ reads steps.old + 1 }
+        ensures keys { keys_most self.new.joint (R.shown reader.now) ≤ keys_most self.old.joint (R.shown reader.now) }
+        ensures lists { Lists self.old.joint self.new.joint }
+        ensures over { IfOk result (λ given. given ≡ false → under_way self.new.joint ≡ false) }
+        ensures only { OnlyLeaves steps.old steps.new }
     {
         match self.take_joint(reader, steps)? {
             Taken::Piece(piece) => {
@@ -198,6 +204,10 @@ impl Retrieval {
         ensures spends { OnOk result (reads steps.new + back_work self.new.joint 0 (R.shown reader.now) ≤ reads steps.old + back_work self.old.joint 0 (R.shown reader.now)) }
         ensures less { back_work self.new.joint 0 (R.shown reader.now) ≤ back_work self.old.joint 0 (R.shown reader.now) }
         ensures tried { reads steps.new ≤ reads steps.old + back_work self.old.joint 0 (R.shown reader.now) + 1 }
+        ensures keys { keys_most self.new.joint (R.shown reader.now) ≤ keys_most self.old.joint (R.shown reader.now) }
+        ensures lists { Lists self.old.joint self.new.joint }
+        ensures over { OnOk result (under_way self.new.joint ≡ false) }
+        ensures only { OnlyLeaves steps.old steps.new }
     {
         'pieces: while self.scan_piece(reader, steps)? {}
         Ok(())
@@ -218,6 +228,9 @@ impl Retrieval {
         ensures less { self.old.borrowed ≡ 0 → OnOk result (effort self.new (R.shown reader.now) ≤ effort self.old (R.shown reader.now)) }
         ensures tried { self.old.borrowed ≡ 0 → reads steps.new ≤ reads steps.old + effort self.old (R.shown reader.now) + 1 }
         ensures awaiting { Awaiting self.old → OnOk result (Awaiting self.new) }
+        ensures settled { Awaiting self.old → self.old.joint.list ≡ None → OnOk result (Settled self.new) }
+        ensures few { Awaiting self.old → self.old.joint.list ≡ None → keys_most self.old.joint (R.shown reader.now) ≤ 20 → OnOk result (fetches_left self.new (R.shown reader.now) ≤ 20) }
+        ensures only { OnlyLeaves steps.old steps.new }
     {
         self.scan_all(reader, steps)?;
         self.scan_ended(0);
@@ -240,6 +253,9 @@ impl Retrieval {
         ensures less { self.old.borrowed ≡ 0 → OnOk result (effort self.new (R.shown reader.now) ≤ effort self.old (R.shown reader.now)) }
         ensures tried { self.old.borrowed ≡ 0 → reads steps.new ≤ reads steps.old + effort self.old (R.shown reader.now) + 1 }
         ensures awaiting { Awaiting self.old → OnOk result (Awaiting self.new) }
+        ensures settled { is_one background ≡ true → Awaiting self.old → self.old.joint.list ≡ None → OnOk result (Settled self.new) }
+        ensures few { is_one background ≡ true → Awaiting self.old → self.old.joint.list ≡ None → keys_most self.old.joint (R.shown reader.now) ≤ 20 → OnOk result (fetches_left self.new (R.shown reader.now) ≤ 20) }
+        ensures only { OnlyLeaves steps.old steps.new }
     {
         match background {
             Background::One(_) => self.scan_at_once(reader, steps),
@@ -260,6 +276,7 @@ impl Retrieval {
         requires can { CanAsk query (R.shown reader.now) }
         requires candidates { candidates.now ≡ candidates_of query (R.shown reader.now) }
         requires choice { IsChosen query.order query.goal candidates.now choice }
+        requires right { AllByRecursion (IsRight (R.shown reader.now) query.snap) candidates.now }
         ensures opened { IfOk result (λ r. Opened query (R.shown reader.now) cursor opening r) }
         ensures back { is_one choice.background ≡ true → IfOk result (λ r. is_background r.control ≡ true) }
         ensures fits { IfOk result (λ r. RetrievalFits r (R.shown reader.now)) }
@@ -267,6 +284,8 @@ impl Retrieval {
         ensures unborrowed { IfOk result (λ r. r.borrowed ≡ 0) }
         ensures life { IfOk result (λ r. effort r (R.shown reader.now) < life_of query (R.shown reader.now)) }
         ensures awaiting { IfOk result (λ r. Awaiting r) }
+        ensures unlisted { IfOk result (λ r. r.joint.list ≡ None) }
+        ensures few { has_short query (R.shown reader.now) ≡ true → IfOk result (λ r. keys_most r.joint (R.shown reader.now) ≤ 20) }
     {
         let scans = scans(alloc, &query.only, candidates, choice.background)?;
         let front = chosen_front(alloc, &query, candidates, choice.front)?;
@@ -304,6 +323,8 @@ impl Retrieval {
         ensures effort { IfOk result (λ r. effort r (R.shown reader.now) ≤ life_of query (R.shown reader.now)) }
         ensures reads { reads steps.new ≤ reads steps.old + life_of query (R.shown reader.now) }
         ensures awaiting { IfOk result (λ r. Awaiting r) }
+        ensures short { has_short query (R.shown reader.now) ≡ true → IfOk result (λ r. Settled r × (fetches_left r (R.shown reader.now) ≤ 20)) }
+        ensures only { OnlyLeaves steps.old steps.new }
     {
         let before = steps.counts();
         let candidates = candidates(alloc, reader, &query)?;

@@ -5,6 +5,7 @@ ghost use Rattle.rv_retrieval.specs.Opens.{GivesStep, fg_of};
 ghost use Rattle.rv_retrieval.specs.Shape.{Delivers, DoesStep, EndsIn, KeyAt, NextKey, PassesKeys, RetrievalFits, Source, given_as, is_building, is_index_only, lending, rest, source};
 ghost use Rattle.rv_retrieval.specs.Telling.{CountsRise, SameCounts};
 ghost use Rattle.rv_retrieval.specs.Effort.{Awaiting, Falls, FgSpends, Tries, effort, keys_work, to_borrow};
+ghost use Rattle.rv_retrieval.specs.Short.{Settled, fetches_left};
 
 use crate::retrieval::Retrieval;
 use rv_judge::{Control, Event, Happening, Judge, Steps, Strategy};
@@ -84,6 +85,9 @@ impl Retrieval {
         ensures tries { Tries steps.old steps.new (effort self.old (R.shown reader.now)) (effort self.new (R.shown reader.now)) }
         ensures falls { IfOk result (λ s. Falls s steps.old steps.new (effort self.old (R.shown reader.now)) (effort self.new (R.shown reader.now))) }
         ensures awaiting { Awaiting self.old → Awaiting self.new }
+        ensures fetches { IfOk result (λ s. steps.new.records + fetches_left self.new (R.shown reader.now) ≤ steps.old.records + fetches_left self.old (R.shown reader.now)) }
+        ensures pages { steps.new.pages ≡ steps.old.pages }
+        ensures settled { Settled self.old → Settled self.new }
     {
         match self.final_key() {
             None => {
@@ -113,6 +117,9 @@ impl Retrieval {
         ensures tries { Tries steps.old steps.new (effort self.old (R.shown reader.now)) (effort self.new (R.shown reader.now)) }
         ensures falls { IfOk result (λ s. Falls s steps.old steps.new (effort self.old (R.shown reader.now)) (effort self.new (R.shown reader.now))) }
         ensures awaiting { Awaiting self.old → Awaiting self.new }
+        ensures fetches { IfOk result (λ s. steps.new.records + fetches_left self.new (R.shown reader.now) ≤ steps.old.records + fetches_left self.old (R.shown reader.now)) }
+        ensures pages { steps.new.pages ≡ steps.old.pages }
+        ensures settled { Settled self.old → Settled self.new }
     {
         let found = self.examine(reader, row, steps)?;
         self.pass_key();
@@ -261,6 +268,9 @@ impl Retrieval {
         ensures tries { Tries steps.old steps.new (effort self.old (R.shown reader.now)) (effort self.new (R.shown reader.now)) }
         ensures falls { IfOk result (λ s. Falls s steps.old steps.new (effort self.old (R.shown reader.now)) (effort self.new (R.shown reader.now))) }
         ensures awaiting { Awaiting self.old → Awaiting self.new }
+        ensures fetches { Settled self.old → IfOk result (λ s. steps.new.records + fetches_left self.new (R.shown reader.now) ≤ steps.old.records + fetches_left self.old (R.shown reader.now)) }
+        ensures pages { steps.new.pages ≡ steps.old.pages }
+        ensures settled { Settled self.old → Settled self.new }
     {
         match self.scan_front(reader, steps)? {
             Scanned::Found(record) => Ok(Scanned::Found(record)),
@@ -348,6 +358,10 @@ impl Retrieval {
         ensures tries { Tries steps.old steps.new (effort self.old (R.shown reader.now)) (effort self.new (R.shown reader.now)) }
         ensures falls { Awaiting self.old → IfOk result (λ s. Falls s steps.old steps.new (effort self.old (R.shown reader.now)) (effort self.new (R.shown reader.now))) }
         ensures awaiting { Awaiting self.old → Awaiting self.new }
+        ensures settled { Settled self.old → Settled self.new }
+        ensures unasked { Settled self.old → state judge.new ≡ state judge.old }
+        ensures pages { Settled self.old → steps.new.pages ≡ steps.old.pages }
+        ensures fetches { Settled self.old → IfOk result (λ s. steps.new.records + fetches_left self.new (R.shown reader.now) ≤ steps.old.records + fetches_left self.old (R.shown reader.now)) }
     {
         match self.control() {
             Control::Building => self.building_step(reader, judge, steps),
@@ -381,6 +395,10 @@ impl Retrieval {
         ensures tries { Tries steps.old steps.new (effort self.old (R.shown reader.now)) (effort self.new (R.shown reader.now)) }
         ensures spends { Awaiting self.old → IfOk result (λ fg. FgSpends fg steps.old steps.new (effort self.old (R.shown reader.now)) (effort self.new (R.shown reader.now))) }
         ensures awaiting { Awaiting self.old → Awaiting self.new }
+        ensures settled { Settled self.old → Settled self.new }
+        ensures unasked { Settled self.old → state judge.new ≡ state judge.old }
+        ensures pages { Settled self.old → steps.new.pages ≡ steps.old.pages }
+        ensures fetches { Settled self.old → IfOk result (λ s. steps.new.records + fetches_left self.new (R.shown reader.now) ≤ steps.old.records + fetches_left self.old (R.shown reader.now)) }
     {
         let before = steps.counts();
         let stepped = self.step(reader, judge, steps);

@@ -1,4 +1,6 @@
-use Rattle.std.proofs.Common.{◌∙◌}
+use Rattle.std.proofs.Common.{◌+◌, ◌≤◌, ◌∙◌, subst, sym}
+use Rattle.rv_retrieval.specs.Shape.{Shape}
+use Rattle.rv_retrieval.specs.Short.{fetches_left}
 use Rattle.rv_retrieval.proofs.AtOnce.{gives_step}
 use Rattle.rv_retrieval.proofs.Switching.{trace_keeps}
 use Rattle.rv_retrieval.proofs.retrieval.Retrieval.fg_step.Goals as goal
@@ -14,3 +16,6 @@ returns-in-Err-clause-err g c =
     let shown = g.R.Reader.shown c.args.reader.now in
     let mid = c.step-stepped.new.self in
     (trace_keeps mid c.count.new.self _ c.count.ensures).rest shown c.step-stepped.ensures.fits ∙ c.in-Err.ensures.err
+
+pub returns-in-Ok-clause-fetches : goal.returns-in-Ok-clause-fetches
+returns-in-Ok-clause-fetches g c settled = subst (λ (x : Shape). c.step-stepped.new.steps.records + fetches_left x (g.R.Reader.shown c.args.reader.now) ≤ c.args.steps.now.records + fetches_left c.args.self.now (g.R.Reader.shown c.args.reader.now)) (sym c.count.ensures) (c.in-Ok.ensures.fetches settled)
