@@ -329,9 +329,9 @@ short_keys query shown choice scans front guaranteed cursor opening v can chosen
     let is = ap (λ (j : Joint). keys_most j shown) b.joint in
     omega arith
 
-pub short_if : {E : Type 0} (r : Result Shape E) (query : Query) (shown : Shown) (choice : Choice) (scans : List ScanPlan) (front : Front) (cs : List Candidate) (guaranteed cursor opening : ℕ) → cs ≡ candidates_of query shown → CanAsk query shown → IsChosen query.order query.goal cs choice → AreScans query.only cs choice.background scans → AllByRecursion (IsRight shown query.snap) cs → IfOk r (Begun query choice.strategy scans front guaranteed cursor opening) → has_short query shown ≡ true → IfOk r (λ v. keys_most v.joint shown ≤ 20)
-short_if (Ok v) query shown choice scans front cs guaranteed cursor opening e can chosen s right b some = short_keys query shown choice scans front guaranteed cursor opening v can (subst (λ (xs : List Candidate). IsChosen query.order query.goal xs choice) e chosen) (subst (λ (xs : List Candidate). AreScans query.only xs choice.background scans) e s) (subst (AllByRecursion (IsRight shown query.snap)) e right) b some
-short_if (Err x) query shown choice scans front cs guaranteed cursor opening e can chosen s right b some = tt
+pub few_if : {E : Type 0} (r : Result Shape E) (query : Query) (shown : Shown) (choice : Choice) (scans : List ScanPlan) (front : Front) (cs : List Candidate) (guaranteed cursor opening : ℕ) → cs ≡ candidates_of query shown → CanAsk query shown → IsChosen query.order query.goal cs choice → AreScans query.only cs choice.background scans → AllByRecursion (IsRight shown query.snap) cs → IfOk r (Begun query choice.strategy scans front guaranteed cursor opening) → has_short query shown ≡ true → IfOk r (λ v. keys_most v.joint shown ≤ 20)
+few_if (Ok v) query shown choice scans front cs guaranteed cursor opening e can chosen s right b some = short_keys query shown choice scans front guaranteed cursor opening v can (subst (λ (xs : List Candidate). IsChosen query.order query.goal xs choice) e chosen) (subst (λ (xs : List Candidate). AreScans query.only xs choice.background scans) e s) (subst (AllByRecursion (IsRight shown query.snap)) e right) b some
+few_if (Err x) query shown choice scans front cs guaranteed cursor opening e can chosen s right b some = tt
 
 pub short_one : (query : Query) (shown : Shown) (choice : Choice) (order : List ℕ) (cs : List Candidate) → order ≡ query.order → cs ≡ candidates_of query shown → IsChosen order query.goal cs choice → has_short query shown ≡ true → is_one choice.background ≡ true
 short_one query shown choice order cs o e chosen some = ap is_one (short_background query cs choice (subst (λ (xs : List ℕ). IsChosen xs query.goal cs choice) o chosen) (ap (list_any (plays Short)) e ∙ some)).1.2

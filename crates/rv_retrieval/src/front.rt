@@ -64,7 +64,7 @@ impl Front {
         ensures err { OnErr result (self.new ≡ self.old) }
         ensures once { reads steps.new ≤ reads steps.old + 1 }
         ensures none { IfOk result (λ scanned. ReadsNone scanned steps.old steps.new) }
-        ensures fetches { let entries = (R.shown reader.now).entries (walk_of self.old).index (walk_of self.old).snap in IfOk result (λ scanned. steps.new.records + front_fetches self.new entries (skipped skip.now) ≤ steps.old.records + front_fetches self.old entries (skipped skip.now)) }
+        ensures records { let entries = (R.shown reader.now).entries (walk_of self.old).index (walk_of self.old).snap in IfOk result (λ scanned. steps.new.records + front_fetches self.new entries (skipped skip.now) ≤ steps.old.records + front_fetches self.old entries (skipped skip.now)) }
         ensures pages { steps.new.pages ≡ steps.old.pages }
     {
         self.fetching.step(reader, only, skip, steps)
@@ -86,7 +86,7 @@ impl Front {
         ensures err { OnErr result (self.new ≡ self.old) }
         ensures once { reads steps.new ≤ reads steps.old + 1 }
         ensures none { IfOk result (λ scanned. ReadsNone scanned steps.old steps.new) }
-        ensures fetches { let entries = (R.shown reader.now).entries (walk_of self.old).index (walk_of self.old).snap in IfOk result (λ scanned. steps.new.records + front_fetches self.new entries (skipped skip.now) ≤ steps.old.records + front_fetches self.old entries (skipped skip.now)) }
+        ensures records { let entries = (R.shown reader.now).entries (walk_of self.old).index (walk_of self.old).snap in IfOk result (λ scanned. steps.new.records + front_fetches self.new entries (skipped skip.now) ≤ steps.old.records + front_fetches self.old entries (skipped skip.now)) }
         ensures pages { steps.new.pages ≡ steps.old.pages }
     {
         self.telling
@@ -109,7 +109,7 @@ impl Front {
         ensures err { OnErr result (self.new ≡ self.old) }
         ensures once { reads steps.new ≤ reads steps.old + 1 }
         ensures none { IfOk result (λ scanned. ReadsNone scanned steps.old steps.new) }
-        ensures fetches { let entries = (R.shown reader.now).entries (walk_of self.old).index (walk_of self.old).snap in IfOk result (λ scanned. steps.new.records + front_fetches self.new entries (skipped skip.now) ≤ steps.old.records + front_fetches self.old entries (skipped skip.now)) }
+        ensures records { let entries = (R.shown reader.now).entries (walk_of self.old).index (walk_of self.old).snap in IfOk result (λ scanned. steps.new.records + front_fetches self.new entries (skipped skip.now) ≤ steps.old.records + front_fetches self.old entries (skipped skip.now)) }
         ensures pages { steps.new.pages ≡ steps.old.pages }
     {
         if self.is_alone() {

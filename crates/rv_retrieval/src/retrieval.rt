@@ -269,7 +269,7 @@ impl Retrieval {
         ensures err { OnErr result (self.new ≡ self.old) }
         ensures tries { Tries steps.old steps.new (front_work self.old (R.shown reader.now)) (front_work self.new (R.shown reader.now)) }
         ensures falls { IfOk result (λ s. Falls s steps.old steps.new (front_work self.old (R.shown reader.now)) (front_work self.new (R.shown reader.now))) }
-        ensures fetches { is_sorted self.old.strategy ≡ true → IfOk result (λ s. steps.new.records + scan_fetches self.new (R.shown reader.now) ≤ steps.old.records + scan_fetches self.old (R.shown reader.now)) }
+        ensures records { is_sorted self.old.strategy ≡ true → IfOk result (λ s. steps.new.records + scan_fetches self.new (R.shown reader.now) ≤ steps.old.records + scan_fetches self.old (R.shown reader.now)) }
         ensures pages { steps.new.pages ≡ steps.old.pages }
     {
         let skip = Skip {

@@ -85,7 +85,7 @@ impl Retrieval {
         ensures tries { Tries steps.old steps.new (effort self.old (R.shown reader.now)) (effort self.new (R.shown reader.now)) }
         ensures falls { IfOk result (λ s. Falls s steps.old steps.new (effort self.old (R.shown reader.now)) (effort self.new (R.shown reader.now))) }
         ensures awaiting { Awaiting self.old → Awaiting self.new }
-        ensures fetches { IfOk result (λ s. steps.new.records + fetches_left self.new (R.shown reader.now) ≤ steps.old.records + fetches_left self.old (R.shown reader.now)) }
+        ensures records { IfOk result (λ s. steps.new.records + fetches_left self.new (R.shown reader.now) ≤ steps.old.records + fetches_left self.old (R.shown reader.now)) }
         ensures pages { steps.new.pages ≡ steps.old.pages }
         ensures settled { Settled self.old → Settled self.new }
     {
@@ -117,7 +117,7 @@ impl Retrieval {
         ensures tries { Tries steps.old steps.new (effort self.old (R.shown reader.now)) (effort self.new (R.shown reader.now)) }
         ensures falls { IfOk result (λ s. Falls s steps.old steps.new (effort self.old (R.shown reader.now)) (effort self.new (R.shown reader.now))) }
         ensures awaiting { Awaiting self.old → Awaiting self.new }
-        ensures fetches { IfOk result (λ s. steps.new.records + fetches_left self.new (R.shown reader.now) ≤ steps.old.records + fetches_left self.old (R.shown reader.now)) }
+        ensures records { IfOk result (λ s. steps.new.records + fetches_left self.new (R.shown reader.now) ≤ steps.old.records + fetches_left self.old (R.shown reader.now)) }
         ensures pages { steps.new.pages ≡ steps.old.pages }
         ensures settled { Settled self.old → Settled self.new }
     {
@@ -268,7 +268,7 @@ impl Retrieval {
         ensures tries { Tries steps.old steps.new (effort self.old (R.shown reader.now)) (effort self.new (R.shown reader.now)) }
         ensures falls { IfOk result (λ s. Falls s steps.old steps.new (effort self.old (R.shown reader.now)) (effort self.new (R.shown reader.now))) }
         ensures awaiting { Awaiting self.old → Awaiting self.new }
-        ensures fetches { Settled self.old → IfOk result (λ s. steps.new.records + fetches_left self.new (R.shown reader.now) ≤ steps.old.records + fetches_left self.old (R.shown reader.now)) }
+        ensures records { Settled self.old → IfOk result (λ s. steps.new.records + fetches_left self.new (R.shown reader.now) ≤ steps.old.records + fetches_left self.old (R.shown reader.now)) }
         ensures pages { steps.new.pages ≡ steps.old.pages }
         ensures settled { Settled self.old → Settled self.new }
     {
@@ -361,7 +361,7 @@ impl Retrieval {
         ensures settled { Settled self.old → Settled self.new }
         ensures unasked { Settled self.old → state judge.new ≡ state judge.old }
         ensures pages { Settled self.old → steps.new.pages ≡ steps.old.pages }
-        ensures fetches { Settled self.old → IfOk result (λ s. steps.new.records + fetches_left self.new (R.shown reader.now) ≤ steps.old.records + fetches_left self.old (R.shown reader.now)) }
+        ensures records { Settled self.old → IfOk result (λ s. steps.new.records + fetches_left self.new (R.shown reader.now) ≤ steps.old.records + fetches_left self.old (R.shown reader.now)) }
     {
         match self.control() {
             Control::Building => self.building_step(reader, judge, steps),
@@ -398,7 +398,7 @@ impl Retrieval {
         ensures settled { Settled self.old → Settled self.new }
         ensures unasked { Settled self.old → state judge.new ≡ state judge.old }
         ensures pages { Settled self.old → steps.new.pages ≡ steps.old.pages }
-        ensures fetches { Settled self.old → IfOk result (λ s. steps.new.records + fetches_left self.new (R.shown reader.now) ≤ steps.old.records + fetches_left self.old (R.shown reader.now)) }
+        ensures records { Settled self.old → IfOk result (λ s. steps.new.records + fetches_left self.new (R.shown reader.now) ≤ steps.old.records + fetches_left self.old (R.shown reader.now)) }
     {
         let before = steps.counts();
         let stepped = self.step(reader, judge, steps);

@@ -128,7 +128,7 @@ impl Fscan {
         ensures reads { IfOk result (λ scanned. FetchReads scanned steps.old steps.new) }
         ensures err { OnErr result (self.new ≡ self.old) }
         ensures tried { OnErr result (TriedOne steps.old steps.new) }
-        ensures fetches { let entries = (R.shown reader.now).entries self.old.walk.index self.old.walk.snap in IfOk result (λ scanned. steps.new.records + to_fetch self.new.walk entries (skipped skip.now) ≤ steps.old.records + to_fetch self.old.walk entries (skipped skip.now)) }
+        ensures records { let entries = (R.shown reader.now).entries self.old.walk.index self.old.walk.snap in IfOk result (λ scanned. steps.new.records + to_fetch self.new.walk entries (skipped skip.now) ≤ steps.old.records + to_fetch self.old.walk entries (skipped skip.now)) }
         ensures pages { steps.new.pages ≡ steps.old.pages }
     {
         match self.next(skip) {

@@ -17,5 +17,5 @@ returns-in-Err-clause-err g c =
     let mid = c.step-stepped.new.self in
     (trace_keeps mid c.count.new.self _ c.count.ensures).rest shown c.step-stepped.ensures.fits ∙ c.in-Err.ensures.err
 
-pub returns-in-Ok-clause-fetches : goal.returns-in-Ok-clause-fetches
-returns-in-Ok-clause-fetches g c settled = subst (λ (x : Shape). c.step-stepped.new.steps.records + fetches_left x (g.R.Reader.shown c.args.reader.now) ≤ c.args.steps.now.records + fetches_left c.args.self.now (g.R.Reader.shown c.args.reader.now)) (sym c.count.ensures) (c.in-Ok.ensures.fetches settled)
+pub returns-in-Ok-clause-records : goal.returns-in-Ok-clause-records
+returns-in-Ok-clause-records g c settled = subst (λ (x : Shape). c.step-stepped.new.steps.records + fetches_left x (g.R.Reader.shown c.args.reader.now) ≤ c.args.steps.now.records + fetches_left c.args.self.now (g.R.Reader.shown c.args.reader.now)) (sym c.count.ensures) (c.in-Ok.ensures.records settled)

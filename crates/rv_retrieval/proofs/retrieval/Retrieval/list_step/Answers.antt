@@ -22,5 +22,5 @@ returns-in-Some-clause-err g c =
     let mid = c.final_key.new.self in
     err_from c.fetch_key.result v mid c.fetch_key.new.self shown (passed_rest v mid shown c.requires.control c.final_key.ensures.same c.final_key.ensures.passed) c.fetch_key.ensures.err
 
-pub returns-in-Some-clause-fetches : goal.returns-in-Some-clause-fetches
-returns-in-Some-clause-fetches g c = passed_fetches c.fetch_key.result c.args.self.now c.final_key.new.self (g.R.Reader.shown c.args.reader.now) _ _ _ c.requires.control c.final_key.ensures.same c.final_key.ensures.fewer c.fetch_key.ensures.fetches
+pub returns-in-Some-clause-records : goal.returns-in-Some-clause-records
+returns-in-Some-clause-records g c = passed_fetches c.fetch_key.result c.args.self.now c.final_key.new.self (g.R.Reader.shown c.args.reader.now) _ _ _ c.requires.control c.final_key.ensures.same c.final_key.ensures.fewer c.fetch_key.ensures.records

@@ -34,8 +34,8 @@ returns-clause-least g c sorted =
     let step = subst (λ (x : Shape). IfOk c.step.result (FrontStep x new shown (record { delivered = None; list = option_copied c.hiding.result }))) c.self.view_is c.step.ensures.step in
     front_least c.step.result v new shown (record { delivered = None; list = option_copied c.hiding.result }) c.requires.fits sorted (skips_by v (option_copied c.hiding.result) (option_copied c.list.result) hides keys) step
 
-pub returns-clause-fetches : goal.returns-clause-fetches
-returns-clause-fetches g c sorted =
+pub returns-clause-records : goal.returns-clause-records
+returns-clause-records g c sorted =
     let shown = g.R.Reader.shown c.args.reader.now in
     let v = c.args.self.now in
     let new = c.step.new.self in
@@ -44,5 +44,5 @@ returns-clause-fetches g c sorted =
     let whole : option_copied c.hiding.result ≡ option_copied c.list.result = hides ∙ ap (λ (b : Bool). if b then option_copied c.list.result else None) sorted in
     let keys = subst (λ (x : Shape). keys_of (option_copied c.list.result) ≡ x.joint.list) c.self.view_is c.list.ensures.keys in
     let same = subst (λ (x : Shape). SameFront x.front new) c.self.view_is c.step.ensures.same in
-    let step = subst (λ (x : Shape). IfOk c.step.result (λ s. c.step.new.steps.records + front_fetches new (own_entries x shown) skip ≤ c.args.steps.now.records + front_fetches x.front (own_entries x shown) skip)) c.self.view_is c.step.ensures.fetches in
+    let step = subst (λ (x : Shape). IfOk c.step.result (λ s. c.step.new.steps.records + front_fetches new (own_entries x shown) skip ≤ c.args.steps.now.records + front_fetches x.front (own_entries x shown) skip)) c.self.view_is c.step.ensures.records in
     subst (λ (x : Shape). IfOk c.step.result (λ s. c.step.new.steps.records + scan_fetches (record x { front = new }) shown ≤ c.args.steps.now.records + scan_fetches v shown)) (sym c.self.view_is) (scan_fewer c.step.result v new shown skip c.args.steps.now c.step.new.steps c.requires.fits c.requires.led refl (ap keys_of whole ∙ keys) same step)
