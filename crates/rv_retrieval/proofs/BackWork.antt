@@ -33,7 +33,7 @@ entries_sum : (plans : List ScanPlan) (shown : Shown) (snap : ℕ) → entries_o
 entries_sum [] shown snap = refl
 entries_sum (p ∷ plans) shown snap = refl
 
-entries_split : (j : Joint) (shown : Shown) → j.ended < length j.plans → entries_ahead j shown ≡ length (to_sieve j shown) + entries_of_scans (drop (j.ended + 1) j.plans) None shown j.snap
+pub entries_split : (j : Joint) (shown : Shown) → j.ended < length j.plans → entries_ahead j shown ≡ length (to_sieve j shown) + entries_of_scans (drop (j.ended + 1) j.plans) None shown j.snap
 entries_split j shown lt =
     ap (λ (ps : List ScanPlan). entries_of_scans ps j.place shown j.snap) (drop_more j.plans j.ended no_plan lt) ∙ ap (λ (n : ℕ). length (to_sieve j shown) + n) (sym (entries_sum (drop (j.ended + 1) j.plans) shown j.snap))
 
@@ -41,7 +41,7 @@ fewer : {X : Type 0} (p : X → Bool) (xs : List X) → length (filter p xs) ≤
 fewer p [] = omega arith
 fewer p (x ∷ xs) = let more = fewer p xs in elim (p x) as (λ b. length (cond b (x ∷ filter p xs) (filter p xs)) ≤ length (x ∷ xs)) [ true ↦ omega arith | false ↦ omega arith ]
 
-kept_few : (j : Joint) (entries : List IndexEntry) → length (kept_of j entries) ≤ length entries
+pub kept_few : (j : Joint) (entries : List IndexEntry) → length (kept_of j entries) ≤ length entries
 kept_few j entries =
     let mapped = length-map (filter (is_kept (present j).part j.list) entries) (λ (e : IndexEntry). e.row.0) in
     let few = fewer (is_kept (present j).part j.list) entries in

@@ -22,3 +22,6 @@ pub mod Courses
 pub mod Efforts
 pub mod Lives
 pub mod Openings
+pub mod BothSides
+pub mod Fetches
+pub mod Shorts

@@ -1,9 +1,10 @@
 -- The effort of a retrieval that was just made is at most the bound of the reader's lists.
-use Rattle.std.proofs.Common.{◌≡◌, ℕ, zero, suc, ◌+◌, ◌*◌, ◌<◌, ◌≤◌, List, [], ◌∷◌, length, filter, map, Bool, true, false, cond, ◌&&◌, ◌||◌, refl, ap, sym, ◌∙◌, arith, subst, Option, Some, None, Result, Ok, Err, IfOk, nat_eq, nat_lt}
+use Rattle.std.proofs.Common.{◌≡◌, ℕ, zero, suc, ◌+◌, ◌*◌, ◌<◌, ◌≤◌, List, [], ◌∷◌, length, filter, map, Bool, true, false, cond, ◌&&◌, ◌||◌, refl, ap, sym, ◌∙◌, arith, subst, Option, Some, None, Result, Ok, Err, IfOk, IfSome, nat_eq, nat_lt}
 use Rattle.std.specs.Prelude.{if◌then◌else◌}
 use Rattle.std.specs.List.{AllByRecursion, list_all, sum_by}
 use Rattle.std.proofs.lemmas.Bool.Decides.{nat_tests}
 use Rattle.std.proofs.lemmas.List.{length-map}
+use Rattle.std.proofs.lemmas.List.Quantifiers.{position-Some}
 use Rattle.std.proofs.lemmas.List.Sums.{sum_by-cons}
 use Rattle.std.proofs.lemmas.List.Sorted.{length_permutation, sum_by-IsPermutation}
 use Rattle.rv_value.specs.declared.record.Record.{Record}
@@ -25,13 +26,13 @@ use Rattle.rv_jscan.specs.Joint.{Joint, leaves_of, leaves_planned, under_way}
 use Rattle.rv_retrieval.specs.declared.query.Query.{Query}
 use Rattle.rv_retrieval.specs.declared.choosing.Background.{Background}
 use Rattle.rv_retrieval.specs.declared.choosing.Background.TheVariants.{Each, One}
-use Rattle.rv_retrieval.specs.declared.choosing.Role.TheVariants.{Restricted, Short}
+use Rattle.rv_retrieval.specs.declared.choosing.Role.TheVariants.{Restricted, Short, Sufficient}
 use Rattle.rv_retrieval.specs.declared.query.Goal2.{Goal2}
 use Rattle.rv_retrieval.specs.declared.query.Goal2.TheVariants.{FastFirst as Soon, TotalTime}
 use Rattle.rv_retrieval.specs.declared.choosing.Candidate.{Candidate}
 use Rattle.rv_retrieval.specs.declared.choosing.Choice.{Choice}
 use Rattle.rv_retrieval.specs.Asked.{CanAsk}
-use Rattle.rv_retrieval.specs.Choice.{AreScans, IsChosen, IsLeastOf, candidate_at, choice_of, order_index, restricted_choice, candidate_of, candidates_of, is_scanned, plan_of}
+use Rattle.rv_retrieval.specs.Choice.{AreScans, IsChosen, IsLeastOf, candidate_at, choice_of, leads, no_candidate, order_index, restricted_choice, candidate_of, candidates_of, is_scanned, plan_of}
 use Rattle.rv_retrieval.specs.Effort.{Awaiting, back_work, cuts_and_entries, effort, entries_of_scans, entries_planned, front_work, keys_work, life_of, sum_of, table_work}
 use Rattle.rv_retrieval.specs.Fronts.{Front, walk_of}
 use Rattle.rv_retrieval.specs.Opened.{Begun, front_begun, front_candidate, has_scans, walk_begun}
@@ -245,3 +246,23 @@ life_if (Err x) query shown choice scans front cs guaranteed cursor opening e ca
 pub awaits_if : {E : Type 0} (r : Result Shape E) (query : Query) (choice : Choice) (cs : List Candidate) (scans : List ScanPlan) (front : Front) (guaranteed cursor opening : ℕ) → IsChosen query.order query.goal cs choice → AreScans query.only cs choice.background scans → IfOk r (Begun query choice.strategy scans front guaranteed cursor opening) → IfOk r (λ v. Awaiting v)
 awaits_if (Ok v) query choice cs scans front guaranteed cursor opening chosen s b = begun_awaits query choice cs scans front guaranteed cursor opening v chosen s b
 awaits_if (Err x) query choice cs scans front guaranteed cursor opening chosen s b = tt
+
+-- the foreground's index is one of the table's
+pub front_there : (order : List ℕ) (goal : Goal2) (cs : List Candidate) (choice : Choice) → IsChosen order goal cs choice → IfSome choice.front (λ (at : ℕ). at < length cs)
+front_there order goal cs choice chosen = go (order_index order cs) chosen.short chosen.sufficient chosen.restricted refl chosen.least_sufficient chosen.rules
+  where
+    is : (o : Option ℕ) → choice.front ≡ o → IfSome o (λ (at : ℕ). at < length cs) → IfSome choice.front (λ (at : ℕ). at < length cs)
+    is o e h = subst (λ (x : Option ℕ). IfSome x (λ (at : ℕ). at < length cs)) (sym e) h
+
+    last : (goal : Goal2) (restricted : Option ℕ) → choice ≡ restricted_choice goal restricted → IfSome choice.front (λ (at : ℕ). at < length cs)
+    last Soon (Some at) r = is None (ap (λ (c : Choice). c.front) r) tt
+    last TotalTime (Some at) r = is None (ap (λ (c : Choice). c.front) r) tt
+    last Soon None r = is None (ap (λ (c : Choice). c.front) r) tt
+    last TotalTime None r = is None (ap (λ (c : Choice). c.front) r) tt
+
+    go : (found short sufficient restricted : Option ℕ) → order_index order cs ≡ found → IsLeastOf Sufficient cs sufficient → choice ≡ choice_of cs goal found short sufficient restricted → IfSome choice.front (λ (at : ℕ). at < length cs)
+    go (Some at) (Some n) sufficient restricted e l r = is (Some at) (ap (λ (c : Choice). c.front) r) (position-Some (λ (c : Candidate). leads order c.columns) cs at no_candidate e).0
+    go (Some at) None sufficient restricted e l r = is (Some at) (ap (λ (c : Choice). c.front) r) (position-Some (λ (c : Candidate). leads order c.columns) cs at no_candidate e).0
+    go None (Some n) sufficient restricted e l r = is None (ap (λ (c : Choice). c.front) r) tt
+    go None None (Some at) restricted e l r = is (Some at) (ap (λ (c : Choice). c.front) r) l.below
+    go None None None restricted e l r = last goal restricted r

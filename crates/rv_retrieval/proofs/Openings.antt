@@ -92,6 +92,20 @@ at_once_less v mid new shown back z e o spent =
     let sum = sum_back v.control (back_work mid.joint 0 shown) (back_work v.joint 0 shown) (front_work v shown) (table_work v shown) (keys_work (record v { joint = mid.joint })) (keys_work v) back spent in
     omega arith
 
+back_in : (c : Control) (b f t k : ℕ) → is_background c ≡ true → b ≤ sum_of c b f t k
+back_in Building b f t k h = omega arith
+back_in BackgroundAlone b f t k h = omega arith
+back_in ForegroundAlone b f t k h = absurd (cc)
+back_in FinalList b f t k h = absurd (cc)
+back_in FinalTable b f t k h = absurd (cc)
+back_in Done b f t k h = absurd (cc)
+
+pub at_once_tried : (v : Shape) (shown : Shown) (before after : Counts) → is_background v.control ≡ true → v.borrowed ≡ 0 → reads after ≤ reads before + back_work v.joint 0 shown + 1 → reads after ≤ reads before + effort v shown + 1
+at_once_tried v shown before after back z spent =
+    let was = unborrowed v shown z in
+    let part = back_in v.control (back_work v.joint 0 shown) (front_work v shown) (table_work v shown) (keys_work v) back in
+    omega arith
+
 pub below : (a b c : ℕ) → a < b → b ≤ c → a < c
 below a b c h i = omega arith
 

@@ -131,11 +131,14 @@ passes_left v mid row e h n = ap first_left e ∙ sym (ap (find (λ (k : ℕ). n
   where
     gone : find (λ (k : ℕ). not (has_key k v.delivered)) (row.0 ∷ keys_left v.joint.list (v.at + 1)) ≡ find (λ (k : ℕ). not (has_key k v.delivered)) (keys_left v.joint.list (v.at + 1))
     gone = rw h refl
+
 pub left_on : (v mid : Shape) (r : Option RowNo) → first_left mid ≡ first_left v → IsFirstLeft mid r → IsFirstLeft v r
 left_on v mid None e f = sym e ∙ f
 left_on v mid (Some row) e f = sym e ∙ f
+
 pub list_fetches : {E : Type 0} (r : Result Scanned E) (v mid : Shape) (row : RowNo) (shown : Shown) (c d : Counts) → mid ≡ record v { at = mid.at } → first_left v ≡ Some row.0 → d ≡ record_read c → IfOk r (λ s. s ≡ looked mid.query.only (row_at (rows_of mid shown) row.0)) → IfOk r (ListReads v shown c d)
 list_fetches (Err x) v mid row shown c d e f reads looks = tt
 list_fetches (Ok s) v mid row shown c d e f reads looks = subst (λ (k : Option ℕ). FetchesKey k v shown c d s) (sym f) (reads, looks ∙ ap (λ (x : Shape). looked x.query.only (row_at (rows_of x shown) row.0)) e)
+
 pub list_ends : (v : Shape) (shown : Shown) (c : Counts) → first_left v ≡ None → ListReads v shown c c End
 list_ends v shown c f = subst (λ (k : Option ℕ). FetchesKey k v shown c c End) (sym f) (refl, refl)

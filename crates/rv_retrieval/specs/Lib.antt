@@ -12,3 +12,4 @@ pub mod Rulings
 pub mod Runs
 pub mod Stepping
 pub mod Effort
+pub mod Short

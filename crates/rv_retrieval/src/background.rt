@@ -11,6 +11,7 @@ ghost use Rattle.rv_retrieval.specs.Stepping.{StepsBackground, StepsBehind, is_a
 ghost use Rattle.rv_retrieval.specs.Telling.{CountsRise, SameCounts, can_stop, list_len, noted, noted_drop, noted_list, noted_scan};
 ghost use Rattle.rv_retrieval.specs.Effort.{Awaiting, Falls, GiveSpends, Tries, effort};
 ghost use Rattle.rv_judge.specs.Counting.{reads};
+ghost use Rattle.rv_retrieval.specs.Short.{Settled};
 
 use crate::retrieval::Retrieval;
 use rv_jscan::{Given, Sieved, Taken, sieve};
@@ -170,6 +171,7 @@ impl Retrieval {
         ensures less { (shown : Shown) → RetrievalFits self.old shown → effort self.new shown ≤ effort self.old shown }
         ensures spends { (shown : Shown) → RetrievalFits self.old shown → IfOk result (λ g. GiveSpends g (effort self.old shown) (effort self.new shown)) }
         ensures awaiting { Awaiting self.old → Awaiting self.new }
+        ensures settled { Settled self.old → (self.new ≡ self.old) × (state judge.new ≡ state judge.old) }
     {
         self.give_piece(sieved, judge)
     }
@@ -181,6 +183,7 @@ impl Retrieval {
         ensures keeps { Keeps self.old self.new }
         ensures err { OnErr result (self.new ≡ self.old) }
         ensures quiet { OnErr result (state judge.new ≡ state judge.old) }
+        ensures settled { Settled self.old → (self.new ≡ self.old) × (state judge.new ≡ state judge.old) }
     {
         if !self.is_background() {
             return Ok(Given::Stale {
@@ -231,6 +234,7 @@ impl Retrieval {
         ensures spends { IfOk result (λ taken. reads steps.new + effort self.new (R.shown reader.now) ≤ reads steps.old + effort self.old (R.shown reader.now)) }
         ensures awaiting { Awaiting self.old → Awaiting self.new }
         ensures undropped { Tells self.old → IfOk result (IsOfUndropped self.new) }
+        ensures settled { Settled self.old → Settled self.new × (steps.new ≡ steps.old) }
     {
         let before = steps.counts();
         let taken = self.take_piece(reader, steps);
@@ -255,6 +259,7 @@ impl Retrieval {
         ensures spends { IfOk result (λ taken. reads steps.new + effort self.new (R.shown reader.now) ≤ reads steps.old + effort self.old (R.shown reader.now)) }
         ensures awaiting { Awaiting self.old → Awaiting self.new }
         ensures control { self.new.control ≡ self.old.control }
+        ensures settled { Settled self.old → Settled self.new × (steps.new ≡ steps.old) }
     {
         if !self.is_background() {
             return Ok(Taken::Nothing);

@@ -4,6 +4,7 @@ ghost use Rattle.rv_scan.specs.Due.{IsReady, StepsTo, skipped};
 ghost use Rattle.rv_retrieval.specs.Fronts.{CanFront, SameFront, front_rest, walk_of};
 ghost use Rattle.rv_retrieval.specs.Effort.{ReadsNone};
 ghost use Rattle.rv_judge.specs.Counting.{reads};
+ghost use Rattle.rv_retrieval.specs.Short.{front_fetches};
 
 use rv_judge::Steps;
 use rv_reader::Reader;
@@ -64,6 +65,8 @@ impl Front {
         ensures err { OnErr result (self.new ≡ self.old) }
         ensures once { reads steps.new ≤ reads steps.old + 1 }
         ensures none { IfOk result (λ scanned. ReadsNone scanned steps.old steps.new) }
+        ensures records { let entries = (R.shown reader.now).entries (walk_of self.old).index (walk_of self.old).snap in IfOk result (λ scanned. steps.new.records + front_fetches self.new entries (skipped skip.now) ≤ steps.old.records + front_fetches self.old entries (skipped skip.now)) }
+        ensures pages { steps.new.pages ≡ steps.old.pages }
     {
         self.fetching.step(reader, only, skip, steps)
     }
@@ -85,6 +88,8 @@ impl Front {
         ensures err { OnErr result (self.new ≡ self.old) }
         ensures once { reads steps.new ≤ reads steps.old + 1 }
         ensures none { IfOk result (λ scanned. ReadsNone scanned steps.old steps.new) }
+        ensures records { let entries = (R.shown reader.now).entries (walk_of self.old).index (walk_of self.old).snap in IfOk result (λ scanned. steps.new.records + front_fetches self.new entries (skipped skip.now) ≤ steps.old.records + front_fetches self.old entries (skipped skip.now)) }
+        ensures pages { steps.new.pages ≡ steps.old.pages }
     {
         self.telling
             .step(reader, only, skip, self.columns.as_slice(), steps)
@@ -107,6 +112,8 @@ impl Front {
         ensures err { OnErr result (self.new ≡ self.old) }
         ensures once { reads steps.new ≤ reads steps.old + 1 }
         ensures none { IfOk result (λ scanned. ReadsNone scanned steps.old steps.new) }
+        ensures records { let entries = (R.shown reader.now).entries (walk_of self.old).index (walk_of self.old).snap in IfOk result (λ scanned. steps.new.records + front_fetches self.new entries (skipped skip.now) ≤ steps.old.records + front_fetches self.old entries (skipped skip.now)) }
+        ensures pages { steps.new.pages ≡ steps.old.pages }
     {
         if self.is_alone() {
             self.tell(reader, only, skip, steps)

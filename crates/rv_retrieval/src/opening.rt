@@ -15,6 +15,8 @@ ghost use Rattle.rv_reader.specs.Tables.{IsTable};
 ghost use Rattle.rv_retrieval.specs.Effort.{Awaiting, back_work, effort, life_of};
 ghost use Rattle.rv_scan.specs.Places.{work as pages_work};
 ghost use Rattle.rv_value.specs.declared.record.Record.{Record as OneRecord};
+ghost use Rattle.std.specs.List.{AllByRecursion};
+ghost use Rattle.rv_retrieval.specs.Short.{IsRight, OnlyLeaves, Settled, fetches_left, has_short, keys_most};
 
 use crate::choosing::{Background, Candidate, Choice, candidates, choose, scans};
 use crate::front::Front;
@@ -179,6 +181,8 @@ impl Retrieval {
         ensures spends { IfOk result (λ given. reads steps.new + back_work self.new.joint 0 (R.shown reader.now) ≤ reads steps.old + back_work self.old.joint 0 (R.shown reader.now)) }
         ensures less { back_work self.new.joint 0 (R.shown reader.now) ≤ back_work self.old.joint 0 (R.shown reader.now) }
         ensures once { reads steps.new ≤ reads steps.old + 1 }
+        ensures keys { keys_most self.new.joint (R.shown reader.now) ≤ keys_most self.old.joint (R.shown reader.now) }
+        ensures only { OnlyLeaves steps.old steps.new }
     {
         match self.take_joint(reader, steps)? {
             Taken::Piece(piece) => {
@@ -205,6 +209,8 @@ impl Retrieval {
         ensures spends { OnOk result (reads steps.new + back_work self.new.joint 0 (R.shown reader.now) ≤ reads steps.old + back_work self.old.joint 0 (R.shown reader.now)) }
         ensures less { back_work self.new.joint 0 (R.shown reader.now) ≤ back_work self.old.joint 0 (R.shown reader.now) }
         ensures tried { reads steps.new ≤ reads steps.old + back_work self.old.joint 0 (R.shown reader.now) + 1 }
+        ensures keys { keys_most self.new.joint (R.shown reader.now) ≤ keys_most self.old.joint (R.shown reader.now) }
+        ensures only { OnlyLeaves steps.old steps.new }
     {
         'pieces: while self.scan_piece(reader, steps)? {}
         Ok(())
@@ -227,6 +233,9 @@ impl Retrieval {
         ensures less { self.old.borrowed ≡ 0 → OnOk result (effort self.new (R.shown reader.now) ≤ effort self.old (R.shown reader.now)) }
         ensures tried { self.old.borrowed ≡ 0 → reads steps.new ≤ reads steps.old + effort self.old (R.shown reader.now) + 1 }
         ensures awaiting { Awaiting self.old → OnOk result (Awaiting self.new) }
+        ensures settled { Awaiting self.old → self.old.joint.list ≡ None → OnOk result (Settled self.new) }
+        ensures few { Awaiting self.old → self.old.joint.list ≡ None → keys_most self.old.joint (R.shown reader.now) ≤ 20 → OnOk result (fetches_left self.new (R.shown reader.now) ≤ 20) }
+        ensures only { OnlyLeaves steps.old steps.new }
     {
         self.scan_all(reader, steps)?;
         self.scan_ended(0);
@@ -252,6 +261,9 @@ impl Retrieval {
         ensures less { self.old.borrowed ≡ 0 → OnOk result (effort self.new (R.shown reader.now) ≤ effort self.old (R.shown reader.now)) }
         ensures tried { self.old.borrowed ≡ 0 → reads steps.new ≤ reads steps.old + effort self.old (R.shown reader.now) + 1 }
         ensures awaiting { Awaiting self.old → OnOk result (Awaiting self.new) }
+        ensures settled { is_one background ≡ true → Awaiting self.old → self.old.joint.list ≡ None → OnOk result (Settled self.new) }
+        ensures few { is_one background ≡ true → Awaiting self.old → self.old.joint.list ≡ None → keys_most self.old.joint (R.shown reader.now) ≤ 20 → OnOk result (fetches_left self.new (R.shown reader.now) ≤ 20) }
+        ensures only { OnlyLeaves steps.old steps.new }
     {
         match background {
             Background::One(_) => self.scan_at_once(reader, steps),
@@ -272,6 +284,7 @@ impl Retrieval {
         requires can { CanAsk query (R.shown reader.now) }
         requires candidates { candidates.now ≡ candidates_of query (R.shown reader.now) }
         requires choice { IsChosen query.order query.goal candidates.now choice }
+        requires right { AllByRecursion (IsRight (R.shown reader.now) query.snap) candidates.now }
         ensures made { IfOk result (IsMade query (R.shown reader.now) choice cursor opening) }
         ensures started { IfOk result (Starts cursor opening) }
         ensures bound { IfOk result (λ r. r.guaranteed ≡ guarantee_of query (R.shown reader.now) candidates.now choice) }
@@ -285,6 +298,8 @@ impl Retrieval {
         ensures unborrowed { IfOk result (λ r. r.borrowed ≡ 0) }
         ensures life { IfOk result (λ r. effort r (R.shown reader.now) < life_of query (R.shown reader.now)) }
         ensures awaiting { IfOk result (λ r. Awaiting r) }
+        ensures unlisted { IfOk result (λ r. r.joint.list ≡ None) }
+        ensures few { has_short query (R.shown reader.now) ≡ true → IfOk result (λ r. keys_most r.joint (R.shown reader.now) ≤ 20) }
     {
         let scans = scans(alloc, &query.only, candidates, choice.background)?;
         let front = chosen_front(alloc, &query, candidates, choice.front)?;
@@ -324,6 +339,8 @@ impl Retrieval {
         ensures effort { IfOk result (λ r. effort r (R.shown reader.now) ≤ life_of query (R.shown reader.now)) }
         ensures reads { reads steps.new ≤ reads steps.old + life_of query (R.shown reader.now) }
         ensures awaiting { IfOk result (λ r. Awaiting r) }
+        ensures short { has_short query (R.shown reader.now) ≡ true → IfOk result (λ r. Settled r × (fetches_left r (R.shown reader.now) ≤ 20)) }
+        ensures only { OnlyLeaves steps.old steps.new }
     {
         let before = steps.counts();
         let candidates = candidates(alloc, reader, &query)?;

@@ -25,6 +25,7 @@ ghost use Rattle.rv_retrieval.specs.Telling.{counted, index_of, list_len, new_tr
 ghost use Rattle.rv_retrieval.specs.Effort.{Falls, Tries, front_work, table_work};
 ghost use Rattle.rv_judge.specs.Counting.{record_read};
 ghost use Rattle.rv_value.specs.declared.record.Record.{Record as OneRecord};
+ghost use Rattle.rv_retrieval.specs.Short.{OnlyLeaves, scan_fetches};
 
 use crate::front::Front;
 use crate::query::Query;
@@ -228,6 +229,7 @@ impl Retrieval {
         ensures taken { IfOk result (Takes self.new.joint) }
         ensures fits { JointFits self.new.joint (R.shown reader.now) }
         ensures reads { steps.new ≡ steps_read self.old.joint steps.old }
+        ensures only { OnlyLeaves steps.old steps.new }
     {
         self.joint.take(reader, steps)
     }
@@ -272,6 +274,8 @@ impl Retrieval {
         ensures err { OnErr result (self.new ≡ self.old) }
         ensures tries { Tries steps.old steps.new (front_work self.old (R.shown reader.now)) (front_work self.new (R.shown reader.now)) }
         ensures falls { IfOk result (λ s. Falls s steps.old steps.new (front_work self.old (R.shown reader.now)) (front_work self.new (R.shown reader.now))) }
+        ensures records { is_sorted self.old.strategy ≡ true → IfOk result (λ s. steps.new.records + scan_fetches self.new (R.shown reader.now) ≤ steps.old.records + scan_fetches self.old (R.shown reader.now)) }
+        ensures pages { steps.new.pages ≡ steps.old.pages }
     {
         let skip = Skip {
             delivered: None,

@@ -12,6 +12,7 @@ ghost use Rattle.rv_retrieval.specs.Shape.{Delivers, DoesStep, EndsIn, KeyAt, Ne
 ghost use Rattle.rv_retrieval.specs.Stepping.{Borrows, DoesIts, Remembered, RemembersBy, StepsAs, ended_by, IsFirstLeft, ListReads, WalkReads};
 ghost use Rattle.rv_retrieval.specs.Telling.{CountsRise, SameCounts};
 ghost use Rattle.rv_retrieval.specs.Effort.{Awaiting, Falls, FgSpends, Tries, effort, keys_work, to_borrow};
+ghost use Rattle.rv_retrieval.specs.Short.{Settled, fetches_left};
 
 use crate::retrieval::Retrieval;
 use rv_judge::{Control, Event, Happening, Judge, Steps, Strategy};
@@ -95,6 +96,9 @@ impl Retrieval {
         ensures tries { Tries steps.old steps.new (effort self.old (R.shown reader.now)) (effort self.new (R.shown reader.now)) }
         ensures falls { IfOk result (λ s. Falls s steps.old steps.new (effort self.old (R.shown reader.now)) (effort self.new (R.shown reader.now))) }
         ensures awaiting { Awaiting self.old → Awaiting self.new }
+        ensures records { IfOk result (λ s. steps.new.records + fetches_left self.new (R.shown reader.now) ≤ steps.old.records + fetches_left self.old (R.shown reader.now)) }
+        ensures pages { steps.new.pages ≡ steps.old.pages }
+        ensures settled { Settled self.old → Settled self.new }
     {
         match self.final_key() {
             None => {
@@ -127,6 +131,9 @@ impl Retrieval {
         ensures awaiting { Awaiting self.old → Awaiting self.new }
         ensures reads { steps.new ≡ record_read steps.old }
         ensures looks { IfOk result (λ s. s ≡ looked self.old.query.only (row_at (rows_of self.old (R.shown reader.now)) row.0)) }
+        ensures records { IfOk result (λ s. steps.new.records + fetches_left self.new (R.shown reader.now) ≤ steps.old.records + fetches_left self.old (R.shown reader.now)) }
+        ensures pages { steps.new.pages ≡ steps.old.pages }
+        ensures settled { Settled self.old → Settled self.new }
     {
         let found = self.examine(reader, row, steps)?;
         self.pass_key();
@@ -285,6 +292,9 @@ impl Retrieval {
         ensures falls { IfOk result (λ s. Falls s steps.old steps.new (effort self.old (R.shown reader.now)) (effort self.new (R.shown reader.now))) }
         ensures awaiting { Awaiting self.old → Awaiting self.new }
         ensures fetches { IfOk result (WalkReads self.old (R.shown reader.now) steps.old steps.new) }
+        ensures records { Settled self.old → IfOk result (λ s. steps.new.records + fetches_left self.new (R.shown reader.now) ≤ steps.old.records + fetches_left self.old (R.shown reader.now)) }
+        ensures pages { steps.new.pages ≡ steps.old.pages }
+        ensures settled { Settled self.old → Settled self.new }
     {
         match self.scan_front(reader, steps)? {
             Scanned::Found(record) => Ok(Scanned::Found(record)),
@@ -379,6 +389,10 @@ impl Retrieval {
         ensures tries { Tries steps.old steps.new (effort self.old (R.shown reader.now)) (effort self.new (R.shown reader.now)) }
         ensures falls { Awaiting self.old → IfOk result (λ s. Falls s steps.old steps.new (effort self.old (R.shown reader.now)) (effort self.new (R.shown reader.now))) }
         ensures awaiting { Awaiting self.old → Awaiting self.new }
+        ensures settled { Settled self.old → Settled self.new }
+        ensures unasked { Settled self.old → state judge.new ≡ state judge.old }
+        ensures pages { Settled self.old → steps.new.pages ≡ steps.old.pages }
+        ensures records { Settled self.old → IfOk result (λ s. steps.new.records + fetches_left self.new (R.shown reader.now) ≤ steps.old.records + fetches_left self.old (R.shown reader.now)) }
     {
         match self.control() {
             Control::Building => self.building_step(reader, judge, steps),
@@ -416,6 +430,10 @@ impl Retrieval {
         ensures tries { Tries steps.old steps.new (effort self.old (R.shown reader.now)) (effort self.new (R.shown reader.now)) }
         ensures spends { Awaiting self.old → IfOk result (λ fg. FgSpends fg steps.old steps.new (effort self.old (R.shown reader.now)) (effort self.new (R.shown reader.now))) }
         ensures awaiting { Awaiting self.old → Awaiting self.new }
+        ensures settled { Settled self.old → Settled self.new }
+        ensures unasked { Settled self.old → state judge.new ≡ state judge.old }
+        ensures pages { Settled self.old → steps.new.pages ≡ steps.old.pages }
+        ensures records { Settled self.old → IfOk result (λ s. steps.new.records + fetches_left self.new (R.shown reader.now) ≤ steps.old.records + fetches_left self.old (R.shown reader.now)) }
     {
         let before = steps.counts();
         let stepped = self.step(reader, judge, steps);

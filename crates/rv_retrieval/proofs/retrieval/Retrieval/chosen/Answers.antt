@@ -1,6 +1,7 @@
 use Rattle.rv_retrieval.proofs.Chosen.{begun_back, begun_way, chosen_opens, few_scans, one_background, one_found}
 use Rattle.rv_retrieval.proofs.Starting.{begun_tells_if, chosen_has, one_scan, planned_known, planned_once, short_if}
-use Rattle.rv_retrieval.proofs.Lives.{awaits_if, life_if}
+use Rattle.rv_retrieval.proofs.Lives.{awaits_if, life_if, front_there}
+use Rattle.rv_retrieval.proofs.Shorts.{few_if}
 use Rattle.rv_retrieval.proofs.retrieval.Retrieval.chosen.Goals as goal
 
 pub begin-requires : goal.begin-requires
@@ -39,3 +40,9 @@ returns-clause-life g c = life_if c.begin.result c.args.query (g.R.Reader.shown 
 
 pub returns-clause-awaiting : goal.returns-clause-awaiting
 returns-clause-awaiting g c = awaits_if c.begin.result c.args.query c.args.choice c.args.candidates.now c.in_ok-scans.scans.items c.in_ok-front.front _ c.args.cursor c.args.opening c.requires.choice c.in_ok-scans.ensures c.begin.ensures.begun
+
+pub returns-clause-few : goal.returns-clause-few
+returns-clause-few g c short = few_if c.begin.result c.args.query (g.R.Reader.shown c.args.reader.now) c.args.choice c.in_ok-scans.scans.items c.in_ok-front.front c.args.candidates.now _ c.args.cursor c.args.opening c.requires.candidates c.requires.can c.requires.choice c.in_ok-scans.ensures c.requires.right c.begin.ensures.begun short
+
+pub guarantee-guaranteed-requires-clause-place : goal.guarantee-guaranteed-requires-clause-place
+guarantee-guaranteed-requires-clause-place g c = front_there c.args.query.order c.args.query.goal c.args.candidates.now c.args.choice c.requires.choice

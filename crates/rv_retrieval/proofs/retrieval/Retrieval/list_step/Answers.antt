@@ -3,6 +3,7 @@ use Rattle.rv_retrieval.specs.Shape.{Shape}
 use Rattle.rv_retrieval.proofs.Controls.{passed_rest}
 use Rattle.rv_retrieval.proofs.Delivering.{does_from, err_from, list_none}
 use Rattle.rv_retrieval.proofs.Stepped.{list_ends, list_fetches}
+use Rattle.rv_retrieval.proofs.Fetches.{passed_fetches}
 use Rattle.rv_retrieval.proofs.retrieval.Retrieval.list_step.Goals as goal
 
 pub returns-in-None-clause-step : goal.returns-in-None-clause-step
@@ -27,3 +28,6 @@ returns-in-Some-clause-fetches g c = list_fetches c.fetch_key.result c.args.self
 
 pub returns-in-None-clause-fetches : goal.returns-in-None-clause-fetches
 returns-in-None-clause-fetches g c = list_ends c.args.self.now (g.R.Reader.shown c.args.reader.now) c.args.steps.now c.in-None.ensures.first
+
+pub returns-in-Some-clause-records : goal.returns-in-Some-clause-records
+returns-in-Some-clause-records g c = passed_fetches c.fetch_key.result c.args.self.now c.final_key.new.self (g.R.Reader.shown c.args.reader.now) _ _ _ c.requires.control c.final_key.ensures.same c.final_key.ensures.fewer c.fetch_key.ensures.records
