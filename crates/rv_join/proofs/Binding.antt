@@ -92,7 +92,7 @@ pub opens_if : {E : Type 0} (r : Result Shape E) (a : Asked) (shown : Shown) (ou
 opens_if (Err e) a shown outer query cursor opening asks opened fits left = tt
 opens_if (Ok v) a shown outer query cursor opening asks opened fits left = record {
   fits = fits;
-  asks = subst (Asks a outer) (sym opened.asked) asks;
+  asks = subst (Asks a outer) (sym opened.made.asked) asks;
   rest_is = left ∙ ap (qualifying query.only) (ap (λ t. shown.rows t query.snap) asks.item.table ∙ ap (λ n. shown.rows (item_at a (length outer)).table n) asks.item.snap) ∙ filter_same _ _ (λ (x : Record). asks.binds x.values) (rows_at a shown (length outer));
 }
 

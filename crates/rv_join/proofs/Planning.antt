@@ -72,6 +72,9 @@ sorted_value xs ys zs v value p is = rw (value, is) (IsPermutation-trans _ _ _ (
 pub reversed : {A : Type 0} (xs ys : List A) → IsPermutation xs ys → IsPermutation (reverse xs) (reverse ys)
 reversed xs ys p = IsPermutation-trans _ _ _ (IsPermutation-sym _ _ (IsPermutation-reverse xs)) (IsPermutation-trans _ _ _ p (IsPermutation-reverse ys))
 
+pub reversed_value : {A : Type 0} (xs ys v : List A) → v ≡ reverse xs → IsPermutation xs ys → IsPermutation v (reverse ys)
+reversed_value xs ys v value p = rw value (reversed xs ys p)
+
 pub gathered_more : (a : Asked) (shown : Shown) (o : Offer) (old new : Stacked) (had has : List Offer) → Takes a shown o old new → has ≡ o ∷ had → GathersMore a shown old had new has
 gathered_more a shown o old new had has takes is = rw is (record {
   fits = takes.fits;
