@@ -1,5 +1,5 @@
 -- What a plan keeps at each call: what its levels keep, and over one FROM item the counts.
-use Rattle.std.proofs.Common.{◌≡◌, ◌⊎◌, ℕ, ◌+◌, ◌<◌, List, [], ◌∷◌, length, Option, Some, None, Result, Ok, Err, IfOk, OnErr, refl, ap, sym, ◌∙◌, arith, subst, inl, inr, zero, suc, slice_index_or}
+use Rattle.std.proofs.Common.{◌≡◌, ℕ, ◌+◌, List, [], ◌∷◌, length, Result, Ok, Err, IfOk, OnErr, refl, ap, sym, ◌∙◌, subst, inl, zero, suc, slice_index_or}
 use Rattle.rv_judge.specs.declared.counting.Counts.{Counts}
 use Rattle.rv_judge.specs.declared.events.Trace.{Trace}
 use Rattle.rv_reader.specs.Shown.{Shown}
@@ -9,8 +9,8 @@ use Rattle.rv_join.specs.declared.places.Asked.{Asked}
 use Rattle.rv_join.specs.declared.level.Level.{Level}
 use Rattle.rv_join.specs.declared.plan.PlanStep.{PlanStep}
 use Rattle.rv_join.specs.Levels.{AllFit, LevelFits, Stacked, StackFits, first_of}
-use Rattle.rv_join.specs.Moves.{Rises, StackStays}
-use Rattle.rv_join.specs.Pieces.{level_at, waits}
+use Rattle.rv_join.specs.Moves.{StackStays}
+use Rattle.rv_join.specs.Pieces.{level_at}
 use Rattle.rv_join.specs.Plans.{AreReads, HoldsGood, PlanFits, PlanKept, PlanMoves, Planned, RisesAlone}
 use Rattle.rv_join.proofs.Accounting.{alone_above}
 

@@ -1,4 +1,4 @@
-use Rattle.std.proofs.Common.{refl, sym, ◌∙◌}
+use Rattle.std.proofs.Common.{refl, ◌∙◌}
 use Rattle.rv_join.proofs.Beginning.{begins_good, begins_with}
 use Rattle.rv_join.proofs.Running.{can_run, offers_are}
 use Rattle.rv_join.proofs.plan.Plan.open.Goals as goal
