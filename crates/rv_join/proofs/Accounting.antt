@@ -1,11 +1,11 @@
 -- What a plan has read, and over one FROM item what its one retrieval has read.
-use Rattle.std.proofs.Common.{◌≡◌, ◌⊎◌, ℕ, ◌+◌, ◌<◌, List, [], ◌∷◌, length, true, false, nat_eq, None, refl, ap, sym, ◌∙◌, arith, subst, inl, inr}
+use Rattle.std.proofs.Common.{◌≡◌, ℕ, ◌+◌, ◌<◌, List, [], ◌∷◌, length, false, nat_eq, None, refl, ap, ◌∙◌, arith, subst, inl, inr}
 use Rattle.std.proofs.lemmas.Bool.Decides.{nat_tests}
 use Rattle.rv_judge.specs.declared.counting.Counts.{Counts}
 use Rattle.rv_judge.specs.declared.events.Trace.{Trace}
 use Rattle.rv_reader.specs.Shown.{Shown}
 use Rattle.rv_retrieval.specs.Shape.{Shape}
-use Rattle.rv_retrieval.specs.Telling.{CountsRise}
+use Rattle.rv_retrieval.specs.Telling.{CountsAll, CountsRise}
 use Rattle.rv_join.specs.declared.places.Asked.{Asked}
 use Rattle.rv_join.specs.declared.level.Level.{Level}
 use Rattle.rv_join.specs.Levels.{StackFits, Stacked, first_in, first_of, is_last, used}
@@ -44,6 +44,13 @@ reads_rise t u reads before after are rise = record {
   leaves = rw (are.leaves, rise.leaves) refl;
   fetches = rw (are.fetches, rise.fetches) refl;
 }
+
+-- the first retrieval's counts are the plan's, where it was just opened
+pub opened_counts : (p : Planned) (before after : Counts) → p.stack.above ≡ [] → AreReads (first_of p.stack).here.trace p.reads → CountsAll p.stack.at.here.trace before after → CountsAll (plan_trace p) before after
+opened_counts p before after none are all = record { pages = here.pages ∙ all.pages; leaves = here.leaves ∙ all.leaves; fetches = here.fetches ∙ all.fetches }
+  where
+    here : AreReads p.stack.at.here.trace p.reads
+    here = subst (λ ls. AreReads (first_in ls p.stack.at).here.trace p.reads) none are
 
 -- the counts of a plan rise by what its call reads
 pub plan_rises : (old mid new : Planned) (before after : Counts) → mid.reads ≡ old.reads → new ≡ record mid { reads = reads_with mid.reads before after } → CountsRise (plan_trace old) (plan_trace new) before after

@@ -1,9 +1,6 @@
 -- A plan that was just opened.
-use Rattle.std.proofs.Common.{◌≡◌, ℕ, ◌+◌, ◌<◌, ◌≤◌, List, [], ◌∷◌, ◌++◌, length, Bool, true, false, None, refl, ap, sym, ◌∙◌, arith, subst, ◌==◌, ◌||◌, if◌then◌else◌}
-use Rattle.std.specs.List.{Contains}
+use Rattle.std.proofs.Common.{◌≡◌, ℕ, List, [], length, Bool, true, false, None, refl, arith, ◌==◌, ◌||◌, if◌then◌else◌}
 use Rattle.rv_judge.specs.declared.counting.Counts.{Counts}
-use Rattle.rv_value.specs.declared.value.Value.{Value}
-use Rattle.rv_restrict.specs.declared.atom.ColRef.{ColRef}
 use Rattle.rv_catalog.specs.declared.def.Select.{Select}
 use Rattle.rv_catalog.specs.declared.def.IndexDef.{IndexDef}
 use Rattle.rv_model.specs.declared.state.Offer.{Offer}
@@ -13,13 +10,12 @@ use Rattle.rv_join.specs.declared.places.Asked.{Asked}
 use Rattle.rv_join.specs.declared.gather.Stage.{Stage}
 use Rattle.rv_join.specs.declared.gather.Stage.TheVariants.{AsFound, Gathering, Giving}
 use Rattle.rv_join.specs.Asking.{AreWide, CanPlan, CanRun, IsAsked, OpensItem, by_index}
-use Rattle.rv_join.specs.Levels.{Stacked, bag, first_of, under, tables_of}
+use Rattle.rv_join.specs.Levels.{Stacked, bag}
 use Rattle.rv_join.specs.Moves.{Starts}
-use Rattle.rv_model.specs.Offering.{offers_over}
 use Rattle.rv_join.specs.Order.{Lead}
-use Rattle.rv_join.specs.Plans.{AreReads, HoldsGood, PlanFits, Planned, plan_rest, rest_at, stage_of}
+use Rattle.rv_join.specs.Plans.{HoldsGood, Planned, plan_rest, rest_at, stage_of}
 use Rattle.rv_join.proofs.Opening.{opened_fits, opened_is}
-use Rattle.rv_join.proofs.Running.{by_first, can_run, offers_are}
+use Rattle.rv_join.proofs.Running.{by_first, can_run}
 
 lead_none : (others : List Offer) → Lead [] others
 lead_none others d e c i = let inside = c.1 in absurd (omega (arith, inside))

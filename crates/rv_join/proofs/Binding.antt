@@ -1,11 +1,10 @@
 -- What a retrieval of an item is asked can be asked of the reader, and its restriction can be bound.
-use Rattle.std.proofs.Common.{◌≡◌, ◌⊎◌, ℕ, ◌+◌, ◌<◌, ◌≤◌, ◌-◌, List, [], ◌∷◌, ◌++◌, length, max, Bool, true, false, cond, not, ◌&&◌, ◌||◌, ◌==◌, nat_lt, nat_eq, refl, ap, sym, ◌∙◌, arith, subst, slice_index_or, replicate, zero, suc, filter, Result, Ok, Err, IfOk}
+use Rattle.std.proofs.Common.{◌≡◌, ℕ, ◌+◌, ◌<◌, ◌≤◌, List, [], ◌∷◌, ◌++◌, length, max, Bool, true, false, cond, not, ◌||◌, ◌==◌, nat_lt, refl, ap, sym, ◌∙◌, arith, subst, slice_index_or, filter, Result, Ok, Err, IfOk}
 use Rattle.std.specs.List.{AllByRecursion, list_all, list_any}
 use Rattle.std.proofs.lemmas.Bool.Decides.{nat_tests}
 use Rattle.std.proofs.lemmas.Grind.{common_steps}
 use Rattle.std.proofs.lemmas.List.{get_or_append_left}
 use Rattle.rv_value.specs.declared.value.Value.{Value}
-use Rattle.rv_value.specs.declared.value.Value.TheVariants.{Null}
 use Rattle.rv_value.specs.declared.record.Record.{Record}
 use Rattle.rv_restrict.specs.declared.atom.ColRef.{ColRef}
 use Rattle.rv_restrict.specs.Bind.{can_bind, outer_fits, passes_at, rows_has, taken}
@@ -20,7 +19,7 @@ use Rattle.rv_retrieval.specs.Opened.{Opened}
 use Rattle.rv_retrieval.specs.Rest.{qualifying}
 use Rattle.rv_retrieval.specs.Shape.{RetrievalFits, Shape, rest}
 use Rattle.rv_join.specs.declared.places.Asked.{Asked}
-use Rattle.rv_join.specs.Asking.{AreWide, Asks, AsksItem, CanRun, IsIndexAt, OpensItem, asked_uses, col_at, have_column, item_at, only_names, rows_at, same_column}
+use Rattle.rv_join.specs.Asking.{AreWide, Asks, CanRun, IsIndexAt, OpensItem, asked_uses, col_at, have_column, item_at, only_names, rows_at, same_column}
 use Rattle.rv_join.specs.Levels.{widened}
 use Rattle.rv_join.proofs.Naming.{only_named, or_right, taken_named}
 
@@ -92,7 +91,7 @@ pub opens_if : {E : Type 0} (r : Result Shape E) (a : Asked) (shown : Shown) (ou
 opens_if (Err e) a shown outer query cursor opening asks opened fits left = tt
 opens_if (Ok v) a shown outer query cursor opening asks opened fits left = record {
   fits = fits;
-  asks = subst (Asks a outer) (sym opened.asked) asks;
+  asks = subst (Asks a outer) (sym opened.made.asked) asks;
   rest_is = left ∙ ap (qualifying query.only) (ap (λ t. shown.rows t query.snap) asks.item.table ∙ ap (λ n. shown.rows (item_at a (length outer)).table n) asks.item.snap) ∙ filter_same _ _ (λ (x : Record). asks.binds x.values) (rows_at a shown (length outer));
 }
 

@@ -1,12 +1,14 @@
 -- A call of one level's retrieval that owes what it owed leaves the bag and what leads.
-use Rattle.std.proofs.Common.{◌≡◌, ℕ, ◌+◌, ◌<◌, ◌≤◌, List, [], ◌∷◌, ◌++◌, length, refl, ap, sym, ◌∙◌, arith, subst, zero, suc, slice_index_or, slice_set}
+use Rattle.std.proofs.Common.{◌≡◌, ℕ, ◌+◌, ◌<◌, ◌≤◌, List, [], ◌∷◌, ◌++◌, length, refl, ap, sym, ◌∙◌, arith, subst, zero, suc, slice_index_or, slice_set, position, Option, Some, None}
 use Rattle.std.specs.List.{flat_map}
+use Rattle.std.proofs.lemmas.List.Quantifiers.{position-Some}
 use Rattle.rv_reader.specs.Shown.{Shown}
 use Rattle.rv_join.specs.declared.places.Asked.{Asked}
 use Rattle.rv_join.specs.declared.level.Level.{Level}
 use Rattle.rv_join.specs.Levels.{AllFit, LevelFits, StackFits, Stacked, bag, given, given_in, over_held, still}
 use Rattle.rv_join.specs.Moves.{LevelStays, LevelsStay, SameFirst, StackStays}
 use Rattle.rv_join.specs.Order.{Lead, Led}
+use Rattle.rv_join.specs.Pieces.{is_waiting, place_or, waits}
 use Rattle.rv_join.proofs.Opening.{stays_held, stays_still}
 
 pub fit_at : (a : Asked) (shown : Shown) (place : ℕ) (ls : List Level) (i : ℕ) (d : Level) → i < length ls → AllFit a shown place ls → LevelFits a shown (slice_index_or ls i d)
@@ -37,10 +39,16 @@ levels_at a shown ls i old new le all is stays =
     let there = subst (λ l. LevelStays a shown l new) is (stays fits) in
     (levels_set a shown 0 ls i old new le all there, first_set a shown 0 ls i old new le all there)
 
--- no level was called
-pub levels_same : (a : Asked) (shown : Shown) (ls : List Level) → AllFit a shown 0 ls → LevelsStay a shown 0 ls ls × SameFirst a shown ls ls
-levels_same a shown [] all = (record { fits = all; count = refl; bag = refl }, refl)
-levels_same a shown (f ∷ ls) all = (record { fits = all; count = refl; bag = refl }, (refl, refl))
+-- the first level that awaits a piece is one of the open ones
+pub waits_within : (v : Stacked) → waits v ≤ length v.above
+waits_within v = by_place v.above (position is_waiting v.above) refl
+  where
+    position_below : (ls : List Level) (n : ℕ) → position is_waiting ls ≡ Some n → n ≤ length ls
+    position_below ls n e = let low = (position-Some is_waiting ls n v.at e).0 in omega (arith, low)
+
+    by_place : (ls : List Level) (o : Option ℕ) → position is_waiting ls ≡ o → place_or o (length ls) ≤ length ls
+    by_place ls None e = omega arith
+    by_place ls (Some n) e = position_below ls n e
 
 given_same : (a : Asked) (shown : Shown) (old new : List Level) (at : Level) → SameFirst a shown old new → given_in a shown new at ≡ given_in a shown old at
 given_same a shown [] new at same = rw same refl

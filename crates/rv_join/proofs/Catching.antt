@@ -1,16 +1,14 @@
 -- A row that the first level catches leads: what is over it is least of all that is left.
-use Rattle.std.proofs.Common.{◌≡◌, ℕ, ◌+◌, ◌<◌, ◌≤◌, List, [], ◌∷◌, ◌++◌, filter, length, map, drop, Bool, true, false, not, ◌&&◌, Option, Some, None, IsSome, refl, ap, sym, ◌∙◌, arith, subst, slice_index_or, is_lt, inl, inr, ◌⊎◌, Ordering, Less, Equal, Greater}
+use Rattle.std.proofs.Common.{◌≡◌, ℕ, List, [], ◌∷◌, ◌++◌, length, map, Bool, true, false, not, Some, None, refl, ap, sym, ◌∙◌, arith, subst, slice_index_or, is_lt, inl, inr, Ordering, Less, Equal, Greater}
 use Rattle.std.specs.List.{Contains, flat_map, list_all}
 use Rattle.std.specs.List.Sorted.{IsPermutation}
 use Rattle.std.specs.Ordering.{ordering_reverse}
 use Rattle.std.proofs.lemmas.List.Sorted.{IsPermutation-refl}
 use Rattle.std.proofs.lemmas.List.Elements.{Contains-append_cases, Contains-append_right, Contains-append_left}
 use Rattle.rv_value.specs.declared.value.Value.{Value}
-use Rattle.rv_value.specs.declared.value.Value.TheVariants.{Null}
 use Rattle.rv_value.specs.declared.record.Record.{Record}
 use Rattle.rv_value.specs.Order.{values_cmp}
 use Rattle.rv_value.specs.Orders.{values_cmp_total}
-use Rattle.rv_restrict.specs.declared.atom.ColRef.{ColRef}
 use Rattle.rv_restrict.specs.Bind.{rows_reads}
 use Rattle.rv_restrict.proofs.Tests.{and_left, and_right}
 use Rattle.rv_model.specs.declared.state.Offer.{Offer}
@@ -21,9 +19,9 @@ use Rattle.rv_retrieval.specs.Shape.{RetrievalFits, Shape, rest}
 use Rattle.rv_join.specs.declared.places.Asked.{Asked}
 use Rattle.rv_join.specs.declared.level.Level.{Level}
 use Rattle.rv_join.specs.Asking.{CanRun, col_at, item_at}
-use Rattle.rv_join.specs.Levels.{LevelFits, below, offered, over_held, over_rest, over_row, still, tables_of, under}
+use Rattle.rv_join.specs.Levels.{LevelFits, below, offered, over_held, over_row, still, under}
 use Rattle.rv_join.specs.Moves.{LevelMoves, LevelStays}
-use Rattle.rv_join.specs.Order.{IsByFirst, Lead, LevelLed, before}
+use Rattle.rv_join.specs.Order.{IsByFirst, Lead, before}
 use Rattle.rv_join.proofs.Opening.{found_bag, level_same, level_stays, stays_fits, stays_held, stays_still}
 
 none_in : {A : Type 0} (x : A) → Contains [] x → ⊥

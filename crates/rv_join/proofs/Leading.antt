@@ -1,8 +1,8 @@
 -- What is over the row that the first level gave last, through each change of the open levels.
-use Rattle.std.proofs.Common.{◌≡◌, ℕ, ◌+◌, ◌<◌, ◌≤◌, List, [], ◌∷◌, ◌++◌, length, Bool, true, false, Option, Some, None, refl, ap, sym, ◌∙◌, arith, subst}
+use Rattle.std.proofs.Common.{◌≡◌, List, [], ◌∷◌, ◌++◌, Some, None, ap, ◌∙◌, subst}
 use Rattle.std.specs.List.{Contains, flat_map}
 use Rattle.std.specs.List.Sorted.{IsPermutation}
-use Rattle.std.proofs.lemmas.List.Elements.{Contains-append_left, Contains-append_right}
+use Rattle.std.proofs.lemmas.List.Elements.{Contains-append_right}
 use Rattle.std.proofs.lemmas.List.Sorted.{IsPermutation-refl, IsPermutation-sym, IsPermutation-append_comm, IsPermutation-append_left, IsPermutation-append_right, IsPermutation-trans, Contains-permutation}
 use Rattle.std.proofs.lemmas.List.Concat.{flat_map-append}
 use Rattle.rv_value.specs.declared.value.Value.{Value}
@@ -10,8 +10,8 @@ use Rattle.rv_model.specs.declared.state.Offer.{Offer}
 use Rattle.rv_reader.specs.Shown.{Shown}
 use Rattle.rv_join.specs.declared.places.Asked.{Asked}
 use Rattle.rv_join.specs.declared.level.Level.{Level}
-use Rattle.rv_join.specs.Levels.{Stacked, bag, given, given_in, over_held, over_rest, over_row, still}
-use Rattle.rv_join.specs.Order.{Lead, Led, before}
+use Rattle.rv_join.specs.Levels.{given_in, over_held, over_rest, over_row, still}
+use Rattle.rv_join.specs.Order.{Lead}
 use Rattle.rv_join.proofs.Opening.{append_nil, assoc}
 
 pub bag_more : (a : Asked) (shown : Shown) (ls : List Level) (l : Level) → flat_map (still a shown) (ls ++ l ∷ []) ≡ flat_map (still a shown) ls ++ still a shown l

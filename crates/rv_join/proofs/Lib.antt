@@ -11,3 +11,4 @@ pub mod Binding
 pub mod Running
 pub mod Beginning
 pub mod Accounting
+pub mod Keeping

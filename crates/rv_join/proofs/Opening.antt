@@ -1,22 +1,19 @@
 -- Levels: a row that is found, a retrieval that is opened, a call that keeps the rest.
-use Rattle.std.proofs.Common.{◌≡◌, ℕ, ◌+◌, ◌<◌, ◌≤◌, List, [], ◌∷◌, ◌++◌, length, filter, map, drop, Bool, true, false, not, cond, Option, Some, None, refl, ap, sym, ◌∙◌, arith, subst, slice_index_or, zero, suc}
-use Rattle.std.specs.List.{Contains, flat_map}
+use Rattle.std.proofs.Common.{◌≡◌, ℕ, ◌+◌, ◌<◌, List, [], ◌∷◌, ◌++◌, length, map, drop, Option, Some, None, refl, ap, sym, ◌∙◌, arith, subst, slice_index_or, zero, suc}
+use Rattle.std.specs.List.{flat_map}
 use Rattle.std.specs.List.Sorted.{IsPermutation}
-use Rattle.std.proofs.lemmas.List.{drop_more, length-append}
-use Rattle.std.proofs.lemmas.List.Sorted.{IsPermutation-refl, IsPermutation-append_comm, IsPermutation-append_left}
+use Rattle.std.proofs.lemmas.List.Sorted.{IsPermutation-append_comm, IsPermutation-append_left}
 use Rattle.std.proofs.lemmas.List.Concat.{flat_map-append}
 use Rattle.std.proofs.lemmas.Grind.{common_steps}
 use Rattle.rv_value.specs.declared.value.Value.{Value}
 use Rattle.rv_value.specs.declared.record.Record.{Record}
-use Rattle.rv_restrict.specs.declared.atom.ColRef.{ColRef}
-use Rattle.rv_restrict.specs.Parts.{stands_among}
 use Rattle.rv_reader.specs.Shown.{Shown}
 use Rattle.rv_retrieval.specs.Rest.{AgreesIn, TakesOut}
 use Rattle.rv_retrieval.specs.Shape.{Keeps, RetrievalFits, Shape, rest}
 use Rattle.rv_join.specs.declared.places.Asked.{Asked}
 use Rattle.rv_join.specs.declared.places.Item.{Item}
 use Rattle.rv_join.specs.declared.level.Level.{Level}
-use Rattle.rv_join.specs.Asking.{AreWide, Asks, AsksItem, CanRun, OpensItem, asked_uses, col_at, holds, item_at, no_item, rows_at}
+use Rattle.rv_join.specs.Asking.{AreWide, Asks, CanRun, OpensItem, no_item, rows_at}
 use Rattle.rv_join.specs.Levels.{LevelFits, below, over_held, over_rest, over_row, still, tables_of, under, widened}
 use Rattle.rv_join.specs.Moves.{Descends, LevelStays}
 use Rattle.rv_join.proofs.Same.{alike_last, alike_wide, flat_filter_same, under_same}

@@ -1,6 +1,5 @@
 -- Plans: each step keeps what it keeps, and does to the rest what it answers.
-use Rattle.std.proofs.Common.{◌≡◌, ℕ, ◌+◌, ◌<◌, ◌≤◌, List, [], ◌∷◌, ◌++◌, length, Bool, true, false, reverse, refl, ap, sym, ◌∙◌, arith, subst, suc, slice_index_or}
-use Rattle.std.specs.List.{Contains}
+use Rattle.std.proofs.Common.{◌≡◌, ◌+◌, List, [], ◌∷◌, ◌++◌, true, false, reverse, refl, ap, sym, ◌∙◌, arith, subst, suc, slice_index_or}
 use Rattle.std.specs.Cmp.{IsStrictWeakOrder}
 use Rattle.std.specs.List.Sorted.{IsPermutation, IsSortedBy}
 use Rattle.std.proofs.lemmas.List.Sorted.{IsPermutation-refl, IsPermutation-append, IsPermutation-append_right, IsPermutation-middle, IsPermutation-trans, IsPermutation-sym, IsPermutation-reverse, ranks_by, sorted_far}
@@ -9,16 +8,15 @@ use Rattle.rv_value.specs.Orders.{values_cmp_total}
 use Rattle.rv_model.specs.declared.state.Offer.{Offer}
 use Rattle.rv_reader.specs.Shown.{Shown}
 use Rattle.rv_join.specs.declared.places.Asked.{Asked}
-use Rattle.rv_join.specs.declared.gather.Stage.{Stage}
 use Rattle.rv_join.specs.declared.gather.Stage.TheVariants.{AsFound, Gathering, Giving}
 use Rattle.rv_join.specs.declared.plan.PlanStep.{PlanStep}
 use Rattle.rv_join.specs.declared.plan.PlanStep.TheVariants.{Row, End, Working}
 use Rattle.rv_join.specs.declared.stack.Moved.{Moved}
 use Rattle.rv_join.specs.declared.stack.Moved.TheVariants.{Gave, Done, Moving}
 use Rattle.rv_join.specs.Levels.{Stacked, StackFits, bag}
-use Rattle.rv_join.specs.Moves.{Kept, Moves, StackStays, Takes}
+use Rattle.rv_join.specs.Moves.{Kept, Moves, Takes}
 use Rattle.rv_join.specs.Order.{before}
-use Rattle.rv_join.specs.Plans.{GathersAll, GathersMore, Gives, GivesOne, HoldsGood, Planned, PlanKept, PlanMoves, PlanStays, Sorts, StepsTo, plan_rest, rest_at, step_of}
+use Rattle.rv_join.specs.Plans.{GathersAll, GathersMore, Gives, GivesOne, HoldsGood, Planned, PlanKept, PlanMoves, Sorts, StepsTo, plan_rest, step_of}
 use Rattle.rv_join.proofs.Opening.{append_nil}
 use Rattle.rv_join.proofs.Stacking.{none_before}
 
@@ -71,6 +69,9 @@ sorted_value xs ys zs v value p is = rw (value, is) (IsPermutation-trans _ _ _ (
 
 pub reversed : {A : Type 0} (xs ys : List A) → IsPermutation xs ys → IsPermutation (reverse xs) (reverse ys)
 reversed xs ys p = IsPermutation-trans _ _ _ (IsPermutation-sym _ _ (IsPermutation-reverse xs)) (IsPermutation-trans _ _ _ p (IsPermutation-reverse ys))
+
+pub reversed_value : {A : Type 0} (xs ys v : List A) → v ≡ reverse xs → IsPermutation xs ys → IsPermutation v (reverse ys)
+reversed_value xs ys v value p = rw value (reversed xs ys p)
 
 pub gathered_more : (a : Asked) (shown : Shown) (o : Offer) (old new : Stacked) (had has : List Offer) → Takes a shown o old new → has ≡ o ∷ had → GathersMore a shown old had new has
 gathered_more a shown o old new had has takes is = rw is (record {

@@ -1,5 +1,5 @@
 -- Nested loops over bound restrictions give the offers of the definition, in the same order.
-use Rattle.std.proofs.Common.{◌≡◌, ℕ, ◌+◌, ◌<◌, ◌≤◌, List, [], ◌∷◌, ◌++◌, filter, length, map, Bool, true, false, not, cond, ◌&&◌, ◌||◌, ◌==◌, refl, ap, sym, ◌∙◌, arith, subst, nat_eq, nat_le, nat_lt, max, slice_index_or, suc}
+use Rattle.std.proofs.Common.{◌≡◌, ℕ, ◌+◌, ◌<◌, List, [], ◌∷◌, ◌++◌, filter, length, map, Bool, true, false, not, cond, ◌&&◌, ◌||◌, ◌==◌, refl, ap, sym, ◌∙◌, arith, subst, nat_le, nat_lt, max, slice_index_or, suc}
 use Rattle.std.specs.List.{list_all, flat_map}
 use Rattle.std.proofs.lemmas.List.{append_assoc, get_or_append_left}
 use Rattle.std.proofs.lemmas.Bool.Decides.{nat_tests}
@@ -13,11 +13,10 @@ use Rattle.rv_restrict.specs.declared.atom.Atom.{Atom}
 use Rattle.rv_restrict.specs.declared.atom.Atom.TheVariants.{Compare, Between, Among, IsNull, Starts, Const}
 use Rattle.rv_restrict.specs.declared.atom.Tri.{Tri}
 use Rattle.rv_restrict.specs.declared.atom.Tri.TheVariants.{True, False, Unknown}
-use Rattle.rv_restrict.specs.Bind.{atom_place, group_place, rows_reads, taken, truth_over}
+use Rattle.rv_restrict.specs.Bind.{atom_place, group_place, rows_reads, taken}
 use Rattle.rv_restrict.specs.Truth.{atom_names_only, group_names_only, group_truth, is_true, lesser, names_only, truth_by}
 use Rattle.rv_restrict.proofs.Names.{truth_same}
 use Rattle.rv_restrict.proofs.Tests.{and_both}
-use Rattle.rv_model.specs.declared.state.Offer.{Offer}
 use Rattle.rv_reader.specs.Shown.{Shown}
 use Rattle.rv_join.specs.declared.places.Asked.{Asked}
 use Rattle.rv_join.specs.Asking.{holds}

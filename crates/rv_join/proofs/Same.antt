@@ -1,7 +1,6 @@
 -- Rows that agree in what a plan uses have the same offers under them.
-use Rattle.std.proofs.Common.{◌≡◌, ℕ, ◌+◌, ◌<◌, ◌≤◌, ◌-◌, List, [], ◌∷◌, ◌++◌, filter, length, map, Bool, true, false, cond, ◌&&◌, ◌||◌, refl, ap, sym, ◌∙◌, arith, subst, nat_eq, nat_lt, zero, suc, slice_index_or, replicate}
+use Rattle.std.proofs.Common.{◌≡◌, ℕ, ◌+◌, ◌-◌, List, [], ◌∷◌, ◌++◌, filter, length, map, Bool, true, false, cond, refl, ap, sym, ◌∙◌, arith, subst, zero, suc, slice_index_or, replicate}
 use Rattle.std.specs.List.{list_any, flat_map}
-use Rattle.std.proofs.lemmas.Bool.Decides.{nat_tests}
 use Rattle.std.proofs.lemmas.List.{append_assoc, replicate_more}
 use Rattle.std.proofs.lemmas.Grind.{common_steps}
 use Rattle.rv_value.specs.declared.value.Value.{Value}
@@ -9,7 +8,6 @@ use Rattle.rv_value.specs.declared.value.Value.TheVariants.{Null}
 use Rattle.rv_value.specs.declared.record.Record.{Record}
 use Rattle.rv_restrict.specs.declared.atom.ColRef.{ColRef}
 use Rattle.rv_restrict.specs.Bind.{rows_reads, taken}
-use Rattle.rv_restrict.specs.Parts.{stands_among}
 use Rattle.rv_restrict.specs.Truth.{is_true}
 use Rattle.rv_restrict.proofs.Names.{truth_same}
 use Rattle.rv_reader.specs.Entries.{column_of}

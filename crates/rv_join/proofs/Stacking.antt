@@ -1,6 +1,6 @@
 -- Each change of the open levels keeps the bag, but for an offer that is given.
-use Rattle.std.proofs.Common.{◌≡◌, ℕ, ◌+◌, ◌<◌, ◌≤◌, List, [], ◌∷◌, ◌++◌, length, map, drop, Bool, true, false, cond, Option, Some, None, IsSome, Result, Ok, Err, IfOk, OnErr, refl, ap, sym, ◌∙◌, arith, subst, nat_eq, zero, suc, slice_index_or, slice_set}
-use Rattle.std.specs.List.{Contains, flat_map}
+use Rattle.std.proofs.Common.{◌≡◌, ℕ, ◌+◌, List, [], ◌∷◌, ◌++◌, length, map, true, Some, None, IsSome, Result, Ok, Err, IfOk, OnErr, refl, ap, sym, ◌∙◌, arith, subst, suc}
+use Rattle.std.specs.List.{flat_map}
 use Rattle.std.specs.List.Sorted.{IsPermutation}
 use Rattle.std.proofs.lemmas.Bool.Decides.{nat_tests}
 use Rattle.std.proofs.lemmas.List.{drop_all}
@@ -15,9 +15,9 @@ use Rattle.rv_join.specs.declared.places.Item.{Item}
 use Rattle.rv_join.specs.declared.level.Level.{Level}
 use Rattle.rv_join.specs.declared.stack.Moved.{Moved}
 use Rattle.rv_join.specs.declared.stack.Moved.TheVariants.{Gave, Done, Moving}
-use Rattle.rv_join.specs.Levels.{AllFit, LevelFits, StackFits, Stacked, bag, below, down, given, given_in, is_last, offered, over_held, over_rest, over_row, still, tables_of, under, used}
-use Rattle.rv_join.specs.Moves.{Descends, Kept, LevelMoves, LevelStays, Moves, Takes}
-use Rattle.rv_join.specs.Order.{IsByFirst, IsLeastOf, Lead, Led, LevelLed}
+use Rattle.rv_join.specs.Levels.{AllFit, LevelFits, StackFits, Stacked, bag, below, down, given, given_in, is_last, offered, over_row, still, tables_of, under, used}
+use Rattle.rv_join.specs.Moves.{Descends, Kept, LevelMoves, Moves, Takes}
+use Rattle.rv_join.specs.Order.{IsByFirst, Lead}
 use Rattle.rv_join.proofs.Leading.{bag_down, bag_more, bag_used, given_at, given_down, given_up, given_used, lead_less, stands_in}
 use Rattle.rv_join.proofs.Opening.{append_nil}
 

@@ -1,8 +1,7 @@
 -- What the calls do to open levels: whatever they answer, the bag of offers stays but for an offer that is given.
-use Rattle.std.specs.Prelude.{◌≡◌, ◌⊎◌, ℕ, ◌+◌, length, List, [], ◌∷◌, ◌++◌, None, IsSome, Option, Some}
+use Rattle.std.specs.Prelude.{◌≡◌, ◌⊎◌, ℕ, ◌+◌, length, List, [], ◌∷◌, None, IsSome}
 use Rattle.std.specs.List.{flat_map}
 use Rattle.std.specs.List.Sorted.{IsPermutation}
-use Rattle.rv_value.specs.declared.value.Value.{Value}
 use Rattle.rv_model.specs.declared.state.Offer.{Offer}
 use Rattle.rv_reader.specs.Shown.{Shown}
 use Rattle.rv_judge.specs.declared.counting.Counts.{Counts}

@@ -1,5 +1,5 @@
 -- The order that comes from an index of the first FROM item.
-use Rattle.std.specs.Prelude.{◌≡◌, Bool, false, List, [], ◌∷◌, ◌++◌, map}
+use Rattle.std.specs.Prelude.{◌≡◌, Bool, false, List, map}
 use Rattle.std.specs.List.{Contains}
 use Rattle.std.specs.Ordering.{is_lt}
 use Rattle.rv_value.specs.Order.{values_cmp}

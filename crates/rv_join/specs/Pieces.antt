@@ -1,5 +1,5 @@
 -- The pieces of a plan: those of the first retrieval in FROM order that awaits one.
-use Rattle.std.specs.Prelude.{◌≡◌, ◌≢◌, ℕ, Bool, ◌||◌, List, [], ◌∷◌, length, Option, Some, None, is_some, position}
+use Rattle.std.specs.Prelude.{◌≡◌, ℕ, Bool, ◌||◌, length, Option, Some, None, is_some, position}
 use Rattle.std.specs.List.{list_any, slice_index_or}
 use Rattle.rv_jscan.specs.declared.piece.PieceId.{PieceId}
 use Rattle.rv_jscan.specs.declared.jscan.Given.{Given}

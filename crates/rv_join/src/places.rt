@@ -5,6 +5,7 @@ ghost use Rattle.rv_restrict.specs.Bind.{can_bind};
 ghost use Rattle.rv_restrict.specs.Groups.{groups_of};
 ghost use Rattle.rv_restrict.specs.Parts.{stands_among};
 ghost use Rattle.rv_retrieval.specs.Opened.{Opened};
+ghost use Rattle.rv_retrieval.specs.Telling.{CountsAll};
 ghost use Rattle.rv_join.specs.Asking.{Adds, AreWide, Asks, CanPlan, CanRun, IsAsked, IsItem, OpensItem, atom_names, by_index, col_at, columns_of, goal_of, group_names, indexes_from, is_first, item_at, only_names, operand_names, order_at, same_column, select_uses, table_at};
 
 use rv_catalog::{Goal, IndexDef, Select};
@@ -349,6 +350,7 @@ pub fn open_item<R: Reader>(
     requires wide { AreWide asked.now outer.now }
     ensures opens { IfOk result (OpensItem asked.now (R.shown reader.now) outer.now) }
     ensures opened { IfOk result (λ v. Opened v.query (R.shown reader.now) asked.now.cursor opening v) }
+    ensures counts { IfOk result (λ v. CountsAll v.trace steps.old steps.new) }
 {
     let query = query(alloc, asked, outer)?;
     Retrieval::open(alloc, reader, query, asked.cursor, opening, steps)

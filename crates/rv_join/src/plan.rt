@@ -5,7 +5,7 @@ ghost use Rattle.rv_reader.specs.Shown.{Shown};
 ghost use Rattle.rv_retrieval.specs.Rulings.{GivesOn};
 ghost use Rattle.rv_retrieval.specs.Given.{Answers, TakesPiece};
 ghost use Rattle.rv_retrieval.specs.Shape.{RetrievalFits};
-ghost use Rattle.rv_retrieval.specs.Telling.{CountsRise, SameCounts};
+ghost use Rattle.rv_retrieval.specs.Telling.{CountsAll, CountsRise, SameCounts};
 ghost use Rattle.rv_jscan.specs.declared.piece.PieceId.{PieceId as Id};
 ghost use Rattle.rv_jscan.specs.declared.jscan.Given.{Given as TheGiven};
 ghost use Rattle.rv_join.specs.Asking.{Asks, CanPlan, CanRun, IsAsked};
@@ -89,7 +89,7 @@ impl Plan {
     /// `indexes`. It opens the retrieval of the first FROM item; each further one is opened over a row of the items
     /// before it. Where an order is asked that no index of the first item gives, all offers are gathered and sorted
     /// before the first comes.
-    #[tactic(auto, using(crate::proofs::Beginning::begins_with, crate::proofs::Beginning::begins_good, crate::proofs::Running::offers_are))]
+    #[tactic(auto, using(crate::proofs::Accounting::opened_counts, crate::proofs::Beginning::begins_with, crate::proofs::Beginning::begins_good, crate::proofs::Running::offers_are))]
     pub fn open<R: Reader>(
         alloc: Global,
         reader: &R,
@@ -104,6 +104,7 @@ impl Plan {
         ensures rest { IfOk result (λ p. plan_rest (R.shown reader.now) p ≡ offers_over select.now (table_rows (R.shown reader.now) snap)) }
         ensures asked { IfOk result (λ p. IsAsked select.now indexes.now snap cursor p.asked) }
         ensures leads { IfOk result (LeadsWith (R.shown reader.now)) }
+        ensures counts { IfOk result (λ p. CountsAll (plan_trace p) steps.old steps.new) }
         ensures stage { IfOk result (λ p. p.stage ≡ stage_of select.now indexes.now) }
     {
         let stage = first_stage(alloc, select, indexes)?;
@@ -237,7 +238,8 @@ impl Plan {
 
     /// The place of the first level that awaits a piece, that of the innermost one where none does.
     pub(crate) fn waits(&self) -> usize
-        ensures { result ≡ waits self.now.stack }
+        ensures at { result ≡ waits self.now.stack }
+        ensures open { result ≤ length self.now.stack.above }
     {
         self.stack.waits()
     }
@@ -264,6 +266,7 @@ impl Plan {
         judge: &mut Box<dyn Judge>,
         steps: &mut Steps<L>,
     ) -> Result<Given, NoMemory>
+        requires open { at ≤ length self.old.stack.above }
         ensures same { self.new ≡ record self.old { stack = self.new.stack } }
         ensures given { IfOk result (λ g. Answers (level_at self.old.stack at).here sieved g (level_at self.new.stack at).here) }
         ensures obeys { IfOk result (λ g. GivesOn (would judge.old) (state judge.old) (state judge.new) sieved g (level_at self.old.stack at).here (level_at self.new.stack at).here) }

@@ -1,20 +1,20 @@
 //! The open levels of nested loops.
-ghost use Rattle.std.specs.Prelude.{◌≡◌, ℕ, ◌+◌, ◌<◌, ◌≤◌, List, [], ◌∷◌, ◌++◌, length, true, false, None, Some, IsSome, Ok, Option, IfOk, IfSome, OnOk, OnErr};
-ghost use Rattle.std.specs.List.{slice_index_or};
+ghost use Rattle.std.specs.Prelude.{◌≡◌, ℕ, ◌+◌, ◌<◌, ◌≤◌, List, [], ◌∷◌, ◌++◌, length, true, false, None, Some, IsSome, Ok, Option, IfOk, IfSome, OnOk, OnErr, position};
+ghost use Rattle.std.specs.List.{list_any, slice_index_or};
 ghost use Rattle.rv_value.specs.declared.value.Value.{Value as OneValue};
 ghost use Rattle.rv_reader.specs.Shown.{Shown};
 ghost use Rattle.rv_join.specs.declared.places.Asked.{Asked as TheAsked};
 ghost use Rattle.rv_join.specs.Asking.{Asks, CanRun};
 ghost use Rattle.rv_join.specs.Levels.{AllFit, LevelFits, StackFits, Stacked, bag, down, first_of, is_last, offered, still, used};
 ghost use Rattle.rv_join.specs.Moves.{Catches, Descends, Kept, LevelStays, LevelsStay, Moves, Rises, SameFirst, StackStays, Starts};
-ghost use Rattle.rv_join.specs.Pieces.{level_at, stack_builds, waits};
+ghost use Rattle.rv_join.specs.Pieces.{is_waiting, level_at, stack_builds, waits};
 ghost use Rattle.rv_join.specs.declared.level.Level.{Level as TheLevel};
 ghost use Rattle.rv_jscan.specs.declared.piece.PieceId.{PieceId as Id};
 ghost use Rattle.rv_retrieval.specs.Given.{Answers, TakesPiece};
 ghost use Rattle.rv_retrieval.specs.Opened.{Opened};
 ghost use Rattle.rv_retrieval.specs.Rulings.{GivesOn};
-ghost use Rattle.rv_retrieval.specs.Shape.{RetrievalFits};
-ghost use Rattle.rv_retrieval.specs.Telling.{CountsRise, SameCounts};
+ghost use Rattle.rv_retrieval.specs.Shape.{RetrievalFits, is_building};
+ghost use Rattle.rv_retrieval.specs.Telling.{CountsAll, CountsRise, SameCounts};
 
 use crate::level::{Caught, Level};
 use crate::places::{Asked, open_item};
@@ -54,6 +54,19 @@ impl Model for Stack {
     ghost view = { λ s. record { above = s.above.items; at = s.at; openings = s.openings } };
 }
 
+/// The place of the first of some levels that awaits a piece.
+fn first_waiting(levels: &[Level]) -> Option<usize>
+    ensures { result ≡ position is_waiting levels.now }
+{
+    levels.iter().position(|level| level.is_waiting())
+}
+
+fn any_building(levels: &[Level]) -> bool
+    ensures { result ≡ list_any (λ (l : TheLevel). is_building l.here.control) levels.now }
+{
+    levels.iter().any(|level| level.is_building())
+}
+
 /// Opens the retrieval of the first FROM item.
 #[tactic(auto, using(crate::proofs::Beginning::starts))]
 pub fn open<R: Reader>(
@@ -66,6 +79,7 @@ pub fn open<R: Reader>(
     ensures starts { IfOk result (Starts asked.now (R.shown reader.now)) }
     ensures asks { IfOk result (λ s. Asks asked.now [] s.at.here.query) }
     ensures opened { IfOk result (λ s. Opened s.at.here.query (R.shown reader.now) asked.now.cursor 1 s.at.here) }
+    ensures counts { IfOk result (λ s. CountsAll s.at.here.trace steps.old steps.new) }
 {
     let here = open_item(alloc, reader, asked, &[], 1, steps)?;
     Ok(Stack {
@@ -174,10 +188,12 @@ impl Stack {
     }
 
     /// The place of the first level that awaits a piece, that of the innermost one where none does.
+    #[tactic(auto, using(crate::proofs::Calls::waits_within))]
     pub fn waits(&self) -> usize
-        ensures { result ≡ waits self.now }
+        ensures at { result ≡ waits self.now }
+        ensures open { result ≤ length self.now.above }
     {
-        match self.above.iter().position(|level| level.is_waiting()) {
+        match first_waiting(self.above.as_slice()) {
             Some(at) => at,
             None => self.above.len(),
         }
@@ -197,7 +213,7 @@ impl Stack {
     pub fn is_building(&self) -> bool
         ensures { result ≡ stack_builds self.now }
     {
-        self.above.iter().any(|level| level.is_building()) || self.at.is_building()
+        any_building(self.above.as_slice()) || self.at.is_building()
     }
 
     /// The trace of the first FROM item's retrieval.
@@ -341,26 +357,8 @@ fn take_at<R: Reader>(
     take_level(reader, &mut levels[at], steps)
 }
 
-/// A level's retrieval is given a sieved piece.
-#[tactic(auto, using(crate::proofs::Opening::level_keeps))]
-fn give_level<L: Drop>(
-    level: &mut Level,
-    sieved: Sieved,
-    judge: &mut Box<dyn Judge>,
-    steps: &mut Steps<L>,
-) -> Result<Given, NoMemory>
-    ensures given { IfOk result (λ g. Answers level.old.here sieved g level.new.here) }
-    ensures obeys { IfOk result (λ g. GivesOn (would judge.old) (state judge.old) (state judge.new) sieved g level.old.here level.new.here) }
-    ensures same { level.new ≡ record level.old { here = level.new.here } }
-    ensures counts { SameCounts level.old.here.trace level.new.here.trace }
-    ensures stays { (a : TheAsked) (shown : Shown) → LevelFits a shown level.old → LevelStays a shown level.old level.new }
-    ensures err { OnErr result (level.new ≡ level.old) }
-    ensures reads { steps.new ≡ steps.old }
-{
-    level.here.give(sieved, judge, steps)
-}
-
-#[tactic(auto, using(crate::proofs::Calls::levels_at, crate::proofs::Calls::levels_same))]
+/// The retrieval of one of some levels is given a sieved piece.
+#[tactic(auto, using(crate::proofs::Calls::levels_at, crate::proofs::Opening::level_keeps))]
 fn give_at<L: Drop>(
     levels: &mut Vec<Level>,
     at: usize,
@@ -368,22 +366,17 @@ fn give_at<L: Drop>(
     judge: &mut Box<dyn Judge>,
     steps: &mut Steps<L>,
 ) -> Result<Given, NoMemory>
-    ensures given { at < length levels.old.items → (d : TheLevel) → IfOk result (λ g. Answers (slice_index_or levels.old.items at d).here sieved g (slice_index_or levels.new.items at d).here) }
-    ensures obeys { at < length levels.old.items → (d : TheLevel) → IfOk result (λ g. GivesOn (would judge.old) (state judge.old) (state judge.new) sieved g (slice_index_or levels.old.items at d).here (slice_index_or levels.new.items at d).here) }
+    requires at { at < length levels.old.items }
+    ensures given { (d : TheLevel) → IfOk result (λ g. Answers (slice_index_or levels.old.items at d).here sieved g (slice_index_or levels.new.items at d).here) }
+    ensures obeys { (d : TheLevel) → IfOk result (λ g. GivesOn (would judge.old) (state judge.old) (state judge.new) sieved g (slice_index_or levels.old.items at d).here (slice_index_or levels.new.items at d).here) }
     ensures stale { (asked : Id) (now : Option Id) → result ≡ Ok (Given.Stale asked now) → levels.new.items ≡ levels.old.items }
-    ensures counts { at < length levels.old.items → (d : TheLevel) → SameCounts (slice_index_or levels.old.items at d).here.trace (slice_index_or levels.new.items at d).here.trace }
+    ensures counts { (d : TheLevel) → SameCounts (slice_index_or levels.old.items at d).here.trace (slice_index_or levels.new.items at d).here.trace }
     ensures stay { (a : TheAsked) (shown : Shown) → AllFit a shown 0 levels.old.items → LevelsStay a shown 0 levels.old.items levels.new.items }
     ensures led { (a : TheAsked) (shown : Shown) → AllFit a shown 0 levels.old.items → SameFirst a shown levels.old.items levels.new.items }
     ensures err { OnErr result (levels.new.items ≡ levels.old.items) }
     ensures reads { steps.new ≡ steps.old }
 {
-    match levels.get_mut(at) {
-        Some(level) => give_level(level, sieved, judge, steps),
-        None => Ok(Given::Stale {
-            asked: sieved.id(),
-            now: None,
-        }),
-    }
+    levels[at].here.give(sieved, judge, steps)
 }
 
 /// The pieces of the retrieval of a place.
@@ -409,7 +402,7 @@ impl Stack {
     }
 
     /// Gives a sieved piece to the retrieval of a place.
-    #[tactic(auto, using(crate::proofs::Calls::stays_above, crate::proofs::Calls::stays_at))]
+    #[tactic(auto, using(crate::proofs::Calls::stays_above, crate::proofs::Calls::stays_at, crate::proofs::Opening::level_keeps))]
     pub fn give<L: Drop>(
         &mut self,
         at: usize,
@@ -417,6 +410,7 @@ impl Stack {
         judge: &mut Box<dyn Judge>,
         steps: &mut Steps<L>,
     ) -> Result<Given, NoMemory>
+        requires open { at ≤ length self.old.above }
         ensures given { IfOk result (λ g. Answers (level_at self.old at).here sieved g (level_at self.new at).here) }
         ensures obeys { IfOk result (λ g. GivesOn (would judge.old) (state judge.old) (state judge.new) sieved g (level_at self.old at).here (level_at self.new at).here) }
         ensures stale { (asked : Id) (now : Option Id) → result ≡ Ok (Given.Stale asked now) → self.new ≡ self.old }
@@ -428,7 +422,7 @@ impl Stack {
         if at < self.above.len() {
             give_at(&mut self.above, at, sieved, judge, steps)
         } else {
-            give_level(&mut self.at, sieved, judge, steps)
+            self.at.here.give(sieved, judge, steps)
         }
     }
 }

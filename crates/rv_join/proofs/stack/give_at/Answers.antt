@@ -1,8 +1,9 @@
 use Rattle.rv_join.proofs.Calls.{levels_at}
+use Rattle.rv_join.proofs.Opening.{level_keeps}
 use Rattle.rv_join.proofs.stack.give_at.Goals as goal
 
-pub returns-in-Some-clause-stay : goal.returns-in-Some-clause-stay
-returns-in-Some-clause-stay g c = λ a shown all. (levels_at a shown c.args.levels.now.items c.args.at c.in-Some.level.now c.give_level.new.level c.in-Some.ensures.variant all c.in-Some.ensures.value (c.give_level.ensures.stays a shown)).0
+pub returns-clause-stay : goal.returns-clause-stay
+returns-clause-stay g c = λ a shown all. (levels_at a shown c.args.levels.now.items c.args.at c.index_mut.result.now _ c.requires.at all c.index_mut.ensures.value (λ fits. level_keeps a shown c.index_mut.result.now c.give.new.self fits c.give.ensures.keeps)).0
 
-pub returns-in-Some-clause-led : goal.returns-in-Some-clause-led
-returns-in-Some-clause-led g c = λ a shown all. (levels_at a shown c.args.levels.now.items c.args.at c.in-Some.level.now c.give_level.new.level c.in-Some.ensures.variant all c.in-Some.ensures.value (c.give_level.ensures.stays a shown)).1
+pub returns-clause-led : goal.returns-clause-led
+returns-clause-led g c = λ a shown all. (levels_at a shown c.args.levels.now.items c.args.at c.index_mut.result.now _ c.requires.at all c.index_mut.ensures.value (λ fits. level_keeps a shown c.index_mut.result.now c.give.new.self fits c.give.ensures.keeps)).1

@@ -1,5 +1,3 @@
-use Rattle.std.proofs.Common.{subst, sym}
-use Rattle.rv_join.specs.Asking.{OpensItem}
 use Rattle.rv_join.proofs.Beginning.{starts}
 use Rattle.rv_join.proofs.stack.open.Goals as goal
 

@@ -1,4 +1,4 @@
-use Rattle.std.proofs.Common.{refl, sym, ◌∙◌}
+use Rattle.std.proofs.Common.{refl, ◌∙◌}
 use Rattle.rv_join.proofs.Beginning.{begins_good, begins_with}
 use Rattle.rv_join.proofs.Running.{can_run, offers_are}
 use Rattle.rv_join.proofs.plan.Plan.open.Goals as goal
@@ -17,4 +17,4 @@ returns-clause-rest g c =
     let select = c.args.select.now in
     let indexes = c.args.indexes.now in
     let shown = g.R.Reader.shown c.args.reader.now in
-    begins_with c.in_ok-asked.asked shown select indexes _ refl c.new.ensures c.in_ok-stage.ensures ∙ c.in_ok-stack.ensures.starts.bag ∙ offers_are select indexes shown c.args.snap c.args.cursor c.in_ok-asked.asked c.requires c.in_ok-asked.ensures
+    begins_with c.in_ok-asked.asked shown select indexes (record { asked = c.in_ok-asked.asked; stack = c.in_ok-stack.stack; gathered = c.new.result; stage = c.in_ok-stage.stage; reads = c.reads_of-reads.result }) refl c.new.ensures c.in_ok-stage.ensures ∙ c.in_ok-stack.ensures.starts.bag ∙ offers_are select indexes shown c.args.snap c.args.cursor c.in_ok-asked.asked c.requires c.in_ok-asked.ensures

@@ -1,0 +1,79 @@
+-- What a plan keeps at each call: what its levels keep, and over one FROM item the counts.
+use Rattle.std.proofs.Common.{◌≡◌, ℕ, ◌+◌, List, [], ◌∷◌, length, Result, Ok, Err, IfOk, OnErr, refl, ap, sym, ◌∙◌, subst, inl, zero, suc, slice_index_or}
+use Rattle.rv_judge.specs.declared.counting.Counts.{Counts}
+use Rattle.rv_judge.specs.declared.events.Trace.{Trace}
+use Rattle.rv_reader.specs.Shown.{Shown}
+use Rattle.rv_retrieval.specs.Shape.{RetrievalFits}
+use Rattle.rv_retrieval.specs.Telling.{CountsRise, SameCounts}
+use Rattle.rv_join.specs.declared.places.Asked.{Asked}
+use Rattle.rv_join.specs.declared.level.Level.{Level}
+use Rattle.rv_join.specs.declared.plan.PlanStep.{PlanStep}
+use Rattle.rv_join.specs.Levels.{AllFit, LevelFits, Stacked, StackFits, first_of}
+use Rattle.rv_join.specs.Moves.{StackStays}
+use Rattle.rv_join.specs.Pieces.{level_at}
+use Rattle.rv_join.specs.Plans.{AreReads, HoldsGood, PlanFits, PlanKept, PlanMoves, Planned, RisesAlone}
+use Rattle.rv_join.proofs.Accounting.{alone_above}
+
+-- The retrieval of a place.
+
+at_fits : (a : Asked) (shown : Shown) (place : ℕ) (ls : List Level) (i : ℕ) (d : Level) → AllFit a shown place ls → LevelFits a shown d → LevelFits a shown (slice_index_or ls i d)
+at_fits a shown place [] i d all fits = fits
+at_fits a shown place (l ∷ ls) zero d all fits = all.1
+at_fits a shown place (l ∷ ls) (suc i) d all fits = at_fits a shown (place + 1) ls i d all.2 fits
+
+pub level_fits : (a : Asked) (shown : Shown) (v : Stacked) (i : ℕ) → StackFits a shown v → RetrievalFits (level_at v i).here shown
+level_fits a shown v i fits = (at_fits a shown 0 v.above i v.at fits.above fits.at).here
+
+alone_level : (v : Stacked) (i : ℕ) → v.above ≡ [] → level_at v i ≡ first_of v
+alone_level v i none = rw none refl
+
+-- A call that leaves the rest.
+
+pub stays_good : (shown : Shown) (old new : Planned) → HoldsGood shown old → StackStays old.asked shown old.stack new.stack → new ≡ record old { stack = new.stack } → HoldsGood shown new
+stays_good shown old new holds stays same = rw same (record {
+  can = holds.can;
+  stack = stays.fits;
+  ordered = holds.ordered;
+  led = λ e. stays.led (holds.led e);
+  sorted = holds.sorted;
+})
+
+same_reads : (t u : Trace) (reads : Counts) → AreReads t reads → SameCounts t u → AreReads u reads
+same_reads t u reads are same = record { pages = are.pages ∙ sym same.pages; leaves = are.leaves ∙ sym same.leaves; fetches = are.fetches ∙ sym same.fetches }
+
+pub given_fits : (shown : Shown) (old new : Planned) (i : ℕ) → PlanFits shown old → StackStays old.asked shown old.stack new.stack → SameCounts (level_at old.stack i).here.trace (level_at new.stack i).here.trace → new ≡ record old { stack = new.stack } → PlanFits shown new
+given_fits shown old new i fits stays counts same = record {
+  holds = stays_good shown old new fits.holds stays same;
+  counted = λ one. reads_same (subst (λ (a : Asked). length a.items ≡ 1) (ap (λ (p : Planned). p.asked) same) one);
+}
+  where
+    reads_same : length old.asked.items ≡ 1 → AreReads (first_of new.stack).here.trace new.reads
+    reads_same one =
+        let before = alone_level old.stack i (alone_above old.asked shown old.stack fits.holds.stack one) in
+        let after = alone_level new.stack i (alone_above old.asked shown new.stack stays.fits one) in
+        let there = subst (λ (l : Level). SameCounts l.here.trace (level_at new.stack i).here.trace) before counts in
+        let here = subst (λ (l : Level). SameCounts (first_of old.stack).here.trace l.here.trace) after there in
+        subst (AreReads (first_of new.stack).here.trace) (sym (ap (λ (p : Planned). p.reads) same)) (same_reads (first_of old.stack).here.trace (first_of new.stack).here.trace old.reads (fits.counted one) here)
+
+pub taken_rises : (shown : Shown) (old new : Planned) (i : ℕ) (before after : Counts) → HoldsGood shown old → StackStays old.asked shown old.stack new.stack → CountsRise (level_at old.stack i).here.trace (level_at new.stack i).here.trace before after → RisesAlone old new before after
+taken_rises shown old new i before after holds stays rise one =
+    let first = alone_level old.stack i (alone_above old.asked shown old.stack holds.stack one) in
+    let last = alone_level new.stack i (alone_above old.asked shown new.stack stays.fits one) in
+    inl (subst (λ (l : Level). CountsRise (first_of old.stack).here.trace l.here.trace before after) last (subst (λ (l : Level). CountsRise l.here.trace (level_at new.stack i).here.trace before after) first rise))
+
+-- A step, whose reads are counted behind it.
+
+pub asked_same : {E : Type 0} (shown : Shown) (r : Result PlanStep E) (old new : Planned) → IfOk r (λ m. PlanMoves shown m old new) → OnErr r (PlanKept shown old new) → new.asked ≡ old.asked
+asked_same shown (Ok m) old new moves kept = moves.asked
+asked_same shown (Err e) old new moves kept = kept.asked
+
+counted_one : (shown : Shown) (m : PlanStep) (old mid new : Planned) (reads : Counts) → PlanMoves shown m old mid → new ≡ record mid { reads = reads } → PlanMoves shown m old new
+counted_one shown m old mid new reads moves same = rw same (record { asked = moves.asked; step = moves.step })
+
+pub counted_moves : {E : Type 0} (shown : Shown) (r : Result PlanStep E) (old mid new : Planned) (reads : Counts) → IfOk r (λ m. PlanMoves shown m old mid) → new ≡ record mid { reads = reads } → IfOk r (λ m. PlanMoves shown m old new)
+counted_moves shown (Ok m) old mid new reads moves same = counted_one shown m old mid new reads moves same
+counted_moves shown (Err e) old mid new reads moves same = tt
+
+pub counted_kept : {X E : Type 0} (shown : Shown) (r : Result X E) (old mid new : Planned) (reads : Counts) → OnErr r (PlanKept shown old mid) → new ≡ record mid { reads = reads } → OnErr r (PlanKept shown old new)
+counted_kept shown (Ok m) old mid new reads kept same = tt
+counted_kept shown (Err e) old mid new reads kept same = rw same (record { asked = kept.asked; rest_kept = kept.rest_kept })

@@ -1,0 +1,16 @@
+use Rattle.std.proofs.Common.{ap, subst, sym}
+use Rattle.std.specs.List.Sorted.{IsPermutation}
+use Rattle.std.proofs.lemmas.List.Sorted.{IsPermutation-refl}
+use Rattle.rv_join.specs.Plans.{Planned}
+use Rattle.rv_join.proofs.Planning.{gather_kept, given_good, sorted_good}
+use Rattle.rv_join.proofs.Stacking.{kept_if_not}
+use Rattle.rv_join.proofs.plan.Plan.gather_step.Goals as goal
+
+pub returns-in_err-gather-clause-err : goal.returns-in_err-gather-clause-err
+returns-in_err-gather-clause-err g c = kept_if_not _ _ (gather_kept (g.R.Reader.shown c.args.reader.now) c.args.self.now c.gather.new.self c.requires.stage c.in_err-gather.ensures.kept (subst (IsPermutation c.args.self.now.gathered) (sym c.in_err-gather.ensures.none) (IsPermutation-refl _)) c.gather.ensures.same)
+
+pub returns-in_ok-sort-clause-holds : goal.returns-in_ok-sort-clause-holds
+returns-in_ok-sort-clause-holds g c =
+    let shown = g.R.Reader.shown c.args.reader.now in
+    let good = sorted_good shown c.args.self.now c.gather.new.self c.sort.new.self c.requires.fits c.requires.stage (rw c.if-branch.true at c.in_ok-gather.ensures.gathers) c.gather.ensures.same c.in_ok-sort.ensures.ok in
+    given_good shown c.give_next.result c.sort.new.self c.give_next.new.self good (ap (λ (p : Planned). p.stage) c.in_ok-sort.ensures.ok.same) c.give_next.ensures.given c.give_next.ensures.same

@@ -1,0 +1,15 @@
+use Rattle.rv_join.proofs.Accounting.{fits_counted}
+use Rattle.rv_join.proofs.Keeping.{asked_same, counted_kept, counted_moves}
+use Rattle.rv_join.proofs.plan.Plan.step.Goals as goal
+
+pub returns-clause-fits : goal.returns-clause-fits
+returns-clause-fits g c =
+    let shown = g.R.Reader.shown c.args.reader.now in
+    let stepped = c.stage_step-stepped.ensures in
+    fits_counted shown c.args.self.now c.stage_step-stepped.new.self c.count.new.self c.counts-before.result c.counts.result c.requires.fits stepped.holds (rw (c.counts-before.ensures, c.counts.ensures) stepped.alone) stepped.reads (asked_same shown c.stage_step-stepped.result c.args.self.now c.stage_step-stepped.new.self stepped.step stepped.err) c.count.ensures.same c.count.ensures.none
+
+pub returns-clause-step : goal.returns-clause-step
+returns-clause-step g c = counted_moves (g.R.Reader.shown c.args.reader.now) c.stage_step-stepped.result c.args.self.now c.stage_step-stepped.new.self c.count.new.self _ c.stage_step-stepped.ensures.step c.count.ensures.same
+
+pub returns-clause-err : goal.returns-clause-err
+returns-clause-err g c = counted_kept (g.R.Reader.shown c.args.reader.now) c.stage_step-stepped.result c.args.self.now c.stage_step-stepped.new.self c.count.new.self _ c.stage_step-stepped.ensures.err c.count.ensures.same
