@@ -6,14 +6,15 @@ ghost use Rattle.rv_model.specs.Database.{empty};
 ghost use Rattle.rv_model.specs.Standing.{HasRoom};
 ghost use Rattle.rv_model.specs.Step.{began, changed, closed, committed, created, indexed, inserted, opened, rolled_back};
 ghost use Rattle.rv_core.specs.Core.{horizon_of};
-ghost use Rattle.rv_core.specs.Doing.{Does, Fetches};
+ghost use Rattle.rv_core.specs.Doing.{Does, Fetches, offered};
 
-use crate::cursors::{Open, close_all, cursor_named, fetch_at, offers_at, opening};
+use crate::cursors::{Open, close_all, cursor_named, fetch_at, offered_at, offers_at, opening};
 use crate::replies::{limit, refused};
 use crate::storing::{add_index, add_table, change_rows, commit_some};
 use rv_catalog::{Catalog, IndexDef, Select, TableDef};
 use rv_judge::Uncounted;
 use rv_lang::{Refusal, Reply, Which};
+use rv_model::Offer;
 use rv_reader::{Reader, Store};
 use rv_restrict::Restriction;
 use rv_txn::{TxnFault, Txns};
@@ -66,6 +67,27 @@ impl<S: Store + Reader<Ledger = Uncounted> + Drop> Database<S> {
         ensures { result.now ≡ self.now.db.schema }
     {
         &self.catalog
+    }
+
+    /// The transactions.
+    pub fn txns(&self) -> &Txns
+        ensures { result.now ≡ self.now.db.transactions }
+    {
+        &self.txns
+    }
+
+    /// What the rows of the one FROM item offer at the base of the session's transaction, as the rows stand in their
+    /// table; nothing where the session has no transaction.
+    pub fn offers(&self, session: u8, select: &Select) -> Result<Vec<Offer>, NoMemory>
+        requires one { length select.now.tables ≡ 1 }
+        requires query { IsQueryOf self.now.db.schema select.now }
+        ensures { IfOk result (λ offers. offers.items ≡ offered self.now.db session select.now) }
+    {
+        let Some(standing) = self.txns.standing(session) else {
+            return Ok(Vec::new(self.alloc));
+        };
+        let offers = offered_at(self.alloc, &self.store, select, standing.base)?;
+        Ok(offers)
     }
 
     /// CREATE TABLE.

@@ -57,7 +57,7 @@ fn execute<S: Store + Reader<Ledger = Uncounted> + Drop>(
 }
 
 /// What a statement asks, its names looked up, or the first refusal up to there.
-fn understand(catalog: &Catalog, statement: &Option<Statement>) -> Result<Resolved, BindFault>
+pub fn understand(catalog: &Catalog, statement: &Option<Statement>) -> Result<Resolved, BindFault>
     requires parts { IfSome statement.now HasParts }
     ensures gives { Gives result (understood catalog.now statement.now) }
     ensures fits { IfOk result (λ asked. FitsSchema catalog.now asked) }
