@@ -21,7 +21,7 @@ fn shown(alloc: Global, script: &Script) -> Result<String, Fail> {
     for phase in script.phases.as_slice() {
         let lines = phase.lines.len();
         shown.push_str(&format!(in alloc; "{lines}\n")?)?;
-        for at in [1, 4, 7, 14, lines - 2] {
+        for at in [1, 4, 7, 14, lines.saturating_sub(2)] {
             shown.push_str(&line(alloc, phase, at)?)?;
             shown.push('\n')?;
         }
