@@ -1,12 +1,12 @@
 -- The calls of the workload may be made.
-use Rattle.std.proofs.Common.{◌≡◌, ℕ, ◌+◌, ◌-◌, ◌*◌, ◌/◌, ◌%◌, ◌^◌, ◌<◌, ◌≤◌, ◌==◌, List, [], ◌∷◌, ◌++◌, refl, arith, Bool, true, false, codes, decimal, length, length-append, map, flat_map, All, if◌then◌else◌}
+use Rattle.std.proofs.Common.{ℕ, ◌+◌, ◌-◌, ◌*◌, ◌%◌, ◌^◌, ◌<◌, ◌≤◌, ◌==◌, List, [], ◌∷◌, ◌++◌, refl, arith, true, false, codes, decimal, length, length-append, map, flat_map, if◌then◌else◌}
 use Rattle.std.specs.List.{AllByRecursion, range_with_len}
 use Rattle.std.proofs.lemmas.Fmt.{length-decimal-le}
 use Rattle.std.proofs.lemmas.List.Elements.{All-from_recursion}
 use Rattle.rv_script.specs.declared.scripts.Line.{Line}
 use Rattle.rv_script.specs.declared.scripts.Phase.{Phase}
 use Rattle.rv_gen.specs.Draws.{draw, state_after}
-use Rattle.rv_gen.specs.Workload.{HasCalls, IsCall, IsRunnable, fetches_of, goal, insert_of, insert_text, inserts, line, open_of, open_text, opening, openings_of, phase, readers, round, rounds, tables, update_of, update_text, workload}
+use Rattle.rv_gen.specs.Workload.{HasCalls, IsCall, IsRunnable, goal, insert_of, insert_text, inserts, line, open_of, opening, openings_of, phase, readers, round, rounds, tables, update_of, update_text, workload}
 
 -- ---- texts are short
 

@@ -1,5 +1,5 @@
 -- Draws that go on from where others ended.
-use Rattle.std.proofs.Common.{◌≡◌, ℕ, zero, suc, ◌+◌, ◌*◌, ◌/◌, ◌%◌, ◌^◌, refl, sym, ap, ◌∙◌, arith}
+use Rattle.std.proofs.Common.{◌≡◌, ℕ, zero, suc, ◌+◌, ◌*◌, ◌/◌, ◌%◌, ◌^◌, refl, ap, ◌∙◌, arith}
 use Rattle.rv_gen.specs.Draws.{following, state_after, draw}
 
 pub state_on : (x m n : ℕ) → state_after (state_after x m) n ≡ state_after x (m + n)

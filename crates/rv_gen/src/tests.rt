@@ -21,7 +21,7 @@ fn shown(alloc: Global, script: &Script) -> Result<String, Fail> {
     for phase in script.phases.as_slice() {
         let lines = phase.lines.len();
         shown.push_str(&format!(in alloc; "{lines}\n")?)?;
-        for at in [1, 4, 7, 14, lines - 2] {
+        for at in [1, 4, 7, 14, lines.saturating_sub(2)] {
             shown.push_str(&line(alloc, phase, at)?)?;
             shown.push('\n')?;
         }
@@ -45,29 +45,36 @@ fn a_seed_gives_the_script_of_the_rules(rt: HostRuntime) -> Result<(), Fail> {
     Ok(())
 }
 
-fn entry(alloc: Global, reply: Reply) -> Result<Entry, NoMemory> {
-    Ok(Entry {
+/// Adds an entry with a reply.
+fn add(alloc: Global, entries: &mut Vec<Entry>, reply: Reply) -> Result<(), NoMemory> {
+    entries.push(Entry {
         session: 1,
         phase: 1,
         text: Text::read(alloc, "?")?,
         reply,
-    })
+    })?;
+    Ok(())
+}
+
+/// The history of a transaction that inserts a row, fetches one and comes to its end twice, and of a refused call.
+fn history(alloc: Global) -> Result<Vec<Entry>, NoMemory> {
+    let mut entries = Vec::new(alloc);
+    let values = Values::from_vec(vec![in alloc; Value::Int(5)]?);
+    add(alloc, &mut entries, Reply::Began(1))?;
+    add(alloc, &mut entries, Reply::Inserted(RowNo(0)))?;
+    add(alloc, &mut entries, Reply::Row(values))?;
+    add(alloc, &mut entries, Reply::End)?;
+    add(alloc, &mut entries, Reply::End)?;
+    add(alloc, &mut entries, Reply::Committed(1))?;
+    add(alloc, &mut entries, Reply::Refused(Refusal::NoTransaction))?;
+    Ok(entries)
 }
 
 #[test]
 fn a_summary_counts_replies(rt: HostRuntime) -> Result<(), Fail> {
     let alloc = rt.alloc();
-    let values = Values::from_vec(vec![in alloc; Value::Int(5)]?);
-    let entries = [
-        entry(alloc, Reply::Began(1))?,
-        entry(alloc, Reply::Inserted(RowNo(0)))?,
-        entry(alloc, Reply::Row(values))?,
-        entry(alloc, Reply::End)?,
-        entry(alloc, Reply::End)?,
-        entry(alloc, Reply::Committed(1))?,
-        entry(alloc, Reply::Refused(Refusal::NoTransaction))?,
-    ];
-    let summary = summary_of(&entries);
+    let entries = history(alloc)?;
+    let summary = summary_of(entries.as_slice());
     let mut sink = MemSink::new(alloc, 100, Vec::new(alloc))?;
     assert!(rt; write_summary(&mut sink, &summary).is_ok());
     assert_eq!(rt;

@@ -1,5 +1,5 @@
 //! Entries, followed one after another.
-ghost use Rattle.std.specs.Prelude.{◌≡◌, ◌≤◌, All, IfOk, length};
+ghost use Rattle.std.specs.Prelude.{◌≡◌, ◌≤◌, ◌↔◌, All, IfOk, IsTrue, length};
 ghost use Rattle.rv_model.specs.Database.{empty};
 ghost use Rattle.rv_model.specs.Standing.{HasRoom};
 ghost use Rattle.rv_replay.specs.Judging.{JudgesEntry};
@@ -28,6 +28,15 @@ pub fn replay(alloc: Global, entries: &[Entry]) -> Result<Replayed, NoMemory>
 {
     let mut plain = PlainDatabase::new(alloc)?;
     follow(alloc, &mut plain, entries)
+}
+
+/// Whether each entry's text has at most 4,096 bytes.
+pub fn are_short(entries: &[Entry]) -> bool
+    ensures { IsTrue result ↔ All (λ e. length e.text ≤ 4096) entries.now }
+{
+    entries
+        .iter()
+        .all(|entry| entry.text.as_str().len() <= 4096)
 }
 
 /// Follows entries from the empty database on.

@@ -9,4 +9,4 @@ pub mod same;
 #[cfg(test)]
 mod tests;
 
-pub use following::{Replayed, replay};
+pub use following::{Replayed, are_short, replay};

@@ -1,13 +1,12 @@
 -- Words that are read are a list of items, and every list of items is read.
-use Rattle.std.proofs.Common.{◌≡◌, ◌≢◌, ℕ, ◌+◌, ◌≤◌, List, [], ◌∷◌, ◌++◌, refl, sym, ap, ◌∙◌, subst, arith, Bool, true, false, Option, Some, None, inl, inr, ◌⊎◌, codes, flat_map, is_some, if◌then◌else◌, cond}
+use Rattle.std.proofs.Common.{◌≡◌, ◌≢◌, ℕ, List, [], ◌∷◌, ◌++◌, refl, sym, ap, ◌∙◌, Bool, true, false, Option, Some, None, inl, inr, ◌⊎◌, codes, flat_map, if◌then◌else◌}
 use Rattle.std.specs.Prelude.{option_and_then}
 use Rattle.std.specs.List.{AllByRecursion}
-use Rattle.std.proofs.lemmas.Bool.{cases_Bool}
 use Rattle.rv_words.specs.declared.choices.Asked.{Asked}
 use Rattle.rv_words.specs.declared.choices.Choice.{Choice}
 use Rattle.rv_words.specs.declared.choices.Choice.TheVariants.{Judge, Steps, Gen}
 use Rattle.rv_words.specs.declared.reading.Sofar.{Sofar}
-use Rattle.rv_words.specs.Words.{Item, IsItem, IsValue, Lacks, Once, is_option, name_of, number, value_of, words_of}
+use Rattle.rv_words.specs.Words.{Item, IsItem, IsValue, Lacks, Once, is_option, name_of, number, words_of}
 use Rattle.rv_words.specs.Reading.{Form, Named, Joined, Other, asked_from, ended, form, given, value, with_form, with_new, with_value, with_word}
 use Rattle.rv_words.proofs.Values.{has_value, is_value}
 use Rattle.rv_words.proofs.Forms.{is_joined, is_named, joined_word, named_word}

@@ -1,5 +1,5 @@
 -- The words of an item have their forms, and no other words have.
-use Rattle.std.proofs.Common.{◌≡◌, ℕ, ◌+◌, ◌<◌, ◌≤◌, ◌==◌, List, [], ◌∷◌, ◌++◌, refl, sym, ap, ◌∙◌, arith, Bool, true, false, Option, Some, None, inl, inr, bytes_eq, codes, nat_lt, position, take, drop, length, get_or}
+use Rattle.std.proofs.Common.{◌≡◌, ℕ, ◌+◌, ◌<◌, ◌==◌, List, ◌∷◌, ◌++◌, refl, sym, ap, ◌∙◌, arith, true, Option, Some, None, inl, inr, bytes_eq, codes, nat_lt, position, take, drop, length, get_or}
 use Rattle.std.proofs.lemmas.Bool.{cases_Bool}
 use Rattle.std.specs.List.{position_or_len}
 use Rattle.std.proofs.lemmas.Bool.Decides.{Decides-eqb, nat_tests}
@@ -9,7 +9,7 @@ use Rattle.std.proofs.lemmas.Slice.Eq.{bytes_eq-Decides}
 use Rattle.rv_words.specs.declared.choices.Choice.{Choice}
 use Rattle.rv_words.specs.declared.choices.Choice.TheVariants.{Judge, Steps, Gen}
 use Rattle.rv_words.specs.Words.{name_of}
-use Rattle.rv_words.specs.Reading.{Form, Named, Joined, Other, choice_of, form, form_at, joined, named}
+use Rattle.rv_words.specs.Reading.{Named, Joined, choice_of, form, form_at, joined, named}
 
 pub is_named : (option : Choice) → form (name_of option) ≡ Named option
 is_named Judge = refl

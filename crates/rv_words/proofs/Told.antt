@@ -1,14 +1,13 @@
 -- What is read is what the words ask.
-use Rattle.std.proofs.Common.{◌≡◌, ◌≢◌, ℕ, List, [], ◌∷◌, refl, sym, ap, ◌∙◌, Option, Some, None, inl, inr, flat_map, true, false, unwrap_or, if◌then◌else◌}
+use Rattle.std.proofs.Common.{◌≡◌, ℕ, List, [], ◌∷◌, refl, sym, ap, ◌∙◌, Option, Some, None, inl, inr, unwrap_or}
 use Rattle.std.specs.Prelude.{IfSome}
-use Rattle.std.specs.List.{AllByRecursion}
 use Rattle.rv_words.specs.declared.choices.Asked.{Asked}
 use Rattle.rv_words.specs.declared.choices.Choice.{Choice}
 use Rattle.rv_words.specs.declared.choices.Choice.TheVariants.{Judge, Steps, Gen}
 use Rattle.rv_words.specs.declared.reading.Sofar.{Sofar}
-use Rattle.rv_words.specs.Words.{AreAccepted, Ask, Item, Lacks, Once, Spell, asked_of, is_option, number, value_of, words_of}
+use Rattle.rv_words.specs.Words.{AreAccepted, Ask, Item, Lacks, Once, asked_of, number, value_of}
 use Rattle.rv_words.specs.Reading.{asked_from, ended, given, start, with_value}
-use Rattle.rv_words.proofs.Accepts.{Free, Read, given_other, given_same, idle, option_cases, read_items, read_words, with_items}
+use Rattle.rv_words.proofs.Accepts.{Free, given_other, given_same, idle, option_cases, read_items, read_words, with_items}
 
 kept : (s : Sofar) (option : Choice) (items : List Item) → Lacks option items → given option (with_items s items) ≡ given option s
 kept s option [] lacks = refl

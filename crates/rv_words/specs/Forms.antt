@@ -1,5 +1,4 @@
 -- The forms of words, as the code has them.
-use Rattle.std.specs.Prelude.{List, ℕ}
 use Rattle.rv_words.specs.declared.form.Form.{Form}
 use Rattle.rv_words.specs.declared.form.Form.TheVariants.{Named, Joined, Other}
 use Rattle.rv_words.specs.Reading as reading

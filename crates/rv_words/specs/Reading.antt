@@ -1,5 +1,5 @@
 -- Words read one after another, as the code reads them. `specs/Words.antt` says which words are accepted.
-use Rattle.std.specs.Prelude.{◌≡◌, ℕ, ◌+◌, ◌-◌, ◌*◌, ◌&&◌, ◌==◌, List, [], ◌∷◌, Bool, true, false, Option, Some, None, bytes_eq, codes, drop, take, if◌then◌else◌, is_some, length, nat_le, position, option_and_then, unwrap_or}
+use Rattle.std.specs.Prelude.{ℕ, ◌+◌, ◌-◌, ◌*◌, ◌&&◌, ◌==◌, List, [], ◌∷◌, Option, Some, None, bytes_eq, drop, take, if◌then◌else◌, is_some, length, nat_le, position, option_and_then, unwrap_or}
 use Rattle.rv_words.specs.declared.choices.Choice.{Choice}
 use Rattle.rv_words.specs.declared.choices.Choice.TheVariants.{Judge, Steps, Gen}
 use Rattle.rv_words.specs.declared.choices.Asked.{Asked}

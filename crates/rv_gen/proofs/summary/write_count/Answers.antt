@@ -1,4 +1,3 @@
-use Rattle.std.proofs.Common.{append_assoc}
 use Rattle.rv_io.proofs.Streams.{goes_then}
 use Rattle.rv_gen.proofs.summary.write_count.Goals as goal
 

@@ -1,6 +1,6 @@
 use Rattle.std.proofs.Common.{◌≡◌, ◌++◌, ap, ◌∙◌, arith, ℕ, List}
 use Rattle.rv_gen.specs.Workload.{fetches_of}
-use Rattle.rv_gen.proofs.Runs.{fetch_added, none_yet, readers_end}
+use Rattle.rv_gen.proofs.Runs.{fetch_added, readers_end}
 use Rattle.rv_gen.proofs.workload.add_fetches.Goals as goal
 
 pub readers-preserved : goal.readers-preserved

@@ -1,4 +1,4 @@
-use Rattle.std.proofs.Common.{◌≡◌, ◌*◌, ◌-◌, ◌++◌, flat_map}
+use Rattle.std.proofs.Common.{◌≡◌, ◌*◌, ◌-◌, ◌++◌}
 use Rattle.std.specs.List.{range_with_len}
 use Rattle.rv_gen.specs.Draws.{state_after}
 use Rattle.rv_gen.specs.Workload.{openings_of}
