@@ -100,12 +100,12 @@ fn rows_may_come_in_any_order_without_order_by(rt: HostRuntime) -> Result<(), Fa
         Reply::End,
     ]?;
     assert_eq!(rt;
-        replay(alloc, history(alloc, told)?.as_slice())?,
+        replayed(alloc, history(alloc, told)?.as_slice())?,
         Replayed::Legal
     );
     let told = vec![in alloc; none(alloc)?, one(alloc)?, one(alloc)?, Reply::End]?;
     assert_eq!(rt;
-        replay(alloc, history(alloc, told)?.as_slice())?,
+        replayed(alloc, history(alloc, told)?.as_slice())?,
         Replayed::Legal
     );
     assert_eq!(rt; replayed(alloc, &[])?, Replayed::Legal);
@@ -117,17 +117,17 @@ fn a_row_that_is_not_left_breaks_a_history(rt: HostRuntime) -> Result<(), Fail> 
     let alloc = rt.alloc();
     let told = vec![in alloc; row(alloc, Value::Int(5), "x")?, one(alloc)?, none(alloc)?]?;
     assert_eq!(rt;
-        replay(alloc, history(alloc, told)?.as_slice())?,
+        replayed(alloc, history(alloc, told)?.as_slice())?,
         Replayed::Broken { entry: 9 }
     );
     let told = vec![in alloc; none(alloc)?, none(alloc)?]?;
     assert_eq!(rt;
-        replay(alloc, history(alloc, told)?.as_slice())?,
+        replayed(alloc, history(alloc, told)?.as_slice())?,
         Replayed::Broken { entry: 10 }
     );
     let told = vec![in alloc; none(alloc)?, Reply::End]?;
     assert_eq!(rt;
-        replay(alloc, history(alloc, told)?.as_slice())?,
+        replayed(alloc, history(alloc, told)?.as_slice())?,
         Replayed::Broken { entry: 10 }
     );
     Ok(())
