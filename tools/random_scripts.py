@@ -70,6 +70,7 @@ class Database:
 
     def __init__(self):
         self.tables = {}  # name: [columns, rows by number, next number]
+        self.indexes = {}  # name: table
         self.last, self.next = 0, 1
         self.active, self.cursors = {}, {}  # by session; by session and name
         self.touched = {}  # by table and number: the commit that last wrote the row
@@ -97,6 +98,27 @@ class Database:
         if self.active:
             return f"busy {min(own['number'] for own in self.active.values())}", None
         self.tables[name] = [columns, {}, 0]
+        return "created", None
+
+    def index(self, name, table, columns):
+        if len(columns) > 4:
+            return "limit key 4", None
+        if table not in self.tables:
+            return f"unknown {table}", None
+        known = [c[0] for c in self.tables[table][0]]
+        for column in columns:
+            if column not in known:
+                return f"unknown {column}", None
+        if name in self.indexes:
+            return f"exists {name}", None
+        for at, column in enumerate(columns):
+            if column in columns[:at]:
+                return f"exists {column}", None
+        if self.active:
+            return f"busy {min(own['number'] for own in self.active.values())}", None
+        if sum(of == table for of in self.indexes.values()) > 7:
+            return "limit indexes 8", None
+        self.indexes[name] = table
         return "created", None
 
     def begin(self, read_only):
@@ -331,6 +353,16 @@ class Maker:
             self.known[table] = columns
         return ("create", table, columns), self.spelled("CREATE", "TABLE", table, "(" + ", ".join(kinds) + ")")
 
+    def index(self):
+        name, table = self.rng.choice(["I", "J", "K", "I1", "I2", "I3", "I4", "I5", "I6"]), self.table()
+        count = self.rng.choice([1, 1, 1, 1, 2, 2, 2, 3, 3, 4, 5])
+        names = [c[0] for c in self.known.get(table, [])]
+        if len(names) >= count and self.rng.random() < 0.8:
+            columns = self.rng.sample(names, count)
+        else:
+            columns = [self.column(table) for _ in range(count)]
+        return ("index", name, table, columns), self.spelled("CREATE", "INDEX", name, "ON", table, "(" + ", ".join(columns) + ")")
+
     def insert(self):
         table = self.table()
         widths = [w for _, w in self.known.get(table, [("A", None)])]
@@ -420,6 +452,7 @@ class Maker:
     def filled(self):
         """Statements that make tables and commit rows, and begin."""
         made = [self.create() for _ in range(self.rng.randint(1, 3))]
+        made += [self.index() for _ in range(self.rng.randint(0, 3))]
         made += [(("begin", False), "BEGIN")] + [self.insert() for _ in range(self.rng.randint(0, 25))]
         return made + [self.commit(), self.begin()]
 
@@ -434,7 +467,7 @@ class Maker:
             return ("fetch", cursor), self.spelled("FETCH", cursor)
         way = rng.random()
         if way < 0.02:
-            return self.create()
+            return self.create() if rng.random() < 0.4 else self.index()
         if way < 0.04:
             return self.begin()
         if way < 0.16:
@@ -455,7 +488,7 @@ class Maker:
         if way < 0.95:
             return self.close()
         if way < 0.97:
-            return ("unbuilt",), rng.choice(["SHOW C", "STEP C 5", "CREATE INDEX I ON T (A)", "OPEN C SELECT * FROM T, U"])
+            return ("unbuilt",), rng.choice(["SHOW C", "STEP C 5", "OPEN C SELECT * FROM T, U"])
         return ("syntax",), rng.choice(["", "SELECT", "FETCH", "BEGIN BEGIN", "OPEN C SELECT * FROM T WHERE", "INSERT INTO T VALUES ()", "COMMIT ?", "FETCH 'C'", "CREATE TABLE T ()", "OPEN C SELECT * FROM T WHERE A = 1 OR A = 2 AND A = 3", "COMMIT;;", "FETCH C -1"])
 
     def script(self):

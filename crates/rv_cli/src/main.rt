@@ -12,7 +12,7 @@ mod tests;
 use crate::run::{Ran, run};
 use crate::status::Status;
 use rv_io::{StdSink, StdSource};
-use rv_plain::Plain;
+use rv_store::Paged;
 use rv_value::{NoMemory, Text};
 use std::alloc::Global;
 use std::io::BufWriter;
@@ -43,7 +43,7 @@ fn whole(rt: &HostRuntime) -> Result<Status, NoMemory> {
         core: _core,
     } = run(
         alloc,
-        Plain::new(alloc)?,
+        Paged::new(alloc)?,
         words.as_slice(),
         &mut source,
         &mut sink,

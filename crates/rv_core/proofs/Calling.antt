@@ -1,7 +1,8 @@
 -- What the methods of a database owe, from what the calls below them say.
-use Rattle.std.proofs.Common.{◌≡◌, ℕ, ◌-◌, ◌<◌, ◌≤◌, List, [], ◌∷◌, ◌++◌, refl, ap, ◌∙◌, subst, arith, length, length-append, Result, Ok, Err, IfSome, Option, Some, None, false, nat_lt, is_some}
+use Rattle.std.proofs.Common.{◌≡◌, ℕ, ◌-◌, ◌<◌, ◌≤◌, List, [], ◌∷◌, ◌++◌, refl, ap, sym, ◌∙◌, subst, arith, length, length-append, Result, Ok, Err, IfSome, Option, Some, None, false, nat_lt, is_some, map}
 use Rattle.std.specs.List.{AllByRecursion}
 use Rattle.std.proofs.lemmas.Bool.Decides.{nat_tests}
+use Rattle.rv_value.specs.declared.record.Record.{Record}
 use Rattle.rv_rows.specs.declared.changes.Change.{Change}
 use Rattle.rv_rows.specs.Changes.{Rise}
 use Rattle.rv_lang.specs.declared.reply.Refusal.{Refusal}
@@ -22,12 +23,13 @@ use Rattle.rv_model.specs.declared.state.Offer.{Offer}
 use Rattle.rv_model.specs.declared.transactions.Transaction.{Transaction}
 use Rattle.rv_model.specs.declared.transactions.Transactions.{Transactions}
 use Rattle.rv_model.specs.Database.{cursor_named}
-use Rattle.rv_model.specs.Offers.{offers_of}
+use Rattle.rv_model.specs.Offers.{offer_of, offers_of, qualifying}
 use Rattle.rv_model.specs.Transactions.{transaction_of, transaction_at, refuse_at, done, lowest}
-use Rattle.rv_model.specs.Step.{committed, created, first_touched, opened, opening, other_cursors, own_cursors, rolled_back, table_of}
-use Rattle.rv_txn.specs.Calls.{finished, rolled_back as undone}
+use Rattle.rv_model.specs.Step.{committed, created, first_touched, opened, opening, other_cursors, own_cursors, rolled_back, rows_seen, table_of}
+use Rattle.rv_txn.specs.declared.txns.Standing.{Standing}
+use Rattle.rv_txn.specs.Calls.{finished, rolled_back as undone, standing, standing_at}
 use Rattle.rv_core.specs.Db.{db_of, stand_of, IsOwn, IsTied}
-use Rattle.rv_core.specs.Doing.{Does, opening_base}
+use Rattle.rv_core.specs.Doing.{Does, offered, opening_base}
 use Rattle.rv_core.specs.Storing.{CommitsTo}
 use Rattle.rv_core.proofs.Images.{base_at}
 use Rattle.rv_core.proofs.Tied.{changes_fit, own_changes, tied_committed, tied_created, tied_done, tied_same, tied_without}
@@ -140,3 +142,18 @@ opens_does shown schema txns cursors more session base name select offers h ther
 
 pub low_room : (n m : ℕ) → m ≡ n → m ≤ 63 → nat_lt 63 n ≡ false
 low_room n m e h = grind (arith, nat_tests)
+
+-- what the rows offer at the base of the session's transaction
+
+seen_by : (shown : Shown) (schema : Schema) (txns : Transactions) (cursors : List Cursor) (session table : ℕ) (s : Standing) (o : Option ℕ) → transaction_of txns.active session ≡ o → standing txns.active o ≡ Some s → table < length schema.tables → rows_seen (db_of shown schema txns cursors) o table ≡ shown.rows table s.base
+seen_by shown schema txns cursors session table s None e h there = cc
+seen_by shown schema txns cursors session table s (Some own) e h there =
+    let at = base_at shown (length schema.tables) table txns.active own (own_within txns.active session own e) there in
+    let same : standing_at txns.active own ≡ s = cc in
+    at ∙ ap (λ (t : Standing). shown.rows table t.base) same
+
+pub offers_seen : (shown : Shown) (schema : Schema) (txns : Transactions) (cursors : List Cursor) (session : ℕ) (select : Select) (s : Standing) (offers : List Offer) → Some s ≡ standing txns.active (transaction_of txns.active session) → table_of select < length schema.tables
+    → offers ≡ map (offer_of select) (qualifying select (shown.rows (table_of select) s.base)) → offers ≡ offered (db_of shown schema txns cursors) session select
+offers_seen shown schema txns cursors session select s offers h there listed =
+    let seen = seen_by shown schema txns cursors session (table_of select) s (transaction_of txns.active session) refl (sym h) there in
+    listed ∙ ap (λ (rows : List Record). map (offer_of select) (qualifying select rows)) (sym seen)

@@ -3,6 +3,7 @@ pub mod Opens
 pub mod Facts
 pub mod Giving
 pub mod Images
+pub mod Indexing
 pub mod Numbers
 pub mod Offering
 pub mod Soundness

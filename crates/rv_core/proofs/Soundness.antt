@@ -21,4 +21,5 @@ IsSound-Answers old new session text reply sound a =
       legal = rw a.gained legal;
       database = a.step ∙ ap (λ s. stepped s e) sound.database ∙ sym after_is ∙ ap after (sym a.gained);
       phases = rw (a.gained, a.same_phase, ends) (omega arith);
+      kept = a.swept;
     }

@@ -18,11 +18,12 @@ use Rattle.rv_restrict.specs.declared.atom.Atom.{Atom}
 use Rattle.rv_restrict.specs.Truth.{qualifies}
 use Rattle.rv_catalog.specs.Answers.{ok_or, refuse_if}
 use Rattle.rv_catalog.specs.declared.def.TableDef.{TableDef}
+use Rattle.rv_catalog.specs.declared.def.IndexDef.{IndexDef}
 use Rattle.rv_catalog.specs.Fits.{is_over_table}
 use Rattle.rv_catalog.specs.Schema.{Schema, width}
 use Rattle.rv_catalog.proofs.Steps.{bind_ok, not_refused, ok_is, was_some}
 use Rattle.rv_reader.specs.Shown.{Shown, IsSnapshot, CanRead}
-use Rattle.rv_reader.specs.Storing.{AreWide, IsStored, Stays, IsSame, Created, Swept}
+use Rattle.rv_reader.specs.Storing.{AreWide, IsStored, Stays, IsSame, Created, Indexed, Swept}
 use Rattle.rv_model.specs.declared.state.State.{State}
 use Rattle.rv_model.specs.declared.state.Cursor.{Cursor}
 use Rattle.rv_model.specs.declared.transactions.Transaction.{Transaction}
@@ -236,6 +237,18 @@ stand_created old new schema def txns cursors idle tied more =
     let bases : bases_of new (tables + 1) txns.active ≡ bases_of old tables txns.active = rw no refl in
     rw (newest, low, count, rows, bases) refl
 
+-- CREATE INDEX
+
+pub stand_indexed : (old new : Shown) (schema : Schema) (def : IndexDef) (txns : Transactions) (cursors : List Cursor) → IsTied old schema txns → Indexed old new def.table def.columns
+    → stand_of new (record schema { indexes = schema.indexes ++ def ∷ [] }) txns cursors ≡ record (stand_of old schema txns cursors) { db = record (db_of old schema txns cursors) { schema = record schema { indexes = schema.indexes ++ def ∷ [] } } }
+stand_indexed old new schema def txns cursors tied more =
+    let tables = length schema.tables in
+    let newest = more.newest in
+    let low = more.horizon in
+    let rows : image new tables old.newest ≡ image old tables old.newest = image_stays old new tables old.newest (λ i h. more.stays.rows i old.newest (record { there = omega (arith, tied.count); snapshot = record { kept = tied.standing; known = omega arith } }) (record { kept = omega (arith, more.horizon, tied.standing); known = omega (arith, more.newest) })) in
+    let bases = bases_kept old new txns.touched tables txns.active (omega (arith, tied.count)) more.stays more.horizon (omega (arith, more.newest)) tied.active in
+    rw (newest, low, rows, bases) refl
+
 -- A database stays tied to its store under calls on its transactions.
 
 -- no table, no commit, no transaction
@@ -244,11 +257,17 @@ fresh_tied shown none stored = record {
   count = none;
   columns = λ i h. absurd (omega arith);
   indexes = λ i h. refl;
+  indexed = no_indexes shown.indexes refl;
+  each = λ i h. absurd (omega arith);
   standing = stored.standing;
   given = λ i snap can. absurd (let t = can.there in omega (arith, none));
   few = λ i. omega arith;
   active = tt;
 }
+  where
+    no_indexes : (n : ℕ) → shown.indexes ≡ n → n ≡ 0
+    no_indexes zero e = refl
+    no_indexes (suc n) e = absurd (let t = (stored.over 0 (omega arith)).table in omega (arith, none))
 
 pub fresh_stand : (shown : Shown) → shown.newest ≡ 0 → IsStored shown → stand_of shown (record { tables = []; indexes = [] }) no_transactions [] ≡ record { db = empty; horizon = 0 }
 fresh_stand shown newest stored =

@@ -1,6 +1,8 @@
 -- A database stays tied to its store under the store's calls.
-use Rattle.std.proofs.Common.{◌≡◌, ℕ, zero, suc, ◌+◌, ◌<◌, ◌≤◌, List, [], ◌∷◌, ◌++◌, refl, ap, sym, ◌∙◌, subst, arith, length, length-append, slice_set, Option, Some, None, inl, inr, IfSome}
-use Rattle.std.specs.List.{AllByRecursion}
+use Rattle.std.proofs.Common.{◌≡◌, ℕ, zero, suc, ◌+◌, ◌<◌, ◌≤◌, List, [], ◌∷◌, ◌++◌, refl, ap, sym, ◌∙◌, subst, arith, length, length-append, slice_set, Option, Some, None, inl, inr, ◌≢◌, filter, IfSome}
+use Rattle.std.specs.List.{AllByRecursion, slice_index_or}
+use Rattle.std.proofs.Math.Seq.{get_or-append_seam}
+use Rattle.std.proofs.lemmas.List.{get_or_append_left}
 use Rattle.std.proofs.lemmas.Bool.{cases_lt}
 use Rattle.std.proofs.lemmas.Bool.Decides.{eqb_tells}
 use Rattle.rv_value.specs.declared.value.Value.{Value}
@@ -9,13 +11,15 @@ use Rattle.rv_rows.specs.declared.changes.Change.{Change}
 use Rattle.rv_rows.specs.Changes.{applied}
 use Rattle.rv_rows.specs.Rows.{comes_below, with_values}
 use Rattle.rv_catalog.specs.declared.def.TableDef.{TableDef}
+use Rattle.rv_catalog.specs.declared.def.IndexDef.{IndexDef}
+use Rattle.rv_catalog.specs.Kept.{indexes_over, is_over}
 use Rattle.rv_catalog.specs.Schema.{Schema, width}
 use Rattle.rv_reader.specs.Shown.{Shown, IsSnapshot, CanRead}
-use Rattle.rv_reader.specs.Storing.{Stays, IsSame, Created, Committed, Swept, IsChange}
+use Rattle.rv_reader.specs.Storing.{Stays, IsSame, Created, Indexed, Committed, Swept, IsChange}
 use Rattle.rv_model.specs.declared.transactions.Transaction.{Transaction}
 use Rattle.rv_model.specs.declared.transactions.Transactions.{Transactions}
 use Rattle.rv_model.specs.Transactions.{no_transaction, transaction_at, next_row, touched_in, touch, touch_all, done, without, lowest, horizon}
-use Rattle.rv_core.specs.Db.{IsOwn, IsActive, AreTaken, IsTied}
+use Rattle.rv_core.specs.Db.{IsOwn, IsActive, AreTaken, HasIndex, IsTied, no_index}
 use Rattle.rv_core.proofs.Facts.{all_filter, all_put, all_at, all_remove, all_more}
 
 own_stays : (old new : Shown) (touched : List (List ℕ)) (c : Change) → old.tables ≤ new.tables → Stays old new → IsOwn old touched c → IsOwn new touched c
@@ -39,6 +43,10 @@ actives_stay old new touched (t ∷ ts) more stays bases h = (active_stays old n
 bases_known : (old new : Shown) (touched : List (List ℕ)) (active : List Transaction) → new.horizon ≡ old.horizon → old.newest ≤ new.newest → AllByRecursion (IsActive old touched) active → AllByRecursion (λ (t : Transaction). IsSnapshot new t.base) active
 bases_known old new touched active h n all = all_more (IsActive old touched) (λ (t : Transaction). IsSnapshot new t.base) (λ t a. record { kept = omega (arith, h, a.base.kept); known = omega (arith, n, a.base.known) }) active all
 
+-- an index that was there stays as it is
+index_stays : (old new : Shown) (indexes : List IndexDef) (i : ℕ) → i < old.indexes → Stays old new → HasIndex old indexes i → HasIndex new indexes i
+index_stays old new indexes i there stays h = record { over = stays.over i there ∙ h.over; keys = stays.keys i there ∙ h.keys }
+
 -- a store that shows the same
 pub tied_same : (old new : Shown) (schema : Schema) (txns : Transactions) → IsSame old new → IsTied old schema txns → IsTied new schema txns
 tied_same old new schema txns same tied =
@@ -46,6 +54,8 @@ tied_same old new schema txns same tied =
     record {
       count = same.tables ∙ tied.count;
       indexes = tied.indexes;
+      indexed = same.indexes ∙ tied.indexed;
+      each = λ i h. index_stays old new schema.indexes i (omega (arith, tied.indexed, h)) same.stays (tied.each i h);
       columns = λ i h. same.stays.columns i (omega (arith, tied.count, h)) ∙ tied.columns i h;
       standing = omega (arith, same.horizon, same.newest, tied.standing);
       given = λ i snap can.
@@ -76,6 +86,8 @@ tied_created old new schema def txns idle more tied =
     record {
       count = omega (arith, more.tables, tied.count, count);
       indexes = λ i h. tied.indexes i (omega (arith, count));
+      indexed = more.indexes ∙ tied.indexed;
+      each = λ i h. index_stays old new schema.indexes i (omega (arith, tied.indexed, h)) more.stays (tied.each i h);
       columns = λ i h. elim (cases_lt i (length schema.tables)) [
         | inl within ↦ more.stays.columns i (omega (arith, tied.count)) ∙ tied.columns i within ∙ sym (width_stays schema.tables def i within)
         | inr past ↦
@@ -95,6 +107,51 @@ tied_created old new schema def txns idle more tied =
       ];
       few = tied.few;
       active = rw (none_lowest txns.active idle) tt;
+    }
+
+-- An index more.
+
+-- none is over a table that is not there
+over_past : (table : ℕ) (indexes : List IndexDef) (def : IndexDef) → indexes_over table indexes ≡ 0 → def.table ≢ table → indexes_over table (indexes ++ def ∷ []) ≡ 0
+over_past table [] def none other = elim (eqb_tells def.table table) [
+  | inl here ↦ absurd (other here.1)
+  | inr apart ↦ rw apart.0 refl
+]
+over_past table (i ∷ is) def none other = elim (eqb_tells i.table table) [
+  | inl here ↦ absurd (some_over (length (filter (is_over table) is)) (rw here.0 at none))
+  | inr apart ↦ rw apart.0 (over_past table is def (rw apart.0 at none) other)
+]
+  where
+    some_over : (n : ℕ) → suc n ≡ 0 → ⊥
+    some_over n h = omega arith
+
+has_more : (shown : Shown) (indexes : List IndexDef) (def : IndexDef) (i : ℕ) → i < length indexes → HasIndex shown indexes i → HasIndex shown (indexes ++ def ∷ []) i
+has_more shown indexes def i there h = let same : slice_index_or (indexes ++ def ∷ []) i no_index ≡ slice_index_or indexes i no_index = get_or_append_left indexes (def ∷ []) no_index i there in record { over = rw same h.over; keys = rw same h.keys }
+
+has_last : (shown : Shown) (indexes : List IndexDef) (def : IndexDef) (i : ℕ) → i ≡ length indexes → shown.over i ≡ def.table → shown.keys i ≡ def.columns → HasIndex shown (indexes ++ def ∷ []) i
+has_last shown indexes def i at over keys = let last : slice_index_or (indexes ++ def ∷ []) i no_index ≡ def = rw at (get_or-append_seam indexes def [] no_index) in record { over = rw last over; keys = rw last keys }
+
+pub tied_indexed : (old new : Shown) (schema : Schema) (def : IndexDef) (txns : Transactions) → def.table < length schema.tables → Indexed old new def.table def.columns → IsTied old schema txns → IsTied new (record schema { indexes = schema.indexes ++ def ∷ [] }) txns
+tied_indexed old new schema def txns there more tied =
+    let count : length (schema.indexes ++ def ∷ []) ≡ length schema.indexes + 1 = length-append schema.indexes (def ∷ []) in
+    let n : old.newest ≤ new.newest = omega (arith, more.newest) in
+    record {
+      count = more.tables ∙ tied.count;
+      indexes = λ i h. over_past i schema.indexes def (tied.indexes i h) (λ e. absurd (omega (arith, e, h, there)));
+      indexed = more.indexes ∙ ap (λ (k : ℕ). k + 1) tied.indexed ∙ sym count;
+      each = λ i h. elim (cases_lt i (length schema.indexes)) [
+        | inl within ↦ has_more new schema.indexes def i within (index_stays old new schema.indexes i (omega (arith, tied.indexed, within)) more.stays (tied.each i within))
+        | inr past ↦
+            let last : old.indexes ≡ i = omega (arith, tied.indexed, count, h) in
+            has_last new schema.indexes def i (omega (arith, count, h)) (subst (λ (k : ℕ). new.over k ≡ def.table) last more.over) (subst (λ (k : ℕ). new.keys k ≡ def.columns) last more.keys)
+      ];
+      columns = λ i h. more.stays.columns i (omega (arith, tied.count, h)) ∙ tied.columns i h;
+      standing = omega (arith, more.horizon, more.newest, tied.standing);
+      given = λ i snap can.
+          let was : CanRead old i snap = record { there = omega (arith, more.tables, can.there); snapshot = record { kept = omega (arith, more.horizon, can.snapshot.kept); known = omega (arith, more.newest, can.snapshot.known) } } in
+          rw (more.stays.rows i snap was can.snapshot) (tied.given i snap was);
+      few = tied.few;
+      active = actives_stay old new txns.touched txns.active (omega (arith, more.tables)) more.stays (bases_known old new txns.touched txns.active more.horizon n tied.active) tied.active;
     }
 
 -- Row numbers that were taken.
@@ -155,6 +212,8 @@ tied_more shown schema old new grows few active tied = record {
   count = tied.count;
   columns = tied.columns;
   indexes = tied.indexes;
+  indexed = tied.indexed;
+  each = tied.each;
   standing = tied.standing;
   given = λ i snap can. taken_more old.touched new.touched i (shown.rows i snap) grows (tied.given i snap can);
   few = few;
@@ -193,6 +252,8 @@ tied_committed old new schema txns changes owns told tied =
     record {
       count = told.tables ∙ tied.count;
       indexes = tied.indexes;
+      indexed = told.indexes ∙ tied.indexed;
+      each = λ i h. index_stays old new schema.indexes i (omega (arith, tied.indexed, h)) told.stays (tied.each i h);
       columns = λ i h. told.stays.columns i (omega (arith, tied.count, h)) ∙ tied.columns i h;
       standing = omega (arith, told.horizon, told.newest, tied.standing);
       given = λ i snap can. elim (cases_lt snap new.newest) [
@@ -236,6 +297,8 @@ tied_swept_to old new schema txns swept tied =
     record {
       count = swept.tables ∙ tied.count;
       indexes = tied.indexes;
+      indexed = swept.indexes ∙ tied.indexed;
+      each = λ i h. index_stays old new schema.indexes i (omega (arith, tied.indexed, h)) swept.stays (tied.each i h);
       columns = λ i h. swept.stays.columns i (omega (arith, tied.count, h)) ∙ tied.columns i h;
       standing = omega (arith, swept.moved, swept.newest, last);
       given = λ i snap can.

@@ -13,19 +13,21 @@ pub record Shown : Type 0 where
   pub db : State
   pub horizon : ℕ
 
--- The history is legal, the phase is that of the last entry or later, and the database is the one after the history.
+-- the lowest base of an active transaction, or the last commit
+abbrev pub horizon_of : State → ℕ
+horizon_of db = horizon db.transactions.active db.last
+
+-- The history is legal, the phase is that of the last entry or later, and the database is the one after the history. The
+-- store keeps what the transactions need, and no older snapshot.
 pub record IsSound (shown : Shown) : Type 0 where
   pub legal : IsLegal shown.history
   pub database : shown.db ≡ after shown.history
   pub phases : phase_after 0 shown.history ≤ shown.phase
+  pub kept : shown.horizon ≡ horizon_of shown.db
 
 -- a session's call in a phase, with the reply
 abbrev pub entry : ℕ → ℕ → List ℕ → Reply → Entry
 entry session phase text reply = record { session = session; phase = phase; text = text; reply = reply }
-
--- the lowest base of an active transaction, or the last commit
-abbrev pub horizon_of : State → ℕ
-horizon_of db = horizon db.transactions.active db.last
 
 -- The history gains exactly the entry of this call, and the database is the step by it. The store keeps what the
 -- transactions need.

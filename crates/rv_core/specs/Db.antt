@@ -1,8 +1,9 @@
 -- The database for which a store, a catalog and transactions stand.
-use Rattle.std.specs.Prelude.{◌≡◌, ℕ, ◌<◌, ◌≤◌, ◌==◌, ◌&&◌, List, Option, map, filter, length, position, bytes_eq, IfSome}
-use Rattle.std.specs.List.{AllByRecursion, range_with_len}
+use Rattle.std.specs.Prelude.{◌≡◌, ℕ, ◌<◌, ◌≤◌, ◌==◌, ◌&&◌, List, [], Option, map, filter, length, position, bytes_eq, IfSome}
+use Rattle.std.specs.List.{AllByRecursion, range_with_len, slice_index_or}
 use Rattle.rv_value.specs.declared.record.Record.{Record}
 use Rattle.rv_rows.specs.declared.changes.Change.{Change}
+use Rattle.rv_catalog.specs.declared.def.IndexDef.{IndexDef}
 use Rattle.rv_catalog.specs.Kept.{indexes_over}
 use Rattle.rv_catalog.specs.Schema.{Schema, width}
 use Rattle.rv_reader.specs.Shown.{Shown, IsSnapshot, CanRead}
@@ -66,12 +67,22 @@ pub record IsActive (shown : Shown) (touched : List (List ℕ)) (t : Transaction
 abbrev pub AreTaken : List (List ℕ) → ℕ → List Record → Type 0
 AreTaken touched table rows = AllByRecursion (λ (r : Record). r.row.0 < next_row touched table) rows
 
--- The store has the tables of the schema, indexes are over these, each row has a number that was taken, at most 1,000,000 were taken of a table,
+abbrev pub no_index : IndexDef
+no_index = record { name = []; table = 0; columns = [] }
+
+-- the store has the index of a number as the schema has it
+pub record HasIndex (shown : Shown) (indexes : List IndexDef) (index : ℕ) : Type 0 where
+  pub over : shown.over index ≡ (slice_index_or indexes index no_index).table
+  pub keys : shown.keys index ≡ (slice_index_or indexes index no_index).columns
+
+-- The store has the tables and the indexes of the schema, indexes are over these tables, each row has a number that was taken, at most 1,000,000 were taken of a table,
 -- and each base is a snapshot.
 pub record IsTied (shown : Shown) (schema : Schema) (transactions : Transactions) : Type 0 where
   pub count : shown.tables ≡ length schema.tables
   pub columns : (table : ℕ) → table < length schema.tables → shown.columns table ≡ width schema.tables table
   pub indexes : (table : ℕ) → length schema.tables ≤ table → indexes_over table schema.indexes ≡ 0
+  pub indexed : shown.indexes ≡ length schema.indexes
+  pub each : (index : ℕ) → index < length schema.indexes → HasIndex shown schema.indexes index
   pub standing : shown.horizon ≤ shown.newest
   pub given : (table snap : ℕ) → CanRead shown table snap → AreTaken transactions.touched table (shown.rows table snap)
   pub few : (table : ℕ) → next_row transactions.touched table ≤ 1000000

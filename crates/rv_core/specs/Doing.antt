@@ -1,18 +1,21 @@
 -- What the calls of a database do: two equal replies, and the next state. The store's horizon stays.
-use Rattle.std.specs.Prelude.{◌≡◌, ℕ, List, Option, Result, Ok, length, slice_set}
+use Rattle.std.specs.Prelude.{◌≡◌, ◌≤◌, ℕ, List, Option, Result, Ok, length, slice_set, map}
 use Rattle.rv_lang.specs.declared.statement.Statement.{Statement}
 use Rattle.rv_lang.specs.declared.reply.Refusal.{Refusal}
 use Rattle.rv_lang.specs.declared.reply.Reply.{Reply}
 use Rattle.rv_catalog.specs.declared.def.Resolved.{Resolved}
 use Rattle.rv_catalog.specs.declared.def.Resolved.TheVariants as asks
 use Rattle.rv_model.specs.declared.state.Offer.{Offer}
+use Rattle.rv_model.specs.declared.state.State.{State}
+use Rattle.rv_catalog.specs.declared.def.Select.{Select}
 use Rattle.rv_catalog.specs.declared.def.TableDef.{TableDef}
 use Rattle.rv_catalog.specs.Answers.{◌>>=◌}
 use Rattle.rv_model.specs.declared.state.Cursor.{Cursor}
 use Rattle.rv_model.specs.declared.transactions.Transaction.{Transaction}
 use Rattle.rv_model.specs.Database.{cursor_at, cursor_named}
-use Rattle.rv_model.specs.Transactions.{transaction_at}
-use Rattle.rv_model.specs.Step.{Outcome, reply_of, state_of, Allows, AllowsAsked, AllowsFetch, next, next_asked, fetched, Offers, offers_after, opening}
+use Rattle.rv_model.specs.Offers.{offer_of, qualifying}
+use Rattle.rv_model.specs.Transactions.{transaction_at, transaction_of}
+use Rattle.rv_model.specs.Step.{Outcome, reply_of, state_of, Allows, AllowsAsked, AllowsFetch, next, next_asked, fetched, Offers, offers_after, opening, rows_seen, table_of}
 use Rattle.rv_core.specs.Db.{Stand}
 
 -- Two equal replies, and a new state, are those of the outcome.
@@ -43,6 +46,10 @@ opening_base defs active cursors session name tables = do
   own ← opening defs active cursors session name tables
   Ok (transaction_at active own).base
 
+-- what the rows of the one FROM item offer at the base of the session's transaction, as the rows stand in their table
+abbrev pub offered : State → ℕ → Select → List Offer
+offered s session select = map (offer_of select) (qualifying select (rows_seen s (transaction_of s.transactions.active session) (table_of select)))
+
 -- Two equal replies are allowed to what is asked, and the state is the one after them.
 abbrev pub DoesAsked : Result Resolved Refusal → Stand → ℕ → Reply × Reply → Stand → Type 0
 DoesAsked asked old session replies new =
@@ -53,7 +60,8 @@ abbrev pub Executes : Stand → ℕ → Option Statement → Reply × Reply → 
 Executes old session statement replies new =
     (replies.1 ≡ replies.0) × Allows old.db session statement replies.0 × (new ≡ record old { db = next old.db session statement replies.0 })
 
--- A query that is asked is over one FROM item.
-abbrev pub IsOneQuery : Resolved → Type 0
-IsOneQuery (asks.Open cursor select) = length select.tables ≡ 1
-IsOneQuery asked = Unit {0}
+-- A new index has a column, and a query is over one FROM item.
+abbrev pub IsWhole : Resolved → Type 0
+IsWhole (asks.CreateIndex def) = 1 ≤ length def.columns
+IsWhole (asks.Open cursor select) = length select.tables ≡ 1
+IsWhole asked = Unit {0}

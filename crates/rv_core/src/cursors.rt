@@ -7,7 +7,7 @@ ghost use Rattle.rv_restrict.specs.Bind.{passes_home};
 ghost use Rattle.rv_restrict.specs.Truth.{names_only};
 ghost use Rattle.rv_catalog.specs.Fits.{is_column};
 ghost use Rattle.rv_model.specs.Database.{cursor_named};
-ghost use Rattle.rv_model.specs.Offers.{offer_of, offers_of, picked};
+ghost use Rattle.rv_model.specs.Offers.{offer_of, offers_of, picked, qualifying};
 ghost use Rattle.rv_model.specs.Step.{other_cursors, own_cursors, table_of};
 ghost use Rattle.rv_model.specs.Transactions.{transaction_of};
 ghost use Rattle.rv_txn.specs.Calls.{IsFault, has_changed};
@@ -103,7 +103,7 @@ pub fn opening(
 }
 
 /// The first of these tables of which the session's transaction has changed a row.
-fn first_touched(txns: &Txns, session: u8, tables: &[u32]) -> Option<u32>
+pub fn first_touched(txns: &Txns, session: u8, tables: &[u32]) -> Option<u32>
     ensures { result ≡ find (λ table. has_changed txns.now.active (transaction_of txns.now.active session) table) tables.now }
 {
     tables
@@ -126,6 +126,22 @@ pub fn fetch_at(
     cursors.at_mut(place).offers.take(alloc)
 }
 
+/// What the rows of the one FROM item offer at a snapshot, as the rows stand in their table.
+pub fn offered_at<S: Store + Reader<Ledger = Uncounted>>(
+    alloc: Global,
+    store: &S,
+    select: &Select,
+    snap: u64,
+) -> Result<Vec<Offer>, NoMemory>
+    requires can { CanRead (S.shown store.now) (table_of select.now) snap }
+    requires over { names_only (passes_home (is_column ((S.shown store.now).columns (table_of select.now)))) select.now.only ≡ true }
+    ensures { IfOk result (λ offers. offers.items ≡ map (offer_of select.now) (qualifying select.now ((S.shown store.now).rows (table_of select.now) snap))) }
+{
+    let table = first_table(select.tables.as_slice());
+    let rows = kept_rows(alloc, store, table, snap, &select.only)?;
+    offers_in(alloc, select, rows.as_slice())
+}
+
 /// What the rows of the one FROM item offer at a snapshot.
 pub fn offers_at<S: Store + Reader<Ledger = Uncounted>>(
     alloc: Global,
@@ -137,9 +153,7 @@ pub fn offers_at<S: Store + Reader<Ledger = Uncounted>>(
     requires over { names_only (passes_home (is_column ((S.shown store.now).columns (table_of select.now)))) select.now.only ≡ true }
     ensures { IfOk result (λ offers. offers ≡ offers_of select.now ((S.shown store.now).rows (table_of select.now) snap)) }
 {
-    let table = first_table(select.tables.as_slice());
-    let rows = kept_rows(alloc, store, table, snap, &select.only)?;
-    let offers = offers_in(alloc, select, rows.as_slice())?;
+    let offers = offered_at(alloc, store, select, snap)?;
     Offers::from_vec(alloc, offers)
 }
 

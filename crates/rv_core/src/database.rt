@@ -1,19 +1,20 @@
 //! The database: a catalog, a store, transactions and cursors, and what each statement does to them.
-ghost use Rattle.std.specs.Prelude.{◌≡◌, ◌<◌, true, IfOk, OnErr, length};
+ghost use Rattle.std.specs.Prelude.{◌≡◌, ◌<◌, ◌≤◌, true, IfOk, OnErr, length};
 ghost use Rattle.std.specs.Option.{option_copied};
-ghost use Rattle.rv_catalog.specs.Fits.{IsNewTable, IsQueryOf, IsRowOf, is_over_table};
+ghost use Rattle.rv_catalog.specs.Fits.{IsNewIndex, IsNewTable, IsQueryOf, IsRowOf, is_over_table};
 ghost use Rattle.rv_model.specs.Database.{empty};
 ghost use Rattle.rv_model.specs.Standing.{HasRoom};
-ghost use Rattle.rv_model.specs.Step.{began, changed, closed, committed, created, inserted, opened, rolled_back};
+ghost use Rattle.rv_model.specs.Step.{began, changed, closed, committed, created, indexed, inserted, opened, rolled_back};
 ghost use Rattle.rv_core.specs.Core.{horizon_of};
-ghost use Rattle.rv_core.specs.Doing.{Does, Fetches};
+ghost use Rattle.rv_core.specs.Doing.{Does, Fetches, offered};
 
-use crate::cursors::{Open, close_all, cursor_named, fetch_at, offers_at, opening};
+use crate::cursors::{Open, close_all, cursor_named, fetch_at, offered_at, offers_at, opening};
 use crate::replies::{limit, refused};
-use crate::storing::{add_table, change_rows, commit_some};
-use rv_catalog::{Catalog, Select, TableDef};
+use crate::storing::{add_index, add_table, change_rows, commit_some};
+use rv_catalog::{Catalog, IndexDef, Select, TableDef};
 use rv_judge::Uncounted;
 use rv_lang::{Refusal, Reply, Which};
+use rv_model::Offer;
 use rv_reader::{Reader, Store};
 use rv_restrict::Restriction;
 use rv_txn::{TxnFault, Txns};
@@ -68,6 +69,27 @@ impl<S: Store + Reader<Ledger = Uncounted> + Drop> Database<S> {
         &self.catalog
     }
 
+    /// The transactions.
+    pub fn txns(&self) -> &Txns
+        ensures { result.now ≡ self.now.db.transactions }
+    {
+        &self.txns
+    }
+
+    /// What the rows of the one FROM item offer at the base of the session's transaction, as the rows stand in their
+    /// table; nothing where the session has no transaction.
+    pub fn offers(&self, session: u8, select: &Select) -> Result<Vec<Offer>, NoMemory>
+        requires one { length select.now.tables ≡ 1 }
+        requires query { IsQueryOf self.now.db.schema select.now }
+        ensures { IfOk result (λ offers. offers.items ≡ offered self.now.db session select.now) }
+    {
+        let Some(standing) = self.txns.standing(session) else {
+            return Ok(Vec::new(self.alloc));
+        };
+        let offers = offered_at(self.alloc, &self.store, select, standing.base)?;
+        Ok(offers)
+    }
+
     /// CREATE TABLE.
     pub fn create(&mut self, def: TableDef) -> Result<(Reply, Reply), NoMemory>
         requires { IsNewTable self.old.db.schema def }
@@ -81,6 +103,27 @@ impl<S: Store + Reader<Ledger = Uncounted> + Drop> Database<S> {
             return refused(self.alloc, limit(Which::Tables, 64));
         }
         match add_table(&mut self.catalog, &mut self.store, def) {
+            Ok(()) => {}
+            Err(NoMemory) => return Err(NoMemory),
+        }
+        Ok((Reply::Created, Reply::Created))
+    }
+
+    /// CREATE INDEX.
+    pub fn create_index(&mut self, def: IndexDef) -> Result<(Reply, Reply), NoMemory>
+        requires new { IsNewIndex self.old.db.schema def }
+        requires some { 1 ≤ length def.columns }
+        requires swept { self.old.horizon ≡ horizon_of self.old.db }
+        ensures ok { IfOk result (λ replies. Does (indexed self.old.db def) self.old replies self.new) }
+        ensures err { OnErr result (self.new ≡ self.old) }
+    {
+        if let Some(lowest) = self.txns.active() {
+            return refused(self.alloc, Refusal::Busy(lowest));
+        }
+        if self.catalog.count_indexes(def.table) > 7 {
+            return refused(self.alloc, limit(Which::Indexes, 8));
+        }
+        match add_index(&mut self.catalog, &mut self.store, def) {
             Ok(()) => {}
             Err(NoMemory) => return Err(NoMemory),
         }

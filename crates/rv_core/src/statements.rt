@@ -1,11 +1,13 @@
 //! What a text asks, and what is done for it.
-ghost use Rattle.std.specs.Prelude.{◌≡◌, ◌≤◌, Ok, IfOk, OnErr, length};
+ghost use Rattle.std.specs.Prelude.{◌≡◌, ◌≤◌, Ok, IfOk, IfSome, OnErr, length};
+ghost use Rattle.rv_parse.specs.Needed.{HasParts};
 ghost use Rattle.rv_parse.specs.Reading.{statement_of};
 ghost use Rattle.rv_catalog.specs.Answers.{Gives};
 ghost use Rattle.rv_catalog.specs.Fits.{FitsSchema};
 ghost use Rattle.rv_model.specs.Standing.{HasRoom};
 ghost use Rattle.rv_model.specs.Step.{is_built, understood};
-ghost use Rattle.rv_core.specs.Doing.{DoesAsked, Executes, IsOneQuery};
+ghost use Rattle.rv_core.specs.Core.{horizon_of};
+ghost use Rattle.rv_core.specs.Doing.{DoesAsked, Executes, IsWhole};
 
 use crate::database::Database;
 use crate::replies::{refused, twice};
@@ -26,6 +28,7 @@ pub fn answer<S: Store + Reader<Ledger = Uncounted> + Drop>(
 ) -> Result<(Reply, Reply), NoMemory>
     requires short { length text.now ≤ 4096 }
     requires room { HasRoom database.old.db }
+    requires swept { database.old.horizon ≡ horizon_of database.old.db }
     ensures ok { IfOk result (λ replies. Executes database.old session (statement_of text.now) replies database.new) }
     ensures err { OnErr result (database.new ≡ database.old) }
 {
@@ -40,7 +43,9 @@ fn execute<S: Store + Reader<Ledger = Uncounted> + Drop>(
     session: u8,
     statement: &Option<Statement>,
 ) -> Result<(Reply, Reply), NoMemory>
+    requires parts { IfSome statement.now HasParts }
     requires room { HasRoom database.old.db }
+    requires swept { database.old.horizon ≡ horizon_of database.old.db }
     ensures ok { IfOk result (λ replies. Executes database.old session statement.now replies database.new) }
     ensures err { OnErr result (database.new ≡ database.old) }
 {
@@ -52,10 +57,11 @@ fn execute<S: Store + Reader<Ledger = Uncounted> + Drop>(
 }
 
 /// What a statement asks, its names looked up, or the first refusal up to there.
-fn understand(catalog: &Catalog, statement: &Option<Statement>) -> Result<Resolved, BindFault>
+pub fn understand(catalog: &Catalog, statement: &Option<Statement>) -> Result<Resolved, BindFault>
+    requires parts { IfSome statement.now HasParts }
     ensures gives { Gives result (understood catalog.now statement.now) }
     ensures fits { IfOk result (λ asked. FitsSchema catalog.now asked) }
-    ensures one { IfOk result IsOneQuery }
+    ensures whole { IfOk result IsWhole }
 {
     let Some(derived) = statement else {
         return Err(BindFault::Refused(Refusal::Syntax));
@@ -72,8 +78,9 @@ fn is_built(statement: &Statement) -> bool
 {
     match statement {
         Statement::Open { items, .. } => items.len() == 1,
-        Statement::CreateIndex { .. } | Statement::Show { .. } | Statement::Step { .. } => false,
+        Statement::Show { .. } | Statement::Step { .. } => false,
         Statement::CreateTable { .. }
+        | Statement::CreateIndex { .. }
         | Statement::Begin { .. }
         | Statement::Insert { .. }
         | Statement::Update { .. }
@@ -93,13 +100,15 @@ fn perform<S: Store + Reader<Ledger = Uncounted> + Drop>(
     asked: Resolved,
 ) -> Result<(Reply, Reply), NoMemory>
     requires room { HasRoom database.old.db }
+    requires swept { database.old.horizon ≡ horizon_of database.old.db }
     requires fits { FitsSchema database.old.db.schema asked }
-    requires one { IsOneQuery asked }
+    requires whole { IsWhole asked }
     ensures ok { IfOk result (λ replies. DoesAsked (Ok asked) database.old session replies database.new) }
     ensures err { OnErr result (database.new ≡ database.old) }
 {
     match asked {
         Resolved::CreateTable(def) => database.create(def),
+        Resolved::CreateIndex(def) => database.create_index(def),
         Resolved::Begin { read_only } => database.begin(session, read_only),
         Resolved::Insert { table, values } => database.insert(session, table, values),
         Resolved::Update { table, sets, only } => {
@@ -111,7 +120,7 @@ fn perform<S: Store + Reader<Ledger = Uncounted> + Drop>(
         Resolved::Open { cursor, select } => database.open(session, cursor, &select),
         Resolved::Fetch(name) => database.fetch(session, name),
         Resolved::Close(name) => database.close(session, name),
-        Resolved::CreateIndex(_) | Resolved::Step { .. } | Resolved::Show(_) => {
+        Resolved::Step { .. } | Resolved::Show(_) => {
             twice(alloc, Reply::Refused(Refusal::NotBuilt))
         }
     }

@@ -1,15 +1,16 @@
 //! Calls on the catalog and the store that go together.
 ghost use Rattle.std.specs.Prelude.{◌≡◌, ◌<◌, ◌≤◌, ◌-◌, ◌^◌, ◌++◌, ◌∷◌, [], None, Ok, true, IfOk, IfErr, OnOk, OnErr, length};
+ghost use Rattle.std.specs.List.{slice_index_or};
 ghost use Rattle.std.specs.Option.{option_copied};
 ghost use Rattle.rv_catalog.specs.Fits.{is_over_table};
 ghost use Rattle.rv_catalog.specs.Kept.{indexes_over};
-ghost use Rattle.rv_catalog.specs.Schema.{table_named};
-ghost use Rattle.rv_reader.specs.Storing.{CanCommit, Created, IsSame};
+ghost use Rattle.rv_catalog.specs.Schema.{index_named, table_named};
+ghost use Rattle.rv_reader.specs.Storing.{AreColumns, CanCommit, Created, Indexed, IsSame};
 ghost use Rattle.rv_txn.specs.Calls.{IsFault};
-ghost use Rattle.rv_core.specs.Db.{IsTied};
+ghost use Rattle.rv_core.specs.Db.{IsTied, no_index};
 ghost use Rattle.rv_core.specs.Storing.{CommitsTo, changed_over};
 
-use rv_catalog::{Catalog, TableDef};
+use rv_catalog::{Catalog, IndexDef, TableDef};
 use rv_judge::Uncounted;
 use rv_reader::{Reader, Store};
 use rv_restrict::Restriction;
@@ -43,6 +44,48 @@ pub fn add_table<S: Store + Reader<Ledger = Uncounted>>(
             catalog.undo_table();
             Err(NoMemory)
         }
+    }
+}
+
+/// An index more in both. Without memory neither has it.
+pub fn add_index<S: Store + Reader<Ledger = Uncounted>>(
+    catalog: &mut Catalog,
+    store: &mut S,
+    def: IndexDef,
+) -> Result<(), NoMemory>
+    requires fresh { index_named catalog.old.indexes def.name ≡ None }
+    requires there { def.table < length catalog.old.tables }
+    requires room { indexes_over def.table catalog.old.indexes < 8 }
+    requires columns { AreColumns ((S.shown store.old).columns def.table) def.columns }
+    requires tables { (S.shown store.old).tables ≡ length catalog.old.tables }
+    requires next { (S.shown store.old).indexes ≡ length catalog.old.indexes }
+    requires alone { (S.shown store.old).horizon ≡ (S.shown store.old).newest }
+    ensures catalog { OnOk result (catalog.new ≡ record catalog.old { indexes = catalog.old.indexes ++ def ∷ [] }) }
+    ensures store { OnOk result (Indexed (S.shown store.old) (S.shown store.new) def.table def.columns) }
+    ensures err_catalog { OnErr result (catalog.new ≡ catalog.old) }
+    ensures err_store { OnErr result (IsSame (S.shown store.old) (S.shown store.new)) }
+{
+    let table = def.table;
+    let index = match catalog.add_index(def) {
+        Ok(index) => index,
+        Err(NoMemory) => return Err(NoMemory),
+    };
+    match store.create_index(index, table, columns_of(catalog, index)) {
+        Ok(()) => Ok(()),
+        Err(NoMemory) => {
+            catalog.undo_index();
+            Err(NoMemory)
+        }
+    }
+}
+
+/// The columns of an index; none where it is not there.
+fn columns_of(catalog: &Catalog, index: u32) -> &[u32]
+    ensures { result.now ≡ (slice_index_or catalog.now.indexes index no_index).columns }
+{
+    match catalog.indexes().get(index as usize) {
+        None => &[],
+        Some(def) => def.columns.as_slice(),
     }
 }
 

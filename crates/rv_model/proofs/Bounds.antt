@@ -9,6 +9,7 @@ use Rattle.rv_value.specs.declared.record.Record.{Record}
 use Rattle.rv_restrict.specs.declared.atom.Atom.{Atom}
 use Rattle.rv_rows.specs.declared.changes.Change.{Change}
 use Rattle.rv_catalog.specs.declared.def.TableDef.{TableDef}
+use Rattle.rv_catalog.specs.declared.def.IndexDef.{IndexDef}
 use Rattle.rv_catalog.specs.declared.def.Select.{Select}
 use Rattle.rv_catalog.specs.declared.def.Resolved.{Resolved}
 use Rattle.rv_catalog.specs.declared.def.Resolved.TheVariants as asks
@@ -19,7 +20,7 @@ use Rattle.rv_model.specs.declared.entry.Entry.{Entry}
 use Rattle.rv_model.specs.Database.{empty, cursor_named}
 use Rattle.rv_model.specs.Transactions as transactions
 use Rattle.rv_model.specs.Transactions.{transaction_of, transaction_at}
-use Rattle.rv_model.specs.Step.{Outcome, state_of, created, began, inserted, changed, committed, committed_with, rolled_back, opened, closed, performed, fetched, next_asked, understood, next}
+use Rattle.rv_model.specs.Step.{Outcome, state_of, created, indexed, began, inserted, changed, committed, committed_with, rolled_back, opened, closed, performed, fetched, next_asked, understood, next}
 use Rattle.rv_model.specs.History.{stepped, after_from, after}
 use Rattle.rv_model.specs.Standing.{HasRoom}
 
@@ -32,6 +33,9 @@ IsBounded-more n s b = record { last = omega (arith, b.last); next = omega (arit
 
 created_bounded : (n : ℕ) (s : State) (def : TableDef) → IsBounded n s → IsBounded (n + 1) (state_of (created s def) s)
 created_bounded n s def b = record { last = grind (arith, b.last); next = grind (arith, b.next) }
+
+indexed_bounded : (n : ℕ) (s : State) (def : IndexDef) → IsBounded n s → IsBounded (n + 1) (state_of (indexed s def) s)
+indexed_bounded n s def b = record { last = grind (arith, b.last); next = grind (arith, b.next) }
 
 began_bounded : (n : ℕ) (s : State) (session : ℕ) (read_only : Bool) → IsBounded n s → IsBounded (n + 1) (state_of (began s session read_only) s)
 began_bounded n s session read_only b = record { last = grind (arith, b.last); next = grind (arith, b.next) }
@@ -70,7 +74,7 @@ asked_bounded : (n : ℕ) (asked : Result Resolved Refusal) (s : State) (session
 asked_bounded n (Err refusal) s session reply b = IsBounded-more n s b
 asked_bounded n (Ok (asks.Fetch name)) s session reply b = fetched_bounded n (cursor_named s.cursors session name) s reply b
 asked_bounded n (Ok (asks.CreateTable def)) s session reply b = created_bounded n s def b
-asked_bounded n (Ok (asks.CreateIndex def)) s session reply b = IsBounded-more n s b
+asked_bounded n (Ok (asks.CreateIndex def)) s session reply b = indexed_bounded n s def b
 asked_bounded n (Ok (asks.Begin read_only)) s session reply b = began_bounded n s session read_only b
 asked_bounded n (Ok (asks.Insert table values)) s session reply b = inserted_bounded n s session table values b
 asked_bounded n (Ok (asks.Update table sets only)) s session reply b = changed_bounded n s session table (Some sets) only b

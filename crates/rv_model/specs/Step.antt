@@ -7,16 +7,18 @@ use Rattle.rv_rows.specs.declared.changes.Change.{Change}
 use Rattle.rv_rows.specs.Changes.{applied, touches}
 use Rattle.rv_lang.specs.declared.statement.Statement.{Statement}
 use Rattle.rv_lang.specs.declared.statement.Statement.TheVariants as statements
-use Rattle.rv_lang.specs.declared.reply.Which.TheVariants.{Tables, Cursors}
+use Rattle.rv_lang.specs.declared.reply.Which.TheVariants.{Tables, Indexes, Cursors}
 use Rattle.rv_lang.specs.declared.reply.Refusal.{Refusal}
 use Rattle.rv_lang.specs.declared.reply.Refusal.TheVariants.{NotBuilt, Syntax, NoTransaction, Busy, NoCursor, CursorOpen, Limit, Pending}
 use Rattle.rv_lang.specs.declared.reply.Reply.{Reply}
 use Rattle.rv_lang.specs.declared.reply.Reply.TheVariants.{Created, Began, Inserted, Touched, Committed, RolledBack, Opened, Row, End, Closed, Refused}
 use Rattle.rv_restrict.specs.declared.atom.Atom.{Atom}
 use Rattle.rv_catalog.specs.declared.def.TableDef.{TableDef}
+use Rattle.rv_catalog.specs.declared.def.IndexDef.{IndexDef}
 use Rattle.rv_catalog.specs.declared.def.Select.{Select}
 use Rattle.rv_catalog.specs.declared.def.Resolved.{Resolved}
 use Rattle.rv_catalog.specs.declared.def.Resolved.TheVariants as asks
+use Rattle.rv_catalog.specs.Kept.{indexes_over}
 use Rattle.rv_catalog.specs.Answers.{◌>>=◌, ok_or, refuse_if}
 use Rattle.rv_catalog.specs.Resolve.{resolved}
 use Rattle.rv_catalog.specs.Schema.{Schema, no_table}
@@ -34,13 +36,12 @@ use Rattle.rv_model.specs.Offers.{offers_of, place_of, without}
 abbrev pub Outcome : Type 0
 Outcome = Result (Reply × State) Refusal
 
--- What is built: all but CREATE INDEX, STEP, SHOW and queries over several FROM items.
+-- What is built: all but STEP, SHOW and queries over several FROM items.
 
 abbrev pub is_one_item : List (List ℕ × Option (List ℕ)) → Bool
 is_one_item items = length items == 1
 
 abbrev pub is_built : Statement → Bool
-is_built (statements.CreateIndex name table columns) = false
 is_built (statements.Open cursor returned items only order goal) = is_one_item items
 is_built (statements.Step cursor n) = false
 is_built (statements.Show cursor) = false
@@ -59,6 +60,13 @@ created s def = do
   idle ← refuse_at (transactions.lowest s.transactions.active) Busy
   room ← refuse_if (nat_lt 63 (length s.schema.tables)) (Limit Tables 64)
   Ok (Created, record s { schema = record s.schema { tables = s.schema.tables ++ def ∷ [] }; rows = s.rows ++ [] ∷ [] })
+
+-- CREATE INDEX: not while a transaction is active, and at most 8 indexes over a table.
+abbrev pub indexed : State → IndexDef → Outcome
+indexed s def = do
+  idle ← refuse_at (transactions.lowest s.transactions.active) Busy
+  room ← refuse_if (nat_lt 7 (indexes_over def.table s.schema.indexes)) (Limit Indexes 8)
+  Ok (Created, record s { schema = record s.schema { indexes = s.schema.indexes ++ def ∷ [] } })
 
 -- BEGIN: a transaction on the last commit and its tables.
 abbrev pub began : State → ℕ → Bool → Outcome
@@ -178,6 +186,7 @@ closed s session cursor = do
 -- what a statement other than FETCH does
 abbrev pub performed : State → ℕ → Resolved → Outcome
 performed s session (asks.CreateTable def) = created s def
+performed s session (asks.CreateIndex def) = indexed s def
 performed s session (asks.Begin read_only) = began s session read_only
 performed s session (asks.Insert table values) = inserted s session table values
 performed s session (asks.Update table sets only) = changed s session table (Some sets) only

@@ -1,4 +1,4 @@
-ghost use Rattle.std.specs.Prelude.{◌≡◌, ◌==◌, ◌++◌, ◌∷◌, [], drop, length, slice_get, OnOk, OnErr};
+ghost use Rattle.std.specs.Prelude.{◌≡◌, ◌==◌, ◌<◌, ◌++◌, ◌∷◌, [], drop, length, remove, slice_get, OnOk, OnErr};
 ghost use Rattle.std.specs.Option.{option_copied, option_to_list};
 
 use rv_value::NoMemory;
@@ -43,6 +43,29 @@ impl<X> Queue<X> {
         ensures rest { self.new ≡ drop 1 self.old }
     {
         self.items.pop_front()
+    }
+
+    /// The item of a place, counted from the front; None where there is none.
+    pub fn get(&self, place: usize) -> Option<&X>
+        ensures { option_copied result ≡ slice_get self.now place }
+    {
+        self.items.get(place)
+    }
+
+    /// Takes the item of a place out; those behind it move up by one. It takes the time of the shorter side.
+    pub fn remove(&mut self, place: usize) -> Option<X>
+        requires { place < length self.old }
+        ensures taken { result ≡ slice_get self.old place }
+        ensures rest { self.new ≡ remove self.old place }
+    {
+        self.items.remove(place)
+    }
+
+    /// The number of items.
+    pub fn len(&self) -> usize
+        ensures { result ≡ length self.now }
+    {
+        self.items.len()
     }
 
     /// Whether there is no item.

@@ -16,6 +16,11 @@ fn a_queue_gives_its_items_in_the_order_they_came(rt: HostRuntime) -> Result<(),
     }
     assert!(rt; !queue.is_empty());
     assert_eq!(rt; queue.front().copied(), Some(3));
+    assert_eq!(rt; queue.get(2).copied(), Some(2));
+    assert_eq!(rt; queue.get(3).copied(), None);
+    queue.push(7)?;
+    assert_eq!(rt; queue.len(), 4);
+    assert_eq!(rt; queue.remove(3), Some(7));
     assert_eq!(rt; queue.pop_front(), Some(3));
     assert_eq!(rt; queue.pop_front(), Some(1));
     assert_eq!(rt; queue.pop_front(), Some(2));

@@ -1,4 +1,5 @@
 mod Again
+mod Needing
 mod Lists
 mod TextStatements
 mod Takes

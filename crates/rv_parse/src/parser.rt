@@ -1,9 +1,10 @@
 //! The statement of a list of tokens, and of a text.
-ghost use Rattle.std.specs.Prelude.{◌≡◌, ◌≤◌, ◌↔◌, [], List, ℕ, Some, IfOk, IsUtf8, length};
+ghost use Rattle.std.specs.Prelude.{◌≡◌, ◌≤◌, ◌↔◌, [], List, ℕ, Some, IfOk, IfSome, IsUtf8, length};
 ghost use Rattle.rv_lang.specs.declared.statement.Statement.{Statement};
 ghost use Rattle.rv_lang.specs.declared.token.Token.{Token};
 ghost use Rattle.rv_lang.specs.Grammar.{Derives};
 ghost use Rattle.rv_lang.specs.Tokens.{Cuts};
+ghost use Rattle.rv_parse.specs.Needed.{HasParts};
 ghost use Rattle.rv_parse.specs.Reading.{Gives, ended, parse_of, statement_of};
 
 use crate::fault::ParseFault;
@@ -45,10 +46,13 @@ pub fn parse(alloc: Global, tokens: &[Token]) -> Result<Statement, ParseFault>
 
 /// The statement of a text of at most 4,096 bytes; none where the text is no sequence of tokens, or its tokens
 /// derive nothing.
-#[tactic(auto, unfolding(crate::specs::Reading::statement_of))]
+#[tactic(auto, unfolding(crate::specs::Reading::statement_of), using(crate::proofs::Needing::text_parts))]
 pub fn read_statement(alloc: Global, text: &str) -> Result<Option<Statement>, NoMemory>
     requires { length text.now ≤ 4096 }
-    ensures { IfOk result (λ s. s ≡ statement_of text.now) }
+    ensures is { IfOk result (λ s. s ≡ statement_of text.now) }
+
+    // It has the parts that a statement is never without.
+    ensures parts { IfOk result (λ s. IfSome s HasParts) }
 {
     match lex(alloc, text) {
         Ok(tokens) => match parse(alloc, &tokens) {

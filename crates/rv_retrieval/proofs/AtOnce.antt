@@ -1,5 +1,5 @@
 -- A scan at opening, and what a call counts.
-use Rattle.std.proofs.Common.{◌≡◌, ◌⊎◌, ◌∙◌, ◌-◌, ℕ, ap, sym, subst, refl, true, false, Bool, ◌&&◌, List, Option, Some, None, IsSome, is_some, inl, inr, arith}
+use Rattle.std.proofs.Common.{◌≡◌, ◌⊎◌, ◌∙◌, ◌-◌, ◌<◌, ℕ, ap, sym, subst, refl, true, false, Bool, ◌&&◌, List, Option, IsSome, is_some, inl, inr, arith}
 use Rattle.std.specs.Prelude.{if◌then◌else◌}
 use Rattle.std.proofs.lemmas.Bool.{cases_Bool}
 use Rattle.rv_value.specs.declared.record.Record.{Record}
@@ -79,16 +79,17 @@ over_done way some m e f = rw e (rw f refl)
 
 pub runs_out : (v mid new : Shape) → mid ≡ record v { joint = mid.joint } → under_way v.joint ≡ true → under_way mid.joint ≡ false → OnlyLists v.joint mid.joint → SameScans v.joint mid.joint → new ≡ scan_over 0 mid → RunsOut v new
 runs_out v mid new e way done lists same over =
-    let some = complete lists.either in
+    let (further, some) = complete lists.either in
     let became = over ∙ over_done (under_way mid.joint) (is_some mid.joint.list) mid done some in
     let joint = ap (λ (x : Shape). x.joint) became in
     record {
       over = ap under_way joint ∙ done;
+      behind = subst (λ (j : Joint). v.joint.ended < j.ended) (sym joint) further;
       complete = subst (λ (l : Option (List ℕ)). IsSome l) (sym (ap (λ (j : Joint). j.list) joint)) some;
       same = became ∙ ap (λ (x : Shape). gone (ScanEnded false true) (listed 0 x)) (e ∙ ap (λ (j : Joint). record v { joint = j }) (sym joint));
     }
   where
-    complete : (((mid.joint.ended ≡ v.joint.ended) × (mid.joint.list ≡ v.joint.list)) ⊎ IsSome mid.joint.list) → IsSome mid.joint.list
+    complete : (((mid.joint.ended ≡ v.joint.ended) × (mid.joint.list ≡ v.joint.list)) ⊎ ((v.joint.ended < mid.joint.ended) × IsSome mid.joint.list)) → (v.joint.ended < mid.joint.ended) × IsSome mid.joint.list
     complete (inr s) = s
     complete (inl p) = no_way (sym way ∙ sym (way_same v.joint mid.joint p.0 same.plans p.1) ∙ done)
 

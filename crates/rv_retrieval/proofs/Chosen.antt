@@ -76,10 +76,10 @@ plans_made : (query : Query) (shown : Shown) (cs : List Candidate) → AllByRecu
 plans_made query shown [] all = tt
 plans_made query shown (c ∷ cs) all = (record { columns = c.columns; index = all.0.index_of; range = all.0.its_range; part = refl }, plans_made query shown cs all.1)
 
-to_all : {X : Type 0} (P : X → Type 0) (xs : List X) → AllByRecursion P xs → All P xs
+pub to_all : {X : Type 0} (P : X → Type 0) (xs : List X) → AllByRecursion P xs → All P xs
 to_all P xs all k d l = all_at P xs k d all l
 
-from_all : {X : Type 0} (P : X → Type 0) (xs : List X) → All P xs → AllByRecursion P xs
+pub from_all : {X : Type 0} (P : X → Type 0) (xs : List X) → All P xs → AllByRecursion P xs
 from_all P [] all = tt
 from_all P (x ∷ xs) all = (all zero x (omega arith), from_all P xs (λ k d l. all (suc k) d (omega arith)))
 
@@ -175,7 +175,7 @@ no_order query shown choice can chosen other = by can.ordered
           no_way (sym (sorted at chosen.short (chosen_at None at found)) ∙ other)
     ]
 
-walk_same : (query : Query) (c : Candidate) → walk_of (front_begun query c) ≡ walk_begun query c
+pub walk_same : (query : Query) (c : Candidate) → walk_of (front_begun query c) ≡ walk_begun query c
 walk_same query c = elim c.sufficient as (λ b. cond b (walk_begun query c) (walk_begun query c) ≡ walk_begun query c) [ true ↦ refl | false ↦ refl ]
 
 begun_fits : (query : Query) (shown : Shown) (c : Candidate) (strategy : Strategy) → CanAsk query shown → IsCandidate query shown c → (is_sorted strategy ≡ true → leads query.order c.columns ≡ true) → FrontFits query strategy (front_begun query c) shown
@@ -265,7 +265,7 @@ few_scans query shown background scans cs e can s =
     let few = can.few in
     omega arith
 
-filter_some : (p : Candidate → Bool) (cs : List Candidate) (at : ℕ) → at < length cs → p (candidate_at cs at) ≡ true → 0 < length (filter p cs)
+pub filter_some : (p : Candidate → Bool) (cs : List Candidate) (at : ℕ) → at < length cs → p (candidate_at cs at) ≡ true → 0 < length (filter p cs)
 filter_some p [] at l h = absurd (omega arith)
 filter_some p (c ∷ cs) zero l h = subst (λ (b : Bool). 0 < length (cond b (c ∷ filter p cs) (filter p cs))) (sym h) (omega arith)
 filter_some p (c ∷ cs) (suc at) l h =

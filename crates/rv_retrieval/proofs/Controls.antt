@@ -70,6 +70,7 @@ fetched_marks need only rows old new k (Some r) asc f l a =
         qualifies = p;
         left = ap old is ∙ l;
         agrees = λ c h. refl;
+        wide = λ c h l. l;
         others = subst (λ (m : ℕ). Agree only rows (λ n. old n && not (nat_eq n m)) new) (sym is) a;
       }
       | false ↦ λ p. λ n q.
@@ -129,7 +130,7 @@ ends_fits v new shown f e = subst (λ (x : Shape). RetrievalFits x shown) (sym e
 source_at : (v : Shape) (c : Control) → v.control ≡ c → source v ≡ source_of c v.strategy
 source_at v c e = ap (λ (x : Control). source_of x v.strategy) e
 
-sorted_is_led : (s : Strategy) → is_sorted s ≡ true → is_led s ≡ true
+pub sorted_is_led : (s : Strategy) → is_sorted s ≡ true → is_led s ≡ true
 sorted_is_led s h = ap (λ (b : Bool). b || is_index_only s) h
 
 -- where the source is not the foreground's scan there are no order columns

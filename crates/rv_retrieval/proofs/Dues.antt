@@ -12,7 +12,7 @@ use Rattle.rv_reader.proofs.Filters.{both}
 use Rattle.rv_scan.specs.declared.skip.Scanned.{Scanned}
 use Rattle.rv_scan.specs.declared.skip.Scanned.TheVariants.{Found, Working, End}
 use Rattle.rv_scan.specs.Due.{Skipped, StepsTo, due, is_due, skips}
-use Rattle.rv_retrieval.specs.Rest.{qualifies_at, Agree, AgreesIn, Marks, StepMarks, has_row}
+use Rattle.rv_retrieval.specs.Rest.{qualifies_at, Agree, AgreesIn, IsWide, Marks, StepMarks, has_row}
 use Rattle.rv_retrieval.proofs.Rests.{told_by}
 
 -- a record that stands for a row: it agrees with it in the columns needed, and qualifies exactly where the row does
@@ -21,6 +21,7 @@ pub record StandsFor (need : List ℕ) (only : List (List Atom)) (rows : List Re
   pub there : row_at rows x.row.0 ≡ Some row
   pub agrees : AgreesIn need x row
   pub same : qualifies only x.values ≡ qualifies only row.values
+  pub wide : IsWide need x row
 
 -- each number once
 abbrev pub RowsApart : List Record → Type 0
@@ -118,6 +119,7 @@ found_marks need only rows skip xs ys r asc lx ly e =
       qualifies = qualifies_row;
       left = sym (due_has need only rows skip xs r.row.0 asc lx.each there) ∙ split r.row.0 ∙ or_here _ _ (itself r.row.0);
       agrees = stands.agrees;
+      wide = stands.wide;
       others = λ n q.
           let old : open_in xs skip n ≡ (nat_eq n r.row.0 || has_row n (due only skip ys)) = sym (due_has need only rows skip xs n asc lx.each q) ∙ split n in
           let new : open_in ys skip n ≡ has_row n (due only skip ys) = sym (due_has need only rows skip ys n asc ly.each q) in

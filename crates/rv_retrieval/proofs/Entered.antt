@@ -13,7 +13,7 @@ use Rattle.rv_reader.specs.Entries.{comes_before, entries_of, entry_of, is_in, r
 use Rattle.rv_reader.specs.Tables.{row_at}
 use Rattle.rv_scan.specs.Alongs.{Along, Follows, fetched, left}
 use Rattle.rv_scan.specs.Told.{NamesThese, told}
-use Rattle.rv_scan.proofs.Telling.{told_reads, told_truth}
+use Rattle.rv_scan.proofs.Telling.{told_wide, told_reads, told_truth}
 use Rattle.rv_jscan.specs.Entries.{has_entry, Apart}
 use Rattle.rv_jscan.proofs.Parts.{Apart-filter}
 use Rattle.rv_retrieval.specs.Rest.{qualifies_at, has_row}
@@ -141,7 +141,7 @@ fetched_stand need only columns rows (e ∷ es) a = by (row_at rows e.row.0) ref
     by None is more = rw is more
     by (Some x) is more =
         let number = found_row rows e.row.0 x is in
-        rw is (record { row = x; there = ap (row_at rows) number ∙ is; agrees = λ c h. refl; same = refl }, more)
+        rw is (record { row = x; there = ap (row_at rows) number ∙ is; agrees = λ c h. refl; wide = λ c h l. l; same = refl }, more)
 
 fetched_apart : (columns : List ℕ) (rows : List Record) (es : List IndexEntry) → AreOf columns rows es → Apart es → RowsApart (fetched rows es)
 fetched_apart columns rows [] a d = tt
@@ -173,6 +173,7 @@ told_stand need only columns rows (e ∷ es) names covering a =
         row = o.row;
         there = there;
         agrees = λ c h. told_reads columns o.row c (covering c h);
+        wide = λ c h l. told_wide columns o.row c (covering c h);
         same = told_truth columns only o.row names;
       }) o.there,
       told_stand need only columns rows es names covering a.1,
@@ -197,7 +198,7 @@ rows_looks need only rows k asc = record {
   where
     stands : (xs : List Record) → AllByRecursion (λ (x : Record). row_at rows x.row.0 ≡ Some x) xs → AllByRecursion (StandsFor need only rows) xs
     stands [] a = tt
-    stands (x ∷ xs) a = (record { row = x; there = a.0; agrees = λ c h. refl; same = refl }, stands xs a.1)
+    stands (x ∷ xs) a = (record { row = x; there = a.0; agrees = λ c h. refl; wide = λ c h l. l; same = refl }, stands xs a.1)
 
 -- a row that qualifies has an entry that passes each test that its own entry passes
 any_filter : (p : IndexEntry → Bool) (n : ℕ) (es : List IndexEntry) → has_entry n (filter p es) ≡ list_any (λ (e : IndexEntry). nat_eq n e.row.0 && p e) es

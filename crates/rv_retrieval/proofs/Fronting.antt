@@ -2,16 +2,19 @@
 use Rattle.std.proofs.Common.{◌≡◌, ℕ, ◌⊎◌, List, map, Bool, true, false, not, ◌&&◌, ◌||◌, refl, ap, sym, ◌∙◌, arith, subst, Some, None, Option, inl, inr, nat_eq, Result, Ok, Err, IfOk}
 use Rattle.std.specs.Prelude.{if◌then◌else◌}
 use Rattle.rv_value.specs.declared.record.Record.{Record}
+use Rattle.rv_judge.specs.declared.counting.Counts.{Counts}
+use Rattle.rv_keylist.specs.Keys.{may_key}
 use Rattle.rv_value.specs.declared.record.IndexEntry.{IndexEntry}
 use Rattle.rv_rows.specs.Rows.{Ascend}
 use Rattle.rv_restrict.specs.declared.atom.Atom.{Atom}
 use Rattle.rv_keylist.specs.Listed.{Listed}
 use Rattle.rv_reader.specs.Shown.{Shown}
+use Rattle.rv_reader.specs.Tables.{row_at}
 use Rattle.rv_scan.specs.declared.skip.Scanned.{Scanned}
 use Rattle.rv_scan.specs.declared.skip.Scanned.TheVariants.{Found, Working, End}
-use Rattle.rv_scan.specs.Alongs.{Follows, fetch_rest, fetched, leaf_work, left}
+use Rattle.rv_scan.specs.Alongs.{FetchesDue, Follows, looked, fetch_rest, fetched, leaf_work, left}
 use Rattle.rv_scan.specs.Due.{Skipped, StepsTo, due, is_unlisted, skips, was_delivered}
-use Rattle.rv_scan.specs.Told.{NamesThese, told, told_rest}
+use Rattle.rv_scan.specs.Told.{KeyReads, NamesThese, told, told_rest}
 use Rattle.rv_jscan.specs.Entries.{has_entry, Apart}
 use Rattle.rv_jscan.specs.Joint.{InCompleted, keys_of}
 use Rattle.rv_jscan.specs.Pieces.{may}
@@ -19,6 +22,7 @@ use Rattle.rv_jscan.proofs.Fits.{covered_may}
 use Rattle.rv_retrieval.specs.Rest.{Agree, StepMarks, has_row, qualifies_at}
 use Rattle.rv_retrieval.specs.Fronts.{Front, SameFront, front_left, front_rest, walk_of}
 use Rattle.rv_retrieval.specs.Shape.{RetrievalFits, Shape, front_entries, is_led, is_sorted, rows_of}
+use Rattle.rv_retrieval.specs.Stepping.{WalkReads}
 use Rattle.rv_retrieval.proofs.Rests.{told_by}
 use Rattle.rv_retrieval.proofs.Dues.{Looks, open_in, step_marks}
 use Rattle.rv_retrieval.proofs.Entered.{AreOf, Covering, entries_apart, entries_stand, fetched_looks, fetched_open, left_apart, left_stands, told_looks, told_open}
@@ -77,6 +81,7 @@ marks_move need only rows (Found r) old new o n asc a b m =
       qualifies = m.qualifies;
       left = a r.row.0 q ∙ m.left;
       agrees = m.agrees;
+      wide = m.wide;
       others = λ k p. b k p ∙ m.others k p ∙ ap (λ (x : Bool). x && not (nat_eq k r.row.0)) (sym (a k p));
     }
 marks_move need only rows Working old new o n asc a b m = λ k p. b k p ∙ m k p ∙ sym (a k p)
@@ -146,3 +151,36 @@ one_marks v new shown skip s f led by same follows step =
 pub front_marks : {E : Type 0} (r : Result Scanned E) (v : Shape) (new : Front) (shown : Shown) (skip : Skipped) → RetrievalFits v shown → is_led v.strategy ≡ true → SkipsBy v skip → SameFront v.front new → Follows (walk_of new) (front_entries v shown) → IfOk r (FrontStep v new shown skip) → IfOk r (λ s. StepMarks v.query.need v.query.only (rows_of v shown) s (front_left v.front (front_entries v shown)) (front_left new (front_entries v shown)))
 front_marks (Ok s) v new shown skip f led by same follows step = one_marks v new shown skip s f led by same follows step
 front_marks (Err e) v new shown skip f led by same follows step = tt
+
+-- Which record a step reads.
+
+pub told_fetches : {E : Type 0} (r : Result Scanned E) (skip : Skipped) (only : List (List Atom)) (rows : List Record) (old new : Counts) → IfOk r (λ scanned. KeyReads scanned old new) → IfOk r (λ scanned. FetchesDue skip only rows scanned old new)
+told_fetches (Ok (Found r)) skip only rows old new reads = inr (ap (λ (c : Counts). c.records) reads)
+told_fetches (Ok Working) skip only rows old new reads = inr (ap (λ (c : Counts). c.records) reads)
+told_fetches (Ok End) skip only rows old new reads = inr (ap (λ (c : Counts). c.records) reads)
+told_fetches (Err e) skip only rows old new reads = tt
+
+pub walk_reads : {E : Type 0} (r : Result Scanned E) (v : Shape) (shown : Shown) (o l : Option Listed) (c d : Counts) → RetrievalFits v shown → is_led v.strategy ≡ true → o ≡ (if is_sorted v.strategy then l else None) → keys_of l ≡ v.joint.list → IfOk r (λ s. FetchesDue (record { delivered = None; list = o }) v.query.only (shown.rows v.front.fetching.table (walk_of v.front).snap) s c d) → IfOk r (WalkReads v shown c d)
+walk_reads (Err e) v shown o l c d f led hides keys reads = tt
+walk_reads (Ok s) v shown o l c d f led hides keys (inr same) = inr same
+walk_reads (Ok s) v shown o l c d f led hides keys (inl one) =
+    let ff = f.front led in
+    let rows : shown.rows v.front.fetching.table (walk_of v.front).snap ≡ rows_of v shown = ap (λ (t : ℕ). shown.rows t (walk_of v.front).snap) ff.can.of_table ∙ ap (shown.rows v.query.table) ff.can.at_snap in
+    inl (record {
+      row = one.row;
+      listed = λ h. listed one.row h one.unskipped;
+      read = one.read;
+      looks = one.looks ∙ ap (λ (rs : List Record). looked v.query.only (row_at rs one.row)) rows;
+    })
+  where
+    unhidden : (l : Option Listed) (n : ℕ) → is_unlisted l n ≡ false → may (keys_of l) n ≡ true
+    unhidden None n h = refl
+    unhidden (Some x) n h = back (may_key n x.keys) h
+      where
+        back : (b : Bool) → not b ≡ false → b ≡ true
+        back b h = grind arith
+
+    listed : (n : ℕ) → is_sorted v.strategy ≡ true → skips (record { delivered = None; list = o }) n ≡ false → may v.joint.list n ≡ true
+    listed n h clear =
+        let same : o ≡ l = hides ∙ ap (λ (b : Bool). if b then l else None) h in
+        subst (λ (k : Option (List ℕ)). may k n ≡ true) (ap keys_of same ∙ keys) (unhidden o n clear)

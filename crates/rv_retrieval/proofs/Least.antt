@@ -30,7 +30,7 @@ use Rattle.rv_scan.specs.declared.skip.Scanned.TheVariants.{Found, Working, End}
 use Rattle.rv_scan.specs.Alongs.{Along, Follows, fetched, left}
 use Rattle.rv_scan.specs.Due.{Skipped, due, is_due, skips}
 use Rattle.rv_scan.specs.Told.{NamesThese, told}
-use Rattle.rv_scan.proofs.Telling.{told_reads, told_truth}
+use Rattle.rv_scan.proofs.Telling.{told_wide, told_reads, told_truth}
 use Rattle.rv_jscan.specs.Entries.{has_entry}
 use Rattle.rv_retrieval.specs.Rest.{order_of, qualifies_at}
 use Rattle.rv_retrieval.specs.Fronts.{Front, front_left, front_rest, walk_of}
@@ -52,7 +52,7 @@ fetched_items need only columns rows [] a = tt
 fetched_items need only columns rows (e ∷ es) a =
     let o = a.0 in
     let number = found_row rows e.row.0 o.row o.there in
-    rw o.there (number, record { row = o.row; there = ap (row_at rows) number ∙ o.there; agrees = λ c h. refl; same = refl }, fetched_items need only columns rows es a.1)
+    rw o.there (number, record { row = o.row; there = ap (row_at rows) number ∙ o.there; agrees = λ c h. refl; wide = λ c h l. l; same = refl }, fetched_items need only columns rows es a.1)
 
 told_items : (need : List ℕ) (only : List (List Atom)) (columns : List ℕ) (rows : List Record) (es : List IndexEntry) → NamesThese columns only → Covering columns need → AreOf columns rows es → ItemsOf need only rows es (map (told columns) es)
 told_items need only columns rows [] names covering a = tt
@@ -63,6 +63,7 @@ told_items need only columns rows (e ∷ es) names covering a =
         row = o.row;
         there = there;
         agrees = λ c h. told_reads columns o.row c (covering c h);
+        wide = λ c h l. told_wide columns o.row c (covering c h);
         same = told_truth columns only o.row names;
       }) o.there,
       told_items need only columns rows es names covering a.1,

@@ -12,3 +12,16 @@ pub mod Choices
 pub mod Chosen
 pub mod AtOnce
 pub mod Accounting
+pub mod Turns
+pub mod Running
+pub mod Tellings
+pub mod Starting
+pub mod Stepped
+pub mod BackWork
+pub mod Courses
+pub mod Efforts
+pub mod Lives
+pub mod Openings
+pub mod BothSides
+pub mod Fetches
+pub mod Shorts

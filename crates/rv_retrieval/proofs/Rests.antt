@@ -9,7 +9,7 @@ use Rattle.rv_restrict.specs.declared.atom.Atom.{Atom}
 use Rattle.rv_restrict.specs.Truth.{qualifies}
 use Rattle.rv_reader.specs.Tables.{row_at}
 use Rattle.rv_reader.proofs.Filters.{both}
-use Rattle.rv_retrieval.specs.Rest.{rest_by, qualifies_at, Agree, AgreesIn, TakesOut, Marks, has_row}
+use Rattle.rv_retrieval.specs.Rest.{rest_by, qualifies_at, Agree, AgreesIn, IsWide, TakesOut, Marks, has_row}
 
 here_qualifies : (only : List (List Atom)) (r : Record) (rows : List Record) → qualifies only r.values ≡ true → qualifies_at only (r ∷ rows) r.row.0 ≡ true
 here_qualifies only r rows p = first _ _ _ (same_number r.row.0) p
@@ -149,9 +149,9 @@ without_agree only rows old new k none a n q =
     keeps : (b c : Bool) → c ≡ false → (b && not c) ≡ b
     keeps b c h = grind arith
 
-pub takes_out : (need : List ℕ) (only : List (List Atom)) (rows : List Record) (old new : ℕ → Bool) (r taken : Record) (k : ℕ) → Ascend rows → row_at rows k ≡ Some taken → r.row.0 ≡ taken.row.0 → qualifies only taken.values ≡ true → old k ≡ true → AgreesIn need r taken → Agree only rows (λ n. old n && not (nat_eq n k)) new → TakesOut need r (rest_by old only rows) (rest_by new only rows)
-takes_out need only [] old new r taken k asc f row p l ag a = absurd (cc)
-takes_out need only (x ∷ rows) old new r taken k asc f row p l ag a =
+pub takes_out : (need : List ℕ) (only : List (List Atom)) (rows : List Record) (old new : ℕ → Bool) (r taken : Record) (k : ℕ) → Ascend rows → row_at rows k ≡ Some taken → r.row.0 ≡ taken.row.0 → qualifies only taken.values ≡ true → old k ≡ true → AgreesIn need r taken → IsWide need r taken → Agree only rows (λ n. old n && not (nat_eq n k)) new → TakesOut need r (rest_by old only rows) (rest_by new only rows)
+takes_out need only [] old new r taken k asc f row p l ag w a = absurd (cc)
+takes_out need only (x ∷ rows) old new r taken k asc f row p l ag w a =
     elim (x.row.0 == k) as (λ b. (x.row.0 == k) ≡ b → cond b (Some x) (row_at rows k) ≡ Some taken → TakesOut need r (rest_by old only (x ∷ rows)) (rest_by new only (x ∷ rows))) [
       | true ↦ λ e f.
           let same : x ≡ taken = cc in
@@ -169,9 +169,10 @@ takes_out need only (x ∷ rows) old new r taken k asc f row p l ag a =
             after = ap (λ (v : Bool). cond v (x ∷ rest_by new only rows) (rest_by new only rows)) no ∙ tail;
             row = row;
             agrees = ag;
+            wide = w;
           }
       | false ↦ λ e f.
-          let deeper = takes_out need only rows old new r taken k asc.1 f row p l ag (λ n q. a n (later_qualifies only x rows n q)) in
+          let deeper = takes_out need only rows old new r taken k asc.1 f row p l ag w (λ n q. a n (later_qualifies only x rows n q)) in
           elim (qualifies only x.values) as (λ b. qualifies only x.values ≡ b → TakesOut need r (cond (b && old x.row.0) (x ∷ rest_by old only rows) (rest_by old only rows)) (cond (b && new x.row.0) (x ∷ rest_by new only rows) (rest_by new only rows))) [
             | true ↦ λ q.
                 let same : new x.row.0 ≡ old x.row.0 = a x.row.0 (here_qualifies only x rows q) ∙ keeps _ _ (unequal _ _ e) in
@@ -185,6 +186,7 @@ takes_out need only (x ∷ rows) old new r taken k asc f row p l ag a =
                     after = ap (λ (l : List Record). x ∷ l) deeper.after;
                     row = deeper.row;
                     agrees = deeper.agrees;
+                    wide = deeper.wide;
                   }
                   | false ↦ deeper
                 ])
@@ -214,4 +216,4 @@ takes_out need only (x ∷ rows) old new r taken k asc f row p l ag a =
     keeps b c h = grind arith
 
 pub marks_out : (need : List ℕ) (only : List (List Atom)) (rows : List Record) (r : Record) (old new : ℕ → Bool) → Ascend rows → Marks need only rows r old new → TakesOut need r (rest_by old only rows) (rest_by new only rows)
-marks_out need only rows r old new asc m = takes_out need only rows old new r m.taken r.row.0 asc m.there (sym (found_row rows r.row.0 m.taken m.there)) m.qualifies m.left m.agrees m.others
+marks_out need only rows r old new asc m = takes_out need only rows old new r m.taken r.row.0 asc m.there (sym (found_row rows r.row.0 m.taken m.there)) m.qualifies m.left m.agrees m.wide m.others

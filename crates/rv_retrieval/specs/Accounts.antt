@@ -1,5 +1,6 @@
 -- What a retrieval keeps of its own run.
-use Rattle.std.specs.Prelude.{ℕ, not, ◌&&◌, List, [], ◌∷◌, length, drop, find, Option, Some, None, is_some, if◌then◌else◌}
+use Rattle.std.specs.Prelude.{◌≡◌, ℕ, ◌+◌, not, ◌&&◌, List, [], ◌∷◌, length, drop, find, Option, Some, None, is_some, if◌then◌else◌}
+use Rattle.rv_value.specs.declared.record.RowNo.{RowNo}
 use Rattle.rv_keys.specs.Keys.{has_key}
 use Rattle.rv_judge.specs.Account.{Account, ScanAccount}
 use Rattle.rv_judge.specs.Course.{building, fast_first}
@@ -25,9 +26,13 @@ list_length (Some keys) = Some (length keys)
 abbrev pub present_of : Shape → Option ℕ
 present_of v = if is_background v.control && under_way v.joint then Some v.joint.ended else None
 
--- the key that fast-first fetches next: the first not borrowed yet whose row was not delivered
+-- the first key not borrowed yet whose row was not delivered
+abbrev pub first_fresh : Shape → Option ℕ
+first_fresh v = find (λ (k : ℕ). not (has_key k v.delivered)) (drop v.borrowed (lending v.joint))
+
+-- the key that fast-first fetches next
 abbrev pub fresh_of : Shape → Option ℕ
-fresh_of v = if building v.control && fast_first v.strategy then find (λ (k : ℕ). not (has_key k v.delivered)) (drop v.borrowed (lending v.joint)) else None
+fresh_of v = if building v.control && fast_first v.strategy then first_fresh v else None
 
 abbrev pub account_of : Shape → Account
 account_of v = record {
@@ -43,3 +48,13 @@ account_of v = record {
   taken = is_some v.joint.held;
   fresh = fresh_of v;
 }
+
+-- the next key of the list that is borrowed from, or none is left
+abbrev pub NextBorrowed : Shape → Option RowNo → Type 0
+NextBorrowed v None = drop v.borrowed (lending v.joint) ≡ []
+NextBorrowed v (Some row) = drop v.borrowed (lending v.joint) ≡ row.0 ∷ drop (v.borrowed + 1) (lending v.joint)
+
+-- the fresh key
+abbrev pub IsFresh : Shape → Option RowNo → Type 0
+IsFresh v None = first_fresh v ≡ None
+IsFresh v (Some row) = first_fresh v ≡ Some row.0

@@ -1,5 +1,5 @@
 -- What the background's calls of a retrieval answer.
-use Rattle.std.specs.Prelude.{◌≡◌, Bool, true, Option, None, if◌then◌else◌, ◌&&◌, nat_lt, ◌+◌, length, not}
+use Rattle.std.specs.Prelude.{◌≡◌, Bool, true, false, Option, None, if◌then◌else◌, ◌&&◌, nat_lt, ◌+◌, length, not}
 use Rattle.rv_jscan.specs.declared.piece.PieceId.{PieceId}
 use Rattle.rv_jscan.specs.declared.jscan.Given.{Given}
 use Rattle.rv_jscan.specs.declared.jscan.Given.TheVariants.{Accepted, Stale}
@@ -7,7 +7,7 @@ use Rattle.rv_jscan.specs.declared.jscan.Taken.{Taken}
 use Rattle.rv_jscan.specs.declared.jscan.Taken.TheVariants.{Piece, Nothing}
 use Rattle.rv_jscan.specs.Joint.{Joint, is_empty_list}
 use Rattle.rv_jscan.specs.Pieces.{Pieced}
-use Rattle.rv_jscan.specs.Steps.{Awaits, awaited_id}
+use Rattle.rv_jscan.specs.Steps.{Awaits, TakeLeaves, awaited_id}
 use Rattle.rv_retrieval.specs.Shape.{Shape, is_background}
 
 -- the piece that is awaited: that of the joint scan, where a background runs
@@ -28,6 +28,14 @@ Answers old piece (Stale asked now) new = ¬ AwaitsPiece old piece × (asked ≡
 abbrev pub TakesPiece : Shape → Taken → Type 0
 TakesPiece v (Piece piece) = AwaitsPiece v piece
 TakesPiece v Nothing = awaited v ≡ None
+
+-- what a take leaves of the joint scan, where a background runs and where none does
+abbrev pub TakesLeafBy : Bool → Joint → Joint → Type 0
+TakesLeafBy true old new = TakeLeaves old new
+TakesLeafBy false old new = new ≡ old
+
+abbrev pub TakesLeaf : Shape → Joint → Type 0
+TakesLeaf v new = TakesLeafBy (is_background v.control) v.joint new
 
 -- whether a further scan is planned behind the present one, and the complete list, if any, has a key
 abbrev pub more_behind : Joint → Bool

@@ -9,3 +9,7 @@ pub mod Asked
 pub mod Opens
 pub mod Opened
 pub mod Rulings
+pub mod Runs
+pub mod Stepping
+pub mod Effort
+pub mod Short

@@ -1,5 +1,5 @@
 -- What a retrieval is when it was opened.
-use Rattle.std.specs.Prelude.{◌≡◌, ◌⊎◌, ℕ, Bool, true, false, Option, Some, None, IsSome, List, [], length, nat_lt, if◌then◌else◌}
+use Rattle.std.specs.Prelude.{◌≡◌, ◌⊎◌, ℕ, ◌<◌, Bool, true, false, Option, Some, None, IsSome, List, [], length, nat_lt, if◌then◌else◌}
 use Rattle.rv_judge.specs.declared.events.Strategy.{Strategy}
 use Rattle.rv_judge.specs.Account.{first_guarantee, guarantee_with}
 use Rattle.rv_judge.specs.Course.{next_control}
@@ -78,12 +78,13 @@ pub record Scanned (old new : Shape) : Type 0 where
 
 -- no scan was dropped: the one under way goes on, or a list is complete
 pub record OnlyLists (old new : Joint) : Type 0 where
-  pub either : ((new.ended ≡ old.ended) × (new.list ≡ old.list)) ⊎ IsSome new.list
+  pub either : ((new.ended ≡ old.ended) × (new.list ≡ old.list)) ⊎ ((old.ended < new.ended) × IsSome new.list)
 
 -- the one planned scan was run to its end, and its list counts
 pub record RunsOut (old new : Shape) : Type 0 where
   pub over : under_way new.joint ≡ false
   pub complete : IsSome new.joint.list
+  pub behind : old.joint.ended < new.joint.ended
   pub same : new ≡ gone (ScanEnded false true) (listed 0 (record old { joint = new.joint }))
 
 -- a single index is scanned at once

@@ -1,5 +1,5 @@
 -- The records that a retrieval still owes, as a part of the table's rows, and what a step does to them.
-use Rattle.std.specs.Prelude.{◌≡◌, ℕ, Bool, true, false, not, ◌&&◌, List, [], ◌∷◌, ◌++◌, filter, map, Some, nat_eq}
+use Rattle.std.specs.Prelude.{◌≡◌, ℕ, ◌<◌, Bool, true, false, not, ◌&&◌, List, [], ◌∷◌, ◌++◌, length, filter, map, Some, nat_eq}
 use Rattle.std.specs.List.{list_all, list_any}
 use Rattle.std.specs.Ordering.{is_lt}
 use Rattle.rv_value.specs.declared.value.Value.{Value}
@@ -36,8 +36,12 @@ has_row n rows = list_any (λ (r : Record). nat_eq n r.row.0) rows
 abbrev pub AgreesIn : List ℕ → Record → Record → Type 0
 AgreesIn need x y = (c : ℕ) → stands_among need c ≡ true → column_of x.values c ≡ column_of y.values c
 
--- one record is taken out, the others stay in order; the answer has its row number and agrees with it in the columns
--- needed
+-- a record has a value in each of these columns in which another one has
+abbrev pub IsWide : List ℕ → Record → Record → Type 0
+IsWide need x y = (c : ℕ) → stands_among need c ≡ true → c < length y.values → c < length x.values
+
+-- one record is taken out, the others stay in order; the answer has its row number, agrees with it in the columns needed
+-- and has a value in each of them that it has
 pub record TakesOut (need : List ℕ) (r : Record) (old new : List Record) : Type 0 where
   pub front : List Record
   pub taken : Record
@@ -46,6 +50,7 @@ pub record TakesOut (need : List ℕ) (r : Record) (old new : List Record) : Typ
   pub after : new ≡ front ++ behind
   pub row : r.row.0 ≡ taken.row.0
   pub agrees : AgreesIn need r taken
+  pub wide : IsWide need r taken
 
 -- the values by which records are ordered
 abbrev pub order_of : List ℕ → Record → List Value
@@ -70,6 +75,7 @@ pub record Marks (need : List ℕ) (only : List (List Atom)) (rows : List Record
   pub left : old r.row.0 ≡ true
   pub agrees : AgreesIn need r taken
   pub others : Agree only rows (λ n. old n && not (nat_eq n r.row.0)) new
+  pub wide : IsWide need r taken
 
 abbrev pub StepMarks : List ℕ → List (List Atom) → List Record → Scanned → (ℕ → Bool) → (ℕ → Bool) → Type 0
 StepMarks need only rows (Found r) old new = Marks need only rows r old new

@@ -3,11 +3,16 @@ use Rattle.std.specs.Prelude.{◌≡◌, ℕ, ◌-◌, Bool, ◌&&◌, ◌||◌,
 use Rattle.rv_judge.specs.declared.counting.Counts.{Counts}
 use Rattle.rv_judge.specs.declared.events.Event.{Event}
 use Rattle.rv_judge.specs.declared.events.Event.TheVariants.{Scan, List as ListOf, Drop}
+use Rattle.rv_judge.specs.declared.events.Strategy.{Strategy}
 use Rattle.rv_judge.specs.declared.events.Trace.{Trace}
 use Rattle.rv_judge.specs.Course.{building, fast_first, index_only}
 use Rattle.rv_jscan.specs.Joint.{Joint, plan_at}
 use Rattle.rv_jscan.specs.Steps.{raised}
 use Rattle.rv_retrieval.specs.Shape.{Shape}
+
+-- nothing was told
+abbrev pub new_trace : Strategy → Trace
+new_trace strategy = record { strategy = strategy; events = record { items = [] }; pages = 0; leaves = 0; fetches = 0 }
 
 -- further events; a trace has room for 32
 abbrev pub with_events : List Event → List Event → List Event

@@ -1,11 +1,17 @@
-ghost use Rattle.std.specs.Prelude.{◌≡◌, ◌<◌, if◌then◌else◌, true, false, min, IfOk, OnErr};
+ghost use Rattle.std.specs.Prelude.{◌≡◌, ◌<◌, if◌then◌else◌, true, false, min, IfOk, OnOk, OnErr, ◌+◌, ◌≤◌};
+ghost use Rattle.rv_reader.specs.Shown.{Shown};
 ghost use Rattle.rv_judge.specs.Course.{next_control};
 ghost use Rattle.rv_judge.specs.declared.events.Event.{Event as TheEvent};
 ghost use Rattle.rv_jscan.specs.Joint.{under_way};
-ghost use Rattle.rv_retrieval.specs.Given.{Answers, TakesPiece};
+ghost use Rattle.rv_retrieval.specs.Given.{Answers, TakesLeaf, TakesPiece};
 ghost use Rattle.rv_retrieval.specs.Rulings.{GivesOn, Obeys, dropped, listed, ruled, scan_over, stopped};
+ghost use Rattle.rv_retrieval.specs.Runs.{IsOfUndropped, SameCourse, Tells};
 ghost use Rattle.rv_retrieval.specs.Shape.{DoesStep, EndsIn, Keeps, RetrievalFits, is_background, rest};
+ghost use Rattle.rv_retrieval.specs.Stepping.{StepsBackground, StepsBehind, is_awaiting};
 ghost use Rattle.rv_retrieval.specs.Telling.{CountsRise, SameCounts, can_stop, list_len, noted, noted_drop, noted_list, noted_scan};
+ghost use Rattle.rv_retrieval.specs.Effort.{Awaiting, Falls, GiveSpends, Tries, effort};
+ghost use Rattle.rv_judge.specs.Counting.{reads};
+ghost use Rattle.rv_retrieval.specs.Short.{Settled};
 
 use crate::retrieval::Retrieval;
 use rv_jscan::{Given, Sieved, Taken, sieve};
@@ -160,6 +166,12 @@ impl Retrieval {
         ensures keeps { Keeps self.old self.new }
         ensures err { OnErr result (self.new ≡ self.old) }
         ensures reads { _steps.new ≡ _steps.old }
+        ensures quiet { OnErr result (state judge.new ≡ state judge.old) }
+        ensures tells { Tells self.old → Tells self.new }
+        ensures less { (shown : Shown) → RetrievalFits self.old shown → effort self.new shown ≤ effort self.old shown }
+        ensures spends { (shown : Shown) → RetrievalFits self.old shown → IfOk result (λ g. GiveSpends g (effort self.old shown) (effort self.new shown)) }
+        ensures awaiting { Awaiting self.old → Awaiting self.new }
+        ensures settled { Settled self.old → (self.new ≡ self.old) × (state judge.new ≡ state judge.old) }
     {
         self.give_piece(sieved, judge)
     }
@@ -170,6 +182,8 @@ impl Retrieval {
         ensures obeys { IfOk result (λ g. GivesOn (would judge.old) (state judge.old) (state judge.new) sieved g self.old self.new) }
         ensures keeps { Keeps self.old self.new }
         ensures err { OnErr result (self.new ≡ self.old) }
+        ensures quiet { OnErr result (state judge.new ≡ state judge.old) }
+        ensures settled { Settled self.old → (self.new ≡ self.old) × (state judge.new ≡ state judge.old) }
     {
         if !self.is_background() {
             return Ok(Given::Stale {
@@ -213,6 +227,14 @@ impl Retrieval {
         ensures query { self.new.query ≡ self.old.query }
         ensures fits { RetrievalFits self.new (R.shown reader.now) }
         ensures rest { rest self.new (R.shown reader.now) ≡ rest self.old (R.shown reader.now) }
+        ensures same { self.new ≡ record self.old { joint = self.new.joint; trace = self.new.trace } }
+        ensures leaves { TakesLeaf self.old self.new.joint }
+        ensures tells { Tells self.old → Tells self.new }
+        ensures tries { Tries steps.old steps.new (effort self.old (R.shown reader.now)) (effort self.new (R.shown reader.now)) }
+        ensures spends { IfOk result (λ taken. reads steps.new + effort self.new (R.shown reader.now) ≤ reads steps.old + effort self.old (R.shown reader.now)) }
+        ensures awaiting { Awaiting self.old → Awaiting self.new }
+        ensures undropped { Tells self.old → IfOk result (IsOfUndropped self.new) }
+        ensures settled { Settled self.old → Settled self.new × (steps.new ≡ steps.old) }
     {
         let before = steps.counts();
         let taken = self.take_piece(reader, steps);
@@ -231,6 +253,13 @@ impl Retrieval {
         ensures query { self.new.query ≡ self.old.query }
         ensures fits { RetrievalFits self.new (R.shown reader.now) }
         ensures rest { rest self.new (R.shown reader.now) ≡ rest self.old (R.shown reader.now) }
+        ensures same { self.new ≡ record self.old { joint = self.new.joint } }
+        ensures leaves { TakesLeaf self.old self.new.joint }
+        ensures tries { Tries steps.old steps.new (effort self.old (R.shown reader.now)) (effort self.new (R.shown reader.now)) }
+        ensures spends { IfOk result (λ taken. reads steps.new + effort self.new (R.shown reader.now) ≤ reads steps.old + effort self.old (R.shown reader.now)) }
+        ensures awaiting { Awaiting self.old → Awaiting self.new }
+        ensures control { self.new.control ≡ self.old.control }
+        ensures settled { Settled self.old → Settled self.new × (steps.new ≡ steps.old) }
     {
         if !self.is_background() {
             return Ok(Taken::Nothing);
@@ -250,6 +279,12 @@ impl Retrieval {
         ensures query { self.new.query ≡ self.old.query }
         ensures fits { RetrievalFits self.new (R.shown reader.now) }
         ensures rest { rest self.new (R.shown reader.now) ≡ rest self.old (R.shown reader.now) }
+        ensures does { OnOk result (StepsBehind (is_awaiting self.old) (would judge.old) (state judge.old) (state judge.new) self.old self.new) }
+        ensures quiet { OnErr result (state judge.new ≡ state judge.old) }
+        ensures course { OnErr result (SameCourse self.old self.new) }
+        ensures tries { Tries steps.old steps.new (effort self.old (R.shown reader.now)) (effort self.new (R.shown reader.now)) }
+        ensures falls { is_background self.old.control ≡ true → Awaiting self.old → OnOk result (effort self.new (R.shown reader.now) < effort self.old (R.shown reader.now)) }
+        ensures awaiting { Awaiting self.old → Awaiting self.new }
     {
         match self.take_piece(reader, steps)? {
             Taken::Piece(piece) => {
@@ -273,6 +308,12 @@ impl Retrieval {
         ensures step { IfOk result (DoesStep self.old self.new (R.shown reader.now)) }
         ensures ends { IfOk result (EndsIn self.new) }
         ensures err { OnErr result (rest self.new (R.shown reader.now) ≡ rest self.old (R.shown reader.now)) }
+        ensures does { IfOk result (λ s. (s ≡ Scanned.Working) × StepsBackground (would judge.old) (state judge.old) (state judge.new) self.old self.new) }
+        ensures quiet { OnErr result (state judge.new ≡ state judge.old) }
+        ensures course { OnErr result (SameCourse self.old self.new) }
+        ensures tries { Tries steps.old steps.new (effort self.old (R.shown reader.now)) (effort self.new (R.shown reader.now)) }
+        ensures falls { is_background self.old.control ≡ true → Awaiting self.old → IfOk result (λ s. Falls s steps.old steps.new (effort self.old (R.shown reader.now)) (effort self.new (R.shown reader.now))) }
+        ensures awaiting { Awaiting self.old → Awaiting self.new }
     {
         self.background(reader, judge, steps)?;
         Ok(Scanned::Working)

@@ -3,6 +3,8 @@ ghost use Rattle.rv_restrict.specs.Parts.{stands_among};
 ghost use Rattle.rv_reader.specs.Shown.{Shown};
 ghost use Rattle.rv_retrieval.specs.Asked.{CanAsk, IsIndexOf};
 ghost use Rattle.rv_retrieval.specs.Choice.{AreScans, IsChosen, IsLeastOf, LeastBelow, candidate_at, candidate_of, candidates_of, free_choice, has_all, is_scanned, leads, order_index, ordered_choice, plan_of, plans_of, plays, restricted_choice};
+ghost use Rattle.std.specs.List.{AllByRecursion};
+ghost use Rattle.rv_retrieval.specs.Short.{IsRight};
 
 use crate::query::{Goal2, Query};
 use rv_jscan::ScanPlan;
@@ -108,7 +110,8 @@ fn view<R: Reader>(
     columns: &Items<u32>,
 ) -> Result<Candidate, NoMemory>
     requires { IsIndexOf query.now (R.shown reader.now) index columns.now }
-    ensures { IfOk result (λ c. c ≡ candidate_of query.now (R.shown reader.now) (index, columns.now)) }
+    ensures is { IfOk result (λ c. c ≡ candidate_of query.now (R.shown reader.now) (index, columns.now)) }
+    ensures right { IfOk result (IsRight (R.shown reader.now) query.now.snap) }
 {
     let range = query.only.range_for(alloc, columns.as_slice())?;
     let estimate = reader.estimate(index, query.snap, &range);
@@ -131,7 +134,8 @@ pub fn candidates<R: Reader>(
     query: &Query,
 ) -> Result<Vec<Candidate>, NoMemory>
     requires { CanAsk query.now (R.shown reader.now) }
-    ensures { IfOk result (λ cs. cs.items ≡ candidates_of query.now (R.shown reader.now)) }
+    ensures are { IfOk result (λ cs. cs.items ≡ candidates_of query.now (R.shown reader.now)) }
+    ensures right { IfOk result (λ cs. AllByRecursion (IsRight (R.shown reader.now) query.now.snap) cs.items) }
 {
     let mut found = Vec::new(alloc);
     'indexes: for index in query.indexes.as_slice() {

@@ -1,7 +1,10 @@
-ghost use Rattle.std.specs.Prelude.{◌≡◌, ℕ, IfOk, OnErr, true};
-ghost use Rattle.rv_scan.specs.Alongs.{Follows, leaf_work};
+ghost use Rattle.std.specs.Prelude.{◌≡◌, ◌+◌, ◌≤◌, ℕ, IfOk, OnErr, true};
+ghost use Rattle.rv_scan.specs.Alongs.{Follows, leaf_work, FetchesDue};
 ghost use Rattle.rv_scan.specs.Due.{IsReady, StepsTo, skipped};
 ghost use Rattle.rv_retrieval.specs.Fronts.{CanFront, SameFront, front_rest, walk_of};
+ghost use Rattle.rv_retrieval.specs.Effort.{ReadsNone};
+ghost use Rattle.rv_judge.specs.Counting.{reads};
+ghost use Rattle.rv_retrieval.specs.Short.{front_fetches};
 
 use rv_judge::Steps;
 use rv_reader::Reader;
@@ -58,7 +61,12 @@ impl Front {
         ensures same { SameFront self.old self.new }
         ensures follows { Follows (walk_of self.old) ((R.shown reader.now).entries (walk_of self.old).index (walk_of self.old).snap) → Follows (walk_of self.new) ((R.shown reader.now).entries (walk_of self.old).index (walk_of self.old).snap) }
         ensures step { let shown = R.shown reader.now in let entries = shown.entries (walk_of self.old).index (walk_of self.old).snap in let cuts = shown.cuts (walk_of self.old).index (walk_of self.old).snap in let rows = shown.rows self.old.fetching.table (walk_of self.old).snap in IfOk result (λ scanned. StepsTo scanned (front_rest self.old entries rows only.now (skipped skip.now)) (leaf_work (walk_of self.old) entries cuts) (front_rest self.new entries rows only.now (skipped skip.now)) (leaf_work (walk_of self.new) entries cuts)) }
+        ensures fetches { IfOk result (λ scanned. FetchesDue (skipped skip.now) only.now ((R.shown reader.now).rows self.old.fetching.table (walk_of self.old).snap) scanned steps.old steps.new) }
         ensures err { OnErr result (self.new ≡ self.old) }
+        ensures once { reads steps.new ≤ reads steps.old + 1 }
+        ensures none { IfOk result (λ scanned. ReadsNone scanned steps.old steps.new) }
+        ensures records { let entries = (R.shown reader.now).entries (walk_of self.old).index (walk_of self.old).snap in IfOk result (λ scanned. steps.new.records + front_fetches self.new entries (skipped skip.now) ≤ steps.old.records + front_fetches self.old entries (skipped skip.now)) }
+        ensures pages { steps.new.pages ≡ steps.old.pages }
     {
         self.fetching.step(reader, only, skip, steps)
     }
@@ -76,7 +84,12 @@ impl Front {
         ensures same { SameFront self.old self.new }
         ensures follows { Follows (walk_of self.old) ((R.shown reader.now).entries (walk_of self.old).index (walk_of self.old).snap) → Follows (walk_of self.new) ((R.shown reader.now).entries (walk_of self.old).index (walk_of self.old).snap) }
         ensures step { let shown = R.shown reader.now in let entries = shown.entries (walk_of self.old).index (walk_of self.old).snap in let cuts = shown.cuts (walk_of self.old).index (walk_of self.old).snap in let rows = shown.rows self.old.fetching.table (walk_of self.old).snap in IfOk result (λ scanned. StepsTo scanned (front_rest self.old entries rows only.now (skipped skip.now)) (leaf_work (walk_of self.old) entries cuts) (front_rest self.new entries rows only.now (skipped skip.now)) (leaf_work (walk_of self.new) entries cuts)) }
+        ensures fetches { IfOk result (λ scanned. FetchesDue (skipped skip.now) only.now ((R.shown reader.now).rows self.old.fetching.table (walk_of self.old).snap) scanned steps.old steps.new) }
         ensures err { OnErr result (self.new ≡ self.old) }
+        ensures once { reads steps.new ≤ reads steps.old + 1 }
+        ensures none { IfOk result (λ scanned. ReadsNone scanned steps.old steps.new) }
+        ensures records { let entries = (R.shown reader.now).entries (walk_of self.old).index (walk_of self.old).snap in IfOk result (λ scanned. steps.new.records + front_fetches self.new entries (skipped skip.now) ≤ steps.old.records + front_fetches self.old entries (skipped skip.now)) }
+        ensures pages { steps.new.pages ≡ steps.old.pages }
     {
         self.telling
             .step(reader, only, skip, self.columns.as_slice(), steps)
@@ -95,7 +108,12 @@ impl Front {
         ensures same { SameFront self.old self.new }
         ensures follows { Follows (walk_of self.old) ((R.shown reader.now).entries (walk_of self.old).index (walk_of self.old).snap) → Follows (walk_of self.new) ((R.shown reader.now).entries (walk_of self.old).index (walk_of self.old).snap) }
         ensures step { let shown = R.shown reader.now in let entries = shown.entries (walk_of self.old).index (walk_of self.old).snap in let cuts = shown.cuts (walk_of self.old).index (walk_of self.old).snap in let rows = shown.rows self.old.fetching.table (walk_of self.old).snap in IfOk result (λ scanned. StepsTo scanned (front_rest self.old entries rows only.now (skipped skip.now)) (leaf_work (walk_of self.old) entries cuts) (front_rest self.new entries rows only.now (skipped skip.now)) (leaf_work (walk_of self.new) entries cuts)) }
+        ensures fetches { IfOk result (λ scanned. FetchesDue (skipped skip.now) only.now ((R.shown reader.now).rows self.old.fetching.table (walk_of self.old).snap) scanned steps.old steps.new) }
         ensures err { OnErr result (self.new ≡ self.old) }
+        ensures once { reads steps.new ≤ reads steps.old + 1 }
+        ensures none { IfOk result (λ scanned. ReadsNone scanned steps.old steps.new) }
+        ensures records { let entries = (R.shown reader.now).entries (walk_of self.old).index (walk_of self.old).snap in IfOk result (λ scanned. steps.new.records + front_fetches self.new entries (skipped skip.now) ≤ steps.old.records + front_fetches self.old entries (skipped skip.now)) }
+        ensures pages { steps.new.pages ≡ steps.old.pages }
     {
         if self.is_alone() {
             self.tell(reader, only, skip, steps)

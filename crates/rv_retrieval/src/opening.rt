@@ -1,4 +1,4 @@
-ghost use Rattle.std.specs.Prelude.{◌≡◌, ◌<◌, ◌≤◌, length, None, true, false, IfOk, IfSome, OnOk, OnErr};
+ghost use Rattle.std.specs.Prelude.{◌≡◌, ◌<◌, ◌≤◌, length, None, true, false, IfOk, IfSome, OnOk, OnErr, ◌+◌, ℕ, List};
 ghost use Rattle.rv_judge.specs.Account.{first_guarantee};
 ghost use Rattle.rv_reader.specs.Shown.{CanRead, Shown};
 ghost use Rattle.rv_jscan.specs.Joint.{CanTake, JointFits, leaves_ahead, under_way};
@@ -7,8 +7,16 @@ ghost use Rattle.rv_retrieval.specs.Choice.{IsChosen, candidates_of, no_candidat
 ghost use Rattle.rv_retrieval.specs.Opened.{Begun, IsMade, OnlyLists, Opened, RunsOut, SameScans, Scanned, Starts, front_begun, front_candidate, guarantee_of, is_one, start_told};
 ghost use Rattle.rv_retrieval.specs.Opens.{Opens};
 ghost use Rattle.rv_retrieval.specs.Rest.{qualifying};
+ghost use Rattle.rv_retrieval.specs.Runs.{Tells};
 ghost use Rattle.rv_retrieval.specs.Shape.{RetrievalFits, is_background, rest};
-ghost use Rattle.rv_retrieval.specs.Telling.{CountsAll, NothingCounted};
+ghost use Rattle.rv_retrieval.specs.Telling.{CountsAll, NothingCounted, new_trace};
+ghost use Rattle.rv_judge.specs.Counting.{reads};
+ghost use Rattle.rv_reader.specs.Tables.{IsTable};
+ghost use Rattle.rv_retrieval.specs.Effort.{Awaiting, back_work, effort, life_of};
+ghost use Rattle.rv_scan.specs.Places.{work as pages_work};
+ghost use Rattle.rv_value.specs.declared.record.Record.{Record as OneRecord};
+ghost use Rattle.std.specs.List.{AllByRecursion};
+ghost use Rattle.rv_retrieval.specs.Short.{IsRight, OnlyLeaves, Settled, fetches_left, has_short, keys_most};
 
 use crate::choosing::{Background, Candidate, Choice, candidates, choose, scans};
 use crate::front::Front;
@@ -107,7 +115,8 @@ fn first_guarantee(strategy: Strategy, pages: u64, entries: u64) -> u64
 fn guarantee<R: Reader>(reader: &R, query: &Query, candidates: &[Candidate], choice: Choice) -> u64
     requires can { CanRead (R.shown reader.now) query.now.table query.now.snap }
     requires place { IfSome choice.front (λ at. at < length candidates.now) }
-    ensures { result ≡ guarantee_of query.now (R.shown reader.now) candidates.now choice }
+    ensures value { result ≡ guarantee_of query.now (R.shown reader.now) candidates.now choice }
+    ensures table { IsTable ((R.shown reader.now).rows query.now.table query.now.snap) ((R.shown reader.now).pages query.now.table query.now.snap) }
 {
     let pages = u64::from(reader.sizes(query.table, query.snap).pages);
     first_guarantee(
@@ -142,8 +151,11 @@ impl Retrieval {
     ) -> Result<Retrieval, NoMemory>
         requires { length scans.items ≤ 8 }
         ensures begun { IfOk result (Begun query strategy scans.items front guaranteed cursor opening) }
+        ensures told { IfOk result (λ r. r.trace ≡ start_told (record r { trace = new_trace strategy })) }
         ensures fits { (shown : Shown) → Opens query strategy scans.items front shown → IfOk result (λ r. RetrievalFits r shown) }
         ensures rest { (shown : Shown) → Opens query strategy scans.items front shown → IfOk result (λ r. rest r shown ≡ qualifying query.only (shown.rows query.table query.snap)) }
+        ensures unborrowed { IfOk result (λ r. r.borrowed ≡ 0) }
+        ensures last { (rows : List OneRecord) (pages : ℕ) → IfOk result (λ r. pages_work r.last rows pages ≡ length rows + pages) }
     {
         let mut retrieval = Retrieval::make(
             alloc, query, strategy, scans, front, guaranteed, cursor, opening,
@@ -166,6 +178,11 @@ impl Retrieval {
         ensures nearer { IfOk result (λ given. given ≡ true → leaves_ahead self.new.joint (R.shown reader.now) < leaves_ahead self.old.joint (R.shown reader.now)) }
         ensures done { IfOk result (λ given. given ≡ false → under_way self.new.joint ≡ false) }
         ensures lists { OnlyLists self.old.joint self.new.joint }
+        ensures spends { IfOk result (λ given. reads steps.new + back_work self.new.joint 0 (R.shown reader.now) ≤ reads steps.old + back_work self.old.joint 0 (R.shown reader.now)) }
+        ensures less { back_work self.new.joint 0 (R.shown reader.now) ≤ back_work self.old.joint 0 (R.shown reader.now) }
+        ensures once { reads steps.new ≤ reads steps.old + 1 }
+        ensures keys { keys_most self.new.joint (R.shown reader.now) ≤ keys_most self.old.joint (R.shown reader.now) }
+        ensures only { OnlyLeaves steps.old steps.new }
     {
         match self.take_joint(reader, steps)? {
             Taken::Piece(piece) => {
@@ -189,6 +206,11 @@ impl Retrieval {
         ensures fits { JointFits self.new.joint (R.shown reader.now) }
         ensures done { OnOk result (under_way self.new.joint ≡ false) }
         ensures lists { OnlyLists self.old.joint self.new.joint }
+        ensures spends { OnOk result (reads steps.new + back_work self.new.joint 0 (R.shown reader.now) ≤ reads steps.old + back_work self.old.joint 0 (R.shown reader.now)) }
+        ensures less { back_work self.new.joint 0 (R.shown reader.now) ≤ back_work self.old.joint 0 (R.shown reader.now) }
+        ensures tried { reads steps.new ≤ reads steps.old + back_work self.old.joint 0 (R.shown reader.now) + 1 }
+        ensures keys { keys_most self.new.joint (R.shown reader.now) ≤ keys_most self.old.joint (R.shown reader.now) }
+        ensures only { OnlyLeaves steps.old steps.new }
     {
         'pieces: while self.scan_piece(reader, steps)? {}
         Ok(())
@@ -207,6 +229,13 @@ impl Retrieval {
         ensures fits { OnOk result (RetrievalFits self.new (R.shown reader.now)) }
         ensures rest { OnOk result (rest self.new (R.shown reader.now) ≡ rest self.old (R.shown reader.now)) }
         ensures runs { OnOk result (RunsOut self.old self.new) }
+        ensures spends { self.old.borrowed ≡ 0 → OnOk result (reads steps.new + effort self.new (R.shown reader.now) ≤ reads steps.old + effort self.old (R.shown reader.now)) }
+        ensures less { self.old.borrowed ≡ 0 → OnOk result (effort self.new (R.shown reader.now) ≤ effort self.old (R.shown reader.now)) }
+        ensures tried { self.old.borrowed ≡ 0 → reads steps.new ≤ reads steps.old + effort self.old (R.shown reader.now) + 1 }
+        ensures awaiting { Awaiting self.old → OnOk result (Awaiting self.new) }
+        ensures settled { Awaiting self.old → self.old.joint.list ≡ None → OnOk result (Settled self.new) }
+        ensures few { Awaiting self.old → self.old.joint.list ≡ None → keys_most self.old.joint (R.shown reader.now) ≤ 20 → OnOk result (fetches_left self.new (R.shown reader.now) ≤ 20) }
+        ensures only { OnlyLeaves steps.old steps.new }
     {
         self.scan_all(reader, steps)?;
         self.scan_ended(0);
@@ -228,6 +257,13 @@ impl Retrieval {
         ensures rest { OnOk result (rest self.new (R.shown reader.now) ≡ rest self.old (R.shown reader.now)) }
         ensures runs { OnOk result (is_one background ≡ true → RunsOut self.old self.new) }
         ensures same { is_one background ≡ false → self.new ≡ self.old }
+        ensures spends { self.old.borrowed ≡ 0 → OnOk result (reads steps.new + effort self.new (R.shown reader.now) ≤ reads steps.old + effort self.old (R.shown reader.now)) }
+        ensures less { self.old.borrowed ≡ 0 → OnOk result (effort self.new (R.shown reader.now) ≤ effort self.old (R.shown reader.now)) }
+        ensures tried { self.old.borrowed ≡ 0 → reads steps.new ≤ reads steps.old + effort self.old (R.shown reader.now) + 1 }
+        ensures awaiting { Awaiting self.old → OnOk result (Awaiting self.new) }
+        ensures settled { is_one background ≡ true → Awaiting self.old → self.old.joint.list ≡ None → OnOk result (Settled self.new) }
+        ensures few { is_one background ≡ true → Awaiting self.old → self.old.joint.list ≡ None → keys_most self.old.joint (R.shown reader.now) ≤ 20 → OnOk result (fetches_left self.new (R.shown reader.now) ≤ 20) }
+        ensures only { OnlyLeaves steps.old steps.new }
     {
         match background {
             Background::One(_) => self.scan_at_once(reader, steps),
@@ -248,14 +284,22 @@ impl Retrieval {
         requires can { CanAsk query (R.shown reader.now) }
         requires candidates { candidates.now ≡ candidates_of query (R.shown reader.now) }
         requires choice { IsChosen query.order query.goal candidates.now choice }
+        requires right { AllByRecursion (IsRight (R.shown reader.now) query.snap) candidates.now }
         ensures made { IfOk result (IsMade query (R.shown reader.now) choice cursor opening) }
         ensures started { IfOk result (Starts cursor opening) }
         ensures bound { IfOk result (λ r. r.guaranteed ≡ guarantee_of query (R.shown reader.now) candidates.now choice) }
         ensures counts { IfOk result (λ r. NothingCounted r.trace) }
         ensures back { is_one choice.background ≡ true → IfOk result (λ r. is_background r.control ≡ true) }
         ensures way { is_one choice.background ≡ true → IfOk result (λ r. under_way r.joint ≡ true) }
+        ensures tells { IfOk result Tells }
+        ensures short { is_one choice.background ≡ true → IfOk result (λ r. length r.joint.plans ≤ 1) }
         ensures fits { IfOk result (λ r. RetrievalFits r (R.shown reader.now)) }
         ensures rest { IfOk result (λ r. rest r (R.shown reader.now) ≡ qualifying query.only ((R.shown reader.now).rows query.table query.snap)) }
+        ensures unborrowed { IfOk result (λ r. r.borrowed ≡ 0) }
+        ensures life { IfOk result (λ r. effort r (R.shown reader.now) < life_of query (R.shown reader.now)) }
+        ensures awaiting { IfOk result (λ r. Awaiting r) }
+        ensures unlisted { IfOk result (λ r. r.joint.list ≡ None) }
+        ensures few { has_short query (R.shown reader.now) ≡ true → IfOk result (λ r. keys_most r.joint (R.shown reader.now) ≤ 20) }
     {
         let scans = scans(alloc, &query.only, candidates, choice.background)?;
         let front = chosen_front(alloc, &query, candidates, choice.front)?;
@@ -288,8 +332,15 @@ impl Retrieval {
         requires { CanAsk query (R.shown reader.now) }
         ensures opened { IfOk result (λ r. Opened query (R.shown reader.now) cursor opening r) }
         ensures counts { IfOk result (λ r. CountsAll r.trace steps.old steps.new) }
+        ensures tells { IfOk result Tells }
         ensures fits { IfOk result (λ r. RetrievalFits r (R.shown reader.now)) }
         ensures rest { IfOk result (λ r. rest r (R.shown reader.now) ≡ qualifying query.only ((R.shown reader.now).rows query.table query.snap)) }
+        ensures life { IfOk result (λ r. reads steps.new + effort r (R.shown reader.now) ≤ reads steps.old + life_of query (R.shown reader.now)) }
+        ensures effort { IfOk result (λ r. effort r (R.shown reader.now) ≤ life_of query (R.shown reader.now)) }
+        ensures reads { reads steps.new ≤ reads steps.old + life_of query (R.shown reader.now) }
+        ensures awaiting { IfOk result (λ r. Awaiting r) }
+        ensures short { has_short query (R.shown reader.now) ≡ true → IfOk result (λ r. Settled r × (fetches_left r (R.shown reader.now) ≤ 20)) }
+        ensures only { OnlyLeaves steps.old steps.new }
     {
         let before = steps.counts();
         let candidates = candidates(alloc, reader, &query)?;

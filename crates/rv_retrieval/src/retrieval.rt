@@ -1,23 +1,31 @@
-ghost use Rattle.std.specs.Prelude.{if◌then◌else◌, ◌≡◌, ℕ, ◌+◌, ◌-◌, ◌^◌, ◌<◌, ◌≤◌, ◌++◌, ◌∷◌, [], ◌&&◌, ◌==◌, ◌⊎◌, true, false, is_some, length, min, Some, None, IfOk, IfSome, IsSome, IsTrue, OnOk, OnErr, Ok};
+ghost use Rattle.std.specs.Prelude.{if◌then◌else◌, ◌≡◌, ℕ, List, ◌+◌, ◌-◌, ◌^◌, ◌<◌, ◌≤◌, ◌++◌, ◌∷◌, [], ◌&&◌, ◌==◌, ◌⊎◌, true, false, is_some, length, min, Some, None, IfOk, IfSome, IsSome, IsTrue, OnOk, OnErr, Ok};
 ghost use Rattle.std.specs.Option.{option_copied};
 ghost use Rattle.rv_keys.specs.Keys.{has_key, Once};
 ghost use Rattle.rv_restrict.specs.Truth.{names_only, row_has};
 ghost use Rattle.rv_reader.specs.Shown.{Shown, CanRead};
 ghost use Rattle.rv_reader.specs.Tables.{row_at};
 ghost use Rattle.rv_scan.specs.Alongs.{Follows, looked};
-ghost use Rattle.rv_scan.specs.Places.{Fits as PlaceFits, unseen};
+ghost use Rattle.rv_scan.specs.Places.{Fits as PlaceFits, unseen, work as pages_work};
 ghost use Rattle.rv_scan.specs.Due.{HaveColumns};
 ghost use Rattle.rv_jscan.specs.Joint.{CanTake, JointFits, keys_of, under_way};
-ghost use Rattle.rv_jscan.specs.Steps.{Gives, Nearer, TakeLeaves, Takes, abandoned, awaited_id, begun};
+ghost use Rattle.rv_jscan.specs.Steps.{Gives, Nearer, TakeLeaves, Takes, abandoned, awaited_id, begun, steps_read};
 ghost use Rattle.rv_judge.specs.Account.{facts_of, guarantee_with};
-ghost use Rattle.rv_retrieval.specs.Accounts.{account_of};
+ghost use Rattle.rv_judge.specs.Counting.{record_read};
+ghost use Rattle.rv_retrieval.specs.Accounts.{NextBorrowed, account_of};
 ghost use Rattle.rv_retrieval.specs.Fronts.{SameFront, front_left, walk_of};
 ghost use Rattle.rv_retrieval.specs.Given.{awaited, more_behind};
 ghost use Rattle.rv_retrieval.specs.Opened.{Begun, has_scans};
 ghost use Rattle.rv_retrieval.specs.Opens.{Opens, first_of};
+ghost use Rattle.rv_judge.specs.Runs.{Allowed};
 ghost use Rattle.rv_retrieval.specs.Rest.{StepMarks, qualifying};
+ghost use Rattle.rv_retrieval.specs.Runs.{Tells, indexes_asked};
 ghost use Rattle.rv_retrieval.specs.Shape.{KeyAt, LastFits, LeastOf, NextKey, Remembers, RetrievalFits, Source, given_as, left_at, lending, front_entries, is_background, is_led, is_sorted, keys_left, rest, rows_of};
-ghost use Rattle.rv_retrieval.specs.Telling.{counted, index_of, list_len, noted};
+ghost use Rattle.rv_retrieval.specs.Stepping.{WalkReads};
+ghost use Rattle.rv_retrieval.specs.Telling.{counted, index_of, list_len, new_trace, noted};
+ghost use Rattle.rv_retrieval.specs.Effort.{Falls, Tries, front_work, table_work};
+ghost use Rattle.rv_judge.specs.Counting.{record_read};
+ghost use Rattle.rv_value.specs.declared.record.Record.{Record as OneRecord};
+ghost use Rattle.rv_retrieval.specs.Short.{OnlyLeaves, scan_fetches};
 
 use crate::front::Front;
 use crate::query::Query;
@@ -148,7 +156,8 @@ impl Retrieval {
     ) -> Result<Option<Record>, NoMemory>
         requires can { CanRead (R.shown reader.now) self.now.query.table self.now.query.snap }
         requires columns { HaveColumns self.now.query.only (rows_of self.now (R.shown reader.now)) }
-        ensures { IfOk result (λ found. given_as found ≡ looked self.now.query.only (row_at (rows_of self.now (R.shown reader.now)) row.0)) }
+        ensures found { IfOk result (λ found. given_as found ≡ looked self.now.query.only (row_at (rows_of self.now (R.shown reader.now)) row.0)) }
+        ensures reads { steps.new ≡ record_read steps.old }
     {
         let found = reader.fetch(self.alloc, self.query.table, self.query.snap, row, steps)?;
         Ok(self.look(found))
@@ -219,6 +228,8 @@ impl Retrieval {
         ensures leaves { TakeLeaves self.old.joint self.new.joint }
         ensures taken { IfOk result (Takes self.new.joint) }
         ensures fits { JointFits self.new.joint (R.shown reader.now) }
+        ensures reads { steps.new ≡ steps_read self.old.joint steps.old }
+        ensures only { OnlyLeaves steps.old steps.new }
     {
         self.joint.take(reader, steps)
     }
@@ -259,7 +270,12 @@ impl Retrieval {
         ensures follows { Follows (walk_of self.new.front) (front_entries self.old (R.shown reader.now)) }
         ensures least { is_sorted self.old.strategy ≡ true → IfOk result (LeastOf self.old (R.shown reader.now)) }
         ensures marks { let shown = R.shown reader.now in IfOk result (λ s. StepMarks self.old.query.need self.old.query.only (rows_of self.old shown) s (front_left self.old.front (front_entries self.old shown)) (front_left self.new.front (front_entries self.old shown))) }
+        ensures fetches { IfOk result (WalkReads self.old (R.shown reader.now) steps.old steps.new) }
         ensures err { OnErr result (self.new ≡ self.old) }
+        ensures tries { Tries steps.old steps.new (front_work self.old (R.shown reader.now)) (front_work self.new (R.shown reader.now)) }
+        ensures falls { IfOk result (λ s. Falls s steps.old steps.new (front_work self.old (R.shown reader.now)) (front_work self.new (R.shown reader.now))) }
+        ensures records { is_sorted self.old.strategy ≡ true → IfOk result (λ s. steps.new.records + scan_fetches self.new (R.shown reader.now) ≤ steps.old.records + scan_fetches self.old (R.shown reader.now)) }
+        ensures pages { steps.new.pages ≡ steps.old.pages }
     {
         let skip = Skip {
             delivered: None,
@@ -300,6 +316,8 @@ impl Retrieval {
         ensures last { LastFits self.old.query self.new.last (R.shown reader.now) }
         ensures marks { let shown = R.shown reader.now in IfOk result (λ s. StepMarks self.old.query.need self.old.query.only (rows_of self.old shown) s (left_at Source.Pages self.old shown) (left_at Source.Pages self.new shown)) }
         ensures err { OnErr result (self.new ≡ self.old) }
+        ensures tries { Tries steps.old steps.new (table_work self.old (R.shown reader.now)) (table_work self.new (R.shown reader.now)) }
+        ensures falls { IfOk result (λ s. Falls s steps.old steps.new (table_work self.old (R.shown reader.now)) (table_work self.new (R.shown reader.now))) }
     {
         let skip = Skip {
             delivered: Some(&self.delivered),
@@ -312,6 +330,7 @@ impl Retrieval {
     pub(crate) fn borrowed_key(&self) -> Option<RowNo>
         ensures near { IfSome result (λ row. self.now.borrowed < length (lending self.now.joint)) }
         ensures small { IfSome result (λ row. self.now.borrowed < 2 ^ 64 - 1) }
+        ensures next { under_way self.now.joint ≡ true → NextBorrowed self.now result }
     {
         let list = match self.joint.list() {
             Some(list) => list,
@@ -385,8 +404,11 @@ impl Retrieval {
     ) -> Result<Retrieval, NoMemory>
         requires { length scans.items ≤ 8 }
         ensures begun { IfOk result (Begun query strategy scans.items front guaranteed cursor opening) }
+        ensures told { IfOk result (λ r. r.trace ≡ new_trace strategy) }
         ensures fits { (shown : Shown) → Opens query strategy scans.items front shown → IfOk result (λ r. RetrievalFits r shown) }
         ensures rest { (shown : Shown) → Opens query strategy scans.items front shown → IfOk result (λ r. rest r shown ≡ qualifying query.only (shown.rows query.table query.snap)) }
+        ensures unborrowed { IfOk result (λ r. r.borrowed ≡ 0) }
+        ensures last { (rows : List OneRecord) (pages : ℕ) → IfOk result (λ r. pages_work r.last rows pages ≡ length rows + pages) }
     {
         let delivered = Delivered::new(alloc)?;
         let control = first_control(strategy, has_scans(scans.as_slice()));
@@ -457,7 +479,8 @@ impl Retrieval {
 
     /// What it did so far.
     pub fn trace(&self) -> &Trace
-        ensures { result.now ≡ self.now.trace }
+        ensures now { result.now ≡ self.now.trace }
+        ensures allowed { Tells self.now → Allowed result.now (indexes_asked self.now.query) }
     {
         &self.trace
     }

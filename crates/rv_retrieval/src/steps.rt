@@ -1,9 +1,18 @@
 ghost use Rattle.std.specs.Prelude.{◌≡◌, ◌+◌, ◌-◌, ◌^◌, ◌<◌, ◌≤◌, ◌&&◌, ◌⊎◌, true, false, length, IfOk, IfSome, OnErr, Ok};
 ghost use Rattle.rv_keys.specs.Keys.{has_key};
+ghost use Rattle.rv_judge.specs.Counting.{record_read};
 ghost use Rattle.rv_reader.specs.Shown.{Shown};
+ghost use Rattle.rv_reader.specs.Tables.{row_at};
+ghost use Rattle.rv_scan.specs.Alongs.{looked};
+ghost use Rattle.rv_jscan.specs.Joint.{under_way};
+ghost use Rattle.rv_retrieval.specs.Accounts.{IsFresh, first_fresh};
 ghost use Rattle.rv_retrieval.specs.Opens.{GivesStep, fg_of};
-ghost use Rattle.rv_retrieval.specs.Shape.{Delivers, DoesStep, EndsIn, KeyAt, NextKey, PassesKeys, RetrievalFits, Source, given_as, is_building, is_index_only, rest, source};
+ghost use Rattle.rv_retrieval.specs.Runs.{SameCourse, Tells};
+ghost use Rattle.rv_retrieval.specs.Shape.{Delivers, DoesStep, EndsIn, KeyAt, NextKey, PassesKeys, RetrievalFits, Source, given_as, is_background, is_building, is_index_only, rest, source, lending, rows_of};
+ghost use Rattle.rv_retrieval.specs.Stepping.{Borrows, DoesIts, Remembered, RemembersBy, StepsAs, ended_by, IsFirstLeft, ListReads, WalkReads};
 ghost use Rattle.rv_retrieval.specs.Telling.{CountsRise, SameCounts};
+ghost use Rattle.rv_retrieval.specs.Effort.{Awaiting, Falls, FgSpends, Tries, effort, keys_work, to_borrow};
+ghost use Rattle.rv_retrieval.specs.Short.{Settled, fetches_left};
 
 use crate::retrieval::Retrieval;
 use rv_judge::{Control, Event, Happening, Judge, Steps, Strategy};
@@ -49,7 +58,9 @@ impl Retrieval {
         ensures same { self.new ≡ record self.old { at = self.new.at } }
         ensures passed { PassesKeys self.old.joint.list self.old.delivered self.old.at self.new.at }
         ensures key { KeyAt self.old.joint.list self.new.at result }
+        ensures first { IsFirstLeft self.old result }
         ensures fresh { IfSome result (λ row. has_key row.0 self.old.delivered ≡ false) }
+        ensures fewer { keys_work self.new ≤ keys_work self.old }
     {
         match self.key_at() {
             None => None,
@@ -79,6 +90,15 @@ impl Retrieval {
         ensures step { IfOk result (DoesStep self.old self.new (R.shown reader.now)) }
         ensures ends { IfOk result (EndsIn self.new) }
         ensures err { OnErr result (rest self.new (R.shown reader.now) ≡ rest self.old (R.shown reader.now)) }
+        ensures does { IfOk result (λ s. self.new ≡ ended_by Happening.FinalEnded s (record self.old { at = self.new.at })) }
+        ensures fetches { IfOk result (ListReads self.old (R.shown reader.now) steps.old steps.new) }
+        ensures course { OnErr result (SameCourse self.old self.new) }
+        ensures tries { Tries steps.old steps.new (effort self.old (R.shown reader.now)) (effort self.new (R.shown reader.now)) }
+        ensures falls { IfOk result (λ s. Falls s steps.old steps.new (effort self.old (R.shown reader.now)) (effort self.new (R.shown reader.now))) }
+        ensures awaiting { Awaiting self.old → Awaiting self.new }
+        ensures records { IfOk result (λ s. steps.new.records + fetches_left self.new (R.shown reader.now) ≤ steps.old.records + fetches_left self.old (R.shown reader.now)) }
+        ensures pages { steps.new.pages ≡ steps.old.pages }
+        ensures settled { Settled self.old → Settled self.new }
     {
         match self.final_key() {
             None => {
@@ -105,6 +125,15 @@ impl Retrieval {
         ensures step { IfOk result (DoesStep self.old self.new (R.shown reader.now)) }
         ensures ends { IfOk result (EndsIn self.new) }
         ensures err { OnErr result (self.new ≡ self.old) }
+        ensures does { IfOk result (λ s. self.new ≡ ended_by Happening.FinalEnded s (record self.old { at = self.new.at })) }
+        ensures tries { Tries steps.old steps.new (effort self.old (R.shown reader.now)) (effort self.new (R.shown reader.now)) }
+        ensures falls { IfOk result (λ s. Falls s steps.old steps.new (effort self.old (R.shown reader.now)) (effort self.new (R.shown reader.now))) }
+        ensures awaiting { Awaiting self.old → Awaiting self.new }
+        ensures reads { steps.new ≡ record_read steps.old }
+        ensures looks { IfOk result (λ s. s ≡ looked self.old.query.only (row_at (rows_of self.old (R.shown reader.now)) row.0)) }
+        ensures records { IfOk result (λ s. steps.new.records + fetches_left self.new (R.shown reader.now) ≤ steps.old.records + fetches_left self.old (R.shown reader.now)) }
+        ensures pages { steps.new.pages ≡ steps.old.pages }
+        ensures settled { Settled self.old → Settled self.new }
     {
         let found = self.examine(reader, row, steps)?;
         self.pass_key();
@@ -125,6 +154,10 @@ impl Retrieval {
         ensures step { IfOk result (DoesStep self.old self.new (R.shown reader.now)) }
         ensures ends { IfOk result (EndsIn self.new) }
         ensures err { OnErr result (self.new ≡ self.old) }
+        ensures does { IfOk result (λ s. self.new ≡ ended_by Happening.FinalEnded s (record self.old { last = self.new.last })) }
+        ensures tries { Tries steps.old steps.new (effort self.old (R.shown reader.now)) (effort self.new (R.shown reader.now)) }
+        ensures falls { IfOk result (λ s. Falls s steps.old steps.new (effort self.old (R.shown reader.now)) (effort self.new (R.shown reader.now))) }
+        ensures awaiting { Awaiting self.old → Awaiting self.new }
     {
         match self.scan_last(reader, steps)? {
             Scanned::Found(record) => Ok(Scanned::Found(record)),
@@ -142,6 +175,10 @@ impl Retrieval {
         ensures same { self.new ≡ record self.old { borrowed = self.new.borrowed } }
         ensures fresh { IfSome result (λ row. has_key row.0 self.old.delivered ≡ false) }
         ensures small { IfSome result (λ row. self.new.borrowed < 2 ^ 64 - 1) }
+        ensures first { under_way self.old.joint ≡ true → IsFresh self.old result }
+        ensures passes { under_way self.old.joint ≡ true → first_fresh self.new ≡ first_fresh self.old }
+        ensures near { IfSome result (λ row. self.new.borrowed < length (lending self.new.joint)) }
+        ensures fewer { to_borrow self.new.joint self.new.borrowed ≤ to_borrow self.old.joint self.old.borrowed }
     {
         match self.borrowed_key() {
             None => None,
@@ -160,7 +197,8 @@ impl Retrieval {
     fn deliver(&mut self, row: RowNo)
         requires room { length self.old.delivered < 1024 }
         requires fresh { has_key row.0 self.old.delivered ≡ false }
-        ensures { Delivers self.old self.new row.0 }
+        ensures delivers { Delivers self.old self.new row.0 }
+        ensures fills { Remembered row.0 self.old self.new }
     {
         self.remember(row);
         if self.is_full() {
@@ -187,6 +225,10 @@ impl Retrieval {
         ensures step { IfOk result (DoesStep self.old self.new (R.shown reader.now)) }
         ensures ends { IfOk result (EndsIn self.new) }
         ensures err { OnErr result (self.new ≡ self.old) }
+        ensures does { IfOk result (λ s. Borrows row.0 (R.shown reader.now) steps.old steps.new s self.old self.new) }
+        ensures tries { Tries steps.old steps.new (effort self.old (R.shown reader.now)) (effort self.new (R.shown reader.now)) }
+        ensures falls { self.old.borrowed < length (lending self.old.joint) → IfOk result (λ s. Falls s steps.old steps.new (effort self.old (R.shown reader.now)) (effort self.new (R.shown reader.now))) }
+        ensures awaiting { Awaiting self.old → Awaiting self.new }
     {
         match self.examine(reader, row, steps)? {
             Some(found) => {
@@ -217,6 +259,12 @@ impl Retrieval {
         ensures step { IfOk result (DoesStep self.old self.new (R.shown reader.now)) }
         ensures ends { IfOk result (EndsIn self.new) }
         ensures err { OnErr result (rest self.new (R.shown reader.now) ≡ rest self.old (R.shown reader.now)) }
+        ensures does { under_way self.old.joint ≡ true → IfOk result (λ s. DoesIts (would judge.old) (state judge.old) (state judge.new) (R.shown reader.now) steps.old steps.new s self.old self.new) }
+        ensures quiet { OnErr result (state judge.new ≡ state judge.old) }
+        ensures course { OnErr result (SameCourse self.old self.new) }
+        ensures tries { Tries steps.old steps.new (effort self.old (R.shown reader.now)) (effort self.new (R.shown reader.now)) }
+        ensures falls { Awaiting self.old → IfOk result (λ s. Falls s steps.old steps.new (effort self.old (R.shown reader.now)) (effort self.new (R.shown reader.now))) }
+        ensures awaiting { Awaiting self.old → Awaiting self.new }
     {
         match self.fresh_key() {
             None => self.background_step(reader, judge, steps),
@@ -239,6 +287,14 @@ impl Retrieval {
         ensures step { IfOk result (DoesStep self.old self.new (R.shown reader.now)) }
         ensures ends { IfOk result (EndsIn self.new) }
         ensures err { OnErr result (self.new ≡ self.old) }
+        ensures does { IfOk result (λ s. self.new ≡ ended_by Happening.FrontEnded s (record self.old { front = self.new.front })) }
+        ensures tries { Tries steps.old steps.new (effort self.old (R.shown reader.now)) (effort self.new (R.shown reader.now)) }
+        ensures falls { IfOk result (λ s. Falls s steps.old steps.new (effort self.old (R.shown reader.now)) (effort self.new (R.shown reader.now))) }
+        ensures awaiting { Awaiting self.old → Awaiting self.new }
+        ensures fetches { IfOk result (WalkReads self.old (R.shown reader.now) steps.old steps.new) }
+        ensures records { Settled self.old → IfOk result (λ s. steps.new.records + fetches_left self.new (R.shown reader.now) ≤ steps.old.records + fetches_left self.old (R.shown reader.now)) }
+        ensures pages { steps.new.pages ≡ steps.old.pages }
+        ensures settled { Settled self.old → Settled self.new }
     {
         match self.scan_front(reader, steps)? {
             Scanned::Found(record) => Ok(Scanned::Found(record)),
@@ -264,6 +320,10 @@ impl Retrieval {
         ensures step { IfOk result (DoesStep self.old self.new (R.shown reader.now)) }
         ensures ends { IfOk result (EndsIn self.new) }
         ensures err { OnErr result (self.new ≡ self.old) }
+        ensures does { IfOk result (λ s. RemembersBy s (record self.old { front = self.new.front }) self.new) }
+        ensures tries { Tries steps.old steps.new (effort self.old (R.shown reader.now)) (effort self.new (R.shown reader.now)) }
+        ensures falls { IfOk result (λ s. Falls s steps.old steps.new (effort self.old (R.shown reader.now)) (effort self.new (R.shown reader.now))) }
+        ensures awaiting { Awaiting self.old → Awaiting self.new }
     {
         match self.scan_front(reader, steps)? {
             Scanned::Found(record) => {
@@ -292,6 +352,12 @@ impl Retrieval {
         ensures step { IfOk result (DoesStep self.old self.new (R.shown reader.now)) }
         ensures ends { IfOk result (EndsIn self.new) }
         ensures err { OnErr result (rest self.new (R.shown reader.now) ≡ rest self.old (R.shown reader.now)) }
+        ensures does { (is_background self.old.control ≡ true → under_way self.old.joint ≡ true) → IfOk result (λ s. DoesIts (would judge.old) (state judge.old) (state judge.new) (R.shown reader.now) steps.old steps.new s self.old self.new) }
+        ensures quiet { OnErr result (state judge.new ≡ state judge.old) }
+        ensures course { OnErr result (SameCourse self.old self.new) }
+        ensures tries { Tries steps.old steps.new (effort self.old (R.shown reader.now)) (effort self.new (R.shown reader.now)) }
+        ensures falls { Awaiting self.old → IfOk result (λ s. Falls s steps.old steps.new (effort self.old (R.shown reader.now)) (effort self.new (R.shown reader.now))) }
+        ensures awaiting { Awaiting self.old → Awaiting self.new }
     {
         match self.strategy() {
             Strategy::FastFirst => self.fast_step(reader, judge, steps),
@@ -317,6 +383,16 @@ impl Retrieval {
         ensures ends { IfOk result (EndsIn self.new) }
         ensures again { self.old.control ≡ Control.Done → result ≡ Ok Scanned.End }
         ensures err { OnErr result (rest self.new (R.shown reader.now) ≡ rest self.old (R.shown reader.now)) }
+        ensures does { (is_background self.old.control ≡ true → under_way self.old.joint ≡ true) → IfOk result (λ s. DoesIts (would judge.old) (state judge.old) (state judge.new) (R.shown reader.now) steps.old steps.new s self.old self.new) }
+        ensures quiet { OnErr result (state judge.new ≡ state judge.old) }
+        ensures course { OnErr result (SameCourse self.old self.new) }
+        ensures tries { Tries steps.old steps.new (effort self.old (R.shown reader.now)) (effort self.new (R.shown reader.now)) }
+        ensures falls { Awaiting self.old → IfOk result (λ s. Falls s steps.old steps.new (effort self.old (R.shown reader.now)) (effort self.new (R.shown reader.now))) }
+        ensures awaiting { Awaiting self.old → Awaiting self.new }
+        ensures settled { Settled self.old → Settled self.new }
+        ensures unasked { Settled self.old → state judge.new ≡ state judge.old }
+        ensures pages { Settled self.old → steps.new.pages ≡ steps.old.pages }
+        ensures records { Settled self.old → IfOk result (λ s. steps.new.records + fetches_left self.new (R.shown reader.now) ≤ steps.old.records + fetches_left self.old (R.shown reader.now)) }
     {
         match self.control() {
             Control::Building => self.building_step(reader, judge, steps),
@@ -347,6 +423,17 @@ impl Retrieval {
         ensures ends { result ≡ Ok Fg.End → self.new.control ≡ Control.Done }
         ensures again { self.old.control ≡ Control.Done → result ≡ Ok Fg.End }
         ensures err { OnErr result (rest self.new (R.shown reader.now) ≡ rest self.old (R.shown reader.now)) }
+        ensures does { Tells self.old → IfOk result (λ fg. StepsAs (would judge.old) (state judge.old) (state judge.new) (R.shown reader.now) steps.old steps.new fg self.old self.new) }
+        ensures quiet { OnErr result (state judge.new ≡ state judge.old) }
+        ensures course { OnErr result (SameCourse self.old self.new) }
+        ensures tells { Tells self.old → Tells self.new }
+        ensures tries { Tries steps.old steps.new (effort self.old (R.shown reader.now)) (effort self.new (R.shown reader.now)) }
+        ensures spends { Awaiting self.old → IfOk result (λ fg. FgSpends fg steps.old steps.new (effort self.old (R.shown reader.now)) (effort self.new (R.shown reader.now))) }
+        ensures awaiting { Awaiting self.old → Awaiting self.new }
+        ensures settled { Settled self.old → Settled self.new }
+        ensures unasked { Settled self.old → state judge.new ≡ state judge.old }
+        ensures pages { Settled self.old → steps.new.pages ≡ steps.old.pages }
+        ensures records { Settled self.old → IfOk result (λ s. steps.new.records + fetches_left self.new (R.shown reader.now) ≤ steps.old.records + fetches_left self.old (R.shown reader.now)) }
     {
         let before = steps.counts();
         let stepped = self.step(reader, judge, steps);

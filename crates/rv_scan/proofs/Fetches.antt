@@ -7,6 +7,8 @@ use Rattle.std.specs.List.{list_all, slice_index_or, cons_option}
 use Rattle.rv_value.specs.declared.record.Record.{Record}
 use Rattle.rv_value.specs.declared.record.RowNo.{RowNo}
 use Rattle.rv_value.specs.declared.record.IndexEntry.{IndexEntry}
+use Rattle.rv_judge.specs.Counting.{record_read}
+use Rattle.rv_judge.specs.declared.counting.Counts.{Counts}
 use Rattle.rv_restrict.specs.declared.atom.Atom.{Atom}
 use Rattle.rv_restrict.specs.Truth.{names_only, qualifies, row_has}
 use Rattle.rv_reader.specs.Entries.{run}
@@ -15,7 +17,7 @@ use Rattle.rv_reader.proofs.Filters.{both}
 use Rattle.rv_scan.specs.declared.skip.Scanned.{Scanned}
 use Rattle.rv_scan.specs.declared.skip.Scanned.TheVariants.{Found, Working, End}
 use Rattle.rv_scan.specs.Due.{Skipped, due, skips, HaveColumns, StepsTo}
-use Rattle.rv_scan.specs.Alongs.{Along, Fetching, Follows, FindsEntry, FindsGiven, Turned, fetched, fetch_rest, is_given, leaf_work, looked, to_come}
+use Rattle.rv_scan.specs.Alongs.{Along, FetchesDue, Fetching, Follows, FindsEntry, FindsGiven, Turned, fetched, fetch_rest, is_given, leaf_work, looked, to_come}
 
 found_number : (rows : List Record) (number : ℕ) (r : Record) → row_at rows number ≡ Some r → r.row.0 ≡ number
 found_number [] number r e = cc
@@ -161,3 +163,21 @@ step_fetched (Err e) only skip old new passed row d entries cuts rows found is a
 pub follows_fetched : {E : Type 0} (r : Result Scanned E) (old new : Fetching) (passed : ℕ) (entries : List IndexEntry) → passed < length old.walk.held → OnOk r (new ≡ record old { walk = record old.walk { held = drop (passed + 1) old.walk.held } }) → OnErr r (new ≡ old) → Follows old.walk entries → Follows new.walk entries
 follows_fetched (Ok scanned) old new passed entries h after err fits = rw after (fetched_follows old.walk passed entries h fits)
 follows_fetched (Err e) old new passed entries h after err fits = rw err fits
+
+-- Which record a step reads.
+
+pub fetches_row : {E : Type 0} (r : Result Scanned E) (skip : Skipped) (only : List (List Atom)) (rows : List Record) (held : List IndexEntry) (passed : ℕ) (row : RowNo) (d : IndexEntry) (old new : Counts) → FindsEntry skip held (Some (passed, row)) → new ≡ record_read old → IfOk r (λ scanned. scanned ≡ looked only (row_at rows row.0)) → IfOk r (λ scanned. FetchesDue skip only rows scanned old new)
+fetches_row (Ok scanned) skip only rows held passed row d old new found read looks = inl (record {
+  row = row.0;
+  unskipped = let at = found.1 d in clear (skips skip row.0) (ap (λ (n : RowNo). not (skips skip n.0)) at.1 ∙ at.0);
+  read = read;
+  looks = looks;
+})
+  where
+    clear : (b : Bool) → not b ≡ true → b ≡ false
+    clear b h = grind arith
+fetches_row (Err e) skip only rows held passed row d old new found read looks = tt
+
+pub fetches_none : {E : Type 0} (r : Result Scanned E) (skip : Skipped) (only : List (List Atom)) (rows : List Record) (old new : Counts) → OnOk r (new.records ≡ old.records) → IfOk r (λ scanned. FetchesDue skip only rows scanned old new)
+fetches_none (Ok scanned) skip only rows old new same = inr same
+fetches_none (Err e) skip only rows old new same = tt

@@ -113,5 +113,12 @@ told_value (n ∷ ns) values c h = elim (cases_Bool (n == c)) [
 pub told_reads : (columns : List ℕ) (row : Record) (c : ℕ) → stands_among columns c ≡ true → column_of (told columns (entry_of columns row)).values c ≡ column_of row.values c
 told_reads columns row c h = get_or-map-range_with_len (value_in columns (entry_of columns row).key) 0 (width columns) c c Null (below_width columns c h) (omega arith) ∙ told_value columns row.values c h
 
+-- an index tells a value of each of its columns
+pub told_wide : (columns : List ℕ) (row : Record) (c : ℕ) → stands_among columns c ≡ true → c < length (told columns (entry_of columns row)).values
+told_wide columns row c h =
+    let size : length (told_values columns (entry_of columns row).key) ≡ width columns = length-map-range_with_len (value_in columns (entry_of columns row).key) 0 (width columns) in
+    let below = below_width columns c h in
+    omega arith
+
 pub told_truth : (columns : List ℕ) (only : List (List Atom)) (row : Record) → NamesThese columns only → qualifies only (told columns (entry_of columns row)).values ≡ qualifies only row.values
 told_truth columns only row names = ap is_true (truth_same (row_reads (told columns (entry_of columns row)).values) (row_reads row.values) (passes_home (stands_among columns)) (λ c h. told_reads columns row c.column (and_right (is_home c) (stands_among columns c.column) h)) only names)

@@ -1,5 +1,5 @@
 -- What a scan of an index holds, and what it still has to look at.
-use Rattle.std.specs.Prelude.{◌≡◌, ℕ, ◌+◌, ◌<◌, List, [], ◌++◌, Bool, true, false, not, ◌⊎◌, if◌then◌else◌, Option, Some, None, length, drop, take}
+use Rattle.std.specs.Prelude.{◌≡◌, ℕ, ◌+◌, ◌<◌, List, [], ◌++◌, Bool, true, false, not, ◌⊎◌, if◌then◌else◌, Option, Some, None, length, drop, filter, take}
 use Rattle.std.specs.List.{filter_map, list_all, slice_index_or}
 use Rattle.rv_value.specs.declared.record.Record.{Record}
 use Rattle.rv_value.specs.declared.record.IndexEntry.{IndexEntry}
@@ -123,3 +123,19 @@ abbrev pub FetchReads : Scanned → Counts → Counts → Type 0
 FetchReads (Found r) old new = new ≡ record_read old
 FetchReads Working old new = TriedOne old new
 FetchReads End old new = new ≡ old
+
+-- the record of a row that is not skipped was read, and it is the answer where it qualifies
+pub record FetchesRow (skip : Skipped) (only : List (List Atom)) (rows : List Record) (scanned : Scanned) (old new : Counts) : Type 0 where
+  pub row : ℕ
+  pub unskipped : skips skip row ≡ false
+  pub read : new ≡ record_read old
+  pub looks : scanned ≡ looked only (row_at rows row)
+
+-- no other record is read
+abbrev pub FetchesDue : Skipped → List (List Atom) → List Record → Scanned → Counts → Counts → Type 0
+FetchesDue skip only rows scanned old new = FetchesRow skip only rows scanned old new ⊎ (new.records ≡ old.records)
+
+-- how many records a scan with fetches may still fetch: one for each entry that it did not look at and whose row is not
+-- skipped
+abbrev pub to_fetch : Along → List IndexEntry → Skipped → ℕ
+to_fetch along entries skip = length (filter (is_given skip) (left along entries))

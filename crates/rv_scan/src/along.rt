@@ -109,6 +109,7 @@ impl Walk {
         ensures reads { IfOk result (λ more. LeafReads more steps.old steps.new) }
         ensures err { OnErr result (self.new ≡ self.old) }
         ensures tried { OnErr result (steps.new ≡ leaf_read steps.old) }
+        ensures same { (steps.new.pages ≡ steps.old.pages) × (steps.new.records ≡ steps.old.records) }
     {
         let from = match &self.ahead {
             Ahead::Nothing => return Ok(false),

@@ -1,4 +1,4 @@
-ghost use Rattle.std.specs.Prelude.{◌≡◌, ◌<◌, ◌+◌, List, [], drop, length, true, IfOk, OnOk, OnErr, IfSome};
+ghost use Rattle.std.specs.Prelude.{◌≡◌, ◌<◌, ◌≤◌, ◌+◌, List, [], drop, length, true, IfOk, OnOk, OnErr, IfSome};
 ghost use Rattle.rv_value.specs.declared.record.Record.{Record as OneRecord};
 ghost use Rattle.rv_value.specs.declared.record.IndexEntry.{IndexEntry as OneEntry};
 ghost use Rattle.rv_restrict.specs.declared.atom.Atom.{Atom};
@@ -8,7 +8,7 @@ ghost use Rattle.rv_restrict.specs.Truth.{names_only, row_has};
 ghost use Rattle.rv_reader.specs.Shown.{CanRead, CanScan, Suits};
 ghost use Rattle.rv_reader.specs.Tables.{row_at};
 ghost use Rattle.rv_scan.specs.Due.{HaveColumns, IsReady, Skipped, StepsTo, due, skipped};
-ghost use Rattle.rv_scan.specs.Alongs.{Follows, FetchReads, FindsEntry, SamePlace, TriedOne, Turned, fetch_rest, fetched, leaf_work, looked};
+ghost use Rattle.rv_scan.specs.Alongs.{Follows, FetchReads, FetchesDue, FindsEntry, SamePlace, TriedOne, Turned, fetch_rest, fetched, leaf_work, looked, to_fetch};
 ghost use Rattle.rv_scan.specs.declared.along.Ahead.TheVariants.{First};
 
 use crate::along::{Walk, next_given};
@@ -126,8 +126,11 @@ impl Fscan {
         ensures follows { Follows self.old.walk ((R.shown reader.now).entries self.old.walk.index self.old.walk.snap) → Follows self.new.walk ((R.shown reader.now).entries self.old.walk.index self.old.walk.snap) }
         ensures step { let shown = R.shown reader.now in let entries = shown.entries self.old.walk.index self.old.walk.snap in let cuts = shown.cuts self.old.walk.index self.old.walk.snap in let rows = shown.rows self.old.table self.old.walk.snap in IfOk result (λ scanned. StepsTo scanned (fetch_rest self.old.walk entries rows only.now (skipped skip.now)) (leaf_work self.old.walk entries cuts) (fetch_rest self.new.walk entries rows only.now (skipped skip.now)) (leaf_work self.new.walk entries cuts)) }
         ensures reads { IfOk result (λ scanned. FetchReads scanned steps.old steps.new) }
+        ensures fetches { IfOk result (λ scanned. FetchesDue (skipped skip.now) only.now ((R.shown reader.now).rows self.old.table self.old.walk.snap) scanned steps.old steps.new) }
         ensures err { OnErr result (self.new ≡ self.old) }
         ensures tried { OnErr result (TriedOne steps.old steps.new) }
+        ensures records { let entries = (R.shown reader.now).entries self.old.walk.index self.old.walk.snap in IfOk result (λ scanned. steps.new.records + to_fetch self.new.walk entries (skipped skip.now) ≤ steps.old.records + to_fetch self.old.walk entries (skipped skip.now)) }
+        ensures pages { steps.new.pages ≡ steps.old.pages }
     {
         match self.next(skip) {
             Some((passed, row)) => self.fetch(reader, passed, row, only, steps),
@@ -145,8 +148,10 @@ impl Fscan {
         requires suits { Suits (R.shown reader.now) self.old.walk.index self.old.walk.snap self.old.walk.range }
         ensures turned { IfOk result (Turned self.old self.new ((R.shown reader.now).entries self.old.walk.index self.old.walk.snap) ((R.shown reader.now).cuts self.old.walk.index self.old.walk.snap)) }
         ensures reads { IfOk result (λ scanned. FetchReads scanned steps.old steps.new) }
+        ensures records { OnOk result (steps.new.records ≡ steps.old.records) }
         ensures err { OnErr result (self.new ≡ self.old) }
         ensures tried { OnErr result (steps.new ≡ leaf_read steps.old) }
+        ensures same { (steps.new.pages ≡ steps.old.pages) × (steps.new.records ≡ steps.old.records) }
     {
         let more = self.walk.turn(reader, steps)?;
         if more {

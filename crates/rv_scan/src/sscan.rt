@@ -172,6 +172,7 @@ impl Sscan {
         ensures reads { IfOk result (λ scanned. KeyReads scanned steps.old steps.new) }
         ensures err { OnErr result (self.new ≡ self.old) }
         ensures tried { OnErr result (TriedLeaf steps.old steps.new) }
+        ensures same { (steps.new.pages ≡ steps.old.pages) × (steps.new.records ≡ steps.old.records) }
     {
         match self.next(only, skip, columns)? {
             Some((passed, record)) => {
@@ -216,6 +217,7 @@ impl Sscan {
         ensures reads { IfOk result (λ scanned. KeyReads scanned steps.old steps.new) }
         ensures err { OnErr result (self.new ≡ self.old) }
         ensures tried { OnErr result (steps.new ≡ leaf_read steps.old) }
+        ensures same { (steps.new.pages ≡ steps.old.pages) × (steps.new.records ≡ steps.old.records) }
     {
         let more = self.walk.turn(reader, steps)?;
         if more {

@@ -5,6 +5,7 @@ use Rattle.rv_keys.specs.Keys.{has_key}
 use Rattle.rv_retrieval.specs.Shape.{Shape}
 use Rattle.rv_retrieval.proofs.Delivering.{both_found_does, both_found_fits, fresh_row, front_ends, moved_does, moved_fits}
 use Rattle.rv_retrieval.proofs.Switching.{both_ahead}
+use Rattle.rv_retrieval.proofs.BothSides.{both_falls, both_tries}
 use Rattle.rv_retrieval.proofs.retrieval.Retrieval.both_step.Goals as goal
 
 pub deliver-requires-clause-fresh : goal.deliver-requires-clause-fresh
@@ -19,14 +20,14 @@ returns-in-Found-clause-fits g c =
     let shown = g.R.Reader.shown c.args.reader.now in
     let v = c.args.self.now in
     let marks = rw c.in-Found.is at c.in_ok-record.ensures.marks in
-    both_found_fits v c.scan_front.new.self c.deliver.new.self c.in-Found.record shown c.requires.both c.scan_front.ensures.same c.scan_front.ensures.front c.scan_front.ensures.follows c.deliver.ensures marks c.requires.fits
+    both_found_fits v c.scan_front.new.self c.deliver.new.self c.in-Found.record shown c.requires.both c.scan_front.ensures.same c.scan_front.ensures.front c.scan_front.ensures.follows c.deliver.ensures.delivers marks c.requires.fits
 
 pub returns-in-Found-clause-step : goal.returns-in-Found-clause-step
 returns-in-Found-clause-step g c =
     let shown = g.R.Reader.shown c.args.reader.now in
     let v = c.args.self.now in
     let marks = rw c.in-Found.is at c.in_ok-record.ensures.marks in
-    both_found_does v c.scan_front.new.self c.deliver.new.self c.in-Found.record shown c.requires.both c.scan_front.ensures.same c.scan_front.ensures.front c.deliver.ensures marks c.requires.fits
+    both_found_does v c.scan_front.new.self c.deliver.new.self c.in-Found.record shown c.requires.both c.scan_front.ensures.same c.scan_front.ensures.front c.deliver.ensures.delivers marks c.requires.fits
 
 pub returns-in-Working-clause-fits : goal.returns-in-Working-clause-fits
 returns-in-Working-clause-fits g c =
@@ -58,3 +59,12 @@ returns-in-End-clause-step g c =
     let ahead = both_ahead v.control v.strategy c.requires.both in
     let none = moved_does v mid shown End c.scan_front.ensures.same ahead c.scan_front.ensures.front c.requires.fits (λ h. tt) (rw c.in-End.is at c.in_ok-record.ensures.marks) in
     ended v mid c.go.new.self shown none.0 (front_ends v mid c.go.new.self c.scan_front.ensures.same ahead (c.requires.fits.led ahead) c.go.ensures.same)
+
+pub returns-in-Found-clause-tries : goal.returns-in-Found-clause-tries
+returns-in-Found-clause-tries g c = both_tries c.args.self.now c.scan_front.new.self c.deliver.new.self (g.R.Reader.shown c.args.reader.now) c.args.steps.now c.scan_front.new.steps c.deliver.new.self.delivered c.deliver.new.self.control c.deliver.new.self.trace c.requires.both c.scan_front.ensures.same c.deliver.ensures.delivers.same c.scan_front.ensures.tries
+
+pub returns-in-Found-clause-falls : goal.returns-in-Found-clause-falls
+returns-in-Found-clause-falls g c = both_falls c.args.self.now c.scan_front.new.self c.deliver.new.self (g.R.Reader.shown c.args.reader.now) c.deliver.new.self.delivered c.deliver.new.self.control c.deliver.new.self.trace c.requires.both c.scan_front.ensures.same c.deliver.ensures.delivers.same (rw c.in-Found.is at c.in_ok-record.ensures.falls)
+
+pub returns-in-End-clause-tries : goal.returns-in-End-clause-tries
+returns-in-End-clause-tries g c = both_tries c.args.self.now c.scan_front.new.self c.go.new.self (g.R.Reader.shown c.args.reader.now) c.args.steps.now c.scan_front.new.steps c.scan_front.new.self.delivered _ c.go.new.self.trace c.requires.both c.scan_front.ensures.same c.go.ensures.same c.scan_front.ensures.tries

@@ -1,4 +1,7 @@
 use Rattle.rv_retrieval.proofs.Chosen.{begun_back, begun_way, chosen_opens, few_scans, one_background, one_found}
+use Rattle.rv_retrieval.proofs.Starting.{begun_tells_if, chosen_has, one_scan, planned_known, planned_once, short_if}
+use Rattle.rv_retrieval.proofs.Lives.{awaits_if, life_if, front_there}
+use Rattle.rv_retrieval.proofs.Shorts.{few_if}
 use Rattle.rv_retrieval.proofs.retrieval.Retrieval.chosen.Goals as goal
 
 pub begin-requires : goal.begin-requires
@@ -19,3 +22,27 @@ pub returns-clause-way : goal.returns-clause-way
 returns-clause-way g c one =
     let found = one_found c.args.choice.background one in
     begun_way c.begin.result c.args.query c.args.choice.strategy c.in_ok-scans.scans.items c.in_ok-front.front _ c.args.cursor c.args.opening (one_background c.args.query.only c.args.query.order c.args.query.goal c.args.candidates.now c.args.choice c.in_ok-scans.scans.items found.0 c.requires.choice c.in_ok-scans.ensures found.1).0 c.begin.ensures.begun
+
+pub returns-clause-tells : goal.returns-clause-tells
+returns-clause-tells g c =
+    let query = c.args.query in
+    let shown = g.R.Reader.shown c.args.reader.now in
+    let choice = c.args.choice in
+    let cs = c.args.candidates.now in
+    let scans = c.in_ok-scans.scans.items in
+    begun_tells_if c.begin.result query choice.strategy scans c.in_ok-front.front _ c.args.cursor c.args.opening (few_scans query shown choice.background scans cs c.requires.candidates c.requires.can c.in_ok-scans.ensures) (chosen_has query.only query.order query.goal cs choice scans c.requires.choice c.in_ok-scans.ensures) (planned_once query shown choice.background cs scans c.requires.candidates c.requires.can c.in_ok-scans.ensures) (planned_known query shown choice.background cs scans c.requires.candidates c.in_ok-scans.ensures) c.begin.ensures.begun c.begin.ensures.told
+
+pub returns-clause-short : goal.returns-clause-short
+returns-clause-short g c one = short_if c.begin.result c.args.query c.args.choice.strategy c.in_ok-scans.scans.items c.in_ok-front.front _ c.args.cursor c.args.opening (one_scan c.args.query (g.R.Reader.shown c.args.reader.now) c.args.choice.background c.args.candidates.now c.in_ok-scans.scans.items c.requires.candidates c.requires.can c.in_ok-scans.ensures one) c.begin.ensures.begun
+
+pub returns-clause-life : goal.returns-clause-life
+returns-clause-life g c = life_if c.begin.result c.args.query (g.R.Reader.shown c.args.reader.now) c.args.choice c.in_ok-scans.scans.items c.in_ok-front.front c.args.candidates.now _ c.args.cursor c.args.opening c.requires.candidates c.requires.can c.guarantee-guaranteed.ensures.table c.requires.choice c.in_ok-scans.ensures c.in_ok-front.ensures c.begin.ensures.begun c.begin.ensures.last
+
+pub returns-clause-awaiting : goal.returns-clause-awaiting
+returns-clause-awaiting g c = awaits_if c.begin.result c.args.query c.args.choice c.args.candidates.now c.in_ok-scans.scans.items c.in_ok-front.front _ c.args.cursor c.args.opening c.requires.choice c.in_ok-scans.ensures c.begin.ensures.begun
+
+pub returns-clause-few : goal.returns-clause-few
+returns-clause-few g c short = few_if c.begin.result c.args.query (g.R.Reader.shown c.args.reader.now) c.args.choice c.in_ok-scans.scans.items c.in_ok-front.front c.args.candidates.now _ c.args.cursor c.args.opening c.requires.candidates c.requires.can c.requires.choice c.in_ok-scans.ensures c.requires.right c.begin.ensures.begun short
+
+pub guarantee-guaranteed-requires-clause-place : goal.guarantee-guaranteed-requires-clause-place
+guarantee-guaranteed-requires-clause-place g c = front_there c.args.query.order c.args.query.goal c.args.candidates.now c.args.choice c.requires.choice

@@ -1,6 +1,7 @@
 use Rattle.std.proofs.Common.{ap}
 use Rattle.rv_retrieval.specs.Shape.{Shape}
 use Rattle.rv_retrieval.proofs.Delivering.{does_from, rest_from}
+use Rattle.rv_retrieval.proofs.Stepped.{fast_behind}
 use Rattle.rv_retrieval.proofs.Switching.{borrow_keeps}
 use Rattle.rv_retrieval.proofs.retrieval.Retrieval.fast_step.Goals as goal
 
@@ -24,3 +25,9 @@ returns-in-Some-clause-step g c =
     let v = c.args.self.now in
     let mid = c.fresh_key.new.self in
     does_from c.borrow.result v mid c.borrow.new.self shown (ap (λ (x : Shape). x.query) c.fresh_key.ensures.same) ((borrow_keeps v mid mid.borrowed c.fresh_key.ensures.same).rest shown c.requires.fits) c.borrow.ensures.step
+
+pub returns-in-None-clause-does : goal.returns-in-None-clause-does
+returns-in-None-clause-does g c way =
+    let v = c.args.self.now in
+    let mid = c.fresh_key.new.self in
+    fast_behind c.background_step.result _ _ _ (g.R.Reader.shown c.args.reader.now) c.args.steps.now c.background_step.new.steps v mid c.background_step.new.self c.requires.control c.requires.strategy c.fresh_key.ensures.same (c.fresh_key.ensures.passes way) (c.in-None.ensures.first way) c.background_step.ensures.does

@@ -1,6 +1,10 @@
-use Rattle.std.proofs.Common.{◌∙◌}
+use Rattle.std.proofs.Common.{◌∙◌, rules}
 use Rattle.rv_retrieval.proofs.Switching.{trace_keeps}
+use Rattle.rv_retrieval.proofs.Tellings.{undropped_piece}
 use Rattle.rv_retrieval.proofs.retrieval.Retrieval.take.Goals as goal
 
 pub returns-clause-rest : goal.returns-clause-rest
 returns-clause-rest g c = (trace_keeps c.take_piece-taken.new.self c.count.new.self _ c.count.ensures).rest (g.R.Reader.shown c.args.reader.now) c.take_piece-taken.ensures.fits ∙ c.take_piece-taken.ensures.rest
+
+pub returns-clause-undropped : goal.returns-clause-undropped
+returns-clause-undropped g c t = undropped_piece c.take_piece-taken.result c.take_piece-taken.new.self c.count.new.self _ _ c.take_piece-taken.ensures.taken c.count.ensures (search rules)

@@ -1,0 +1,95 @@
+-- CREATE INDEX: what it asks of the store, and what it makes of the database.
+use Rattle.std.proofs.Common.{◌≡◌, ℕ, zero, suc, ◌+◌, ◌<◌, ◌≤◌, List, [], ◌∷◌, ◌++◌, refl, ap, ◌∙◌, arith, length, Option, Some, None, Bool, true, false, not, ◌==◌, ◌||◌, ◌&&◌, nat_eq, nat_lt}
+use Rattle.std.specs.List.{AllByRecursion, IsDistinct, list_any, list_all, slice_index_or}
+use Rattle.std.proofs.Math.Seq.{get_or-append_seam}
+use Rattle.std.proofs.lemmas.Bool.Decides.{nat_tests}
+use Rattle.std.proofs.lemmas.Map.Keys.{IsDistinct-cons}
+use Rattle.rv_lang.specs.declared.reply.Reply.TheVariants.{Created}
+use Rattle.rv_catalog.specs.declared.def.IndexDef.{IndexDef}
+use Rattle.rv_catalog.specs.Fits.{IsNewIndex, all_different, is_column}
+use Rattle.rv_catalog.specs.Kept.{indexes_over}
+use Rattle.rv_catalog.specs.Schema.{Schema, width}
+use Rattle.rv_reader.specs.Shown.{Shown}
+use Rattle.rv_reader.specs.Storing.{AreColumns, Indexed}
+use Rattle.rv_model.specs.declared.state.Cursor.{Cursor}
+use Rattle.rv_model.specs.declared.transactions.Transaction.{Transaction}
+use Rattle.rv_model.specs.declared.transactions.Transactions.{Transactions}
+use Rattle.rv_model.specs.Transactions.{lowest, horizon}
+use Rattle.rv_model.specs.Step.{indexed}
+use Rattle.rv_core.specs.Db.{db_of, stand_of, IsTied, no_index}
+use Rattle.rv_core.specs.Doing.{Does}
+use Rattle.rv_core.proofs.Tied.{none_lowest, tied_indexed}
+use Rattle.rv_core.proofs.Standing.{stand_indexed}
+
+either_left : (a b : Bool) → (a || b) ≡ false → a ≡ false
+either_left false b h = refl
+either_left true b h = h
+
+either_right : (a b : Bool) → (a || b) ≡ false → b ≡ false
+either_right false b h = h
+either_right true b h = cc
+
+both_left : (a b : Bool) → (a && b) ≡ true → a ≡ true
+both_left true b h = refl
+both_left false b h = h
+
+both_right : (a b : Bool) → (a && b) ≡ true → b ≡ true
+both_right true b h = h
+both_right false b h = cc
+
+is_false : (b : Bool) → not b ≡ true → b ≡ false
+is_false false h = refl
+is_false true h = cc
+
+turned : (c d : ℕ) → (d == c) ≡ false → nat_eq c d ≡ false
+turned c d h = grind (arith, nat_tests)
+
+none_distinct : IsDistinct nat_eq []
+unfolding IsDistinct
+none_distinct = tt
+
+apart : (c : ℕ) (ds : List ℕ) → list_any (λ d. d == c) ds ≡ false → AllByRecursion (λ (d : ℕ). nat_eq c d ≡ false) ds
+apart c [] h = tt
+apart c (d ∷ ds) h = (turned c d (either_left (d == c) (list_any (λ e. e == c) ds) h), apart c ds (either_right (d == c) (list_any (λ e. e == c) ds) h))
+
+distinct : (cs : List ℕ) → all_different cs ≡ true → IsDistinct nat_eq cs
+distinct [] h = none_distinct
+distinct (c ∷ cs) h =
+    let first = is_false (list_any (λ d. d == c) cs) (both_left (not (list_any (λ d. d == c) cs)) (all_different cs) h) in
+    IsDistinct-cons nat_eq c cs (apart c cs first) (distinct cs (both_right (not (list_any (λ d. d == c) cs)) (all_different cs) h))
+
+below : (c width : ℕ) → is_column width c ≡ true → c < width
+below c width h = grind (arith, nat_tests)
+
+all_there : (width : ℕ) (cs : List ℕ) → list_all (is_column width) cs ≡ true → AllByRecursion (λ (c : ℕ). c < width) cs
+all_there width [] h = tt
+all_there width (c ∷ cs) h = (below c width (both_left (is_column width c) (list_all (is_column width) cs) h), all_there width cs (both_right (is_column width c) (list_all (is_column width) cs) h))
+
+-- the columns of a new index are those of one of the store
+pub index_columns : (shown : Shown) (schema : Schema) (txns : Transactions) (def : IndexDef) → IsTied shown schema txns → IsNewIndex schema def → 1 ≤ length def.columns → AreColumns (shown.columns def.table) def.columns
+index_columns shown schema txns def tied new some = record {
+  some = some;
+  few = new.few;
+  different = distinct def.columns new.different;
+  there = rw (tied.columns def.table new.there) (all_there (width schema.tables def.table) def.columns new.columns);
+}
+
+-- without a transaction the newest commit is the only snapshot
+pub index_alone : (shown : Shown) (active : List Transaction) → shown.horizon ≡ horizon active shown.newest → lowest active ≡ None → shown.horizon ≡ shown.newest
+index_alone shown active swept idle = swept ∙ ap (λ (ts : List Transaction). horizon ts shown.newest) (none_lowest active idle)
+
+-- the index that was added last
+pub added_last : (indexes : List IndexDef) (def : IndexDef) → slice_index_or (indexes ++ def ∷ []) (length indexes) no_index ≡ def
+added_last indexes def = get_or-append_seam indexes def [] no_index
+
+pub indexes_tied : (old new : Shown) (schema left : Schema) (def : IndexDef) (txns : Transactions) → def.table < length schema.tables → left ≡ record schema { indexes = schema.indexes ++ def ∷ [] } → Indexed old new def.table def.columns → IsTied old schema txns → IsTied new left txns
+indexes_tied old new schema left def txns there is more tied = rw is (tied_indexed old new schema def txns there more tied)
+
+pub few_room : (n m : ℕ) → m ≡ n → m ≤ 7 → nat_lt 7 n ≡ false
+few_room n m e h = grind (arith, nat_tests)
+
+pub indexes_does : (old new : Shown) (schema left : Schema) (def : IndexDef) (txns : Transactions) (cursors : List Cursor) → lowest txns.active ≡ None → nat_lt 7 (indexes_over def.table schema.indexes) ≡ false → left ≡ record schema { indexes = schema.indexes ++ def ∷ [] } → Indexed old new def.table def.columns → IsTied old schema txns
+    → Does (indexed (db_of old schema txns cursors) def) (stand_of old schema txns cursors) (Created, Created) (stand_of new left txns cursors)
+indexes_does old new schema left def txns cursors idle room is more tied =
+    let stand = stand_indexed old new schema def txns cursors tied more in
+    rw (idle, room, is, stand) (refl, refl, refl)

@@ -1,0 +1,4 @@
+pub mod Goings
+pub mod Calls
+mod Counts
+pub mod Runs

@@ -1,0 +1,5 @@
+pub mod Ends
+pub mod Fetching
+pub mod Follows
+pub mod Lifts
+pub mod Places

@@ -1,0 +1,144 @@
+-- What a step does, from what its parts do.
+use Rattle.std.proofs.Common.{◌≡◌, ◌⊎◌, ◌∙◌, ℕ, ◌+◌, List, [], ◌∷◌, Bool, true, false, not, cond, ◌&&◌, Option, Some, None, Result, Ok, Err, IfOk, drop, find, is_some, length, nat_lt, refl, ap, sym, subst, arith, inl, inr, ◌==◌}
+use Rattle.std.specs.Prelude.{if◌then◌else◌}
+use Rattle.std.proofs.lemmas.Bool.{cases_Bool}
+use Rattle.rv_value.specs.declared.record.Record.{Record}
+use Rattle.rv_value.specs.declared.record.RowNo.{RowNo}
+use Rattle.rv_keys.specs.Keys.{has_key}
+use Rattle.rv_judge.specs.Counting.{record_read}
+use Rattle.rv_judge.specs.Course.{building, fast_first}
+use Rattle.rv_judge.specs.declared.counting.Counts.{Counts}
+use Rattle.rv_judge.specs.declared.events.Control.{Control}
+use Rattle.rv_judge.specs.declared.events.Control.TheVariants.{Building}
+use Rattle.rv_judge.specs.declared.events.Strategy.{Strategy}
+use Rattle.rv_judge.specs.declared.events.Strategy.TheVariants.{Table, BackgroundOnly, FastFirst}
+use Rattle.rv_judge.specs.declared.judging.Facts.{Facts}
+use Rattle.rv_judge.specs.declared.judging.Verdict.{Verdict}
+use Rattle.rv_restrict.specs.Truth.{qualifies}
+use Rattle.rv_reader.specs.Shown.{Shown}
+use Rattle.rv_reader.specs.Tables.{row_at}
+use Rattle.rv_scan.specs.Alongs.{looked}
+use Rattle.rv_scan.specs.declared.skip.Scanned.{Scanned}
+use Rattle.rv_scan.specs.declared.skip.Scanned.TheVariants.{Found, Working, End}
+use Rattle.rv_jscan.specs.declared.jscan.Given.{Given}
+use Rattle.rv_jscan.specs.declared.jscan.Given.TheVariants.{Accepted, Stale}
+use Rattle.rv_jscan.specs.Joint.{Joint, under_way}
+use Rattle.rv_jscan.specs.Pieces.{Pieced}
+use Rattle.rv_jscan.specs.Steps.{TakeLeaves}
+use Rattle.rv_retrieval.specs.Accounts.{IsFresh, NextBorrowed, first_fresh, fresh_of}
+use Rattle.rv_retrieval.specs.Given.{Answers, AwaitsPiece, TakesLeafBy}
+use Rattle.rv_retrieval.specs.Rulings.{GivesOn}
+use Rattle.rv_retrieval.specs.Shape.{NextKey, Shape, keys_left, is_background, lending, rows_of}
+use Rattle.rv_retrieval.specs.Stepping.{Borrows, DoesAs, DoesIts, FetchesKey, IsFirstLeft, ListReads, first_left, Kind, Piece, Remembered, StepsBackground, StepsBehind, filled, is_awaiting, kind_of, while_both}
+use Rattle.rv_retrieval.proofs.Rests.{found_row}
+
+-- a delivered key is passed over
+pub passes_on : (v mid : Shape) (row : RowNo) → mid ≡ record v { borrowed = v.borrowed + 1 } → has_key row.0 v.delivered ≡ true → NextBorrowed v (Some row) → first_fresh mid ≡ first_fresh v
+passes_on v mid row e h n = ap first_fresh e ∙ sym (ap (find (λ (k : ℕ). not (has_key k v.delivered))) n ∙ gone)
+  where
+    gone : find (λ (k : ℕ). not (has_key k v.delivered)) (row.0 ∷ drop (v.borrowed + 1) (lending v.joint)) ≡ find (λ (k : ℕ). not (has_key k v.delivered)) (drop (v.borrowed + 1) (lending v.joint))
+    gone = rw h refl
+
+pub fresh_on : (v mid : Shape) (r : Option RowNo) → first_fresh mid ≡ first_fresh v → IsFresh mid r → IsFresh v r
+fresh_on v mid None e f = sym e ∙ f
+fresh_on v mid (Some row) e f = sym e ∙ f
+
+-- the row of a fresh key was given
+pub borrowed_row : (v mid new : Shape) (row : RowNo) (found : Record) (shown : Shown) (c d : Counts) → mid ≡ record v { borrowed = v.borrowed + 1 } → Remembered row.0 mid new → Found found ≡ looked v.query.only (row_at (rows_of v shown) row.0) → d ≡ record_read c → Borrows row.0 shown c d (Found found) v new
+borrowed_row v mid new row found shown c d e m l r =
+    let next : Remembered row.0 (record v { borrowed = v.borrowed + 1 }) new = subst (λ (x : Shape). Remembered row.0 x new) e m in
+    let at : new.borrowed ≡ v.borrowed + 1 = ap (λ (x : Shape). x.borrowed) next.same ∙ kept (record v { borrowed = v.borrowed + 1; delivered = new.delivered }) in
+    record {
+      read = r;
+      looks = l;
+      left = subst (λ (b : ℕ). Remembered found.row.0 (record v { borrowed = b }) new) (sym at) (subst (λ (k : ℕ). Remembered k (record v { borrowed = v.borrowed + 1 }) new) (number (row_at (rows_of v shown) row.0) refl l) next);
+    }
+  where
+    kept : (x : Shape) → (filled x).borrowed ≡ x.borrowed
+    kept x = elim (cases_Bool (length x.delivered == 1024)) [
+      | inl on ↦ rw on refl
+      | inr off ↦ rw off refl
+    ]
+
+    number : (o : Option Record) → row_at (rows_of v shown) row.0 ≡ o → Found found ≡ looked v.query.only o → row.0 ≡ found.row.0
+    number None e l = let bad : Found found ≡ Working = l in absurd (cc)
+    number (Some x) e l = by (qualifies v.query.only x.values) l
+      where
+        by : (b : Bool) → Found found ≡ (if b then Found x else Working) → row.0 ≡ found.row.0
+        by true l = let same : found ≡ x = cc in sym (found_row (rows_of v shown) row.0 x e) ∙ ap (λ (y : Record). y.row.0) (sym same)
+        by false l = let bad : Found found ≡ Working = l in absurd (cc)
+
+-- A background step.
+
+way_taken : (old new : Joint) → TakeLeaves old new → under_way new ≡ under_way old
+way_taken old new t = ap under_way t.same
+
+pub one_piece : (would : ℕ → Facts → Verdict) (state after : ℕ) (old mid new : Shape) (piece sieved : Pieced) (g : Given) → mid ≡ record old { joint = mid.joint } → TakesLeafBy (is_background old.control) old.joint mid.joint → AwaitsPiece mid piece → sieved ≡ piece → Answers mid sieved g new → GivesOn would state after sieved g mid new → StepsBehind (is_awaiting old) would state after old new
+one_piece would state after old mid new piece sieved g e leaves a s answers o =
+    let back : is_background old.control ≡ true = ap (λ (x : Shape). is_background x.control) (sym e) ∙ a.back in
+    let taken : TakeLeaves old.joint mid.joint = subst (λ (b : Bool). TakesLeafBy b old.joint mid.joint) back leaves in
+    let way : under_way old.joint ≡ true = sym (way_taken old.joint mid.joint taken) ∙ a.awaits.way in
+    subst (λ (b : Bool). StepsBehind b would state after old new) (sym (both (is_background old.control) (under_way old.joint) back way)) (record {
+      taken = mid.joint;
+      piece = sieved;
+      leaves = taken;
+      awaits = subst (λ (p : Pieced). Rattle.rv_jscan.specs.Steps.Awaits mid.joint p) (sym s) a.awaits;
+      obeys = subst (λ (x : Shape). GivesOn would state after sieved Accepted x new) e (accepted g answers o);
+    })
+  where
+    both : (a b : Bool) → a ≡ true → b ≡ true → (a && b) ≡ true
+    both a b h i = grind arith
+
+    accepted : (g : Given) → Answers mid sieved g new → GivesOn would state after sieved g mid new → GivesOn would state after sieved Accepted mid new
+    accepted Accepted answers o = o
+    accepted (Stale asked now) (never, _, _, _) o = absurd (never (subst (AwaitsPiece mid) (sym s) a))
+
+pub as_it_is : (would : ℕ → Facts → Verdict) (state after : ℕ) (old new : Shape) → StepsBehind (is_awaiting old) would state after old new → StepsBackground would state after old new
+as_it_is would state after old new s = record { passed = old.borrowed; fresh = refl; does = s }
+
+pub passed_first : (would : ℕ → Facts → Verdict) (state after : ℕ) (old mid new : Shape) → mid ≡ record old { borrowed = mid.borrowed } → first_fresh mid ≡ first_fresh old → StepsBackground would state after mid new → StepsBackground would state after old new
+passed_first would state after old mid new e f s =
+    let moved = subst (λ (x : Shape). StepsBackground would state after x new) e s in
+    record {
+      passed = moved.passed;
+      fresh = moved.fresh ∙ same;
+      does = moved.does;
+    }
+  where
+    same : fresh_of (record old { borrowed = mid.borrowed }) ≡ fresh_of old
+    same = sym (ap fresh_of e) ∙ ap (λ (o : Option ℕ). if building mid.control && fast_first mid.strategy then o else None) f ∙ ap (λ (x : Shape). if building x.control && fast_first x.strategy then first_fresh old else None) e
+
+-- a fast-first step without a fresh key
+pub fast_behind : {E : Type 0} (r : Result Scanned E) (would : ℕ → Facts → Verdict) (state after : ℕ) (shown : Shown) (c d : Counts) (v mid new : Shape) → v.control ≡ Building → v.strategy ≡ FastFirst → mid ≡ record v { borrowed = mid.borrowed } → first_fresh mid ≡ first_fresh v → first_fresh v ≡ None → IfOk r (λ s. (s ≡ Working) × StepsBackground would state after mid new) → IfOk r (λ s. DoesIts would state after shown c d s v new)
+fast_behind (Err x) would state after shown c d v mid new ec es e f none b = tt
+fast_behind (Ok s) would state after shown c d v mid new ec es e f none b =
+    let fresh : fresh_of v ≡ None = ap (λ (x : Control). if building x && fast_first v.strategy then first_fresh v else None) ec ∙ ap (λ (x : Strategy). if fast_first x then first_fresh v else None) es ∙ none in
+    let kind : kind_of v.control v.strategy (fresh_of v) ≡ Piece = ap (λ (x : Control). kind_of x v.strategy (fresh_of v)) ec ∙ ap (λ (x : Strategy). while_both x (fresh_of v)) es ∙ ap (while_both FastFirst) fresh in
+    subst (λ (k : Kind). DoesAs k would state after shown c d s v new) (sym kind) (b.0, passed_first would state after v mid new e f b.1)
+
+-- a step while both sides run, of a strategy whose foreground gives nothing, is a background step
+background_kind : (control : Control) (strategy : Strategy) (fresh : Option ℕ) → control ≡ Building → (strategy ≡ Table) ⊎ (strategy ≡ BackgroundOnly) → kind_of control strategy fresh ≡ Piece
+background_kind control strategy fresh both (inl table) = rw (both, table) refl
+background_kind control strategy fresh both (inr alone) = rw (both, alone) refl
+
+pub piece_does : {E : Type 0} (r : Result Scanned E) (would : ℕ → Facts → Verdict) (state after : ℕ) (shown : Shown) (c d : Counts) (old new : Shape) → old.control ≡ Building → (old.strategy ≡ Table) ⊎ (old.strategy ≡ BackgroundOnly) → IfOk r (λ s. (s ≡ Working) × StepsBackground would state after old new) → IfOk r (λ s. DoesIts would state after shown c d s old new)
+piece_does (Ok s) would state after shown c d old new both which h = subst (λ (k : Kind). DoesAs k would state after shown c d s old new) (sym (background_kind old.control old.strategy (fresh_of old) both which)) h
+piece_does (Err e) would state after shown c d old new both which h = tt
+
+-- The complete list in the final stage.
+pub passes_left : (v mid : Shape) (row : RowNo) → mid ≡ record v { at = v.at + 1 } → has_key row.0 v.delivered ≡ true → NextKey v.joint.list v.at row.0 → first_left mid ≡ first_left v
+passes_left v mid row e h n = ap first_left e ∙ sym (ap (find (λ (k : ℕ). not (has_key k v.delivered))) n.split ∙ gone)
+  where
+    gone : find (λ (k : ℕ). not (has_key k v.delivered)) (row.0 ∷ keys_left v.joint.list (v.at + 1)) ≡ find (λ (k : ℕ). not (has_key k v.delivered)) (keys_left v.joint.list (v.at + 1))
+    gone = rw h refl
+
+pub left_on : (v mid : Shape) (r : Option RowNo) → first_left mid ≡ first_left v → IsFirstLeft mid r → IsFirstLeft v r
+left_on v mid None e f = sym e ∙ f
+left_on v mid (Some row) e f = sym e ∙ f
+
+pub list_fetches : {E : Type 0} (r : Result Scanned E) (v mid : Shape) (row : RowNo) (shown : Shown) (c d : Counts) → mid ≡ record v { at = mid.at } → first_left v ≡ Some row.0 → d ≡ record_read c → IfOk r (λ s. s ≡ looked mid.query.only (row_at (rows_of mid shown) row.0)) → IfOk r (ListReads v shown c d)
+list_fetches (Err x) v mid row shown c d e f reads looks = tt
+list_fetches (Ok s) v mid row shown c d e f reads looks = subst (λ (k : Option ℕ). FetchesKey k v shown c d s) (sym f) (reads, looks ∙ ap (λ (x : Shape). looked x.query.only (row_at (rows_of x shown) row.0)) e)
+
+pub list_ends : (v : Shape) (shown : Shown) (c : Counts) → first_left v ≡ None → ListReads v shown c c End
+list_ends v shown c f = subst (λ (k : Option ℕ). FetchesKey k v shown c c End) (sym f) (refl, refl)

@@ -1,0 +1,30 @@
+use Rattle.rv_retrieval.proofs.Stepped.{one_piece}
+use Rattle.std.proofs.Common.{◌∙◌, ap}
+use Rattle.rv_retrieval.specs.Shape.{is_background}
+use Rattle.rv_retrieval.proofs.Efforts.{give_awaits, give_less}
+use Rattle.rv_retrieval.proofs.Openings.{below, gave_less, nothing_awaited, tries_to}
+use Rattle.rv_retrieval.proofs.retrieval.Retrieval.background.Goals as goal
+
+pub returns-in_ok-_given-in-Piece-clause-does : goal.returns-in_ok-_given-in-Piece-clause-does
+returns-in_ok-_given-in-Piece-clause-does g c =
+    let v = c.args.self.now in
+    let piece = rw c.in-Piece.is at c.in_ok-piece.ensures.taken in
+    one_piece _ _ _ v c.take_piece.new.self c.give_piece.new.self c.in-Piece.piece c.sieve.result c.in_ok-_given-in-Piece._given c.take_piece.ensures.same c.take_piece.ensures.leaves piece c.sieve.ensures c.in_ok-_given-in-Piece.ensures.given c.in_ok-_given-in-Piece.ensures.obeys
+
+pub returns-in_ok-_given-in-Piece-clause-tries : goal.returns-in_ok-_given-in-Piece-clause-tries
+returns-in_ok-_given-in-Piece-clause-tries g c =
+    let shown = g.R.Reader.shown c.args.reader.now in
+    tries_to _ _ _ _ _ c.take_piece.ensures.tries (give_less c.give_piece.result _ _ _ c.sieve.result c.take_piece.new.self c.give_piece.new.self shown c.give_piece.ensures.given c.give_piece.ensures.obeys c.give_piece.ensures.err c.take_piece.ensures.fits)
+
+pub returns-in_ok-_given-in-Piece-clause-falls : goal.returns-in_ok-_given-in-Piece-clause-falls
+returns-in_ok-_given-in-Piece-clause-falls g c back a =
+    let shown = g.R.Reader.shown c.args.reader.now in
+    let took = c.take_piece.ensures.tries.less in
+    let gave = gave_less _ _ _ c.in-Piece.piece c.sieve.result c.in_ok-_given-in-Piece._given c.take_piece.new.self c.give_piece.new.self shown (rw c.in-Piece.is at c.in_ok-piece.ensures.taken) c.sieve.ensures c.in_ok-_given-in-Piece.ensures.given c.in_ok-_given-in-Piece.ensures.obeys c.take_piece.ensures.fits in
+    below _ _ _ gave took
+
+pub returns-in_ok-_given-in-Piece-clause-awaiting : goal.returns-in_ok-_given-in-Piece-clause-awaiting
+returns-in_ok-_given-in-Piece-clause-awaiting g c a = give_awaits c.give_piece.result _ _ _ c.sieve.result c.take_piece.new.self c.give_piece.new.self c.give_piece.ensures.given c.give_piece.ensures.obeys c.give_piece.ensures.err (c.take_piece.ensures.awaiting a)
+
+pub returns-in-Nothing-clause-falls : goal.returns-in-Nothing-clause-falls
+returns-in-Nothing-clause-falls g c back a = nothing_awaited c.take_piece.new.self (ap is_background c.take_piece.ensures.control ∙ back) (c.take_piece.ensures.awaiting a) (rw c.in-Nothing.is at c.in_ok-piece.ensures.taken)

@@ -1,0 +1,155 @@
+-- What a foreground step does, by the control, the strategy and the fresh key.
+use Rattle.std.specs.Prelude.{◌≡◌, ◌⊎◌, ℕ, Bool, true, false, not, ◌&&◌, ◌==◌, find, length, Option, Some, None, if◌then◌else◌}
+use Rattle.rv_delivered.specs.Rows.{AddsRow}
+use Rattle.rv_keys.specs.Keys.{has_key}
+use Rattle.rv_value.specs.declared.record.RowNo.{RowNo}
+use Rattle.rv_judge.specs.Counting.{record_read}
+use Rattle.rv_judge.specs.declared.counting.Counts.{Counts}
+use Rattle.rv_judge.specs.declared.events.Control.{Control}
+use Rattle.rv_judge.specs.declared.events.Control.TheVariants.{Building, ForegroundAlone, BackgroundAlone, FinalList, FinalTable, Done}
+use Rattle.rv_judge.specs.declared.events.Event.TheVariants.{Full as FullEvent}
+use Rattle.rv_judge.specs.declared.events.Happening.{Happening}
+use Rattle.rv_judge.specs.declared.events.Happening.TheVariants.{Full, FrontEnded, FinalEnded}
+use Rattle.rv_judge.specs.declared.events.Strategy.{Strategy}
+use Rattle.rv_judge.specs.declared.events.Strategy.TheVariants.{Table, BackgroundOnly, FastFirst, Sorted, IndexOnly}
+use Rattle.rv_judge.specs.declared.judging.Facts.{Facts}
+use Rattle.rv_judge.specs.declared.judging.Verdict.{Verdict}
+use Rattle.rv_reader.specs.Shown.{Shown}
+use Rattle.rv_reader.specs.Tables.{row_at}
+use Rattle.rv_scan.specs.Alongs.{looked}
+use Rattle.rv_scan.specs.declared.skip.Scanned.{Scanned}
+use Rattle.rv_scan.specs.declared.skip.Scanned.TheVariants.{Found, Working, End}
+use Rattle.rv_jscan.specs.declared.jscan.Given.TheVariants.{Accepted}
+use Rattle.rv_jscan.specs.Joint.{Joint, under_way}
+use Rattle.rv_jscan.specs.Pieces.{Pieced, may}
+use Rattle.rv_jscan.specs.Steps.{Awaits, TakeLeaves}
+use Rattle.rv_retrieval.specs.Accounts.{fresh_of}
+use Rattle.rv_retrieval.specs.declared.steps.Fg.{Fg}
+use Rattle.rv_retrieval.specs.Opens.{fg_of}
+use Rattle.rv_retrieval.specs.Rulings.{GivesOn, gone}
+use Rattle.rv_retrieval.specs.Shape.{Shape, keys_left, is_background, is_sorted, rows_of}
+use Rattle.rv_retrieval.specs.Telling.{counted, noted}
+
+-- a piece is awaited
+abbrev pub is_awaiting : Shape → Bool
+is_awaiting v = is_background v.control && under_way v.joint
+
+-- the awaited piece is taken, sieved and given
+pub record OnePiece (would : ℕ → Facts → Verdict) (state after : ℕ) (old new : Shape) : Type 0 where
+  pub taken : Joint
+  pub piece : Pieced
+  pub leaves : TakeLeaves old.joint taken
+  pub awaits : Awaits taken piece
+  pub obeys : GivesOn would state after piece Accepted (record old { joint = taken }) new
+
+-- A BACKGROUND STEP: one piece, upon which the judge is asked and obeyed as by a give; nothing where none is awaited
+abbrev pub StepsBehind : Bool → (ℕ → Facts → Verdict) → ℕ → ℕ → Shape → Shape → Type 0
+StepsBehind true would state after old new = OnePiece would state after old new
+StepsBehind false would state after old new = (new ≡ old) × (after ≡ state)
+
+-- the same where delivered keys are passed over before
+pub record StepsBackground (would : ℕ → Facts → Verdict) (state after : ℕ) (old new : Shape) : Type 0 where
+  pub passed : ℕ
+  pub fresh : fresh_of (record old { borrowed = passed }) ≡ fresh_of old
+  pub does : StepsBehind (is_awaiting old) would state after (record old { borrowed = passed }) new
+
+-- a full buffer changes the control
+abbrev pub filled : Shape → Shape
+filled v = if length v.delivered == 1024 then gone Full (record v { trace = noted v.trace FullEvent }) else v
+
+-- a row that is given is remembered, and the buffer may be full with it
+pub record Remembered (row : ℕ) (old new : Shape) : Type 0 where
+  pub adds : AddsRow old.delivered new.delivered row
+  pub same : new ≡ filled (record old { delivered = new.delivered })
+
+abbrev pub RemembersBy : Scanned → Shape → Shape → Type 0
+RemembersBy (Found r) old new = Remembered r.row.0 old new
+RemembersBy Working old new = new ≡ old
+RemembersBy End old new = new ≡ gone FrontEnded old
+
+-- the record of a row was read; a sorted foreground reads none that the complete list cannot have
+pub record WalkRow (v : Shape) (shown : Shown) (c d : Counts) (s : Scanned) : Type 0 where
+  pub row : ℕ
+  pub listed : is_sorted v.strategy ≡ true → may v.joint.list row ≡ true
+  pub read : d ≡ record_read c
+  pub looks : s ≡ looked v.query.only (row_at (rows_of v shown) row)
+
+abbrev pub WalkReads : Shape → Shown → Counts → Counts → Scanned → Type 0
+WalkReads v shown c d s = WalkRow v shown c d s ⊎ (d.records ≡ c.records)
+
+-- the first key of the complete list that is left and was not delivered
+abbrev pub first_left : Shape → Option ℕ
+first_left v = find (λ (k : ℕ). not (has_key k v.delivered)) (keys_left v.joint.list v.at)
+
+abbrev pub IsFirstLeft : Shape → Option RowNo → Type 0
+IsFirstLeft v None = first_left v ≡ None
+IsFirstLeft v (Some row) = first_left v ≡ Some row.0
+
+-- that key's row is fetched, and given exactly where it qualifies; where there is none it is the end
+abbrev pub FetchesKey : Option ℕ → Shape → Shown → Counts → Counts → Scanned → Type 0
+FetchesKey None v shown c d s = (s ≡ End) × (d ≡ c)
+FetchesKey (Some key) v shown c d s = (d ≡ record_read c) × (s ≡ looked v.query.only (row_at (rows_of v shown) key))
+
+abbrev pub ListReads : Shape → Shown → Counts → Counts → Scanned → Type 0
+ListReads v shown c d s = FetchesKey (first_left v) v shown c d s
+
+-- a source at its end leads to the last control
+abbrev pub ended_by : Happening → Scanned → Shape → Shape
+ended_by happening (Found r) v = v
+ended_by happening Working v = v
+ended_by happening End v = gone happening v
+
+-- the row of a fresh key is fetched, and given exactly where it qualifies
+pub record Borrows (key : ℕ) (shown : Shown) (before after : Counts) (s : Scanned) (old new : Shape) : Type 0 where
+  pub read : after ≡ record_read before
+  pub looks : s ≡ looked old.query.only (row_at (rows_of old shown) key)
+  pub left : RemembersBy s (record old { borrowed = new.borrowed }) new
+
+-- What a step is: the fetch of a fresh key, a background step, a step of the foreground's scan that remembers nothing or
+-- what it gives, the fetch of a key of the complete list, a step through the table, or nothing.
+pub data Kind : Type 0 where
+  Borrow : ℕ → Kind
+  Piece : Kind
+  Walk : Kind
+  WalkBoth : Kind
+  NextKey : Kind
+  NextPage : Kind
+  Over : Kind
+
+abbrev pub while_both : Strategy → Option ℕ → Kind
+while_both Table fresh = Piece
+while_both BackgroundOnly fresh = Piece
+while_both FastFirst None = Piece
+while_both FastFirst (Some key) = Borrow key
+while_both Sorted fresh = Walk
+while_both IndexOnly fresh = WalkBoth
+
+abbrev pub kind_of : Control → Strategy → Option ℕ → Kind
+kind_of Building strategy fresh = while_both strategy fresh
+kind_of ForegroundAlone strategy fresh = Walk
+kind_of BackgroundAlone strategy fresh = Piece
+kind_of FinalList strategy fresh = NextKey
+kind_of FinalTable strategy fresh = NextPage
+kind_of Done strategy fresh = Over
+
+-- what each of them changes; the judge is asked by a background step alone
+abbrev pub DoesAs : Kind → (ℕ → Facts → Verdict) → ℕ → ℕ → Shown → Counts → Counts → Scanned → Shape → Shape → Type 0
+DoesAs (Borrow key) would state after shown c d s old new = (after ≡ state) × Borrows key shown c d s old new
+DoesAs Piece would state after shown c d s old new = (s ≡ Working) × StepsBackground would state after old new
+DoesAs Walk would state after shown c d s old new = (after ≡ state) × WalkReads old shown c d s × (new ≡ ended_by FrontEnded s (record old { front = new.front }))
+DoesAs WalkBoth would state after shown c d s old new = (after ≡ state) × RemembersBy s (record old { front = new.front }) new
+DoesAs NextKey would state after shown c d s old new = (after ≡ state) × ListReads old shown c d s × (new ≡ ended_by FinalEnded s (record old { at = new.at }))
+DoesAs NextPage would state after shown c d s old new = (after ≡ state) × (new ≡ ended_by FinalEnded s (record old { last = new.last }))
+DoesAs Over would state after shown c d s old new = (after ≡ state) × (s ≡ End) × (new ≡ old)
+
+-- WHAT A FOREGROUND STEP DOES
+abbrev pub DoesIts : (ℕ → Facts → Verdict) → ℕ → ℕ → Shown → Counts → Counts → Scanned → Shape → Shape → Type 0
+DoesIts would state after shown c d s old new = DoesAs (kind_of old.control old.strategy (fresh_of old)) would state after shown c d s old new
+
+-- what it does, and then what it read is counted
+pub record StepsAs (would : ℕ → Facts → Verdict) (state after : ℕ) (shown : Shown) (c d : Counts) (fg : Fg) (old new : Shape) : Type 0 where
+  pub scanned : Scanned
+  pub stepped : Shape
+  pub answers : fg ≡ fg_of scanned
+  pub does : DoesIts would state after shown c d scanned old stepped
+  pub counts : new ≡ record stepped { trace = counted stepped.trace c d }

@@ -1,0 +1,5 @@
+mod Accepts
+mod Forms
+pub mod Loops
+pub mod Told
+mod Values

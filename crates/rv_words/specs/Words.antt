@@ -1,0 +1,101 @@
+-- The words that the program accepts, and what they ask.
+use Rattle.std.specs.Prelude.{◌≡◌, ℕ, ◌+◌, ◌-◌, ◌*◌, ◌≤◌, ◌&&◌, ◌≢◌, List, [], ◌∷◌, ◌++◌, Bool, true, false, Option, Some, None, codes, flat_map, if◌then◌else◌, length, nat_le, unwrap_or}
+use Rattle.std.specs.List.{AllByRecursion, list_all}
+use Rattle.rv_words.specs.declared.choices.Choice.{Choice}
+use Rattle.rv_words.specs.declared.choices.Choice.TheVariants.{Judge, Steps, Gen}
+use Rattle.rv_words.specs.declared.choices.Asked.{Asked}
+
+-- ---- the options
+
+abbrev pub name_of : Choice → List ℕ
+name_of Judge = codes "--judge"
+name_of Steps = codes "--steps"
+name_of Gen = codes "--gen"
+
+-- the greatest value of an option
+abbrev pub greatest : Choice → ℕ
+greatest Judge = 2
+greatest Steps = 64
+greatest Gen = 4294967295
+
+-- ---- values
+
+abbrev pub is_digit : ℕ → Bool
+is_digit c = nat_le 48 c && nat_le c 57
+
+-- the number that decimal digits write behind those of another number
+abbrev pub number_behind : ℕ → List ℕ → ℕ
+number_behind n [] = n
+number_behind n (d ∷ ds) = number_behind (n * 10 + (d - 48)) ds
+
+abbrev pub number : List ℕ → ℕ
+number digits = number_behind 0 digits
+
+-- 1 to 10 decimal digits, whose number is at most the option's greatest value
+pub record IsValue (option : Choice) (digits : List ℕ) : Type 0 where
+  pub some : 1 ≤ length digits
+  pub few : length digits ≤ 10
+  pub decimal : list_all is_digit digits ≡ true
+  pub within : number digits ≤ greatest option
+
+-- ---- items
+
+-- an option with its value, which is behind `=` or is the next word
+pub record Item : Type 0 where
+  pub option : Choice
+  pub digits : List ℕ
+  pub behind : Bool
+
+abbrev pub words_of : Item → List (List ℕ)
+words_of item = if item.behind
+    then (name_of item.option ++ (codes "=" ++ item.digits)) ∷ []
+    else name_of item.option ∷ item.digits ∷ []
+
+abbrev pub IsItem : Item → Type 0
+IsItem item = IsValue item.option item.digits
+
+-- No item is of this option.
+abbrev pub Lacks : Choice → List Item → Type 0
+Lacks option items = AllByRecursion (λ (item : Item). item.option ≢ option) items
+
+abbrev pub Once : List Item → Type 0
+Once [] = Unit {0}
+Once (item ∷ items) = Lacks item.option items × Once items
+
+-- The words are these items, one after another, each option at most once.
+pub record Spell (words : List (List ℕ)) (items : List Item) : Type 0 where
+  pub whole : words ≡ flat_map words_of items
+  pub fit : AllByRecursion IsItem items
+  pub once : Once items
+
+-- The words are a list of items.
+pub record AreAccepted (words : List (List ℕ)) : Type 0 where
+  pub items : List Item
+  pub spelled : Spell words items
+
+-- ---- what they ask
+
+abbrev pub is_option : Choice → Choice → Bool
+is_option Judge Judge = true
+is_option Steps Steps = true
+is_option Gen Gen = true
+is_option a b = false
+
+-- the value of the option's item, if any
+abbrev pub value_of : Choice → List Item → Option ℕ
+value_of option [] = None
+value_of option (item ∷ items) = if is_option option item.option then Some (number item.digits) else value_of option items
+
+-- judge 0 and one step where nothing else is asked, and the script that is read
+abbrev pub asked_of : List Item → Asked
+asked_of items = record {
+  judge = unwrap_or (value_of Judge items) 0;
+  steps = unwrap_or (value_of Steps items) 1;
+  seed = value_of Gen items;
+}
+
+-- The words ask this: they are a list of items, and it is what the items ask.
+pub record Ask (words : List (List ℕ)) (asked : Asked) : Type 0 where
+  pub items : List Item
+  pub spelled : Spell words items
+  pub asks : asked ≡ asked_of items

@@ -1,0 +1,19 @@
+/// An option of the program, each of which takes a value.
+#[derive(Clone, Copy, Debug, PartialEq, Eq)]
+pub enum Choice {
+    /// `--judge`: the judge of costs, 0 to 2.
+    Judge,
+    /// `--steps`: how many background steps follow a foreground step, 0 to 64.
+    Steps,
+    /// `--gen`: the seed of the script that is generated in place of one that is read, 0 to 4,294,967,295.
+    Gen,
+}
+
+/// What accepted words ask.
+#[derive(Clone, Copy, Debug, PartialEq, Eq)]
+pub struct Asked {
+    pub judge: u8,
+    pub steps: u8,
+    /// The seed of the generated script; None where a script is to be read.
+    pub seed: Option<u32>,
+}
