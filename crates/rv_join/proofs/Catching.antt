@@ -17,6 +17,7 @@ use Rattle.rv_reader.specs.Shown.{Shown}
 use Rattle.rv_judge.specs.declared.counting.Counts.{Counts}
 use Rattle.rv_retrieval.specs.Effort.{Awaiting, Tries, effort}
 use Rattle.rv_retrieval.specs.Rest.{IsLeast, TakesOut, order_of}
+use Rattle.rv_retrieval.specs.Runs.{Tells}
 use Rattle.rv_retrieval.specs.Shape.{RetrievalFits, Shape, rest}
 use Rattle.rv_join.specs.declared.places.Asked.{Asked}
 use Rattle.rv_join.specs.declared.level.Level.{Level}
@@ -103,9 +104,9 @@ found_led a shown old new r can fits out least first by d e c i = elim (Contains
     behind x m = subst (λ (o : List ℕ). is_lt (values_cmp (order_of o x) (order_of o r)) ≡ false) order_is (least_in old.here.query.order r (rest old.here shown) x least (rw out.before (stayed out.front out.behind out.taken x (rw out.after at m))))
 
 -- a row that is found is held
-pub found_moves : (a : Asked) (shown : Shown) (old : Level) (new : Shape) (r : Record) (before after : Counts) → CanRun a shown → LevelFits a shown old → old.row ≡ None → new.query ≡ old.here.query → RetrievalFits new shown → Tries before after (effort old.here shown) (effort new shown) → (Awaiting old.here → Awaiting new) → TakesOut old.here.query.need r (rest old.here shown) (rest new shown) × IsLeast old.here.query.order r (rest old.here shown) → LevelMoves a shown old (record { outer = old.outer; row = Some r.values; here = new })
-found_moves a shown old new r before after can fits none query here tries waits found = record {
-  fits = stays_fits a shown old new fits query here waits (Some r.values);
+pub found_moves : (a : Asked) (shown : Shown) (old : Level) (new : Shape) (r : Record) (before after : Counts) → CanRun a shown → LevelFits a shown old → old.row ≡ None → new.query ≡ old.here.query → RetrievalFits new shown → Tries before after (effort old.here shown) (effort new shown) → (Awaiting old.here → Awaiting new) → (Tells old.here → Tells new) → TakesOut old.here.query.need r (rest old.here shown) (rest new shown) × IsLeast old.here.query.order r (rest old.here shown) → LevelMoves a shown old (record { outer = old.outer; row = Some r.values; here = new })
+found_moves a shown old new r before after can fits none query here tries waits tells found = record {
+  fits = stays_fits a shown old new fits query here waits tells (Some r.values);
   outer = refl;
   bag = rw none (found_bag a shown old new r can fits found.0);
   led = λ first by led. found_led a shown old new r can fits found.0 found.1 first by;
@@ -126,9 +127,9 @@ pub same_moves : (a : Asked) (shown : Shown) (l : Level) → LevelFits a shown l
 same_moves a shown l fits = stays_moves a shown l l (level_same a shown l fits)
 
 -- the end of a retrieval
-pub ended_moves : (a : Asked) (shown : Shown) (old : Level) (new : Shape) (before after : Counts) → LevelFits a shown old → old.row ≡ None → new.query ≡ old.here.query → RetrievalFits new shown → Tries before after (effort old.here shown) (effort new shown) → (Awaiting old.here → Awaiting new) → (rest old.here shown ≡ []) × (rest new shown ≡ []) → LevelMoves a shown old (record old { here = new }) × (still a shown (record old { here = new }) ≡ [])
-ended_moves a shown old new before after fits none query here tries waits ended = (stays_moves a shown old (record old { here = new }) (level_stays a shown old new before after fits query here tries waits (ended.1 ∙ sym ended.0)), rw (none, ended.1) refl)
+pub ended_moves : (a : Asked) (shown : Shown) (old : Level) (new : Shape) (before after : Counts) → LevelFits a shown old → old.row ≡ None → new.query ≡ old.here.query → RetrievalFits new shown → Tries before after (effort old.here shown) (effort new shown) → (Awaiting old.here → Awaiting new) → (Tells old.here → Tells new) → (rest old.here shown ≡ []) × (rest new shown ≡ []) → LevelMoves a shown old (record old { here = new }) × (still a shown (record old { here = new }) ≡ [])
+ended_moves a shown old new before after fits none query here tries waits tells ended = (stays_moves a shown old (record old { here = new }) (level_stays a shown old new before after fits query here tries waits tells (ended.1 ∙ sym ended.0)), rw (none, ended.1) refl)
 
 -- a step without a row lowers the work
-pub worked_moves : (a : Asked) (shown : Shown) (old : Level) (new : Shape) (before after : Counts) → LevelFits a shown old → new.query ≡ old.here.query → RetrievalFits new shown → Tries before after (effort old.here shown) (effort new shown) → (Awaiting old.here → Awaiting new) → rest new shown ≡ rest old.here shown → effort new shown < effort old.here shown → LevelMoves a shown old (record old { here = new }) × (level_work a shown (record old { here = new }) < level_work a shown old)
-worked_moves a shown old new before after fits query here tries waits same less = (stays_moves a shown old (record old { here = new }) (level_stays a shown old new before after fits query here tries waits same), works_less a shown old new less same)
+pub worked_moves : (a : Asked) (shown : Shown) (old : Level) (new : Shape) (before after : Counts) → LevelFits a shown old → new.query ≡ old.here.query → RetrievalFits new shown → Tries before after (effort old.here shown) (effort new shown) → (Awaiting old.here → Awaiting new) → (Tells old.here → Tells new) → rest new shown ≡ rest old.here shown → effort new shown < effort old.here shown → LevelMoves a shown old (record old { here = new }) × (level_work a shown (record old { here = new }) < level_work a shown old)
+worked_moves a shown old new before after fits query here tries waits tells same less = (stays_moves a shown old (record old { here = new }) (level_stays a shown old new before after fits query here tries waits tells same), works_less a shown old new less same)

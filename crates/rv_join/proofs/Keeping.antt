@@ -3,15 +3,19 @@ use Rattle.std.proofs.Common.{◌≡◌, ℕ, ◌+◌, ◌≤◌, List, [], ◌�
 use Rattle.rv_judge.specs.declared.counting.Counts.{Counts}
 use Rattle.rv_judge.specs.declared.events.Trace.{Trace}
 use Rattle.rv_reader.specs.Shown.{Shown}
+use Rattle.rv_judge.specs.Runs.{Allowed}
+use Rattle.rv_retrieval.specs.Runs.{Tells, indexes_asked}
 use Rattle.rv_retrieval.specs.Shape.{RetrievalFits}
+use Rattle.rv_retrieval.proofs.Tellings.{allowed}
 use Rattle.rv_retrieval.specs.Telling.{CountsRise, SameCounts}
 use Rattle.rv_join.specs.declared.places.Asked.{Asked}
 use Rattle.rv_join.specs.declared.level.Level.{Level}
 use Rattle.rv_join.specs.declared.plan.PlanStep.{PlanStep}
-use Rattle.rv_join.specs.Levels.{AllFit, LevelFits, Stacked, StackFits, first_of}
+use Rattle.rv_join.specs.Asking.{item_at}
+use Rattle.rv_join.specs.Levels.{AllFit, LevelFits, Stacked, StackFits, first_in, first_of}
 use Rattle.rv_join.specs.Moves.{StackStays}
 use Rattle.rv_join.specs.Pieces.{level_at}
-use Rattle.rv_join.specs.Plans.{AreReads, HoldsGood, PlanFits, PlanKept, PlanMoves, PlanStays, Planned, RisesAlone, plan_work, rest_at, work_at}
+use Rattle.rv_join.specs.Plans.{AreReads, HoldsGood, PlanFits, PlanKept, PlanMoves, PlanStays, Planned, RisesAlone, numbers_of, plan_trace, plan_work, rest_at, work_at}
 use Rattle.rv_join.specs.Work.{loops_work}
 use Rattle.rv_join.specs.declared.gather.Stage.{Stage}
 use Rattle.rv_join.specs.declared.gather.Stage.TheVariants.{AsFound, Gathering, Giving}
@@ -30,6 +34,19 @@ level_fits a shown v i fits = (at_fits a shown 0 v.above i v.at fits.above fits.
 
 alone_level : (v : Stacked) (i : ℕ) → v.above ≡ [] → level_at v i ≡ first_of v
 alone_level v i none = rw none refl
+
+first_fits : (a : Asked) (shown : Shown) (above : List Level) (at : Level) → AllFit a shown 0 above → LevelFits a shown at → length at.outer ≡ length above → (length (first_in above at).outer ≡ 0) × LevelFits a shown (first_in above at)
+first_fits a shown [] at all fits deep = (deep, fits)
+first_fits a shown (l ∷ ls) at all fits deep = (all.0, all.1)
+
+-- the trace is one of a run over indexes of the first FROM item's table
+pub told_allowed : (shown : Shown) (p : Planned) → PlanFits shown p → Allowed (plan_trace p) (numbers_of (item_at p.asked 0).indexes)
+told_allowed shown p fits =
+    let stack = fits.holds.stack in
+    let first = first_fits p.asked shown p.stack.above p.stack.at stack.above stack.at stack.deep in
+    let run = allowed (first_of p.stack).here first.1.tells in
+    let over : indexes_asked (first_of p.stack).here.query ≡ numbers_of (item_at p.asked 0).indexes = ap numbers_of (first.1.asks.item.over ∙ ap (λ (n : ℕ). (item_at p.asked n).indexes) first.0) in
+    subst (Allowed (plan_trace p)) over (record { planned = run.planned; known = run.known; once = run.once; scanned = run.scanned; turns = run.turns; run = run.run; told = run.told })
 
 -- A call that leaves the rest.
 

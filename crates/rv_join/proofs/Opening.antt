@@ -11,6 +11,7 @@ use Rattle.rv_reader.specs.Shown.{Shown}
 use Rattle.rv_judge.specs.declared.counting.Counts.{Counts}
 use Rattle.rv_retrieval.specs.Effort.{Awaiting, Tries, effort}
 use Rattle.rv_retrieval.specs.Rest.{AgreesIn, TakesOut}
+use Rattle.rv_retrieval.specs.Runs.{Tells}
 use Rattle.rv_retrieval.specs.Shape.{Keeps, RetrievalFits, Shape, rest}
 use Rattle.rv_join.specs.declared.places.Asked.{Asked}
 use Rattle.rv_join.specs.declared.places.Item.{Item}
@@ -45,18 +46,19 @@ told_same a shown l r taken can fits agrees = under_same a shown (below a l) _ _
 pub found_bag : (a : Asked) (shown : Shown) (old : Level) (new : Shape) (r : Record) → CanRun a shown → LevelFits a shown old → TakesOut old.here.query.need r (rest old.here shown) (rest new shown) → IsPermutation (over_rest a shown old) (over_row a shown old r.values ++ flat_map (λ (x : Record). over_row a shown old x.values) (rest new shown))
 found_bag a shown old new r can fits out = rw (out.before, out.after, told_same a shown old r out.taken can fits out.agrees) (flat_out (λ (x : Record). over_row a shown old x.values) out.front out.taken out.behind)
 
-pub stays_fits : (a : Asked) (shown : Shown) (old : Level) (new : Shape) → LevelFits a shown old → new.query ≡ old.here.query → RetrievalFits new shown → (Awaiting old.here → Awaiting new) → (row : Option (List Value)) → LevelFits a shown (record { outer = old.outer; row = row; here = new })
-stays_fits a shown old new fits query here waits row = record {
+pub stays_fits : (a : Asked) (shown : Shown) (old : Level) (new : Shape) → LevelFits a shown old → new.query ≡ old.here.query → RetrievalFits new shown → (Awaiting old.here → Awaiting new) → (Tells old.here → Tells new) → (row : Option (List Value)) → LevelFits a shown (record { outer = old.outer; row = row; here = new })
+stays_fits a shown old new fits query here waits tells row = record {
   inside = fits.inside;
   here = here;
   asks = subst (λ q. Asks a old.outer q) (sym query) fits.asks;
   wide = fits.wide;
   awaiting = waits fits.awaiting;
+  tells = tells fits.tells;
 }
 
-pub level_stays : (a : Asked) (shown : Shown) (old : Level) (new : Shape) (before after : Counts) → LevelFits a shown old → new.query ≡ old.here.query → RetrievalFits new shown → Tries before after (effort old.here shown) (effort new shown) → (Awaiting old.here → Awaiting new) → rest new shown ≡ rest old.here shown → LevelStays a shown old (record old { here = new })
-level_stays a shown old new before after fits query here tries waits same = record {
-  fits = stays_fits a shown old new fits query here waits old.row;
+pub level_stays : (a : Asked) (shown : Shown) (old : Level) (new : Shape) (before after : Counts) → LevelFits a shown old → new.query ≡ old.here.query → RetrievalFits new shown → Tries before after (effort old.here shown) (effort new shown) → (Awaiting old.here → Awaiting new) → (Tells old.here → Tells new) → rest new shown ≡ rest old.here shown → LevelStays a shown old (record old { here = new })
+level_stays a shown old new before after fits query here tries waits tells same = record {
+  fits = stays_fits a shown old new fits query here waits tells old.row;
   outer = refl;
   row = refl;
   left = same;
@@ -74,7 +76,7 @@ pub opened_is : (a : Asked) (shown : Shown) (outer : List (List Value)) (v : Sha
 opened_is a shown outer v inside opens = rw (opens.rest_is, tables_at a.items (length outer) inside) (flat_filter_same (rows_at a shown (length outer)) _ _ _ _ (λ r. refl) (λ r. refl))
 
 pub opened_fits : (a : Asked) (shown : Shown) (outer : List (List Value)) (v : Shape) → length outer < length a.items → AreWide a outer → OpensItem a shown outer v → LevelFits a shown (record { outer = outer; row = None; here = v })
-opened_fits a shown outer v inside wide opens = record { inside = inside; here = opens.fits; asks = opens.asks; wide = wide; awaiting = opens.awaiting }
+opened_fits a shown outer v inside wide opens = record { inside = inside; here = opens.fits; asks = opens.asks; wide = wide; awaiting = opens.awaiting; tells = opens.tells }
 
 -- an inner retrieval over the row that is held, padded
 pub descends : (a : Asked) (shown : Shown) (old : Level) (row : List Value) (width : ℕ) (outer : List (List Value)) (v : Shape)
@@ -109,9 +111,9 @@ pub level_same : (a : Asked) (shown : Shown) (l : Level) → LevelFits a shown l
 level_same a shown l fits = record { fits = fits; outer = refl; row = refl; left = refl; work = same_le (level_work a shown l) }
 
 -- a call that keeps what every reader shows
-pub level_keeps : (a : Asked) (shown : Shown) (old : Level) (new : Shape) → LevelFits a shown old → Keeps old.here new → ((shown : Shown) → RetrievalFits old.here shown → effort new shown ≤ effort old.here shown) → (Awaiting old.here → Awaiting new) → LevelStays a shown old (record old { here = new })
-level_keeps a shown old new fits keeps less waits = record {
-  fits = stays_fits a shown old new fits keeps.query (keeps.fits shown fits.here) waits old.row;
+pub level_keeps : (a : Asked) (shown : Shown) (old : Level) (new : Shape) → LevelFits a shown old → Keeps old.here new → ((shown : Shown) → RetrievalFits old.here shown → effort new shown ≤ effort old.here shown) → (Awaiting old.here → Awaiting new) → (Tells old.here → Tells new) → LevelStays a shown old (record old { here = new })
+level_keeps a shown old new fits keeps less waits tells = record {
+  fits = stays_fits a shown old new fits keeps.query (keeps.fits shown fits.here) waits tells old.row;
   outer = refl;
   row = refl;
   left = keeps.rest shown fits.here;

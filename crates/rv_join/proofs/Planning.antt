@@ -85,6 +85,9 @@ gathered_more a shown o old new had has takes is = rw is (record {
 pub moving_more : (a : Asked) (shown : Shown) (old new : Stacked) (had : List Offer) → Kept a shown old new × (loops_work a shown new < loops_work a shown old) → GathersMore a shown old had new had
 moving_more a shown old new had kept = record { fits = kept.0.fits; bag = IsPermutation-append_right had (bag a shown old) (bag a shown new) kept.0.bag; work = kept.1 }
 
+pub moving_is : (a : Asked) (shown : Shown) (old new : Stacked) (had has : List Offer) → Kept a shown old new × (loops_work a shown new < loops_work a shown old) → has ≡ had → GathersMore a shown old had new has
+moving_is a shown old new had has kept is = rw is (moving_more a shown old new had kept)
+
 pub gather_good : (shown : Shown) (old new : Planned) → HoldsGood shown old → old.stage ≡ Gathering → StackFits old.asked shown new.stack → new ≡ record old { stack = new.stack; gathered = new.gathered } → HoldsGood shown new
 gather_good shown old new holds stage fits same = rw same (record {
   can = holds.can;

@@ -69,7 +69,7 @@ opens a shown old new inner fits some descends is =
     rw is (
       record {
         fits = record {
-          above = fit_more a shown 0 old.above _ fits.above (omega (arith, deep)) (record { inside = fits.at.inside; here = fits.at.here; asks = fits.at.asks; wide = fits.at.wide; awaiting = fits.at.awaiting });
+          above = fit_more a shown 0 old.above _ fits.above (omega (arith, deep)) (record { inside = fits.at.inside; here = fits.at.here; asks = fits.at.asks; wide = fits.at.wide; awaiting = fits.at.awaiting; tells = fits.at.tells });
           at = descends.fits;
           deep = grind (arith, common_steps, deep, deeper);
         };
@@ -107,7 +107,7 @@ delivers a shown old new o fits some last is used_is = elim old.at.row as (λ x.
         let goes : IsPermutation (bag a shown old) (o ∷ (flat_map (still a shown) old.above ++ still a shown (record old.at { row = None }))) = subst (λ l. IsPermutation (bag a shown old) (l ++ (flat_map (still a shown) old.above ++ still a shown (record old.at { row = None })))) one (bag_used a shown old.above old.at row e) in
         let held : IsPermutation (given a shown old) (o ∷ given_in a shown old.above (record old.at { row = None })) = subst (λ l. IsPermutation (given a shown old) (l ++ given_in a shown old.above (record old.at { row = None }))) one (given_used a shown old.above old.at row e) in
         rw used_is (record {
-          fits = record { above = fits.above; at = record { inside = fits.at.inside; here = fits.at.here; asks = fits.at.asks; wide = fits.at.wide; awaiting = fits.at.awaiting }; deep = fits.deep };
+          fits = record { above = fits.above; at = record { inside = fits.at.inside; here = fits.at.here; asks = fits.at.asks; wide = fits.at.wide; awaiting = fits.at.awaiting; tells = fits.at.tells }; deep = fits.deep };
           work = given_work a shown old.above old.at row e;
           bag = goes;
           led = λ by led. lead_less (given a shown old) (bag a shown old) (o ∷ []) _ (o ∷ []) _ held goes led;

@@ -25,6 +25,7 @@ use Rattle.rv_retrieval.specs.declared.query.Goal2.TheVariants.{FastFirst as Soo
 use Rattle.rv_judge.specs.Account.{life_bound}
 use Rattle.rv_retrieval.specs.Asked.{begins_any}
 use Rattle.rv_retrieval.specs.Effort.{Awaiting, cuts_and_entries, effort}
+use Rattle.rv_retrieval.specs.Runs.{Tells}
 use Rattle.rv_retrieval.specs.Shape.{Shape, RetrievalFits, rest}
 use Rattle.rv_join.specs.declared.places.Item.{Item}
 use Rattle.rv_join.specs.declared.places.Asked.{Asked}
@@ -212,5 +213,6 @@ pub record OpensItem (a : Asked) (shown : Shown) (outer : List (List Value)) (v 
   pub fits : RetrievalFits v shown
   pub asks : Asks a outer v.query
   pub awaiting : Awaiting v
+  pub tells : Tells v
   pub life : effort v shown ≤ item_life shown a.snap (item_at a (length outer))
   pub rest_is : rest v shown ≡ filter (λ (r : Record). holds a.only (length outer) (outer ++ r.values ∷ [])) (rows_at a shown (length outer))

@@ -1,5 +1,5 @@
 -- A whole plan: its offers as they are found, or gathered and sorted.
-use Rattle.std.specs.Prelude.{◌≡◌, ℕ, ◌-◌, ◌<◌, ◌≤◌, Bool, true, false, List, [], ◌∷◌, ◌++◌, length, Option, Some, None, if◌then◌else◌, ◌==◌, ◌||◌}
+use Rattle.std.specs.Prelude.{◌≡◌, ℕ, ◌-◌, ◌<◌, ◌≤◌, Bool, true, false, List, [], ◌∷◌, ◌++◌, length, Option, Some, None, if◌then◌else◌, ◌==◌, ◌||◌, map}
 use Rattle.std.specs.List.Sorted.{IsPermutation, IsSortedBy}
 use Rattle.rv_judge.specs.declared.counting.Counts.{Counts}
 use Rattle.rv_judge.specs.declared.events.Trace.{Trace}
@@ -72,6 +72,10 @@ reads_with reads before after = record { pages = raised reads.pages (after.pages
 -- the events of the first FROM item's retrieval, with the counts of all retrievals of the plan
 abbrev pub plan_trace : Planned → Trace
 plan_trace p = record (first_of p.stack).here.trace { pages = p.reads.pages; leaves = p.reads.leaves; fetches = p.reads.records }
+
+-- the numbers of indexes
+abbrev pub numbers_of : List (ℕ × List ℕ) → List ℕ
+numbers_of indexes = map (λ (i : ℕ × List ℕ). i.0) indexes
 
 -- What it holds was drawn from what a reader shows, and the reader can be read as it will be. Where offers are given as
 -- they are found, they come by the order of the first item's rows.
