@@ -1,5 +1,5 @@
 -- What a plan has read, and over one FROM item what its one retrieval has read.
-use Rattle.std.proofs.Common.{◌≡◌, ℕ, ◌+◌, ◌<◌, List, [], ◌∷◌, length, false, nat_eq, None, refl, ap, ◌∙◌, arith, subst, inl, inr}
+use Rattle.std.proofs.Common.{◌≡◌, ℕ, ◌+◌, ◌<◌, List, [], ◌∷◌, length, false, nat_eq, None, refl, ap, sym, ◌∙◌, arith, subst, inl, inr}
 use Rattle.std.proofs.lemmas.Bool.Decides.{nat_tests}
 use Rattle.rv_judge.specs.declared.counting.Counts.{Counts}
 use Rattle.rv_judge.specs.declared.events.Trace.{Trace}
@@ -78,3 +78,19 @@ alone_trace shown p fits one =
     let none = alone_above p.asked shown p.stack fits.holds.stack one in
     let are = fits.counted one in
     rw (are.pages, are.leaves, are.fetches, none) refl
+
+-- over one FROM item the innermost level is the first
+pub alone_rises : (a : Asked) (shown : Shown) (old mid : Stacked) (before after : Counts) → StackFits a shown old → mid ≡ record old { at = mid.at } → Rises old.at.here mid.at.here before after → length a.items ≡ 1 → Rises (first_of old).here (first_of mid).here before after
+alone_rises a shown old mid before after fits same rise one =
+    let none = alone_above a shown old fits one in
+    let above : mid.above ≡ old.above = ap (λ (v : Stacked). v.above) same in
+    subst (λ (ls : List Level). Rises (first_of old).here (first_in ls mid.at).here before after) (sym above) (subst (λ (ls : List Level). Rises (first_in ls old.at).here (first_in ls mid.at).here before after) (sym none) rise)
+
+pub alone_ends : (a : Asked) (shown : Shown) (old mid new : Stacked) (before after : Counts) → StackFits a shown old → mid ≡ record old { at = mid.at } → Rises old.at.here mid.at.here before after → (mid.above ≡ [] → new ≡ mid) → length a.items ≡ 1 → Rises (first_of old).here (first_of new).here before after
+alone_ends a shown old mid new before after fits same rise ends one =
+    let above : mid.above ≡ old.above = ap (λ (v : Stacked). v.above) same in
+    subst (λ (v : Stacked). Rises (first_of old).here (first_of v).here before after) (sym (ends (above ∙ alone_above a shown old fits one))) (alone_rises a shown old mid before after fits same rise one)
+
+pub alone_uses : (a : Asked) (shown : Shown) (old mid new : Stacked) (before after end : Counts) → StackFits a shown old → mid ≡ record old { at = mid.at } → Rises old.at.here mid.at.here before after → (length a.items ≡ 1 → ((first_of new).here ≡ (first_of mid).here) × (end ≡ after)) → length a.items ≡ 1 → Rises (first_of old).here (first_of new).here before end
+alone_uses a shown old mid new before after end fits same rise uses one =
+    subst (λ (v : Shape). Rises (first_of old).here v before end) (sym (uses one).0) (subst (Rises (first_of old).here (first_of mid).here before) (sym (uses one).1) (alone_rises a shown old mid before after fits same rise one))

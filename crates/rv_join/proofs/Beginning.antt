@@ -1,5 +1,5 @@
 -- A plan that was just opened.
-use Rattle.std.proofs.Common.{◌≡◌, ℕ, List, [], length, Bool, true, false, None, refl, arith, ◌==◌, ◌||◌, if◌then◌else◌}
+use Rattle.std.proofs.Common.{◌≡◌, ℕ, ◌+◌, ◌<◌, ◌≤◌, List, [], length, Bool, true, false, None, refl, arith, ◌==◌, ◌||◌, if◌then◌else◌}
 use Rattle.rv_judge.specs.declared.counting.Counts.{Counts}
 use Rattle.rv_catalog.specs.declared.def.Select.{Select}
 use Rattle.rv_catalog.specs.declared.def.IndexDef.{IndexDef}
@@ -11,10 +11,12 @@ use Rattle.rv_join.specs.declared.gather.Stage.{Stage}
 use Rattle.rv_join.specs.declared.gather.Stage.TheVariants.{AsFound, Gathering, Giving}
 use Rattle.rv_join.specs.Asking.{AreWide, CanPlan, CanRun, IsAsked, OpensItem, by_index}
 use Rattle.rv_join.specs.Levels.{Stacked, bag}
+use Rattle.rv_join.specs.Work.{level_work, row_cost}
 use Rattle.rv_join.specs.Moves.{Starts}
 use Rattle.rv_join.specs.Order.{Lead}
 use Rattle.rv_join.specs.Plans.{HoldsGood, Planned, plan_rest, rest_at, stage_of}
 use Rattle.rv_join.proofs.Opening.{opened_fits, opened_is}
+use Rattle.rv_join.proofs.Working.{fresh_work}
 use Rattle.rv_join.proofs.Running.{by_first, can_run}
 
 lead_none : (others : List Offer) → Lead [] others
@@ -23,11 +25,15 @@ lead_none others d e c i = let inside = c.1 in absurd (omega (arith, inside))
 wide_none : (a : Asked) → AreWide a []
 wide_none a c le u = absurd (omega (arith, le))
 
+first_le : (n m : ℕ) → n < m → 0 + n ≤ m
+first_le n m h = omega (arith, h)
+
 -- the retrieval of the first item alone
 pub starts : (a : Asked) (shown : Shown) (v : Shape) (n : ℕ) → CanRun a shown → OpensItem a shown [] v → Starts a shown (record { above = []; at = record { outer = []; row = None; here = v }; openings = n })
 starts a shown v n can opens = let some = can.some in record {
   fits = record { above = record {}; at = opened_fits a shown [] v (omega (arith, some)) (wide_none a) opens; deep = refl };
   top = refl;
+  work = first_le (level_work a shown (record { outer = []; row = None; here = v })) (row_cost shown a.snap a.items) (fresh_work a shown [] v (omega (arith, some)) opens);
   bag = opened_is a shown [] v (omega (arith, some)) opens;
   led = λ by. lead_none _;
 }

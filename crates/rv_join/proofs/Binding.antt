@@ -15,8 +15,11 @@ use Rattle.rv_reader.specs.Shown.{Shown}
 use Rattle.rv_scan.specs.Told.{width}
 use Rattle.rv_retrieval.specs.declared.query.Query.{Query}
 use Rattle.rv_retrieval.specs.Asked.{CanAsk, IsIndexOf}
+use Rattle.rv_judge.specs.Account.{life_bound}
+use Rattle.rv_retrieval.specs.Effort.{Awaiting, cuts_and_entries, effort, life_of}
 use Rattle.rv_retrieval.specs.Opened.{Opened}
 use Rattle.rv_retrieval.specs.Rest.{qualifying}
+use Rattle.rv_retrieval.specs.Runs.{Tells}
 use Rattle.rv_retrieval.specs.Shape.{RetrievalFits, Shape, rest}
 use Rattle.rv_join.specs.declared.places.Asked.{Asked}
 use Rattle.rv_join.specs.Asking.{AreWide, Asks, CanRun, IsIndexAt, OpensItem, asked_uses, col_at, have_column, item_at, only_names, rows_at, same_column}
@@ -87,10 +90,13 @@ filter_same p q same (x ∷ xs) =
     rw here (elim (q x) as (λ b. cond b (x ∷ filter p xs) (filter p xs) ≡ cond b (x ∷ filter q xs) (filter q xs)) [ true ↦ ap (λ l. x ∷ l) tail | false ↦ tail ])
 
 -- what was opened for it has the rows of which the groups of the place are True
-pub opens_if : {E : Type 0} (r : Result Shape E) (a : Asked) (shown : Shown) (outer : List (List Value)) (query : Query) (cursor opening : ℕ) → Asks a outer query → IfOk r (Opened query shown cursor opening) → IfOk r (λ v. RetrievalFits v shown) → IfOk r (λ v. rest v shown ≡ qualifying query.only (shown.rows query.table query.snap)) → IfOk r (OpensItem a shown outer)
-opens_if (Err e) a shown outer query cursor opening asks opened fits left = tt
-opens_if (Ok v) a shown outer query cursor opening asks opened fits left = record {
+pub opens_if : {E : Type 0} (r : Result Shape E) (a : Asked) (shown : Shown) (outer : List (List Value)) (query : Query) (cursor opening : ℕ) → Asks a outer query → IfOk r (Opened query shown cursor opening) → IfOk r (λ v. RetrievalFits v shown) → IfOk r (λ v. rest v shown ≡ qualifying query.only (shown.rows query.table query.snap)) → IfOk r (λ v. effort v shown ≤ life_of query shown) → IfOk r Awaiting → IfOk r Tells → IfOk r (OpensItem a shown outer)
+opens_if (Err e) a shown outer query cursor opening asks opened fits left life waits tells = tt
+opens_if (Ok v) a shown outer query cursor opening asks opened fits left life waits tells = record {
   fits = fits;
+  awaiting = waits;
+  tells = tells;
+  life = subst (λ n. effort v shown ≤ n) (ap (λ t. life_bound (shown.pages t query.snap) (cuts_and_entries query.indexes shown query.snap)) asks.item.table ∙ ap (λ n. life_bound (shown.pages (item_at a (length outer)).table n) (cuts_and_entries query.indexes shown n)) asks.item.snap ∙ ap (λ l. life_bound (shown.pages (item_at a (length outer)).table a.snap) (cuts_and_entries l shown a.snap)) asks.item.over) life;
   asks = subst (Asks a outer) (sym opened.made.asked) asks;
   rest_is = left ∙ ap (qualifying query.only) (ap (λ t. shown.rows t query.snap) asks.item.table ∙ ap (λ n. shown.rows (item_at a (length outer)).table n) asks.item.snap) ∙ filter_same _ _ (λ (x : Record). asks.binds x.values) (rows_at a shown (length outer));
 }

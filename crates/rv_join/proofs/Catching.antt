@@ -1,5 +1,5 @@
 -- A row that the first level catches leads: what is over it is least of all that is left.
-use Rattle.std.proofs.Common.{◌≡◌, ℕ, List, [], ◌∷◌, ◌++◌, length, map, Bool, true, false, not, Some, None, refl, ap, sym, ◌∙◌, arith, subst, slice_index_or, is_lt, inl, inr, Ordering, Less, Equal, Greater}
+use Rattle.std.proofs.Common.{◌≡◌, ℕ, ◌<◌, List, [], ◌∷◌, ◌++◌, length, map, Bool, true, false, not, Some, None, refl, ap, sym, ◌∙◌, arith, subst, slice_index_or, is_lt, inl, inr, Ordering, Less, Equal, Greater}
 use Rattle.std.specs.List.{Contains, flat_map, list_all}
 use Rattle.std.specs.List.Sorted.{IsPermutation}
 use Rattle.std.specs.Ordering.{ordering_reverse}
@@ -14,14 +14,19 @@ use Rattle.rv_restrict.proofs.Tests.{and_left, and_right}
 use Rattle.rv_model.specs.declared.state.Offer.{Offer}
 use Rattle.rv_reader.specs.Entries.{column_of}
 use Rattle.rv_reader.specs.Shown.{Shown}
+use Rattle.rv_judge.specs.declared.counting.Counts.{Counts}
+use Rattle.rv_retrieval.specs.Effort.{Awaiting, Tries, effort}
 use Rattle.rv_retrieval.specs.Rest.{IsLeast, TakesOut, order_of}
+use Rattle.rv_retrieval.specs.Runs.{Tells}
 use Rattle.rv_retrieval.specs.Shape.{RetrievalFits, Shape, rest}
 use Rattle.rv_join.specs.declared.places.Asked.{Asked}
 use Rattle.rv_join.specs.declared.level.Level.{Level}
 use Rattle.rv_join.specs.Asking.{CanRun, col_at, item_at}
 use Rattle.rv_join.specs.Levels.{LevelFits, below, offered, over_held, over_row, still, under}
+use Rattle.rv_join.specs.Work.{level_work}
 use Rattle.rv_join.specs.Moves.{LevelMoves, LevelStays}
 use Rattle.rv_join.specs.Order.{IsByFirst, Lead, before}
+use Rattle.rv_join.proofs.Working.{found_work, works_less}
 use Rattle.rv_join.proofs.Opening.{found_bag, level_same, level_stays, stays_fits, stays_held, stays_still}
 
 none_in : {A : Type 0} (x : A) → Contains [] x → ⊥
@@ -99,12 +104,13 @@ found_led a shown old new r can fits out least first by d e c i = elim (Contains
     behind x m = subst (λ (o : List ℕ). is_lt (values_cmp (order_of o x) (order_of o r)) ≡ false) order_is (least_in old.here.query.order r (rest old.here shown) x least (rw out.before (stayed out.front out.behind out.taken x (rw out.after at m))))
 
 -- a row that is found is held
-pub found_moves : (a : Asked) (shown : Shown) (old : Level) (new : Shape) (r : Record) → CanRun a shown → LevelFits a shown old → old.row ≡ None → new.query ≡ old.here.query → RetrievalFits new shown → TakesOut old.here.query.need r (rest old.here shown) (rest new shown) × IsLeast old.here.query.order r (rest old.here shown) → LevelMoves a shown old (record { outer = old.outer; row = Some r.values; here = new })
-found_moves a shown old new r can fits none query here found = record {
-  fits = stays_fits a shown old new fits query here (Some r.values);
+pub found_moves : (a : Asked) (shown : Shown) (old : Level) (new : Shape) (r : Record) (before after : Counts) → CanRun a shown → LevelFits a shown old → old.row ≡ None → new.query ≡ old.here.query → RetrievalFits new shown → Tries before after (effort old.here shown) (effort new shown) → (Awaiting old.here → Awaiting new) → (Tells old.here → Tells new) → TakesOut old.here.query.need r (rest old.here shown) (rest new shown) × IsLeast old.here.query.order r (rest old.here shown) → LevelMoves a shown old (record { outer = old.outer; row = Some r.values; here = new })
+found_moves a shown old new r before after can fits none query here tries waits tells found = record {
+  fits = stays_fits a shown old new fits query here waits tells (Some r.values);
   outer = refl;
   bag = rw none (found_bag a shown old new r can fits found.0);
   led = λ first by led. found_led a shown old new r can fits found.0 found.1 first by;
+  work = found_work a shown old new r none tries.less found.0;
 }
 
 -- a level that owes what it owed
@@ -114,11 +120,16 @@ stays_moves a shown old new stays = record {
   outer = stays.outer;
   bag = subst (λ l. IsPermutation (still a shown old) l) (sym (stays_still a shown old new stays)) (IsPermutation-refl _);
   led = λ first by led. subst (λ l. Lead l (still a shown new)) (sym (stays_held a shown old new stays)) (subst (λ l. Lead (over_held a shown old old.row) l) (sym (stays_still a shown old new stays)) led);
+  work = stays.work;
 }
 
 pub same_moves : (a : Asked) (shown : Shown) (l : Level) → LevelFits a shown l → LevelMoves a shown l l
 same_moves a shown l fits = stays_moves a shown l l (level_same a shown l fits)
 
 -- the end of a retrieval
-pub ended_moves : (a : Asked) (shown : Shown) (old : Level) (new : Shape) → LevelFits a shown old → old.row ≡ None → new.query ≡ old.here.query → RetrievalFits new shown → (rest old.here shown ≡ []) × (rest new shown ≡ []) → LevelMoves a shown old (record old { here = new }) × (still a shown (record old { here = new }) ≡ [])
-ended_moves a shown old new fits none query here ended = (stays_moves a shown old (record old { here = new }) (level_stays a shown old new fits query here (ended.1 ∙ sym ended.0)), rw (none, ended.1) refl)
+pub ended_moves : (a : Asked) (shown : Shown) (old : Level) (new : Shape) (before after : Counts) → LevelFits a shown old → old.row ≡ None → new.query ≡ old.here.query → RetrievalFits new shown → Tries before after (effort old.here shown) (effort new shown) → (Awaiting old.here → Awaiting new) → (Tells old.here → Tells new) → (rest old.here shown ≡ []) × (rest new shown ≡ []) → LevelMoves a shown old (record old { here = new }) × (still a shown (record old { here = new }) ≡ [])
+ended_moves a shown old new before after fits none query here tries waits tells ended = (stays_moves a shown old (record old { here = new }) (level_stays a shown old new before after fits query here tries waits tells (ended.1 ∙ sym ended.0)), rw (none, ended.1) refl)
+
+-- a step without a row lowers the work
+pub worked_moves : (a : Asked) (shown : Shown) (old : Level) (new : Shape) (before after : Counts) → LevelFits a shown old → new.query ≡ old.here.query → RetrievalFits new shown → Tries before after (effort old.here shown) (effort new shown) → (Awaiting old.here → Awaiting new) → (Tells old.here → Tells new) → rest new shown ≡ rest old.here shown → effort new shown < effort old.here shown → LevelMoves a shown old (record old { here = new }) × (level_work a shown (record old { here = new }) < level_work a shown old)
+worked_moves a shown old new before after fits query here tries waits tells same less = (stays_moves a shown old (record old { here = new }) (level_stays a shown old new before after fits query here tries waits tells same), works_less a shown old new less same)

@@ -1,18 +1,26 @@
 -- What a plan keeps at each call: what its levels keep, and over one FROM item the counts.
-use Rattle.std.proofs.Common.{◌≡◌, ℕ, ◌+◌, List, [], ◌∷◌, length, Result, Ok, Err, IfOk, OnErr, refl, ap, sym, ◌∙◌, subst, inl, zero, suc, slice_index_or}
+use Rattle.std.proofs.Common.{◌≡◌, ℕ, ◌+◌, ◌≤◌, List, [], ◌∷◌, length, Result, Ok, Err, IfOk, OnErr, refl, ap, sym, ◌∙◌, subst, inl, zero, suc, slice_index_or}
 use Rattle.rv_judge.specs.declared.counting.Counts.{Counts}
 use Rattle.rv_judge.specs.declared.events.Trace.{Trace}
 use Rattle.rv_reader.specs.Shown.{Shown}
+use Rattle.rv_judge.specs.Runs.{Allowed}
+use Rattle.rv_retrieval.specs.Runs.{Tells, indexes_asked}
 use Rattle.rv_retrieval.specs.Shape.{RetrievalFits}
+use Rattle.rv_retrieval.proofs.Tellings.{allowed}
 use Rattle.rv_retrieval.specs.Telling.{CountsRise, SameCounts}
 use Rattle.rv_join.specs.declared.places.Asked.{Asked}
 use Rattle.rv_join.specs.declared.level.Level.{Level}
 use Rattle.rv_join.specs.declared.plan.PlanStep.{PlanStep}
-use Rattle.rv_join.specs.Levels.{AllFit, LevelFits, Stacked, StackFits, first_of}
+use Rattle.rv_join.specs.Asking.{item_at}
+use Rattle.rv_join.specs.Levels.{AllFit, LevelFits, Stacked, StackFits, first_in, first_of}
 use Rattle.rv_join.specs.Moves.{StackStays}
 use Rattle.rv_join.specs.Pieces.{level_at}
-use Rattle.rv_join.specs.Plans.{AreReads, HoldsGood, PlanFits, PlanKept, PlanMoves, Planned, RisesAlone}
+use Rattle.rv_join.specs.Plans.{AreReads, HoldsGood, PlanFits, PlanKept, PlanMoves, PlanStays, Planned, RisesAlone, numbers_of, plan_trace, plan_work, rest_at, work_at}
+use Rattle.rv_join.specs.Work.{loops_work}
+use Rattle.rv_join.specs.declared.gather.Stage.{Stage}
+use Rattle.rv_join.specs.declared.gather.Stage.TheVariants.{AsFound, Gathering, Giving}
 use Rattle.rv_join.proofs.Accounting.{alone_above}
+use Rattle.rv_join.proofs.Working.{none_le, same_le}
 
 -- The retrieval of a place.
 
@@ -26,6 +34,19 @@ level_fits a shown v i fits = (at_fits a shown 0 v.above i v.at fits.above fits.
 
 alone_level : (v : Stacked) (i : ℕ) → v.above ≡ [] → level_at v i ≡ first_of v
 alone_level v i none = rw none refl
+
+first_fits : (a : Asked) (shown : Shown) (above : List Level) (at : Level) → AllFit a shown 0 above → LevelFits a shown at → length at.outer ≡ length above → (length (first_in above at).outer ≡ 0) × LevelFits a shown (first_in above at)
+first_fits a shown [] at all fits deep = (deep, fits)
+first_fits a shown (l ∷ ls) at all fits deep = (all.0, all.1)
+
+-- the trace is one of a run over indexes of the first FROM item's table
+pub told_allowed : (shown : Shown) (p : Planned) → PlanFits shown p → Allowed (plan_trace p) (numbers_of (item_at p.asked 0).indexes)
+told_allowed shown p fits =
+    let stack = fits.holds.stack in
+    let first = first_fits p.asked shown p.stack.above p.stack.at stack.above stack.at stack.deep in
+    let run = allowed (first_of p.stack).here first.1.tells in
+    let over : indexes_asked (first_of p.stack).here.query ≡ numbers_of (item_at p.asked 0).indexes = ap numbers_of (first.1.asks.item.over ∙ ap (λ (n : ℕ). (item_at p.asked n).indexes) first.0) in
+    subst (Allowed (plan_trace p)) over (record { planned = run.planned; known = run.known; once = run.once; scanned = run.scanned; turns = run.turns; run = run.run; told = run.told })
 
 -- A call that leaves the rest.
 
@@ -61,6 +82,30 @@ taken_rises shown old new i before after holds stays rise one =
     let last = alone_level new.stack i (alone_above old.asked shown new.stack stays.fits one) in
     inl (subst (λ (l : Level). CountsRise (first_of old.stack).here.trace l.here.trace before after) last (subst (λ (l : Level). CountsRise l.here.trace (level_at new.stack i).here.trace before after) first rise))
 
+less_at : (s : Stage) (n m : ℕ) → n ≤ m → work_at s n ≤ work_at s m
+less_at AsFound n m h = h
+less_at Gathering n m h = h
+less_at Giving n m h = same_le 0
+
+pub stays_still : (shown : Shown) (old new : Planned) → StackStays old.asked shown old.stack new.stack → new ≡ record old { stack = new.stack } → PlanStays shown old new
+stays_still shown old new stays same = rw same (record {
+  asked = refl;
+  rest_same = ap (rest_at old.stage old.gathered) stays.bag;
+  work = less_at old.stage (loops_work old.asked shown new.stack) (loops_work old.asked shown old.stack) stays.work;
+})
+
+pub stays_counted : (shown : Shown) (old mid new : Planned) (reads : Counts) → PlanStays shown old mid → new ≡ record mid { reads = reads } → PlanStays shown old new
+stays_counted shown old mid new reads stays same = rw same (record { asked = stays.asked; rest_same = stays.rest_same; work = stays.work })
+
+-- the work at opening
+pub begins_work : (shown : Shown) (p : Planned) (k : ℕ) → loops_work p.asked shown p.stack ≤ k → plan_work shown p ≤ k
+begins_work shown p k h = by_stage p.stage
+  where
+    by_stage : (s : Stage) → work_at s (loops_work p.asked shown p.stack) ≤ k
+    by_stage AsFound = h
+    by_stage Gathering = h
+    by_stage Giving = none_le k
+
 -- A step, whose reads are counted behind it.
 
 pub asked_same : {E : Type 0} (shown : Shown) (r : Result PlanStep E) (old new : Planned) → IfOk r (λ m. PlanMoves shown m old new) → OnErr r (PlanKept shown old new) → new.asked ≡ old.asked
@@ -68,7 +113,7 @@ asked_same shown (Ok m) old new moves kept = moves.asked
 asked_same shown (Err e) old new moves kept = kept.asked
 
 counted_one : (shown : Shown) (m : PlanStep) (old mid new : Planned) (reads : Counts) → PlanMoves shown m old mid → new ≡ record mid { reads = reads } → PlanMoves shown m old new
-counted_one shown m old mid new reads moves same = rw same (record { asked = moves.asked; step = moves.step })
+counted_one shown m old mid new reads moves same = rw same (record { asked = moves.asked; step = moves.step; work = moves.work })
 
 pub counted_moves : {E : Type 0} (shown : Shown) (r : Result PlanStep E) (old mid new : Planned) (reads : Counts) → IfOk r (λ m. PlanMoves shown m old mid) → new ≡ record mid { reads = reads } → IfOk r (λ m. PlanMoves shown m old new)
 counted_moves shown (Ok m) old mid new reads moves same = counted_one shown m old mid new reads moves same
@@ -76,4 +121,4 @@ counted_moves shown (Err e) old mid new reads moves same = tt
 
 pub counted_kept : {X E : Type 0} (shown : Shown) (r : Result X E) (old mid new : Planned) (reads : Counts) → OnErr r (PlanKept shown old mid) → new ≡ record mid { reads = reads } → OnErr r (PlanKept shown old new)
 counted_kept shown (Ok m) old mid new reads kept same = tt
-counted_kept shown (Err e) old mid new reads kept same = rw same (record { asked = kept.asked; rest_kept = kept.rest_kept })
+counted_kept shown (Err e) old mid new reads kept same = rw same (record { asked = kept.asked; rest_kept = kept.rest_kept; work = kept.work })

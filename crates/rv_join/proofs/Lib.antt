@@ -1,5 +1,6 @@
 pub mod Naming
 pub mod Same
+pub mod Working
 pub mod Opening
 pub mod Leading
 pub mod Stacking

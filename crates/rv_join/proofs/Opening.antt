@@ -1,5 +1,5 @@
 -- Levels: a row that is found, a retrieval that is opened, a call that keeps the rest.
-use Rattle.std.proofs.Common.{◌≡◌, ℕ, ◌+◌, ◌<◌, List, [], ◌∷◌, ◌++◌, length, map, drop, Option, Some, None, refl, ap, sym, ◌∙◌, arith, subst, slice_index_or, zero, suc}
+use Rattle.std.proofs.Common.{◌≡◌, ℕ, ◌+◌, ◌<◌, ◌≤◌, List, [], ◌∷◌, ◌++◌, length, map, drop, Option, Some, None, refl, ap, sym, ◌∙◌, arith, subst, slice_index_or, zero, suc}
 use Rattle.std.specs.List.{flat_map}
 use Rattle.std.specs.List.Sorted.{IsPermutation}
 use Rattle.std.proofs.lemmas.List.Sorted.{IsPermutation-append_comm, IsPermutation-append_left}
@@ -8,14 +8,19 @@ use Rattle.std.proofs.lemmas.Grind.{common_steps}
 use Rattle.rv_value.specs.declared.value.Value.{Value}
 use Rattle.rv_value.specs.declared.record.Record.{Record}
 use Rattle.rv_reader.specs.Shown.{Shown}
+use Rattle.rv_judge.specs.declared.counting.Counts.{Counts}
+use Rattle.rv_retrieval.specs.Effort.{Awaiting, Tries, effort}
 use Rattle.rv_retrieval.specs.Rest.{AgreesIn, TakesOut}
+use Rattle.rv_retrieval.specs.Runs.{Tells}
 use Rattle.rv_retrieval.specs.Shape.{Keeps, RetrievalFits, Shape, rest}
 use Rattle.rv_join.specs.declared.places.Asked.{Asked}
 use Rattle.rv_join.specs.declared.places.Item.{Item}
 use Rattle.rv_join.specs.declared.level.Level.{Level}
 use Rattle.rv_join.specs.Asking.{AreWide, Asks, CanRun, OpensItem, no_item, rows_at}
 use Rattle.rv_join.specs.Levels.{LevelFits, below, over_held, over_rest, over_row, still, tables_of, under, widened}
+use Rattle.rv_join.specs.Work.{level_work, row_cost}
 use Rattle.rv_join.specs.Moves.{Descends, LevelStays}
+use Rattle.rv_join.proofs.Working.{fresh_work, same_le, stays_work}
 use Rattle.rv_join.proofs.Same.{alike_last, alike_wide, flat_filter_same, under_same}
 
 pub assoc : {B : Type 0} (a b c : List B) → (a ++ b) ++ c ≡ a ++ (b ++ c)
@@ -41,20 +46,23 @@ told_same a shown l r taken can fits agrees = under_same a shown (below a l) _ _
 pub found_bag : (a : Asked) (shown : Shown) (old : Level) (new : Shape) (r : Record) → CanRun a shown → LevelFits a shown old → TakesOut old.here.query.need r (rest old.here shown) (rest new shown) → IsPermutation (over_rest a shown old) (over_row a shown old r.values ++ flat_map (λ (x : Record). over_row a shown old x.values) (rest new shown))
 found_bag a shown old new r can fits out = rw (out.before, out.after, told_same a shown old r out.taken can fits out.agrees) (flat_out (λ (x : Record). over_row a shown old x.values) out.front out.taken out.behind)
 
-pub stays_fits : (a : Asked) (shown : Shown) (old : Level) (new : Shape) → LevelFits a shown old → new.query ≡ old.here.query → RetrievalFits new shown → (row : Option (List Value)) → LevelFits a shown (record { outer = old.outer; row = row; here = new })
-stays_fits a shown old new fits query here row = record {
+pub stays_fits : (a : Asked) (shown : Shown) (old : Level) (new : Shape) → LevelFits a shown old → new.query ≡ old.here.query → RetrievalFits new shown → (Awaiting old.here → Awaiting new) → (Tells old.here → Tells new) → (row : Option (List Value)) → LevelFits a shown (record { outer = old.outer; row = row; here = new })
+stays_fits a shown old new fits query here waits tells row = record {
   inside = fits.inside;
   here = here;
   asks = subst (λ q. Asks a old.outer q) (sym query) fits.asks;
   wide = fits.wide;
+  awaiting = waits fits.awaiting;
+  tells = tells fits.tells;
 }
 
-pub level_stays : (a : Asked) (shown : Shown) (old : Level) (new : Shape) → LevelFits a shown old → new.query ≡ old.here.query → RetrievalFits new shown → rest new shown ≡ rest old.here shown → LevelStays a shown old (record old { here = new })
-level_stays a shown old new fits query here same = record {
-  fits = stays_fits a shown old new fits query here old.row;
+pub level_stays : (a : Asked) (shown : Shown) (old : Level) (new : Shape) (before after : Counts) → LevelFits a shown old → new.query ≡ old.here.query → RetrievalFits new shown → Tries before after (effort old.here shown) (effort new shown) → (Awaiting old.here → Awaiting new) → (Tells old.here → Tells new) → rest new shown ≡ rest old.here shown → LevelStays a shown old (record old { here = new })
+level_stays a shown old new before after fits query here tries waits tells same = record {
+  fits = stays_fits a shown old new fits query here waits tells old.row;
   outer = refl;
   row = refl;
   left = same;
+  work = stays_work a shown old new tries.less same;
 }
 
 -- the tables of the items from a place on
@@ -68,7 +76,7 @@ pub opened_is : (a : Asked) (shown : Shown) (outer : List (List Value)) (v : Sha
 opened_is a shown outer v inside opens = rw (opens.rest_is, tables_at a.items (length outer) inside) (flat_filter_same (rows_at a shown (length outer)) _ _ _ _ (λ r. refl) (λ r. refl))
 
 pub opened_fits : (a : Asked) (shown : Shown) (outer : List (List Value)) (v : Shape) → length outer < length a.items → AreWide a outer → OpensItem a shown outer v → LevelFits a shown (record { outer = outer; row = None; here = v })
-opened_fits a shown outer v inside wide opens = record { inside = inside; here = opens.fits; asks = opens.asks; wide = wide }
+opened_fits a shown outer v inside wide opens = record { inside = inside; here = opens.fits; asks = opens.asks; wide = wide; awaiting = opens.awaiting; tells = opens.tells }
 
 -- an inner retrieval over the row that is held, padded
 pub descends : (a : Asked) (shown : Shown) (old : Level) (row : List Value) (width : ℕ) (outer : List (List Value)) (v : Shape)
@@ -81,6 +89,7 @@ descends a shown old row width outer v held is inside wide opens =
       fits = opened_fits a shown outer v in_it wide opens;
       deeper = long;
       none = refl;
+      work = subst (λ n. level_work a shown (record { outer = outer; row = None; here = v }) < row_cost shown a.snap (drop n a.items)) long (fresh_work a shown outer v in_it opens);
       bag = opened_is a shown outer v in_it opens ∙ rw (held, long, is) (under_same a shown (below a old) _ _ (alike_wide a old.outer width row));
     }
 
@@ -99,8 +108,14 @@ stays_still a shown old new stays = let held = stays_held a shown old new stays 
     over = rw (stays.left, stays.outer) refl
 
 pub level_same : (a : Asked) (shown : Shown) (l : Level) → LevelFits a shown l → LevelStays a shown l l
-level_same a shown l fits = record { fits = fits; outer = refl; row = refl; left = refl }
+level_same a shown l fits = record { fits = fits; outer = refl; row = refl; left = refl; work = same_le (level_work a shown l) }
 
 -- a call that keeps what every reader shows
-pub level_keeps : (a : Asked) (shown : Shown) (old : Level) (new : Shape) → LevelFits a shown old → Keeps old.here new → LevelStays a shown old (record old { here = new })
-level_keeps a shown old new fits keeps = level_stays a shown old new fits keeps.query (keeps.fits shown fits.here) (keeps.rest shown fits.here)
+pub level_keeps : (a : Asked) (shown : Shown) (old : Level) (new : Shape) → LevelFits a shown old → Keeps old.here new → ((shown : Shown) → RetrievalFits old.here shown → effort new shown ≤ effort old.here shown) → (Awaiting old.here → Awaiting new) → (Tells old.here → Tells new) → LevelStays a shown old (record old { here = new })
+level_keeps a shown old new fits keeps less waits tells = record {
+  fits = stays_fits a shown old new fits keeps.query (keeps.fits shown fits.here) waits tells old.row;
+  outer = refl;
+  row = refl;
+  left = keeps.rest shown fits.here;
+  work = stays_work a shown old new (less shown fits.here) (keeps.rest shown fits.here);
+}

@@ -1,5 +1,5 @@
 -- Plans: each step keeps what it keeps, and does to the rest what it answers.
-use Rattle.std.proofs.Common.{◌≡◌, ◌+◌, List, [], ◌∷◌, ◌++◌, true, false, reverse, refl, ap, sym, ◌∙◌, arith, subst, suc, slice_index_or}
+use Rattle.std.proofs.Common.{◌≡◌, ◌+◌, ◌<◌, List, [], ◌∷◌, ◌++◌, true, false, reverse, refl, ap, sym, ◌∙◌, arith, subst, suc, slice_index_or}
 use Rattle.std.specs.Cmp.{IsStrictWeakOrder}
 use Rattle.std.specs.List.Sorted.{IsPermutation, IsSortedBy}
 use Rattle.std.proofs.lemmas.List.Sorted.{IsPermutation-refl, IsPermutation-append, IsPermutation-append_right, IsPermutation-middle, IsPermutation-trans, IsPermutation-sym, IsPermutation-reverse, ranks_by, sorted_far}
@@ -16,9 +16,11 @@ use Rattle.rv_join.specs.declared.stack.Moved.TheVariants.{Gave, Done, Moving}
 use Rattle.rv_join.specs.Levels.{Stacked, StackFits, bag}
 use Rattle.rv_join.specs.Moves.{Kept, Moves, Takes}
 use Rattle.rv_join.specs.Order.{before}
-use Rattle.rv_join.specs.Plans.{GathersAll, GathersMore, Gives, GivesOne, HoldsGood, Planned, PlanKept, PlanMoves, Sorts, StepsTo, plan_rest, step_of}
+use Rattle.rv_join.specs.Plans.{GathersAll, GathersMore, Gives, GivesOne, HoldsGood, Planned, PlanKept, PlanMoves, Sorts, StepsTo, WorkTo, plan_rest, plan_work, step_of}
 use Rattle.rv_join.proofs.Opening.{append_nil}
+use Rattle.rv_join.specs.Work.{loops_work}
 use Rattle.rv_join.proofs.Stacking.{none_before}
+use Rattle.rv_join.proofs.Working.{less_le, none_le, same_le}
 
 pub offers_weak : IsStrictWeakOrder before
 offers_weak = ranks_by values_cmp_total (λ (o : Offer). o.order)
@@ -47,17 +49,17 @@ found_gives shown old new o holds stage takes same = rw same (record {
 })
 
 pub found_kept : (shown : Shown) (old new : Planned) → old.stage ≡ AsFound → Kept old.asked shown old.stack new.stack → new ≡ record old { stack = new.stack } → PlanKept shown old new
-found_kept shown old new stage kept same = rw same (record { asked = refl; rest_kept = rw stage kept.bag })
+found_kept shown old new stage kept same = rw same (record { asked = refl; rest_kept = rw stage kept.bag; work = rw stage kept.work })
 
 pub found_moves : (shown : Shown) (m : Moved) (old new : Planned) → HoldsGood shown old → old.stage ≡ AsFound → Moves old.asked shown m old.stack new.stack → new ≡ record old { stack = new.stack } → PlanMoves shown (step_of m) old new
-found_moves shown (Gave o) old new holds stage moves same = rw same (record { asked = refl; step = rw stage (record { out = moves.bag; least = moves.least (holds.ordered stage) (holds.led stage) }) })
-found_moves shown Done old new holds stage moves same = rw same (record { asked = refl; step = rw stage (moves.1, none_before _ (IsPermutation-sym _ _ (subst (λ l. IsPermutation l (bag old.asked shown new.stack)) moves.1 moves.0.bag))) })
-found_moves shown Moving old new holds stage moves same = rw same (record { asked = refl; step = rw stage moves.bag })
+found_moves shown (Gave o) old new holds stage moves same = rw same (record { asked = refl; step = rw stage (record { out = moves.bag; least = moves.least (holds.ordered stage) (holds.led stage) }); work = rw stage (less_le _ _ moves.work) })
+found_moves shown Done old new holds stage moves same = rw same (record { asked = refl; step = rw stage (moves.1, none_before _ (IsPermutation-sym _ _ (subst (λ l. IsPermutation l (bag old.asked shown new.stack)) moves.1 moves.0.bag))); work = rw stage moves.0.work })
+found_moves shown Moving old new holds stage moves same = rw same (record { asked = refl; step = rw stage moves.0.bag; work = rw stage moves.1 })
 
 pub found_good : (shown : Shown) (m : Moved) (old new : Planned) → HoldsGood shown old → old.stage ≡ AsFound → Moves old.asked shown m old.stack new.stack → new ≡ record old { stack = new.stack } → HoldsGood shown new
 found_good shown (Gave o) old new holds stage moves same = found_gives shown old new o holds stage moves same
 found_good shown Done old new holds stage moves same = found_holds shown old new holds stage moves.0 same
-found_good shown Moving old new holds stage moves same = found_holds shown old new holds stage moves same
+found_good shown Moving old new holds stage moves same = found_holds shown old new holds stage moves.0 same
 
 -- Gathering.
 
@@ -77,10 +79,14 @@ pub gathered_more : (a : Asked) (shown : Shown) (o : Offer) (old new : Stacked) 
 gathered_more a shown o old new had has takes is = rw is (record {
   fits = takes.fits;
   bag = IsPermutation-trans _ _ _ (IsPermutation-append_right had (bag a shown old) (o ∷ bag a shown new) takes.bag) (IsPermutation-middle had o (bag a shown new));
+  work = takes.work;
 })
 
-pub moving_more : (a : Asked) (shown : Shown) (old new : Stacked) (had : List Offer) → Kept a shown old new → GathersMore a shown old had new had
-moving_more a shown old new had kept = record { fits = kept.fits; bag = IsPermutation-append_right had (bag a shown old) (bag a shown new) kept.bag }
+pub moving_more : (a : Asked) (shown : Shown) (old new : Stacked) (had : List Offer) → Kept a shown old new × (loops_work a shown new < loops_work a shown old) → GathersMore a shown old had new had
+moving_more a shown old new had kept = record { fits = kept.0.fits; bag = IsPermutation-append_right had (bag a shown old) (bag a shown new) kept.0.bag; work = kept.1 }
+
+pub moving_is : (a : Asked) (shown : Shown) (old new : Stacked) (had has : List Offer) → Kept a shown old new × (loops_work a shown new < loops_work a shown old) → has ≡ had → GathersMore a shown old had new has
+moving_is a shown old new had has kept is = rw is (moving_more a shown old new had kept)
 
 pub gather_good : (shown : Shown) (old new : Planned) → HoldsGood shown old → old.stage ≡ Gathering → StackFits old.asked shown new.stack → new ≡ record old { stack = new.stack; gathered = new.gathered } → HoldsGood shown new
 gather_good shown old new holds stage fits same = rw same (record {
@@ -98,10 +104,10 @@ gather_good shown old new holds stage fits same = rw same (record {
     no_other h = absurd (cc)
 
 pub gather_moves : (shown : Shown) (old new : Planned) → old.stage ≡ Gathering → GathersMore old.asked shown old.stack old.gathered new.stack new.gathered → new ≡ record old { stack = new.stack; gathered = new.gathered } → PlanMoves shown Working old new
-gather_moves shown old new stage gathers same = rw same (record { asked = refl; step = rw stage gathers.bag })
+gather_moves shown old new stage gathers same = rw same (record { asked = refl; step = rw stage gathers.bag; work = rw stage gathers.work })
 
 pub gather_kept : (shown : Shown) (old new : Planned) → old.stage ≡ Gathering → Kept old.asked shown old.stack new.stack → IsPermutation old.gathered new.gathered → new ≡ record old { stack = new.stack; gathered = new.gathered } → PlanKept shown old new
-gather_kept shown old new stage kept moved same = rw same (record { asked = refl; rest_kept = rw stage (IsPermutation-append old.gathered new.gathered (bag old.asked shown old.stack) (bag old.asked shown new.stack) moved kept.bag) })
+gather_kept shown old new stage kept moved same = rw same (record { asked = refl; rest_kept = rw stage (IsPermutation-append old.gathered new.gathered (bag old.asked shown old.stack) (bag old.asked shown new.stack) moved kept.bag); work = rw stage kept.work })
 
 -- Giving.
 
@@ -116,8 +122,8 @@ pub sorted_tail : (o : Offer) (new : List Offer) → IsSortedBy before (o ∷ ne
 sorted_tail o new up = λ k d low high. let next : suc k + 1 ≡ suc (k + 1) = omega arith in subst (λ n. before (slice_index_or (o ∷ new) n d) (slice_index_or new k d) ≡ false) next (up (suc k) d (omega arith) (omega (arith, high)))
 
 pub given_moves : (shown : Shown) (m : PlanStep) (old new : Planned) → HoldsGood shown old → old.stage ≡ Giving → Gives m old.gathered new.gathered → new ≡ record old { gathered = new.gathered } → PlanMoves shown m old new
-given_moves shown (Row o) old new holds stage gives same = rw same (record { asked = refl; step = rw (stage, gives) (first_least o new.gathered (rw gives at holds.sorted stage)) })
-given_moves shown End old new holds stage gives same = rw same (record { asked = refl; step = rw stage gives })
+given_moves shown (Row o) old new holds stage gives same = rw same (record { asked = refl; step = rw (stage, gives) (first_least o new.gathered (rw gives at holds.sorted stage)); work = rw stage (same_le 0) })
+given_moves shown End old new holds stage gives same = rw same (record { asked = refl; step = rw stage gives; work = rw stage (same_le 0) })
 given_moves shown Working old new holds stage gives same = no_way gives
 
 pub given_good : (shown : Shown) (m : PlanStep) (old new : Planned) → HoldsGood shown old → old.stage ≡ Giving → Gives m old.gathered new.gathered → new ≡ record old { gathered = new.gathered } → HoldsGood shown new
@@ -152,13 +158,21 @@ all_moves shown m old mid sorted new holds stage all gathered sorts gives same =
     let good = sorted_good shown old mid sorted holds stage all gathered sorts in
     let is : sorted.stage ≡ Giving = ap (λ (p : Planned). p.stage) sorts.same in
     let moves = given_moves shown m sorted new good is gives same in
-    record { asked = moves.asked ∙ ap (λ (p : Planned). p.asked) sorts.same ∙ ap (λ (p : Planned). p.asked) gathered; step = stepped m moves.step }
+    record { asked = moves.asked ∙ ap (λ (p : Planned). p.asked) sorts.same ∙ ap (λ (p : Planned). p.asked) gathered; step = stepped m moves.step; work = worked m gives }
   where
     old_is : plan_rest shown old ≡ old.gathered
     old_is = rw (stage, all.none) (append_nil old.gathered)
 
     sorted_is : plan_rest shown sorted ≡ sorted.gathered
     sorted_is = rw sorts.same refl
+
+    none_left : plan_work shown new ≡ 0
+    none_left = rw (same, sorts.same) refl
+
+    worked : (m : PlanStep) → Gives m sorted.gathered new.gathered → WorkTo m (plan_work shown old) (plan_work shown new)
+    worked (Row o) gives = rw none_left (none_le (plan_work shown old))
+    worked End gives = rw none_left (none_le (plan_work shown old))
+    worked Working gives = no_way gives
 
     moved : IsPermutation old.gathered sorted.gathered
     moved = rw (← all.offers) sorts.moved

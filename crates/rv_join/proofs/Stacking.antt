@@ -1,5 +1,5 @@
 -- Each change of the open levels keeps the bag, but for an offer that is given.
-use Rattle.std.proofs.Common.{◌≡◌, ℕ, ◌+◌, List, [], ◌∷◌, ◌++◌, length, map, true, Some, None, IsSome, Result, Ok, Err, IfOk, OnErr, refl, ap, sym, ◌∙◌, arith, subst, suc}
+use Rattle.std.proofs.Common.{◌≡◌, ℕ, ◌+◌, ◌<◌, List, [], ◌∷◌, ◌++◌, length, map, true, Option, Some, None, IsSome, Result, Ok, Err, IfOk, OnErr, refl, ap, sym, ◌∙◌, arith, subst, suc}
 use Rattle.std.specs.List.{flat_map}
 use Rattle.std.specs.List.Sorted.{IsPermutation}
 use Rattle.std.proofs.lemmas.Bool.Decides.{nat_tests}
@@ -17,9 +17,11 @@ use Rattle.rv_join.specs.declared.stack.Moved.{Moved}
 use Rattle.rv_join.specs.declared.stack.Moved.TheVariants.{Gave, Done, Moving}
 use Rattle.rv_join.specs.Levels.{AllFit, LevelFits, StackFits, Stacked, bag, below, down, given, given_in, is_last, offered, over_row, still, tables_of, under, used}
 use Rattle.rv_join.specs.Moves.{Descends, Kept, LevelMoves, Moves, Takes}
+use Rattle.rv_join.specs.Work.{level_work, levels_work, loops_work}
 use Rattle.rv_join.specs.Order.{IsByFirst, Lead}
 use Rattle.rv_join.proofs.Leading.{bag_down, bag_more, bag_used, given_at, given_down, given_up, given_used, lead_less, stands_in}
 use Rattle.rv_join.proofs.Opening.{append_nil}
+use Rattle.rv_join.proofs.Working.{down_work, given_work, le_le, le_less, less_le, same_le, sums_le, sums_less, up_work}
 
 fit_more : (a : Asked) (shown : Shown) (place : ℕ) (ls : List Level) (l : Level) → AllFit a shown place ls → length l.outer ≡ place + length ls → LevelFits a shown l → AllFit a shown place (ls ++ l ∷ [])
 fit_more a shown place [] l all deep fits = (omega (arith, deep), fits, record {})
@@ -52,22 +54,38 @@ kept_at a shown old new fits same moves = rw same (record {
   fits = record { above = fits.above; at = moves.fits; deep = ap length moves.outer ∙ fits.deep };
   bag = IsPermutation-append_right (flat_map (still a shown) old.above) (still a shown old.at) (still a shown new.at) moves.bag;
   led = λ by led. led_at a shown old.above old.at new.at 0 fits.deep moves by led;
+  work = sums_le (levels_work a shown old.above) (levels_work a shown old.above) (level_work a shown new.at) (level_work a shown old.at) (same_le (levels_work a shown old.above)) moves.work;
 })
 
+-- and does some work
+pub kept_less : (a : Asked) (shown : Shown) (old new : Stacked) → StackFits a shown old → new ≡ record old { at = new.at } → LevelMoves a shown old.at new.at → level_work a shown new.at < level_work a shown old.at → Kept a shown old new × (loops_work a shown new < loops_work a shown old)
+kept_less a shown old new fits same moves less = (kept_at a shown old new fits same moves, rw same (sums_less (levels_work a shown old.above) (level_work a shown new.at) (level_work a shown old.at) less))
+
 -- an inner level is opened
-pub opens : (a : Asked) (shown : Shown) (old new : Stacked) (inner : Level) → StackFits a shown old → Descends a shown old.at inner → new ≡ down old inner → Kept a shown old new
-opens a shown old new inner fits descends is =
+pub opens : (a : Asked) (shown : Shown) (old new : Stacked) (inner : Level) → StackFits a shown old → IsSome old.at.row → Descends a shown old.at inner → new ≡ down old inner → Kept a shown old new × (loops_work a shown new < loops_work a shown old)
+opens a shown old new inner fits some descends is =
     let deep = fits.deep in
     let deeper = descends.deeper in
-    rw is (record {
-      fits = record {
-        above = fit_more a shown 0 old.above _ fits.above (omega (arith, deep)) (record { inside = fits.at.inside; here = fits.at.here; asks = fits.at.asks; wide = fits.at.wide });
-        at = descends.fits;
-        deep = grind (arith, common_steps, deep, deeper);
-      };
-      bag = bag_down a shown old.above old.at inner descends.bag;
-      led = λ by led. lead_less (given a shown old) (bag a shown old) [] _ [] _ (given_down a shown old.above old.at inner descends.bag) (bag_down a shown old.above old.at inner descends.bag) led;
-    })
+    rw is (
+      record {
+        fits = record {
+          above = fit_more a shown 0 old.above _ fits.above (omega (arith, deep)) (record { inside = fits.at.inside; here = fits.at.here; asks = fits.at.asks; wide = fits.at.wide; awaiting = fits.at.awaiting; tells = fits.at.tells });
+          at = descends.fits;
+          deep = grind (arith, common_steps, deep, deeper);
+        };
+        bag = bag_down a shown old.above old.at inner descends.bag;
+        led = λ by led. lead_less (given a shown old) (bag a shown old) [] _ [] _ (given_down a shown old.above old.at inner descends.bag) (bag_down a shown old.above old.at inner descends.bag) led;
+        work = less_le _ _ less;
+      },
+      less,
+    )
+  where
+    by_row : (row : Option (List Value)) → old.at.row ≡ row → IsSome row → levels_work a shown (old.above ++ (record old.at { row = None }) ∷ []) + level_work a shown inner < levels_work a shown old.above + level_work a shown old.at
+    by_row None e h = absurd (cc)
+    by_row (Some row) e h = down_work a shown old.above old.at inner row e descends.work
+
+    less : levels_work a shown (old.above ++ (record old.at { row = None }) ∷ []) + level_work a shown inner < levels_work a shown old.above + level_work a shown old.at
+    less = by_row old.at.row refl some
 
 -- the row that is held is given
 pub delivers : (a : Asked) (shown : Shown) (old new : Stacked) (o : Offer) → StackFits a shown old → IsSome old.at.row → is_last a old ≡ true → ((row : List Value) → old.at.row ≡ Some row → o ≡ offered a (old.at.outer ++ row ∷ [])) → new ≡ used old → Takes a shown o old new
@@ -89,39 +107,44 @@ delivers a shown old new o fits some last is used_is = elim old.at.row as (λ x.
         let goes : IsPermutation (bag a shown old) (o ∷ (flat_map (still a shown) old.above ++ still a shown (record old.at { row = None }))) = subst (λ l. IsPermutation (bag a shown old) (l ++ (flat_map (still a shown) old.above ++ still a shown (record old.at { row = None })))) one (bag_used a shown old.above old.at row e) in
         let held : IsPermutation (given a shown old) (o ∷ given_in a shown old.above (record old.at { row = None })) = subst (λ l. IsPermutation (given a shown old) (l ++ given_in a shown old.above (record old.at { row = None }))) one (given_used a shown old.above old.at row e) in
         rw used_is (record {
-          fits = record { above = fits.above; at = record { inside = fits.at.inside; here = fits.at.here; asks = fits.at.asks; wide = fits.at.wide }; deep = fits.deep };
+          fits = record { above = fits.above; at = record { inside = fits.at.inside; here = fits.at.here; asks = fits.at.asks; wide = fits.at.wide; awaiting = fits.at.awaiting; tells = fits.at.tells }; deep = fits.deep };
+          work = given_work a shown old.above old.at row e;
           bag = goes;
           led = λ by led. lead_less (given a shown old) (bag a shown old) (o ∷ []) _ (o ∷ []) _ held goes led;
           least = λ by led d c. led o d (Contains-permutation _ (given a shown old) o (IsPermutation-sym _ _ held) (Contains-append_left (o ∷ []) _ o (0, omega arith, refl))) (stands_in (bag a shown old) (o ∷ []) _ d goes c);
         })
 
 -- the innermost level is left
-pub climbs : (a : Asked) (shown : Shown) (old new : Stacked) → StackFits a shown old → still a shown old.at ≡ [] → old.above ≡ new.above ++ new.at ∷ [] → Kept a shown old new
+pub climbs : (a : Asked) (shown : Shown) (old new : Stacked) → StackFits a shown old → still a shown old.at ≡ [] → old.above ≡ new.above ++ new.at ∷ [] → Kept a shown old new × (loops_work a shown new < loops_work a shown old)
 climbs a shown old new fits none up =
     let all = fit_less a shown 0 new.above new.at (rw (← up) fits.above) in
     let deep = all.deep in
     let same : bag a shown old ≡ bag a shown new = rw (up, none, bag_more a shown new.above new.at) (append_nil (flat_map (still a shown) new.above ++ still a shown new.at)) in
     let held : given a shown old ≡ given a shown new = rw up (given_up a shown new.above new.at old.at none) in
-    record {
-      fits = record { above = all.above; at = all.at; deep = omega (arith, deep) };
-      bag = rw same (IsPermutation-refl _);
-      led = λ by led. subst (λ l. Lead l (bag a shown new)) held (subst (λ l. Lead (given a shown old) l) same led);
-    }
+    let less : loops_work a shown new < loops_work a shown old = rw up (up_work a shown new.above new.at old.at) in (
+      record {
+        fits = record { above = all.above; at = all.at; deep = omega (arith, deep) };
+        bag = rw same (IsPermutation-refl _);
+        led = λ by led. subst (λ l. Lead l (bag a shown new)) held (subst (λ l. Lead (given a shown old) l) same led);
+        work = less_le (loops_work a shown new) (loops_work a shown old) less;
+      },
+      less,
+    )
 
 pub ends : (a : Asked) (shown : Shown) (old new : Stacked) → StackFits a shown old → still a shown old.at ≡ [] → (old.above ≡ []) × (new ≡ old) → Moves a shown Done old new
-ends a shown old new fits none top = rw top.1 (record { fits = fits; bag = IsPermutation-refl _; led = λ by led. led }, rw (none, top.0) refl)
+ends a shown old new fits none top = rw top.1 (record { fits = fits; bag = IsPermutation-refl _; led = λ by led. led; work = same_le _ }, rw (none, top.0) refl)
 
 pub none_before : {A : Type 0} (xs : List A) → IsPermutation xs [] → xs ≡ []
 none_before [] p = refl
 none_before (x ∷ xs) p = absurd (omega (arith, length_permutation (x ∷ xs) [] p))
 
 kept_kept : (a : Asked) (shown : Shown) (old mid new : Stacked) → Kept a shown old mid → Kept a shown mid new → Kept a shown old new
-kept_kept a shown old mid new one two = record { fits = two.fits; bag = IsPermutation-trans _ _ _ one.bag two.bag; led = λ by led. two.led by (one.led by led) }
+kept_kept a shown old mid new one two = record { fits = two.fits; bag = IsPermutation-trans _ _ _ one.bag two.bag; led = λ by led. two.led by (one.led by led); work = le_le (loops_work a shown new) (loops_work a shown mid) (loops_work a shown old) two.work one.work }
 
 pub kept_then : (a : Asked) (shown : Shown) (m : Moved) (old mid new : Stacked) → Kept a shown old mid → Moves a shown m mid new → Moves a shown m old new
-kept_then a shown (Gave o) old mid new kept moves = record { fits = moves.fits; bag = IsPermutation-trans _ _ _ kept.bag moves.bag; led = λ by led. moves.led by (kept.led by led); least = λ by led. moves.least by (kept.led by led) }
+kept_then a shown (Gave o) old mid new kept moves = record { fits = moves.fits; bag = IsPermutation-trans _ _ _ kept.bag moves.bag; led = λ by led. moves.led by (kept.led by led); least = λ by led. moves.least by (kept.led by led); work = le_less (loops_work a shown new) (loops_work a shown mid) (loops_work a shown old) moves.work kept.work }
 kept_then a shown Done old mid new kept moves = (kept_kept a shown old mid new kept moves.0, none_before _ (subst (λ l. IsPermutation (bag a shown old) l) moves.1 kept.bag))
-kept_then a shown Moving old mid new kept moves = kept_kept a shown old mid new kept moves
+kept_then a shown Moving old mid new kept moves = (kept_kept a shown old mid new kept moves.0, le_less (loops_work a shown new) (loops_work a shown mid) (loops_work a shown old) moves.1 kept.work)
 
 pub kept_then_if : {E : Type 0} (a : Asked) (shown : Shown) (r : Result Moved E) (old mid new : Stacked) → Kept a shown old mid → IfOk r (λ m. Moves a shown m mid new) → IfOk r (λ m. Moves a shown m old new)
 kept_then_if a shown (Ok m) old mid new kept moves = kept_then a shown m old mid new kept moves

@@ -22,7 +22,10 @@ use Rattle.rv_reader.specs.Storing.{AreKeys}
 use Rattle.rv_retrieval.specs.declared.query.Query.{Query}
 use Rattle.rv_retrieval.specs.declared.query.Goal2.{Goal2}
 use Rattle.rv_retrieval.specs.declared.query.Goal2.TheVariants.{FastFirst as Soon, TotalTime as Late}
+use Rattle.rv_judge.specs.Account.{life_bound}
 use Rattle.rv_retrieval.specs.Asked.{begins_any}
+use Rattle.rv_retrieval.specs.Effort.{Awaiting, cuts_and_entries, effort}
+use Rattle.rv_retrieval.specs.Runs.{Tells}
 use Rattle.rv_retrieval.specs.Shape.{Shape, RetrievalFits, rest}
 use Rattle.rv_join.specs.declared.places.Item.{Item}
 use Rattle.rv_join.specs.declared.places.Asked.{Asked}
@@ -201,8 +204,15 @@ pub record Asks (a : Asked) (outer : List (List Value)) (query : Query) : Type 0
   pub binds : (row : List Value) → qualifies query.only row ≡ holds a.only (length outer) (outer ++ row ∷ [])
   pub names : (p : ℕ → Bool) → names_only (passes_at (length outer) p) (taken (length outer) a.only) ≡ true → names_only (passes_home p) query.only ≡ true
 
+-- no retrieval of an item has more effort when it is opened
+abbrev pub item_life : Shown → ℕ → Item → ℕ
+item_life shown snap i = life_bound (shown.pages i.table snap) (cuts_and_entries i.indexes shown snap)
+
 -- its rest are the rows of which the groups of the place are True
 pub record OpensItem (a : Asked) (shown : Shown) (outer : List (List Value)) (v : Shape) : Type 0 where
   pub fits : RetrievalFits v shown
   pub asks : Asks a outer v.query
+  pub awaiting : Awaiting v
+  pub tells : Tells v
+  pub life : effort v shown ≤ item_life shown a.snap (item_at a (length outer))
   pub rest_is : rest v shown ≡ filter (λ (r : Record). holds a.only (length outer) (outer ++ r.values ∷ [])) (rows_at a shown (length outer))

@@ -7,6 +7,8 @@ use Rattle.rv_value.specs.declared.record.Record.{Record}
 use Rattle.rv_model.specs.declared.state.Offer.{Offer}
 use Rattle.rv_reader.specs.Shown.{Shown}
 use Rattle.rv_jscan.specs.Steps.{raised}
+use Rattle.rv_retrieval.specs.Effort.{Awaiting}
+use Rattle.rv_retrieval.specs.Runs.{Tells}
 use Rattle.rv_retrieval.specs.Shape.{RetrievalFits, rest}
 use Rattle.rv_join.specs.declared.places.Item.{Item}
 use Rattle.rv_join.specs.declared.places.Asked.{Asked}
@@ -82,6 +84,8 @@ pub record LevelFits (a : Asked) (shown : Shown) (l : Level) : Type 0 where
   pub here : RetrievalFits l.here shown
   pub asks : Asks a l.outer l.here.query
   pub wide : AreWide a l.outer
+  pub awaiting : Awaiting l.here
+  pub tells : Tells l.here
 
 -- the levels of the places from one on
 abbrev pub AllFit : Asked → Shown → ℕ → List Level → Type 0

@@ -1,5 +1,6 @@
 pub mod Asking
 pub mod Levels
+pub mod Work
 pub mod Order
 pub mod Moves
 pub mod Plans

@@ -1,5 +1,5 @@
 -- What the calls do to open levels: whatever they answer, the bag of offers stays but for an offer that is given.
-use Rattle.std.specs.Prelude.{◌≡◌, ◌⊎◌, ℕ, ◌+◌, length, List, [], ◌∷◌, None, IsSome}
+use Rattle.std.specs.Prelude.{◌≡◌, ◌⊎◌, ℕ, ◌+◌, ◌<◌, ◌≤◌, length, List, [], ◌∷◌, None, IsSome}
 use Rattle.std.specs.List.{flat_map}
 use Rattle.std.specs.List.Sorted.{IsPermutation}
 use Rattle.rv_model.specs.declared.state.Offer.{Offer}
@@ -14,6 +14,7 @@ use Rattle.rv_join.specs.declared.level.Caught.TheVariants.{Ready, Ended, Worked
 use Rattle.rv_join.specs.declared.stack.Moved.{Moved}
 use Rattle.rv_join.specs.declared.stack.Moved.TheVariants.{Gave, Done, Moving}
 use Rattle.rv_join.specs.Levels.{AllFit, LevelFits, Stacked, StackFits, bag, over_held, still, tables_of, under}
+use Rattle.rv_join.specs.Work.{items_below, level_work, levels_work, loops_work, row_cost}
 use Rattle.rv_join.specs.Order.{IsByFirst, IsLeastOf, Led, LevelLed}
 
 -- a level's retrieval was called, and owes what it owed
@@ -22,6 +23,7 @@ pub record LevelStays (a : Asked) (shown : Shown) (old new : Level) : Type 0 whe
   pub outer : new.outer ≡ old.outer
   pub row : new.row ≡ old.row
   pub left : rest new.here shown ≡ rest old.here shown
+  pub work : level_work a shown new ≤ level_work a shown old
 
 -- a level may have taken a row out of its retrieval, and holds it
 pub record LevelMoves (a : Asked) (shown : Shown) (old new : Level) : Type 0 where
@@ -29,11 +31,12 @@ pub record LevelMoves (a : Asked) (shown : Shown) (old new : Level) : Type 0 whe
   pub outer : new.outer ≡ old.outer
   pub bag : IsPermutation (still a shown old) (still a shown new)
   pub led : old.outer ≡ [] → IsByFirst a → LevelLed a shown old → LevelLed a shown new
+  pub work : level_work a shown new ≤ level_work a shown old
 
 abbrev pub Catches : Asked → Shown → Caught → Level → Level → Type 0
 Catches a shown Ready old new = LevelMoves a shown old new × IsSome new.row
 Catches a shown Ended old new = LevelMoves a shown old new × (still a shown new ≡ [])
-Catches a shown Worked old new = LevelMoves a shown old new
+Catches a shown Worked old new = LevelMoves a shown old new × (level_work a shown new < level_work a shown old)
 
 -- A call of a retrieval was made, whose counts rise by what is counted, or none was.
 abbrev pub Rises : Shape → Shape → Counts → Counts → Type 0
@@ -44,17 +47,20 @@ pub record Descends (a : Asked) (shown : Shown) (old new : Level) : Type 0 where
   pub fits : LevelFits a shown new
   pub deeper : length new.outer ≡ length old.outer + 1
   pub none : new.row ≡ None
+  pub work : level_work a shown new < row_cost shown a.snap (items_below a old)
   pub bag : still a shown new ≡ over_held a shown old old.row
 
 -- the bag stays
 pub record Kept (a : Asked) (shown : Shown) (old new : Stacked) : Type 0 where
   pub fits : StackFits a shown new
+  pub work : loops_work a shown new ≤ loops_work a shown old
   pub bag : IsPermutation (bag a shown old) (bag a shown new)
   pub led : IsByFirst a → Led a shown old → Led a shown new
 
 -- an offer was taken out, least of those that are left
 pub record Takes (a : Asked) (shown : Shown) (o : Offer) (old new : Stacked) : Type 0 where
   pub fits : StackFits a shown new
+  pub work : loops_work a shown new < loops_work a shown old
   pub least : IsByFirst a → Led a shown old → IsLeastOf o (bag a shown new)
   pub led : IsByFirst a → Led a shown old → Led a shown new
   pub bag : IsPermutation (bag a shown old) (o ∷ bag a shown new)
@@ -62,13 +68,14 @@ pub record Takes (a : Asked) (shown : Shown) (o : Offer) (old new : Stacked) : T
 abbrev pub Moves : Asked → Shown → Moved → Stacked → Stacked → Type 0
 Moves a shown (Gave o) old new = Takes a shown o old new
 Moves a shown Done old new = Kept a shown old new × (bag a shown old ≡ [])
-Moves a shown Moving old new = Kept a shown old new
+Moves a shown Moving old new = Kept a shown old new × (loops_work a shown new < loops_work a shown old)
 
 -- one of some levels was called
 pub record LevelsStay (a : Asked) (shown : Shown) (place : ℕ) (old new : List Level) : Type 0 where
   pub fits : AllFit a shown place new
   pub count : length new ≡ length old
   pub bag : flat_map (still a shown) new ≡ flat_map (still a shown) old
+  pub work : levels_work a shown new ≤ levels_work a shown old
 
 -- the first of some levels holds what it held
 abbrev pub SameFirst : Asked → Shown → List Level → List Level → Type 0
@@ -79,6 +86,7 @@ SameFirst a shown (f ∷ ls) (g ∷ ms) = (over_held a shown g g.row ≡ over_he
 -- a stack was called, and owes what it owed
 pub record StackStays (a : Asked) (shown : Shown) (old new : Stacked) : Type 0 where
   pub fits : StackFits a shown new
+  pub work : loops_work a shown new ≤ loops_work a shown old
   pub bag : bag a shown new ≡ bag a shown old
   pub led : Led a shown old → Led a shown new
 
@@ -86,5 +94,6 @@ pub record StackStays (a : Asked) (shown : Shown) (old new : Stacked) : Type 0 w
 pub record Starts (a : Asked) (shown : Shown) (v : Stacked) : Type 0 where
   pub fits : StackFits a shown v
   pub top : v.above ≡ []
+  pub work : loops_work a shown v ≤ row_cost shown a.snap a.items
   pub bag : bag a shown v ≡ under a shown (tables_of a) []
   pub led : IsByFirst a → Led a shown v

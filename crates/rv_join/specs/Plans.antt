@@ -1,5 +1,5 @@
 -- A whole plan: its offers as they are found, or gathered and sorted.
-use Rattle.std.specs.Prelude.{◌≡◌, ◌-◌, Bool, true, false, List, [], ◌∷◌, ◌++◌, length, Option, Some, None, if◌then◌else◌, ◌==◌, ◌||◌}
+use Rattle.std.specs.Prelude.{◌≡◌, ℕ, ◌-◌, ◌<◌, ◌≤◌, Bool, true, false, List, [], ◌∷◌, ◌++◌, length, Option, Some, None, if◌then◌else◌, ◌==◌, ◌||◌, map}
 use Rattle.std.specs.List.Sorted.{IsPermutation, IsSortedBy}
 use Rattle.rv_judge.specs.declared.counting.Counts.{Counts}
 use Rattle.rv_judge.specs.declared.events.Trace.{Trace}
@@ -16,6 +16,7 @@ use Rattle.rv_join.specs.declared.plan.PlanStep.{PlanStep}
 use Rattle.rv_join.specs.declared.plan.PlanStep.TheVariants.{Row, End, Working}
 use Rattle.rv_join.specs.Asking.{Asks, CanRun, by_index}
 use Rattle.rv_join.specs.Levels.{Stacked, StackFits, bag, first_of}
+use Rattle.rv_join.specs.Work.{loops_work}
 use Rattle.rv_join.specs.Moves.{Kept, Rises}
 use Rattle.rv_join.specs.declared.stack.Moved.{Moved}
 use Rattle.rv_join.specs.declared.stack.Moved.TheVariants.{Gave, Done, Moving}
@@ -39,6 +40,21 @@ rest_at Giving gathered to_come = gathered
 abbrev pub plan_rest : Shown → Planned → List Offer
 plan_rest shown p = rest_at p.stage p.gathered (bag p.asked shown p.stack)
 
+-- THE WORK LEFT OF A PLAN: none where its offers are sorted
+abbrev pub work_at : Stage → ℕ → ℕ
+work_at AsFound loops = loops
+work_at Gathering loops = loops
+work_at Giving loops = 0
+
+abbrev pub plan_work : Shown → Planned → ℕ
+plan_work shown p = work_at p.stage (loops_work p.asked shown p.stack)
+
+-- Working lowers it; no answer raises it
+abbrev pub WorkTo : PlanStep → ℕ → ℕ → Type 0
+WorkTo (Row o) old new = new ≤ old
+WorkTo End old new = new ≤ old
+WorkTo Working old new = new < old
+
 -- the stage in which a plan begins: its offers are gathered where an order is asked that no index gives
 abbrev pub stage_of : Select → List IndexDef → Stage
 stage_of s indexes = if (length s.order == 0) || by_index s indexes then AsFound else Gathering
@@ -56,6 +72,10 @@ reads_with reads before after = record { pages = raised reads.pages (after.pages
 -- the events of the first FROM item's retrieval, with the counts of all retrievals of the plan
 abbrev pub plan_trace : Planned → Trace
 plan_trace p = record (first_of p.stack).here.trace { pages = p.reads.pages; leaves = p.reads.leaves; fetches = p.reads.records }
+
+-- the numbers of indexes
+abbrev pub numbers_of : List (ℕ × List ℕ) → List ℕ
+numbers_of indexes = map (λ (i : ℕ × List ℕ). i.0) indexes
 
 -- What it holds was drawn from what a reader shows, and the reader can be read as it will be. Where offers are given as
 -- they are found, they come by the order of the first item's rows.
@@ -89,16 +109,19 @@ StepsTo Working old new = IsPermutation old new
 pub record PlanMoves (shown : Shown) (m : PlanStep) (old new : Planned) : Type 0 where
   pub asked : new.asked ≡ old.asked
   pub step : StepsTo m (plan_rest shown old) (plan_rest shown new)
+  pub work : WorkTo m (plan_work shown old) (plan_work shown new)
 
 -- the rest stays, in some order
 pub record PlanKept (shown : Shown) (old new : Planned) : Type 0 where
   pub asked : new.asked ≡ old.asked
   pub rest_kept : IsPermutation (plan_rest shown old) (plan_rest shown new)
+  pub work : plan_work shown new ≤ plan_work shown old
 
 -- the rest stays as it is
 pub record PlanStays (shown : Shown) (old new : Planned) : Type 0 where
   pub asked : new.asked ≡ old.asked
   pub rest_same : plan_rest shown new ≡ plan_rest shown old
+  pub work : plan_work shown new ≤ plan_work shown old
 
 -- one retrieval is open, that of the first FROM item, as the first that the cursor has opened; its strategy and its
 -- scans are those of the five rules, and the counts are its own
@@ -120,6 +143,7 @@ step_of Moving = Working
 pub record GathersMore (a : Asked) (shown : Shown) (old : Stacked) (had : List Offer) (new : Stacked) (has : List Offer) : Type 0 where
   pub fits : StackFits a shown new
   pub bag : IsPermutation (had ++ bag a shown old) (has ++ bag a shown new)
+  pub work : loops_work a shown new < loops_work a shown old
 
 pub record GathersAll (a : Asked) (shown : Shown) (old : Stacked) (had : List Offer) (new : Stacked) (has : List Offer) : Type 0 where
   pub kept : Kept a shown old new

@@ -134,7 +134,7 @@ impl Level {
     }
 
     /// Takes the next row of the retrieval, and holds it.
-    #[tactic(auto, using(crate::proofs::Catching::found_moves, crate::proofs::Catching::stays_moves, crate::proofs::Catching::ended_moves, crate::proofs::Opening::level_stays))]
+    #[tactic(auto, using(crate::proofs::Catching::found_moves, crate::proofs::Catching::stays_moves, crate::proofs::Catching::ended_moves, crate::proofs::Catching::worked_moves, crate::proofs::Opening::level_stays))]
     fn catch<R: Reader>(
         &mut self,
         _asked: &Asked,

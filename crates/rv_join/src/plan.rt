@@ -1,6 +1,7 @@
 //! Plans: what they keep, and how one is opened.
 ghost use Rattle.std.specs.Prelude.{◌≡◌, ◌<◌, ◌≤◌, ◌^◌, length, Ok, Option, IfOk, OnOk, OnErr};
 ghost use Rattle.std.specs.List.Sorted.{IsPermutation};
+ghost use Rattle.rv_judge.specs.Runs.{Allowed};
 ghost use Rattle.rv_reader.specs.Shown.{Shown};
 ghost use Rattle.rv_retrieval.specs.Rulings.{GivesOn};
 ghost use Rattle.rv_retrieval.specs.Given.{Answers, TakesPiece};
@@ -8,12 +9,13 @@ ghost use Rattle.rv_retrieval.specs.Shape.{RetrievalFits};
 ghost use Rattle.rv_retrieval.specs.Telling.{CountsAll, CountsRise, SameCounts};
 ghost use Rattle.rv_jscan.specs.declared.piece.PieceId.{PieceId as Id};
 ghost use Rattle.rv_jscan.specs.declared.jscan.Given.{Given as TheGiven};
-ghost use Rattle.rv_join.specs.Asking.{Asks, CanPlan, CanRun, IsAsked};
+ghost use Rattle.rv_join.specs.Asking.{Asks, CanPlan, CanRun, IsAsked, item_at};
 ghost use Rattle.rv_join.specs.Levels.{StackFits, first_of, table_rows};
 ghost use Rattle.rv_join.specs.Moves.{Kept, Moves, Rises, StackStays, Starts};
 ghost use Rattle.rv_model.specs.Offering.{offers_over};
+ghost use Rattle.rv_join.specs.Work.{row_cost};
 ghost use Rattle.rv_join.specs.Pieces.{level_at, plan_awaited, stack_builds, waits};
-ghost use Rattle.rv_join.specs.Plans.{AreReads, Gathers, Gives, LeadsWith, PlanFits, Sorts, plan_rest, plan_trace, reads_with, stage_of};
+ghost use Rattle.rv_join.specs.Plans.{AreReads, Gathers, Gives, LeadsWith, PlanFits, Sorts, numbers_of, plan_rest, plan_trace, plan_work, reads_with, stage_of};
 
 use crate::gather::{Gathered, Stage};
 use crate::places::{Asked, ask, by_index};
@@ -89,7 +91,7 @@ impl Plan {
     /// `indexes`. It opens the retrieval of the first FROM item; each further one is opened over a row of the items
     /// before it. Where an order is asked that no index of the first item gives, all offers are gathered and sorted
     /// before the first comes.
-    #[tactic(auto, using(crate::proofs::Accounting::opened_counts, crate::proofs::Beginning::begins_with, crate::proofs::Beginning::begins_good, crate::proofs::Running::offers_are))]
+    #[tactic(auto, using(crate::proofs::Accounting::opened_counts, crate::proofs::Beginning::begins_with, crate::proofs::Keeping::begins_work, crate::proofs::Beginning::begins_good, crate::proofs::Running::offers_are))]
     pub fn open<R: Reader>(
         alloc: Global,
         reader: &R,
@@ -104,6 +106,7 @@ impl Plan {
         ensures rest { IfOk result (λ p. plan_rest (R.shown reader.now) p ≡ offers_over select.now (table_rows (R.shown reader.now) snap)) }
         ensures asked { IfOk result (λ p. IsAsked select.now indexes.now snap cursor p.asked) }
         ensures leads { IfOk result (LeadsWith (R.shown reader.now)) }
+        ensures work { IfOk result (λ p. plan_work (R.shown reader.now) p ≤ row_cost (R.shown reader.now) p.asked.snap p.asked.items) }
         ensures counts { IfOk result (λ p. CountsAll (plan_trace p) steps.old steps.new) }
         ensures stage { IfOk result (λ p. p.stage ≡ stage_of select.now indexes.now) }
     {
@@ -123,9 +126,10 @@ impl Plan {
 
     /// What it did so far: the strategy and the events of the first FROM item's retrieval, with the counts of all its
     /// retrievals.
-    #[tactic(auto, using(crate::proofs::Accounting::alone_trace))]
+    #[tactic(auto, using(crate::proofs::Accounting::alone_trace, crate::proofs::Keeping::told_allowed))]
     pub fn trace(&self) -> Trace
         ensures told { result ≡ plan_trace self.now }
+        ensures allowed { (shown : Shown) → PlanFits shown self.now → Allowed result (numbers_of (item_at self.now.asked 0).indexes) }
         ensures alone { (shown : Shown) → PlanFits shown self.now → length self.now.asked.items ≡ 1 → result ≡ self.now.stack.at.here.trace }
     {
         let mut trace = self.stack.first_trace();

@@ -125,6 +125,7 @@ impl Plan {
     }
 
     /// Takes the awaited piece of the first retrieval in FROM order that awaits one. `Nothing` where none does.
+    #[tactic(auto, using(crate::proofs::Keeping::stays_still, crate::proofs::Keeping::stays_counted))]
     pub fn take<R: Reader>(
         &mut self,
         reader: &R,
@@ -144,6 +145,7 @@ impl Plan {
     }
 
     /// Gives a sieved piece to the first retrieval in FROM order that awaits one. It is stale where none does.
+    #[tactic(auto, using(crate::proofs::Keeping::stays_still))]
     pub fn give<L: Drop>(
         &mut self,
         sieved: Sieved,

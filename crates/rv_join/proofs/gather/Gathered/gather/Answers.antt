@@ -1,6 +1,9 @@
 use Rattle.std.proofs.Common.{rules}
-use Rattle.rv_join.proofs.Planning.{gathered_more, pushed}
+use Rattle.rv_join.proofs.Planning.{gathered_more, moving_is, pushed}
 use Rattle.rv_join.proofs.gather.Gathered.gather.Goals as goal
 
 pub returns-in-Gave-clause-gathers : goal.returns-in-Gave-clause-gathers
 returns-in-Gave-clause-gathers g c = gathered_more c.args.asked.now (g.R.Reader.shown c.args.reader.now) c.in-Gave.offer c.args.stack.now c.advance.new.self c.args.self.now _ (rw c.in-Gave.is at c.in_ok-offer.ensures.moves) (pushed c.self.inside.offers.items c.push.new.self.items c.in-Gave.offer c.args.self.now (search rules) (search rules))
+
+pub returns-in-Moving-clause-gathers : goal.returns-in-Moving-clause-gathers
+returns-in-Moving-clause-gathers g c = moving_is c.args.asked.now (g.R.Reader.shown c.args.reader.now) c.args.stack.now c.advance.new.self c.args.self.now _ (rw c.in-Moving.is at c.in_ok-offer.ensures.moves) (search rules)
