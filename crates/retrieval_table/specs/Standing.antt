@@ -1,5 +1,5 @@
 -- A store that was loaded.
-use Rattle.std.specs.Prelude.{ℕ, ◌≤◌}
+use Rattle.std.specs.Prelude.{◌≤◌}
 use Rattle.rv_reader.specs.Shown.{Shown}
 use Rattle.retrieval_table.specs.declared.load.Loaded.{Loaded}
 use Rattle.retrieval_table.specs.Laying.{Offers}

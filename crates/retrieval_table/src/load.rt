@@ -20,7 +20,7 @@ pub enum Filling {
     Same,
     /// 0, and a number below 50 or NULL.
     Zero,
-    /// The row's number, and what is left of it by 4.
+    /// The row's number, and its remainder by 4.
     Fourths,
 }
 

@@ -211,7 +211,7 @@ fn add_full_buffer(alloc: Global, lines: &mut Vec<String>) -> Result<(), NoMemor
     )
 }
 
-/// Forty rows in a paged store, whose leaves have 16 and 24 of them.
+/// Forty rows in a paged store. The index over the first column has leaves of 16 and 24 entries.
 fn add_paged_forty(alloc: Global, lines: &mut Vec<String>) -> Result<(), NoMemory> {
     let (store, forty) = load_paged(alloc, 40, Filling::Zero)?;
     add(
@@ -256,7 +256,7 @@ fn add_paged_forty(alloc: Global, lines: &mut Vec<String>) -> Result<(), NoMemor
     )
 }
 
-/// Forty rows in a paged store, whose third value is one of four.
+/// Forty rows in a paged store, with third values from 0 to 3.
 fn add_paged_sorted(alloc: Global, lines: &mut Vec<String>) -> Result<(), NoMemory> {
     let (store, forty) = load_paged(alloc, 40, Filling::Fourths)?;
     add(
@@ -271,7 +271,7 @@ fn add_paged_sorted(alloc: Global, lines: &mut Vec<String>) -> Result<(), NoMemo
     )
 }
 
-/// 1,100 rows in a paged store, in 67 leaves of 16 and one of 28 under four nodes.
+/// 1,100 rows in a paged store. The index over the first column has 67 leaves of 16 entries and one of 28.
 fn add_paged_full(alloc: Global, lines: &mut Vec<String>) -> Result<(), NoMemory> {
     let (store, many) = load_paged(alloc, 1100, Filling::Zero)?;
     add(
