@@ -2,13 +2,20 @@
 """Writes what the program `retrieval_table` is to print, by the rules in words.
 
 A table has the rows 0 to n - 1. Row i has the values i, then i or 0, and then NULL where 11 divides i, else
-37 * (i mod 50) mod 50. There are indexes over the first column (IA), the second (IB), the third and the first (ICA) and
-the third (IC); NULL is the least value, and entries are ordered by key and then by row. A leaf has 32 entries, a page the
-rows of 32 numbers. An estimate is the number of entries in the range.
+37 * (i mod 50) mod 50, or in one table i, i and i mod 4. There are indexes over the first column (IA), the second (IB), the
+third and the first (ICA) and the third (IC); NULL is the least value, and entries are ordered by key and then by row. A page
+has the rows of 32 numbers.
+
+A leaf of a plain store has 32 entries, and an estimate is the number of entries in the range. An index of a paged store is
+a tree, into which the entries are put in the order of the rows. A leaf has up to 32 entries, a node above up to 32 children,
+each with a low entry. What would be 33 becomes the first 16 and the last 17; a root that is split becomes the parent of its
+halves. An entry belongs to the last child that does not begin above it. An estimate goes down from the root while one child
+may have the range; where k > 1 children may, at level l, it is (k - 1) * 16 ** l, and not exact.
 
 A retrieval is asked for the rows whose columns lie in spans, by some of the indexes, with some columns, in the order of
 the third column or in any, the first rows soon or all rows soon. How it goes is written at each function below."""
 
+import bisect
 import sys
 
 NULL = (0, 0)
@@ -22,18 +29,75 @@ def value(number):
     return (1, number)
 
 
-class Table:
-    """The rows of a table and the entries of its indexes."""
+class Node:
+    """A node of a tree: the entries of a leaf, or the children of a node above, and their low entries."""
 
-    def __init__(self, count, same):
-        self.rows = []
-        for i in range(count):
-            third = NULL if i % 11 == 0 else value(i % 50 * 37 % 50)
-            self.rows.append((value(i), value(i if same else 0), third))
-        self.entries = []
+    def __init__(self, level, lows, children):
+        self.level, self.lows, self.children = level, lows, children
+
+    def put(self, entry):
+        """Puts an entry in, and gives the last 17 where they are split off, with the first of them."""
+        if self.level == 0:
+            bisect.insort(self.lows, entry)
+        else:
+            at = max(i for i in range(len(self.lows)) if i == 0 or self.lows[i] <= entry)
+            split = self.children[at].put(entry)
+            if split is not None:
+                self.lows.insert(at + 1, split[0])
+                self.children.insert(at + 1, split[1])
+        if len(self.lows) <= 32:
+            return None
+        last = Node(self.level, self.lows[16:], self.children[16:])
+        self.lows, self.children = self.lows[:16], self.children[:16]
+        return last.lows[0], last
+
+    def leaves(self):
+        if self.level == 0:
+            return [self.lows]
+        return [leaf for child in self.children for leaf in child.leaves()]
+
+    def estimate(self, side):
+        """How many entries are in a range, and whether exactly. `side` tells on which side of it a key is."""
+        if self.level == 0:
+            return sum(side(key) == 0 for key, _ in self.lows), True
+        sides = [side(key) for key, _ in self.lows]
+        last = max(i for i in range(len(sides)) if i == 0 or sides[i] <= 0)
+        first = max(i for i in range(last + 1) if i == 0 or sides[i] < 0)
+        if first == last:
+            return self.children[first].estimate(side)
+        return (last - first) * 16**self.level, False
+
+
+def tree(entries):
+    root = Node(0, [], [])
+    for entry in entries:
+        split = root.put(entry)
+        if split is not None:
+            # the low entry of a first child is not looked at
+            root = Node(root.level + 1, [root.lows[0], split[0]], [root, split[1]])
+    return root
+
+
+def values_of(i, filling):
+    if filling == "fourths":
+        return value(i), value(i), value(i % 4)
+    third = NULL if i % 11 == 0 else value(i % 50 * 37 % 50)
+    return value(i), value(i if filling == "same" else 0), third
+
+
+class Table:
+    """The rows of a table, and the leaves of its indexes; in a paged store the trees too."""
+
+    def __init__(self, count, filling, paged=False):
+        self.rows = [values_of(i, filling) for i in range(count)]
+        self.trees, self.leaves = [], []
         for columns in COLUMNS:
-            found = [(tuple(row[c] for c in columns), n) for n, row in enumerate(self.rows)]
-            self.entries.append(sorted(found))
+            entries = [(tuple(row[c] for c in columns), n) for n, row in enumerate(self.rows)]
+            root = tree(entries) if paged else None
+            entries.sort()
+            parts = [entries[start:start + LEAF] for start in range(0, count, LEAF)]
+            self.trees.append(root)
+            self.leaves.append(root.leaves() if paged else parts)
         self.pages = -(-count // PAGE)
 
 
@@ -59,10 +123,13 @@ class Index:
 
     def __init__(self, table, asked, number):
         self.number, self.columns = number, COLUMNS[number]
-        self.entries = table.entries[number]
+        self.leaves = table.leaves[number]
         self.range = asked.spans.get(self.columns[0])
         self.restricted = self.range is not None
-        self.estimate = sum(self.side(key) == 0 for key, _ in self.entries)
+        if table.trees[number] is not None:
+            self.estimate, self.exact = table.trees[number].estimate(self.side)
+        else:
+            self.estimate, self.exact = sum(self.side(key) == 0 for leaf in self.leaves for key, _ in leaf), True
         self.covers = asked.needed <= set(self.columns)
         # the part of the restriction that it tests by itself
         self.part = {c: span for c, span in asked.spans.items() if c in self.columns}
@@ -78,17 +145,17 @@ class Index:
         values = dict(zip(self.columns, key))
         return all(in_span(values[c], span) for c, span in self.part.items())
 
-    def leaf(self, start):
-        """The entries in the range of a leaf, and the place at which the next one begins where that may have more. The
-        first reading is of the last leaf whose first key is before the range, or of the first leaf."""
-        if start is None:
-            start = 0
-            while start + LEAF < len(self.entries) and self.side(self.entries[start + LEAF][0]) < 0:
-                start += LEAF
-        inside = [e for e in self.entries[start:start + LEAF] if self.side(e[0]) == 0]
-        following = start + LEAF
-        more = following < len(self.entries) and self.side(self.entries[following][0]) <= 0
-        return inside, following if more else None
+    def leaf(self, at):
+        """The entries in the range of a leaf, and the number of the next one where that may have more. The first reading
+        is of the last leaf whose first key is before the range, or of the first leaf."""
+        first_side = lambda i: self.side(self.leaves[i][0][0])
+        if at is None:
+            at = 0
+            while at + 1 < len(self.leaves) and first_side(at + 1) < 0:
+                at += 1
+        inside = [e for e in self.leaves[at] if self.side(e[0]) == 0]
+        more = at + 1 < len(self.leaves) and first_side(at + 1) <= 0
+        return inside, at + 1 if more else None
 
 
 class KeyList:
@@ -197,7 +264,7 @@ class Retrieval:
         asked = self.asked
         indexes = [Index(self.table, asked, n) for n in asked.uses]
         restricted = [i for i in indexes if i.restricted]
-        few = [i for i in restricted if i.estimate <= SHORT]
+        few = [i for i in restricted if i.exact and i.estimate <= SHORT]
         covering = [i for i in indexes if i.covers]
         leading = [i for i in indexes if asked.ordered and i.columns[0] == 2]
         least = lambda some: min(some, key=lambda i: i.estimate)  # of equal ones the first
@@ -493,19 +560,32 @@ MUCH = 2**63 - 1
 
 def singles():
     """Single retrievals whose reads are known from hand."""
-    eighty = Table(80, True)
+    eighty = Table(80, "same")
     both = Asked({0: (10, 40), 1: (30, 70)}, [IA, IB])
     yield "two lists", eighty, both, patient, Way(0)
     yield "two scans dropped", eighty, both, threshold, Way(0)
-    flat = Table(80, False)
+    flat = Table(80, "zero")
     soon = Asked({0: (10, 40)}, [IA], soon=True)
     after = Way(5, after=4)
     yield "fast first borrows", flat, soon, patient, after
     yield "threshold drops", flat, soon, threshold, after
     yield "contrary stops", flat, soon, JUDGES[2][1](), after
-    many = Table(1100, False)
+    many = Table(1100, "zero")
     yield "full buffer", many, Asked({0: (0, MUCH)}, [IA], soon=True), patient, Way(0)
     yield "full buffer, by index alone", many, Asked({0: (0, MUCH)}, [IA, ICA], whole=False), patient, Way(0)
+    forty = Table(40, "zero", paged=True)
+    assert [len(leaf) for leaf in forty.leaves[IA]] == [16, 24]
+    twenty = Asked({0: (10, 29)}, [IA], soon=True)
+    yield "paged, fast first borrows", forty, twenty, patient, after
+    yield "paged, threshold drops", forty, twenty, threshold, after
+    yield "paged, contrary stops", forty, twenty, JUDGES[2][1](), after
+    yield "paged, short range", forty, Asked({0: (20, 22)}, [IA]), threshold, Way(0)
+    fourths = Table(40, "fourths", paged=True)
+    by_third = Asked({1: (10, 29)}, [IB, IC], ordered=True)
+    yield "paged, list into sorted", fourths, by_third, patient, Way(9, after=3)
+    many = Table(1100, "zero", paged=True)
+    assert [len(leaf) for leaf in many.leaves[IA]] == [16] * 67 + [28]
+    yield "paged, full buffer", many, Asked({0: (0, MUCH)}, [IA], soon=True), patient, Way(0)
 
 
 def kinds():
@@ -536,7 +616,7 @@ def kinds():
 def main(out):
     for name, table, asked, judge, way in singles():
         out.write(f"{name}: {outcome(table, asked, judge, way)}\n")
-    table = Table(400, True)
+    table = Table(400, "same")
     for name, asked in kinds():
         out.write(name + "\n")
         for ruling, judge in JUDGES:

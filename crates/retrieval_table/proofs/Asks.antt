@@ -1,5 +1,5 @@
 -- That the query for what is asked can be asked of a loaded store.
-use Rattle.std.proofs.Common.{zero, suc, ◌≡◌, ◌⊎◌, inl, inr, ℕ, ◌<◌, ◌≤◌, ◌+◌, List, [], ◌∷◌, ◌++◌, Bool, true, false, ◌&&◌, ◌||◌, ◌==◌, cond, Some, None, Option, nat_eq, refl, sym, ap, ◌∙◌, arith, length, map, subst}
+use Rattle.std.proofs.Common.{◌≡◌, ◌⊎◌, inl, inr, ℕ, ◌<◌, ◌≤◌, ◌+◌, List, [], ◌∷◌, ◌++◌, Bool, true, false, ◌&&◌, ◌||◌, ◌==◌, cond, Some, None, Option, nat_eq, refl, sym, ap, ◌∙◌, arith, length, map, subst}
 use Rattle.std.proofs.lemmas.List.{length_push, map-append}
 use Rattle.std.specs.Prelude.{is_some, nat_lt}
 use Rattle.std.proofs.lemmas.Bool.Decides.{nat_tests}

@@ -11,7 +11,7 @@ use Rattle.rv_rows.specs.Changes.{Rise, is_before}
 use Rattle.rv_reader.proofs.Filters.{both}
 use Rattle.rv_reader.specs.Entries.{entries_of}
 use Rattle.rv_reader.specs.Shown.{Shown, CanRead, CanScan}
-use Rattle.rv_reader.specs.Storing.{AreColumns, AreKeys, AreWide, IsChange, IsKept, IsStored, Created, Indexed, Committed, CanCommit}
+use Rattle.rv_reader.specs.Storing.{AreColumns, AreKeys, AreWide, IsChange, IsStored, Created, Indexed, Committed, CanCommit}
 use Rattle.rv_reader.specs.Tables.{IsTable}
 use Rattle.retrieval_table.specs.Laying.{Empty, Fresh, IsBatch, IsNew, Laid, Offers, columns_of}
 

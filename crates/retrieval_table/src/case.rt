@@ -1,6 +1,5 @@
-//! A retrieval for what is asked of a loaded store, and the line that tells of it.
-ghost use Rattle.std.specs.Prelude.{◌≡◌, IfOk, IsPermutation, true};
-ghost use Rattle.rv_plain.specs.Kept.{shown_of};
+//! A retrieval for what is asked of a store that was loaded, and the line that tells of it.
+ghost use Rattle.std.specs.Prelude.{◌≡◌, ◌≤◌, IfOk, IsPermutation, true};
 ghost use Rattle.rv_retrieval.specs.Rest.{qualifying};
 ghost use Rattle.retrieval_table.specs.Asking.{spans_of};
 ghost use Rattle.retrieval_table.specs.Driving.{numbers_of};
@@ -14,6 +13,7 @@ use crate::lines::rows_text;
 use crate::load::Loaded;
 use crate::trace::trace_text;
 use rv_judge::{Contrary, Judge, Listed, Patient, Steps, Threshold, Uncounted};
+use rv_reader::Reader;
 use rv_retrieval::Retrieval;
 use rv_value::NoMemory;
 use std::alloc::Global;
@@ -28,15 +28,15 @@ fn verdict_word(right: bool, ended: bool) -> &'static str {
 
 fn told(
     alloc: Global,
-    loaded: &Loaded,
+    loaded: Loaded,
     asked: &Asked,
     driven: &Driven,
     retrieval: &Retrieval,
 ) -> Result<String, NoMemory>
-    requires { Stands loaded.now }
+    requires { loaded.rows ≤ 1000000 }
 {
     let rows = driven.rows.as_slice();
-    let right = is_right(alloc, asked, rows, loaded.rows, loaded.second)?;
+    let right = is_right(alloc, asked, rows, loaded.rows, loaded.filling)?;
     let rows = rows_text(alloc, rows)?;
     let trace = trace_text(alloc, retrieval.trace())?;
     let word = verdict_word(right, driven.ended);
@@ -45,15 +45,16 @@ fn told(
 
 /// Opens a retrieval for what is asked, and drives it to its end. The rows of one that ended are those of the snapshot
 /// that qualify, each once.
-fn retrieve(
+fn retrieve<R: Reader<Ledger = Uncounted>>(
     alloc: Global,
-    loaded: &Loaded,
+    reader: &R,
+    loaded: Loaded,
     asked: &Asked,
     ruling: Ruling,
     way: Way,
 ) -> Result<(Driven, Retrieval), NoMemory>
-    requires { Stands loaded.now }
-    ensures { IfOk result (λ found. found.0.ended ≡ true → IsPermutation (numbers_of (qualifying (spans_of asked.now) ((shown_of loaded.now.store).rows 0 loaded.now.snap))) (numbers_of found.0.rows.items)) }
+    requires { Stands (R.shown reader.now) loaded }
+    ensures { IfOk result (λ found. found.0.ended ≡ true → IsPermutation (numbers_of (qualifying (spans_of asked.now) ((R.shown reader.now).rows 0 loaded.snap))) (numbers_of found.0.rows.items)) }
 {
     let query = query(alloc, loaded.snap, asked)?;
     let mut judge: Box<dyn Judge> = match ruling {
@@ -67,28 +68,22 @@ fn retrieve(
         | Ruling::DropsThird => Box::new(alloc, Listed::new(verdicts(alloc, ruling)?))?,
     };
     let mut steps = Steps::new(Uncounted);
-    let mut retrieval = Retrieval::open(alloc, &loaded.store, query, 1, 1, &mut steps)?;
-    let driven = drive(
-        alloc,
-        &loaded.store,
-        &mut retrieval,
-        &mut judge,
-        way,
-        &mut steps,
-    )?;
+    let mut retrieval = Retrieval::open(alloc, reader, query, 1, 1, &mut steps)?;
+    let driven = drive(alloc, reader, &mut retrieval, &mut judge, way, &mut steps)?;
     Ok((driven, retrieval))
 }
 
 /// What comes of a retrieval.
-pub fn outcome(
+pub fn outcome<R: Reader<Ledger = Uncounted>>(
     alloc: Global,
-    loaded: &Loaded,
+    reader: &R,
+    loaded: Loaded,
     asked: &Asked,
     ruling: Ruling,
     way: Way,
 ) -> Result<String, NoMemory>
-    requires { Stands loaded.now }
+    requires { Stands (R.shown reader.now) loaded }
 {
-    let (driven, retrieval) = retrieve(alloc, loaded, asked, ruling, way)?;
+    let (driven, retrieval) = retrieve(alloc, reader, loaded, asked, ruling, way)?;
     told(alloc, loaded, asked, &driven, &retrieval)
 }

@@ -4,7 +4,7 @@ ghost use Rattle.rv_restrict.specs.Truth.{names_only};
 ghost use Rattle.retrieval_table.specs.Asking.{is_column};
 
 use crate::asked::{Asked, wanted};
-use crate::load::{Second, values_of};
+use crate::load::{Filling, values_of};
 use rv_restrict::{Restriction, Tri};
 use rv_value::{NoMemory, Record, Values};
 use std::alloc::Global;
@@ -15,14 +15,14 @@ fn qualifying(
     alloc: Global,
     only: &Restriction,
     rows: u64,
-    second: Second,
+    filling: Filling,
 ) -> Result<Vec<u64>, NoMemory>
     requires rows { rows ≤ 1000000 }
     requires columns { names_only is_column only.now ≡ true }
 {
     let mut found = Vec::new(alloc);
     'rows: for row in 0..rows {
-        let values = values_of(alloc, row, second)?;
+        let values = values_of(alloc, row, filling)?;
         if only.truth(&values) == Tri::True {
             found.push(row)?;
         }
@@ -60,7 +60,7 @@ fn are_true(
     asked: &Asked,
     given: &[Record],
     rows: u64,
-    second: Second,
+    filling: Filling,
 ) -> Result<bool, NoMemory>
     requires { rows ≤ 1000000 }
 {
@@ -68,7 +68,7 @@ fn are_true(
         if row.row.0 >= rows {
             return Ok(false);
         }
-        let loaded = values_of(alloc, row.row.0, second)?;
+        let loaded = values_of(alloc, row.row.0, filling)?;
         if !is_true_to(asked, &row.values, &loaded) {
             return Ok(false);
         }
@@ -95,16 +95,16 @@ pub fn is_right(
     asked: &Asked,
     given: &[Record],
     rows: u64,
-    second: Second,
+    filling: Filling,
 ) -> Result<bool, NoMemory>
     requires { rows ≤ 1000000 }
 {
     let only = wanted(alloc, asked)?;
-    let expected = qualifying(alloc, &only, rows, second)?;
+    let expected = qualifying(alloc, &only, rows, filling)?;
     let numbers = numbers(alloc, given)?;
     Ok(
         numbers.as_slice() == expected.as_slice()
-            && are_true(alloc, asked, given, rows, second)?
+            && are_true(alloc, asked, given, rows, filling)?
             && (!asked.sorted || ascend(given)),
     )
 }

@@ -1,11 +1,13 @@
 //! The table: what is asked of 400 rows, with every judge and in every way.
+ghost use Rattle.rv_plain.specs.Kept.{shown_of};
 ghost use Rattle.retrieval_table.specs.Standing.{Stands};
 
 use crate::asked::{Asked, Span};
 use crate::case::outcome;
 use crate::drive::Way;
 use crate::judges::Ruling;
-use crate::load::{Loaded, Second, load_plain};
+use crate::load::{Filling, Loaded, load_plain};
+use rv_plain::Plain;
 use rv_retrieval::Goal2;
 use rv_value::NoMemory;
 use std::alloc::Global;
@@ -164,16 +166,17 @@ const COVERED: Asked = Asked {
 
 fn add_ways(
     alloc: Global,
-    loaded: &Loaded,
+    store: &Plain,
+    loaded: Loaded,
     asked: &Asked,
     ruling: Ruling,
     lines: &mut Vec<String>,
 ) -> Result<(), NoMemory>
-    requires { Stands loaded.now }
+    requires { Stands (shown_of store.now) loaded }
 {
     let mut before = format!(in alloc; "")?;
     'paces: for pace in PACES {
-        let found = outcome(alloc, loaded, asked, ruling, pace.way())?;
+        let found = outcome(alloc, store, loaded, asked, ruling, pace.way())?;
         let told = if found.as_str() == before.as_str() {
             "the same"
         } else {
@@ -187,16 +190,17 @@ fn add_ways(
 
 fn add_kind(
     alloc: Global,
-    loaded: &Loaded,
+    store: &Plain,
+    loaded: Loaded,
     name: &str,
     asked: Asked,
     lines: &mut Vec<String>,
 ) -> Result<(), NoMemory>
-    requires { Stands loaded.now }
+    requires { Stands (shown_of store.now) loaded }
 {
     lines.push(format!(in alloc; "{name}")?)?;
     'rulings: for ruling in RULINGS {
-        add_ways(alloc, loaded, &asked, ruling, lines)?;
+        add_ways(alloc, store, loaded, &asked, ruling, lines)?;
     }
     Ok(())
 }
@@ -208,32 +212,68 @@ fn soon(asked: Asked) -> Asked {
     }
 }
 
-fn add_tables(alloc: Global, loaded: &Loaded, lines: &mut Vec<String>) -> Result<(), NoMemory>
-    requires { Stands loaded.now }
+fn add_tables(
+    alloc: Global,
+    store: &Plain,
+    loaded: Loaded,
+    lines: &mut Vec<String>,
+) -> Result<(), NoMemory>
+    requires { Stands (shown_of store.now) loaded }
 {
     let free = Asked {
         third: Some(Span { low: 10, high: 11 }),
         uses: [true, true, false, false],
         ..ANY
     };
-    add_kind(alloc, loaded, "table", free, lines)?;
-    add_kind(alloc, loaded, "table without an index", ANY, lines)
+    add_kind(alloc, store, loaded, "table", free, lines)?;
+    add_kind(alloc, store, loaded, "table without an index", ANY, lines)
 }
 
-fn add_backgrounds(alloc: Global, loaded: &Loaded, lines: &mut Vec<String>) -> Result<(), NoMemory>
-    requires { Stands loaded.now }
+fn add_backgrounds(
+    alloc: Global,
+    store: &Plain,
+    loaded: Loaded,
+    lines: &mut Vec<String>,
+) -> Result<(), NoMemory>
+    requires { Stands (shown_of store.now) loaded }
 {
-    add_kind(alloc, loaded, "background only", WIDE, lines)?;
-    add_kind(alloc, loaded, "background only, narrow", NARROW, lines)?;
-    add_kind(alloc, loaded, "background only, equal", EQUAL, lines)?;
-    add_kind(alloc, loaded, "fast first", soon(WIDE), lines)?;
-    add_kind(alloc, loaded, "fast first, narrow", soon(NARROW), lines)?;
-    add_kind(alloc, loaded, "fast first, equal", soon(EQUAL), lines)
+    add_kind(alloc, store, loaded, "background only", WIDE, lines)?;
+    add_kind(
+        alloc,
+        store,
+        loaded,
+        "background only, narrow",
+        NARROW,
+        lines,
+    )?;
+    add_kind(alloc, store, loaded, "background only, equal", EQUAL, lines)?;
+    add_kind(alloc, store, loaded, "fast first", soon(WIDE), lines)?;
+    add_kind(
+        alloc,
+        store,
+        loaded,
+        "fast first, narrow",
+        soon(NARROW),
+        lines,
+    )?;
+    add_kind(
+        alloc,
+        store,
+        loaded,
+        "fast first, equal",
+        soon(EQUAL),
+        lines,
+    )
 }
 
 /// The retrievals in the order of the third column.
-fn add_sorted(alloc: Global, loaded: &Loaded, lines: &mut Vec<String>) -> Result<(), NoMemory>
-    requires { Stands loaded.now }
+fn add_sorted(
+    alloc: Global,
+    store: &Plain,
+    loaded: Loaded,
+    lines: &mut Vec<String>,
+) -> Result<(), NoMemory>
+    requires { Stands (shown_of store.now) loaded }
 {
     let with_background = Asked {
         first: Some(Span {
@@ -248,14 +288,21 @@ fn add_sorted(alloc: Global, loaded: &Loaded, lines: &mut Vec<String>) -> Result
         sorted: true,
         ..ANY
     };
-    add_kind(alloc, loaded, "sorted", with_background, lines)?;
+    add_kind(alloc, store, loaded, "sorted", with_background, lines)?;
     let alone = Asked {
         third: Some(Span { low: 10, high: 11 }),
         uses: [false, false, false, true],
         sorted: true,
         ..ANY
     };
-    add_kind(alloc, loaded, "sorted without background", alone, lines)?;
+    add_kind(
+        alloc,
+        store,
+        loaded,
+        "sorted without background",
+        alone,
+        lines,
+    )?;
     let by_index = Asked {
         first: Some(Span {
             low: 100,
@@ -266,25 +313,49 @@ fn add_sorted(alloc: Global, loaded: &Loaded, lines: &mut Vec<String>) -> Result
         sorted: true,
         ..ANY
     };
-    add_kind(alloc, loaded, "sorted by index alone", by_index, lines)
+    add_kind(
+        alloc,
+        store,
+        loaded,
+        "sorted by index alone",
+        by_index,
+        lines,
+    )
 }
 
-fn add_index_only(alloc: Global, loaded: &Loaded, lines: &mut Vec<String>) -> Result<(), NoMemory>
-    requires { Stands loaded.now }
+fn add_index_only(
+    alloc: Global,
+    store: &Plain,
+    loaded: Loaded,
+    lines: &mut Vec<String>,
+) -> Result<(), NoMemory>
+    requires { Stands (shown_of store.now) loaded }
 {
-    add_kind(alloc, loaded, "index only", COVERED, lines)?;
+    add_kind(alloc, store, loaded, "index only", COVERED, lines)?;
     let alone = Asked {
         first: None,
         third: Some(Span { low: 10, high: 11 }),
         uses: [false, false, true, false],
         ..COVERED
     };
-    add_kind(alloc, loaded, "index only without background", alone, lines)
+    add_kind(
+        alloc,
+        store,
+        loaded,
+        "index only without background",
+        alone,
+        lines,
+    )
 }
 
 /// The retrievals of few entries, or none, which are scanned when they are opened.
-fn add_short(alloc: Global, loaded: &Loaded, lines: &mut Vec<String>) -> Result<(), NoMemory>
-    requires { Stands loaded.now }
+fn add_short(
+    alloc: Global,
+    store: &Plain,
+    loaded: Loaded,
+    lines: &mut Vec<String>,
+) -> Result<(), NoMemory>
+    requires { Stands (shown_of store.now) loaded }
 {
     let sorted = Asked {
         uses: [true, true, false, true],
@@ -306,26 +377,27 @@ fn add_short(alloc: Global, loaded: &Loaded, lines: &mut Vec<String>) -> Result<
         first: Some(Span { low: 40, high: 10 }),
         ..NONE
     };
-    add_kind(alloc, loaded, "short", soon(SHORT), lines)?;
-    add_kind(alloc, loaded, "short, sorted", sorted, lines)?;
+    add_kind(alloc, store, loaded, "short", soon(SHORT), lines)?;
+    add_kind(alloc, store, loaded, "short, sorted", sorted, lines)?;
     add_kind(
         alloc,
+        store,
         loaded,
         "short, of the order's index",
         of_order,
         lines,
     )?;
-    add_kind(alloc, loaded, "no entry", NONE, lines)?;
-    add_kind(alloc, loaded, "no entry, sorted", none_sorted, lines)?;
-    add_kind(alloc, loaded, "crossed", crossed, lines)
+    add_kind(alloc, store, loaded, "no entry", NONE, lines)?;
+    add_kind(alloc, store, loaded, "no entry, sorted", none_sorted, lines)?;
+    add_kind(alloc, store, loaded, "crossed", crossed, lines)
 }
 
 /// The lines of the whole table.
 pub fn add_kinds(alloc: Global, lines: &mut Vec<String>) -> Result<(), NoMemory> {
-    let loaded = load_plain(alloc, 400, Second::Same)?;
-    add_tables(alloc, &loaded, lines)?;
-    add_backgrounds(alloc, &loaded, lines)?;
-    add_sorted(alloc, &loaded, lines)?;
-    add_index_only(alloc, &loaded, lines)?;
-    add_short(alloc, &loaded, lines)
+    let (store, loaded) = load_plain(alloc, 400, Filling::Same)?;
+    add_tables(alloc, &store, loaded, lines)?;
+    add_backgrounds(alloc, &store, loaded, lines)?;
+    add_sorted(alloc, &store, loaded, lines)?;
+    add_index_only(alloc, &store, loaded, lines)?;
+    add_short(alloc, &store, loaded, lines)
 }

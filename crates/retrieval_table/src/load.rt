@@ -1,24 +1,31 @@
 //! A table of three columns with four indexes, in any store.
 ghost use Rattle.std.specs.Prelude.{◌≡◌, ◌+◌, ◌<◌, ◌≤◌, IfOk, OnOk, length};
 ghost use Rattle.std.specs.List.{AllByRecursion};
+ghost use Rattle.rv_plain.specs.Kept as plain;
 ghost use Rattle.rv_rows.specs.Changes.{Rise};
+ghost use Rattle.rv_store.specs.Paged as paged;
 ghost use Rattle.retrieval_table.specs.Laying.{Empty, Fresh, IsBatch, IsNew, Laid, Offers, columns_of};
 ghost use Rattle.retrieval_table.specs.Standing.{Stands};
 
 use rv_plain::Plain;
 use rv_reader::{Change, Store};
+use rv_store::Paged;
 use rv_value::{Items, NoMemory, RowNo, Value, Values};
 use std::alloc::Global;
 
-/// What the second column has: the row's number, or 0.
+/// What the second and the third column have.
 #[derive(Clone, Copy, PartialEq, Eq, Debug)]
-pub enum Second {
+pub enum Filling {
+    /// The row's number, and a number below 50 or NULL.
     Same,
+    /// 0, and a number below 50 or NULL.
     Zero,
+    /// The row's number, and its remainder by 4.
+    Fourths,
 }
 
-/// The third value is NULL in each eleventh row, else a number below 50.
-fn third(row: u64) -> Value {
+/// NULL in each eleventh row, else a number below 50.
+fn mixed(row: u64) -> Value {
     if row % 11 == 0 {
         Value::Null
     } else {
@@ -26,23 +33,30 @@ fn third(row: u64) -> Value {
     }
 }
 
+fn third(row: u64, filling: Filling) -> Value {
+    match filling {
+        Filling::Same | Filling::Zero => mixed(row),
+        Filling::Fourths => Value::Int((row % 4) as i64),
+    }
+}
+
 /// The values of a row. The first is its number.
-pub fn values_of(alloc: Global, row: u64, second: Second) -> Result<Values, NoMemory>
+pub fn values_of(alloc: Global, row: u64, filling: Filling) -> Result<Values, NoMemory>
     requires { row < 1000000 }
     ensures { IfOk result (λ values. length values ≡ 3) }
 {
-    let second = match second {
-        Second::Same => Value::Int(row as i64),
-        Second::Zero => Value::Int(0),
+    let second = match filling {
+        Filling::Same | Filling::Fourths => Value::Int(row as i64),
+        Filling::Zero => Value::Int(0),
     };
     let mut values = Vec::with_capacity(alloc, 3)?;
     values.push(Value::Int(row as i64))?;
     values.push(second)?;
-    values.push(third(row))?;
+    values.push(third(row, filling))?;
     Ok(Values::from_vec(values))
 }
 
-fn inserted(alloc: Global, row: u64, second: Second) -> Result<Change, NoMemory>
+fn inserted(alloc: Global, row: u64, filling: Filling) -> Result<Change, NoMemory>
     requires { row < 1000000 }
     ensures new { IfOk result IsNew }
     ensures row { IfOk result (λ c. c.row.0 ≡ row) }
@@ -50,17 +64,17 @@ fn inserted(alloc: Global, row: u64, second: Second) -> Result<Change, NoMemory>
     Ok(Change {
         table: 0,
         row: RowNo(row),
-        values: Some(values_of(alloc, row, second)?),
+        values: Some(values_of(alloc, row, filling)?),
     })
 }
 
-fn rows_below(alloc: Global, rows: u64, second: Second) -> Result<Vec<Change>, NoMemory>
+fn rows_below(alloc: Global, rows: u64, filling: Filling) -> Result<Vec<Change>, NoMemory>
     requires { rows ≤ 1000000 }
     ensures { IfOk result (λ changes. IsBatch rows changes.items) }
 {
     let mut changes = Vec::new(alloc);
     'rows: for row in 0..rows {
-        changes.push(inserted(alloc, row, second)?)?;
+        changes.push(inserted(alloc, row, filling)?)?;
     }
     Ok(changes)
 }
@@ -128,38 +142,52 @@ fn settle<S: Store>(store: &S) -> u64
     snap
 }
 
-/// Makes the table and its indexes in an empty store, and commits so many rows; the snapshot.
-fn load<S: Store>(alloc: Global, store: &mut S, rows: u64, second: Second) -> Result<u64, NoMemory>
-    requires empty { Empty (S.shown store.old) }
-    requires rows { rows ≤ 1000000 }
-    ensures { IfOk result (Offers (S.shown store.new)) }
-{
-    lay(alloc, store)?;
-    let changes = rows_below(alloc, rows, second)?;
-    commit(store, changes.as_slice())?;
-    Ok(settle(store))
-}
-
-/// A plain store with the table of so many rows.
-#[derive(Drop, Debug)]
+/// What was loaded into a store: at a snapshot the table of so many rows.
+#[derive(Clone, Copy, PartialEq, Eq, Debug)]
 pub struct Loaded {
-    pub store: Plain,
     pub snap: u64,
     pub rows: u64,
-    pub second: Second,
+    pub filling: Filling,
 }
 
-/// Loads a plain store.
-pub fn load_plain(alloc: Global, rows: u64, second: Second) -> Result<Loaded, NoMemory>
-    requires { rows ≤ 1000000 }
-    ensures { IfOk result Stands }
+/// Makes the table and its indexes in an empty store, and commits so many rows.
+fn load<S: Store>(
+    alloc: Global,
+    store: &mut S,
+    rows: u64,
+    filling: Filling,
+) -> Result<Loaded, NoMemory>
+    requires empty { Empty (S.shown store.old) }
+    requires rows { rows ≤ 1000000 }
+    ensures { IfOk result (Stands (S.shown store.new)) }
 {
-    let mut store = Plain::new(alloc)?;
-    let snap = load(alloc, &mut store, rows, second)?;
+    lay(alloc, store)?;
+    let changes = rows_below(alloc, rows, filling)?;
+    commit(store, changes.as_slice())?;
+    let snap = settle(store);
     Ok(Loaded {
-        store,
         snap,
         rows,
-        second,
+        filling,
     })
+}
+
+/// A plain store that was loaded.
+pub fn load_plain(alloc: Global, rows: u64, filling: Filling) -> Result<(Plain, Loaded), NoMemory>
+    requires { rows ≤ 1000000 }
+    ensures { IfOk result (λ made. Stands (plain.shown_of made.0) made.1) }
+{
+    let mut store = Plain::new(alloc)?;
+    let loaded = load(alloc, &mut store, rows, filling)?;
+    Ok((store, loaded))
+}
+
+/// A paged store that was loaded.
+pub fn load_paged(alloc: Global, rows: u64, filling: Filling) -> Result<(Paged, Loaded), NoMemory>
+    requires { rows ≤ 1000000 }
+    ensures { IfOk result (λ made. Stands (paged.shown_of made.0) made.1) }
+{
+    let mut store = Paged::new(alloc)?;
+    let loaded = load(alloc, &mut store, rows, filling)?;
+    Ok((store, loaded))
 }

@@ -1,7 +1,8 @@
 //! Drives retrievals over plain stores by a table: every strategy with every judge, with none, one and five background
-//! steps between two foreground steps, and with pieces given late, twice and never. Of each it writes the rows in the
-//! order in which they came, whether they are the rows that qualify, each once and in order where an order is asked, and
-//! the trace. The file `stdout` has what tools/retrieval_table.py finds by the rules in words.
+//! steps between two foreground steps, and with pieces given late, twice and never; and some single ones over plain and
+//! over paged stores. Of each it writes the rows in the order in which they came, whether they are the rows that qualify,
+//! each once and in order where an order is asked, and the trace. The file `stdout` has what tools/retrieval_table.py
+//! finds by the rules in words.
 #![tactic(auto)]
 
 mod asked;

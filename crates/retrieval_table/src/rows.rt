@@ -5,7 +5,9 @@ use crate::asked::{Asked, Span};
 use crate::case::outcome;
 use crate::drive::Way;
 use crate::judges::Ruling;
-use crate::load::{Loaded, Second, load_plain};
+use crate::load::{Filling, Loaded, load_paged, load_plain};
+use rv_judge::Uncounted;
+use rv_reader::Reader;
 use rv_retrieval::Goal2;
 use rv_value::NoMemory;
 use std::alloc::Global;
@@ -46,6 +48,30 @@ const ALL_SOON: Asked = Asked {
     goal: Goal2::FastFirst,
 };
 
+/// The first value is from 10 to 29, and the first rows are wanted soon.
+const TWENTY_SOON: Asked = Asked {
+    first: Some(Span { low: 10, high: 29 }),
+    ..SOON
+};
+
+/// The first value is from 20 to 22.
+const THREE: Asked = Asked {
+    first: Some(Span { low: 20, high: 22 }),
+    goal: Goal2::TotalTime,
+    ..SOON
+};
+
+/// The second value is from 10 to 29, in the order of the third column.
+const TWENTY_SORTED: Asked = Asked {
+    first: None,
+    second: Some(Span { low: 10, high: 29 }),
+    third: None,
+    uses: [false, true, false, true],
+    whole: true,
+    sorted: true,
+    goal: Goal2::TotalTime,
+};
+
 /// All rows are in the span, and an index has the columns needed.
 const ALL_BY_INDEX: Asked = Asked {
     first: Some(Span {
@@ -75,28 +101,38 @@ const AFTER_FOUR: Way = Way {
     after: Some(4),
 };
 
-fn add(
+/// Nine background steps after the third row, and no others.
+const AFTER_THREE: Way = Way {
+    steps: 9,
+    late: 0,
+    times: 1,
+    after: Some(3),
+};
+
+fn add<R: Reader<Ledger = Uncounted>>(
     alloc: Global,
-    loaded: &Loaded,
+    reader: &R,
+    loaded: Loaded,
     name: &str,
     asked: Asked,
     ruling: Ruling,
     way: Way,
     lines: &mut Vec<String>,
 ) -> Result<(), NoMemory>
-    requires { Stands loaded.now }
+    requires { Stands (R.shown reader.now) loaded }
 {
-    let outcome = outcome(alloc, loaded, &asked, ruling, way)?;
+    let outcome = outcome(alloc, reader, loaded, &asked, ruling, way)?;
     lines.push(format!(in alloc; "{name}: {}", outcome.as_str())?)?;
     Ok(())
 }
 
 /// Eighty rows whose second value is the first.
 fn add_two_lists(alloc: Global, lines: &mut Vec<String>) -> Result<(), NoMemory> {
-    let eighty = load_plain(alloc, 80, Second::Same)?;
+    let (store, eighty) = load_plain(alloc, 80, Filling::Same)?;
     add(
         alloc,
-        &eighty,
+        &store,
+        eighty,
         "two lists",
         BOTH,
         Ruling::Patient,
@@ -105,7 +141,8 @@ fn add_two_lists(alloc: Global, lines: &mut Vec<String>) -> Result<(), NoMemory>
     )?;
     add(
         alloc,
-        &eighty,
+        &store,
+        eighty,
         "two scans dropped",
         BOTH,
         Ruling::Threshold,
@@ -116,10 +153,11 @@ fn add_two_lists(alloc: Global, lines: &mut Vec<String>) -> Result<(), NoMemory>
 
 /// Eighty rows whose second value is 0.
 fn add_fast_first(alloc: Global, lines: &mut Vec<String>) -> Result<(), NoMemory> {
-    let eighty = load_plain(alloc, 80, Second::Zero)?;
+    let (store, eighty) = load_plain(alloc, 80, Filling::Zero)?;
     add(
         alloc,
-        &eighty,
+        &store,
+        eighty,
         "fast first borrows",
         SOON,
         Ruling::Patient,
@@ -128,7 +166,8 @@ fn add_fast_first(alloc: Global, lines: &mut Vec<String>) -> Result<(), NoMemory
     )?;
     add(
         alloc,
-        &eighty,
+        &store,
+        eighty,
         "threshold drops",
         SOON,
         Ruling::Threshold,
@@ -137,7 +176,8 @@ fn add_fast_first(alloc: Global, lines: &mut Vec<String>) -> Result<(), NoMemory
     )?;
     add(
         alloc,
-        &eighty,
+        &store,
+        eighty,
         "contrary stops",
         SOON,
         Ruling::Contrary,
@@ -148,10 +188,11 @@ fn add_fast_first(alloc: Global, lines: &mut Vec<String>) -> Result<(), NoMemory
 
 /// 1,100 rows, more than the buffer of delivered rows has places.
 fn add_full_buffer(alloc: Global, lines: &mut Vec<String>) -> Result<(), NoMemory> {
-    let many = load_plain(alloc, 1100, Second::Zero)?;
+    let (store, many) = load_plain(alloc, 1100, Filling::Zero)?;
     add(
         alloc,
-        &many,
+        &store,
+        many,
         "full buffer",
         ALL_SOON,
         Ruling::Patient,
@@ -160,9 +201,85 @@ fn add_full_buffer(alloc: Global, lines: &mut Vec<String>) -> Result<(), NoMemor
     )?;
     add(
         alloc,
-        &many,
+        &store,
+        many,
         "full buffer, by index alone",
         ALL_BY_INDEX,
+        Ruling::Patient,
+        NO_STEP,
+        lines,
+    )
+}
+
+/// Forty rows in a paged store. The index over the first column has leaves of 16 and 24 entries.
+fn add_paged_forty(alloc: Global, lines: &mut Vec<String>) -> Result<(), NoMemory> {
+    let (store, forty) = load_paged(alloc, 40, Filling::Zero)?;
+    add(
+        alloc,
+        &store,
+        forty,
+        "paged, fast first borrows",
+        TWENTY_SOON,
+        Ruling::Patient,
+        AFTER_FOUR,
+        lines,
+    )?;
+    add(
+        alloc,
+        &store,
+        forty,
+        "paged, threshold drops",
+        TWENTY_SOON,
+        Ruling::Threshold,
+        AFTER_FOUR,
+        lines,
+    )?;
+    add(
+        alloc,
+        &store,
+        forty,
+        "paged, contrary stops",
+        TWENTY_SOON,
+        Ruling::Contrary,
+        AFTER_FOUR,
+        lines,
+    )?;
+    add(
+        alloc,
+        &store,
+        forty,
+        "paged, short range",
+        THREE,
+        Ruling::Threshold,
+        NO_STEP,
+        lines,
+    )
+}
+
+/// Forty rows in a paged store, with third values from 0 to 3.
+fn add_paged_sorted(alloc: Global, lines: &mut Vec<String>) -> Result<(), NoMemory> {
+    let (store, forty) = load_paged(alloc, 40, Filling::Fourths)?;
+    add(
+        alloc,
+        &store,
+        forty,
+        "paged, list into sorted",
+        TWENTY_SORTED,
+        Ruling::Patient,
+        AFTER_THREE,
+        lines,
+    )
+}
+
+/// 1,100 rows in a paged store. The index over the first column has 67 leaves of 16 entries and one of 28.
+fn add_paged_full(alloc: Global, lines: &mut Vec<String>) -> Result<(), NoMemory> {
+    let (store, many) = load_paged(alloc, 1100, Filling::Zero)?;
+    add(
+        alloc,
+        &store,
+        many,
+        "paged, full buffer",
+        ALL_SOON,
         Ruling::Patient,
         NO_STEP,
         lines,
@@ -173,5 +290,8 @@ fn add_full_buffer(alloc: Global, lines: &mut Vec<String>) -> Result<(), NoMemor
 pub fn add_rows(alloc: Global, lines: &mut Vec<String>) -> Result<(), NoMemory> {
     add_two_lists(alloc, lines)?;
     add_fast_first(alloc, lines)?;
-    add_full_buffer(alloc, lines)
+    add_full_buffer(alloc, lines)?;
+    add_paged_forty(alloc, lines)?;
+    add_paged_sorted(alloc, lines)?;
+    add_paged_full(alloc, lines)
 }

@@ -1,4 +1,4 @@
-use Rattle.std.proofs.Common.{◌∙◌, sym, subst, List, ℕ}
+use Rattle.std.proofs.Common.{◌∙◌, subst, List, ℕ}
 use Rattle.retrieval_table.specs.Asking.{Chosen, IsOrder}
 use Rattle.retrieval_table.proofs.Asks.{can_ask}
 use Rattle.retrieval_table.proofs.asked.query.Goals as goal

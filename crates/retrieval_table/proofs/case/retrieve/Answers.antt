@@ -1,16 +1,15 @@
 use Rattle.std.proofs.Common.{◌∙◌, List, subst}
 use Rattle.std.specs.Prelude.{IsPermutation}
 use Rattle.rv_value.specs.declared.record.Record.{Record}
-use Rattle.rv_plain.specs.Kept.{shown_of}
 use Rattle.rv_retrieval.specs.Rest.{qualifying}
 use Rattle.retrieval_table.specs.Driving.{numbers_of}
 use Rattle.retrieval_table.proofs.case.retrieve.Goals as goal
 
 pub open-requires : goal.open-requires
-open-requires c = c.in_ok-query.ensures.can (shown_of c.args.loaded.now.store) c.requires.offers
+open-requires g c = c.in_ok-query.ensures.can (g.R.Reader.shown c.args.reader.now) c.requires.offers
 
 pub returns : goal.returns
-returns c = λ ended.
+returns g c = λ ended.
     let query = c.in_ok-query.ensures.query in
-    let all = c.in_ok-retrieval.ensures.rest ∙ (λ i. qualifying (query.only i) ((shown_of c.args.loaded.now.store).rows (query.table i) (query.at_snap i))) in
+    let all = c.in_ok-retrieval.ensures.rest ∙ (λ i. qualifying (query.only i) ((g.R.Reader.shown c.args.reader.now).rows (query.table i) (query.at_snap i))) in
     subst (λ (due : List Record). IsPermutation (numbers_of due) (numbers_of c.in_ok-driven.driven.rows.items)) all (c.in_ok-driven.ensures ended)
