@@ -1,0 +1,13 @@
+use Rattle.rv_cursor.proofs.Holding.{kept_stays, row_stays}
+use Rattle.rv_cursor.proofs.cursor.fill.Goals as goal
+
+pub returns-in-Ok-Row-clause-stays : goal.returns-in-Ok-Row-clause-stays
+returns-in-Ok-Row-clause-stays g c = row_stays (g.R.Reader.shown c.args.reader.now) c.args.cursor.now c.step.new.self c.in-Ok-Row.offer c.replace-before.new.self c.replace-before.ensures.after c.requires.empty c.requires.fits c.step.ensures.fits (rw c.in-Ok-Row.field-0-is at c.in-Ok-Row.ensures.step)
+
+pub returns-in-Ok-Working-clause-stays : goal.returns-in-Ok-Working-clause-stays
+returns-in-Ok-Working-clause-stays g c =
+    let moves = rw c.in-Ok-Working.field-0-is at c.in-Ok-Working.ensures.step in
+    kept_stays (g.R.Reader.shown c.args.reader.now) c.args.cursor.now c.step.new.self c.requires.empty c.requires.fits c.step.ensures.fits moves.asked moves.step
+
+pub returns-in-Err-clause-stays : goal.returns-in-Err-clause-stays
+returns-in-Err-clause-stays g c = kept_stays (g.R.Reader.shown c.args.reader.now) c.args.cursor.now c.step.new.self c.requires.empty c.requires.fits c.step.ensures.fits c.in-Err.ensures.err.asked c.in-Err.ensures.err.rest_kept

@@ -1,0 +1,13 @@
+use Rattle.std.proofs.Common.{◌-◌, ◌≡◌, ◌≤◌}
+use Rattle.rv_cursor.specs.Left.{Stays}
+use Rattle.rv_cursor.proofs.fetching.step.Given as goal
+
+abbrev pub invariant-pieces : goal.invariant-pieces
+invariant-pieces g l = record {
+  stays : Stays (g.R.Reader.shown l.reader) l.initial.cursor l.cursor;
+  hand : l.cursor.hand ≡ l.initial.cursor.hand;
+  most : l.done ≤ l.most;
+}
+
+abbrev pub decreases-pieces : goal.decreases-pieces
+decreases-pieces g l = l.most - l.done

@@ -1,0 +1,70 @@
+-- What a cursor has left to offer.
+use Rattle.std.specs.Prelude.{◌≡◌, ℕ, ◌+◌, ◌<◌, ◌≤◌, List, [], ◌∷◌, ◌++◌, Option, Some, None, IfSome}
+use Rattle.rv_lang.specs.declared.reply.Reply.{Reply}
+use Rattle.rv_model.specs.declared.state.Offer.{Offer}
+use Rattle.rv_model.specs.Offers.{sorted}
+use Rattle.rv_model.specs.Step.{Offers, offers_after}
+use Rattle.rv_reader.specs.Shown.{Shown}
+use Rattle.rv_snapshot.specs.Alone.{alone}
+use Rattle.rv_join.specs.Order.{IsLeastOf}
+use Rattle.rv_join.specs.Plans.{PlanFits, plan_rest, plan_work}
+use Rattle.rv_cursor.specs.declared.cursor.Open.{Open}
+use Rattle.rv_cursor.specs.declared.cursor.Filled.{Filled}
+use Rattle.rv_cursor.specs.declared.cursor.Filled.TheVariants.{Nearer, Ended}
+
+-- the reader at the cursor's snapshot alone
+abbrev pub seen_by : Shown → Open → Shown
+seen_by shown c = alone shown c.snap
+
+abbrev pub in_hand : Option Offer → List Offer
+in_hand None = []
+in_hand (Some o) = o ∷ []
+
+-- the offers of its plan that did not come yet
+abbrev pub to_come : Shown → Open → List Offer
+to_come shown c = plan_rest (seen_by shown c) c.plan
+
+-- THE OFFERS THAT A CURSOR HAS LEFT: the row in hand and the rest of its plan, sorted
+abbrev pub left : Shown → Open → List Offer
+left shown c = sorted (in_hand c.hand ++ to_come shown c)
+
+-- its plan was drawn from what the reader shows at its snapshot, and none that is to come is less than the row in hand
+pub record CursorFits (shown : Shown) (c : Open) : Type 0 where
+  pub at : c.plan.asked.snap ≡ c.snap
+  pub plan : PlanFits (seen_by shown c) c.plan
+  pub least : IfSome c.hand (λ o. IsLeastOf o (to_come shown c))
+
+-- what it was opened with stays
+pub record SameCursor (old new : Open) : Type 0 where
+  pub session : new.session ≡ old.session
+  pub name : new.name ≡ old.name
+  pub number : new.number ≡ old.number
+  pub snap : new.snap ≡ old.snap
+  pub asked : new.plan.asked ≡ old.plan.asked
+
+-- whatever a call does to a cursor, but for an offer that it gives
+pub record Stays (shown : Shown) (old new : Open) : Type 0 where
+  pub fits : CursorFits shown new
+  pub same : SameCursor old new
+  pub left : left shown new ≡ left shown old
+
+-- the work left of its plan
+abbrev pub work : Shown → Open → ℕ
+work shown c = plan_work (seen_by shown c) c.plan
+
+-- the measure of a fetch: the work left of the plan, and one for the row that is not in hand
+abbrev pub missing : Option Offer → ℕ
+missing None = 1
+missing (Some o) = 0
+
+abbrev pub to_do : Shown → Open → ℕ
+to_do shown c = work shown c + missing c.hand
+
+-- a plan's step: a row came nearer, or none is left
+abbrev pub Fills : Shown → Filled → Open → Open → Type 0
+Fills shown Nearer old new = to_do shown new < to_do shown old
+Fills shown Ended old new = left shown old ≡ []
+
+-- Two equal replies may be given by a cursor of these offers, and these are left.
+abbrev pub TakesOffer : List Offer → Reply × Reply → List Offer → Type 0
+TakesOffer old replies new = (replies.1 ≡ replies.0) × Offers old replies.0 × (new ≡ offers_after old replies.0)

@@ -1,0 +1,125 @@
+//! A cursor, and the steps of its plan.
+ghost use Rattle.std.specs.Prelude.{◌≡◌, ◌≤◌, None, IfOk};
+ghost use Rattle.rv_join.specs.Asking.{CanPlan, IsAsked};
+ghost use Rattle.rv_join.specs.Levels.{table_rows};
+ghost use Rattle.rv_model.specs.Offering.{offers_over};
+ghost use Rattle.rv_model.specs.Offers.{sorted};
+ghost use Rattle.rv_snapshot.specs.Alone.{alone};
+ghost use Rattle.rv_cursor.specs.Left.{CursorFits, Fills, Stays, left, work};
+
+use rv_catalog::{IndexDef, Select};
+use rv_join::{Plan, PlanStep};
+use rv_jscan::{Taken, sieve};
+use rv_judge::{Judge, Steps};
+use rv_model::Offer;
+use rv_reader::Reader;
+use rv_snapshot::Snapshot;
+use rv_value::{NoMemory, Text};
+use std::alloc::Global;
+
+/// An open cursor of a session over a snapshot: its plan, and the row that the plan gave and that was not fetched yet.
+#[derive(Drop)]
+pub struct Open {
+    pub session: u8,
+    pub name: Text,
+    pub number: u64,
+    pub snap: u64,
+    pub plan: Plan,
+    pub hand: Option<Offer>,
+}
+
+/// What a step of a cursor's plan came to.
+#[derive(Clone, Copy, Debug, PartialEq, Eq)]
+pub enum Filled {
+    /// A row is in hand, or has come nearer by some work.
+    Nearer,
+    /// Nothing is left.
+    Ended,
+}
+
+/// Opens a cursor over what a select offers at a snapshot.
+pub fn open_cursor<R: Reader>(
+    alloc: Global,
+    reader: &R,
+    select: &Select,
+    indexes: &[IndexDef],
+    session: u8,
+    name: Text,
+    number: u64,
+    snap: u64,
+    steps: &mut Steps<R::Ledger>,
+) -> Result<Open, NoMemory>
+    requires { CanPlan select.now indexes.now (alone (R.shown reader.now) snap) snap }
+    ensures fits { IfOk result (CursorFits (R.shown reader.now)) }
+    ensures left { IfOk result (λ c. left (R.shown reader.now) c ≡ sorted (offers_over select.now (table_rows (alone (R.shown reader.now) snap) snap))) }
+    ensures asked { IfOk result (λ c. IsAsked select.now indexes.now snap number c.plan.asked) }
+    ensures session { IfOk result (λ c. c.session ≡ session) }
+    ensures name { IfOk result (λ c. c.name ≡ name) }
+    ensures number { IfOk result (λ c. c.number ≡ number) }
+    ensures snap { IfOk result (λ c. c.snap ≡ snap) }
+{
+    let seen = Snapshot { reader, snap };
+    let plan = Plan::open(alloc, &seen, select, indexes, snap, number, steps)?;
+    Ok(Open {
+        session,
+        name,
+        number,
+        snap,
+        plan,
+        hand: None,
+    })
+}
+
+/// A step of the plan of a cursor that has no row in hand.
+pub fn fill<R: Reader>(
+    cursor: &mut Open,
+    reader: &R,
+    judge: &mut Box<dyn Judge>,
+    steps: &mut Steps<R::Ledger>,
+) -> Result<Filled, NoMemory>
+    requires fits { CursorFits (R.shown reader.now) cursor.old }
+    requires empty { cursor.old.hand ≡ None }
+    ensures stays { Stays (R.shown reader.now) cursor.old cursor.new }
+    ensures fills { IfOk result (λ f. Fills (R.shown reader.now) f cursor.old cursor.new) }
+{
+    let seen = Snapshot {
+        reader,
+        snap: cursor.snap,
+    };
+    match cursor.plan.step(&seen, judge, steps) {
+        Ok(PlanStep::Row(offer)) => {
+            let _before = cursor.hand.replace(offer);
+            Ok(Filled::Nearer)
+        }
+        Ok(PlanStep::End) => Ok(Filled::Ended),
+        Ok(PlanStep::Working) => Ok(Filled::Nearer),
+        Err(NoMemory) => Err(NoMemory),
+    }
+}
+
+/// Takes, sieves and gives the piece that the plan awaits; whether there was one.
+pub fn work_piece<R: Reader>(
+    cursor: &mut Open,
+    reader: &R,
+    judge: &mut Box<dyn Judge>,
+    steps: &mut Steps<R::Ledger>,
+) -> Result<bool, NoMemory>
+    requires fits { CursorFits (R.shown reader.now) cursor.old }
+    ensures stays { Stays (R.shown reader.now) cursor.old cursor.new }
+    ensures hand { cursor.new.hand ≡ cursor.old.hand }
+    ensures work { work (R.shown reader.now) cursor.new ≤ work (R.shown reader.now) cursor.old }
+{
+    let seen = Snapshot {
+        reader,
+        snap: cursor.snap,
+    };
+    let piece = match cursor.plan.take(&seen, steps) {
+        Ok(Taken::Piece(piece)) => piece,
+        Ok(Taken::Nothing) => return Ok(false),
+        Err(NoMemory) => return Err(NoMemory),
+    };
+    match cursor.plan.give(sieve(piece), judge, steps) {
+        Ok(_given) => Ok(true),
+        Err(NoMemory) => Err(NoMemory),
+    }
+}

@@ -1,0 +1,10 @@
+//! Open cursors: a plan with at most one row in hand.
+#![tactic(auto)]
+
+pub mod cursor;
+pub mod fetching;
+pub mod replies;
+
+pub use cursor::{Open, open_cursor};
+pub use fetching::{fetch, step};
+pub use replies::twice;
