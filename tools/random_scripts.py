@@ -1,318 +1,87 @@
 #!/usr/bin/env python3
-"""Runs random scripts through a built program and replays each transcript against a slow evaluation of what
-the calls mean: rows as lists, conditions in three truths, a FETCH that may give any row whose order values
-equal those of the first that is left.
+"""Runs random scripts through a built program and replays each transcript against a slow evaluation of what the calls mean.
 
-usage: tools/random_scripts.py PROGRAM [COUNT [SEED]]
+usage: tools/random_scripts.py PROGRAM [COUNT [SEED]] [--exact | --beside PROGRAM]
 
-Prints the scripts that differ, with the first line at which they do, and ends with status 1 where one did.
-The evaluation shares no code with the program, and reads no text: each script is made as a list of statements
-with their meaning, and spelled at random."""
+The evaluation (one_thread.py) shares no code with the program and reads no text: each script is made as a list of statements
+with their meaning, and spelled at random. A FETCH may give any row whose order values equal those of the first that is left; a
+STEP answers a number that is not above the one asked for; a trace is a front of a course (course.py), only grows, and counts
+what was stepped. With --exact each transcript is also the one that slow_program.py writes, traces and all.
+
+With --beside a second program, or the same one over another store (tools/plain_program.sh builds the one over the plain
+store), runs each script too. Both are replayed, and their transcripts are equal but for what the two may differ in: SHOW and
+STEP, whose replies depend on the store's leaves and estimates, and which row a FETCH gives. There both give a row or both
+`end`, and when a cursor comes to its end both gave the same rows.
+
+Prints the scripts that differ, with the first line at which they do, and ends with status 1 where one did."""
 import random
 import subprocess
 import sys
 
-COMPARISONS = {
-    "=": lambda a, b: a == b,
-    "<>": lambda a, b: a != b,
-    "<": lambda a, b: a < b,
-    "<=": lambda a, b: a <= b,
-    ">": lambda a, b: a > b,
-    ">=": lambda a, b: a >= b,
-}
-FALSE, UNKNOWN, TRUE = 0, 1, 2
+from course import Seen
+from one_thread import COMPARISONS, Database, shown
+from slow_program import run
 
 
-# What a value is in order: NULL is None, texts are compared by their bytes.
-def place(value):
-    if value is None:
-        return (0, 0)
-    return (1, value) if isinstance(value, int) else (2, value.encode())
+class Checked(Database):
+    """The database, which looks at what STEP and SHOW answer too."""
+
+    def opened(self, select):
+        cursor = super().opened(select)
+        table = select.tables[0]
+        indexes = [name for name, index in self.indexes.items() if index.table == table]
+        cursor.seen = Seen(indexes, len(self.own.rows[table]), len(select.tables), select.soon, select.order)
+        return cursor
+
+    def given(self, statement, reply):
+        super().given(statement, reply)
+        cursor = self.cursors.get((self.session, statement[1])) if statement[0] == "fetch" else None
+        if cursor is not None:
+            cursor.seen.stepped = None
+            cursor.seen.ended = reply == "end"
+
+    def step(self, name, n):
+        seen = self.need_cursor(name).seen
+
+        def fits(reply):
+            word, _, done = reply.partition(" ")
+            if word != "stepped" or not done.isdigit() or int(done) > n:
+                return False
+            if seen.stepped is not None:
+                seen.stepped += int(done)
+            return True
+
+        return fits
+
+    def show(self, name):
+        seen = self.need_cursor(name).seen
+        return lambda reply: seen.fault(reply) is None
 
 
-def shown(value):
-    if value is None:
-        return "NULL"
-    return str(value) if isinstance(value, int) else "'" + value.replace("'", "''") + "'"
-
-
-# Truth.
-def compared(op, a, b):
-    if a is None or b is None:
-        return UNKNOWN
-    return TRUE if COMPARISONS[op](place(a), place(b)) else FALSE
-
-
-def atom_truth(atom, row):
-    kind, column = atom[0], row[atom[1]]
-    if kind == "compare":
-        return compared(atom[2], column, atom[3])
-    if kind == "columns":
-        return compared(atom[2], column, row[atom[3]])
-    if kind == "between":
-        return min(compared(">=", column, atom[2]), compared("<=", column, atom[3]))
-    if kind == "in":
-        return max(compared("=", column, v) for v in atom[2])
-    if kind == "null":
-        return TRUE if (column is None) != atom[2] else FALSE
-    if column is None:
-        return UNKNOWN
-    return TRUE if column.startswith(atom[2]) else FALSE
-
-
-def qualifies(groups, row):
-    return all(max(atom_truth(a, row) for a in group) == TRUE for group in groups)
-
-
-class Database:
-    """The database of eight sessions. `answer` gives the set of replies that a statement may have, and `given`
-    goes on once it is told which one came."""
-
-    def __init__(self):
-        self.tables = {}  # name: [columns, rows by number, next number]
-        self.indexes = {}  # name: table
-        self.last, self.next = 0, 1
-        self.active, self.cursors = {}, {}  # by session; by session and name
-        self.touched = {}  # by table and number: the commit that last wrote the row
-
-    def answer(self, session, statement):
-        self.session, self.own = session, self.active.get(session)
-        kind = statement[0]
-        if kind == "syntax":
-            return "syntax", None
-        if kind == "unbuilt":
-            return "not built", None
-        return getattr(self, kind)(*statement[1:])
-
-    def create(self, name, columns):
-        if any(c[1] is not None and not 1 <= c[1] <= 255 for c in columns):
-            return "limit text 255", None
-        if len(columns) > 16:
-            return "limit columns 16", None
-        if name in self.tables:
-            return f"exists {name}", None
-        names = [c[0] for c in columns]
-        for at, column in enumerate(names):
-            if column in names[:at]:
-                return f"exists {column}", None
-        if self.active:
-            return f"busy {min(own['number'] for own in self.active.values())}", None
-        self.tables[name] = [columns, {}, 0]
-        return "created", None
-
-    def index(self, name, table, columns):
-        if len(columns) > 4:
-            return "limit key 4", None
-        if table not in self.tables:
-            return f"unknown {table}", None
-        known = [c[0] for c in self.tables[table][0]]
-        for column in columns:
-            if column not in known:
-                return f"unknown {column}", None
-        if name in self.indexes:
-            return f"exists {name}", None
-        for at, column in enumerate(columns):
-            if column in columns[:at]:
-                return f"exists {column}", None
-        if self.active:
-            return f"busy {min(own['number'] for own in self.active.values())}", None
-        if sum(of == table for of in self.indexes.values()) > 7:
-            return "limit indexes 8", None
-        self.indexes[name] = table
-        return "created", None
-
-    def begin(self, read_only):
-        if self.own:
-            return f"active {self.own['number']}", None
-        rows = {name: dict(table[1]) for name, table in self.tables.items()}
-        self.active[self.session] = {"number": self.next, "base": self.last, "rows": rows, "new": {}, "read only": read_only}
-        self.next += 1
-        return f"began {self.next - 1}", None
-
-    def insert(self, name, values):
-        if len(values) > 16:
-            return "limit columns 16", None
-        if name not in self.tables:
-            return f"unknown {name}", None
-        columns, _, number = self.tables[name]
-        for (column, width), value in zip(columns, values):
-            if not holds(value, width):
-                return f"kind {column}", None
-        if len(values) != len(columns):
-            return f"kind {columns[min(len(values), len(columns) - 1)][0]}", None
-        if not self.own:
-            return "no transaction", None
-        if self.own["read only"]:
-            return "read only", None
-        self.tables[name][2] += 1
-        self.own["new"][name, number] = values
-        return f"inserted {number}", None
-
-    def change(self, name, sets, groups):
-        """UPDATE with sets, DELETE without."""
-        if name not in self.tables:
-            return f"unknown {name}", None
-        columns = dict(self.tables[name][0])
-        places = {c[0]: at for at, c in enumerate(self.tables[name][0])}
-        for column in [c for c, _ in sets or []] + [n for g in groups for a in g for n in names_of(a)]:
-            if column not in columns:
-                return f"unknown {column}", None
-        for at, (column, _) in enumerate(sets or []):
-            if column in [c for c, _ in sets[:at]]:
-                return f"exists {column}", None
-        for column, value in sets or []:
-            if not holds(value, columns[column]):
-                return f"kind {column}", None
-        for atom in (a for g in groups for a in g):
-            if not suits(atom, columns):
-                return f"kind {atom[1]}", None
-        if not self.own:
-            return "no transaction", None
-        if self.own["read only"]:
-            return "read only", None
-        view = {number: values for number, values in self.own["rows"].get(name, {}).items()}
-        for (table, number), values in self.own["new"].items():
-            if table == name:
-                view[number] = values
-        hit = [n for n, values in sorted(view.items()) if values is not None and qualifies(groups, {c: values[at] for c, at in places.items()})]
-        for number in hit:
-            if self.touched.get((name, number), 0) > self.own["base"]:
-                return f"changed {number} by {self.touched[name, number]}", None
-        for number in hit:
-            holders = [o["number"] for s, o in self.active.items() if s != self.session and (name, number) in o["new"]]
-            if holders:
-                return f"held {number} by {holders[0]}", None
-        for number in hit:
-            values = None
-            if sets is not None:
-                values = list(view[number])
-                for column, value in sets:
-                    values[places[column]] = value
-            self.own["new"][name, number] = values
-        return f"touched {len(hit)}", None
-
-    def end(self):
-        del self.active[self.session]
-        self.cursors = {key: offers for key, offers in self.cursors.items() if key[0] != self.session}
-
-    def commit(self):
-        if not self.own:
-            return "no transaction", None
-        self.end()
-        if not self.own["new"]:
-            return f"committed {self.own['base']}", None
-        self.last += 1
-        for (name, number), values in self.own["new"].items():
-            self.touched[name, number] = self.last
-            if values is None:
-                self.tables[name][1].pop(number, None)
-            else:
-                self.tables[name][1][number] = values
-        return f"committed {self.last}", None
-
-    def rollback(self):
-        if not self.own:
-            return "no transaction", None
-        self.end()
-        return "rolled back", None
-
-    def open(self, cursor, returned, name, groups, order):
-        if len(order) > 4:
-            return "limit order 4", None
-        if name not in self.tables:
-            return f"unknown {name}", None
-        columns = dict(self.tables[name][0])
-        places = {c[0]: at for at, c in enumerate(self.tables[name][0])}
-        named = list(returned or []) + [n for g in groups for a in g for n in names_of(a)] + list(order)
-        for column in named:
-            if column not in columns:
-                return f"unknown {column}", None
-        for atom in (a for g in groups for a in g):
-            if not suits(atom, columns):
-                return f"kind {atom[1]}", None
-        if not self.own:
-            return "no transaction", None
-        if (self.session, cursor) in self.cursors:
-            return f"cursor open {cursor}", None
-        if any(table == name for table, _ in self.own["new"]):
-            return f"pending {name}", None
-        if len([key for key in self.cursors if key[0] == self.session]) > 15:
-            return "limit cursors 16", None
-        offers = []
-        for values in self.own["rows"].get(name, {}).values():
-            row = {column: values[at] for column, at in places.items()}
-            if qualifies(groups, row):
-                back = [row[c] for c in returned] if returned is not None else values
-                offers.append(([place(row[c]) for c in order], "row " + ", ".join(map(shown, back))))
-        self.cursors[self.session, cursor] = sorted(offers, key=lambda o: o[0])
-        return "opened", None
-
-    def fetch(self, cursor):
-        key = self.session, cursor
-        if key not in self.cursors:
-            return f"no cursor {cursor}", None
-        offers = self.cursors[key]
-        if not offers:
-            return "end", None
-        return {o[1] for o in offers if o[0] == offers[0][0]}, key
-
-    def given(self, key, reply):
-        offers = self.cursors[key]
-        offers.remove((offers[0][0], reply))
-
-    def close(self, cursor):
-        if self.cursors.pop((self.session, cursor), None) is None:
-            return f"no cursor {cursor}", None
-        return "closed", None
-
-
-def names_of(atom):
-    return [atom[1], atom[3]] if atom[0] == "columns" else [atom[1]]
-
-
-def holds(value, width):
-    """Whether a column of this width, or a BIGINT where it is None, may have the value."""
-    if value is None or width is None:
-        return value is None or isinstance(value, int)
-    return isinstance(value, str) and len(value.encode()) <= width
-
-
-def suits(atom, columns):
-    def literal(value):
-        return value is None or isinstance(value, int) == (columns[atom[1]] is None)
-
-    if atom[0] == "columns":
-        return (columns[atom[1]] is None) == (columns[atom[3]] is None)
-    if atom[0] == "compare":
-        return literal(atom[3])
-    if atom[0] == "between":
-        return literal(atom[2]) and literal(atom[3])
-    if atom[0] == "in":
-        return all(map(literal, atom[2]))
-    return atom[0] == "null" or columns[atom[1]] is not None
+# Making scripts.
 
 
 class Maker:
-    """Makes a script of random statements and spells it."""
+    """Makes a script of random statements and spells it. It follows what they do, so that most are answered well."""
 
     def __init__(self, rng):
         self.rng = rng
-        self.known = {}
-        self.begun, self.opened = set(), []  # sessions; sessions and cursors
+        self.database = Database()
+        self.large = rng.random() < 0.4  # the table T has many rows, so that trees have several leaves
+        self.huge = self.large and rng.random() < 0.06  # so many that what was given is remembered no more
+
+    @property
+    def known(self):
+        """The columns of the tables."""
+        return {name: table.columns for name, table in self.database.tables.items()}
 
     def follow(self, session, statement):
-        """Keeps in mind which transactions and cursors there may be."""
-        if statement[0] == "begin":
-            self.begun.add(session)
-        elif statement[0] == "open" and session in self.begun:
-            self.opened.append((session, statement[1]))
-        elif statement[0] in ("commit", "rollback"):
-            self.begun.discard(session)
-            self.opened = [o for o in self.opened if o[0] != session]
+        allowed = self.database.answer(session, statement)
+        if isinstance(allowed, set):
+            self.database.given(statement, min(allowed))
 
     def word(self, text):
-        way = self.rng.random()
-        return text.lower() if way < 0.2 else text
+        return text.lower() if self.rng.random() < 0.2 else text
 
     def gap(self):
         return self.rng.choice([" ", " ", " ", "  ", "\t"])
@@ -322,187 +91,315 @@ class Maker:
 
     def value(self, width="any"):
         rng = self.rng
-        if rng.random() < 0.15:
+        if rng.random() < 0.12:
             return None
         if width == "any":
             width = rng.choice([None, 4])
         if width is None:
-            return rng.choice([rng.randint(-3, 3), rng.randint(-3, 3), -(2**63), 2**63 - 1])
-        return "".join(rng.choice("ab' é") for _ in range(rng.randint(0, 3)))
+            if self.large:
+                return rng.choice([rng.randint(0, 60), rng.randint(0, 60), rng.randint(0, 9)])
+            return rng.choice([rng.randint(-3, 3), rng.randint(-3, 3), rng.randint(-3, 3), -(2**63), 2**63 - 1])
+        return "".join(rng.choice("ab' é") for _ in range(rng.randint(0, 2 if self.large else 3)))
 
     def table(self):
-        if self.known and self.rng.random() < 0.97:
-            return self.rng.choice(sorted(self.known))
+        if self.known and self.rng.random() < 0.99:
+            return "T" if self.large and self.rng.random() < 0.8 else self.rng.choice(sorted(self.known))
         return self.rng.choice("TUV")
 
     def column(self, table):
         names = [c[0] for c in self.known.get(table, [])]
-        return self.rng.choice(names) if names and self.rng.random() < 0.99 else self.rng.choice("ABCX")
+        return self.rng.choice(names) if names and self.rng.random() < 0.997 else self.rng.choice("ABCX")
 
-    def width(self, table, column):
-        return dict(self.known.get(table, [])).get(column, "any") if self.rng.random() < 0.99 else "any"
+    def reference(self, items):
+        """A reference to a column of some item, which is a name and a table; nearly always it fits one."""
+        rng = self.rng
+        name, table = rng.choice(items)
+        column = self.column(table)
+        fits = sum(column in [c for c, _ in self.known.get(t, [])] for _, t in items)
+        bare = rng.random() < (0.6 if fits == 1 else 0.003)
+        qualifier = None if bare else name if rng.random() < 0.998 else rng.choice("TUX")
+        return qualifier, column
+
+    def width(self, items, reference):
+        qualifier, column = reference
+        widths = [dict(self.known.get(t, []))[column] for n, t in items if qualifier in (None, n) and column in dict(self.known.get(t, []))]
+        return widths[0] if widths and self.rng.random() < 0.997 else "any"
 
     def create(self):
-        table = self.rng.choice(["T", "U", "V"])
-        count = self.rng.choice([1, 2, 2, 2, 3, 3, 3, 3, 4, 4, 17])
-        names = [f"C{i}" for i in range(count)] if count > 4 else [self.rng.choice("ABCDEFG") if self.rng.random() < 0.1 else "ABCD"[i] for i in range(count)]
-        columns = [(name, self.rng.choice([None, None, None, 4, 4, 12, 255] * 5 + [0, 256])) for name in names]
+        table = self.rng.choice(["T", "U", "V"]) if self.known else "T"
+        count = self.rng.choice([1, 2, 2, 2, 3, 3, 3, 3, 4, 4, 17] if self.known else [3, 4] if self.large else [1, 2, 3, 4])
+        names = [f"C{i}" for i in range(count)] if count > 4 else [self.rng.choice("ABCDEFG") if self.known and self.rng.random() < 0.1 else "ABCD"[i] for i in range(count)]
+        widths = [None, None, None, 4, 4, 12, 255] * 5 + ([0, 256] if self.known else [])
+        columns = [(name, self.rng.choice(widths)) for name in names]
+        if self.large and not self.known:
+            columns = [(name, width if at > 1 else None) for at, (name, width) in enumerate(columns)]
         kinds = [f"{n} BIGINT" if w is None else f"{n} VARCHAR ({w})" for n, w in columns]
-        fine = count <= 4 and len(set(names)) == count and all(w is None or 1 <= w <= 255 for _, w in columns)
-        if table not in self.known and fine:
-            self.known[table] = columns
         return ("create", table, columns), self.spelled("CREATE", "TABLE", table, "(" + ", ".join(kinds) + ")")
 
     def index(self):
         name, table = self.rng.choice(["I", "J", "K", "I1", "I2", "I3", "I4", "I5", "I6"]), self.table()
-        count = self.rng.choice([1, 1, 1, 1, 2, 2, 2, 3, 3, 4, 5])
+        count = self.rng.choice([1, 1, 1, 1, 2, 2, 2] + ([3] if self.large else [3, 3, 4, 5]))
         names = [c[0] for c in self.known.get(table, [])]
-        if len(names) >= count and self.rng.random() < 0.8:
+        if len(names) >= count and self.rng.random() < 0.85:
             columns = self.rng.sample(names, count)
         else:
             columns = [self.column(table) for _ in range(count)]
         return ("index", name, table, columns), self.spelled("CREATE", "INDEX", name, "ON", table, "(" + ", ".join(columns) + ")")
 
-    def insert(self):
-        table = self.table()
+    def insert(self, table=None):
+        table = table or self.table()
         widths = [w for _, w in self.known.get(table, [("A", None)])]
-        values = [self.value(w if self.rng.random() < 0.97 else "any") for w in widths]
-        if self.rng.random() < 0.03:
+        values = [self.value(w if self.rng.random() < 0.99 else "any") for w in widths]
+        if self.rng.random() < 0.02:
             values = values + [self.value()] if self.rng.random() < 0.5 or len(values) == 1 else values[1:]
         return ("insert", table, values), self.spelled("INSERT", "INTO", table, "VALUES", "(") + ", ".join(map(shown, values)) + ")"
 
-    def atom(self, table):
-        rng, column = self.rng, self.column(table)
-        width = self.width(table, column)
-        kind = rng.choice(["compare", "compare", "columns", "between", "in", "null", "start"])
-        if kind == "compare":
-            atom = (kind, column, rng.choice(list(COMPARISONS)), self.value(width))
-            return atom, f"{column} {atom[2]} {shown(atom[3])}"
-        if kind == "columns":
-            atom = (kind, column, rng.choice(list(COMPARISONS)), self.column(table))
-            return atom, f"{column}{atom[2]}{table}.{atom[3]}"
-        if kind == "between":
-            atom = (kind, column, self.value(width), self.value(width))
-            return atom, self.spelled(column, "BETWEEN") + f" {shown(atom[2])} AND {shown(atom[3])}"
-        if kind == "in":
-            atom = (kind, column, [self.value(width) for _ in range(rng.randint(1, 4))])
-            return atom, self.spelled(column, "IN") + " (" + ", ".join(map(shown, atom[2])) + ")"
-        if kind == "null":
-            atom = (kind, column, rng.random() < 0.5)
-            return atom, self.spelled(column, "IS", *(["NOT"] if atom[2] else []), "NULL")
-        atom = (kind, column, self.value(4) or "")
-        return atom, self.spelled(column, "STARTING", "WITH") + " " + shown(atom[2])
+    # Conditions.
 
-    def group(self, table, most):
-        atoms = [self.atom(table) for _ in range(self.rng.randint(1, most))]
+    def atom(self, items):
+        rng, left = self.rng, self.reference(items)
+        width, text = self.width(items, left), spelled_reference(left)
+        kinds = ["compare", "compare", "between", "in", "null"] + ["columns"] * (3 if len(items) > 1 else 1)
+        kinds += ["between"] * 4 if self.large else []
+        kind = rng.choice(kinds + ["start"] * (0 if width is None and rng.random() < 0.9 else 2))
+        if kind == "compare":
+            op = rng.choice(["=", "=", *COMPARISONS])
+            value = self.value(width)
+            return (kind, left, op, value), f"{text} {op} {shown(value)}"
+        if kind == "columns":
+            op, right = rng.choice(["=", "=", "=", *COMPARISONS]), self.reference(items)
+            for _ in range(6):
+                if (self.width(items, right) is None) != (width is None) or right == left:
+                    right = self.reference(items)
+            return (kind, left, op, right), f"{text}{op}{spelled_reference(right)}"
+        if kind == "between":
+            low, high = self.value(width), self.value(width)
+            if isinstance(low, int) and isinstance(high, int) and rng.random() < 0.9:
+                low, high = min(low, high), max(low, high)
+            return (kind, left, low, high), f"{text} {self.spelled('BETWEEN')} {shown(low)} AND {shown(high)}"
+        if kind == "in":
+            values = [self.value(width) for _ in range(rng.choice([1, 2, 3, 4, 5, 33]) if rng.random() < 0.1 else rng.randint(1, 4))]
+            return (kind, left, values), f"{text} {self.spelled('IN')} (" + ", ".join(map(shown, values)) + ")"
+        if kind == "null":
+            negated = rng.random() < 0.6
+            return (kind, left, negated), f"{text} " + self.spelled("IS", *(["NOT"] if negated else []), "NULL")
+        begin = (self.value(4) or "")[: rng.randint(0, 2)]
+        return (kind, left, begin), f"{text} {self.spelled('STARTING', 'WITH')} {shown(begin)}"
+
+    def group(self, items, most):
+        atoms = [self.atom(items) for _ in range(self.rng.randint(1, most))]
         return [a for a, _ in atoms], " OR ".join(t for _, t in atoms), len(atoms)
 
-    def where(self, table):
-        if self.rng.random() < 0.3:
+    def where(self, items):
+        rng = self.rng
+        if rng.random() < (0.15 if self.large or len(items) > 1 else 0.3):
             return [], ""
-        if self.rng.random() < 0.3:
-            atoms, text, _ = self.group(table, 3)
+        if rng.random() < 0.1:
+            atoms, text, _ = self.group(items, 3)
             return [atoms], " WHERE " + text
-        parts = [self.group(table, 3) for _ in range(self.rng.randint(1, 3))]
-        texts = [f"({t})" if n > 1 or self.rng.random() < 0.3 else t for _, t, n in parts]
+        # OR groups are fewer, since a group of one atom is what bounds a range
+        parts = [self.group(items, rng.choice([1, 1, 1, 3])) for _ in range(rng.randint(1, 3))]
+        parts += [self.joining(items, at) for at in range(1, len(items)) if rng.random() < 0.7]
+        rng.shuffle(parts)
+        texts = [f"({t})" if n > 1 or rng.random() < 0.2 else t for _, t, n in parts]
         return [atoms for atoms, _, _ in parts], " WHERE " + " AND ".join(texts)
 
+    def wide(self):
+        """A condition on the large table that an index bounds, but not narrowly."""
+        rng = self.rng
+        bounded = [index.columns[0] for index in self.database.indexes.values() if index.table == "T"]
+        groups, texts = [], []
+        for column in sorted(set(bounded + [0])):
+            name, width = self.known["T"][column]
+            if width is None and rng.random() < 0.8:
+                low = rng.randint(0, 30)
+                groups.append([("between", (None, name), low, low + rng.randint(5, 40))])
+                texts.append(f"{name} BETWEEN {groups[-1][0][2]} AND {groups[-1][0][3]}")
+        if rng.random() < 0.4 or not groups:
+            atoms, text, _ = self.group([("T", "T")], 2)
+            groups.append(atoms)
+            texts.append(f"({text})")
+        return groups, " WHERE " + " AND ".join(texts)
+
+    def joining(self, items, at):
+        """A comparison of an item with an earlier one."""
+        ends = [items[at], items[self.rng.randrange(at)]]
+        pair = [(name, self.column(table)) for name, table in ends]
+        for _ in range(4):
+            if (self.width(items, pair[0]) is None) != (self.width(items, pair[1]) is None):
+                pair[1] = (ends[1][0], self.column(ends[1][1]))
+        self.rng.shuffle(pair)
+        op = self.rng.choice(["=", "=", "=", "=", "<=", ">"])
+        return [("columns", pair[0], op, pair[1])], f"{spelled_reference(pair[0])} {op} {spelled_reference(pair[1])}", 1
+
+    def items(self):
+        rng = self.rng
+        joins = [] if self.huge else [2] if self.large else [2] * 6 + [3] * 4 + [4] * 2
+        count = rng.choice([1] * 12 + joins + ([5] if rng.random() < 0.1 else []))
+        tables = [self.table() for _ in range(count)]
+        seconds = [None if count == 1 and rng.random() < 0.7 else rng.choice([None] + list("XYZW")) for _ in range(count)]
+        named = []
+        for table, second in zip(tables, seconds):
+            if (second or table) in named and rng.random() < 0.97:
+                second = next(n for n in ["X", "Y", "Z", "W", "Q"] if n not in named)
+            named.append(second or table)
+        return [(table, None if name == table else name) for table, name in zip(tables, named)]
+
     def open(self):
-        rng, table, cursor = self.rng, self.table(), rng_name(self.rng)
-        returned = None if rng.random() < 0.4 else [self.column(table) for _ in range(rng.randint(1, 3))]
-        groups, where = self.where(table)
-        order = [] if rng.random() < 0.4 else [self.column(table) for _ in range(rng.choice([1, 1, 1, 1, 2, 2, 3, 4, 5]))]
-        text = self.spelled("OPEN", cursor, "SELECT") + " " + ("*" if returned is None else ", ".join(returned))
-        text += " " + self.spelled("FROM", table) + where
+        rng, cursor, items = self.rng, rng_name(self.rng), self.items()
+        named = [(second or table, table) for table, second in items]
+        some = lambda counts: [self.reference(named) for _ in range(rng.choice(counts))]
+        returned = None if rng.random() < (0.6 if self.large else 0.3) else some([1, 1, 2, 2, 3])
+        groups, where = self.wide() if items == [("T", None)] and self.large and "T" in self.known and rng.random() < 0.5 else self.where(named)
+        order = [] if rng.random() < 0.5 else some([1, 1, 1, 1, 2, 2, 3, 4, 5])
+        soon = rng.random() < 0.4
+        text = self.spelled("OPEN", cursor, "SELECT") + " " + ("*" if returned is None else ", ".join(map(spelled_reference, returned)))
+        text += " " + self.spelled("FROM") + " " + ", ".join(t if s is None else f"{t} {s}" for t, s in items) + where
         if order:
-            text += " " + self.spelled("ORDER", "BY") + " " + ", ".join(order)
-        text += rng.choice(["", "", " OPTIMIZE FOR FAST FIRST", " OPTIMIZE FOR TOTAL TIME"])
-        return ("open", cursor, returned, table, groups, order), text
+            text += " " + self.spelled("ORDER", "BY") + " " + ", ".join(map(spelled_reference, order))
+        text += " OPTIMIZE FOR FAST FIRST" if soon else rng.choice(["", " OPTIMIZE FOR TOTAL TIME"])
+        return ("open", cursor, returned, items, groups, order, soon), text
+
+    # Other statements.
 
     def begin(self):
         if self.rng.random() < 0.2:
             return ("begin", True), self.spelled("BEGIN", "READ", "ONLY")
         return ("begin", False), self.spelled("BEGIN")
 
-    def rollback(self):
-        return ("rollback",), self.spelled("ROLLBACK")
+    def on_cursor(self, kind, name=None):
+        cursor = name or rng_name(self.rng)
+        return (kind, cursor), self.spelled(kind.upper(), cursor)
 
-    def close(self):
-        cursor = rng_name(self.rng)
-        return ("close", cursor), self.spelled("CLOSE", cursor)
+    def step(self, name=None):
+        cursor, n = name or rng_name(self.rng), self.rng.choice([0, 1, 1, 1, 2, 3, 5, 40, 10000, 10001, -1])
+        return ("step", cursor, n), self.spelled("STEP", cursor, str(n))
 
     def update(self):
         rng, table = self.rng, self.table()
         sets = []
         for _ in range(rng.choice([1, 1, 1, 2, 2, 3])):
             column = self.column(table)
-            sets.append((column, self.value(self.width(table, column))))
-        groups, where = self.where(table)
+            sets.append((column, self.value(self.width([(table, table)], (None, column)))))
+        groups, where = self.where([(table, table)])
         text = self.spelled("UPDATE", table, "SET") + " " + ", ".join(f"{c} = {shown(v)}" for c, v in sets) + where
         return ("change", table, sets, groups), text
 
     def delete(self):
         table = self.table()
-        groups, where = self.where(table)
+        groups, where = self.where([(table, table)])
         return ("change", table, None, groups), self.spelled("DELETE", "FROM", table) + where
 
-    def commit(self):
-        return ("commit",), self.spelled("COMMIT")
-
     def filled(self):
-        """Statements that make tables and commit rows, and begin."""
-        made = [self.create() for _ in range(self.rng.randint(1, 3))]
-        made += [self.index() for _ in range(self.rng.randint(0, 3))]
-        made += [(("begin", False), "BEGIN")] + [self.insert() for _ in range(self.rng.randint(0, 25))]
-        return made + [self.commit(), self.begin()]
+        """Statements that make tables and commit rows, and begin. Indexes come before the rows, behind them, or both."""
+        rng = self.rng
+        yield from (self.create() for _ in range(rng.randint(1, 3)))
+        yield from (self.index() for _ in range(rng.randint(1 if self.large else 0, 4)))
+        yield ("begin", False), "BEGIN"
+        rows = [None] * rng.randint(0, 18) + ["T"] * (1400 if self.huge else rng.choice([40, 80, 160, 320]) if self.large else 0)
+        rng.shuffle(rows)
+        yield from map(self.insert, rows)
+        yield ("commit",), "COMMIT"
+        yield from (self.index() for _ in range(rng.randint(0, 2)))
+        yield self.begin()
 
     def statement(self, session):
         """A statement of a session, mostly one that its own earlier ones make likely to be answered well."""
         rng = self.rng
-        if session not in self.begun and rng.random() < 0.7:
+        if session not in self.database.active and rng.random() < 0.7:
             return self.begin()
-        opened = [name for of, name in self.opened if of == session]
-        if opened and rng.random() < 0.5:
-            cursor = rng.choice(opened)
-            return ("fetch", cursor), self.spelled("FETCH", cursor)
+        opened = [name for of, name in self.database.cursors if of == session]
+        if opened and rng.random() < 0.75:
+            cursor, way = opened[-1] if rng.random() < 0.6 else rng.choice(opened), rng.random()
+            if way < 0.12:
+                return self.step(cursor)
+            return self.on_cursor("show" if way < 0.3 else "fetch", cursor)
         way = rng.random()
-        if way < 0.02:
-            return self.create() if rng.random() < 0.4 else self.index()
-        if way < 0.04:
+        if way < 0.03 or (not self.known and way < 0.3):
+            return self.create() if rng.random() < 0.3 else self.index()
+        if way < 0.05:
             return self.begin()
-        if way < 0.16:
+        if way < 0.14:
             return self.insert()
-        if way < 0.36:
-            return self.update()
+        if way < 0.32:
+            if self.large and rng.random() < 0.6:
+                return self.open()
+            return self.update() if way < 0.28 else self.delete()
+        if way < 0.40:
+            return ("commit",), self.spelled("COMMIT")
         if way < 0.43:
-            return self.delete()
-        if way < 0.51:
-            return self.commit()
-        if way < 0.54:
-            return self.rollback()
+            return ("rollback",), self.spelled("ROLLBACK")
         if way < 0.90:
             return self.open()
-        if way < 0.92:
-            cursor = rng_name(rng)
-            return ("fetch", cursor), self.spelled("FETCH", cursor)
-        if way < 0.95:
-            return self.close()
         if way < 0.97:
-            return ("unbuilt",), rng.choice(["SHOW C", "STEP C 5", "OPEN C SELECT * FROM T, U"])
-        return ("syntax",), rng.choice(["", "SELECT", "FETCH", "BEGIN BEGIN", "OPEN C SELECT * FROM T WHERE", "INSERT INTO T VALUES ()", "COMMIT ?", "FETCH 'C'", "CREATE TABLE T ()", "OPEN C SELECT * FROM T WHERE A = 1 OR A = 2 AND A = 3", "COMMIT;;", "FETCH C -1"])
+            return self.step() if way < 0.91 else self.on_cursor(rng.choice(["fetch", "show", "close", "close"]))
+        return ("syntax",), rng.choice(SYNTAX)
+
+    def calls(self):
+        """Sessions, statements and their spellings."""
+        rng = self.rng
+        sessions = [rng.randint(1, 8) for _ in range(rng.randint(1, 4))]
+        if rng.random() < 0.95:
+            yield from ((1, *made) for made in self.filled())
+            sessions.append(1)
+            for _ in range(1 if self.huge else rng.choice([1, 2, 3]) if self.large else 0):
+                yield 1, *self.whole()
+                yield from ((1, *made) for made in self.drained(1, "C"))
+                yield 1, *self.on_cursor("close", "C")
+        session = sessions[-1]
+        for _ in range(rng.randint(20, 80) if self.large else rng.randint(0, 60)):
+            session = session if rng.random() < 0.7 else rng.choice(sessions)
+            if rng.random() < 0.04:
+                yield from self.conflict(session, rng.randint(1, 8))
+            statement, text = self.statement(session)
+            yield session, statement, text
+            if statement[0] in ("open", "fetch") and rng.random() < 0.3:
+                yield from ((session, *made) for made in self.drained(session, statement[1]))
+
+    def whole(self):
+        """A cursor over nearly all rows of the table T that an index bounds, with the first rows soon."""
+        indexes = [i for i in self.database.indexes.values() if i.table == "T"]
+        column, width = self.known["T"][self.rng.choice(indexes).columns[0] if indexes else 0]
+        returned = None if self.rng.random() < 0.7 else [(None, column)]
+        atom, text = ("null", (None, column), True), "IS NOT NULL"
+        if not self.huge and width is None and self.rng.random() < 0.6:
+            low = self.rng.randint(0, 20)
+            atom, text = ("compare", (None, column), ">", low), f"> {low}"
+        groups = [[atom]]
+        text = f"OPEN C SELECT {column if returned else '*'} FROM T WHERE {column} {text} OPTIMIZE FOR FAST FIRST"
+        return ("open", "C", returned, [("T", None)], groups, [], True), text
+
+    def conflict(self, first, second):
+        """Two sessions make one change, with the first one's end between."""
+        change = self.update() if self.rng.random() < 0.7 else self.delete()
+        for session in (first, second):
+            yield session, ("begin", False), "BEGIN"
+        yield first, *change
+        yield second, *change
+        end = "commit" if self.rng.random() < 0.7 else "rollback"
+        yield first, (end,), self.spelled(end.upper())
+        yield second, *change
+
+    def drained(self, session, name):
+        """A cursor is fetched to its end, or nearly, and looked at on the way."""
+        cursor = self.database.cursors.get((session, name))
+        left = len(cursor.offers) if cursor is not None else 0
+        left = self.rng.randint(left // 2, left) if self.rng.random() < 0.3 else left + 1
+        for _ in range(min(left, 1400 if self.huge else 400)):
+            yield self.on_cursor("fetch", name)
+            way = self.rng.random()
+            if way < 0.02 and not self.huge:
+                yield self.step(name)
+            elif way < 0.06:
+                yield self.on_cursor("show", name)
+        yield self.on_cursor("show", name)
 
     def script(self):
         rng, lines, calls = self.rng, [], []
-        sessions = [rng.randint(1, 8) for _ in range(rng.randint(1, 4))]
-        waiting = self.filled() if rng.random() < 0.9 else []
-        for _ in range(rng.randint(len(waiting), len(waiting) + 80)):
-            way = rng.random()
-            if way < 0.03:
-                lines.append(rng.choice(["# a note", "", "--", f"-- {rng.randint(0, 2)}"]))
-                continue
-            session = 1 if waiting else rng.choice(sessions)
-            statement, text = waiting.pop(0) if waiting else self.statement(session)
+        for session, statement, text in self.calls():
             self.follow(session, statement)
+            if rng.random() < 0.03:
+                lines.append(rng.choice(["# a note", "", "--"] + ([] if self.huge else [f"-- {rng.randint(0, 2)}"] * 3)))
             if statement[0] != "syntax" and rng.random() < 0.05:
                 text += rng.choice([";", " ;", " "])
             lines.append(f"{session} {text}")
@@ -510,16 +407,42 @@ class Maker:
         broken = rng.random() < 0.02
         if broken:
             lines.insert(rng.randint(0, len(lines)), rng.choice(["9 BEGIN", "0 BEGIN", "BEGIN", "1", "-- 3"]))
-        return "".join(line + "\n" for line in lines), calls, broken
+        words = {"judge": rng.choice([0, 1, 2, 2])} if rng.random() < 0.7 else {}
+        if rng.random() < 0.6:
+            words["steps"] = rng.choice([0, 0, 0, 1, 2, 7, 64])
+        if self.huge and rng.random() < 0.8:
+            words = {"judge": 1, "steps": 0}
+        elif self.large and rng.random() < 0.5:
+            words = {"judge": rng.choice([1, 1, 2]), "steps": 0}
+        return "".join(line + "\n" for line in lines), calls, broken, words
+
+
+SYNTAX = [
+    "", "SELECT", "FETCH", "BEGIN BEGIN", "OPEN C SELECT * FROM T WHERE", "INSERT INTO T VALUES ()", "COMMIT ?", "FETCH 'C'",
+    "CREATE TABLE T ()", "OPEN C SELECT * FROM T WHERE A = 1 OR A = 2 AND A = 3", "COMMIT;;", "FETCH C -1", "STEP C", "STEP C 'x'",
+    "OPEN C SELECT * FROM T,", "OPEN C SELECT * FROM T X Y", "SHOW", "SHOW C 1", "OPEN C SELECT X. FROM T X", "OPEN C SELECT *, A FROM T",
+    "OPEN C SELECT * FROM T ORDER BY", "OPEN C SELECT * FROM T OPTIMIZE FOR", "OPEN C SELECT * FROM T WHERE 1 = A",
+]  # fmt: skip
+
+
+def spelled_reference(reference):
+    return ".".join(name for name in reference if name is not None)
 
 
 def rng_name(rng):
-    return rng.choice(["C", "C", "D"])
+    return rng.choice(["C", "C", "D", "E", "F"])
 
 
-def differs(program, script, calls, broken):
-    """The first difference between the transcript and what the calls mean, or None."""
-    ran = subprocess.run([program], input=script.encode(), capture_output=True, timeout=60)
+# Comparing.
+
+
+def transcript(program, script, words):
+    command = [program] + [word for name, value in words.items() for word in (f"--{name}", str(value))]
+    return subprocess.run(command, input=script.encode(), capture_output=True, timeout=120)
+
+
+def differs(ran, script, calls, broken, words, exact):
+    """The first difference between a transcript and what the calls mean, or None."""
     if broken:
         return None if ran.returncode == 2 and ran.stdout == b"" else f"a broken script: status {ran.returncode}"
     if ran.returncode != 0:
@@ -527,32 +450,66 @@ def differs(program, script, calls, broken):
     told = ran.stdout.decode().split("\n")
     if len(told) != 2 * len(calls) + 1 or told[-1] != "":
         return f"{len(told) - 1} lines for {len(calls)} calls"
-    database = Database()
+    database = Checked()
+    sure = [reply for _, _, reply in run(script, **words)] if exact else None
     for at, (session, text, statement) in enumerate(calls):
         if told[2 * at] != f"{session} {text}":
             return f"line {2 * at + 1}: {told[2 * at]!r} for {text!r}"
-        allowed, cursor = database.answer(session, statement)
-        allowed = allowed if isinstance(allowed, set) else {allowed}
-        reply = told[2 * at + 1]
-        if not reply.startswith("= ") or reply[2:] not in allowed:
-            return f"line {2 * at + 2}: {text!r} has {reply!r} for {sorted(allowed)}"
-        if cursor is not None:
-            database.given(cursor, reply[2:])
+        reply, allowed = told[2 * at + 1], database.answer(session, statement)
+        if not reply.startswith("= ") or not fits(reply[2:], allowed):
+            return f"line {2 * at + 2}: {text!r} has {reply!r} for {allowed if not callable(allowed) else 'what it tells'}"
+        database.given(statement, reply[2:])
+        if exact and reply[2:] != sure[at]:
+            return f"line {2 * at + 2}: {text!r} has {reply!r} for {sure[at]!r}"
+    return None
+
+
+def fits(reply, allowed):
+    if callable(allowed):
+        return allowed(reply)
+    return reply in allowed if isinstance(allowed, set) else reply == allowed
+
+
+def apart(first, second, calls):
+    """The first difference of two transcripts that they may not have, or None."""
+    given = {}  # by session and cursor: the rows of both
+    replies = [ran.stdout.decode().split("\n")[1::2] for ran in (first, second)]
+    for (session, text, statement), a, b in zip(calls, *replies):
+        key = (session, statement[1] if len(statement) > 1 else None)
+        if statement[0] in ("show", "step") and a.split()[1] == b.split()[1] in ("trace", "stepped"):
+            continue
+        if statement[0] == "open" and a == b == "= opened":
+            given[key] = ([], [])
+        if statement[0] == "fetch" and a.startswith("= row") and b.startswith("= row"):
+            given[key][0].append(a)
+            given[key][1].append(b)
+        elif a != b:
+            return f"{text!r} has {a!r} and {b!r}"
+        elif a == "= end" and sorted(given[key][0]) != sorted(given[key][1]):
+            return f"{text!r} came to the end of other rows"
     return None
 
 
 def main(args):
-    if not 1 <= len(args) <= 3:
+    exact = "--exact" in args
+    beside = args[args.index("--beside") + 1] if "--beside" in args[:-1] else None
+    args = [a for a in args if a not in ("--exact", "--beside", beside)]
+    if not 1 <= len(args) <= 3 or not all(a.isdigit() for a in args[1:]):
         sys.exit(__doc__)
     count = int(args[1]) if len(args) > 1 else 1000
     seed = int(args[2]) if len(args) > 2 else 1
     wrong = 0
     for number in range(count):
-        script, calls, broken = Maker(random.Random(seed * 1_000_000 + number)).script()
-        difference = differs(args[0], script, calls, broken)
+        script, calls, broken, words = Maker(random.Random(seed * 1_000_000 + number)).script()
+        ran = transcript(args[0], script, words)
+        difference = differs(ran, script, calls, broken, words, exact)
+        if difference is None and beside is not None:
+            other = transcript(beside, script, words)
+            difference = differs(other, script, calls, broken, words, False)
+            difference = "beside: " + difference if difference else None if broken else apart(ran, other, calls)
         if difference is not None:
             wrong += 1
-            print(f"script {number} of seed {seed}: {difference}")
+            print(f"script {number} of seed {seed}, {words}: {difference}")
     print(f"{count} scripts, {wrong} differ")
     return 1 if wrong else 0
 

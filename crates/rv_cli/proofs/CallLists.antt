@@ -1,5 +1,5 @@
 -- The calls of a history and of a script, in order, and those of each session in each phase.
-use Rattle.std.proofs.Common.{◌≡◌, ℕ, ◌+◌, ◌<◌, ◌≤◌, ◌==◌, ◌&&◌, List, [], ◌∷◌, ◌++◌, refl, sym, ap, ◌∙◌, arith, suc, zero, Bool, true, false, cond, filter, map, inl, inr, append_assoc, append-nil, take, drop, drop-cons, length, nat_eq}
+use Rattle.std.proofs.Common.{◌≡◌, ℕ, ◌+◌, ◌<◌, ◌==◌, ◌&&◌, List, [], ◌∷◌, ◌++◌, refl, sym, ap, ◌∙◌, arith, suc, zero, Bool, true, false, filter, map, inl, inr, append_assoc, append-nil, take, drop, drop-cons, length}
 use Rattle.std.proofs.lemmas.Bool.{cases_Bool}
 use Rattle.std.proofs.lemmas.Bool.Decides.{nat_tests}
 use Rattle.std.specs.List.{slice_index_or}
@@ -9,7 +9,7 @@ use Rattle.rv_script.specs.declared.scripts.Script.{Script}
 use Rattle.rv_model.specs.declared.entry.Entry.{Entry}
 use Rattle.rv_model.specs.History.{calls}
 use Rattle.rv_core.specs.Core.{Shown}
-use Rattle.rv_cli.specs.Script.{Call, call, calls_made, calls_in, calls_from, calls_asked, texts_of, no_phase, HasAllCalls, HasFirstCalls}
+use Rattle.rv_cli.specs.Script.{Call, call, calls_made, calls_in, calls_from, calls_asked, texts_of, HasAllCalls, HasFirstCalls}
 use Rattle.rv_cli.specs.Making.{MakesCalls}
 
 -- the texts of a session in a phase among calls

@@ -1,5 +1,5 @@
 -- How runs end.
-use Rattle.std.proofs.Common.{◌≡◌, ℕ, List, [], ◌++◌, refl, sym, ap, ◌∙◌, subst, append-nil, Bool, true, false, Option, Some, None, Result, Ok, Err, IfSome, OnOk}
+use Rattle.std.proofs.Common.{◌≡◌, ℕ, List, [], ◌++◌, refl, sym, ap, ◌∙◌, subst, append-nil, Bool, Option, Some, None, Result, Ok, Err, IfSome, IsOkAnd, IsSomeAnd, OnOk}
 use Rattle.std.specs.Prelude.{is_ok}
 use Rattle.rv_io.specs.Pieces.{TakesAll}
 use Rattle.rv_value.specs.declared.duplicate.NoMemory.{NoMemory}
@@ -8,12 +8,11 @@ use Rattle.rv_script.specs.declared.scripts.ScriptFault.{ScriptFault}
 use Rattle.rv_script.specs.declared.scripts.ScriptFault.TheVariants as faults
 use Rattle.rv_script.specs.Drafts.{FaultIs}
 use Rattle.rv_script.specs.Script.{script_of}
-use Rattle.rv_cli.specs.declared.status.Over.{Over}
-use Rattle.rv_cli.specs.declared.status.Over.TheVariants as over
 use Rattle.rv_cli.specs.declared.status.Status.{Status}
 use Rattle.rv_cli.specs.declared.status.Status.TheVariants as statuses
-use Rattle.rv_cli.specs.Script.{PassesLimit, HasTooMany}
-use Rattle.rv_cli.specs.Performing.{script_status, calls_status}
+use Rattle.rv_core.specs.Core.{Shown}
+use Rattle.rv_cli.specs.Script.{HasAllCalls, HasFirstCalls, HasTooMany, Runs, StopsShort, Told, WritesAll, WritesFront, calls_asked}
+use Rattle.rv_cli.specs.Performing.{Hinders, Performs, PerformsFirst, PerformsFront, calls_status, script_status}
 
 -- the bytes that were taken are those that were told
 told : (left after : Option (List ℕ)) (bytes : List ℕ) → TakesAll left after bytes → IfSome left (λ xs. xs ≡ bytes)
@@ -27,19 +26,48 @@ of_told : (left : Option (List ℕ)) (bytes : List ℕ) (P : List ℕ → Type 0
 of_told None bytes P e p = tt
 of_told (Some xs) bytes P e p = subst P (sym e) p
 
--- a script's fault that is a limit passed
-pub limit_after : (fault : ScriptFault) (left after : Option (List ℕ)) (bytes : List ℕ) (limit : ℕ) (status : Status) (which : Over) → status ≡ script_status fault → FaultIs fault (script_of bytes) → TakesAll left after bytes → status ≡ statuses.Limit which → PassesLimit left after limit which
-limit_after (faults.NoSession line) left after bytes limit status which e said taken f = let wrong : statuses.Script (faults.NoSession line) ≡ statuses.Limit which = sym e ∙ f in cc
-limit_after (faults.NotText offset) left after bytes limit status which e said taken f = let wrong : statuses.Script (faults.NotText offset) ≡ statuses.Limit which = sym e ∙ f in cc
-limit_after (faults.TooLong line) left after bytes limit status which e said taken f =
-    let both : statuses.Limit (over.Line line) ≡ statuses.Limit which = sym e ∙ f in
-    let same : over.Line line ≡ which = cc in
-    subst (PassesLimit left after limit) same (of_told left bytes (λ xs. script_of xs ≡ Err (faults.TooLong line)) (told left after bytes taken) said)
-limit_after (faults.TooMany lines) left after bytes limit status which e said taken f =
-    let both : statuses.Limit over.Lines ≡ statuses.Limit which = sym e ∙ f in
-    let same : over.Lines ≡ which = cc in
-    subst (PassesLimit left after limit) same (of_told left bytes HasTooMany (told left after bytes taken) (record { lines = lines; first = said }))
-limit_after faults.NoMemory left after bytes limit status which e said taken f = let wrong : statuses.Memory ≡ statuses.Limit which = sym e ∙ f in cc
+-- a script's fault hinders the run by its status
+pub hinders : (fault : ScriptFault) (left after : Option (List ℕ)) (bytes : List ℕ) (before now : ℕ) → FaultIs fault (script_of bytes) → TakesAll left after bytes → Hinders left after before now (script_status fault)
+hinders (faults.NoSession line) left after bytes before now said taken = record { kind = tt; first = of_told left bytes (λ xs. script_of xs ≡ Err (faults.NoSession line)) (told left after bytes taken) said }
+hinders (faults.NotText offset) left after bytes before now said taken = record { kind = tt; first = of_told left bytes (λ xs. script_of xs ≡ Err (faults.NotText offset)) (told left after bytes taken) said }
+hinders (faults.TooLong line) left after bytes before now said taken = of_told left bytes (λ xs. script_of xs ≡ Err (faults.TooLong line)) (told left after bytes taken) said
+hinders (faults.TooMany lines) left after bytes before now said taken = of_told left bytes HasTooMany (told left after bytes taken) (record { lines = lines; first = said })
+hinders faults.NoMemory left after bytes before now said taken = tt
+
+-- the script that the bytes taken write is the one that the source told
+pub told_script : (left after : Option (List ℕ)) (bytes : List ℕ) (script : Script) → TakesAll left after bytes → script_of bytes ≡ Ok script → Told left (λ told. told ≡ script)
+told_script left after bytes script taken is = of_told left bytes (λ xs. IsOkAnd (script_of xs) (λ told. told ≡ script)) (told left after bytes taken) (rw is refl)
+
+-- what holds of the script that is run
+told_of : (left : Option (List ℕ)) (script : Script) (P : Script → Type 0) → Told left (λ told. told ≡ script) → P script → Told left P
+told_of None script P is p = tt
+told_of (Some bytes) script P is p = ok_of (script_of bytes) script P is p
+  where
+    ok_of : (said : Result Script ScriptFault) (script : Script) (P : Script → Type 0) → IsOkAnd said (λ told. told ≡ script) → P script → IsOkAnd said P
+    ok_of (Ok s) script P is p = subst P (sym is) p
+    ok_of (Err f) script P is p = absurd is
+
+pub runs_of : (seed : Option ℕ) (left : Option (List ℕ)) (script : Script) (P : Script → Type 0) → Runs seed left (λ told. told ≡ script) → P script → Runs seed left P
+runs_of None left script P is p = told_of left script P is p
+runs_of (Some seed) left script P is p = subst P (sym is) p
+
+-- what a performed script wrote, by the script that is run
+
+pub done_writes : {X : Type 0} (core : Option X) (shown : X → Shown) (seed : Option ℕ) (left old new : Option (List ℕ)) (script : Script) → Runs seed left (λ told. told ≡ script) → IsSomeAnd core (λ c. Performs seed old new script (shown c)) → IsSomeAnd core (λ c. WritesAll seed left old new (shown c))
+done_writes None shown seed left old new script is p = p
+done_writes (Some c) shown seed left old new script is p = record { legal = p.legal; written = p.written; calls = runs_of seed left script (HasAllCalls (shown c).history) is p.calls }
+
+pub memory_writes : {X : Type 0} (core : Option X) (shown : X → Shown) (seed : Option ℕ) (left old new : Option (List ℕ)) (script : Script) → Runs seed left (λ told. told ≡ script) → IsSomeAnd core (λ c. PerformsFirst seed old new script (shown c)) → IfSome core (λ c. StopsShort seed left old new (shown c))
+memory_writes None shown seed left old new script is p = tt
+memory_writes (Some c) shown seed left old new script is p = record { legal = p.legal; written = p.written; calls = runs_of seed left script (λ s. HasFirstCalls (shown c).history (calls_asked s)) is p.calls }
+
+pub fault_writes : {X : Type 0} (core : Option X) (shown : X → Shown) (seed : Option ℕ) (left old new : Option (List ℕ)) (script : Script) → Runs seed left (λ told. told ≡ script) → IsSomeAnd core (λ c. PerformsFront seed old new script (shown c)) → IsSomeAnd core (λ c. WritesFront seed left old new (shown c))
+fault_writes None shown seed left old new script is p = p
+fault_writes (Some c) shown seed left old new script is p = record { legal = p.legal; written = p.written; calls = runs_of seed left script (λ s. HasFirstCalls (shown c).history (calls_asked s)) is p.calls }
+
+pub some_if : {X : Type 0} (o : Option X) (P : X → Type 0) → IsSomeAnd o P → IfSome o P
+some_if None P p = tt
+some_if (Some x) P p = p
 
 -- what holds where all calls were made holds in status Done
 pub done_performs : (r : Result (Unit {0}) NoMemory) (called : Bool) (status : Status) (P : Type 0) → OnOk r P → called ≡ is_ok r → status ≡ calls_status called → status ≡ statuses.Done → P

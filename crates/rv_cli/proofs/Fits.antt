@@ -1,23 +1,24 @@
 -- A script that was read has few phases, and lines that calls may have.
-use Rattle.std.proofs.Common.{◌≡◌, ℕ, ◌+◌, ◌-◌, ◌<◌, ◌≤◌, ◌==◌, ◌&&◌, List, [], ◌∷◌, ◌++◌, refl, sym, ap, ◌∙◌, subst, arith, suc, zero, Bool, true, false, inl, inr, length, length-append, nat_lt, nat_le, nat_eq, Option, Some, None, Result, Ok, Err, IfSome, All}
+use Rattle.std.proofs.Common.{◌≡◌, ℕ, ◌+◌, ◌-◌, ◌<◌, ◌≤◌, ◌==◌, ◌&&◌, List, [], ◌∷◌, refl, sym, subst, arith, Bool, true, false, inl, inr, length, nat_lt, nat_le, nat_eq, Option, Some, None, Result, Ok, Err, IfSome}
 use Rattle.std.proofs.lemmas.Bool.{cases_Bool}
 use Rattle.std.proofs.lemmas.Bool.Decides.{nat_tests}
 use Rattle.std.specs.List.{AllByRecursion}
 use Rattle.std.specs.Str.Lines.{lines}
 use Rattle.std.specs.Str.Lossy.{utf8_valid_len}
-use Rattle.std.proofs.lemmas.List.Elements.{All-from_recursion}
+use Rattle.std.proofs.lemmas.List.Elements.{All-from_recursion, recursion_from_All}
 use Rattle.rv_script.specs.declared.scripts.Line.{Line}
 use Rattle.rv_script.specs.declared.scripts.Phase.{Phase}
 use Rattle.rv_script.specs.declared.scripts.Script.{Script}
 use Rattle.rv_script.specs.declared.scripts.ScriptFault.{ScriptFault}
 use Rattle.rv_script.specs.Script.{Saying, Nothing, Call, Next, mark_of, call_of, mark_or_call, says, listed, says_at, before, sayings_from, calls_before, phases_of, unmarked, script_said, script_of}
-use Rattle.rv_cli.specs.Making.{FitsLine, FitsPhase}
+use Rattle.rv_gen.specs.Workload.{HasCalls, IsCall, IsRunnable, generated, workload}
+use Rattle.rv_cli.specs.Making.{FitsPhase, FitsScript}
 
 -- a saying whose call, where it is one, may be made
 abbrev FitsSaying : Saying → Type 0
 FitsSaying Nothing = Unit {0}
-FitsSaying (Call line) = FitsLine line
-FitsSaying (Next judge) = Unit {0}
+FitsSaying (Call line) = IsCall line
+FitsSaying (Next judge) = IfSome judge (λ number. number < 3)
 
 and_parts : (a b : Bool) → (a && b) ≡ true → (a ≡ true) × (b ≡ true)
 and_parts true b e = (refl, e)
@@ -37,11 +38,16 @@ call_fits s b text short = elim (cases_Bool (nat_eq b 32 && (nat_le 49 s && nat_
   | inr f ↦ rw f tt
 ]
 
+known : (j : ℕ) → nat_le 48 j ≡ true → nat_le j 50 ≡ true → j - 48 < 3
+known j low high = grind (arith, nat_tests)
+
 mark_fits : (bytes : List ℕ) → IfSome (mark_of bytes) FitsSaying
 mark_fits [] = tt
 mark_fits (b ∷ []) = tt
 mark_fits (b ∷ j ∷ []) = elim (cases_Bool (nat_eq b 32 && (nat_le 48 j && nat_le j 50))) [
-  | inl t ↦ rw t tt
+  | inl t ↦
+      let digit = and_parts (nat_le 48 j) (nat_le j 50) (and_parts (nat_eq b 32) (nat_le 48 j && nat_le j 50) t).1 in
+      rw t (known j digit.0 digit.1)
   | inr f ↦ rw f tt
 ]
 mark_fits (b ∷ j ∷ k ∷ more) = tt
@@ -106,22 +112,23 @@ sayings_fit n (line ∷ ls) all small e =
 
 -- phases whose lines fit
 
-abbrev FitsLines : Phase → Type 0
-FitsLines phase = AllByRecursion FitsLine phase.lines
+record FitsParts (phase : Phase) : Type 0 where
+  calls : AllByRecursion IsCall phase.lines
+  judge : IfSome phase.judge (λ number. number < 3)
 
-call_before : (line : Line) (phases : List Phase) → FitsLine line → AllByRecursion FitsLines phases → AllByRecursion FitsLines (calls_before (line ∷ []) phases)
+call_before : (line : Line) (phases : List Phase) → IsCall line → AllByRecursion FitsParts phases → AllByRecursion FitsParts (calls_before (line ∷ []) phases)
 call_before line [] fits a = tt
-call_before line (p ∷ ps) fits a = ((fits, a.0), a.1)
+call_before line (p ∷ ps) fits a = (record { calls = (fits, a.0.calls); judge = a.0.judge }, a.1)
 
 as_many : (line : Line) (phases : List Phase) → length (calls_before (line ∷ []) phases) ≡ length phases
 as_many line [] = refl
 as_many line (p ∷ ps) = refl
 
-phases_fit : (judge : Option ℕ) (all : List Saying) → AllByRecursion FitsSaying all → AllByRecursion FitsLines (phases_of judge all)
-phases_fit judge [] a = (tt, tt)
-phases_fit judge (Nothing ∷ more) a = phases_fit judge more a.1
-phases_fit judge ((Call line) ∷ more) a = call_before line (phases_of judge more) a.0 (phases_fit judge more a.1)
-phases_fit judge ((Next next) ∷ more) a = (tt, phases_fit next more a.1)
+phases_fit : (judge : Option ℕ) (all : List Saying) → IfSome judge (λ number. number < 3) → AllByRecursion FitsSaying all → AllByRecursion FitsParts (phases_of judge all)
+phases_fit judge [] known a = (record { calls = tt; judge = known }, tt)
+phases_fit judge (Nothing ∷ more) known a = phases_fit judge more known a.1
+phases_fit judge ((Call line) ∷ more) known a = call_before line (phases_of judge more) a.0 (phases_fit judge more known a.1)
+phases_fit judge ((Next next) ∷ more) known a = (record { calls = tt; judge = known }, phases_fit next more a.0 a.1)
 
 few_phases : (judge : Option ℕ) (all : List Saying) → length (phases_of judge all) ≤ 1 + length all
 few_phases judge [] = omega arith
@@ -129,13 +136,9 @@ few_phases judge (Nothing ∷ more) = omega (arith, few_phases judge more)
 few_phases judge ((Call line) ∷ more) = omega (arith, few_phases judge more, as_many line (phases_of judge more))
 few_phases judge ((Next next) ∷ more) = omega (arith, few_phases next more)
 
-pub record FitsScript (script : Script) : Type 0 where
-  pub few : length script.phases ≤ 200001
-  pub fits : All FitsPhase script.phases
-
-by_index : (phases : List Phase) → AllByRecursion FitsLines phases → AllByRecursion FitsPhase phases
+by_index : (phases : List Phase) → AllByRecursion FitsParts phases → AllByRecursion FitsPhase phases
 by_index [] a = tt
-by_index (p ∷ ps) a = (All-from_recursion FitsLine p.lines a.0, by_index ps a.1)
+by_index (p ∷ ps) a = (record { calls = All-from_recursion IsCall p.lines a.0.calls; judge = a.0.judge }, by_index ps a.1)
 
 said_fits : (said : Result (List Saying) ScriptFault) (script : Script) → ((all : List Saying) → said ≡ Ok all → FitSayings 1 all) → script_said said ≡ Ok script → FitsScript script
 said_fits (Err f) script fit e = cc
@@ -143,7 +146,7 @@ said_fits (Ok all) script fit e =
     let good = fit all refl in
     let is : record { phases = phases_of None all } ≡ script = cc in
     let counted : length (phases_of None all) ≤ 200001 = omega (arith, few_phases None all, good.few) in
-    subst FitsScript is (record { few = counted; fits = All-from_recursion FitsPhase (phases_of None all) (by_index (phases_of None all) (phases_fit None all good.fits)) })
+    subst FitsScript is (record { few = counted; fits = All-from_recursion FitsPhase (phases_of None all) (by_index (phases_of None all) (phases_fit None all tt good.fits)) })
 
 pub script_fits : (bytes : List ℕ) (script : Script) → script_of bytes ≡ Ok script → FitsScript script
 unfolding script_of
@@ -151,3 +154,20 @@ script_fits bytes script e = elim (cases_Bool (utf8_valid_len bytes == length by
   | inl t ↦ let said = rw t at e in said_fits (sayings_from 1 (lines (unmarked bytes))) script (λ all f. sayings_fit 1 (lines (unmarked bytes)) all (omega arith) f) said
   | inr f ↦ let wrong = rw f at e in cc
 ]
+
+-- ---- the generated script
+
+-- no phase of the workload names a judge
+unnamed : (seed rows count : ℕ) → AllByRecursion (λ (p : Phase). p.judge ≡ None) (workload seed rows count).phases
+unfolding workload
+unnamed seed rows count = (refl, (refl, tt))
+
+unnamed_fit : (phases : List Phase) → AllByRecursion (λ (p : Phase). p.judge ≡ None) phases → AllByRecursion HasCalls phases → AllByRecursion FitsPhase phases
+unnamed_fit [] none calls = tt
+unnamed_fit (p ∷ ps) none calls = (record { calls = calls.0; judge = rw none.0 tt }, unnamed_fit ps none.1 calls.1)
+
+pub generated_fits : (script : Script) (seed : ℕ) → script ≡ generated seed → IsRunnable script → FitsScript script
+generated_fits script seed is runs = record {
+  few = omega (arith, runs.phases);
+  fits = All-from_recursion FitsPhase script.phases (unnamed_fit script.phases (subst (λ (s : Script). AllByRecursion (λ (p : Phase). p.judge ≡ None) s.phases) (sym is) (unnamed seed 2000 250)) (recursion_from_All HasCalls script.phases runs.calls));
+}

@@ -1,3 +1,4 @@
+pub mod Judges
 pub mod Making
 pub mod Performing
 pub mod Script

@@ -1,6 +1,7 @@
 -- What performing a script comes to, and which status a fault gives.
-use Rattle.std.specs.Prelude.{◌≡◌, ℕ, List, Option, Bool, true, false}
+use Rattle.std.specs.Prelude.{ℕ, List, Option, Bool, true, false}
 use Rattle.std.specs.Io.KnownBytes.{Appends}
+use Rattle.rv_io.specs.Causes.{Rose}
 use Rattle.rv_io.specs.Pieces.{AppendsFront}
 use Rattle.rv_io.specs.declared.all.ReadFault.{ReadFault}
 use Rattle.rv_io.specs.declared.all.ReadFault.TheVariants as reading
@@ -8,30 +9,29 @@ use Rattle.rv_script.specs.declared.scripts.Script.{Script}
 use Rattle.rv_script.specs.declared.scripts.ScriptFault.{ScriptFault}
 use Rattle.rv_script.specs.declared.scripts.ScriptFault.TheVariants as faults
 use Rattle.rv_model.specs.History.{IsLegal}
-use Rattle.rv_model.specs.Transcript.{text}
 use Rattle.rv_core.specs.Core.{Shown}
 use Rattle.rv_cli.specs.declared.status.Over.TheVariants as over
 use Rattle.rv_cli.specs.declared.status.Status.{Status}
 use Rattle.rv_cli.specs.declared.status.Status.TheVariants as statuses
-use Rattle.rv_cli.specs.Script.{HasAllCalls, HasFirstCalls, calls_asked}
+use Rattle.rv_cli.specs.Script.{HasAllCalls, HasFault, HasFirstCalls, PassesLimit, calls_asked, output}
 
--- The transcript of a legal history of the script's calls is written, whole.
-pub record Performs (old new : Option (List ℕ)) (script : Script) (core : Shown) : Type 0 where
+-- The output of a legal history of the script's calls is written, whole.
+pub record Performs (seed : Option ℕ) (old new : Option (List ℕ)) (script : Script) (core : Shown) : Type 0 where
   pub legal : IsLegal core.history
   pub calls : HasAllCalls core.history script
-  pub written : Appends old new (text core.history)
+  pub written : Appends old new (output seed core.history)
 
 -- The same of the script's first calls.
-pub record PerformsFirst (old new : Option (List ℕ)) (script : Script) (core : Shown) : Type 0 where
+pub record PerformsFirst (seed : Option ℕ) (old new : Option (List ℕ)) (script : Script) (core : Shown) : Type 0 where
   pub legal : IsLegal core.history
   pub calls : HasFirstCalls core.history (calls_asked script)
-  pub written : Appends old new (text core.history)
+  pub written : Appends old new (output seed core.history)
 
--- A front of such a transcript is written.
-pub record PerformsFront (old new : Option (List ℕ)) (script : Script) (core : Shown) : Type 0 where
+-- A front of such an output is written.
+pub record PerformsFront (seed : Option ℕ) (old new : Option (List ℕ)) (script : Script) (core : Shown) : Type 0 where
   pub legal : IsLegal core.history
   pub calls : HasFirstCalls core.history (calls_asked script)
-  pub written : AppendsFront old new (text core.history)
+  pub written : AppendsFront old new (output seed core.history)
 
 -- the statuses of a run whose script was performed
 abbrev pub IsPerformed : Status → Type 0
@@ -39,6 +39,14 @@ IsPerformed statuses.Done = Unit {0}
 IsPerformed statuses.Memory = Unit {0}
 IsPerformed statuses.WriteFault = Unit {0}
 IsPerformed status = ⊥
+
+-- Why there is no script to run, by the status that tells it.
+abbrev pub Hinders : Option (List ℕ) → Option (List ℕ) → ℕ → ℕ → Status → Type 0
+Hinders left after before now (statuses.Script fault) = HasFault left fault
+Hinders left after before now (statuses.Limit which) = PassesLimit left after 16777216 which
+Hinders left after before now statuses.ReadFault = Rose before now
+Hinders left after before now statuses.Memory = Unit {0}
+Hinders left after before now status = ⊥
 
 abbrev pub reading_status : ReadFault → Status
 reading_status reading.Failed = statuses.ReadFault

@@ -1,7 +1,7 @@
 -- What a run makes of a script.
-use Rattle.std.specs.Prelude.{◌≡◌, ℕ, ◌+◌, ◌-◌, ◌<◌, ◌≤◌, ◌==◌, ◌⊎◌, List, [], ◌∷◌, ◌++◌, Option, Some, None, Result, Ok, Err, map, filter, length, IfSome, IsOkAnd}
+use Rattle.std.specs.Prelude.{◌≡◌, ℕ, ◌+◌, ◌==◌, List, [], ◌∷◌, ◌++◌, Option, Some, None, Err, map, filter, IfSome, IsOkAnd}
 use Rattle.std.specs.List.{slice_index_or}
-use Rattle.std.specs.Io.KnownBytes.{Appends, Keeps}
+use Rattle.std.specs.Io.KnownBytes.{Appends}
 use Rattle.rv_io.specs.Pieces.{AppendsFront, TakesTooMany}
 use Rattle.rv_script.specs.declared.scripts.Line.{Line}
 use Rattle.rv_script.specs.declared.scripts.Phase.{Phase}
@@ -9,6 +9,8 @@ use Rattle.rv_script.specs.declared.scripts.Script.{Script}
 use Rattle.rv_script.specs.declared.scripts.ScriptFault.{ScriptFault}
 use Rattle.rv_script.specs.declared.scripts.ScriptFault.TheVariants as faults
 use Rattle.rv_script.specs.Script.{script_of}
+use Rattle.rv_gen.specs.Summary.{summary, summary_text}
+use Rattle.rv_gen.specs.Workload.{generated}
 use Rattle.rv_cli.specs.declared.status.Over.{Over}
 use Rattle.rv_cli.specs.declared.status.Over.TheVariants as over
 use Rattle.rv_model.specs.declared.entry.Entry.{Entry}
@@ -65,22 +67,33 @@ pub record HasFirstCalls (history : List Entry) (all : List Call) : Type 0 where
 abbrev pub Told : Option (List ℕ) → (Script → Type 0) → Type 0
 Told left P = IfSome left (λ bytes. IsOkAnd (script_of bytes) P)
 
--- What status 0 says: the transcript of one legal history was written, whole, and the history has the calls of the script.
-abbrev pub WritesAll : Option (List ℕ) → Option (List ℕ) → Option (List ℕ) → Option Shown → Type 0
-WritesAll left old new None = ⊥
-WritesAll left old new (Some core) = IsLegal core.history × Appends old new (text core.history) × Told left (HasAllCalls core.history)
+-- a fact of the script that is run: the generated one of a seed, else the one that the source told, where it tells
+abbrev pub Runs : Option ℕ → Option (List ℕ) → (Script → Type 0) → Type 0
+Runs (Some seed) left P = P (generated seed)
+Runs None left P = Told left P
 
--- What status 4 says: nothing was written, or the transcript of one legal history of the script's first calls.
-abbrev pub StopsShort : Option (List ℕ) → Option (List ℕ) → Option (List ℕ) → Option Shown → Type 0
-StopsShort left old new None = Keeps old new
-StopsShort left old new (Some core) =
-    IsLegal core.history × Appends old new (text core.history) × Told left (λ script. HasFirstCalls core.history (calls_asked script))
+-- what is written of a history: its transcript, or with a seed its summary
+abbrev pub output : Option ℕ → List Entry → List ℕ
+output None history = text history
+output (Some seed) history = summary_text (summary history)
 
--- What status 6 says: a front of such a transcript was written.
-abbrev pub WritesFront : Option (List ℕ) → Option (List ℕ) → Option (List ℕ) → Option Shown → Type 0
-WritesFront left old new None = ⊥
-WritesFront left old new (Some core) =
-    IsLegal core.history × AppendsFront old new (text core.history) × Told left (λ script. HasFirstCalls core.history (calls_asked script))
+-- What status 0 says: the output of one legal history was written, whole, and the history has the calls of the script.
+pub record WritesAll (seed : Option ℕ) (left old new : Option (List ℕ)) (core : Shown) : Type 0 where
+  pub legal : IsLegal core.history
+  pub written : Appends old new (output seed core.history)
+  pub calls : Runs seed left (HasAllCalls core.history)
+
+-- What status 4 says where calls were made: the output of one legal history of the script's first calls was written.
+pub record StopsShort (seed : Option ℕ) (left old new : Option (List ℕ)) (core : Shown) : Type 0 where
+  pub legal : IsLegal core.history
+  pub written : Appends old new (output seed core.history)
+  pub calls : Runs seed left (λ script. HasFirstCalls core.history (calls_asked script))
+
+-- What status 6 says: a front of such an output was written.
+pub record WritesFront (seed : Option ℕ) (left old new : Option (List ℕ)) (core : Shown) : Type 0 where
+  pub legal : IsLegal core.history
+  pub written : AppendsFront old new (output seed core.history)
+  pub calls : Runs seed left (λ script. HasFirstCalls core.history (calls_asked script))
 
 -- What status 2 says: the source's bytes have this first fault, a line without a session or a byte that is not UTF-8.
 abbrev pub IsScriptFault : ScriptFault → Type 0

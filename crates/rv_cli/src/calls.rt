@@ -1,43 +1,61 @@
 //! The calls of a script, made one after another.
-ghost use Rattle.std.specs.Prelude.{◌≡◌, ◌≤◌, ◌+◌, ◌++◌, ◌∷◌, [], All, OnErr, OnOk, length, max};
+ghost use Rattle.std.specs.Prelude.{◌≡◌, ◌≤◌, ◌<◌, ◌+◌, ◌++◌, ◌∷◌, [], All, IfSome, OnErr, OnOk, length, max, unwrap_or};
+ghost use Rattle.rv_gen.specs.Workload.{HasCalls, IsCall};
+ghost use Rattle.rv_cli.specs.Judges.{by_number, ruling_after};
 ghost use Rattle.rv_cli.specs.Script.{HasFirstCalls, calls_from, calls_in, calls_made};
-ghost use Rattle.rv_cli.specs.Making.{FitsLine, FitsPhase, MakesCalls};
+ghost use Rattle.rv_cli.specs.Making.{FitsPhase, MakesCalls};
 
+use crate::judges::Judges;
 use rv_core::Core;
 use rv_judge::Uncounted;
 use rv_reader::{Reader, Store};
 use rv_script::{Line, Phase};
 use rv_value::NoMemory;
 
-/// Makes the calls of all phases, the first of which is 1.
+/// Makes the calls of all phases, the first of which is 1, each under the judge that was named last.
 pub fn make_calls<S: Store + Reader<Ledger = Uncounted> + Drop>(
     core: &mut Core<S>,
+    judges: &mut Judges,
     phases: &[Phase],
 ) -> Result<(), NoMemory>
-    requires fresh { core.old.history ≡ [] }
-    requires phase { core.old.phase ≡ 1 }
+    requires fresh { core.old.engine.history ≡ [] }
+    requires phase { core.old.engine.phase ≡ 1 }
     requires few { length phases.now ≤ 200001 }
     requires fits { All FitsPhase phases.now }
-    ensures ok { OnOk result (calls_made core.new.history ≡ calls_from 1 phases.now) }
-    ensures first { HasFirstCalls core.new.history (calls_from 1 phases.now) }
+    ensures ok { OnOk result (calls_made core.new.engine.history ≡ calls_from 1 phases.now) }
+    ensures first { HasFirstCalls core.new.engine.history (calls_from 1 phases.now) }
+    ensures ruling { OnOk result (judges.new.ruling ≡ ruling_after judges.old.ruling phases.now) }
+    ensures beside { core.new.beside ≡ core.old.beside }
 {
     let mut number = 0u32;
     'phases: for phase in phases {
-        enter_phase(core, number);
+        enter_phase(core, judges, number, phase.judge);
         make_phase(core, phase.lines.as_slice())?;
         number += 1;
     }
     Ok(())
 }
 
-/// Goes on to the phase behind so many others.
-fn enter_phase<S: Store + Reader<Ledger = Uncounted> + Drop>(core: &mut Core<S>, number: u32)
-    requires phase { core.old.phase ≡ max 1 number }
+/// Goes on to the phase behind so many others, under the judge that it names.
+fn enter_phase<S: Store + Reader<Ledger = Uncounted> + Drop>(
+    core: &mut Core<S>,
+    judges: &mut Judges,
+    number: u32,
+    judge: Option<u8>,
+)
+    requires phase { core.old.engine.phase ≡ max 1 number }
     requires few { number ≤ 200001 }
-    ensures { core.new ≡ record core.old { phase = number + 1 } }
+    requires known { IfSome judge (λ named. named < 3) }
+    ensures engine { core.new.engine ≡ record core.old.engine { phase = number + 1 } }
+    ensures all { by_number judges.new.places.zero judges.new.places.one judges.new.places.two core.new.judge ≡ by_number judges.old.places.zero judges.old.places.one judges.old.places.two core.old.judge }
+    ensures ruling { judges.new.ruling ≡ unwrap_or judge judges.old.ruling }
+    ensures beside { core.new.beside ≡ core.old.beside }
 {
     if number > 0 {
         core.next_phase();
+    }
+    if let Some(named) = judge {
+        judges.seat(core, named);
     }
 }
 
@@ -46,10 +64,11 @@ fn make_phase<S: Store + Reader<Ledger = Uncounted> + Drop>(
     core: &mut Core<S>,
     lines: &[Line],
 ) -> Result<(), NoMemory>
-    requires { All FitsLine lines.now }
-    ensures ok { OnOk result (calls_made core.new.history ≡ calls_made core.old.history ++ calls_in core.old.phase lines.now) }
-    ensures part { MakesCalls core.old.history core.new.history core.old.phase lines.now }
-    ensures phase { core.new.phase ≡ core.old.phase }
+    requires { All IsCall lines.now }
+    ensures ok { OnOk result (calls_made core.new.engine.history ≡ calls_made core.old.engine.history ++ calls_in core.old.engine.phase lines.now) }
+    ensures part { MakesCalls core.old.engine.history core.new.engine.history core.old.engine.phase lines.now }
+    ensures phase { core.new.engine.phase ≡ core.old.engine.phase }
+    ensures beside { core.new.beside ≡ core.old.beside }
 {
     'lines: for line in lines {
         make_call(core, line)?;
@@ -62,10 +81,11 @@ fn make_call<S: Store + Reader<Ledger = Uncounted> + Drop>(
     core: &mut Core<S>,
     line: &Line,
 ) -> Result<(), NoMemory>
-    requires { FitsLine line.now }
-    ensures ok { OnOk result (calls_made core.new.history ≡ calls_made core.old.history ++ calls_in core.old.phase (line.now ∷ [])) }
-    ensures err { OnErr result (core.new ≡ core.old) }
-    ensures phase { core.new.phase ≡ core.old.phase }
+    requires { IsCall line.now }
+    ensures ok { OnOk result (calls_made core.new.engine.history ≡ calls_made core.old.engine.history ++ calls_in core.old.engine.phase (line.now ∷ [])) }
+    ensures err { OnErr result (core.new.engine.history ≡ core.old.engine.history) }
+    ensures phase { core.new.engine.phase ≡ core.old.engine.phase }
+    ensures beside { core.new.beside ≡ core.old.beside }
 {
     let _ = core.call(line.session, line.text.as_str())?;
     Ok(())

@@ -1,17 +1,23 @@
-//! The program: a script on standard input, its transcript on standard output.
+//! The program: a script on standard input, or a generated one; its transcript or summary on standard output.
 #![tactic(auto)]
 
 mod calls;
+mod judges;
+#[cfg(test)]
+mod piece_tests;
 mod run;
 #[cfg(test)]
 mod session_tests;
 mod status;
 #[cfg(test)]
 mod tests;
+#[cfg(test)]
+mod trace_tests;
 
-use crate::run::{Ran, run};
+use crate::run::{Ran, run_plain};
 use crate::status::Status;
 use rv_io::{StdSink, StdSource};
+use rv_judge::{Contrary, Judge, Patient, Threshold};
 use rv_store::Paged;
 use rv_value::{NoMemory, Text};
 use std::alloc::Global;
@@ -19,7 +25,7 @@ use std::io::BufWriter;
 use std::process::ExitCode;
 use std::{env, io};
 
-/// Runs the script of standard input, says on standard error how that ended, and exits with the status's code.
+/// Runs as the words ask, says on standard error how that ended, and exits with the status's code.
 fn main(rt: HostRuntime) -> ExitCode {
     let status = whole(&rt).unwrap_or(Status::Memory);
     if status != Status::Done {
@@ -29,10 +35,14 @@ fn main(rt: HostRuntime) -> ExitCode {
     ExitCode::from(status.code())
 }
 
-/// The run over the standard streams.
+/// The run over the standard streams, under the supplied judges.
 fn whole(rt: &HostRuntime) -> Result<Status, NoMemory> {
     let alloc = rt.alloc();
     let words = read_words(rt, alloc)?;
+    let mut judges: Vec<Box<dyn Judge>> = Vec::new(alloc);
+    judges.push(Box::new(alloc, Threshold::new())?)?;
+    judges.push(Box::new(alloc, Patient::new())?)?;
+    judges.push(Box::new(alloc, Contrary::new())?)?;
     let Ok(out) = BufWriter::new(alloc, io::writer(rt)) else {
         return Err(NoMemory);
     };
@@ -41,12 +51,13 @@ fn whole(rt: &HostRuntime) -> Result<Status, NoMemory> {
     let Ran {
         status,
         core: _core,
-    } = run(
+    } = run_plain(
         alloc,
         Paged::new(alloc)?,
         words.as_slice(),
         &mut source,
         &mut sink,
+        judges,
     );
     Ok(match sink.finish() {
         Ok(()) => status,

@@ -1,21 +1,30 @@
-//! The top call: a script from a source, its transcript to a sink.
-ghost use Rattle.std.specs.Prelude.{◌≡◌, ◌≤◌, ◌↔◌, ◌<◌, All, IsSome, IsSomeAnd, None, length};
+//! The top call: a script from a source or from a seed, its transcript or its summary to a sink.
+ghost use Rattle.std.specs.Prelude.{◌≡◌, ◌≤◌, ◌<◌, ◌↔◌, All, Err, IfErr, IfOk, IfSome, IsOk, IsSome, IsSomeAnd, None, Ok, [], length};
 ghost use Rattle.std.specs.Io.KnownBytes.{IsAtEnd, Keeps};
 ghost use Rattle.rv_io.specs.Causes.{Rose};
-ghost use Rattle.rv_cli.specs.Script.{HasFault, PassesLimit, StopsShort, WritesAll, WritesFront};
-ghost use Rattle.rv_cli.specs.Making.{FitsPhase};
-ghost use Rattle.rv_cli.specs.Performing.{IsPerformed, Performs, PerformsFirst, PerformsFront, calls_status, reading_status, script_status};
+ghost use Rattle.rv_io.specs.Pieces.{Goes};
+ghost use Rattle.rv_gen.specs.Workload.{generated};
+ghost use Rattle.rv_words.specs.declared.choices.Asked.{Asked as Askings};
+ghost use Rattle.rv_words.specs.Words.{AreAccepted, Ask};
+ghost use Rattle.rv_cli.specs.Judges.{by_number};
+ghost use Rattle.rv_cli.specs.Script.{HasFault, PassesLimit, Runs, StopsShort, Told, WritesAll, WritesFront, output};
+ghost use Rattle.rv_cli.specs.Making.{FitsScript};
+ghost use Rattle.rv_cli.specs.Performing.{Hinders, IsPerformed, Performs, PerformsFirst, PerformsFront, calls_status, reading_status, script_status};
 ghost use Rattle.rv_cli.specs.declared.status.Over.{Over as Limits};
 ghost use Rattle.rv_script.specs.declared.scripts.ScriptFault.{ScriptFault as Faults};
 
 use crate::calls::make_calls;
+use crate::judges::Judges;
 use crate::status::{Over, Status};
 use rv_core::Core;
-use rv_io::{ReadFault, Sink, Source, read_all};
-use rv_judge::Uncounted;
+use rv_gen::{generate, summary_of, write_summary};
+use rv_io::{Failed, ReadFault, Sink, Source, read_all};
+use rv_judge::{Judge, Uncounted};
+use rv_model::Entry;
 use rv_reader::{Reader, Store};
 use rv_script::{Script, ScriptFault, read_script, write_text};
-use rv_value::Text;
+use rv_value::{NoMemory, Text};
+use rv_words::{Asked, asked};
 use std::alloc::Global;
 
 /// The end of a run, with the core that it made.
@@ -28,47 +37,102 @@ pub struct Ran<P: Store + Reader<Ledger = Uncounted> + Drop> {
 /// The greatest number of bytes of a script.
 const LIMIT: u32 = 16_777_216;
 
-/// All that the program does: it reads a script, makes its calls over the store, and writes the transcript.
-pub fn run<P: Store + Reader<Ledger = Uncounted> + Drop, S: Source, K: Sink>(
+/// All that the program does: it reads a script, or generates one, makes its calls over the store, and writes the
+/// transcript, or of a generated script the summary.
+pub fn run_plain<P: Store + Reader<Ledger = Uncounted> + Drop, S: Source, K: Sink>(
     alloc: Global,
     store: P,
     words: &[Text],
     source: &mut S,
     sink: &mut K,
+    judges: Vec<Box<dyn Judge>>,
 ) -> Ran<P>
     requires tables { (P.shown store).tables ≡ 0 }
     requires newest { (P.shown store).newest ≡ 0 }
+    requires judges { length judges.items ≡ 3 }
 
-    // The transcript of one legal history of a one-thread database was written, which holds each
-    // session's calls, each once, in its order and phase.
-    ensures done { result.status ≡ Status.Done → WritesAll (S.left source.old) (K.written sink.old) (K.written sink.new) result.core }
-    ensures all_read { result.status ≡ Status.Done → IsAtEnd (S.left source.new) }
+    // The output of one legal history of a one-thread database was written, which holds each session's calls, each
+    // once, in its order and phase: the transcript, or of a generated script the summary.
+    ensures done { (asked : Askings) → Ask words.now asked → result.status ≡ Status.Done → IsSomeAnd result.core (λ core. WritesAll asked.seed (S.left source.old) (K.written sink.old) (K.written sink.new) core.engine) }
+    ensures all_read { (asked : Askings) → Ask words.now asked → asked.seed ≡ None → result.status ≡ Status.Done → IsAtEnd (S.left source.new) }
 
-    // Nothing was written, or the transcript of a legal history of the first calls.
-    ensures memory { result.status ≡ Status.Memory → StopsShort (S.left source.old) (K.written sink.old) (K.written sink.new) result.core }
+    // Nothing was written, or the output of a legal history of the first calls.
+    ensures memory { (asked : Askings) → Ask words.now asked → result.status ≡ Status.Memory → IfSome result.core (λ core. StopsShort asked.seed (S.left source.old) (K.written sink.old) (K.written sink.new) core.engine) }
 
-    // Exactly where there is a word.
-    ensures usage { (result.status ≡ Status.Usage) ↔ (0 < length words.now) }
+    // Exactly where the words are not accepted.
+    ensures usage { (result.status ≡ Status.Usage) ↔ ¬ (AreAccepted words.now) }
     ensures script { (fault : Faults) → result.status ≡ Status.Script fault → HasFault (S.left source.old) fault }
     ensures limit { (over : Limits) → result.status ≡ Status.Limit over → PassesLimit (S.left source.old) (S.left source.new) LIMIT over }
     ensures read { result.status ≡ Status.ReadFault → Rose (S.faults source.old) (S.faults source.new) }
     ensures write { result.status ≡ Status.WriteFault → Rose (K.faults sink.old) (K.faults sink.new) }
-    ensures front { result.status ≡ Status.WriteFault → WritesFront (S.left source.old) (K.written sink.old) (K.written sink.new) result.core }
+    ensures front { (asked : Askings) → Ask words.now asked → result.status ≡ Status.WriteFault → IsSomeAnd result.core (λ core. WritesFront asked.seed (S.left source.old) (K.written sink.old) (K.written sink.new) core.engine) }
+
+    // A generated script has no fault, and nothing is read for it.
+    ensures generated { (asked : Askings) → Ask words.now asked → IsSome asked.seed → IsPerformed result.status }
+    ensures unread { (asked : Askings) → Ask words.now asked → IsSome asked.seed → source.new ≡ source.old }
 
     // A run that ended before the calls has no core, and wrote nothing.
     ensures called { IsSome result.core → IsPerformed result.status }
     ensures early { result.core ≡ None → Keeps (K.written sink.old) (K.written sink.new) }
+
+    // So many background steps may follow each foreground step as the words ask.
+    ensures steps { (asked : Askings) → Ask words.now asked → IfSome result.core (λ core. core.beside ≡ asked.steps) }
 {
-    if !words.is_empty() {
+    let Some(asked) = asked(words) else {
         return ended(Status::Usage);
+    };
+    match script_to_run(alloc, asked.seed, source) {
+        Ok(script) => perform(alloc, store, asked, &script, sink, judges),
+        Err(status) => ended(status),
     }
+}
+
+/// The script to run: the generated one of a seed, else the one that the source tells.
+fn script_to_run<S: Source>(
+    alloc: Global,
+    seed: Option<u32>,
+    source: &mut S,
+) -> Result<Script, Status>
+    ensures script { IfOk result (λ script. Runs seed (S.left source.old) (λ told. told ≡ script)) }
+    ensures fits { IfOk result FitsScript }
+    ensures all_read { seed ≡ None → IsOk result → IsAtEnd (S.left source.new) }
+    ensures fault { IfErr result (Hinders (S.left source.old) (S.left source.new) (S.faults source.old) (S.faults source.new)) }
+    ensures generated { IsSome seed → IfErr result (λ status. status ≡ Status.Memory) }
+    ensures unread { IsSome seed → source.new ≡ source.old }
+{
+    match seed {
+        Some(seed) => generated_script(alloc, seed),
+        None => read_input(alloc, source),
+    }
+}
+
+/// The generated script of a seed.
+#[tactic(auto, using(crate::proofs::Fits::generated_fits))]
+fn generated_script(alloc: Global, seed: u32) -> Result<Script, Status>
+    ensures script { IfOk result (λ script. script ≡ generated seed) }
+    ensures fits { IfOk result FitsScript }
+    ensures fault { IfErr result (λ status. status ≡ Status.Memory) }
+{
+    match generate(alloc, seed) {
+        Ok(script) => Ok(script),
+        Err(NoMemory) => Err(Status::Memory),
+    }
+}
+
+/// The script that the source tells.
+fn read_input<S: Source>(alloc: Global, source: &mut S) -> Result<Script, Status>
+    ensures script { IfOk result (λ script. Told (S.left source.old) (λ told. told ≡ script)) }
+    ensures fits { IfOk result FitsScript }
+    ensures all_read { IsOk result → IsAtEnd (S.left source.new) }
+    ensures fault { IfErr result (Hinders (S.left source.old) (S.left source.new) (S.faults source.old) (S.faults source.new)) }
+{
     let bytes = match read_all(alloc, source, LIMIT) {
         Ok(bytes) => bytes,
-        Err(fault) => return ended(after_reading(fault)),
+        Err(fault) => return Err(after_reading(fault)),
     };
     match read_script(alloc, &bytes) {
-        Ok(script) => perform(alloc, store, &script, sink),
-        Err(fault) => ended(after_script(fault)),
+        Ok(script) => Ok(script),
+        Err(fault) => Err(after_script(fault)),
     }
 }
 
@@ -104,27 +168,30 @@ fn ended<P: Store + Reader<Ledger = Uncounted> + Drop>(status: Status) -> Ran<P>
     Ran { status, core: None }
 }
 
-/// Makes the calls of a script, and writes the transcript.
+/// Makes the calls of a script under the judges, and writes what is to be written of them.
 fn perform<P: Store + Reader<Ledger = Uncounted> + Drop, K: Sink>(
     alloc: Global,
     store: P,
+    asked: Asked,
     script: &Script,
     sink: &mut K,
+    judges: Vec<Box<dyn Judge>>,
 ) -> Ran<P>
     requires tables { (P.shown store).tables ≡ 0 }
     requires newest { (P.shown store).newest ≡ 0 }
-    requires few { length script.now.phases ≤ 200001 }
-    requires fits { All FitsPhase script.now.phases }
-    ensures done { result.status ≡ Status.Done → IsSomeAnd result.core (Performs (K.written sink.old) (K.written sink.new) script.now) }
-    ensures memory { result.status ≡ Status.Memory → IsSomeAnd result.core (PerformsFirst (K.written sink.old) (K.written sink.new) script.now) }
-    ensures front { result.status ≡ Status.WriteFault → IsSomeAnd result.core (PerformsFront (K.written sink.old) (K.written sink.new) script.now) }
+    requires judges { length judges.items ≡ 3 }
+    requires known { asked.judge < 3 }
+    requires fits { FitsScript script.now }
+    ensures done { result.status ≡ Status.Done → IsSomeAnd result.core (λ core. Performs asked.seed (K.written sink.old) (K.written sink.new) script.now core.engine) }
+    ensures memory { result.status ≡ Status.Memory → IsSomeAnd result.core (λ core. PerformsFirst asked.seed (K.written sink.old) (K.written sink.new) script.now core.engine) }
+    ensures front { result.status ≡ Status.WriteFault → IsSomeAnd result.core (λ core. PerformsFront asked.seed (K.written sink.old) (K.written sink.new) script.now core.engine) }
     ensures write { result.status ≡ Status.WriteFault → Rose (K.faults sink.old) (K.faults sink.new) }
     ensures kinds { IsPerformed result.status }
-    ensures core { IsSome result.core }
+    ensures core { IsSomeAnd result.core (λ core. core.beside ≡ asked.steps) }
 {
-    let mut core = Core::new(alloc, store);
-    let called = make_calls(&mut core, script.phases.as_slice()).is_ok();
-    if write_text(sink, core.history()).is_err() {
+    let (mut core, mut judges) = judged_core(alloc, store, asked, judges);
+    let called = make_calls(&mut core, &mut judges, script.phases.as_slice()).is_ok();
+    if write_output(sink, asked.seed, core.history()).is_err() {
         return Ran {
             status: Status::WriteFault,
             core: Some(core),
@@ -136,7 +203,39 @@ fn perform<P: Store + Reader<Ledger = Uncounted> + Drop, K: Sink>(
     }
 }
 
-/// How a run ends whose transcript was written.
+/// A core over the store under the judge that the words ask, and the judges beside it.
+fn judged_core<P: Store + Reader<Ledger = Uncounted> + Drop>(
+    alloc: Global,
+    store: P,
+    asked: Asked,
+    judges: Vec<Box<dyn Judge>>,
+) -> (Core<P>, Judges)
+    requires tables { (P.shown store).tables ≡ 0 }
+    requires newest { (P.shown store).newest ≡ 0 }
+    requires three { length judges.items ≡ 3 }
+    requires known { asked.judge < 3 }
+    ensures fresh { result.0.engine.history ≡ [] }
+    ensures phase { result.0.engine.phase ≡ 1 }
+    ensures all { by_number result.1.places.zero result.1.places.one result.1.places.two result.0.judge ≡ judges.items }
+    ensures ruling { result.1.ruling ≡ asked.judge }
+    ensures steps { result.0.beside ≡ asked.steps }
+{
+    let (judges, first) = Judges::new(judges, asked.judge);
+    (Core::new(alloc, store, first, asked.steps), judges)
+}
+
+/// Writes the transcript of a history, or of a generated run the summary.
+fn write_output<K: Sink>(sink: &mut K, seed: Option<u32>, entries: &[Entry]) -> Result<(), Failed>
+    requires { All (λ e. e.session ≤ 8) entries.now }
+    ensures { Goes (Ok tt) (K.written sink.old) (K.written sink.new) (K.faults sink.old) (K.faults sink.new) result (output seed entries.now) }
+{
+    match seed {
+        None => write_text(sink, entries),
+        Some(_seed) => write_summary(sink, &summary_of(entries)),
+    }
+}
+
+/// How a run ends whose output was written.
 fn after_calls(called: bool) -> Status
     ensures { result ≡ calls_status called }
 {

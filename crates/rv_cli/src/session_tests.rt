@@ -67,7 +67,7 @@ fn sessions_have_their_transcripts(rt: HostRuntime) -> Result<(), Fail> {
         REFUSALS,
     ] {
         let script = script_of(alloc, transcript)?;
-        let (status, written) = told(alloc, script.as_str())?;
+        let (status, written) = told(alloc, "", script.as_str())?;
         assert_eq!(rt; status, Status::Done);
         assert_eq!(rt; written.as_slice(), transcript.as_bytes());
     }

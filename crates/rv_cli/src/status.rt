@@ -17,11 +17,11 @@ pub enum Status {
     Script(ScriptFault),
     /// The script passes a limit.
     Limit(Over),
-    /// Memory was refused. The transcript of the calls made so far is written, where there is one.
+    /// Memory was refused. The output of the calls made so far is written, where there is one.
     Memory,
     /// A read failed, and nothing was called or written.
     ReadFault,
-    /// A write failed; what was written is a front of the transcript.
+    /// A write failed; what was written is a front of the output.
     WriteFault,
 }
 
@@ -55,7 +55,11 @@ impl Status {
     {
         match self {
             Status::Done => said("", None, ""),
-            Status::Usage => said("usage: rvdyn", None, ""),
+            Status::Usage => said(
+                "usage: rvdyn [--judge N] [--steps K] [--gen SEED]",
+                None,
+                "",
+            ),
             Status::Script(fault) => script_words(fault),
             Status::Limit(over) => limit_words(*over),
             Status::Memory => said("no memory", None, ""),

@@ -1,6 +1,6 @@
 -- What the methods of a database owe, from what the calls below them say.
-use Rattle.std.proofs.Common.{◌≡◌, ℕ, ◌-◌, ◌<◌, ◌≤◌, List, [], ◌∷◌, ◌++◌, refl, ap, sym, ◌∙◌, subst, arith, length, length-append, Result, Ok, Err, IfSome, Option, Some, None, false, nat_lt, is_some, map}
-use Rattle.std.specs.List.{AllByRecursion}
+use Rattle.std.proofs.Common.{◌≡◌, ℕ, ◌-◌, ◌<◌, ◌≤◌, List, [], ◌∷◌, ◌++◌, refl, ap, sym, ◌∙◌, subst, arith, length, length-append, Result, Ok, Err, IfSome, Option, Some, None, true, false, nat_lt, is_some, filter}
+use Rattle.std.specs.List.{AllByRecursion, list_all, slice_index_or}
 use Rattle.std.proofs.lemmas.Bool.Decides.{nat_tests}
 use Rattle.rv_value.specs.declared.record.Record.{Record}
 use Rattle.rv_rows.specs.declared.changes.Change.{Change}
@@ -8,7 +8,8 @@ use Rattle.rv_rows.specs.Changes.{Rise}
 use Rattle.rv_lang.specs.declared.reply.Refusal.{Refusal}
 use Rattle.rv_lang.specs.declared.reply.Refusal.TheVariants.{NoTransaction, CursorOpen, Limit}
 use Rattle.rv_lang.specs.declared.reply.Which.TheVariants.{Cursors}
-use Rattle.rv_lang.specs.declared.reply.Reply.TheVariants.{Created, Committed, Opened, RolledBack}
+use Rattle.rv_lang.specs.declared.reply.Reply.{Reply}
+use Rattle.rv_lang.specs.declared.reply.Reply.TheVariants.{Created, Committed, Opened, RolledBack, Refused}
 use Rattle.rv_catalog.specs.declared.def.TableDef.{TableDef}
 use Rattle.rv_catalog.specs.declared.def.Select.{Select}
 use Rattle.rv_catalog.specs.Answers.{◌>>=◌, ok_or, refuse_if}
@@ -19,19 +20,24 @@ use Rattle.rv_reader.specs.Shown.{Shown, IsSnapshot}
 use Rattle.rv_reader.specs.Storing.{IsSame, CanCommit, Created as CreatedIn}
 use Rattle.rv_model.specs.declared.state.State.{State}
 use Rattle.rv_model.specs.declared.state.Cursor.{Cursor}
-use Rattle.rv_model.specs.declared.state.Offer.{Offer}
 use Rattle.rv_model.specs.declared.transactions.Transaction.{Transaction}
 use Rattle.rv_model.specs.declared.transactions.Transactions.{Transactions}
-use Rattle.rv_model.specs.Database.{cursor_named}
-use Rattle.rv_model.specs.Offers.{offer_of, offers_of, qualifying}
+use Rattle.rv_model.specs.Database.{base_rows, cursor_named, rows_at}
+use Rattle.rv_model.specs.Offering.{offers_over}
+use Rattle.rv_restrict.specs.declared.atom.Atom.{Atom}
+use Rattle.rv_restrict.specs.Truth.{qualifies}
+use Rattle.rv_catalog.specs.Fits.{is_column}
+use Rattle.rv_model.specs.Offers.{sorted}
 use Rattle.rv_model.specs.Transactions.{transaction_of, transaction_at, refuse_at, done, lowest}
 use Rattle.rv_model.specs.Step.{committed, created, first_touched, opened, opening, other_cursors, own_cursors, rolled_back, rows_seen, table_of}
 use Rattle.rv_txn.specs.declared.txns.Standing.{Standing}
 use Rattle.rv_txn.specs.Calls.{finished, rolled_back as undone, standing, standing_at}
-use Rattle.rv_core.specs.Db.{db_of, stand_of, IsOwn, IsTied}
-use Rattle.rv_core.specs.Doing.{Does, offered, opening_base}
+use Rattle.rv_core.specs.Db.{bases_of, db_of, stand_of, IsOwn, IsTied}
+use Rattle.rv_core.specs.Doing.{Does, opening_base}
 use Rattle.rv_core.specs.Storing.{CommitsTo}
+use Rattle.rv_core.proofs.Choosing.{offers_same}
 use Rattle.rv_core.proofs.Images.{base_at}
+use Rattle.rv_core.proofs.Offering.{and_parts}
 use Rattle.rv_core.proofs.Tied.{changes_fit, own_changes, tied_committed, tied_created, tied_done, tied_same, tied_without}
 use Rattle.rv_core.proofs.Standing.{base_known, db_committed, db_rolled_back, finished_is, own_within, rolled_is, stand_created, stand_same}
 
@@ -70,7 +76,7 @@ can_commit shown schema txns session n base changes tied h rise =
     record { rise = rise; each = rw (← f.3) (changes_fit shown schema txns f.0 tied) }
 
 -- a fact of the place of the session's transaction
-at_own : (o : Option ℕ) (own : ℕ) (P : ℕ → Type 0) → o ≡ Some own → IfSome o P → P own
+pub at_own : (o : Option ℕ) (own : ℕ) (P : ℕ → Type 0) → o ≡ Some own → IfSome o P → P own
 at_own None own P e h = cc
 at_own (Some other) own P e h = let same : other ≡ own = cc in subst P same h
 
@@ -127,23 +133,51 @@ opens_err s session name select refusal h =
     let e = opening_err (opening s.schema.tables s.transactions.active s.cursors session name select.tables) (λ own. (transaction_at s.transactions.active own).base) refusal h in
     rw e refl
 
+pub opens_refused : (shown : Shown) (schema : Schema) (txns : Transactions) (cursors : List Cursor) (session : ℕ) (name : List ℕ) (select : Select) (refusal : Refusal) (replies : Reply × Reply) → opening_base schema.tables txns.active cursors session name select.tables ≡ Err refusal → (replies.0 ≡ Refused refusal) × (replies.1 ≡ Refused refusal)
+    → Does (opened (db_of shown schema txns cursors) session name select) (stand_of shown schema txns cursors) replies (stand_of shown schema txns cursors)
+opens_refused shown schema txns cursors session name select refusal replies h made =
+    let e = opens_err (db_of shown schema txns cursors) session name select refusal h in
+    rw e (made.1 ∙ sym made.0, made.0, refl)
+
 pub opening_snapshot : (shown : Shown) (schema : Schema) (txns : Transactions) (cursors : List Cursor) (session base : ℕ) (name tables : List ℕ) → IsTied shown schema txns → opening_base schema.tables txns.active cursors session name tables ≡ Ok base → IsSnapshot shown base
 opening_snapshot shown schema txns cursors session base name tables tied h =
     let o = opening_is schema.tables txns.active cursors session base name tables h in
     rw (← o.3) (base_known shown txns.touched txns.active o.0 (own_within txns.active session o.0 o.2) tied.active)
 
-pub opens_does : (shown : Shown) (schema : Schema) (txns : Transactions) (cursors more : List Cursor) (session base : ℕ) (name : List ℕ) (select : Select) (offers : List Offer) → opening_base schema.tables txns.active cursors session name select.tables ≡ Ok base → table_of select < length schema.tables
-    → offers ≡ offers_of select (shown.rows (table_of select) base) → more ≡ cursors ++ record { session = session; name = name; offers = offers } ∷ []
+-- the rows of tables at the base of a transaction
+rows_agree : (shown : Shown) (count own base : ℕ) (active : List Transaction) (tables : List ℕ) → own < length active → (transaction_at active own).base ≡ base → list_all (is_column count) tables ≡ true → AllByRecursion (λ (t : ℕ). rows_at (slice_index_or (bases_of shown count active) own []) t ≡ shown.rows t base) tables
+rows_agree shown count own base active [] within at there = tt
+rows_agree shown count own base active (t ∷ ts) within at there =
+    let parts = and_parts (is_column count t) (list_all (is_column count) ts) there in
+    (base_at shown count t active own within (low t count parts.0) ∙ ap (λ (b : ℕ). shown.rows t b) at, rows_agree shown count own base active ts within at parts.1)
+  where
+    low : (a b : ℕ) → nat_lt a b ≡ true → a < b
+    low a b h = grind (arith, nat_tests)
+
+-- what the session sees of tables at the base of its transaction
+pub opened_rows : (shown : Shown) (schema : Schema) (txns : Transactions) (cursors : List Cursor) (session base snap : ℕ) (name tables : List ℕ) → opening_base schema.tables txns.active cursors session name tables ≡ Ok base → snap ≡ base → list_all (is_column (length schema.tables)) tables ≡ true → AllByRecursion (λ (t : ℕ). shown.rows t snap ≡ rows_seen (db_of shown schema txns cursors) (transaction_of txns.active session) t) tables
+opened_rows shown schema txns cursors session base snap name tables h at there =
+    let o = opening_is schema.tables txns.active cursors session base name tables h in
+    let agree = rows_agree shown (length schema.tables) o.0 base txns.active tables (own_within txns.active session o.0 o.2) o.3 there in
+    rw (at, o.2) (turned (λ (t : ℕ). rows_at (slice_index_or (bases_of shown (length schema.tables) txns.active) o.0 []) t) (λ (t : ℕ). shown.rows t base) tables agree)
+  where
+    turned : (P Q : ℕ → List Record) (ts : List ℕ) → AllByRecursion (λ (t : ℕ). P t ≡ Q t) ts → AllByRecursion (λ (t : ℕ). Q t ≡ P t) ts
+    turned P Q [] a = tt
+    turned P Q (t ∷ ts) a = (sym a.0, turned P Q ts a.1)
+
+pub opens_does : (shown : Shown) (schema : Schema) (txns : Transactions) (cursors more : List Cursor) (session base : ℕ) (name : List ℕ) (select : Select) → opening_base schema.tables txns.active cursors session name select.tables ≡ Ok base → list_all (is_column (length schema.tables)) select.tables ≡ true
+    → more ≡ cursors ++ record { session = session; name = name; table = table_of select; offers = sorted (offers_over select (λ (t : ℕ). shown.rows t base)) } ∷ []
     → Does (opened (db_of shown schema txns cursors) session name select) (stand_of shown schema txns cursors) (Opened, Opened) (stand_of shown schema txns more)
-opens_does shown schema txns cursors more session base name select offers h there is pushed =
+opens_does shown schema txns cursors more session base name select h there pushed =
     let o = opening_is schema.tables txns.active cursors session base name select.tables h in
-    let at = base_at shown (length schema.tables) (table_of select) txns.active o.0 (own_within txns.active session o.0 o.2) there in
-    rw (pushed, o.1, at, o.3, ← is) (refl, refl, refl)
+    let agree = rows_agree shown (length schema.tables) o.0 base txns.active select.tables (own_within txns.active session o.0 o.2) o.3 there in
+    let same : offers_over select (base_rows (db_of shown schema txns cursors) o.0) ≡ offers_over select (λ (t : ℕ). shown.rows t base) = offers_same select (base_rows (db_of shown schema txns cursors) o.0) (λ (t : ℕ). shown.rows t base) agree in
+    rw (pushed, o.1, same) (refl, refl, refl)
 
 pub low_room : (n m : ℕ) → m ≡ n → m ≤ 63 → nat_lt 63 n ≡ false
 low_room n m e h = grind (arith, nat_tests)
 
--- what the rows offer at the base of the session's transaction
+-- what the session's transaction reads
 
 seen_by : (shown : Shown) (schema : Schema) (txns : Transactions) (cursors : List Cursor) (session table : ℕ) (s : Standing) (o : Option ℕ) → transaction_of txns.active session ≡ o → standing txns.active o ≡ Some s → table < length schema.tables → rows_seen (db_of shown schema txns cursors) o table ≡ shown.rows table s.base
 seen_by shown schema txns cursors session table s None e h there = cc
@@ -152,8 +186,11 @@ seen_by shown schema txns cursors session table s (Some own) e h there =
     let same : standing_at txns.active own ≡ s = cc in
     at ∙ ap (λ (t : Standing). shown.rows table t.base) same
 
-pub offers_seen : (shown : Shown) (schema : Schema) (txns : Transactions) (cursors : List Cursor) (session : ℕ) (select : Select) (s : Standing) (offers : List Offer) → Some s ≡ standing txns.active (transaction_of txns.active session) → table_of select < length schema.tables
-    → offers ≡ map (offer_of select) (qualifying select (shown.rows (table_of select) s.base)) → offers ≡ offered (db_of shown schema txns cursors) session select
-offers_seen shown schema txns cursors session select s offers h there listed =
-    let seen = seen_by shown schema txns cursors session (table_of select) s (transaction_of txns.active session) refl (sym h) there in
-    listed ∙ ap (λ (rows : List Record). map (offer_of select) (qualifying select rows)) (sym seen)
+all_kept : (rows : List Record) → filter (λ (r : Record). qualifies [] r.values) rows ≡ rows
+all_kept [] = refl
+all_kept (r ∷ rows) = ap (λ rs. r ∷ rs) (all_kept rows)
+
+pub rows_read : (shown : Shown) (schema : Schema) (txns : Transactions) (cursors : List Cursor) (session table : ℕ) (s : Standing) (only : List (List Atom)) (rows : List Record) → Some s ≡ standing txns.active (transaction_of txns.active session) → table < length schema.tables → only ≡ [] → rows ≡ filter (λ (r : Record). qualifies only r.values) (shown.rows table s.base) → rows ≡ rows_seen (db_of shown schema txns cursors) (transaction_of txns.active session) table
+rows_read shown schema txns cursors session table s only rows h there none read =
+    let seen = seen_by shown schema txns cursors session table s (transaction_of txns.active session) refl (sym h) there in
+    read ∙ ap (λ (o : List (List Atom)). filter (λ (r : Record). qualifies o r.values) (shown.rows table s.base)) none ∙ all_kept (shown.rows table s.base) ∙ sym seen

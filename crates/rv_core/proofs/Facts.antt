@@ -1,5 +1,5 @@
 -- Facts of all items of a list.
-use Rattle.std.proofs.Common.{ℕ, zero, suc, List, [], ◌∷◌, ◌++◌, Bool, true, false, cond, filter, map, take, drop, remove, slice_set}
+use Rattle.std.proofs.Common.{ℕ, zero, suc, List, [], ◌∷◌, ◌++◌, Bool, true, false, cond, filter, map, take, drop, remove, slice_get, slice_set, length, ◌<◌, ◌≡◌, refl, arith, Result, Ok, Err, IfOk, Some}
 use Rattle.std.specs.List.{AllByRecursion, slice_index_or}
 use Rattle.rv_rows.specs.Rising.{put_in}
 
@@ -48,3 +48,22 @@ all_more P Q more (x ∷ xs) a = (more x a.0, all_more P Q more xs a.1)
 pub all_map : {X Y : Type 0} (P : Y → Type 0) (f : X → Y) (xs : List X) → AllByRecursion (λ x. P (f x)) xs → AllByRecursion P (map f xs)
 all_map P f [] a = tt
 all_map P f (x ∷ xs) a = (a.0, all_map P f xs a.1)
+
+-- what holds of an answer, where more follows from it
+pub if_ok : {A E : Type 0} (r : Result A E) (P Q : A → Type 0) → ((a : A) → P a → Q a) → IfOk r P → IfOk r Q
+if_ok (Ok a) P Q more h = more a h
+if_ok (Err e) P Q more h = tt
+
+pub if_ok_two : {A E : Type 0} (r : Result A E) (P Q S : A → Type 0) → ((a : A) → P a → Q a → S a) → IfOk r P → IfOk r Q → IfOk r S
+if_ok_two (Ok a) P Q S more h k = more a h k
+if_ok_two (Err e) P Q S more h k = tt
+
+pub any_ok : {A E : Type 0} (r : Result A E) (P : A → Type 0) → ((a : A) → P a) → IfOk r P
+any_ok (Ok a) P all = all a
+any_ok (Err e) P all = tt
+
+-- there is an item in each place
+pub get_there : {X : Type 0} (xs : List X) (i : ℕ) → i < length xs → (x : X) × (slice_get xs i ≡ Some x)
+get_there [] i h = absurd (omega arith)
+get_there (x ∷ xs) zero h = (x, refl)
+get_there (x ∷ xs) (suc i) h = get_there xs i (omega arith)

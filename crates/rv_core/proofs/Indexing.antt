@@ -1,5 +1,5 @@
 -- CREATE INDEX: what it asks of the store, and what it makes of the database.
-use Rattle.std.proofs.Common.{◌≡◌, ℕ, zero, suc, ◌+◌, ◌<◌, ◌≤◌, List, [], ◌∷◌, ◌++◌, refl, ap, ◌∙◌, arith, length, Option, Some, None, Bool, true, false, not, ◌==◌, ◌||◌, ◌&&◌, nat_eq, nat_lt}
+use Rattle.std.proofs.Common.{◌≡◌, ℕ, ◌<◌, ◌≤◌, List, [], ◌∷◌, ◌++◌, refl, ap, ◌∙◌, arith, length, None, Bool, true, false, not, ◌==◌, ◌||◌, ◌&&◌, nat_eq, nat_lt}
 use Rattle.std.specs.List.{AllByRecursion, IsDistinct, list_any, list_all, slice_index_or}
 use Rattle.std.proofs.Math.Seq.{get_or-append_seam}
 use Rattle.std.proofs.lemmas.Bool.Decides.{nat_tests}
@@ -16,7 +16,8 @@ use Rattle.rv_model.specs.declared.transactions.Transaction.{Transaction}
 use Rattle.rv_model.specs.declared.transactions.Transactions.{Transactions}
 use Rattle.rv_model.specs.Transactions.{lowest, horizon}
 use Rattle.rv_model.specs.Step.{indexed}
-use Rattle.rv_core.specs.Db.{db_of, stand_of, IsTied, no_index}
+use Rattle.rv_model.specs.Database.{no_index}
+use Rattle.rv_core.specs.Db.{db_of, stand_of, IsTied}
 use Rattle.rv_core.specs.Doing.{Does}
 use Rattle.rv_core.proofs.Tied.{none_lowest, tied_indexed}
 use Rattle.rv_core.proofs.Standing.{stand_indexed}
@@ -82,8 +83,11 @@ index_alone shown active swept idle = swept ∙ ap (λ (ts : List Transaction). 
 pub added_last : (indexes : List IndexDef) (def : IndexDef) → slice_index_or (indexes ++ def ∷ []) (length indexes) no_index ≡ def
 added_last indexes def = get_or-append_seam indexes def [] no_index
 
-pub indexes_tied : (old new : Shown) (schema left : Schema) (def : IndexDef) (txns : Transactions) → def.table < length schema.tables → left ≡ record schema { indexes = schema.indexes ++ def ∷ [] } → Indexed old new def.table def.columns → IsTied old schema txns → IsTied new left txns
-indexes_tied old new schema left def txns there is more tied = rw is (tied_indexed old new schema def txns there more tied)
+pub indexes_tied : (old new : Shown) (schema left : Schema) (def : IndexDef) (txns : Transactions) → def.table < length schema.tables → nat_lt 7 (indexes_over def.table schema.indexes) ≡ false → left ≡ record schema { indexes = schema.indexes ++ def ∷ [] } → Indexed old new def.table def.columns → IsTied old schema txns → IsTied new left txns
+indexes_tied old new schema left def txns there room is more tied = rw is (tied_indexed old new schema def txns there (low (indexes_over def.table schema.indexes) room) more tied)
+  where
+    low : (n : ℕ) → nat_lt 7 n ≡ false → n ≤ 7
+    low n h = grind (arith, nat_tests)
 
 pub few_room : (n m : ℕ) → m ≡ n → m ≤ 7 → nat_lt 7 n ≡ false
 few_room n m e h = grind (arith, nat_tests)

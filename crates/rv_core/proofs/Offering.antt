@@ -28,7 +28,7 @@ use Rattle.rv_core.specs.Doing.{opening_base}
 
 -- a restriction that passes one test passes another that follows from it
 
-and_parts : (a b : Bool) → (a && b) ≡ true → (a ≡ true) × (b ≡ true)
+pub and_parts : (a b : Bool) → (a && b) ≡ true → (a ≡ true) × (b ≡ true)
 and_parts true b e = (refl, e)
 and_parts false b e = cc
 

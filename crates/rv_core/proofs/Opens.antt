@@ -1,76 +1,112 @@
 -- Open cursors as the definitions have them.
-use Rattle.std.proofs.Common.{◌≡◌, ℕ, ◌+◌, List, [], ◌∷◌, ◌++◌, ◌==◌, ◌&&◌, refl, ap, sym, ◌∙◌, Bool, true, false, not, cond, filter, map, length, suc, zero, slice_get, slice_set, remove, bytes_eq, Some}
-use Rattle.std.specs.List.{prefix_len, slice_index_or}
+use Rattle.std.proofs.Common.{◌≡◌, ℕ, ◌+◌, List, [], ◌∷◌, ◌++◌, ◌==◌, ◌&&◌, refl, ap, sym, subst, ◌∙◌, Bool, true, false, not, cond, filter, length, suc, zero, slice_get, slice_set, remove, bytes_eq, Some}
+use Rattle.std.specs.List.{AllByRecursion, prefix_len, slice_index_or}
 use Rattle.rv_lang.specs.declared.reply.Reply.{Reply}
+use Rattle.rv_reader.specs.Shown.{Shown}
 use Rattle.rv_model.specs.declared.state.Cursor.{Cursor}
 use Rattle.rv_model.specs.declared.state.Offer.{Offer}
 use Rattle.rv_model.specs.Database.{cursor_at, cursor_named, no_cursor}
 use Rattle.rv_model.specs.Step.{other_cursors, own_cursors}
-use Rattle.rv_core.specs.declared.cursors.Open.{Open}
-use Rattle.rv_core.specs.Db.{open_named, own_opens, seen_of}
+use Rattle.rv_cursor.specs.declared.cursor.Open.{Open}
+use Rattle.rv_cursor.specs.Left.{CursorFits, SameCursor, TakesOffer, left}
+use Rattle.rv_catalog.specs.Schema.{Schema}
+use Rattle.rv_model.specs.declared.transactions.Transaction.{Transaction}
+use Rattle.rv_join.specs.declared.places.Asked.{Asked}
+use Rattle.rv_join.specs.Asking.{indexes_from, item_at}
+use Rattle.rv_core.specs.Db.{IsOpen, base_of, open_named, own_opens, seen, seen_of}
+use Rattle.rv_core.proofs.Facts.{all_set}
 use Rattle.rv_core.proofs.Images.{map_remove}
-use Rattle.rv_core.specs.Doing.{TakesAt, TakesOffer}
+use Rattle.rv_core.specs.Doing.{TakesAt}
 
-length_seen : (cs : List Open) → length (map seen_of cs) ≡ length cs
-length_seen [] = refl
-length_seen (c ∷ cs) = ap (λ n. suc n) (length_seen cs)
+length_seen : (shown : Shown) (cs : List Open) → length (seen shown cs) ≡ length cs
+length_seen shown [] = refl
+length_seen shown (c ∷ cs) = ap (λ n. suc n) (length_seen shown cs)
 
-prefix_seen : (p : Cursor → Bool) (cs : List Open) → prefix_len (λ (c : Open). p (seen_of c)) cs ≡ prefix_len p (map seen_of cs)
-prefix_seen p [] = refl
-prefix_seen p (c ∷ cs) =
-    let rest = prefix_seen p cs in
-    elim (p (seen_of c)) as (λ b. cond b (1 + prefix_len (λ (d : Open). p (seen_of d)) cs) 0 ≡ cond b (1 + prefix_len p (map seen_of cs)) 0) [ true ↦ ap (λ n. 1 + n) rest | false ↦ refl ]
+prefix_seen : (shown : Shown) (p : Cursor → Bool) (cs : List Open) → prefix_len (λ (c : Open). p (seen_of shown c)) cs ≡ prefix_len p (seen shown cs)
+prefix_seen shown p [] = refl
+prefix_seen shown p (c ∷ cs) =
+    let rest = prefix_seen shown p cs in
+    elim (p (seen_of shown c)) as (λ b. cond b (1 + prefix_len (λ (d : Open). p (seen_of shown d)) cs) 0 ≡ cond b (1 + prefix_len p (seen shown cs)) 0) [ true ↦ ap (λ n. 1 + n) rest | false ↦ refl ]
 
-pub named_seen : (cs : List Open) (session : ℕ) (name : List ℕ) → open_named cs session name ≡ cursor_named (map seen_of cs) session name
-named_seen cs session name = rw (prefix_seen (λ (c : Cursor). not ((c.session == session) && bytes_eq c.name name)) cs, length_seen cs) refl
+pub named_seen : (cs : List Open) (session : ℕ) (name : List ℕ) (shown : Shown) → open_named cs session name ≡ cursor_named (seen shown cs) session name
+named_seen cs session name shown = rw (prefix_seen shown (λ (c : Cursor). not ((c.session == session) && bytes_eq c.name name)) cs, length_seen shown cs) refl
 
-filter_seen : (p : Cursor → Bool) (cs : List Open) → map seen_of (filter (λ (c : Open). p (seen_of c)) cs) ≡ filter p (map seen_of cs)
-filter_seen p [] = refl
-filter_seen p (c ∷ cs) =
-    let rest = filter_seen p cs in
-    elim (p (seen_of c)) as (λ b. map seen_of (cond b (c ∷ filter (λ (d : Open). p (seen_of d)) cs) (filter (λ (d : Open). p (seen_of d)) cs)) ≡ cond b (seen_of c ∷ filter p (map seen_of cs)) (filter p (map seen_of cs))) [ true ↦ ap (λ xs. seen_of c ∷ xs) rest | false ↦ rest ]
+filter_seen : (shown : Shown) (p : Cursor → Bool) (cs : List Open) → seen shown (filter (λ (c : Open). p (seen_of shown c)) cs) ≡ filter p (seen shown cs)
+filter_seen shown p [] = refl
+filter_seen shown p (c ∷ cs) =
+    let rest = filter_seen shown p cs in
+    elim (p (seen_of shown c)) as (λ b. seen shown (cond b (c ∷ filter (λ (d : Open). p (seen_of shown d)) cs) (filter (λ (d : Open). p (seen_of shown d)) cs)) ≡ cond b (seen_of shown c ∷ filter p (seen shown cs)) (filter p (seen shown cs))) [ true ↦ ap (λ xs. seen_of shown c ∷ xs) rest | false ↦ rest ]
 
-pub own_seen : (cs : List Open) (session : ℕ) → length (own_opens cs session) ≡ length (own_cursors (map seen_of cs) session)
-own_seen cs session = sym (length_seen (filter (λ (c : Open). c.session == session) cs)) ∙ ap (λ (xs : List Cursor). length xs) (filter_seen (λ (c : Cursor). c.session == session) cs)
+pub own_seen : (cs : List Open) (session : ℕ) (shown : Shown) → length (own_opens cs session) ≡ length (own_cursors (seen shown cs) session)
+own_seen cs session shown = sym (length_seen shown (filter (λ (c : Open). c.session == session) cs)) ∙ ap (λ (xs : List Cursor). length xs) (filter_seen shown (λ (c : Cursor). c.session == session) cs)
 
-pub others_seen : (cs : List Open) (session : ℕ) → map seen_of (filter (λ (c : Open). not (c.session == session)) cs) ≡ other_cursors (map seen_of cs) session
-others_seen cs session = filter_seen (λ (c : Cursor). not (c.session == session)) cs
+pub others_seen : (shown : Shown) (cs : List Open) (session : ℕ) → seen shown (filter (λ (c : Open). not (c.session == session)) cs) ≡ other_cursors (seen shown cs) session
+others_seen shown cs session = filter_seen shown (λ (c : Cursor). not (c.session == session)) cs
 
-set_seen : (cs : List Open) (i : ℕ) (c : Open) → map seen_of (slice_set cs i c) ≡ slice_set (map seen_of cs) i (seen_of c)
-set_seen [] i c = refl
-set_seen (d ∷ ds) zero c = refl
-set_seen (d ∷ ds) (suc i) c = ap (λ xs. seen_of d ∷ xs) (set_seen ds i c)
+set_seen : (shown : Shown) (cs : List Open) (i : ℕ) (c : Open) → seen shown (slice_set cs i c) ≡ slice_set (seen shown cs) i (seen_of shown c)
+set_seen shown [] i c = refl
+set_seen shown (d ∷ ds) zero c = refl
+set_seen shown (d ∷ ds) (suc i) c = ap (λ xs. seen_of shown d ∷ xs) (set_seen shown ds i c)
 
-at_seen : (cs : List Open) (i : ℕ) (c : Open) → slice_get cs i ≡ Some c → cursor_at (map seen_of cs) i ≡ seen_of c
-at_seen [] i c h = cc
-at_seen (d ∷ ds) zero c h = let e : d ≡ c = cc in ap seen_of e
-at_seen (d ∷ ds) (suc i) c h = at_seen ds i c h
+pub at_seen : (shown : Shown) (cs : List Open) (i : ℕ) (c : Open) → slice_get cs i ≡ Some c → cursor_at (seen shown cs) i ≡ seen_of shown c
+at_seen shown [] i c h = cc
+at_seen shown (d ∷ ds) zero c h = let e : d ≡ c = cc in ap (seen_of shown) e
+at_seen shown (d ∷ ds) (suc i) c h = at_seen shown ds i c h
 
 -- FETCH of the cursor in a place
-pub takes_at : (cs : List Open) (place : ℕ) (c : Open) (offers : List Offer) (replies : Reply × Reply) → slice_get cs place ≡ Some c → TakesOffer c.offers replies offers → TakesAt place (map seen_of cs) replies (map seen_of (slice_set cs place (record c { offers = offers })))
-takes_at cs place c offers replies at takes =
-    let here = at_seen cs place c at in
-    let set = set_seen cs place (record c { offers = offers }) in
-    let left = takes.2 in
-    rw here (takes.0, takes.1, set ∙ ap (λ (os : List Offer). slice_set (map seen_of cs) place (record (seen_of c) { offers = os })) left)
+pub takes_at : (shown : Shown) (cs : List Open) (place : ℕ) (c new : Open) (offers : List Offer) (replies : Reply × Reply) → slice_get cs place ≡ Some c → seen_of shown new ≡ record (seen_of shown c) { offers = offers } → TakesOffer (seen_of shown c).offers replies offers → TakesAt place (seen shown cs) replies (seen shown (slice_set cs place new))
+takes_at shown cs place c new offers replies at same takes =
+    let here = at_seen shown cs place c at in
+    let set = set_seen shown cs place new in
+    rw here (takes.0, takes.1, set ∙ ap (slice_set (seen shown cs) place) (same ∙ ap (λ (os : List Offer). record (seen_of shown c) { offers = os }) takes.2))
 
 set_back : (cs : List Cursor) (i : ℕ) (d : Cursor) → slice_set cs i (slice_index_or cs i d) ≡ cs
 set_back [] i d = refl
 set_back (c ∷ cs) zero d = refl
 set_back (c ∷ cs) (suc i) d = ap (λ xs. c ∷ xs) (set_back cs i d)
 
--- offers that stay
-pub leaves_at : (cs : List Open) (place : ℕ) (c : Open) (offers : List Offer) → slice_get cs place ≡ Some c → offers ≡ c.offers → map seen_of (slice_set cs place (record c { offers = offers })) ≡ map seen_of cs
-leaves_at cs place c offers at same =
-    let here = at_seen cs place c at in
-    set_seen cs place (record c { offers = offers }) ∙ ap (λ (os : List Offer). slice_set (map seen_of cs) place (record (seen_of c) { offers = os })) same ∙ ap (λ (d : Cursor). slice_set (map seen_of cs) place d) (sym here) ∙ set_back (map seen_of cs) place no_cursor
+-- a cursor that is seen as before
+pub leaves_at : (shown : Shown) (cs : List Open) (place : ℕ) (c new : Open) → slice_get cs place ≡ Some c → seen_of shown new ≡ seen_of shown c → seen shown (slice_set cs place new) ≡ seen shown cs
+leaves_at shown cs place c new at same =
+    let here = at_seen shown cs place c at in
+    set_seen shown cs place new ∙ ap (slice_set (seen shown cs) place) (same ∙ sym here) ∙ set_back (seen shown cs) place no_cursor
 
-pub pushed_seen : (cs more : List Open) (c : Open) → more ≡ cs ++ c ∷ [] → map seen_of more ≡ map seen_of cs ++ seen_of c ∷ []
-pushed_seen cs more c e = ap (λ (xs : List Open). map seen_of xs) e ∙ push cs
+pub pushed_seen : (shown : Shown) (cs more : List Open) (c : Open) → more ≡ cs ++ c ∷ [] → seen shown more ≡ seen shown cs ++ seen_of shown c ∷ []
+pushed_seen shown cs more c e = ap (λ (xs : List Open). seen shown xs) e ∙ push cs
   where
-    push : (ds : List Open) → map seen_of (ds ++ c ∷ []) ≡ map seen_of ds ++ seen_of c ∷ []
+    push : (ds : List Open) → seen shown (ds ++ c ∷ []) ≡ seen shown ds ++ seen_of shown c ∷ []
     push [] = refl
-    push (d ∷ ds) = ap (λ xs. seen_of d ∷ xs) (push ds)
+    push (d ∷ ds) = ap (λ xs. seen_of shown d ∷ xs) (push ds)
 
-pub removed_seen : (cs : List Open) (i : ℕ) → map seen_of (remove cs i) ≡ remove (map seen_of cs) i
-removed_seen cs i = map_remove seen_of cs i
+pub removed_seen : (shown : Shown) (cs : List Open) (i : ℕ) → seen shown (remove cs i) ≡ remove (seen shown cs) i
+removed_seen shown cs i = map_remove (seen_of shown) cs i
+
+-- the cursor in a place has what all have
+pub all_get : (P : Open → Type 0) (cs : List Open) (i : ℕ) (c : Open) → slice_get cs i ≡ Some c → AllByRecursion P cs → P c
+all_get P [] i c h all = cc
+all_get P (d ∷ ds) zero c h all = let e : d ≡ c = cc in subst P e all.0
+all_get P (d ∷ ds) (suc i) c h all = all_get P ds i c h all.1
+
+-- a cursor that stays open, with what it was opened with
+pub opens_at : (shown : Shown) (schema : Schema) (active : List Transaction) (cs : List Open) (place : ℕ) (c new : Open) → slice_get cs place ≡ Some c → CursorFits shown new → SameCursor c new → AllByRecursion (IsOpen shown schema active) cs → AllByRecursion (IsOpen shown schema active) (slice_set cs place new)
+opens_at shown schema active cs place c new at fits same all =
+    let was = all_get (IsOpen shown schema active) cs place c at all in
+    all_set (IsOpen shown schema active) cs place new (record {
+      base = ap (λ (s : ℕ). base_of active s) same.session ∙ was.base ∙ ap (λ (n : ℕ). Some n) (sym same.snap);
+      fits = fits;
+      over = ap (λ (a : Asked). (item_at a 0).indexes) same.asked ∙ was.over ∙ ap (λ (a : Asked). indexes_from (item_at a 0).table 0 schema.indexes) (sym same.asked);
+    }) all
+
+-- what a cursor has left to offer, and what it was opened with, are all that is seen of it
+pub same_seen : (shown : Shown) (c new : Open) (offers : List Offer) → SameCursor c new → left shown new ≡ offers → seen_of shown new ≡ record (seen_of shown c) { offers = offers }
+same_seen shown c new offers same is =
+    let session = same.session in
+    let name = same.name in
+    let table : (item_at new.plan.asked 0).table ≡ (item_at c.plan.asked 0).table = ap (λ (a : Asked). (item_at a 0).table) same.asked in
+    cc
+
+pub fetches_at : (shown : Shown) (cs : List Open) (place : ℕ) (c new : Open) (replies : Reply × Reply) → slice_get cs place ≡ Some c → SameCursor c new → TakesOffer (left shown c) replies (left shown new) → TakesAt place (seen shown cs) replies (seen shown (slice_set cs place new))
+fetches_at shown cs place c new replies at same takes = takes_at shown cs place c new (left shown new) replies at (same_seen shown c new (left shown new) same refl) takes
+
+pub same_at : (shown : Shown) (cs : List Open) (place : ℕ) (c new : Open) → slice_get cs place ≡ Some c → SameCursor c new → left shown new ≡ left shown c → seen shown (slice_set cs place new) ≡ seen shown cs
+same_at shown cs place c new at same is = leaves_at shown cs place c new at (same_seen shown c new (left shown c) same is)

@@ -1,12 +1,16 @@
 -- An answered call keeps a core sound.
-use Rattle.std.proofs.Common.{◌≡◌, ℕ, List, [], ◌∷◌, ◌++◌, sym, ◌∙◌, ap, subst, arith}
+use Rattle.std.proofs.Common.{◌≡◌, ℕ, List, [], ◌∷◌, ◌++◌, ◌+◌, ◌≤◌, refl, sym, ◌∙◌, ap, subst, arith, length-append}
 use Rattle.rv_model.specs.declared.entry.Entry.{Entry}
 use Rattle.rv_lang.specs.declared.reply.Reply.{Reply}
 use Rattle.rv_model.specs.declared.state.State.{State}
 use Rattle.rv_model.specs.Database.{empty}
 use Rattle.rv_model.specs.History.{IsNext, IsLegal, stepped, after, phase_after}
 use Rattle.rv_model.proofs.Histories.{after_from-push, IsLegalFrom-push, phase_after-push}
-use Rattle.rv_core.specs.Core.{Shown, IsSound, Answers, entry}
+use Rattle.rv_parse.specs.Reading.{statement_of}
+use Rattle.rv_core.specs.Core.{Shown, IsSound, Answers, entry, horizon_of, shown_of}
+use Rattle.rv_core.specs.Db.{Stand, Whole}
+use Rattle.rv_core.specs.Doing.{Executes}
+use Rattle.rv_core.specs.Obeying.{HandlesText}
 
 pub IsSound-Answers : (old new : Shown) (session : ℕ) (text : List ℕ) (reply : Reply) → IsSound old → Answers old new session text reply → IsSound new
 IsSound-Answers old new session text reply sound a =
@@ -22,4 +26,21 @@ IsSound-Answers old new session text reply sound a =
       database = a.step ∙ ap (λ s. stepped s e) sound.database ∙ sym after_is ∙ ap after (sym a.gained);
       phases = rw (a.gained, a.same_phase, ends) (omega arith);
       kept = a.swept;
+      numbers = let n = length-append old.history (e ∷ []) in rw a.gained (omega (arith, n, a.numbers, sound.numbers));
+    }
+
+-- what a call owes, from what is done below it
+pub answered : (w d e : Whole) (history more : List Entry) (phase session : ℕ) (text copy : List ℕ) (reply kept : Reply) → 1 ≤ session → session ≤ 8 → more ≡ history ++ entry session phase copy kept ∷ [] → copy ≡ text → Executes w.stand session (statement_of text) (reply, kept) d.stand → HandlesText (statement_of text) w session reply d.opens → d.opened ≤ w.opened + 1 → e ≡ record d { stand = record d.stand { horizon = horizon_of d.stand.db } }
+    → Answers (shown_of history phase w) (shown_of more phase e) session text reply
+answered w d e history more phase session text copy reply kept from to pushed copied did handled grown swept =
+    let same : kept ≡ reply = did.0 in
+    let own : entry session phase copy kept ≡ entry session phase text reply = rw (copied, same) refl in
+    rw swept record {
+      gained = pushed ∙ ap (λ (x : Entry). history ++ x ∷ []) own;
+      same_phase = refl;
+      allowed = record { from = from; to = to; phase = omega arith; allowed = did.1 };
+      step = ap (λ (s : Stand). s.db) did.2;
+      swept = refl;
+      numbers = grown;
+      plans = handled;
     }

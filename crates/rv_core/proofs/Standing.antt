@@ -259,6 +259,7 @@ fresh_tied shown none stored = record {
   indexes = λ i h. refl;
   indexed = no_indexes shown.indexes refl;
   each = λ i h. absurd (omega arith);
+  over = λ i. omega arith;
   standing = stored.standing;
   given = λ i snap can. absurd (let t = can.there in omega (arith, none));
   few = λ i. omega arith;

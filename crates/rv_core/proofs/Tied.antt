@@ -1,5 +1,5 @@
 -- A database stays tied to its store under the store's calls.
-use Rattle.std.proofs.Common.{◌≡◌, ℕ, zero, suc, ◌+◌, ◌<◌, ◌≤◌, List, [], ◌∷◌, ◌++◌, refl, ap, sym, ◌∙◌, subst, arith, length, length-append, slice_set, Option, Some, None, inl, inr, ◌≢◌, filter, IfSome}
+use Rattle.std.proofs.Common.{◌≡◌, ℕ, zero, suc, ◌+◌, ◌<◌, ◌≤◌, List, [], ◌∷◌, ◌++◌, refl, ap, sym, ◌∙◌, subst, arith, length, length-append, slice_set, Option, Some, None, inl, inr, ◌≢◌, eqb, true, false, filter, IfSome}
 use Rattle.std.specs.List.{AllByRecursion, slice_index_or}
 use Rattle.std.proofs.Math.Seq.{get_or-append_seam}
 use Rattle.std.proofs.lemmas.List.{get_or_append_left}
@@ -19,7 +19,8 @@ use Rattle.rv_reader.specs.Storing.{Stays, IsSame, Created, Indexed, Committed, 
 use Rattle.rv_model.specs.declared.transactions.Transaction.{Transaction}
 use Rattle.rv_model.specs.declared.transactions.Transactions.{Transactions}
 use Rattle.rv_model.specs.Transactions.{no_transaction, transaction_at, next_row, touched_in, touch, touch_all, done, without, lowest, horizon}
-use Rattle.rv_core.specs.Db.{IsOwn, IsActive, AreTaken, HasIndex, IsTied, no_index}
+use Rattle.rv_model.specs.Database.{no_index}
+use Rattle.rv_core.specs.Db.{IsOwn, IsActive, AreTaken, HasIndex, IsTied}
 use Rattle.rv_core.proofs.Facts.{all_filter, all_put, all_at, all_remove, all_more}
 
 own_stays : (old new : Shown) (touched : List (List ℕ)) (c : Change) → old.tables ≤ new.tables → Stays old new → IsOwn old touched c → IsOwn new touched c
@@ -56,6 +57,7 @@ tied_same old new schema txns same tied =
       indexes = tied.indexes;
       indexed = same.indexes ∙ tied.indexed;
       each = λ i h. index_stays old new schema.indexes i (omega (arith, tied.indexed, h)) same.stays (tied.each i h);
+      over = tied.over;
       columns = λ i h. same.stays.columns i (omega (arith, tied.count, h)) ∙ tied.columns i h;
       standing = omega (arith, same.horizon, same.newest, tied.standing);
       given = λ i snap can.
@@ -88,6 +90,7 @@ tied_created old new schema def txns idle more tied =
       indexes = λ i h. tied.indexes i (omega (arith, count));
       indexed = more.indexes ∙ tied.indexed;
       each = λ i h. index_stays old new schema.indexes i (omega (arith, tied.indexed, h)) more.stays (tied.each i h);
+      over = tied.over;
       columns = λ i h. elim (cases_lt i (length schema.tables)) [
         | inl within ↦ more.stays.columns i (omega (arith, tied.count)) ∙ tied.columns i within ∙ sym (width_stays schema.tables def i within)
         | inr past ↦
@@ -131,8 +134,32 @@ has_more shown indexes def i there h = let same : slice_index_or (indexes ++ def
 has_last : (shown : Shown) (indexes : List IndexDef) (def : IndexDef) (i : ℕ) → i ≡ length indexes → shown.over i ≡ def.table → shown.keys i ≡ def.columns → HasIndex shown (indexes ++ def ∷ []) i
 has_last shown indexes def i at over keys = let last : slice_index_or (indexes ++ def ∷ []) i no_index ≡ def = rw at (get_or-append_seam indexes def [] no_index) in record { over = rw last over; keys = rw last keys }
 
-pub tied_indexed : (old new : Shown) (schema : Schema) (def : IndexDef) (txns : Transactions) → def.table < length schema.tables → Indexed old new def.table def.columns → IsTied old schema txns → IsTied new (record schema { indexes = schema.indexes ++ def ∷ [] }) txns
-tied_indexed old new schema def txns there more tied =
+-- one more over its table
+over_more : (table : ℕ) (indexes : List IndexDef) (def : IndexDef) → indexes_over table indexes ≤ 8 → indexes_over def.table indexes ≤ 7 → indexes_over table (indexes ++ def ∷ []) ≤ 8
+over_more table indexes def most room = elim (eqb_tells def.table table) [
+  | inl here ↦ let count = over_here table indexes def here.0 in let low : indexes_over table indexes ≤ 7 = subst (λ (t : ℕ). indexes_over t indexes ≤ 7) here.1 room in omega arith
+  | inr apart ↦ let count = over_there table indexes def apart.0 in omega arith
+]
+  where
+    one_more : (a b : ℕ) → a ≡ b + 1 → suc a ≡ suc b + 1
+    one_more a b h = omega (arith, h)
+
+    over_here : (t : ℕ) (is : List IndexDef) (d : IndexDef) → eqb d.table t ≡ true → indexes_over t (is ++ d ∷ []) ≡ indexes_over t is + 1
+    over_here t [] d e = rw e refl
+    over_here t (i ∷ is) d e = elim (eqb_tells i.table t) [
+      | inl y ↦ let rest = over_here t is d e in rw y.0 (one_more _ _ rest)
+      | inr n ↦ rw n.0 (over_here t is d e)
+    ]
+
+    over_there : (t : ℕ) (is : List IndexDef) (d : IndexDef) → eqb d.table t ≡ false → indexes_over t (is ++ d ∷ []) ≡ indexes_over t is
+    over_there t [] d e = rw e refl
+    over_there t (i ∷ is) d e = elim (eqb_tells i.table t) [
+      | inl y ↦ rw y.0 (ap (λ n. suc n) (over_there t is d e))
+      | inr n ↦ rw n.0 (over_there t is d e)
+    ]
+
+pub tied_indexed : (old new : Shown) (schema : Schema) (def : IndexDef) (txns : Transactions) → def.table < length schema.tables → indexes_over def.table schema.indexes ≤ 7 → Indexed old new def.table def.columns → IsTied old schema txns → IsTied new (record schema { indexes = schema.indexes ++ def ∷ [] }) txns
+tied_indexed old new schema def txns there room more tied =
     let count : length (schema.indexes ++ def ∷ []) ≡ length schema.indexes + 1 = length-append schema.indexes (def ∷ []) in
     let n : old.newest ≤ new.newest = omega (arith, more.newest) in
     record {
@@ -145,6 +172,7 @@ tied_indexed old new schema def txns there more tied =
             let last : old.indexes ≡ i = omega (arith, tied.indexed, count, h) in
             has_last new schema.indexes def i (omega (arith, count, h)) (subst (λ (k : ℕ). new.over k ≡ def.table) last more.over) (subst (λ (k : ℕ). new.keys k ≡ def.columns) last more.keys)
       ];
+      over = λ table. over_more table schema.indexes def (tied.over table) room;
       columns = λ i h. more.stays.columns i (omega (arith, tied.count, h)) ∙ tied.columns i h;
       standing = omega (arith, more.horizon, more.newest, tied.standing);
       given = λ i snap can.
@@ -214,6 +242,7 @@ tied_more shown schema old new grows few active tied = record {
   indexes = tied.indexes;
   indexed = tied.indexed;
   each = tied.each;
+  over = tied.over;
   standing = tied.standing;
   given = λ i snap can. taken_more old.touched new.touched i (shown.rows i snap) grows (tied.given i snap can);
   few = few;
@@ -254,6 +283,7 @@ tied_committed old new schema txns changes owns told tied =
       indexes = tied.indexes;
       indexed = told.indexes ∙ tied.indexed;
       each = λ i h. index_stays old new schema.indexes i (omega (arith, tied.indexed, h)) told.stays (tied.each i h);
+      over = tied.over;
       columns = λ i h. told.stays.columns i (omega (arith, tied.count, h)) ∙ tied.columns i h;
       standing = omega (arith, told.horizon, told.newest, tied.standing);
       given = λ i snap can. elim (cases_lt snap new.newest) [
@@ -299,6 +329,7 @@ tied_swept_to old new schema txns swept tied =
       indexes = tied.indexes;
       indexed = swept.indexes ∙ tied.indexed;
       each = λ i h. index_stays old new schema.indexes i (omega (arith, tied.indexed, h)) swept.stays (tied.each i h);
+      over = tied.over;
       columns = λ i h. swept.stays.columns i (omega (arith, tied.count, h)) ∙ tied.columns i h;
       standing = omega (arith, swept.moved, swept.newest, last);
       given = λ i snap can.

@@ -1,5 +1,5 @@
 -- The database for which a store, a catalog and transactions stand.
-use Rattle.std.specs.Prelude.{◌≡◌, ℕ, ◌<◌, ◌≤◌, ◌==◌, ◌&&◌, List, [], Option, map, filter, length, position, bytes_eq, IfSome}
+use Rattle.std.specs.Prelude.{◌∷◌, ◌+◌, Some, None, if◌then◌else◌, ◌≡◌, ℕ, ◌<◌, ◌≤◌, ◌==◌, ◌&&◌, List, [], Option, map, filter, length, position, bytes_eq, IfSome}
 use Rattle.std.specs.List.{AllByRecursion, range_with_len, slice_index_or}
 use Rattle.rv_value.specs.declared.record.Record.{Record}
 use Rattle.rv_rows.specs.declared.changes.Change.{Change}
@@ -11,8 +11,11 @@ use Rattle.rv_model.specs.declared.state.State.{State}
 use Rattle.rv_model.specs.declared.state.Cursor.{Cursor}
 use Rattle.rv_model.specs.declared.transactions.Transaction.{Transaction}
 use Rattle.rv_model.specs.declared.transactions.Transactions.{Transactions}
+use Rattle.rv_model.specs.Database.{no_index}
 use Rattle.rv_model.specs.Transactions.{next_row}
-use Rattle.rv_core.specs.declared.cursors.Open.{Open}
+use Rattle.rv_join.specs.Asking.{indexes_from, item_at}
+use Rattle.rv_cursor.specs.declared.cursor.Open.{Open}
+use Rattle.rv_cursor.specs.Left.{CursorFits, left}
 
 -- the rows of each table at a snapshot
 abbrev pub image : Shown → ℕ → ℕ → List (List Record)
@@ -34,8 +37,11 @@ db_of shown schema transactions cursors = record {
 }
 
 -- an open cursor as the definitions have it
-abbrev pub seen_of : Open → Cursor
-seen_of c = record { session = c.session; name = c.name; offers = c.offers }
+abbrev pub seen_of : Shown → Open → Cursor
+seen_of shown c = record { session = c.session; name = c.name; table = (item_at c.plan.asked 0).table; offers = left shown c }
+
+abbrev pub seen : Shown → List Open → List Cursor
+seen shown cursors = map (seen_of shown) cursors
 
 -- the place of the session's open cursor of a name, and the cursors of the session
 abbrev pub open_named : List Open → ℕ → List ℕ → Option ℕ
@@ -52,6 +58,20 @@ pub record Stand : Type 0 where
 abbrev pub stand_of : Shown → Schema → Transactions → List Cursor → Stand
 stand_of shown schema transactions cursors = record { db = db_of shown schema transactions cursors; horizon = shown.horizon }
 
+-- the same with the open cursors, in the order in which they were opened, and the number of the next
+pub record Whole : Type 0 where
+  pub stand : Stand
+  pub opens : List Open
+  pub opened : ℕ
+
+abbrev pub whole_of : Shown → Schema → Transactions → List Open → ℕ → Whole
+whole_of shown schema transactions opens opened = record { stand = stand_of shown schema transactions (seen shown opens); opens = opens; opened = opened }
+
+-- the base of the session's transaction, where it has one
+abbrev pub base_of : List Transaction → ℕ → Option ℕ
+base_of [] session = None
+base_of (t ∷ ts) session = if t.session == session then Some t.base else base_of ts session
+
 -- a change that the store takes, of a row whose number was taken
 pub record IsOwn (shown : Shown) (touched : List (List ℕ)) (c : Change) : Type 0 where
   pub there : c.table < shown.tables
@@ -67,9 +87,6 @@ pub record IsActive (shown : Shown) (touched : List (List ℕ)) (t : Transaction
 abbrev pub AreTaken : List (List ℕ) → ℕ → List Record → Type 0
 AreTaken touched table rows = AllByRecursion (λ (r : Record). r.row.0 < next_row touched table) rows
 
-abbrev pub no_index : IndexDef
-no_index = record { name = []; table = 0; columns = [] }
-
 -- the store has the index of a number as the schema has it
 pub record HasIndex (shown : Shown) (indexes : List IndexDef) (index : ℕ) : Type 0 where
   pub over : shown.over index ≡ (slice_index_or indexes index no_index).table
@@ -83,7 +100,25 @@ pub record IsTied (shown : Shown) (schema : Schema) (transactions : Transactions
   pub indexes : (table : ℕ) → length schema.tables ≤ table → indexes_over table schema.indexes ≡ 0
   pub indexed : shown.indexes ≡ length schema.indexes
   pub each : (index : ℕ) → index < length schema.indexes → HasIndex shown schema.indexes index
+  pub over : (table : ℕ) → indexes_over table schema.indexes ≤ 8
   pub standing : shown.horizon ≤ shown.newest
   pub given : (table snap : ℕ) → CanRead shown table snap → AreTaken transactions.touched table (shown.rows table snap)
   pub few : (table : ℕ) → next_row transactions.touched table ≤ 1000000
   pub active : AllByRecursion (IsActive shown transactions.touched) transactions.active
+
+-- An open cursor stands at the base of its session's transaction, and its plan knows the indexes of the schema.
+pub record IsOpen (shown : Shown) (schema : Schema) (active : List Transaction) (c : Open) : Type 0 where
+  pub base : base_of active c.session ≡ Some c.snap
+  pub fits : CursorFits shown c
+  pub over : (item_at c.plan.asked 0).indexes ≡ indexes_from (item_at c.plan.asked 0).table 0 schema.indexes
+
+-- cursors have ascending numbers, from a first one on and below another
+abbrev pub AreNumbered : ℕ → ℕ → List Open → Type 0
+AreNumbered low high [] = low ≤ high
+AreNumbered low high (c ∷ cs) = (low ≤ c.number) × AreNumbered (c.number + 1) high cs
+
+-- what a database keeps
+pub record IsStanding (shown : Shown) (schema : Schema) (transactions : Transactions) (cursors : List Open) (opened : ℕ) : Type 0 where
+  pub tied : IsTied shown schema transactions
+  pub opens : AllByRecursion (IsOpen shown schema transactions.active) cursors
+  pub numbers : AreNumbered 1 opened cursors

@@ -1,21 +1,17 @@
 -- What the calls of a database do: two equal replies, and the next state. The store's horizon stays.
-use Rattle.std.specs.Prelude.{◌≡◌, ◌≤◌, ℕ, List, Option, Result, Ok, length, slice_set, map}
+use Rattle.std.specs.Prelude.{◌≡◌, ◌≤◌, ℕ, List, Option, Result, Ok, length, slice_set}
 use Rattle.rv_lang.specs.declared.statement.Statement.{Statement}
 use Rattle.rv_lang.specs.declared.reply.Refusal.{Refusal}
 use Rattle.rv_lang.specs.declared.reply.Reply.{Reply}
 use Rattle.rv_catalog.specs.declared.def.Resolved.{Resolved}
 use Rattle.rv_catalog.specs.declared.def.Resolved.TheVariants as asks
-use Rattle.rv_model.specs.declared.state.Offer.{Offer}
-use Rattle.rv_model.specs.declared.state.State.{State}
-use Rattle.rv_catalog.specs.declared.def.Select.{Select}
 use Rattle.rv_catalog.specs.declared.def.TableDef.{TableDef}
 use Rattle.rv_catalog.specs.Answers.{◌>>=◌}
 use Rattle.rv_model.specs.declared.state.Cursor.{Cursor}
 use Rattle.rv_model.specs.declared.transactions.Transaction.{Transaction}
 use Rattle.rv_model.specs.Database.{cursor_at, cursor_named}
-use Rattle.rv_model.specs.Offers.{offer_of, qualifying}
-use Rattle.rv_model.specs.Transactions.{transaction_at, transaction_of}
-use Rattle.rv_model.specs.Step.{Outcome, reply_of, state_of, Allows, AllowsAsked, AllowsFetch, next, next_asked, fetched, Offers, offers_after, opening, rows_seen, table_of}
+use Rattle.rv_model.specs.Transactions.{transaction_at}
+use Rattle.rv_model.specs.Step.{Outcome, reply_of, state_of, Allows, AllowsAsked, AllowsFetch, AllowsShow, AllowsStep, next, next_asked, fetched, Offers, offers_after, opening}
 use Rattle.rv_core.specs.Db.{Stand}
 
 -- Two equal replies, and a new state, are those of the outcome.
@@ -29,10 +25,6 @@ Fetches old session name replies new =
     × AllowsFetch (cursor_named old.db.cursors session name) old.db name replies.0
     × (new ≡ record old { db = fetched (cursor_named old.db.cursors session name) old.db replies.0 })
 
--- Two equal replies may be given by a cursor of these offers, and these are left.
-abbrev pub TakesOffer : List Offer → Reply × Reply → List Offer → Type 0
-TakesOffer old replies new = (replies.1 ≡ replies.0) × Offers old replies.0 × (new ≡ offers_after old replies.0)
-
 -- the same of the cursor in a place
 abbrev pub TakesAt : ℕ → List Cursor → Reply × Reply → List Cursor → Type 0
 TakesAt place old replies new =
@@ -40,15 +32,19 @@ TakesAt place old replies new =
     × Offers (cursor_at old place).offers replies.0
     × (new ≡ slice_set old place (record (cursor_at old place) { offers = offers_after (cursor_at old place).offers replies.0 }))
 
+-- STEP: how many background steps there were, and nothing changed
+abbrev pub StepsOn : Stand → ℕ → List ℕ → ℕ → Reply × Reply → Stand → Type 0
+StepsOn old session name most replies new = (replies.1 ≡ replies.0) × AllowsStep (cursor_named old.db.cursors session name) name most replies.0 × (new ≡ old)
+
+-- SHOW
+abbrev pub Shows : Stand → ℕ → List ℕ → Reply × Reply → Type 0
+Shows old session name replies = (replies.1 ≡ replies.0) × AllowsShow (cursor_named old.db.cursors session name) old.db name replies.0
+
 -- The base of the session's transaction, where it may open the cursor.
 abbrev pub opening_base : List TableDef → List Transaction → List Cursor → ℕ → List ℕ → List ℕ → Result ℕ Refusal
 opening_base defs active cursors session name tables = do
   own ← opening defs active cursors session name tables
   Ok (transaction_at active own).base
-
--- what the rows of the one FROM item offer at the base of the session's transaction, as the rows stand in their table
-abbrev pub offered : State → ℕ → Select → List Offer
-offered s session select = map (offer_of select) (qualifying select (rows_seen s (transaction_of s.transactions.active session) (table_of select)))
 
 -- Two equal replies are allowed to what is asked, and the state is the one after them.
 abbrev pub DoesAsked : Result Resolved Refusal → Stand → ℕ → Reply × Reply → Stand → Type 0
@@ -60,8 +56,8 @@ abbrev pub Executes : Stand → ℕ → Option Statement → Reply × Reply → 
 Executes old session statement replies new =
     (replies.1 ≡ replies.0) × Allows old.db session statement replies.0 × (new ≡ record old { db = next old.db session statement replies.0 })
 
--- A new index has a column, and a query is over one FROM item.
+-- A new index has a column, and a query has a FROM item.
 abbrev pub IsWhole : Resolved → Type 0
 IsWhole (asks.CreateIndex def) = 1 ≤ length def.columns
-IsWhole (asks.Open cursor select) = length select.tables ≡ 1
+IsWhole (asks.Open cursor select) = 1 ≤ length select.tables
 IsWhole asked = Unit {0}

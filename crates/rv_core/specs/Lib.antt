@@ -1,5 +1,6 @@
 pub mod Core
 pub mod Db
 pub mod Doing
-pub mod Giving
+pub mod Obeying
+pub mod Pieces
 pub mod Storing

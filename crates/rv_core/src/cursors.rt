@@ -1,43 +1,42 @@
-//! Cursors: how they are found, what they offer, and how they give it.
-ghost use Rattle.std.specs.Prelude.{◌≡◌, ◌<◌, true, Ok, IfErr, IfOk, OnErr, length, map, find};
-ghost use Rattle.std.specs.List.{slice_index_or};
-ghost use Rattle.rv_value.specs.declared.value.Value.TheVariants.{Null};
-ghost use Rattle.rv_reader.specs.Shown.{CanRead};
-ghost use Rattle.rv_restrict.specs.Bind.{passes_home};
-ghost use Rattle.rv_restrict.specs.Truth.{names_only};
-ghost use Rattle.rv_catalog.specs.Fits.{is_column};
-ghost use Rattle.rv_model.specs.Database.{cursor_named};
-ghost use Rattle.rv_model.specs.Offers.{offer_of, offers_of, picked, qualifying};
-ghost use Rattle.rv_model.specs.Step.{other_cursors, own_cursors, table_of};
+//! Open cursors of sessions: how they are found, opened, read and closed.
+ghost use Rattle.std.specs.Prelude.{◌≡◌, ◌<◌, ◌≤◌, ◌==◌, ℕ, List, true, not, Ok, IfErr, IfOk, IfSome, OnErr, length, filter, find, slice_get};
+ghost use Rattle.std.specs.List.{AllByRecursion};
+ghost use Rattle.rv_rows.specs.Rows.{Ascend};
+ghost use Rattle.rv_reader.specs.Shown.{CanRead, IsSnapshot, Shown};
+ghost use Rattle.rv_catalog.specs.Fits.{IsQueryOf};
+ghost use Rattle.rv_catalog.specs.Schema.{Schema};
+ghost use Rattle.rv_judge.specs.Runs.{Allowed};
+ghost use Rattle.rv_join.specs.Asking.{IsAsked, indexes_from, item_at};
+ghost use Rattle.rv_join.specs.Plans.{LeadsWith, numbers_of, plan_trace};
+ghost use Rattle.rv_snapshot.specs.Alone.{alone};
+ghost use Rattle.rv_core.specs.Obeying.{StepsAt};
+ghost use Rattle.rv_model.specs.declared.transactions.Transaction.{Transaction};
+ghost use Rattle.rv_model.specs.declared.transactions.Transactions.{Transactions};
+ghost use Rattle.rv_model.specs.Database.{cursor_at, cursor_named};
+ghost use Rattle.rv_model.specs.Offering.{offers_over};
+ghost use Rattle.rv_model.specs.Offers.{sorted};
+ghost use Rattle.rv_model.specs.Step.{Showing, Stepping, own_cursors, table_of};
 ghost use Rattle.rv_model.specs.Transactions.{transaction_of};
+ghost use Rattle.rv_cursor.specs.Left.{CursorFits};
 ghost use Rattle.rv_txn.specs.Calls.{IsFault, has_changed};
-ghost use Rattle.rv_core.specs.Db.{open_named, own_opens, seen_of};
+ghost use Rattle.rv_core.specs.Db.{AreNumbered, IsOpen, IsTied, open_named, own_opens, seen, seen_of};
 ghost use Rattle.rv_core.specs.Doing.{TakesAt, opening_base};
 
-use crate::offers::Offers;
 use crate::replies::{limit, table_name};
 use rv_catalog::{Catalog, Select};
-use rv_judge::Uncounted;
+use rv_cursor::{Open, fetch, open_cursor, step};
+use rv_judge::{Judge, Steps, Trace, Uncounted};
 use rv_lang::{Refusal, Reply, Which};
-use rv_model::Offer;
 use rv_reader::{Reader, Store};
-use rv_restrict::ColRef;
-use rv_txn::{TxnFault, Txns, kept_rows};
-use rv_value::{Duplicate, Items, NoMemory, Record, Text, Value, Values};
+use rv_txn::{TxnFault, Txns};
+use rv_value::{Duplicate, Items, NoMemory, Text};
 use std::alloc::Global;
-
-/// An open cursor of a session, and the offers that it has left.
-#[derive(Drop)]
-pub struct Open {
-    pub session: u8,
-    pub name: Text,
-    pub offers: Offers,
-}
 
 /// The place of the session's cursor of this name.
 #[tactic(auto, using(crate::proofs::Opens::named_seen))]
 pub fn cursor_named(cursors: &Items<Open>, session: u8, name: &Text) -> Option<usize>
-    ensures { result ≡ cursor_named (map seen_of cursors.now) session name.now }
+    ensures seen { (shown : Shown) → result ≡ cursor_named (seen shown cursors.now) session name.now }
+    ensures named { result ≡ open_named cursors.now session name.now }
 {
     open_named(cursors, session, name)
 }
@@ -52,7 +51,7 @@ fn open_named(cursors: &Items<Open>, session: u8, name: &Text) -> Option<usize>
 /// How many cursors of the session are open.
 #[tactic(auto, using(crate::proofs::Opens::own_seen))]
 fn count_cursors(cursors: &Items<Open>, session: u8) -> usize
-    ensures { result ≡ length (own_cursors (map seen_of cursors.now) session) }
+    ensures { (shown : Shown) → result ≡ length (own_cursors (seen shown cursors.now) session) }
 {
     count_open(cursors, session)
 }
@@ -69,7 +68,7 @@ fn count_open(cursors: &Items<Open>, session: u8) -> usize
 
 /// Takes a session's cursors away.
 pub fn close_all(cursors: &mut Items<Open>, session: u8)
-    ensures { map seen_of cursors.new ≡ other_cursors (map seen_of cursors.old) session }
+    ensures { cursors.new ≡ filter (λ c. not (c.session == session)) cursors.old }
 {
     cursors.retain(|cursor| cursor.session != session);
 }
@@ -84,8 +83,8 @@ pub fn opening(
     name: &Text,
     tables: &[u32],
 ) -> Result<u64, TxnFault>
-    ensures ok { IfOk result (λ base. opening_base catalog.now.tables txns.now.active (map seen_of cursors.now) session name.now tables.now ≡ Ok base) }
-    ensures fault { IfErr result (λ fault. IsFault (opening_base catalog.now.tables txns.now.active (map seen_of cursors.now) session name.now tables.now) fault) }
+    ensures ok { IfOk result (λ base. (shown : Shown) → opening_base catalog.now.tables txns.now.active (seen shown cursors.now) session name.now tables.now ≡ Ok base) }
+    ensures fault { IfErr result (λ fault. (shown : Shown) → IsFault (opening_base catalog.now.tables txns.now.active (seen shown cursors.now) session name.now tables.now) fault) }
 {
     let Some(standing) = txns.standing(session) else {
         return Err(TxnFault::Refused(Refusal::NoTransaction));
@@ -112,96 +111,115 @@ pub fn first_touched(txns: &Txns, session: u8, tables: &[u32]) -> Option<u32>
         .find(|table| txns.has_changed(session, *table))
 }
 
-/// FETCH of the cursor in a place.
-#[tactic(auto, using(crate::proofs::Opens::takes_at, crate::proofs::Opens::leaves_at, rv_value::proofs::Places::read_as))]
-pub fn fetch_at(
-    alloc: Global,
-    cursors: &mut Items<Open>,
-    place: usize,
-) -> Result<(Reply, Reply), NoMemory>
-    requires { place < length cursors.old }
-    ensures ok { IfOk result (λ replies. TakesAt place (map seen_of cursors.old) replies (map seen_of cursors.new)) }
-    ensures err { OnErr result (map seen_of cursors.new ≡ map seen_of cursors.old) }
-{
-    cursors.at_mut(place).offers.take(alloc)
-}
-
-/// What the rows of the one FROM item offer at a snapshot, as the rows stand in their table.
-pub fn offered_at<S: Store + Reader<Ledger = Uncounted>>(
-    alloc: Global,
-    store: &S,
-    select: &Select,
-    snap: u64,
-) -> Result<Vec<Offer>, NoMemory>
-    requires can { CanRead (S.shown store.now) (table_of select.now) snap }
-    requires over { names_only (passes_home (is_column ((S.shown store.now).columns (table_of select.now)))) select.now.only ≡ true }
-    ensures { IfOk result (λ offers. offers.items ≡ map (offer_of select.now) (qualifying select.now ((S.shown store.now).rows (table_of select.now) snap))) }
-{
-    let table = first_table(select.tables.as_slice());
-    let rows = kept_rows(alloc, store, table, snap, &select.only)?;
-    offers_in(alloc, select, rows.as_slice())
-}
-
-/// What the rows of the one FROM item offer at a snapshot.
-pub fn offers_at<S: Store + Reader<Ledger = Uncounted>>(
-    alloc: Global,
-    store: &S,
-    select: &Select,
-    snap: u64,
-) -> Result<Offers, NoMemory>
-    requires can { CanRead (S.shown store.now) (table_of select.now) snap }
-    requires over { names_only (passes_home (is_column ((S.shown store.now).columns (table_of select.now)))) select.now.only ≡ true }
-    ensures { IfOk result (λ offers. offers ≡ offers_of select.now ((S.shown store.now).rows (table_of select.now) snap)) }
-{
-    let offers = offered_at(alloc, store, select, snap)?;
-    Offers::from_vec(alloc, offers)
-}
-
-fn first_table(tables: &[u32]) -> u32
-    ensures { result ≡ slice_index_or tables.now 0 0 }
+/// Looks at tables of a snapshot, which tells that their rows ascend. It reads nothing.
+fn look_at<R: Reader>(reader: &R, tables: &[u32], snap: u64)
+    requires { AllByRecursion (λ table. CanRead (R.shown reader.now) table snap) tables.now }
+    ensures { AllByRecursion (λ table. Ascend ((R.shown reader.now).rows table snap)) tables.now }
 {
     match tables {
-        [] => 0,
-        [table, ..] => *table,
+        [] => {}
+        [first, more @ ..] => {
+            let _sizes = reader.sizes(*first, snap);
+            look_at(reader, more, snap);
+        }
     }
 }
 
-/// What rows offer, in their order.
-fn offers_in(alloc: Global, select: &Select, rows: &[Record]) -> Result<Vec<Offer>, NoMemory>
-    ensures { IfOk result (λ offers. offers.items ≡ map (offer_of select.now) rows.now) }
+/// A cursor over what a select offers at a snapshot of the store.
+pub fn plan_cursor<S: Store + Reader<Ledger = Uncounted>>(
+    alloc: Global,
+    store: &S,
+    catalog: &Catalog,
+    select: &Select,
+    session: u8,
+    name: Text,
+    number: u64,
+    snap: u64,
+) -> Result<Open, NoMemory>
+    requires tied { (txns : Transactions) × IsTied (S.shown store.now) catalog.now txns }
+    requires query { IsQueryOf catalog.now select.now }
+    requires some { 1 ≤ length select.now.tables }
+    requires base { IsSnapshot (S.shown store.now) snap }
+    ensures fits { IfOk result (CursorFits (S.shown store.now)) }
+    ensures seen { IfOk result (λ c. seen_of (S.shown store.now) c ≡ record { session = session; name = name; table = table_of select.now; offers = sorted (offers_over select.now (λ table. (S.shown store.now).rows table snap)) }) }
+    ensures over { IfOk result (λ c. (item_at c.plan.asked 0).indexes ≡ indexes_from (item_at c.plan.asked 0).table 0 catalog.now.indexes) }
+    ensures session { IfOk result (λ c. c.session ≡ session) }
+    ensures number { IfOk result (λ c. c.number ≡ number) }
+    ensures name { IfOk result (λ c. c.name ≡ name) }
+    ensures asked { IfOk result (λ c. IsAsked select.now catalog.now.indexes snap number c.plan.asked) }
+    ensures leads { IfOk result (λ c. LeadsWith (alone (S.shown store.now) snap) c.plan) }
+    ensures snap { IfOk result (λ c. c.snap ≡ snap) }
 {
-    let mut offers = Vec::with_capacity(alloc, rows.len())?;
-    'rows: for row in rows {
-        offers.push(offer_of(alloc, select, row)?)?;
-    }
-    Ok(offers)
+    // What a store tells with its newest commit, and what a reader tells with a table's sizes, holds of what is read.
+    let _newest = store.last();
+    look_at(store, select.tables.as_slice(), snap);
+    open_cursor(
+        alloc,
+        store,
+        select,
+        catalog.indexes(),
+        session,
+        name,
+        number,
+        snap,
+        &mut Steps::new(Uncounted),
+    )
 }
 
-fn offer_of(alloc: Global, select: &Select, row: &Record) -> Result<Offer, NoMemory>
-    ensures { IfOk result (λ offer. offer ≡ offer_of select.now row.now) }
+/// The trace of the plan of the cursor in a place.
+pub fn trace_at(cursors: &Items<Open>, place: usize) -> Trace
+    requires { place < length cursors.now }
+    ensures told { IfSome (slice_get cursors.now place) (λ c. result ≡ plan_trace c.plan) }
+    ensures allowed { (shown : Shown) → AllByRecursion (CursorFits shown) cursors.now → IfSome (slice_get cursors.now place) (λ c. Allowed result (numbers_of (item_at c.plan.asked 0).indexes)) }
 {
-    Ok(Offer {
-        order: picked(alloc, select.order.as_slice(), row.values.as_slice())?,
-        returned: picked(alloc, select.returns.as_slice(), row.values.as_slice())?,
-    })
+    cursors.as_slice()[place].plan.trace()
 }
 
-/// The values that references read in a row.
-fn picked(alloc: Global, columns: &[ColRef], row: &[Value]) -> Result<Values, NoMemory>
-    ensures { IfOk result (λ values. values ≡ picked columns.now row.now) }
+/// FETCH of the cursor in a place.
+#[tactic(auto, using(crate::proofs::Opens::same_at, crate::proofs::Opens::all_get))]
+pub fn fetch_at<S: Store + Reader<Ledger = Uncounted>>(
+    alloc: Global,
+    store: &S,
+    cursors: &mut Items<Open>,
+    place: usize,
+    judge: &mut Box<dyn Judge>,
+    beside: u8,
+) -> Result<(Reply, Reply), NoMemory>
+    requires place { place < length cursors.old }
+    requires fits { AllByRecursion (CursorFits (S.shown store.now)) cursors.old }
+    ensures ok { IfOk result (λ replies. TakesAt place (seen (S.shown store.now) cursors.old) replies (seen (S.shown store.now) cursors.new)) }
+    ensures err { OnErr result (seen (S.shown store.now) cursors.new ≡ seen (S.shown store.now) cursors.old) }
+    ensures opens { (schema : Schema) (active : List Transaction) → AllByRecursion (IsOpen (S.shown store.now) schema active) cursors.old → AllByRecursion (IsOpen (S.shown store.now) schema active) cursors.new }
+    ensures numbers { (low high : ℕ) → AreNumbered low high cursors.old → AreNumbered low high cursors.new }
 {
-    let mut values = Vec::new(alloc);
-    'columns: for column in columns {
-        values.push(value_at(alloc, row, column.column)?)?;
-    }
-    Ok(Values::from_vec(values))
+    let mut steps = Steps::new(Uncounted);
+    fetch(
+        alloc,
+        cursors.at_mut(place),
+        store,
+        judge,
+        beside,
+        &mut steps,
+    )
 }
 
-fn value_at(alloc: Global, row: &[Value], column: u32) -> Result<Value, NoMemory>
-    ensures { IfOk result (λ value. value ≡ slice_index_or row.now column Null) }
+/// STEP of the cursor in a place: how many background steps there were.
+#[tactic(auto, using(crate::proofs::Opens::same_at, crate::proofs::Opens::all_get))]
+pub fn step_at<S: Store + Reader<Ledger = Uncounted>>(
+    store: &S,
+    cursors: &mut Items<Open>,
+    place: usize,
+    judge: &mut Box<dyn Judge>,
+    most: u64,
+) -> Result<u64, NoMemory>
+    requires place { place < length cursors.old }
+    requires fits { AllByRecursion (CursorFits (S.shown store.now)) cursors.old }
+    ensures most { IfOk result (λ done. done ≤ most) }
+    ensures steps { IfOk result (λ done. StepsAt place done most cursors.old cursors.new) }
+    ensures seen { seen (S.shown store.now) cursors.new ≡ seen (S.shown store.now) cursors.old }
+    ensures opens { (schema : Schema) (active : List Transaction) → AllByRecursion (IsOpen (S.shown store.now) schema active) cursors.old → AllByRecursion (IsOpen (S.shown store.now) schema active) cursors.new }
+    ensures numbers { (low high : ℕ) → AreNumbered low high cursors.old → AreNumbered low high cursors.new }
 {
-    match row.get(column as usize) {
-        None => Ok(Value::Null),
-        Some(value) => value.copy(alloc),
-    }
+    let mut steps = Steps::new(Uncounted);
+    step(cursors.at_mut(place), store, judge, most, &mut steps)
 }

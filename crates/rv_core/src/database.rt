@@ -1,29 +1,35 @@
 //! The database: a catalog, a store, transactions and cursors, and what each statement does to them.
-ghost use Rattle.std.specs.Prelude.{◌≡◌, ◌<◌, ◌≤◌, true, IfOk, OnErr, length};
+ghost use Rattle.std.specs.Prelude.{◌≡◌, ◌<◌, ◌≤◌, ◌+◌, ◌-◌, ◌^◌, [], true, IfOk, OnErr, length};
 ghost use Rattle.std.specs.Option.{option_copied};
 ghost use Rattle.rv_catalog.specs.Fits.{IsNewIndex, IsNewTable, IsQueryOf, IsRowOf, is_over_table};
 ghost use Rattle.rv_model.specs.Database.{empty};
 ghost use Rattle.rv_model.specs.Standing.{HasRoom};
-ghost use Rattle.rv_model.specs.Step.{began, changed, closed, committed, created, indexed, inserted, opened, rolled_back};
+ghost use Rattle.rv_model.specs.Step.{began, changed, closed, committed, created, indexed, inserted, opened, rolled_back, rows_seen};
+ghost use Rattle.rv_model.specs.Transactions.{transaction_of};
 ghost use Rattle.rv_core.specs.Core.{horizon_of};
-ghost use Rattle.rv_core.specs.Doing.{Does, Fetches, offered};
+ghost use Rattle.rv_core.specs.Db.{open_named};
+ghost use Rattle.rv_core.specs.Doing.{Does, Fetches, Shows, StepsOn};
+ghost use Rattle.rv_core.specs.Obeying.{AddsPlan, StepsPlan, TellsPlan};
+ghost use Rattle.rv_core.specs.Pieces.{GivesTo, TakesNext, next_waiting, numbered};
 
-use crate::cursors::{Open, close_all, cursor_named, fetch_at, offered_at, offers_at, opening};
-use crate::replies::{limit, refused};
+use crate::cursors::{close_all, cursor_named, fetch_at, opening, plan_cursor, step_at, trace_at};
+use crate::pieces::{give_at, next_waiting, numbered, take_at};
+use crate::replies::{limit, named_trace, refused};
 use crate::storing::{add_index, add_table, change_rows, commit_some};
 use rv_catalog::{Catalog, IndexDef, Select, TableDef};
-use rv_judge::Uncounted;
+use rv_cursor::{Open, twice};
+use rv_jscan::{Given, Sieved, Taken};
+use rv_judge::{Judge, Steps, Uncounted};
 use rv_lang::{Refusal, Reply, Which};
-use rv_model::Offer;
 use rv_reader::{Reader, Store};
 use rv_restrict::Restriction;
-use rv_txn::{TxnFault, Txns};
-use rv_value::{Items, NoMemory, Text, Value, Values};
+use rv_txn::{TxnFault, Txns, kept_rows};
+use rv_value::{Items, NoMemory, Record, Text, Value, Values};
 use std::alloc::Global;
 use std::marker::Model;
 
 /// A catalog with the store that has its tables, the transactions and the cursors. Contracts see the one-thread
-/// database for which they stand, and the horizon of the store.
+/// database for which they stand, the horizon of the store, and the open cursors with their plans.
 #[derive(Drop)]
 pub struct Database<S: Store + Reader<Ledger = Uncounted> + Drop> {
     alloc: Global,
@@ -31,17 +37,17 @@ pub struct Database<S: Store + Reader<Ledger = Uncounted> + Drop> {
     store: S,
     txns: Txns,
     cursors: Items<Open>,
+    opened: u64,
 }
 
 impl<S: Store + Reader<Ledger = Uncounted> + Drop> Model for Database<S> {
-    ghost use Rattle.std.specs.Prelude.{map};
-    ghost use Rattle.rv_core.specs.Db.{IsTied, Stand, seen_of, stand_of};
+    ghost use Rattle.rv_core.specs.Db.{IsStanding, Whole, whole_of};
 
-    ghost Value = { Stand };
+    ghost Value = { Whole };
 
-    ghost view = { λ d. stand_of (S.shown d.store) d.catalog d.txns (map seen_of d.cursors) };
+    ghost view = { λ d. whole_of (S.shown d.store) d.catalog d.txns d.cursors d.opened };
 
-    ghost invariant = { λ d. IsTied (S.shown d.store) d.catalog d.txns };
+    ghost invariant = { λ d. IsStanding (S.shown d.store) d.catalog d.txns d.cursors d.opened };
 }
 
 impl<S: Store + Reader<Ledger = Uncounted> + Drop> Database<S> {
@@ -49,8 +55,7 @@ impl<S: Store + Reader<Ledger = Uncounted> + Drop> Database<S> {
     pub fn new(alloc: Global, store: S) -> Database<S>
         requires tables { (S.shown store).tables ≡ 0 }
         requires newest { (S.shown store).newest ≡ 0 }
-        ensures db { result.db ≡ empty }
-        ensures horizon { result.horizon ≡ 0 }
+        ensures { result ≡ record { stand = record { db = empty; horizon = 0 }; opens = []; opened = 1 } }
     {
         let _last = store.last();
         Database {
@@ -59,42 +64,50 @@ impl<S: Store + Reader<Ledger = Uncounted> + Drop> Database<S> {
             store,
             txns: Txns::new(alloc),
             cursors: Items::new(alloc),
+            opened: 1,
         }
     }
 
     /// The catalog, to which names are looked up.
     pub fn catalog(&self) -> &Catalog
-        ensures { result.now ≡ self.now.db.schema }
+        ensures { result.now ≡ self.now.stand.db.schema }
     {
         &self.catalog
     }
 
     /// The transactions.
     pub fn txns(&self) -> &Txns
-        ensures { result.now ≡ self.now.db.transactions }
+        ensures { result.now ≡ self.now.stand.db.transactions }
     {
         &self.txns
     }
 
-    /// What the rows of the one FROM item offer at the base of the session's transaction, as the rows stand in their
-    /// table; nothing where the session has no transaction.
-    pub fn offers(&self, session: u8, select: &Select) -> Result<Vec<Offer>, NoMemory>
-        requires one { length select.now.tables ≡ 1 }
-        requires query { IsQueryOf self.now.db.schema select.now }
-        ensures { IfOk result (λ offers. offers.items ≡ offered self.now.db session select.now) }
+    /// The rows of a table at the base of the session's transaction; none where it has no transaction.
+    pub fn rows(&self, session: u8, table: u32) -> Result<Vec<Record>, NoMemory>
+        requires there { table < length self.now.stand.db.schema.tables }
+        ensures { IfOk result (λ rows. rows.items ≡ rows_seen self.now.stand.db (transaction_of self.now.stand.db.transactions.active session) table) }
     {
         let Some(standing) = self.txns.standing(session) else {
             return Ok(Vec::new(self.alloc));
         };
-        let offers = offered_at(self.alloc, &self.store, select, standing.base)?;
-        Ok(offers)
+        let all = Restriction::from_groups(Vec::new(self.alloc));
+        let rows = kept_rows(self.alloc, &self.store, table, standing.base, &all)?;
+        Ok(rows)
+    }
+
+    /// How many cursors are open.
+    pub fn open_cursors(&self) -> usize
+        ensures { result ≡ length self.now.opens }
+    {
+        self.cursors.len()
     }
 
     /// CREATE TABLE.
     pub fn create(&mut self, def: TableDef) -> Result<(Reply, Reply), NoMemory>
-        requires { IsNewTable self.old.db.schema def }
-        ensures ok { IfOk result (λ replies. Does (created self.old.db def) self.old replies self.new) }
-        ensures err { OnErr result (self.new ≡ self.old) }
+        requires { IsNewTable self.old.stand.db.schema def }
+        ensures ok { IfOk result (λ replies. Does (created self.old.stand.db def) self.old.stand replies self.new.stand) }
+        ensures err { OnErr result (self.new.stand ≡ self.old.stand) }
+        ensures opened { self.new.opened ≡ self.old.opened }
     {
         if let Some(number) = self.txns.active() {
             return refused(self.alloc, Refusal::Busy(number));
@@ -111,11 +124,12 @@ impl<S: Store + Reader<Ledger = Uncounted> + Drop> Database<S> {
 
     /// CREATE INDEX.
     pub fn create_index(&mut self, def: IndexDef) -> Result<(Reply, Reply), NoMemory>
-        requires new { IsNewIndex self.old.db.schema def }
+        requires new { IsNewIndex self.old.stand.db.schema def }
         requires some { 1 ≤ length def.columns }
-        requires swept { self.old.horizon ≡ horizon_of self.old.db }
-        ensures ok { IfOk result (λ replies. Does (indexed self.old.db def) self.old replies self.new) }
-        ensures err { OnErr result (self.new ≡ self.old) }
+        requires swept { self.old.stand.horizon ≡ horizon_of self.old.stand.db }
+        ensures ok { IfOk result (λ replies. Does (indexed self.old.stand.db def) self.old.stand replies self.new.stand) }
+        ensures err { OnErr result (self.new.stand ≡ self.old.stand) }
+        ensures opened { self.new.opened ≡ self.old.opened }
     {
         if let Some(lowest) = self.txns.active() {
             return refused(self.alloc, Refusal::Busy(lowest));
@@ -132,9 +146,10 @@ impl<S: Store + Reader<Ledger = Uncounted> + Drop> Database<S> {
 
     /// BEGIN.
     pub fn begin(&mut self, session: u8, read_only: bool) -> Result<(Reply, Reply), NoMemory>
-        requires { HasRoom self.old.db }
-        ensures ok { IfOk result (λ replies. Does (began self.old.db session read_only) self.old replies self.new) }
-        ensures err { OnErr result (self.new ≡ self.old) }
+        requires { HasRoom self.old.stand.db }
+        ensures ok { IfOk result (λ replies. Does (began self.old.stand.db session read_only) self.old.stand replies self.new.stand) }
+        ensures err { OnErr result (self.new.stand ≡ self.old.stand) }
+        ensures opened { self.new.opened ≡ self.old.opened }
     {
         let base = self.store.last();
         let number = match self.txns.begin(session, read_only, base) {
@@ -152,9 +167,10 @@ impl<S: Store + Reader<Ledger = Uncounted> + Drop> Database<S> {
         table: u32,
         values: Values,
     ) -> Result<(Reply, Reply), NoMemory>
-        requires { IsRowOf self.old.db.schema table values }
-        ensures ok { IfOk result (λ replies. Does (inserted self.old.db session table values) self.old replies self.new) }
-        ensures err { OnErr result (self.new ≡ self.old) }
+        requires { IsRowOf self.old.stand.db.schema table values }
+        ensures ok { IfOk result (λ replies. Does (inserted self.old.stand.db session table values) self.old.stand replies self.new.stand) }
+        ensures err { OnErr result (self.new.stand ≡ self.old.stand) }
+        ensures opened { self.new.opened ≡ self.old.opened }
     {
         let row = match self.txns.insert(session, table, values) {
             Ok(row) => row,
@@ -172,10 +188,11 @@ impl<S: Store + Reader<Ledger = Uncounted> + Drop> Database<S> {
         sets: Option<&[(u32, Value)]>,
         only: &Restriction,
     ) -> Result<(Reply, Reply), NoMemory>
-        requires there { table < length self.old.db.schema.tables }
-        requires over { is_over_table self.old.db.schema.tables table only.now ≡ true }
-        ensures ok { IfOk result (λ replies. Does (changed self.old.db session table (option_copied sets.entry) only.now) self.old replies self.new) }
-        ensures err { OnErr result (self.new ≡ self.old) }
+        requires there { table < length self.old.stand.db.schema.tables }
+        requires over { is_over_table self.old.stand.db.schema.tables table only.now ≡ true }
+        ensures ok { IfOk result (λ replies. Does (changed self.old.stand.db session table (option_copied sets.entry) only.now) self.old.stand replies self.new.stand) }
+        ensures err { OnErr result (self.new.stand ≡ self.old.stand) }
+        ensures opened { self.new.opened ≡ self.old.opened }
     {
         let count = match change_rows(
             &self.catalog,
@@ -195,9 +212,10 @@ impl<S: Store + Reader<Ledger = Uncounted> + Drop> Database<S> {
 
     /// COMMIT.
     pub fn commit(&mut self, session: u8) -> Result<(Reply, Reply), NoMemory>
-        requires { HasRoom self.old.db }
-        ensures ok { IfOk result (λ replies. Does (committed self.old.db session) self.old replies self.new) }
-        ensures err { OnErr result (self.new ≡ self.old) }
+        requires { HasRoom self.old.stand.db }
+        ensures ok { IfOk result (λ replies. Does (committed self.old.stand.db session) self.old.stand replies self.new.stand) }
+        ensures err { OnErr result (self.new.stand ≡ self.old.stand) }
+        ensures opened { self.new.opened ≡ self.old.opened }
     {
         let finished = match self.txns.finish(session) {
             Ok(finished) => finished,
@@ -215,8 +233,9 @@ impl<S: Store + Reader<Ledger = Uncounted> + Drop> Database<S> {
 
     /// ROLLBACK.
     pub fn rollback(&mut self, session: u8) -> Result<(Reply, Reply), NoMemory>
-        ensures ok { IfOk result (λ replies. Does (rolled_back self.old.db session) self.old replies self.new) }
-        ensures err { OnErr result (self.new ≡ self.old) }
+        ensures ok { IfOk result (λ replies. Does (rolled_back self.old.stand.db session) self.old.stand replies self.new.stand) }
+        ensures err { OnErr result (self.new.stand ≡ self.old.stand) }
+        ensures opened { self.new.opened ≡ self.old.opened }
     {
         if let Err(refusal) = self.txns.rollback(session) {
             return refused(self.alloc, refusal);
@@ -225,7 +244,7 @@ impl<S: Store + Reader<Ledger = Uncounted> + Drop> Database<S> {
         Ok((Reply::RolledBack, Reply::RolledBack))
     }
 
-    /// OPEN of a query over one FROM item.
+    /// OPEN.
     #[tactic(auto, using(crate::proofs::Calling::opens_err))]
     pub fn open(
         &mut self,
@@ -233,10 +252,14 @@ impl<S: Store + Reader<Ledger = Uncounted> + Drop> Database<S> {
         name: Text,
         select: &Select,
     ) -> Result<(Reply, Reply), NoMemory>
-        requires one { length select.now.tables ≡ 1 }
-        requires query { IsQueryOf self.old.db.schema select.now }
-        ensures ok { IfOk result (λ replies. Does (opened self.old.db session name select.now) self.old replies self.new) }
-        ensures err { OnErr result (self.new ≡ self.old) }
+        requires some { 1 ≤ length select.now.tables }
+        requires query { IsQueryOf self.old.stand.db.schema select.now }
+        requires numbers { self.old.opened < 2 ^ 64 - 1 }
+        ensures ok { IfOk result (λ replies. Does (opened self.old.stand.db session name select.now) self.old.stand replies self.new.stand) }
+        ensures err { OnErr result (self.new.stand ≡ self.old.stand) }
+        ensures adds { IfOk result (λ replies. AddsPlan select.now self.old session name replies.0 self.new.opens) }
+        ensures opened { self.new.opened ≤ self.old.opened + 1 }
+        ensures unopened { OnErr result (self.new.opened ≡ self.old.opened) }
     {
         let base = match opening(
             self.alloc,
@@ -251,41 +274,136 @@ impl<S: Store + Reader<Ledger = Uncounted> + Drop> Database<S> {
             Err(TxnFault::Refused(refusal)) => return refused(self.alloc, refusal),
             Err(TxnFault::NoMemory) => return Err(NoMemory),
         };
-        let offers = match offers_at(self.alloc, &self.store, select, base) {
-            Ok(offers) => offers,
-            Err(NoMemory) => return Err(NoMemory),
-        };
-        match self.cursors.push(Open {
+        let cursor = match plan_cursor(
+            self.alloc,
+            &self.store,
+            &self.catalog,
+            select,
             session,
             name,
-            offers,
-        }) {
+            self.opened,
+            base,
+        ) {
+            Ok(cursor) => cursor,
+            Err(NoMemory) => return Err(NoMemory),
+        };
+        match self.cursors.push(cursor) {
             Ok(()) => {}
             Err(NoMemory) => return Err(NoMemory),
         }
+        self.opened += 1;
         Ok((Reply::Opened, Reply::Opened))
     }
 
-    /// FETCH.
-    pub fn fetch(&mut self, session: u8, name: Text) -> Result<(Reply, Reply), NoMemory>
-        ensures ok { IfOk result (λ replies. Fetches self.old session name replies self.new) }
-        ensures err { OnErr result (self.new ≡ self.old) }
+    /// FETCH. Each step of the cursor's plan is followed by up to `beside` background steps.
+    pub fn fetch(
+        &mut self,
+        session: u8,
+        name: Text,
+        judge: &mut Box<dyn Judge>,
+        beside: u8,
+    ) -> Result<(Reply, Reply), NoMemory>
+        ensures ok { IfOk result (λ replies. Fetches self.old.stand session name replies self.new.stand) }
+        ensures err { OnErr result (self.new.stand ≡ self.old.stand) }
+        ensures opened { self.new.opened ≡ self.old.opened }
     {
         let Some(place) = cursor_named(&self.cursors, session, &name) else {
             return refused(self.alloc, Refusal::NoCursor(name));
         };
-        let replies = match fetch_at(self.alloc, &mut self.cursors, place) {
+        let replies = match fetch_at(
+            self.alloc,
+            &self.store,
+            &mut self.cursors,
+            place,
+            judge,
+            beside,
+        ) {
             Ok(replies) => replies,
             Err(NoMemory) => return Err(NoMemory),
         };
         Ok(replies)
     }
 
+    /// STEP: so many background steps at most.
+    pub fn step(
+        &mut self,
+        session: u8,
+        name: Text,
+        most: u64,
+        judge: &mut Box<dyn Judge>,
+    ) -> Result<(Reply, Reply), NoMemory>
+        ensures ok { IfOk result (λ replies. StepsOn self.old.stand session name most replies self.new.stand) }
+        ensures steps { IfOk result (λ replies. StepsPlan (open_named self.old.opens session name) most replies.0 self.old.opens self.new.opens) }
+        ensures err { OnErr result (self.new.stand ≡ self.old.stand) }
+        ensures opened { self.new.opened ≡ self.old.opened }
+    {
+        let Some(place) = cursor_named(&self.cursors, session, &name) else {
+            return refused(self.alloc, Refusal::NoCursor(name));
+        };
+        let done = match step_at(&self.store, &mut self.cursors, place, judge, most) {
+            Ok(done) => done,
+            Err(NoMemory) => return Err(NoMemory),
+        };
+        Ok((Reply::Stepped(done), Reply::Stepped(done)))
+    }
+
+    /// SHOW.
+    pub fn show(&self, session: u8, name: Text) -> Result<(Reply, Reply), NoMemory>
+        ensures ok { IfOk result (λ replies. Shows self.now.stand session name replies) }
+        ensures told { IfOk result (λ replies. TellsPlan (open_named self.now.opens session name) self.now.stand.db.schema.indexes self.now.opens replies.0) }
+    {
+        let Some(place) = cursor_named(&self.cursors, session, &name) else {
+            return refused(self.alloc, Refusal::NoCursor(name));
+        };
+        let trace = trace_at(&self.cursors, place);
+        let shown = named_trace(self.alloc, self.catalog.indexes(), &trace)?;
+        twice(self.alloc, Reply::Trace(shown))
+    }
+
+    /// Takes the awaited piece of an open cursor: of those that await one, that with the lowest number above `after`, or
+    /// with the lowest number where there is none above. `Nothing` where no open cursor awaits a piece.
+    pub fn take_piece(
+        &mut self,
+        after: u64,
+        steps: &mut Steps<Uncounted>,
+    ) -> Result<Taken, NoMemory>
+        ensures taken { IfOk result (λ t. TakesNext (next_waiting after self.old.opens) self.old.opens self.new.opens t) }
+        ensures stand { self.new.stand ≡ self.old.stand }
+        ensures opened { self.new.opened ≡ self.old.opened }
+    {
+        let Some(place) = next_waiting(&self.cursors, after) else {
+            return Ok(Taken::Nothing);
+        };
+        take_at(&self.store, &mut self.cursors, place, steps)
+    }
+
+    /// Gives a sieved piece to the open cursor from which it was taken. It is stale where that is closed.
+    pub fn give_piece<L: Drop>(
+        &mut self,
+        sieved: Sieved,
+        judge: &mut Box<dyn Judge>,
+        steps: &mut Steps<L>,
+    ) -> Result<Given, NoMemory>
+        ensures given { IfOk result (λ g. GivesTo (numbered sieved.id.cursor self.old.opens) (would judge.old) (state judge.old) (state judge.new) self.old.opens sieved g self.new.opens) }
+        ensures stand { self.new.stand ≡ self.old.stand }
+        ensures opened { self.new.opened ≡ self.old.opened }
+    {
+        let id = sieved.id();
+        let Some(place) = numbered(&self.cursors, id.cursor) else {
+            return Ok(Given::Stale {
+                asked: id,
+                now: None,
+            });
+        };
+        give_at(&mut self.cursors, place, sieved, judge, steps)
+    }
+
     /// CLOSE.
     #[tactic(auto, using(crate::proofs::Opens::removed_seen))]
     pub fn close(&mut self, session: u8, name: Text) -> Result<(Reply, Reply), NoMemory>
-        ensures ok { IfOk result (λ replies. Does (closed self.old.db session name) self.old replies self.new) }
-        ensures err { OnErr result (self.new ≡ self.old) }
+        ensures ok { IfOk result (λ replies. Does (closed self.old.stand.db session name) self.old.stand replies self.new.stand) }
+        ensures err { OnErr result (self.new.stand ≡ self.old.stand) }
+        ensures opened { self.new.opened ≡ self.old.opened }
     {
         let Some(place) = cursor_named(&self.cursors, session, &name) else {
             return refused(self.alloc, Refusal::NoCursor(name));
@@ -296,7 +414,7 @@ impl<S: Store + Reader<Ledger = Uncounted> + Drop> Database<S> {
 
     /// Takes away what no transaction needs of the store, a part at a time. It takes no memory.
     pub fn sweep(&mut self)
-        ensures { self.new ≡ record self.old { horizon = horizon_of self.old.db } }
+        ensures { self.new ≡ record self.old { stand = record self.old.stand { horizon = horizon_of self.old.stand.db } } }
     {
         let last = self.store.last();
         let horizon = self.txns.horizon(last);

@@ -1,10 +1,13 @@
+//! The engine: the calls of the sessions one after another over a store, and the history of them.
 ghost use Rattle.std.specs.Prelude.{◌≡◌, ◌+◌, ◌-◌, ◌<◌, ◌≤◌, ◌^◌, [], IfOk, OnErr, length};
 ghost use Rattle.rv_model.specs.Database.{empty};
 ghost use Rattle.rv_core.specs.Core.{Answers, IsSound, horizon_of};
+ghost use Rattle.rv_core.specs.Pieces.{GivesTo, TakesNext, next_waiting, numbered};
 
 use crate::database::Database;
 use crate::statements::answer;
-use rv_judge::Uncounted;
+use rv_jscan::{Given, Sieved, Taken};
+use rv_judge::{Judge, Steps, Uncounted};
 use rv_lang::Reply;
 use rv_model::Entry;
 use rv_reader::{Reader, Store};
@@ -13,34 +16,34 @@ use std::alloc::Global;
 use std::marker::Model;
 
 /// The database over a store, with the history of its calls. Contracts see the history, the phase, the one-thread
-/// database for which the core stands, and the horizon of the store; the history is legal, and the database is the
-/// one after it.
+/// database for which it stands, the horizon of the store and the open cursors; the history is legal, and the database
+/// is the one after it.
 #[derive(Drop)]
-pub struct Core<S: Store + Reader<Ledger = Uncounted> + Drop> {
+pub struct Engine<S: Store + Reader<Ledger = Uncounted> + Drop> {
     alloc: Global,
     database: Database<S>,
     phase: u32,
     history: Vec<Entry>,
 }
 
-impl<S: Store + Reader<Ledger = Uncounted> + Drop> Model for Core<S> {
-    ghost use Rattle.rv_core.specs.Core.{Shown, IsSound};
+impl<S: Store + Reader<Ledger = Uncounted> + Drop> Model for Engine<S> {
+    ghost use Rattle.rv_core.specs.Core.{Shown, IsSound, shown_of};
 
     ghost Value = { Shown };
 
-    ghost view = { λ c. record { history = c.history.items; phase = c.phase; db = c.database.db; horizon = c.database.horizon } };
+    ghost view = { λ e. shown_of e.history.items e.phase e.database };
 
-    ghost invariant = { λ c. IsSound (record { history = c.history.items; phase = c.phase; db = c.database.db; horizon = c.database.horizon }) };
+    ghost invariant = { λ e. IsSound (shown_of e.history.items e.phase e.database) };
 }
 
-impl<S: Store + Reader<Ledger = Uncounted> + Drop> Core<S> {
-    /// A core with no call made, in phase 1, over a store without tables and commits. It takes no memory.
-    pub fn new(alloc: Global, store: S) -> Core<S>
+impl<S: Store + Reader<Ledger = Uncounted> + Drop> Engine<S> {
+    /// An engine with no call made, in phase 1, over a store without tables and commits. It takes no memory.
+    pub fn new(alloc: Global, store: S) -> Engine<S>
         requires tables { (S.shown store).tables ≡ 0 }
         requires newest { (S.shown store).newest ≡ 0 }
-        ensures { result ≡ record { history = []; phase = 1; db = empty; horizon = 0 } }
+        ensures { result ≡ record { history = []; phase = 1; db = empty; horizon = 0; opens = []; opened = 1 } }
     {
-        Core {
+        Engine {
             alloc,
             database: Database::new(alloc, store),
             phase: 1,
@@ -63,6 +66,13 @@ impl<S: Store + Reader<Ledger = Uncounted> + Drop> Core<S> {
         self.phase
     }
 
+    /// How many cursors are open.
+    pub fn open_cursors(&self) -> usize
+        ensures { result ≡ length self.now.opens }
+    {
+        self.database.open_cursors()
+    }
+
     /// Begins the next phase.
     pub fn next_phase(&mut self)
         requires { self.old.phase < 2 ^ 32 - 1 }
@@ -71,18 +81,25 @@ impl<S: Store + Reader<Ledger = Uncounted> + Drop> Core<S> {
         self.phase += 1;
     }
 
-    /// Makes a session's call: the reply is given and written to the history with the text. On `NoMemory`
-    /// nothing is changed.
-    pub fn call(&mut self, session: u8, text: &str) -> Result<Reply, NoMemory>
+    /// Makes a session's call under a judge, with up to `beside` background steps beside each foreground step of a
+    /// FETCH: the reply is given and written to the history with the text. On `NoMemory` nothing is changed but how far
+    /// the plans of cursors have come.
+    pub fn call(
+        &mut self,
+        session: u8,
+        text: &str,
+        judge: &mut Box<dyn Judge>,
+        beside: u8,
+    ) -> Result<Reply, NoMemory>
         requires from { 1 ≤ session }
         requires to { session ≤ 8 }
         requires short { length text.now ≤ 4096 }
         ensures ok { IfOk result (λ reply. Answers self.old self.new session text.now reply) }
-        ensures err { OnErr result (self.new ≡ self.old) }
+        ensures err { OnErr result (self.new ≡ record self.old { opens = self.new.opens }) }
     {
         let copy = Text::read(self.alloc, text)?;
         self.history.reserve(1)?;
-        let (reply, kept) = answer(self.alloc, &mut self.database, session, text)?;
+        let (reply, kept) = answer(self.alloc, &mut self.database, session, text, judge, beside)?;
         self.database.sweep();
         self.history
             .push(Entry {
@@ -93,6 +110,33 @@ impl<S: Store + Reader<Ledger = Uncounted> + Drop> Core<S> {
             })
             .unwrap();
         Ok(reply)
+    }
+
+    /// Takes the awaited piece of an open cursor: of those that await one, that with the lowest number above `after`, or
+    /// with the lowest number where there is none above. `Nothing` where no open cursor awaits a piece.
+    pub fn take_piece(
+        &mut self,
+        after: u64,
+        steps: &mut Steps<Uncounted>,
+    ) -> Result<Taken, NoMemory>
+        ensures taken { IfOk result (λ t. TakesNext (next_waiting after self.old.opens) self.old.opens self.new.opens t) }
+        ensures same { self.new ≡ record self.old { opens = self.new.opens } }
+    {
+        self.database.take_piece(after, steps)
+    }
+
+    /// Gives a sieved piece to the open cursor from which it was taken, on which the judge then rules. It is stale where
+    /// that is closed.
+    pub fn give_piece<L: Drop>(
+        &mut self,
+        sieved: Sieved,
+        judge: &mut Box<dyn Judge>,
+        steps: &mut Steps<L>,
+    ) -> Result<Given, NoMemory>
+        ensures given { IfOk result (λ g. GivesTo (numbered sieved.id.cursor self.old.opens) (would judge.old) (state judge.old) (state judge.new) self.old.opens sieved g self.new.opens) }
+        ensures same { self.new ≡ record self.old { opens = self.new.opens } }
+    {
+        self.database.give_piece(sieved, judge, steps)
     }
 
     /// Takes away what no transaction needs of the store, a part at a time, as each answered call does too.

@@ -4,9 +4,11 @@
 pub mod cursors;
 pub mod database;
 pub mod engine;
-pub mod offers;
+pub mod judged;
+pub mod pieces;
 pub mod replies;
 pub mod statements;
 pub mod storing;
 
-pub use engine::Core;
+pub use engine::Engine;
+pub use judged::Core;

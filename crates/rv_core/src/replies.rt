@@ -2,20 +2,16 @@
 ghost use Rattle.std.specs.Prelude.{◌≡◌, IfOk};
 ghost use Rattle.rv_lang.specs.declared.reply.Refusal.TheVariants.{Limit as LimitPassed};
 ghost use Rattle.rv_lang.specs.declared.reply.Reply.TheVariants.{Refused};
+ghost use Rattle.rv_model.specs.Database.{index_at};
+ghost use Rattle.rv_model.specs.Showing.{named, trace_named};
 ghost use Rattle.rv_model.specs.Step.{table_name};
 
-use rv_catalog::Catalog;
-use rv_lang::{Refusal, Reply, Which};
-use rv_value::{Duplicate, NoMemory, Text};
+use rv_catalog::{Catalog, IndexDef};
+use rv_cursor::twice;
+use rv_judge::{Event, Trace};
+use rv_lang::{Refusal, Reply, Shown, ShownEvent, Which};
+use rv_value::{Duplicate, Items, NoMemory, Text};
 use std::alloc::Global;
-
-/// A reply and its copy.
-pub fn twice(alloc: Global, reply: Reply) -> Result<(Reply, Reply), NoMemory>
-    ensures { IfOk result (λ replies. (replies.0 ≡ reply) × (replies.1 ≡ reply)) }
-{
-    let copy = reply.copy(alloc)?;
-    Ok((reply, copy))
-}
 
 /// A refusal, twice.
 pub fn refused(alloc: Global, refusal: Refusal) -> Result<(Reply, Reply), NoMemory>
@@ -39,4 +35,45 @@ pub fn table_name(alloc: Global, catalog: &Catalog, table: u32) -> Result<Text, 
         Some(def) => def.name.copy(alloc),
         None => Text::read(alloc, ""),
     }
+}
+
+/// The name of an index; empty where there is no such index.
+fn index_name(alloc: Global, indexes: &[IndexDef], index: u32) -> Result<Text, NoMemory>
+    ensures { IfOk result (λ name. name ≡ (index_at indexes.now index).name) }
+{
+    match indexes.get(index as usize) {
+        Some(def) => def.name.copy(alloc),
+        None => Text::read(alloc, ""),
+    }
+}
+
+/// An event with the name of its index.
+fn named(alloc: Global, indexes: &[IndexDef], event: Event) -> Result<ShownEvent, NoMemory>
+    ensures { IfOk result (λ told. told ≡ named indexes.now event) }
+{
+    Ok(match event {
+        Event::At(control) => ShownEvent::At(control),
+        Event::Scan(index) => ShownEvent::Scan(index_name(alloc, indexes, index)?),
+        Event::List(index, keys) => ShownEvent::List(index_name(alloc, indexes, index)?, keys),
+        Event::Drop(index) => ShownEvent::Drop(index_name(alloc, indexes, index)?),
+        Event::Full => ShownEvent::Full,
+        Event::Stop => ShownEvent::Stop,
+    })
+}
+
+/// A trace with the names of indexes in place of their numbers.
+pub fn named_trace(alloc: Global, indexes: &[IndexDef], trace: &Trace) -> Result<Shown, NoMemory>
+    ensures { IfOk result (λ shown. shown ≡ trace_named indexes.now trace.now) }
+{
+    let mut events = Vec::new(alloc);
+    'events: for event in trace.events.as_slice() {
+        events.push(named(alloc, indexes, *event)?)?;
+    }
+    Ok(Shown {
+        strategy: trace.strategy,
+        events: Items::from_vec(events),
+        pages: trace.pages,
+        leaves: trace.leaves,
+        fetches: trace.fetches,
+    })
 }

@@ -7,7 +7,8 @@ ghost use Rattle.rv_catalog.specs.Kept.{indexes_over};
 ghost use Rattle.rv_catalog.specs.Schema.{index_named, table_named};
 ghost use Rattle.rv_reader.specs.Storing.{AreColumns, CanCommit, Created, Indexed, IsSame};
 ghost use Rattle.rv_txn.specs.Calls.{IsFault};
-ghost use Rattle.rv_core.specs.Db.{IsTied, no_index};
+ghost use Rattle.rv_model.specs.Database.{no_index};
+ghost use Rattle.rv_core.specs.Db.{IsTied};
 ghost use Rattle.rv_core.specs.Storing.{CommitsTo, changed_over};
 
 use rv_catalog::{Catalog, IndexDef, TableDef};

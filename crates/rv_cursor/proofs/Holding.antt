@@ -1,6 +1,7 @@
 -- What becomes of a cursor's offers when its plan is called.
 use Rattle.std.proofs.Common.{◌≡◌, ℕ, ◌<◌, ◌≤◌, List, [], ◌∷◌, ◌++◌, refl, ap, sym, ◌∙◌, subst, arith, Option, Some, None, IfSome, IsSome}
 use Rattle.std.specs.List.Sorted.{IsPermutation}
+use Rattle.std.proofs.lemmas.List.Sorted.{IsPermutation-refl}
 use Rattle.rv_value.specs.declared.value.Value.{Value}
 use Rattle.rv_lang.specs.declared.reply.Reply.{Reply}
 use Rattle.rv_lang.specs.declared.reply.Reply.TheVariants.{Row}
@@ -61,6 +62,10 @@ kept_stays shown c p empty fits new asked moved = record {
   same = record { session = refl; name = refl; number = refl; snap = refl; asked = asked };
   left = no_hand c.hand (plan_rest (seen_by shown c) p) empty ∙ sorted_moved (plan_rest (seen_by shown c) c.plan) (plan_rest (seen_by shown c) p) moved ∙ sym (no_hand c.hand (plan_rest (seen_by shown c) c.plan) empty);
 }
+
+-- nothing was left, and nothing is
+pub none_moved : (old new : List Offer) → old ≡ [] → new ≡ [] → IsPermutation old new
+none_moved old new before after = rw (before, after) (IsPermutation-refl [])
 
 -- a row came out of the plan
 pub row_stays : (shown : Shown) (c : Open) (p : Planned) (o : Offer) (hand : Option Offer) → hand ≡ Some o → c.hand ≡ None → CursorFits shown c → PlanFits (seen_by shown c) p → PlanMoves (seen_by shown c) (PlanRow o) c.plan p → Stays shown c (record c { plan = p; hand = hand })

@@ -1,3 +1,4 @@
 pub mod Giving
 pub mod Holding
 pub mod Sorted
+pub mod Worked

@@ -1,11 +1,14 @@
 //! A cursor, and the steps of its plan.
-ghost use Rattle.std.specs.Prelude.{◌≡◌, ◌≤◌, None, IfOk};
+ghost use Rattle.std.specs.Prelude.{◌≡◌, ◌≤◌, false, None, Ok, IfOk, OnErr};
 ghost use Rattle.rv_join.specs.Asking.{CanPlan, IsAsked};
 ghost use Rattle.rv_join.specs.Levels.{table_rows};
+ghost use Rattle.rv_join.specs.Plans.{LeadsWith};
 ghost use Rattle.rv_model.specs.Offering.{offers_over};
 ghost use Rattle.rv_model.specs.Offers.{sorted};
 ghost use Rattle.rv_snapshot.specs.Alone.{alone};
+ghost use Rattle.rv_join.specs.Pieces.{plan_awaited, plan_pieces};
 ghost use Rattle.rv_cursor.specs.Left.{CursorFits, Fills, Stays, left, work};
+ghost use Rattle.rv_cursor.specs.Working.{WorksPiece};
 
 use rv_catalog::{IndexDef, Select};
 use rv_join::{Plan, PlanStep};
@@ -53,6 +56,7 @@ pub fn open_cursor<R: Reader>(
     ensures fits { IfOk result (CursorFits (R.shown reader.now)) }
     ensures left { IfOk result (λ c. left (R.shown reader.now) c ≡ sorted (offers_over select.now (table_rows (alone (R.shown reader.now) snap) snap))) }
     ensures asked { IfOk result (λ c. IsAsked select.now indexes.now snap number c.plan.asked) }
+    ensures leads { IfOk result (λ c. LeadsWith (alone (R.shown reader.now) snap) c.plan) }
     ensures session { IfOk result (λ c. c.session ≡ session) }
     ensures name { IfOk result (λ c. c.name ≡ name) }
     ensures number { IfOk result (λ c. c.number ≡ number) }
@@ -97,7 +101,8 @@ pub fn fill<R: Reader>(
     }
 }
 
-/// Takes, sieves and gives the piece that the plan awaits; whether there was one.
+/// Takes, sieves and gives the piece that the plan awaits; whether there was one. Nothing comes between, so that it is
+/// accepted.
 pub fn work_piece<R: Reader>(
     cursor: &mut Open,
     reader: &R,
@@ -108,6 +113,9 @@ pub fn work_piece<R: Reader>(
     ensures stays { Stays (R.shown reader.now) cursor.old cursor.new }
     ensures hand { cursor.new.hand ≡ cursor.old.hand }
     ensures work { work (R.shown reader.now) cursor.new ≤ work (R.shown reader.now) cursor.old }
+    ensures piece { IfOk result (λ worked. WorksPiece worked cursor.old cursor.new) }
+    ensures none { plan_awaited cursor.old.plan ≡ None → (result ≡ Ok false) × (steps.new ≡ steps.old) }
+    ensures err { OnErr result (plan_pieces cursor.new.plan ≡ plan_pieces cursor.old.plan) }
 {
     let seen = Snapshot {
         reader,

@@ -1,7 +1,9 @@
 //! FETCH and STEP of a cursor.
-ghost use Rattle.std.specs.Prelude.{◌≡◌, ◌≤◌, IfOk, IsSome, OnErr};
+ghost use Rattle.std.specs.Prelude.{◌≡◌, ◌<◌, ◌≤◌, None, IfOk, IsSome, OnErr, OnOk};
 ghost use Rattle.rv_reader.specs.Shown.{Shown};
+ghost use Rattle.rv_join.specs.Pieces.{counted_up, plan_awaited, plan_pieces};
 ghost use Rattle.rv_cursor.specs.Left.{CursorFits, SameCursor, Stays, TakesOffer, left, work};
+ghost use Rattle.rv_cursor.specs.Working.{Beside};
 
 use crate::cursor::{Filled, Open, fill, work_piece};
 use crate::replies::twice;
@@ -28,28 +30,31 @@ fn give(alloc: Global, cursor: &mut Open) -> Result<(Reply, Reply), NoMemory>
 }
 
 /// Up to so many background steps, as long as both sides of some retrieval run. One that finds no memory is the last.
-#[tactic(auto, using(crate::proofs::Holding::stays_itself, crate::proofs::Holding::stays_on))]
+#[tactic(auto, using(crate::proofs::Holding::stays_itself, crate::proofs::Holding::stays_on, crate::proofs::Worked::works_more))]
 fn work_beside<R: Reader>(
     cursor: &mut Open,
     reader: &R,
     judge: &mut Box<dyn Judge>,
     most: u8,
     steps: &mut Steps<R::Ledger>,
-)
+) -> Result<(), NoMemory>
     requires fits { CursorFits (R.shown reader.now) cursor.old }
     ensures stays { Stays (R.shown reader.now) cursor.old cursor.new }
     ensures hand { cursor.new.hand ≡ cursor.old.hand }
     ensures work { work (R.shown reader.now) cursor.new ≤ work (R.shown reader.now) cursor.old }
+    ensures beside { OnOk result (Beside most cursor.old cursor.new) }
 {
-    'pieces: for _ in 0..most {
+    'pieces: for _done in 0..most {
         if !cursor.plan.is_building() {
-            return;
+            return Ok(());
         }
         match work_piece(cursor, reader, judge, steps) {
             Ok(true) => {}
-            Ok(false) | Err(NoMemory) => return,
+            Ok(false) => return Ok(()),
+            Err(NoMemory) => return Err(NoMemory),
         }
     }
+    Ok(())
 }
 
 /// FETCH: a row of those left, none of which comes before it, or End where none is left. Each step of the plan is
@@ -75,13 +80,13 @@ pub fn fetch<R: Reader>(
             Ok(Filled::Ended) => return twice(alloc, Reply::End),
             Err(NoMemory) => return Err(NoMemory),
         }
-        work_beside(cursor, reader, judge, beside, steps);
+        let _beside = work_beside(cursor, reader, judge, beside, steps);
     }
     give(alloc, cursor)
 }
 
 /// STEP: up to `most` background steps; how many there were. There are fewer only where the plan awaits no piece.
-#[tactic(auto, using(crate::proofs::Holding::stays_itself, crate::proofs::Holding::stays_on))]
+#[tactic(auto, using(crate::proofs::Holding::stays_itself, crate::proofs::Holding::stays_on, crate::proofs::Worked::counted_more))]
 pub fn step<R: Reader>(
     cursor: &mut Open,
     reader: &R,
@@ -93,6 +98,8 @@ pub fn step<R: Reader>(
     ensures stays { Stays (R.shown reader.now) cursor.old cursor.new }
     ensures hand { cursor.new.hand ≡ cursor.old.hand }
     ensures most { IfOk result (λ done. done ≤ most) }
+    ensures counted { IfOk result (λ done. plan_pieces cursor.new.plan ≡ counted_up (plan_pieces cursor.old.plan) done) }
+    ensures fewer { IfOk result (λ done. done < most → plan_awaited cursor.new.plan ≡ None) }
 {
     let mut done = 0u64;
     'pieces: while done < most {

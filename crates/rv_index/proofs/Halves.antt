@@ -2,13 +2,13 @@
 use Rattle.std.proofs.Common.{ℕ, zero, suc, ◌+◌, ◌<◌, ◌≤◌, ◌≡◌, List, [], ◌∷◌, length, take, drop, refl, ap, ◌∙◌, arith, length-take, length-drop}
 use Rattle.std.proofs.Common.{true, false, cond, Some}
 use Rattle.std.specs.Prelude.{filter}
+use Rattle.std.specs.List.{insert}
+use Rattle.std.proofs.lemmas.List.Edits.{length-insert}
 use Rattle.rv_value.specs.declared.record.IndexEntry.{IndexEntry}
 use Rattle.rv_reader.specs.Entries.{comes_before}
 use Rattle.rv_node.specs.Nodes.{AreParts, IsNode}
 use Rattle.rv_node.specs.Trees.{placed, differs}
 use Rattle.rv_node.proofs.Lists.{filter_length}
-use Rattle.rv_index.specs.Steps.{HasKid}
-use Rattle.rv_index.proofs.Growing.{kid_length, kid_some, kid_more}
 
 take_none : (n : ℕ) (cs : List ℕ) → cs ≡ [] → take n cs ≡ []
 take_none zero cs e = refl
@@ -46,7 +46,7 @@ right_node level es right_es cs right_cs parts big most e c =
       };
     }
 
-pub length-placed : (e : IndexEntry) (es : List IndexEntry) → length (placed comes_before e es) ≡ length es + 1
+length-placed : (e : IndexEntry) (es : List IndexEntry) → length (placed comes_before e es) ≡ length es + 1
 length-placed e [] = refl
 length-placed e (x ∷ xs) = let more = length-placed e xs in elim (comes_before x e) as (λ b. length (cond b (x ∷ placed comes_before e xs) (e ∷ x ∷ xs)) ≡ length (x ∷ xs) + 1) [ true ↦ omega arith | false ↦ omega arith ]
 
@@ -56,12 +56,12 @@ few_placed e es out o short = let long = ap length o ∙ length-placed e es in o
 pub short_without : (e : IndexEntry) (es out : List IndexEntry) → out ≡ filter (differs comes_before e) es → length es ≤ 32 → length out ≤ 32
 short_without e es out o short = let fewer = filter_length (differs comes_before e) es in let long = ap length o in omega arith
 
-pub kid_parts : (e cut : IndexEntry) (right level : ℕ) (lows : List IndexEntry) (ids : List ℕ) (lows' : List IndexEntry) (ids' : List ℕ) → 0 < level → HasKid e cut right lows ids lows' ids' → length lows ≡ length ids → 0 < length ids → length lows ≤ 32
-    → AreParts level lows' ids' × (length lows' ≤ 33)
-kid_parts e cut right level lows ids lows' ids' pos has same some short =
-    let a = ap length has.lows_are in
-    let b = ap length has.ids_are in
-    let beside = kid_length e (Some (cut, right)) lows ids same in
-    let one = kid_some e (Some (cut, right)) lows ids same some in
-    let more = kid_more e (Some (cut, right)) lows in
-    (record { leaf = λ z. absurd (omega arith); beside = λ p. omega arith; some = λ p. omega arith }, omega arith)
+pub leaf_node : (es : List IndexEntry) (cs : List ℕ) → length es ≤ 32 → cs ≡ [] → IsNode 0 es cs
+leaf_node es cs short none = record { short = short; parts = record { leaf = λ z. none; beside = λ pos. absurd (omega arith); some = λ pos. absurd (omega arith) } }
+
+-- a node with one more child
+pub more_parts : (level at : ℕ) (cut : IndexEntry) (right : ℕ) (lows lows' : List IndexEntry) (ids ids' : List ℕ) → 0 < level → lows' ≡ insert lows at cut → ids' ≡ insert ids at right → length lows ≡ length ids → at ≤ length lows → AreParts level lows' ids'
+more_parts level at cut right lows lows' ids ids' pos l i same within =
+    let a = ap length l ∙ length-insert lows at cut within in
+    let b = ap length i ∙ length-insert ids at right (omega arith) in
+    record { leaf = λ z. absurd (omega arith); beside = λ p. omega arith; some = λ p. omega arith }

@@ -2,5 +2,6 @@ pub mod Descents
 pub mod Facts
 pub mod Growing
 pub mod Halves
+pub mod Places
 pub mod Rooting
 pub mod Starting

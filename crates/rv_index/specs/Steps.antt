@@ -1,13 +1,13 @@
 -- What the steps of an insertion and of a deletion do to the nodes of a commit.
-use Rattle.std.specs.Prelude.{◌≡◌, ℕ, ◌+◌, ◌<◌, ◌≤◌, List, [], ◌∷◌, length, Option, Some, None, take, drop}
+use Rattle.std.specs.Prelude.{◌≡◌, ℕ, suc, ◌+◌, ◌<◌, ◌≤◌, List, [], ◌∷◌, length, Option, Some, None, Bool, if◌then◌else◌, filter, take, drop}
 use Rattle.rv_value.specs.declared.record.IndexEntry.{IndexEntry}
 use Rattle.rv_value.specs.declared.range.Range.{Range}
 use Rattle.rv_reader.specs.Entries.{comes_before}
 use Rattle.rv_reader.specs.Leaves.{is_passed}
 use Rattle.rv_node.specs.Nodes.{Parts}
-use Rattle.rv_node.specs.Trees.{Tree, shrink}
+use Rattle.rv_node.specs.Trees.{Tree, differs, shrink, up_to}
 use Rattle.rv_node.specs.Descent.{leaf_in}
-use Rattle.rv_node.specs.Stored.{tree_at, IsStored, uses, rights, uses_right, RightIs, kid_lows, kid_ids}
+use Rattle.rv_node.specs.Stored.{tree_at, IsStored, uses, rights, uses_right, RightIs}
 use Rattle.rv_versions.specs.Chains.{value_of}
 use Rattle.rv_index.specs.Index.{level_at, Nodes}
 
@@ -20,10 +20,28 @@ pub record IsNodePut (id : ℕ) (node : Parts) (old new : ℕ → Parts) : Type 
   pub here : new id ≡ node
   pub others : (n : ℕ) → (n ≡ id → ⊥) → new n ≡ old n
 
--- low entries and children with a further child behind that of an entry
-pub record HasKid (e cut : IndexEntry) (right : ℕ) (lows : List IndexEntry) (ids : List ℕ) (lows' : List IndexEntry) (ids' : List ℕ) : Type 0 where
-  pub lows_are : lows' ≡ kid_lows e (Some (cut, right)) lows
-  pub ids_are : ids' ≡ kid_ids e (Some (cut, right)) lows ids
+-- all nodes but one are as they were
+abbrev pub AreOthersSame : ℕ → (ℕ → Parts) → (ℕ → Parts) → Type 0
+AreOthersSame id old new = (n : ℕ) → (n ≡ id → ⊥) → new n ≡ old n
+
+-- lists that are the parts of a node
+pub record HasParts (node : Parts) (entries : List IndexEntry) (children : List ℕ) : Type 0 where
+  pub entries_are : entries ≡ node.entries
+  pub children_are : children ≡ node.children
+  pub short : length entries ≤ 32
+
+-- how many of the first entries a descent goes past
+abbrev pub passed_first : (IndexEntry → Bool) → List IndexEntry → ℕ
+passed_first goes [] = 0
+passed_first goes (low ∷ lows) = if goes low then suc (passed_first goes lows) else 0
+
+-- the place behind the child of an entry: the first child's low entry is not looked at
+abbrev pub behind_child : IndexEntry → List IndexEntry → ℕ
+behind_child e lows = suc (passed_first (up_to comes_before e) (drop 1 lows))
+
+-- a leaf without an entry
+abbrev pub leaf_without : IndexEntry → Parts → Parts
+leaf_without e node = record { level = 0; entries = filter (differs comes_before e) node.entries; children = [] }
 
 -- a node stored in one or two halves, the second under a new id
 abbrev pub IsHalved : ℕ → ℕ → ℕ → List IndexEntry → List ℕ → Option (IndexEntry × ℕ) → (ℕ → Parts) → Type 0

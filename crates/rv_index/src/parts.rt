@@ -1,10 +1,10 @@
-ghost use Rattle.std.specs.Prelude.{◌≡◌, ◌<◌, ◌≤◌, ◌++◌, length, filter, take, drop, min, IfOk, OnOk};
+ghost use Rattle.std.specs.Prelude.{◌≡◌, ◌<◌, ◌≤◌, length, filter, take, drop, None, IfOk, OnOk};
 ghost use Rattle.std.specs.Option.{option_copied};
 ghost use Rattle.rv_reader.specs.Entries.{comes_before};
 ghost use Rattle.rv_reader.specs.Leaves.{is_passed, is_wanted, within};
 ghost use Rattle.rv_node.specs.Descent.{child_in};
-ghost use Rattle.rv_node.specs.Trees.{differs, placed};
-ghost use Rattle.rv_index.specs.Steps.{HasKid};
+ghost use Rattle.rv_node.specs.Trees.{differs, placed, up_to};
+ghost use Rattle.rv_index.specs.Steps.{behind_child, passed_first};
 
 use rv_node::Node;
 use rv_value::{Duplicate, IndexEntry, NoMemory, Range, Side, cmp_entry};
@@ -99,81 +99,63 @@ pub fn child_of<'a>(
     (id, next)
 }
 
-/// Puts copies of items at the end of a list.
-fn push_copies<X: Duplicate>(alloc: Global, out: &mut Vec<X>, items: &[X]) -> Result<(), NoMemory>
-    ensures { OnOk result (out.new.items ≡ out.old.items ++ items.now) }
+/// The place of an entry: behind all that come before it, up to the first that does not.
+fn place_of(entries: &[IndexEntry], entry: &IndexEntry) -> usize
+    ensures within { result ≤ length entries.now }
+    ensures place { result ≡ passed_first (λ x. comes_before x entry.now) entries.now }
 {
-    'items: for item in items {
-        out.push(item.copy(alloc)?)?;
+    let mut at = 0;
+    'past: while at < entries.len() && is_less(&entries[at], entry) {
+        at += 1;
     }
+    at
+}
+
+/// Puts an entry into its place.
+pub fn put_entry(entries: &mut Vec<IndexEntry>, entry: IndexEntry) -> Result<(), NoMemory>
+    ensures { OnOk result (entries.new.items ≡ placed comes_before entry entries.old.items) }
+{
+    let at = place_of(entries.as_slice(), &entry);
+    entries.insert(at, entry)?;
     Ok(())
 }
 
-/// The entries with one more, in its place.
-pub fn with_entry(
-    alloc: Global,
-    entries: &[IndexEntry],
-    entry: &IndexEntry,
-) -> Result<Vec<IndexEntry>, NoMemory>
-    ensures { IfOk result (λ out. out.items ≡ placed comes_before entry.now entries.now) }
+/// Whether an entry is another one than a given one.
+fn is_other(entry: &IndexEntry, given: &IndexEntry) -> bool
+    ensures { result ≡ differs comes_before given.now entry.now }
 {
-    let mut out = Vec::new(alloc);
-    let mut at = 0;
-    'past: while at < entries.len() && is_less(&entries[at], entry) {
-        out.push(entries[at].copy(alloc)?)?;
-        at += 1;
-    }
-    out.push(entry.copy(alloc)?)?;
-    push_copies(alloc, &mut out, &entries[at..])?;
-    Ok(out)
+    is_less(entry, given) || is_less(given, entry)
 }
 
-/// The entries without one.
-pub fn without_entry(
-    alloc: Global,
-    entries: &[IndexEntry],
-    entry: &IndexEntry,
-) -> Result<Vec<IndexEntry>, NoMemory>
-    ensures { IfOk result (λ out. out.items ≡ filter (differs comes_before entry.now) entries.now) }
+/// Takes an entry out.
+pub fn take_entry(entries: &mut Vec<IndexEntry>, entry: &IndexEntry)
+    ensures { entries.new.items ≡ filter (differs comes_before entry.now) entries.old.items }
 {
-    let mut out = Vec::new(alloc);
-    'entries: for x in entries {
-        if is_less(x, entry) || is_less(entry, x) {
-            out.push(x.copy(alloc)?)?;
-        }
-    }
-    Ok(out)
+    entries.retain(|other| is_other(other, entry));
 }
 
-/// The low entries and the children with one more, behind the child of an entry.
-pub fn with_kid(
-    alloc: Global,
-    node: &Node,
-    entry: &IndexEntry,
-    cut: &IndexEntry,
-    right: u32,
-) -> Result<(Vec<IndexEntry>, Vec<u32>), NoMemory>
-    requires same { length node.now.entries ≡ length node.now.children }
-    requires some { 0 < length node.now.children }
-    ensures { IfOk result (λ out. HasKid entry.now cut.now right node.now.entries node.now.children out.0.items out.1.items) }
+/// The place behind the child of an entry.
+fn place_behind(lows: &[IndexEntry], entry: &IndexEntry) -> usize
+    requires { 0 < length lows.now }
+    ensures within { result ≤ length lows.now }
+    ensures behind { result ≡ behind_child entry.now lows.now }
 {
-    let lows = node.entries();
-    let ids = node.children();
-    let mut out = Vec::new(alloc);
-    let mut kids = Vec::new(alloc);
-    out.push(lows[0].copy(alloc)?)?;
-    kids.push(ids[0])?;
     let mut at = 1;
     'past: while at < lows.len() && !is_less(entry, &lows[at]) {
-        out.push(lows[at].copy(alloc)?)?;
-        kids.push(ids[at])?;
         at += 1;
     }
-    out.push(cut.copy(alloc)?)?;
-    kids.push(right)?;
-    push_copies(alloc, &mut out, &lows[at..])?;
-    push_copies(alloc, &mut kids, &ids[at..])?;
-    Ok((out, kids))
+    at
+}
+
+/// The child of an entry, and the place behind it.
+pub fn child_for(node: &Node, entry: &IndexEntry) -> (u32, usize)
+    requires same { length node.now.entries ≡ length node.now.children }
+    requires some { 0 < length node.now.children }
+    ensures child { result.0 ≡ (child_in (up_to comes_before entry.now) node.now.entries node.now.children None).0 }
+    ensures place { result.1 ≡ behind_child entry.now node.now.entries }
+{
+    let at = place_behind(node.entries(), entry);
+    (node.children()[at - 1], at)
 }
 
 /// Cuts a list after its first 16 items, and gives the rest.

@@ -1,17 +1,17 @@
 ghost use Rattle.std.specs.Prelude.{◌≡◌, ℕ, ◌+◌, ◌-◌, ◌<◌, ◌≤◌, [], ◌∷◌, length, IfOk, OnOk, OnErr, Some, None, unwrap_or, filter, slice_index_or, ◌==◌};
 ghost use Rattle.std.specs.Option.{option_copied};
+ghost use Rattle.std.specs.List.{insert};
 ghost use Rattle.rv_reader.specs.Entries.{comes_before, AreLong};
 ghost use Rattle.rv_reader.specs.Leaves.{is_wanted, IsChunk};
 ghost use Rattle.rv_versions.specs.Chains.{value_of, versions_to, AllChainsBelow};
 ghost use Rattle.rv_node.specs.Nodes.{empty_node, AreParts};
 ghost use Rattle.rv_node.specs.Descent.{child_in};
 ghost use Rattle.rv_node.specs.Sound.{Absent};
-ghost use Rattle.rv_node.specs.Stored.{kid_ids, kid_lows};
-ghost use Rattle.rv_node.specs.Trees.{differs, grow, placed, up_to};
+ghost use Rattle.rv_node.specs.Trees.{grow, placed, up_to};
 ghost use Rattle.rv_index.specs.Index.{cuts_of, entries_of, level_at, nodes_at, IsDeleted, IsInserted, IsNew, IsOlderSame, IsOwn, IsSound};
-ghost use Rattle.rv_index.specs.Steps.{leaf_of, shrunken, HasKid, IsGrown, IsNodePut, IsOlderKept, IsRaised, IsStoredIn};
+ghost use Rattle.rv_index.specs.Steps.{behind_child, leaf_of, leaf_without, shrunken, AreOthersSame, HasParts, IsGrown, IsNodePut, IsOlderKept, IsRaised, IsStoredIn};
 
-use crate::parts::{child_of, cut_off, next_cut, wanted_of, with_entry, with_kid, without_entry};
+use crate::parts::{child_for, child_of, cut_off, next_cut, put_entry, take_entry, wanted_of};
 use rv_node::Node;
 use rv_reader::Chunk;
 use rv_value::{Duplicate, IndexEntry, Items, NoMemory, Range};
@@ -213,82 +213,68 @@ impl Tree {
         Ok(Some((cut, right)))
     }
 
-    /// The entries of a leaf with one more.
-    fn leaf_with(
-        &self,
-        id: u32,
-        entry: &IndexEntry,
-        commit: u64,
-    ) -> Result<Vec<IndexEntry>, NoMemory>
-        ensures with { IfOk result (λ out. out.items ≡ placed comes_before entry.now (nodes_at self.now commit id).entries) }
-        ensures few { IfOk result (λ out. length out.items ≤ 33) }
+    /// Copies of the parts of a node.
+    fn copy_parts(&self, id: u32, commit: u64) -> Result<(Vec<IndexEntry>, Vec<u32>), NoMemory>
+        ensures { IfOk result (λ parts. HasParts (nodes_at self.now commit id) parts.0.items parts.1.items) }
     {
-        match self.nodes.read(id, commit) {
-            Some(node) => with_entry(self.alloc, node.entries(), entry),
-            None => with_entry(self.alloc, &[], entry),
+        Ok(self.copy_of(id, commit)?.into_parts())
+    }
+
+    /// The parts of a node, for another node that is to be written in its place: those of a node that the commit wrote
+    /// itself, which is taken out, or copies of an older node's.
+    fn take_parts(&mut self, id: u32, commit: u64) -> Result<(Vec<IndexEntry>, Vec<u32>), NoMemory>
+        requires { AllChainsBelow (commit + 1) self.old }
+        ensures len { length self.new ≡ length self.old }
+        ensures parts { IfOk result (λ parts. HasParts (nodes_at self.old commit id) parts.0.items parts.1.items) }
+        ensures others { AreOthersSame id (nodes_at self.old commit) (nodes_at self.new commit) }
+        ensures older { IsOlderKept commit self.old self.new }
+        ensures newest { AllChainsBelow (commit + 1) self.new }
+    {
+        match self.nodes.take(id, commit) {
+            Some(node) => Ok(node.into_parts()),
+            None => self.copy_parts(id, commit),
         }
     }
 
     fn grow_leaf(
         &mut self,
         id: u32,
-        entry: &IndexEntry,
+        entry: IndexEntry,
         commit: u64,
     ) -> Result<Option<(IndexEntry, u32)>, NoMemory>
         requires there { id < length self.old }
         requires newest { AllChainsBelow (commit + 1) self.old }
-        ensures ok { IfOk result (λ r. IsStoredIn (length self.old) (length self.new) 0 id (placed comes_before entry.now (nodes_at self.old commit id).entries) [] r (nodes_at self.old commit) (nodes_at self.new commit)) }
+        ensures ok { IfOk result (λ r. IsStoredIn (length self.old) (length self.new) 0 id (placed comes_before entry (nodes_at self.old commit id).entries) [] r (nodes_at self.old commit) (nodes_at self.new commit)) }
         ensures grows { length self.old ≤ length self.new }
         ensures older { IsOlderKept commit self.old self.new }
         ensures newest { AllChainsBelow (commit + 1) self.new }
     {
-        let entries = self.leaf_with(id, entry, commit)?;
+        let (mut entries, _none) = self.take_parts(id, commit)?;
+        put_entry(&mut entries, entry)?;
         let none = Vec::new(self.alloc);
         self.store(id, 0, entries, none, commit)
     }
 
-    /// The child that an entry belongs to.
-    fn kid(&self, id: u32, entry: &IndexEntry, commit: u64) -> u32
+    /// The child that an entry belongs to, and the place behind it.
+    fn kid(&self, id: u32, entry: &IndexEntry, commit: u64) -> (u32, usize)
         requires same { length (nodes_at self.now commit id).entries ≡ length (nodes_at self.now commit id).children }
         requires some { 0 < length (nodes_at self.now commit id).children }
-        ensures { result ≡ (child_in (up_to comes_before entry.now) (nodes_at self.now commit id).entries (nodes_at self.now commit id).children None).0 }
+        ensures kid { result.0 ≡ (child_in (up_to comes_before entry.now) (nodes_at self.now commit id).entries (nodes_at self.now commit id).children None).0 }
+        ensures place { result.1 ≡ behind_child entry.now (nodes_at self.now commit id).entries }
     {
-        let whole = Range {
-            low: None,
-            high: None,
-            starts: false,
-        };
         match self.nodes.read(id, commit) {
-            Some(node) => child_of(node, Some(entry), &whole, None).0,
+            Some(node) => child_for(node, entry),
             None => unreachable!(),
         }
     }
 
-    /// The low entries and the children of a node with one more.
-    fn kids_with(
-        &self,
-        id: u32,
-        entry: &IndexEntry,
-        cut: &IndexEntry,
-        right: u32,
-        commit: u64,
-    ) -> Result<(Vec<IndexEntry>, Vec<u32>), NoMemory>
-        requires same { length (nodes_at self.now commit id).entries ≡ length (nodes_at self.now commit id).children }
-        requires some { 0 < length (nodes_at self.now commit id).children }
-        ensures { IfOk result (λ out. HasKid entry.now cut.now right (nodes_at self.now commit id).entries (nodes_at self.now commit id).children out.0.items out.1.items) }
-    {
-        match self.nodes.read(id, commit) {
-            Some(node) => with_kid(self.alloc, node, entry, cut, right),
-            None => unreachable!(),
-        }
-    }
-
+    /// A further child at a place of a node.
     fn grow_kids(
         &mut self,
         id: u32,
         level: u32,
-        entry: &IndexEntry,
-        cut: &IndexEntry,
+        at: usize,
+        cut: IndexEntry,
         right: u32,
         commit: u64,
     ) -> Result<Option<(IndexEntry, u32)>, NoMemory>
@@ -296,16 +282,18 @@ impl Tree {
         requires newest { AllChainsBelow (commit + 1) self.old }
         requires inner { 0 < level }
         requires same { length (nodes_at self.old commit id).entries ≡ length (nodes_at self.old commit id).children }
-        requires some { 0 < length (nodes_at self.old commit id).children }
+        requires within { at ≤ length (nodes_at self.old commit id).entries }
         requires short { length (nodes_at self.old commit id).entries ≤ 32 }
         ensures ok { IfOk result (λ r. IsStoredIn (length self.old) (length self.new) level id
-            (kid_lows entry.now (Some (cut.now, right)) (nodes_at self.old commit id).entries)
-            (kid_ids entry.now (Some (cut.now, right)) (nodes_at self.old commit id).entries (nodes_at self.old commit id).children) r (nodes_at self.old commit) (nodes_at self.new commit)) }
+            (insert (nodes_at self.old commit id).entries at cut)
+            (insert (nodes_at self.old commit id).children at right) r (nodes_at self.old commit) (nodes_at self.new commit)) }
         ensures grows { length self.old ≤ length self.new }
         ensures older { IsOlderKept commit self.old self.new }
         ensures newest { AllChainsBelow (commit + 1) self.new }
     {
-        let (entries, children) = self.kids_with(id, entry, cut, right, commit)?;
+        let (mut entries, mut children) = self.take_parts(id, commit)?;
+        entries.insert(at, cut)?;
+        children.insert(at, right)?;
         self.store(id, level, entries, children, commit)
     }
 
@@ -314,12 +302,12 @@ impl Tree {
         &mut self,
         id: u32,
         level: u32,
-        entry: &IndexEntry,
+        entry: IndexEntry,
         commit: u64,
     ) -> Result<Option<(IndexEntry, u32)>, NoMemory>
         requires own { IsOwn (length self.old) level id (nodes_at self.old commit) }
         requires newest { AllChainsBelow (commit + 1) self.old }
-        ensures ok { IfOk result (λ r. IsGrown (length self.old) (length self.new) level id (grow level comes_before entry.now) r (nodes_at self.old commit) (nodes_at self.new commit)) }
+        ensures ok { IfOk result (λ r. IsGrown (length self.old) (length self.new) level id (grow level comes_before entry) r (nodes_at self.old commit) (nodes_at self.new commit)) }
         ensures grows { length self.old ≤ length self.new }
         ensures older { IsOlderKept commit self.old self.new }
         ensures newest { AllChainsBelow (commit + 1) self.new }
@@ -327,10 +315,10 @@ impl Tree {
         if level == 0 {
             return self.grow_leaf(id, entry, commit);
         }
-        let kid = self.kid(id, entry, commit);
+        let (kid, behind) = self.kid(id, &entry, commit);
         match self.grow(kid, level - 1, entry, commit)? {
             None => Ok(None),
-            Some((cut, right)) => self.grow_kids(id, level, entry, &cut, right, commit),
+            Some((cut, right)) => self.grow_kids(id, level, behind, cut, right, commit),
         }
     }
 
@@ -383,26 +371,24 @@ impl Tree {
         if level == u32::MAX {
             return Err(NoMemory);
         }
-        match self.grow(0, level, &entry, commit)? {
+        match self.grow(0, level, entry, commit)? {
             None => Ok(()),
             Some((cut, right)) => self.raise(level, cut, right, commit),
         }
     }
 
-    /// The entries of a leaf without one.
-    fn leaf_without(
-        &self,
-        id: u32,
-        entry: &IndexEntry,
-        commit: u64,
-    ) -> Result<Vec<IndexEntry>, NoMemory>
-        ensures without { IfOk result (λ out. out.items ≡ filter (differs comes_before entry.now) (nodes_at self.now commit id).entries) }
-        ensures short { IfOk result (λ out. length out.items ≤ 32) }
+    fn shrink_leaf(&mut self, id: u32, entry: &IndexEntry, commit: u64) -> Result<(), NoMemory>
+        requires there { id < length self.old }
+        requires newest { AllChainsBelow (commit + 1) self.old }
+        ensures len { length self.new ≡ length self.old }
+        ensures ok { OnOk result (IsNodePut id (leaf_without entry.now (nodes_at self.old commit id)) (nodes_at self.old commit) (nodes_at self.new commit)) }
+        ensures older { IsOlderKept commit self.old self.new }
+        ensures newest { AllChainsBelow (commit + 1) self.new }
     {
-        match self.nodes.read(id, commit) {
-            Some(node) => without_entry(self.alloc, node.entries(), entry),
-            None => without_entry(self.alloc, &[], entry),
-        }
+        let (mut entries, _none) = self.take_parts(id, commit)?;
+        take_entry(&mut entries, entry);
+        let none = Vec::new(self.alloc);
+        self.replace(id, Node::make(0, entries, none), commit)
     }
 
     /// Takes an entry away below a node.
@@ -421,11 +407,9 @@ impl Tree {
         ensures newest { AllChainsBelow (commit + 1) self.new }
     {
         if level == 0 {
-            let entries = self.leaf_without(id, entry, commit)?;
-            let none = Vec::new(self.alloc);
-            return self.replace(id, Node::make(0, entries, none), commit);
+            return self.shrink_leaf(id, entry, commit);
         }
-        let kid = self.kid(id, entry, commit);
+        let (kid, _behind) = self.kid(id, entry, commit);
         self.shrink(kid, level - 1, entry, commit)
     }
 

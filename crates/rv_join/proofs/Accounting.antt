@@ -10,6 +10,8 @@ use Rattle.rv_join.specs.declared.places.Asked.{Asked}
 use Rattle.rv_join.specs.declared.level.Level.{Level}
 use Rattle.rv_join.specs.Levels.{StackFits, Stacked, first_in, first_of, is_last, used}
 use Rattle.rv_join.specs.Moves.{Rises}
+use Rattle.rv_join.specs.Rules.{SamePlans}
+use Rattle.rv_join.proofs.Numbers.{rules_stay}
 use Rattle.rv_join.specs.Plans.{AreReads, HoldsGood, PlanFits, Planned, RisesAlone, plan_trace, reads_with}
 
 no_levels : {A : Type 0} (xs : List A) → length xs ≡ 0 → xs ≡ []
@@ -60,9 +62,10 @@ plan_rises old mid new before after reads same = rw (same, reads) (record { page
 pub good_counted : (shown : Shown) (old new : Planned) (before after : Counts) → HoldsGood shown old → new ≡ record old { reads = reads_with old.reads before after } → HoldsGood shown new
 good_counted shown old new before after holds same = rw same (record { can = holds.can; stack = holds.stack; ordered = holds.ordered; led = holds.led; sorted = holds.sorted })
 
-pub fits_counted : (shown : Shown) (old mid new : Planned) (before after : Counts) → PlanFits shown old → HoldsGood shown mid → RisesAlone old mid before after → mid.reads ≡ old.reads → mid.asked ≡ old.asked → new ≡ record mid { reads = reads_with mid.reads before after } → (after ≡ before → new ≡ mid) → PlanFits shown new
-fits_counted shown old mid new before after fits holds rises reads asked same none = record {
+pub fits_counted : (shown : Shown) (old mid new : Planned) (before after : Counts) → PlanFits shown old → HoldsGood shown mid → RisesAlone old mid before after → mid.reads ≡ old.reads → mid.asked ≡ old.asked → SamePlans (first_of old.stack).here (first_of mid.stack).here → new ≡ record mid { reads = reads_with mid.reads before after } → (after ≡ before → new ≡ mid) → PlanFits shown new
+fits_counted shown old mid new before after fits holds rises reads asked plans same none = record {
   holds = good_counted shown mid new before after holds same;
+  rules = rw same (rules_stay shown (first_of old.stack).here (first_of mid.stack).here plans fits.rules);
   counted = λ one. counts (subst (λ (a : Asked). length a.items ≡ 1) (ap (λ (p : Planned). p.asked) same ∙ asked) one);
 }
   where

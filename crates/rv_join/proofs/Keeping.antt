@@ -7,19 +7,21 @@ use Rattle.rv_judge.specs.Runs.{Allowed}
 use Rattle.rv_retrieval.specs.Runs.{Tells, indexes_asked}
 use Rattle.rv_retrieval.specs.Shape.{RetrievalFits}
 use Rattle.rv_retrieval.proofs.Tellings.{allowed}
-use Rattle.rv_retrieval.specs.Telling.{CountsRise, SameCounts}
+use Rattle.rv_retrieval.specs.Telling.{SameCounts}
 use Rattle.rv_join.specs.declared.places.Asked.{Asked}
 use Rattle.rv_join.specs.declared.level.Level.{Level}
 use Rattle.rv_join.specs.declared.plan.PlanStep.{PlanStep}
 use Rattle.rv_join.specs.Asking.{item_at}
 use Rattle.rv_join.specs.Levels.{AllFit, LevelFits, Stacked, StackFits, first_in, first_of}
-use Rattle.rv_join.specs.Moves.{StackStays}
+use Rattle.rv_join.specs.Moves.{Rises, StackStays}
 use Rattle.rv_join.specs.Pieces.{level_at}
 use Rattle.rv_join.specs.Plans.{AreReads, HoldsGood, PlanFits, PlanKept, PlanMoves, PlanStays, Planned, RisesAlone, numbers_of, plan_trace, plan_work, rest_at, work_at}
 use Rattle.rv_join.specs.Work.{loops_work}
 use Rattle.rv_join.specs.declared.gather.Stage.{Stage}
 use Rattle.rv_join.specs.declared.gather.Stage.TheVariants.{AsFound, Gathering, Giving}
+use Rattle.rv_join.specs.Rules.{SamePlans}
 use Rattle.rv_join.proofs.Accounting.{alone_above}
+use Rattle.rv_join.proofs.Numbers.{rules_stay}
 use Rattle.rv_join.proofs.Working.{none_le, same_le}
 
 -- The retrieval of a place.
@@ -62,9 +64,10 @@ stays_good shown old new holds stays same = rw same (record {
 same_reads : (t u : Trace) (reads : Counts) → AreReads t reads → SameCounts t u → AreReads u reads
 same_reads t u reads are same = record { pages = are.pages ∙ sym same.pages; leaves = are.leaves ∙ sym same.leaves; fetches = are.fetches ∙ sym same.fetches }
 
-pub given_fits : (shown : Shown) (old new : Planned) (i : ℕ) → PlanFits shown old → StackStays old.asked shown old.stack new.stack → SameCounts (level_at old.stack i).here.trace (level_at new.stack i).here.trace → new ≡ record old { stack = new.stack } → PlanFits shown new
-given_fits shown old new i fits stays counts same = record {
+pub given_fits : (shown : Shown) (old new : Planned) (i : ℕ) → PlanFits shown old → StackStays old.asked shown old.stack new.stack → SameCounts (level_at old.stack i).here.trace (level_at new.stack i).here.trace → SamePlans (first_of old.stack).here (first_of new.stack).here → new ≡ record old { stack = new.stack } → PlanFits shown new
+given_fits shown old new i fits stays counts plans same = record {
   holds = stays_good shown old new fits.holds stays same;
+  rules = rules_stay shown (first_of old.stack).here (first_of new.stack).here plans fits.rules;
   counted = λ one. reads_same (subst (λ (a : Asked). length a.items ≡ 1) (ap (λ (p : Planned). p.asked) same) one);
 }
   where
@@ -76,11 +79,15 @@ given_fits shown old new i fits stays counts same = record {
         let here = subst (λ (l : Level). SameCounts (first_of old.stack).here.trace l.here.trace) after there in
         subst (AreReads (first_of new.stack).here.trace) (sym (ap (λ (p : Planned). p.reads) same)) (same_reads (first_of old.stack).here.trace (first_of new.stack).here.trace old.reads (fits.counted one) here)
 
-pub taken_rises : (shown : Shown) (old new : Planned) (i : ℕ) (before after : Counts) → HoldsGood shown old → StackStays old.asked shown old.stack new.stack → CountsRise (level_at old.stack i).here.trace (level_at new.stack i).here.trace before after → RisesAlone old new before after
+pub taken_rises : (shown : Shown) (old new : Planned) (i : ℕ) (before after : Counts) → HoldsGood shown old → StackStays old.asked shown old.stack new.stack → Rises (level_at old.stack i).here (level_at new.stack i).here before after → RisesAlone old new before after
 taken_rises shown old new i before after holds stays rise one =
     let first = alone_level old.stack i (alone_above old.asked shown old.stack holds.stack one) in
     let last = alone_level new.stack i (alone_above old.asked shown new.stack stays.fits one) in
-    inl (subst (λ (l : Level). CountsRise (first_of old.stack).here.trace l.here.trace before after) last (subst (λ (l : Level). CountsRise l.here.trace (level_at new.stack i).here.trace before after) first rise))
+    subst (λ (l : Level). Rises (first_of old.stack).here l.here before after) last (subst (λ (l : Level). Rises l.here (level_at new.stack i).here before after) first rise)
+
+-- nothing was called
+pub still_stays : (a : Asked) (shown : Shown) (v : Stacked) → StackFits a shown v → StackStays a shown v v
+still_stays a shown v fits = record { fits = fits; work = same_le (loops_work a shown v); bag = refl; led = λ led. led }
 
 less_at : (s : Stage) (n m : ℕ) → n ≤ m → work_at s n ≤ work_at s m
 less_at AsFound n m h = h

@@ -13,3 +13,5 @@ pub mod Running
 pub mod Beginning
 pub mod Accounting
 pub mod Keeping
+pub mod Numbers
+pub mod OneItem

@@ -16,6 +16,7 @@ use Rattle.rv_join.specs.declared.plan.PlanStep.{PlanStep}
 use Rattle.rv_join.specs.declared.plan.PlanStep.TheVariants.{Row, End, Working}
 use Rattle.rv_join.specs.Asking.{Asks, CanRun, by_index}
 use Rattle.rv_join.specs.Levels.{Stacked, StackFits, bag, first_of}
+use Rattle.rv_join.specs.Rules.{IsByRules}
 use Rattle.rv_join.specs.Work.{loops_work}
 use Rattle.rv_join.specs.Moves.{Kept, Rises}
 use Rattle.rv_join.specs.declared.stack.Moved.{Moved}
@@ -86,9 +87,11 @@ pub record HoldsGood (shown : Shown) (p : Planned) : Type 0 where
   pub led : p.stage ≡ AsFound → Led p.asked shown p.stack
   pub sorted : p.stage ≡ Giving → IsSortedBy before p.gathered
 
--- Over one FROM item its counts are those of the one retrieval, too.
+-- The strategy and the planned scans of the first item's retrieval are those of the five rules. Over one FROM item its
+-- counts are those of the one retrieval, too.
 pub record PlanFits (shown : Shown) (p : Planned) : Type 0 where
   pub holds : HoldsGood shown p
+  pub rules : IsByRules shown (first_of p.stack).here
   pub counted : length p.asked.items ≡ 1 → AreReads (first_of p.stack).here.trace p.reads
 
 -- over one FROM item a call of the one retrieval was made, or none was

@@ -2,7 +2,9 @@
 ghost use Rattle.std.specs.Prelude.{◌≡◌, ◌<◌, List, [], ◌∷◌, ◌++◌, length, reverse, IfOk, OnOk, OnErr};
 ghost use Rattle.std.specs.List.Sorted.{IsPermutation, IsSortedBy};
 ghost use Rattle.rv_value.specs.Order.{values_cmp};
+ghost use Rattle.rv_join.specs.Alone.{GatherSpends, StepsOnce, level_effort};
 ghost use Rattle.rv_join.specs.Asking.{CanRun};
+ghost use Rattle.rv_join.specs.Rules.{SamePlans};
 ghost use Rattle.rv_join.specs.Levels.{StackFits, first_of};
 ghost use Rattle.rv_join.specs.Moves.{Kept, Rises};
 ghost use Rattle.rv_join.specs.Order.{before};
@@ -78,7 +80,7 @@ impl Gathered {
 
     /// One step of nested loops, whose combination, if it gives one, is put to those gathered. The answer is whether all
     /// are gathered.
-    #[tactic(auto, using(crate::proofs::Planning::gathered_more, crate::proofs::Planning::moving_more))]
+    #[tactic(auto, using(crate::proofs::Planning::gathered_more, crate::proofs::Planning::moving_more, crate::proofs::OneItem::no_call, crate::proofs::OneItem::plans_stay))]
     pub fn gather<R: Reader>(
         &mut self,
         alloc: Global,
@@ -92,6 +94,9 @@ impl Gathered {
         requires fits { StackFits asked.now (R.shown reader.now) stack.old }
         ensures gathers { IfOk result (λ all. Gathers all asked.now (R.shown reader.now) stack.old self.old stack.new self.new) }
         ensures alone { length asked.now.items ≡ 1 → Rises (first_of stack.old).here (first_of stack.new).here steps.old steps.new }
+        ensures once { length asked.now.items ≡ 1 → StepsOnce (would judge.old) (state judge.old) (state judge.new) (R.shown reader.now) steps.old steps.new stack.old.at stack.new.at }
+        ensures spends { length asked.now.items ≡ 1 → IfOk result (λ all. GatherSpends all steps.old steps.new (level_effort (R.shown reader.now) stack.old.at) (level_effort (R.shown reader.now) stack.new.at)) }
+        ensures plans { SamePlans (first_of stack.old).here (first_of stack.new).here }
         ensures kept { OnErr result (Kept asked.now (R.shown reader.now) stack.old stack.new) }
         ensures same { OnErr result (self.new ≡ self.old) }
     {

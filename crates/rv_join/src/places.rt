@@ -4,6 +4,9 @@ ghost use Rattle.std.specs.List.{list_all, list_any};
 ghost use Rattle.rv_restrict.specs.Bind.{can_bind};
 ghost use Rattle.rv_restrict.specs.Groups.{groups_of};
 ghost use Rattle.rv_restrict.specs.Parts.{stands_among};
+ghost use Rattle.rv_judge.specs.Counting.{reads};
+ghost use Rattle.rv_retrieval.specs.Effort.{effort, life_of};
+ghost use Rattle.rv_retrieval.specs.Short.{OnlyLeaves, Settled, fetches_left, has_short};
 ghost use Rattle.rv_retrieval.specs.Opened.{Opened};
 ghost use Rattle.rv_retrieval.specs.Telling.{CountsAll};
 ghost use Rattle.rv_join.specs.Asking.{Adds, AreWide, Asks, CanPlan, CanRun, IsAsked, IsItem, OpensItem, atom_names, by_index, col_at, columns_of, goal_of, group_names, indexes_from, is_first, item_at, only_names, operand_names, order_at, same_column, select_uses, table_at};
@@ -351,6 +354,9 @@ pub fn open_item<R: Reader>(
     ensures opens { IfOk result (OpensItem asked.now (R.shown reader.now) outer.now) }
     ensures opened { IfOk result (λ v. Opened v.query (R.shown reader.now) asked.now.cursor opening v) }
     ensures counts { IfOk result (λ v. CountsAll v.trace steps.old steps.new) }
+    ensures life { IfOk result (λ v. reads steps.new + effort v (R.shown reader.now) ≤ reads steps.old + life_of v.query (R.shown reader.now)) }
+    ensures short { IfOk result (λ v. has_short v.query (R.shown reader.now) ≡ true → Settled v × (fetches_left v (R.shown reader.now) ≤ 20)) }
+    ensures only { OnlyLeaves steps.old steps.new }
 {
     let query = query(alloc, asked, outer)?;
     Retrieval::open(alloc, reader, query, asked.cursor, opening, steps)

@@ -1,5 +1,5 @@
 //! Plans: what they keep, and how one is opened.
-ghost use Rattle.std.specs.Prelude.{◌≡◌, ◌<◌, ◌≤◌, ◌^◌, length, Ok, Option, IfOk, OnOk, OnErr};
+ghost use Rattle.std.specs.Prelude.{◌≡◌, ◌+◌, ◌<◌, ◌≤◌, ◌^◌, [], length, true, None, Ok, Option, IfOk, OnOk, OnErr};
 ghost use Rattle.std.specs.List.Sorted.{IsPermutation};
 ghost use Rattle.rv_judge.specs.Runs.{Allowed};
 ghost use Rattle.rv_reader.specs.Shown.{Shown};
@@ -9,12 +9,18 @@ ghost use Rattle.rv_retrieval.specs.Shape.{RetrievalFits};
 ghost use Rattle.rv_retrieval.specs.Telling.{CountsAll, CountsRise, SameCounts};
 ghost use Rattle.rv_jscan.specs.declared.piece.PieceId.{PieceId as Id};
 ghost use Rattle.rv_jscan.specs.declared.jscan.Given.{Given as TheGiven};
+ghost use Rattle.rv_judge.specs.Counting.{reads};
+ghost use Rattle.rv_retrieval.specs.Effort.{GiveSpends};
+ghost use Rattle.rv_retrieval.specs.Short.{OnlyLeaves, Settled, fetches_left, has_short};
+ghost use Rattle.rv_join.specs.Alone.{GatherSpends, MovedSpends, Spends, StepsOnce, TakesOnce, level_effort, plan_effort, plan_life};
+ghost use Rattle.rv_join.specs.Rules.{SamePlans};
 ghost use Rattle.rv_join.specs.Asking.{Asks, CanPlan, CanRun, IsAsked, item_at};
 ghost use Rattle.rv_join.specs.Levels.{StackFits, first_of, table_rows};
 ghost use Rattle.rv_join.specs.Moves.{Kept, Moves, Rises, StackStays, Starts};
 ghost use Rattle.rv_model.specs.Offering.{offers_over};
 ghost use Rattle.rv_join.specs.Work.{row_cost};
-ghost use Rattle.rv_join.specs.Pieces.{level_at, plan_awaited, stack_builds, waits};
+ghost use Rattle.rv_retrieval.specs.Given.{awaited};
+ghost use Rattle.rv_join.specs.Pieces.{CountsPiece, StackAwaits, level_at, plan_awaited, plan_pieces, stack_builds, waits};
 ghost use Rattle.rv_join.specs.Plans.{AreReads, Gathers, Gives, LeadsWith, PlanFits, Sorts, numbers_of, plan_rest, plan_trace, plan_work, reads_with, stage_of};
 
 use crate::gather::{Gathered, Stage};
@@ -91,7 +97,7 @@ impl Plan {
     /// `indexes`. It opens the retrieval of the first FROM item; each further one is opened over a row of the items
     /// before it. Where an order is asked that no index of the first item gives, all offers are gathered and sorted
     /// before the first comes.
-    #[tactic(auto, using(crate::proofs::Accounting::opened_counts, crate::proofs::Beginning::begins_with, crate::proofs::Keeping::begins_work, crate::proofs::Beginning::begins_good, crate::proofs::Running::offers_are))]
+    #[tactic(auto, using(crate::proofs::Accounting::opened_counts, crate::proofs::Beginning::begins_with, crate::proofs::Keeping::begins_work, crate::proofs::Beginning::begins_good, crate::proofs::Running::offers_are, crate::proofs::OneItem::begins_life))]
     pub fn open<R: Reader>(
         alloc: Global,
         reader: &R,
@@ -109,6 +115,9 @@ impl Plan {
         ensures work { IfOk result (λ p. plan_work (R.shown reader.now) p ≤ row_cost (R.shown reader.now) p.asked.snap p.asked.items) }
         ensures counts { IfOk result (λ p. CountsAll (plan_trace p) steps.old steps.new) }
         ensures stage { IfOk result (λ p. p.stage ≡ stage_of select.now indexes.now) }
+        ensures life { IfOk result (λ p. reads steps.new + plan_effort (R.shown reader.now) p ≤ reads steps.old + plan_life select.now indexes.now (R.shown reader.now) snap) }
+        ensures short { IfOk result (λ p. has_short p.stack.at.here.query (R.shown reader.now) ≡ true → Settled p.stack.at.here × (fetches_left p.stack.at.here (R.shown reader.now) ≤ 20)) }
+        ensures only { OnlyLeaves steps.old steps.new }
     {
         let stage = first_stage(alloc, select, indexes)?;
         let asked = ask(alloc, select, indexes, snap, cursor)?;
@@ -186,6 +195,9 @@ impl Plan {
         requires fits { StackFits self.old.asked (R.shown reader.now) self.old.stack }
         ensures moves { IfOk result (λ m. Moves self.old.asked (R.shown reader.now) m self.old.stack self.new.stack) }
         ensures alone { length self.old.asked.items ≡ 1 → Rises (first_of self.old.stack).here (first_of self.new.stack).here steps.old steps.new }
+        ensures once { length self.old.asked.items ≡ 1 → StepsOnce (would judge.old) (state judge.old) (state judge.new) (R.shown reader.now) steps.old steps.new self.old.stack.at self.new.stack.at }
+        ensures spends { length self.old.asked.items ≡ 1 → IfOk result (λ m. MovedSpends m steps.old steps.new (level_effort (R.shown reader.now) self.old.stack.at) (level_effort (R.shown reader.now) self.new.stack.at)) }
+        ensures plans { SamePlans (first_of self.old.stack).here (first_of self.new.stack).here }
         ensures same { self.new ≡ record self.old { stack = self.new.stack } }
         ensures err { OnErr result (Kept self.old.asked (R.shown reader.now) self.old.stack self.new.stack) }
     {
@@ -204,6 +216,9 @@ impl Plan {
         requires fits { StackFits self.old.asked (R.shown reader.now) self.old.stack }
         ensures gathers { IfOk result (λ all. Gathers all self.old.asked (R.shown reader.now) self.old.stack self.old.gathered self.new.stack self.new.gathered) }
         ensures alone { length self.old.asked.items ≡ 1 → Rises (first_of self.old.stack).here (first_of self.new.stack).here steps.old steps.new }
+        ensures once { length self.old.asked.items ≡ 1 → StepsOnce (would judge.old) (state judge.old) (state judge.new) (R.shown reader.now) steps.old steps.new self.old.stack.at self.new.stack.at }
+        ensures spends { length self.old.asked.items ≡ 1 → IfOk result (λ all. GatherSpends all steps.old steps.new (level_effort (R.shown reader.now) self.old.stack.at) (level_effort (R.shown reader.now) self.new.stack.at)) }
+        ensures plans { SamePlans (first_of self.old.stack).here (first_of self.new.stack).here }
         ensures same { self.new ≡ record self.old { stack = self.new.stack; gathered = self.new.gathered } }
         ensures kept { OnErr result (Kept self.old.asked (R.shown reader.now) self.old.stack self.new.stack) }
         ensures none { OnErr result (self.new.gathered ≡ self.old.gathered) }
@@ -248,6 +263,8 @@ impl Plan {
         self.stack.waits()
     }
 
+    /// Takes the awaited piece of the retrieval of a place, where it awaits one.
+    #[tactic(auto, using(crate::proofs::Numbers::still_waits, crate::proofs::Keeping::still_stays, crate::proofs::Accounting::rises_none, crate::proofs::OneItem::plans_stay, crate::proofs::OneItem::still_once))]
     pub(crate) fn take_at<R: Reader>(
         &mut self,
         at: usize,
@@ -257,9 +274,17 @@ impl Plan {
         requires fits { RetrievalFits (level_at self.old.stack at).here (R.shown reader.now) }
         ensures same { self.new ≡ record self.old { stack = self.new.stack } }
         ensures taken { IfOk result (TakesPiece (level_at self.new.stack at).here) }
-        ensures counts { CountsRise (level_at self.old.stack at).here.trace (level_at self.new.stack at).here.trace steps.old steps.new }
+        ensures counts { Rises (level_at self.old.stack at).here (level_at self.new.stack at).here steps.old steps.new }
         ensures stays { StackFits self.old.asked (R.shown reader.now) self.old.stack → StackStays self.old.asked (R.shown reader.now) self.old.stack self.new.stack }
+        ensures waits { StackAwaits self.old.stack self.new.stack }
+        ensures plans { SamePlans (first_of self.old.stack).here (first_of self.new.stack).here }
+        ensures once { self.old.stack.above ≡ [] → TakesOnce (R.shown reader.now) steps.old steps.new self.old.stack.at self.new.stack.at }
+        ensures spends { self.old.stack.above ≡ [] → IfOk result (λ t. Spends steps.old steps.new (level_effort (R.shown reader.now) self.old.stack.at) (level_effort (R.shown reader.now) self.new.stack.at)) }
+        ensures none { awaited (level_at self.old.stack at).here ≡ None → (result ≡ Ok Taken.Nothing) × (self.new ≡ self.old) × (steps.new ≡ steps.old) }
     {
+        if self.stack.level(at).here.awaited().is_none() {
+            return Ok(Taken::Nothing);
+        }
         self.stack.take(at, reader, steps)
     }
 
@@ -279,6 +304,10 @@ impl Plan {
         ensures stays { (shown : Shown) → StackFits self.old.asked shown self.old.stack → StackStays self.old.asked shown self.old.stack self.new.stack }
         ensures err { OnErr result (self.new ≡ self.old) }
         ensures reads { steps.new ≡ steps.old }
+        ensures pieces { IfOk result (λ g. CountsPiece g (plan_pieces self.old) (plan_pieces self.new)) }
+        ensures plans { SamePlans (first_of self.old.stack).here (first_of self.new.stack).here }
+        ensures less { (shown : Shown) → self.old.stack.above ≡ [] → RetrievalFits self.old.stack.at.here shown → IfOk result (λ g. GiveSpends g (level_effort shown self.old.stack.at) (level_effort shown self.new.stack.at)) }
+        ensures settled { self.old.stack.above ≡ [] → Settled self.old.stack.at.here → (self.new ≡ self.old) × (state judge.new ≡ state judge.old) }
     {
         self.stack.give(at, sieved, judge, steps)
     }

@@ -4,12 +4,17 @@ ghost use Rattle.std.specs.List.{list_any, slice_index_or};
 ghost use Rattle.rv_value.specs.declared.value.Value.{Value as OneValue};
 ghost use Rattle.rv_reader.specs.Shown.{Shown};
 ghost use Rattle.rv_join.specs.declared.places.Asked.{Asked as TheAsked};
+ghost use Rattle.rv_join.specs.Alone.{LevelSpends, MovedSpends, Spends, StepsOnce, TakesOnce, level_effort};
 ghost use Rattle.rv_join.specs.Asking.{Asks, CanRun};
-ghost use Rattle.rv_join.specs.Levels.{AllFit, LevelFits, StackFits, Stacked, bag, down, first_of, is_last, offered, still, used};
+ghost use Rattle.rv_join.specs.Levels.{AllFit, LevelFits, StackFits, Stacked, bag, down, first_in, first_of, is_last, offered, still, used};
 ghost use Rattle.rv_join.specs.Moves.{Catches, Descends, Kept, LevelStays, LevelsStay, Moves, Rises, SameFirst, StackStays, Starts};
-ghost use Rattle.rv_join.specs.Pieces.{is_waiting, level_at, stack_builds, waits};
+ghost use Rattle.rv_join.specs.Rules.{SamePlans};
+ghost use Rattle.rv_join.specs.Pieces.{CountsPiece, LevelsAwait, SamePieces, StackAwaits, is_waiting, level_at, pieces_in, stack_builds, waits};
 ghost use Rattle.rv_join.specs.declared.level.Level.{Level as TheLevel};
 ghost use Rattle.rv_jscan.specs.declared.piece.PieceId.{PieceId as Id};
+ghost use Rattle.rv_judge.specs.Counting.{reads};
+ghost use Rattle.rv_retrieval.specs.Effort.{GiveSpends, effort, life_of};
+ghost use Rattle.rv_retrieval.specs.Short.{OnlyLeaves, Settled, fetches_left, has_short};
 ghost use Rattle.rv_retrieval.specs.Given.{Answers, TakesPiece};
 ghost use Rattle.rv_retrieval.specs.Opened.{Opened};
 ghost use Rattle.rv_retrieval.specs.Rulings.{GivesOn};
@@ -80,6 +85,10 @@ pub fn open<R: Reader>(
     ensures asks { IfOk result (λ s. Asks asked.now [] s.at.here.query) }
     ensures opened { IfOk result (λ s. Opened s.at.here.query (R.shown reader.now) asked.now.cursor 1 s.at.here) }
     ensures counts { IfOk result (λ s. CountsAll s.at.here.trace steps.old steps.new) }
+    ensures life { IfOk result (λ s. reads steps.new + effort s.at.here (R.shown reader.now) ≤ reads steps.old + life_of s.at.here.query (R.shown reader.now)) }
+    ensures short { IfOk result (λ s. has_short s.at.here.query (R.shown reader.now) ≡ true → Settled s.at.here × (fetches_left s.at.here (R.shown reader.now) ≤ 20)) }
+    ensures only { OnlyLeaves steps.old steps.new }
+    ensures row { IfOk result (λ s. s.at.row ≡ None) }
 {
     let here = open_item(alloc, reader, asked, &[], 1, steps)?;
     Ok(Stack {
@@ -107,6 +116,8 @@ impl Stack {
         ensures same { self.new ≡ record self.old { at = self.new.at } }
         ensures caught { IfOk result (λ c. Catches asked.now (R.shown reader.now) c self.old.at self.new.at) }
         ensures counts { Rises self.old.at.here self.new.at.here steps.old steps.new }
+        ensures once { StepsOnce (would judge.old) (state judge.old) (state judge.new) (R.shown reader.now) steps.old steps.new self.old.at self.new.at }
+        ensures spends { IfOk result (λ c. LevelSpends (R.shown reader.now) c steps.old steps.new self.old.at self.new.at) }
         ensures err { OnErr result (LevelStays asked.now (R.shown reader.now) self.old.at self.new.at) }
     {
         self.at.ready(asked, reader, judge, steps)
@@ -230,7 +241,7 @@ impl Stack {
 /// A step of nested loops.
 impl Stack {
     /// Opens the inner level over the row that is held.
-    #[tactic(auto, using(crate::proofs::Stacking::opens))]
+    #[tactic(auto, using(crate::proofs::Stacking::opens, crate::proofs::OneItem::down_first))]
     fn open_inner<R: Reader>(
         &mut self,
         alloc: Global,
@@ -243,6 +254,7 @@ impl Stack {
         requires some { IsSome self.old.at.row }
         requires inside { length self.old.at.outer + 1 < length asked.now.items }
         ensures moves { IfOk result (λ m. Moves asked.now (R.shown reader.now) m self.old self.new) }
+        ensures first { (first_of self.new).here ≡ (first_of self.old).here }
         ensures err { OnErr result (self.new ≡ self.old) }
     {
         let inner = self.inner(alloc, reader, asked, steps)?;
@@ -257,6 +269,7 @@ impl Stack {
         requires last { is_last asked.now self.old ≡ true }
         ensures moves { (shown : Shown) → StackFits asked.now shown self.old → IfOk result (λ m. Moves asked.now shown m self.old self.new) }
         ensures same { (first_of self.new).here ≡ (first_of self.old).here }
+        ensures used { OnOk result (self.new ≡ used self.old) }
         ensures err { OnErr result (self.new ≡ self.old) }
     {
         let offer = self.offer(alloc, asked)?;
@@ -278,6 +291,8 @@ impl Stack {
         requires some { IsSome self.old.at.row }
         ensures moves { IfOk result (λ m. Moves asked.now (R.shown reader.now) m self.old self.new) }
         ensures alone { length asked.now.items ≡ 1 → ((first_of self.new).here ≡ (first_of self.old).here) × (steps.new ≡ steps.old) }
+        ensures used { length asked.now.items ≡ 1 → OnOk result (self.new ≡ used self.old) }
+        ensures first { (first_of self.new).here ≡ (first_of self.old).here }
         ensures err { OnErr result (self.new ≡ self.old) }
     {
         if self.is_last(asked) {
@@ -288,10 +303,12 @@ impl Stack {
     }
 
     /// The innermost level is at its end: goes on in the one above.
-    #[tactic(auto, using(crate::proofs::Stacking::climbs, crate::proofs::Stacking::ends))]
+    #[tactic(auto, using(crate::proofs::Stacking::climbs, crate::proofs::Stacking::ends, crate::proofs::OneItem::climbed_first))]
     fn end(&mut self) -> Moved
         ensures moves { (a : TheAsked) (shown : Shown) → StackFits a shown self.old → still a shown self.old.at ≡ [] → Moves a shown result self.old self.new }
         ensures alone { self.old.above ≡ [] → self.new ≡ self.old }
+        ensures first { first_of self.new ≡ first_of self.old }
+        ensures done { self.old.above ≡ [] → result ≡ Moved.Done }
     {
         if self.climb() {
             Moved::Moving
@@ -315,6 +332,9 @@ impl Stack {
         requires fits { StackFits asked.now (R.shown reader.now) self.old }
         ensures moves { IfOk result (λ m. Moves asked.now (R.shown reader.now) m self.old self.new) }
         ensures alone { length asked.now.items ≡ 1 → Rises (first_of self.old).here (first_of self.new).here steps.old steps.new }
+        ensures once { length asked.now.items ≡ 1 → StepsOnce (would judge.old) (state judge.old) (state judge.new) (R.shown reader.now) steps.old steps.new self.old.at self.new.at }
+        ensures spends { length asked.now.items ≡ 1 → IfOk result (λ m. MovedSpends m steps.old steps.new (level_effort (R.shown reader.now) self.old.at) (level_effort (R.shown reader.now) self.new.at)) }
+        ensures plans { SamePlans (first_of self.old).here (first_of self.new).here }
         ensures err { OnErr result (Kept asked.now (R.shown reader.now) self.old self.new) }
     {
         match self.ready(asked, reader, judge, steps)? {
@@ -326,7 +346,7 @@ impl Stack {
 }
 
 /// A level's retrieval has its awaited piece taken.
-#[tactic(auto, using(crate::proofs::Opening::level_stays))]
+#[tactic(auto, using(crate::proofs::Opening::level_stays, crate::proofs::Numbers::take_same, crate::proofs::OneItem::take_plans, crate::proofs::OneItem::taken_once, crate::proofs::OneItem::taken_spends))]
 fn take_level<R: Reader>(
     reader: &R,
     level: &mut Level,
@@ -336,11 +356,15 @@ fn take_level<R: Reader>(
     ensures taken { IfOk result (TakesPiece level.new.here) }
     ensures counts { CountsRise level.old.here.trace level.new.here.trace steps.old steps.new }
     ensures stays { (a : TheAsked) → LevelFits a (R.shown reader.now) level.old → LevelStays a (R.shown reader.now) level.old level.new }
+    ensures waits { SamePieces level.old.here level.new.here }
+    ensures plans { SamePlans level.old.here level.new.here }
+    ensures once { TakesOnce (R.shown reader.now) steps.old steps.new level.old level.new }
+    ensures spends { IfOk result (λ t. Spends steps.old steps.new (level_effort (R.shown reader.now) level.old) (level_effort (R.shown reader.now) level.new)) }
 {
     level.here.take(reader, steps)
 }
 
-#[tactic(auto, using(crate::proofs::Calls::levels_at))]
+#[tactic(auto, using(crate::proofs::Calls::levels_at, crate::proofs::Numbers::levels_wait, crate::proofs::OneItem::list_plans))]
 fn take_at<R: Reader>(
     reader: &R,
     levels: &mut Vec<Level>,
@@ -353,6 +377,8 @@ fn take_at<R: Reader>(
     ensures counts { (d : TheLevel) → CountsRise (slice_index_or levels.old.items at d).here.trace (slice_index_or levels.new.items at d).here.trace steps.old steps.new }
     ensures stay { (a : TheAsked) → AllFit a (R.shown reader.now) 0 levels.old.items → LevelsStay a (R.shown reader.now) 0 levels.old.items levels.new.items }
     ensures led { (a : TheAsked) → AllFit a (R.shown reader.now) 0 levels.old.items → SameFirst a (R.shown reader.now) levels.old.items levels.new.items }
+    ensures waits { LevelsAwait levels.old.items levels.new.items }
+    ensures plans { (d : TheLevel) → SamePlans (first_in levels.old.items d).here (first_in levels.new.items d).here }
 {
     take_level(reader, &mut levels[at], steps)
 }
@@ -375,6 +401,8 @@ fn give_at<L: Drop>(
     ensures led { (a : TheAsked) (shown : Shown) → AllFit a shown 0 levels.old.items → SameFirst a shown levels.old.items levels.new.items }
     ensures err { OnErr result (levels.new.items ≡ levels.old.items) }
     ensures reads { steps.new ≡ steps.old }
+    ensures pieces { (d : TheLevel) → IfOk result (λ g. CountsPiece g (pieces_in levels.old.items d) (pieces_in levels.new.items d)) }
+    ensures plans { (d : TheLevel) → SamePlans (first_in levels.old.items d).here (first_in levels.new.items d).here }
 {
     levels[at].here.give(sieved, judge, steps)
 }
@@ -382,7 +410,7 @@ fn give_at<L: Drop>(
 /// The pieces of the retrieval of a place.
 impl Stack {
     /// Takes the awaited piece of the retrieval of a place.
-    #[tactic(auto, using(crate::proofs::Calls::stays_above, crate::proofs::Calls::stays_at))]
+    #[tactic(auto, using(crate::proofs::Calls::stays_above, crate::proofs::Calls::stays_at, crate::proofs::Numbers::above_waits, crate::proofs::Numbers::at_waits, crate::proofs::OneItem::first_plans))]
     pub fn take<R: Reader>(
         &mut self,
         at: usize,
@@ -393,6 +421,10 @@ impl Stack {
         ensures taken { IfOk result (TakesPiece (level_at self.new at).here) }
         ensures counts { CountsRise (level_at self.old at).here.trace (level_at self.new at).here.trace steps.old steps.new }
         ensures stays { (a : TheAsked) → StackFits a (R.shown reader.now) self.old → StackStays a (R.shown reader.now) self.old self.new }
+        ensures waits { StackAwaits self.old self.new }
+        ensures plans { SamePlans (first_of self.old).here (first_of self.new).here }
+        ensures once { self.old.above ≡ [] → TakesOnce (R.shown reader.now) steps.old steps.new self.old.at self.new.at }
+        ensures spends { self.old.above ≡ [] → IfOk result (λ t. Spends steps.old steps.new (level_effort (R.shown reader.now) self.old.at) (level_effort (R.shown reader.now) self.new.at)) }
     {
         if at < self.above.len() {
             take_at(reader, &mut self.above, at, steps)
@@ -418,6 +450,10 @@ impl Stack {
         ensures stays { (a : TheAsked) (shown : Shown) → StackFits a shown self.old → StackStays a shown self.old self.new }
         ensures err { OnErr result (self.new ≡ self.old) }
         ensures reads { steps.new ≡ steps.old }
+        ensures pieces { IfOk result (λ g. CountsPiece g (pieces_in self.old.above self.old.at) (pieces_in self.new.above self.new.at)) }
+        ensures plans { SamePlans (first_of self.old).here (first_of self.new).here }
+        ensures less { (shown : Shown) → self.old.above ≡ [] → RetrievalFits self.old.at.here shown → IfOk result (λ g. GiveSpends g (level_effort shown self.old.at) (level_effort shown self.new.at)) }
+        ensures settled { self.old.above ≡ [] → Settled self.old.at.here → (self.new ≡ self.old) × (state judge.new ≡ state judge.old) }
     {
         if at < self.above.len() {
             give_at(&mut self.above, at, sieved, judge, steps)

@@ -1,10 +1,16 @@
 //! The calls on a plan: steps, and the pieces of its retrievals.
-ghost use Rattle.std.specs.Prelude.{◌≡◌, IfOk, OnErr};
+ghost use Rattle.std.specs.Prelude.{◌≡◌, ℕ, None, Ok, IfOk, OnErr};
 ghost use Rattle.rv_reader.specs.Shown.{Shown};
 ghost use Rattle.rv_retrieval.specs.Given.{TakesPiece};
 ghost use Rattle.rv_retrieval.specs.Rulings.{GivesOn};
 ghost use Rattle.rv_retrieval.specs.Telling.{CountsRise, SameCounts};
-ghost use Rattle.rv_join.specs.Pieces.{GivesPiece, waited, waiting};
+ghost use Rattle.rv_judge.specs.declared.counting.Counts.{Counts as TheCounts};
+ghost use Rattle.rv_retrieval.specs.Effort.{GiveSpends};
+ghost use Rattle.rv_retrieval.specs.Short.{Settled};
+ghost use Rattle.rv_join.specs.Alone.{IsAlone, PlanSpends, Spends, StepsOnce, TakesOnce, plan_effort};
+ghost use Rattle.rv_join.specs.Levels.{first_of};
+ghost use Rattle.rv_join.specs.Rules.{SamePlans};
+ghost use Rattle.rv_join.specs.Pieces.{CountsPiece, GivesPiece, TakesAwaited, plan_awaited, plan_pieces, waited, waiting, waits};
 ghost use Rattle.rv_join.specs.Plans.{HoldsGood, PlanFits, PlanKept, PlanMoves, PlanStays, RisesAlone, plan_trace, step_of};
 
 use crate::gather::Stage;
@@ -27,7 +33,7 @@ fn answer(moved: Moved) -> PlanStep
 
 impl Plan {
     /// A step where offers are given as they are found.
-    #[tactic(auto, using(crate::proofs::Planning::found_moves, crate::proofs::Planning::found_good, crate::proofs::Planning::found_kept, crate::proofs::Planning::found_holds))]
+    #[tactic(auto, using(crate::proofs::Planning::found_moves, crate::proofs::Planning::found_good, crate::proofs::Planning::found_kept, crate::proofs::Planning::found_holds, crate::proofs::OneItem::moved_spends))]
     fn found_step<R: Reader>(
         &mut self,
         reader: &R,
@@ -39,6 +45,9 @@ impl Plan {
         ensures step { IfOk result (λ m. PlanMoves (R.shown reader.now) m self.old self.new) }
         ensures holds { HoldsGood (R.shown reader.now) self.new }
         ensures alone { RisesAlone self.old self.new steps.old steps.new }
+        ensures once { IsAlone self.old → StepsOnce (would judge.old) (state judge.old) (state judge.new) (R.shown reader.now) steps.old steps.new self.old.stack.at self.new.stack.at }
+        ensures spends { IsAlone self.old → IfOk result (λ m. PlanSpends m steps.old steps.new (plan_effort (R.shown reader.now) self.old) (plan_effort (R.shown reader.now) self.new)) }
+        ensures plans { SamePlans (first_of self.old.stack).here (first_of self.new.stack).here }
         ensures reads { self.new.reads ≡ self.old.reads }
         ensures err { OnErr result (PlanKept (R.shown reader.now) self.old self.new) }
     {
@@ -59,6 +68,9 @@ impl Plan {
         ensures step { IfOk result (λ m. PlanMoves (R.shown reader.now) m self.old self.new) }
         ensures holds { HoldsGood (R.shown reader.now) self.new }
         ensures alone { RisesAlone self.old self.new steps.old steps.new }
+        ensures once { IsAlone self.old → StepsOnce (would judge.old) (state judge.old) (state judge.new) (R.shown reader.now) steps.old steps.new self.old.stack.at self.new.stack.at }
+        ensures spends { IsAlone self.old → IfOk result (λ m. PlanSpends m steps.old steps.new (plan_effort (R.shown reader.now) self.old) (plan_effort (R.shown reader.now) self.new)) }
+        ensures plans { SamePlans (first_of self.old.stack).here (first_of self.new.stack).here }
         ensures reads { self.new.reads ≡ self.old.reads }
         ensures err { OnErr result (PlanKept (R.shown reader.now) self.old self.new) }
     {
@@ -71,11 +83,12 @@ impl Plan {
     }
 
     /// A step where the offers are sorted.
-    #[tactic(auto, using(crate::proofs::Planning::given_moves, crate::proofs::Planning::given_good))]
+    #[tactic(auto, using(crate::proofs::Planning::given_moves, crate::proofs::Planning::given_good, crate::proofs::OneItem::given_spends))]
     fn give_step(&mut self) -> PlanStep
         requires stage { self.old.stage ≡ Stage.Giving }
         ensures step { (shown : Shown) → HoldsGood shown self.old → PlanMoves shown result self.old self.new }
         ensures holds { (shown : Shown) → HoldsGood shown self.old → HoldsGood shown self.new }
+        ensures spends { (c : TheCounts) (n : ℕ) → PlanSpends result c c n n }
         ensures same { self.new ≡ record self.old { gathered = self.new.gathered } }
     {
         self.give_next()
@@ -91,6 +104,9 @@ impl Plan {
         ensures step { IfOk result (λ m. PlanMoves (R.shown reader.now) m self.old self.new) }
         ensures holds { HoldsGood (R.shown reader.now) self.new }
         ensures alone { RisesAlone self.old self.new steps.old steps.new }
+        ensures once { IsAlone self.old → StepsOnce (would judge.old) (state judge.old) (state judge.new) (R.shown reader.now) steps.old steps.new self.old.stack.at self.new.stack.at }
+        ensures spends { IsAlone self.old → IfOk result (λ m. PlanSpends m steps.old steps.new (plan_effort (R.shown reader.now) self.old) (plan_effort (R.shown reader.now) self.new)) }
+        ensures plans { SamePlans (first_of self.old.stack).here (first_of self.new.stack).here }
         ensures reads { self.new.reads ≡ self.old.reads }
         ensures err { OnErr result (PlanKept (R.shown reader.now) self.old self.new) }
     {
@@ -114,6 +130,8 @@ impl Plan {
     ) -> Result<PlanStep, NoMemory>
         requires fits { PlanFits (R.shown reader.now) self.old }
         ensures counts { CountsRise (plan_trace self.old) (plan_trace self.new) steps.old steps.new }
+        ensures once { IsAlone self.old → StepsOnce (would judge.old) (state judge.old) (state judge.new) (R.shown reader.now) steps.old steps.new self.old.stack.at self.new.stack.at }
+        ensures spends { IsAlone self.old → IfOk result (λ m. PlanSpends m steps.old steps.new (plan_effort (R.shown reader.now) self.old) (plan_effort (R.shown reader.now) self.new)) }
         ensures fits { PlanFits (R.shown reader.now) self.new }
         ensures step { IfOk result (λ m. PlanMoves (R.shown reader.now) m self.old self.new) }
         ensures err { OnErr result (PlanKept (R.shown reader.now) self.old self.new) }
@@ -124,8 +142,9 @@ impl Plan {
         stepped
     }
 
-    /// Takes the awaited piece of the first retrieval in FROM order that awaits one. `Nothing` where none does.
-    #[tactic(auto, using(crate::proofs::Keeping::stays_still, crate::proofs::Keeping::stays_counted))]
+    /// Takes the awaited piece of the first retrieval in FROM order that awaits one. `Nothing` exactly where none does, and
+    /// then nothing is done. What is awaited stays.
+    #[tactic(auto, using(crate::proofs::Keeping::stays_still, crate::proofs::Keeping::stays_counted, crate::proofs::Numbers::taken_ready, crate::proofs::Numbers::taken_answers))]
     pub fn take<R: Reader>(
         &mut self,
         reader: &R,
@@ -134,6 +153,14 @@ impl Plan {
         requires fits { PlanFits (R.shown reader.now) self.old }
         ensures counts { CountsRise (plan_trace self.old) (plan_trace self.new) steps.old steps.new }
         ensures taken { IfOk result (TakesPiece (waited self.old self.new)) }
+        ensures answers { IfOk result (TakesAwaited self.old) }
+        ensures ready { IfOk result (TakesPiece (waiting self.new)) }
+        ensures place { waits self.new.stack ≡ waits self.old.stack }
+        ensures awaited { plan_awaited self.new ≡ plan_awaited self.old }
+        ensures pieces { plan_pieces self.new ≡ plan_pieces self.old }
+        ensures once { IsAlone self.old → TakesOnce (R.shown reader.now) steps.old steps.new self.old.stack.at self.new.stack.at }
+        ensures spends { IsAlone self.old → IfOk result (λ t. Spends steps.old steps.new (plan_effort (R.shown reader.now) self.old) (plan_effort (R.shown reader.now) self.new)) }
+        ensures none { plan_awaited self.old ≡ None → (result ≡ Ok Taken.Nothing) × (self.new ≡ self.old) × (steps.new ≡ steps.old) }
         ensures fits { PlanFits (R.shown reader.now) self.new }
         ensures stays { PlanStays (R.shown reader.now) self.old self.new }
     {
@@ -159,6 +186,9 @@ impl Plan {
         ensures stays { (shown : Shown) → PlanFits shown self.old → PlanStays shown self.old self.new }
         ensures err { OnErr result (self.new ≡ self.old) }
         ensures reads { steps.new ≡ steps.old }
+        ensures pieces { IfOk result (λ g. CountsPiece g (plan_pieces self.old) (plan_pieces self.new)) }
+        ensures less { (shown : Shown) → PlanFits shown self.old → IsAlone self.old → IfOk result (λ g. GiveSpends g (plan_effort shown self.old) (plan_effort shown self.new)) }
+        ensures settled { (shown : Shown) → PlanFits shown self.old → IsAlone self.old → Settled self.old.stack.at.here → (self.new ≡ self.old) × (state judge.new ≡ state judge.old) }
     {
         let at = self.waits();
         self.give_at(at, sieved, judge, steps)

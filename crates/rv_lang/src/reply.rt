@@ -27,8 +27,6 @@ pub enum Which {
 /// Why a call was refused. A refused call changes nothing but the history.
 #[derive(Drop, Debug, PartialEq, Eq)]
 pub enum Refusal {
-    /// The statement's form, or the first refusal that applies, is not built yet.
-    NotBuilt,
     /// The text derives no statement.
     Syntax,
     /// The name of a table that is not there, or of a column that fits none or several tables.
@@ -133,7 +131,6 @@ pub enum Reply {
 impl Duplicate for Refusal {
     fn copy(&self, alloc: Global) -> Result<Refusal, NoMemory> {
         Ok(match self {
-            Refusal::NotBuilt => Refusal::NotBuilt,
             Refusal::Syntax => Refusal::Syntax,
             Refusal::Unknown(name) => Refusal::Unknown(name.copy(alloc)?),
             Refusal::Exists(name) => Refusal::Exists(name.copy(alloc)?),

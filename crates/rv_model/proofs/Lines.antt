@@ -100,7 +100,6 @@ two_line : (n m : ℕ) → n < 2 ^ 64 → m < 2 ^ 64 → list_all no_lf (decimal
 two_line n m fn fm = joined (decimal n ++ codes " by ") (decimal m) (joined (decimal n) (codes " by ") (decimal_line n fn) refl) (decimal_line m fm)
 
 refusal_line : (r : Refusal) → IsPlainRefusal r → list_all no_lf (refusal_text r) ≡ true
-refusal_line refusals.NotBuilt p = refl
 refusal_line refusals.Syntax p = refl
 refusal_line (refusals.Unknown name) p = name_line name p
 refusal_line (refusals.Exists name) p = name_line name p

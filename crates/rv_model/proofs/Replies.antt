@@ -43,7 +43,6 @@ read t =
     (or_else (after (codes "closed") t) (λ _. replies.Closed)
     (or_else (after (codes "stepped ") t) (λ d. replies.Stepped (digits_value 10 d))
     (or_else (after (codes "trace") t) (λ _. replies.End)
-    (or_else (after (codes "not built") t) (λ _. replies.Refused refusals.NotBuilt)
     (or_else (after (codes "syntax") t) (λ _. replies.Refused refusals.Syntax)
     (or_else (after (codes "unknown ") t) (λ d. replies.Refused (refusals.Unknown d))
     (or_else (after (codes "exists ") t) (λ d. replies.Refused (refusals.Exists d))
@@ -58,7 +57,7 @@ read t =
     (or_else (after (codes "cursor open ") t) (λ d. replies.Refused (refusals.CursorOpen d))
     (or_else (after (codes "limit ") t) (λ _. replies.Refused (refusals.Limit limits.Name 0))
     (or_else (after (codes "pending ") t) (λ d. replies.Refused (refusals.Pending d))
-    replies.End)))))))))))))))))))))))))))
+    replies.End))))))))))))))))))))))))))
 
 -- a reply without those parts
 abbrev shape : Reply → Reply
@@ -85,7 +84,6 @@ read_is replies.End p = refl
 read_is replies.Closed p = refl
 read_is (replies.Stepped n) p = ap (λ (m : ℕ). replies.Stepped m) (value_back n p)
 read_is (replies.Trace shown) p = refl
-read_is (replies.Refused refusals.NotBuilt) p = refl
 read_is (replies.Refused refusals.Syntax) p = refl
 read_is (replies.Refused (refusals.Unknown name)) p = refl
 read_is (replies.Refused (refusals.Exists name)) p = refl
@@ -156,7 +154,6 @@ row_part_is replies.End = refl
 row_part_is replies.Closed = refl
 row_part_is (replies.Stepped n) = refl
 row_part_is (replies.Trace shown) = refl
-row_part_is (replies.Refused refusals.NotBuilt) = refl
 row_part_is (replies.Refused refusals.Syntax) = refl
 row_part_is (replies.Refused (refusals.Unknown name)) = refl
 row_part_is (replies.Refused (refusals.Exists name)) = refl
@@ -185,7 +182,6 @@ pair_part_is replies.End = refl
 pair_part_is replies.Closed = refl
 pair_part_is (replies.Stepped n) = refl
 pair_part_is (replies.Trace shown) = refl
-pair_part_is (replies.Refused refusals.NotBuilt) = refl
 pair_part_is (replies.Refused refusals.Syntax) = refl
 pair_part_is (replies.Refused (refusals.Unknown name)) = refl
 pair_part_is (replies.Refused (refusals.Exists name)) = refl
@@ -214,7 +210,6 @@ limit_part_is replies.End = refl
 limit_part_is replies.Closed = refl
 limit_part_is (replies.Stepped n) = refl
 limit_part_is (replies.Trace shown) = refl
-limit_part_is (replies.Refused refusals.NotBuilt) = refl
 limit_part_is (replies.Refused refusals.Syntax) = refl
 limit_part_is (replies.Refused (refusals.Unknown name)) = refl
 limit_part_is (replies.Refused (refusals.Exists name)) = refl
@@ -243,7 +238,6 @@ trace_part_is replies.End = refl
 trace_part_is replies.Closed = refl
 trace_part_is (replies.Stepped n) = refl
 trace_part_is (replies.Trace shown) = refl
-trace_part_is (replies.Refused refusals.NotBuilt) = refl
 trace_part_is (replies.Refused refusals.Syntax) = refl
 trace_part_is (replies.Refused (refusals.Unknown name)) = refl
 trace_part_is (replies.Refused (refusals.Exists name)) = refl
@@ -273,7 +267,6 @@ plain_row replies.End p = tt
 plain_row replies.Closed p = tt
 plain_row (replies.Stepped n) p = tt
 plain_row (replies.Trace shown) p = tt
-plain_row (replies.Refused refusals.NotBuilt) p = tt
 plain_row (replies.Refused refusals.Syntax) p = tt
 plain_row (replies.Refused (refusals.Unknown name)) p = tt
 plain_row (replies.Refused (refusals.Exists name)) p = tt
@@ -314,7 +307,6 @@ plain_pair replies.End p = tt
 plain_pair replies.Closed p = tt
 plain_pair (replies.Stepped n) p = tt
 plain_pair (replies.Trace shown) p = tt
-plain_pair (replies.Refused refusals.NotBuilt) p = tt
 plain_pair (replies.Refused refusals.Syntax) p = tt
 plain_pair (replies.Refused (refusals.Unknown name)) p = tt
 plain_pair (replies.Refused (refusals.Exists name)) p = tt
@@ -343,7 +335,6 @@ plain_limit replies.End p = tt
 plain_limit replies.Closed p = tt
 plain_limit (replies.Stepped n) p = tt
 plain_limit (replies.Trace shown) p = tt
-plain_limit (replies.Refused refusals.NotBuilt) p = tt
 plain_limit (replies.Refused refusals.Syntax) p = tt
 plain_limit (replies.Refused (refusals.Unknown name)) p = tt
 plain_limit (replies.Refused (refusals.Exists name)) p = tt
@@ -372,7 +363,6 @@ plain_trace replies.End p = tt
 plain_trace replies.Closed p = tt
 plain_trace (replies.Stepped n) p = tt
 plain_trace (replies.Trace shown) p = p
-plain_trace (replies.Refused refusals.NotBuilt) p = tt
 plain_trace (replies.Refused refusals.Syntax) p = tt
 plain_trace (replies.Refused (refusals.Unknown name)) p = tt
 plain_trace (replies.Refused (refusals.Exists name)) p = tt
@@ -498,7 +488,6 @@ rebuilt_is replies.End = refl
 rebuilt_is replies.Closed = refl
 rebuilt_is (replies.Stepped n) = refl
 rebuilt_is (replies.Trace shown) = refl
-rebuilt_is (replies.Refused refusals.NotBuilt) = refl
 rebuilt_is (replies.Refused refusals.Syntax) = refl
 rebuilt_is (replies.Refused (refusals.Unknown name)) = refl
 rebuilt_is (replies.Refused (refusals.Exists name)) = refl

@@ -170,9 +170,10 @@ swapped_sorted (d ∷ ys) i j hi hj =
     let there : slice_index_or m j d ≡ y = at_put xs i j d hi hj in
     cancelled y (sorted (slice_set m j x)) (sorted xs) (ap (λ o. sorted_in o (sorted (slice_set m j x))) (sym there) ∙ second ∙ first)
 
+-- the same offers, each as often, are the same sorted
+pub sorted_moved : (xs ys : List Offer) → IsPermutation xs ys → sorted ys ≡ sorted xs
+sorted_moved xs ys moved = IsPermutation-keeps xs (λ (l : List Offer). sorted l ≡ sorted xs) refl (λ l i j hi hj h. swapped_sorted l i j hi hj ∙ h) ys moved
+
 -- A list in order with the offers of another, each as often, is the other sorted.
 pub sorted_is : (xs ys : List Offer) → IsPermutation xs ys → IsSorted offer_cmp ys → ys ≡ sorted xs
-sorted_is xs ys moved up =
-    let P : List Offer → Type 0 = λ l. sorted l ≡ sorted xs in
-    let same_sorted : sorted ys ≡ sorted xs = IsPermutation-keeps xs P refl (λ l i j hi hj h. swapped_sorted l i j hi hj ∙ h) ys moved in
-    sym (rising_sorted ys up) ∙ same_sorted
+sorted_is xs ys moved up = sym (rising_sorted ys up) ∙ sorted_moved xs ys moved

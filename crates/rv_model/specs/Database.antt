@@ -2,6 +2,7 @@
 use Rattle.std.specs.Prelude.{ℕ, List, [], Option, ◌==◌, ◌&&◌, position, bytes_eq}
 use Rattle.std.specs.List.{slice_index_or}
 use Rattle.rv_value.specs.declared.record.Record.{Record}
+use Rattle.rv_catalog.specs.declared.def.IndexDef.{IndexDef}
 use Rattle.rv_model.specs.declared.state.State.{State}
 use Rattle.rv_model.specs.declared.state.Cursor.{Cursor}
 use Rattle.rv_model.specs.Transactions.{no_transactions}
@@ -15,7 +16,7 @@ abbrev pub empty : State
 empty = record { schema = record { tables = []; indexes = [] }; rows = []; last = 0; transactions = no_transactions; bases = []; cursors = [] }
 
 abbrev pub no_cursor : Cursor
-no_cursor = record { session = 0; name = []; offers = [] }
+no_cursor = record { session = 0; name = []; table = 0; offers = [] }
 
 abbrev pub cursor_at : List Cursor → ℕ → Cursor
 cursor_at cursors place = slice_index_or cursors place no_cursor
@@ -27,3 +28,10 @@ rows_at tables number = slice_index_or tables number []
 -- the rows of a table at the base of the transaction in a place
 abbrev pub base_rows : State → ℕ → ℕ → List Record
 base_rows s own table = rows_at (slice_index_or s.bases own []) table
+
+abbrev pub no_index : IndexDef
+no_index = record { name = []; table = 0; columns = [] }
+
+-- an index's number is its position
+abbrev pub index_at : List IndexDef → ℕ → IndexDef
+index_at indexes number = slice_index_or indexes number no_index

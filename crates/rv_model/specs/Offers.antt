@@ -25,22 +25,6 @@ abbrev pub sorted : List Offer → List Offer
 sorted [] = []
 sorted (o ∷ os) = sorted_in o (sorted os)
 
--- the values that references read in a row
-abbrev pub picked : List ColRef → List Value → List Value
-picked columns row = map (row_reads row) columns
-
--- what a row of the one FROM item offers
-abbrev pub offer_of : Select → Record → Offer
-offer_of select r = record { order = picked select.order r.values; returned = picked select.returns r.values }
-
--- the rows that WHERE keeps
-abbrev pub qualifying : Select → List Record → List Record
-qualifying select rows = filter (λ (r : Record). qualifies select.only r.values) rows
-
--- one offer for each row of the one FROM item whose restriction is True, in order; equal offers stand as often as there are rows
-abbrev pub offers_of : Select → List Record → List Offer
-offers_of select rows = sorted (map (offer_of select) (qualifying select rows))
-
 abbrev pub same_values : List Value → List Value → Bool
 same_values a b = is_eq (values_cmp a b)
 

@@ -1,17 +1,16 @@
 -- What each statement does: the replies that are allowed, and the next state.
-use Rattle.std.specs.Prelude.{◌≡◌, ℕ, ◌+◌, List, [], ◌∷◌, ◌++◌, Option, Some, None, Result, Ok, Err, Bool, true, false, ◌==◌, IsSome, length, slice_set, filter, find, map, nat_lt, is_some, remove, not}
+use Rattle.std.specs.Prelude.{◌≡◌, ◌≤◌, ℕ, ◌+◌, List, [], ◌∷◌, ◌++◌, Option, Some, None, Result, Ok, Err, Bool, true, false, ◌==◌, IsSome, length, slice_set, filter, find, map, nat_lt, is_some, remove, not}
 use Rattle.std.specs.List.{slice_index_or, range_with_len}
 use Rattle.rv_value.specs.declared.value.Value.{Value}
 use Rattle.rv_value.specs.declared.record.Record.{Record}
 use Rattle.rv_rows.specs.declared.changes.Change.{Change}
 use Rattle.rv_rows.specs.Changes.{applied, touches}
 use Rattle.rv_lang.specs.declared.statement.Statement.{Statement}
-use Rattle.rv_lang.specs.declared.statement.Statement.TheVariants as statements
 use Rattle.rv_lang.specs.declared.reply.Which.TheVariants.{Tables, Indexes, Cursors}
 use Rattle.rv_lang.specs.declared.reply.Refusal.{Refusal}
-use Rattle.rv_lang.specs.declared.reply.Refusal.TheVariants.{NotBuilt, Syntax, NoTransaction, Busy, NoCursor, CursorOpen, Limit, Pending}
+use Rattle.rv_lang.specs.declared.reply.Refusal.TheVariants.{Syntax, NoTransaction, Busy, NoCursor, CursorOpen, Limit, Pending}
 use Rattle.rv_lang.specs.declared.reply.Reply.{Reply}
-use Rattle.rv_lang.specs.declared.reply.Reply.TheVariants.{Created, Began, Inserted, Touched, Committed, RolledBack, Opened, Row, End, Closed, Refused}
+use Rattle.rv_lang.specs.declared.reply.Reply.TheVariants.{Created, Began, Inserted, Touched, Committed, RolledBack, Opened, Row, End, Closed, Stepped, Trace, Refused}
 use Rattle.rv_restrict.specs.declared.atom.Atom.{Atom}
 use Rattle.rv_catalog.specs.declared.def.TableDef.{TableDef}
 use Rattle.rv_catalog.specs.declared.def.IndexDef.{IndexDef}
@@ -30,28 +29,18 @@ use Rattle.rv_model.specs.declared.transactions.Transactions.{Transactions}
 use Rattle.rv_model.specs.Transactions as transactions
 use Rattle.rv_model.specs.Transactions.{transaction_of, transaction_at, refuse_at}
 use Rattle.rv_model.specs.Database.{cursor_named, cursor_at, rows_at, base_rows}
-use Rattle.rv_model.specs.Offers.{offers_of, place_of, without}
+use Rattle.rv_model.specs.Offers.{place_of, sorted, without}
+use Rattle.rv_model.specs.Offering.{offers_over}
+use Rattle.rv_model.specs.Showing.{ShowsTrace}
 
 -- the reply and the state after it, or why the statement is refused
 abbrev pub Outcome : Type 0
 Outcome = Result (Reply × State) Refusal
 
--- What is built: all but STEP, SHOW and queries over several FROM items.
-
-abbrev pub is_one_item : List (List ℕ × Option (List ℕ)) → Bool
-is_one_item items = length items == 1
-
-abbrev pub is_built : Statement → Bool
-is_built (statements.Open cursor returned items only order goal) = is_one_item items
-is_built (statements.Step cursor n) = false
-is_built (statements.Show cursor) = false
-is_built statement = true
-
 -- what a text's statement asks, its names looked up in a schema, or the first refusal up to there
 abbrev pub understood : Schema → Option Statement → Result Resolved Refusal
 understood schema statement = do
   derived ← ok_or statement Syntax
-  built ← refuse_if (not (is_built derived)) NotBuilt
   resolved schema derived
 
 -- CREATE TABLE: not while a transaction is active, and at most 64 tables.
@@ -134,7 +123,7 @@ table_name defs table = (slice_index_or defs table no_table).name
 abbrev pub own_cursors : List Cursor → ℕ → List Cursor
 own_cursors cursors session = filter (λ (c : Cursor). c.session == session) cursors
 
--- the table of the one FROM item
+-- the table of the first FROM item
 abbrev pub table_of : Select → ℕ
 table_of select = slice_index_or select.tables 0 0
 
@@ -148,11 +137,12 @@ opening defs active cursors session name tables = do
   room ← refuse_if (nat_lt 15 (length (own_cursors cursors session))) (Limit Cursors 16)
   Ok own
 
--- OPEN: a cursor over the rows at the transaction's base.
+-- OPEN: a cursor over the rows at the transaction's base, with an offer for each choice of one row per FROM item whose
+-- restriction is True.
 abbrev pub opened : State → ℕ → List ℕ → Select → Outcome
 opened s session cursor select = do
   own ← opening s.schema.tables s.transactions.active s.cursors session cursor select.tables
-  Ok (Opened, record s { cursors = s.cursors ++ record { session = session; name = cursor; offers = offers_of select (base_rows s own (table_of select)) } ∷ [] })
+  Ok (Opened, record s { cursors = s.cursors ++ record { session = session; name = cursor; table = table_of select; offers = sorted (offers_over select (base_rows s own)) } ∷ [] })
 
 -- A reply that a cursor with these offers may give: the values of some offer whose order values equal the first offer's,
 -- and End exactly where there is no offer.
@@ -177,13 +167,31 @@ fetched (Some place) s reply =
     let cursor = cursor_at s.cursors place in
     record s { cursors = slice_set s.cursors place (record cursor { offers = offers_after cursor.offers reply }) }
 
+-- STEP: so many background steps were done, at most as many as are asked.
+abbrev pub Stepping : ℕ → Reply → Type 0
+Stepping n (Stepped m) = m ≤ n
+Stepping n reply = ⊥
+
+abbrev pub AllowsStep : Option ℕ → List ℕ → ℕ → Reply → Type 0
+AllowsStep None name n reply = reply ≡ Refused (NoCursor name)
+AllowsStep (Some place) name n reply = Stepping n reply
+
+-- SHOW: a trace that the course allows for the indexes over the table of the cursor's first FROM item.
+abbrev pub Showing : List IndexDef → ℕ → Reply → Type 0
+Showing indexes table (Trace shown) = ShowsTrace indexes table shown
+Showing indexes table reply = ⊥
+
+abbrev pub AllowsShow : Option ℕ → State → List ℕ → Reply → Type 0
+AllowsShow None s name reply = reply ≡ Refused (NoCursor name)
+AllowsShow (Some place) s name reply = Showing s.schema.indexes (cursor_at s.cursors place).table reply
+
 -- CLOSE
 abbrev pub closed : State → ℕ → List ℕ → Outcome
 closed s session cursor = do
   place ← ok_or (cursor_named s.cursors session cursor) (NoCursor cursor)
   Ok (Closed, record s { cursors = remove s.cursors place })
 
--- what a statement other than FETCH does
+-- what a statement other than FETCH, STEP and SHOW does; these three are never asked here
 abbrev pub performed : State → ℕ → Resolved → Outcome
 performed s session (asks.CreateTable def) = created s def
 performed s session (asks.CreateIndex def) = indexed s def
@@ -195,7 +203,7 @@ performed s session asks.Commit = committed s session
 performed s session asks.Rollback = rolled_back s session
 performed s session (asks.Open cursor select) = opened s session cursor select
 performed s session (asks.Close cursor) = closed s session cursor
-performed s session other = Err NotBuilt
+performed s session other = Err Syntax
 
 abbrev pub reply_of : Outcome → Reply
 reply_of (Ok done) = done.0
@@ -208,11 +216,15 @@ state_of (Err refusal) s = s
 abbrev pub AllowsAsked : Result Resolved Refusal → State → ℕ → Reply → Type 0
 AllowsAsked (Err refusal) s session reply = reply ≡ Refused refusal
 AllowsAsked (Ok (asks.Fetch name)) s session reply = AllowsFetch (cursor_named s.cursors session name) s name reply
+AllowsAsked (Ok (asks.Step name n)) s session reply = AllowsStep (cursor_named s.cursors session name) name n reply
+AllowsAsked (Ok (asks.Show name)) s session reply = AllowsShow (cursor_named s.cursors session name) s name reply
 AllowsAsked (Ok other) s session reply = reply ≡ reply_of (performed s session other)
 
 abbrev pub next_asked : Result Resolved Refusal → State → ℕ → Reply → State
 next_asked (Err refusal) s session reply = s
 next_asked (Ok (asks.Fetch name)) s session reply = fetched (cursor_named s.cursors session name) s reply
+next_asked (Ok (asks.Step name n)) s session reply = s
+next_asked (Ok (asks.Show name)) s session reply = s
 next_asked (Ok other) s session reply = state_of (performed s session other) s
 
 -- The reply may be given to the statement of a text, where there is one.

@@ -60,7 +60,6 @@ limit_word limits.Rows = codes "rows"
 limit_word limits.Pending = codes "pending"
 
 abbrev pub refusal_text : Refusal → List ℕ
-refusal_text refusals.NotBuilt = codes "not built"
 refusal_text refusals.Syntax = codes "syntax"
 refusal_text (refusals.Unknown name) = codes "unknown " ++ name
 refusal_text (refusals.Exists name) = codes "exists " ++ name
@@ -154,7 +153,6 @@ IsPlainValue (Int z) = mag z < 2 ^ 63
 IsPlainValue (Str t) = list_all (nat_le 32) t ≡ true
 
 abbrev pub IsPlainRefusal : Refusal → Type 0
-IsPlainRefusal refusals.NotBuilt = Unit {0}
 IsPlainRefusal refusals.Syntax = Unit {0}
 IsPlainRefusal (refusals.Unknown name) = IsName name
 IsPlainRefusal (refusals.Exists name) = IsName name

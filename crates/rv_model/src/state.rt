@@ -12,11 +12,12 @@ pub struct Offer {
     pub returned: Values,
 }
 
-/// An open cursor of a session, and the offers that it has left, in order.
+/// An open cursor of a session, the table of its first FROM item, and the offers that it has left, in order.
 #[derive(Drop)]
 pub struct Cursor {
     pub session: u8,
     pub name: Text,
+    pub table: u32,
     pub offers: Queue<Offer>,
 }
 

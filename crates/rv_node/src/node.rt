@@ -72,6 +72,17 @@ impl Node {
         self.children.as_slice()
     }
 
+    /// A leaf's entries or the low entries of the children, and the ids of the children, for a node that is made of
+    /// them anew. It takes no memory.
+    pub fn into_parts(self) -> (Vec<IndexEntry>, Vec<u32>)
+        ensures entries { result.0.items ≡ self.entries }
+        ensures short { length self.entries ≤ 32 }
+        ensures children { result.1.items ≡ self.children }
+        ensures parts { AreParts self.level self.entries self.children }
+    {
+        (self.entries.into_vec(), self.children.into_vec())
+    }
+
     /// The places of the first and the last child that may hold keys of a range, counted from 0. It takes no memory.
     pub fn children_for(&self, range: &Range) -> (u32, u32)
         requires { 0 < self.now.level }

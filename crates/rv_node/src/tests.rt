@@ -75,6 +75,22 @@ fn copied(alloc: Global, first: i64) -> Result<(u32, usize, bool), NoMemory> {
     Ok((copy.level(), copy.entries().len(), same))
 }
 
+/// How many entries and children a node of level 1 gives back.
+fn given_back(alloc: Global) -> Result<(usize, usize), NoMemory> {
+    let mut entries = Vec::new(alloc);
+    entries.push(entry(alloc, 5)?)?;
+    let mut children = Vec::new(alloc);
+    children.push(9)?;
+    let (entries, children) = Node::make(1, entries, children).into_parts();
+    Ok((entries.len(), children.len()))
+}
+
+#[test]
+fn a_node_gives_its_parts_back(rt: HostRuntime) -> Result<(), NoMemory> {
+    assert_eq!(rt; given_back(rt.alloc())?, (1, 1));
+    Ok(())
+}
+
 #[test]
 fn a_leaf_is_copied_with_its_entries(rt: HostRuntime) -> Result<(), NoMemory> {
     let none = Node::leaf(rt.alloc());

@@ -1,6 +1,6 @@
 -- Pages of a table's rows, kept by versions, and the rows that they make at a snapshot.
 use Rattle.std.specs.Prelude.{◌≡◌, ℕ, zero, suc, ◌+◌, ◌/◌, ◌<◌, ◌≤◌, ◌==◌, List, [], ◌++◌, Option, is_some, true, max, unwrap_or, length, if◌then◌else◌}
-use Rattle.std.specs.List.{list_all}
+use Rattle.std.specs.List.{list_all, slice_index_or}
 use Rattle.rv_value.specs.declared.value.Value.{Value}
 use Rattle.rv_value.specs.declared.record.Record.{Record}
 use Rattle.rv_rows.specs.Rows.{Ascend, with_values}
@@ -83,6 +83,13 @@ pub record IsWritten (n commit : ℕ) (page : List Record) (size : Sizes) (pages
   pub newest : AllChainsBelow (commit + 1) new_pages
   pub newest_sizes : AllChainsBelow (commit + 1) new_sizes
 
+-- the version of one page of a commit was taken out
+pub record IsTaken (n commit : ℕ) (pages new_pages : List (List (Version (List Record)))) : Type 0 where
+  pub older : (m snap : ℕ) → snap < commit → value_of new_pages m snap ≡ value_of pages m snap
+  pub others : (m : ℕ) → (m ≡ n → ⊥) → slice_index_or new_pages m [] ≡ slice_index_or pages m []
+  pub count : length new_pages ≡ length pages
+  pub newest : AllChainsBelow (commit + 1) new_pages
+
 -- what was written at a commit was taken back
 pub record IsTakenBack (commit : ℕ) (pages new_pages : List (List (Version (List Record)))) (sizes new_sizes : List (List (Version Sizes))) : Type 0 where
   pub older : (n snap : ℕ) → snap < commit → value_of new_pages n snap ≡ value_of pages n snap
@@ -91,7 +98,14 @@ pub record IsTakenBack (commit : ℕ) (pages new_pages : List (List (Version (Li
   pub below : AllChainsBelow commit new_pages
   pub below_sizes : AllChainsBelow commit new_sizes
 
--- the sizes after a page took another one's place
-pub record AreSizesAfter (number : ℕ) (values : Option (List Value)) (page new_page : List Record) (old new : Sizes) : Type 0 where
-  pub pages : new.pages ≡ pages_with number values old.pages
-  pub rows : new.rows + length page ≡ old.rows + length new_page
+-- the rows of a page, none where it was not written yet
+abbrev pub page_of_versions : List (List (Version (List Record))) → ℕ → ℕ → List Record
+page_of_versions pages n snap = unwrap_or (value_of pages n snap) []
+
+-- the page of a row after the row was given values, or was taken away
+abbrev pub page_after : ℕ → Option (List Value) → List (List (Version (List Record))) → ℕ → List Record
+page_after number values pages commit = with_values number values (page_of_versions pages (number / 32) commit)
+
+-- the sizes with a page's rows
+abbrev pub sizes_with : Sizes → List Record → Sizes
+sizes_with others page = record { pages = others.pages; rows = others.rows + length page }

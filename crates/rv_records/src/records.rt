@@ -3,7 +3,7 @@ ghost use Rattle.rv_rows.specs.Rows.{Ascend, with_values};
 ghost use Rattle.rv_reader.specs.Tables.{page_of, row_at, IsTable};
 ghost use Rattle.std.specs.Option.{option_copied};
 ghost use Rattle.rv_versions.specs.Chains.{versions_to, AllChainsBelow};
-ghost use Rattle.rv_records.specs.Pages.{page_at, rows_at, pages_at, IsBelow, IsSame, IsPut, IsWritten, IsTakenBack};
+ghost use Rattle.rv_records.specs.Pages.{page_after, page_at, page_of_versions, rows_at, pages_at, sizes_with, IsBelow, IsSame, IsPut, IsTaken, IsWritten, IsTakenBack};
 
 use crate::finding::find_row;
 use rv_reader::Sizes;
@@ -126,50 +126,29 @@ impl Records {
         }
     }
 
-    fn page_copy(&self, n: u32, snap: u64) -> Result<Rows, NoMemory>
-        ensures { IfOk result (λ page. page ≡ page_at self.now snap n) }
-    {
-        match self.pages.read(n, snap) {
-            Some(rows) => rows.copy(self.alloc),
-            None => Ok(Rows::new(self.alloc)),
-        }
-    }
-
-    /// A page with a row's values, or without the row.
-    fn page_with(&self, row: RowNo, values: Option<Values>, snap: u64) -> Result<Rows, NoMemory>
-        requires { row.0 < 4294967296 }
-        ensures { IfOk result (λ page. page ≡ with_values row.0 values (page_at self.now snap (row.0 / 32))) }
-    {
-        let mut page = self.page_copy((row.0 / 32) as u32, snap)?;
-        match values {
-            Some(values) => page.put(Record { row, values })?,
-            None => page.remove(row),
-        }
-        Ok(page)
-    }
-
-    /// The sizes after a page took its old one's place; `given` where its row was given values.
-    fn sizes_with(&self, row: RowNo, given: bool, page: &Rows, snap: u64) -> Sizes
+    /// The sizes once a row is given values or taken away, without the rows of its page.
+    fn sizes_without(&self, row: RowNo, given: bool, snap: u64) -> Sizes
         requires narrow { row.0 < 4294967296 }
         requires kept { self.now.horizon ≤ snap }
         ensures pages { result.pages ≡ (if given then max (pages_at self.now snap) (row.0 / 32 + 1) else pages_at self.now snap) }
-        ensures rows { result.rows + length (page_at self.now snap (row.0 / 32)) ≡ length (rows_at self.now snap) + length page.now }
+        ensures rows { result.rows + length (page_at self.now snap (row.0 / 32)) ≡ length (rows_at self.now snap) }
+        ensures few { result.rows ≤ 4294967296 }
     {
         let n = (row.0 / 32) as u32;
         let sizes = self.sizes(snap);
-        let before = self.rows(n, snap).len() as u64;
+        let own = self.rows(n, snap).len() as u64;
         Sizes {
             pages: if given {
                 sizes.pages.max(n + 1)
             } else {
                 sizes.pages
             },
-            rows: sizes.rows - before + page.as_slice().len() as u64,
+            rows: sizes.rows - own,
         }
     }
 
     /// Gives a row values, or takes it away, at a commit and all that follow; no version is above the commit. It
-    /// copies one page. After `NoMemory` the call `abandon` gives the rows before the commit.
+    /// copies one page, where the commit has not written it before. After `NoMemory` the call `abandon` gives the rows before the commit.
     pub fn put(&mut self, row: RowNo, values: Option<Values>, commit: u64) -> Result<(), NoMemory>
         requires narrow { row.0 < 4294967296 }
         requires later { self.old.horizon < commit }
@@ -179,14 +158,13 @@ impl Records {
         ensures horizon { self.new.horizon ≡ self.old.horizon }
         ensures newest { IsBelow (commit + 1) self.new }
     {
-        let given = values.is_some();
-        let page = self.page_with(row, values, commit)?;
-        let sizes = self.sizes_with(row, given, &page, commit);
-        write_both(
+        let sizes = self.sizes_without(row, values.is_some(), commit);
+        put_row(
+            self.alloc,
             &mut self.pages,
             &mut self.sizes,
-            (row.0 / 32) as u32,
-            page,
+            row,
+            values,
             sizes,
             commit,
         )
@@ -230,6 +208,96 @@ fn take_back(pages: &mut Versions<Rows>, sizes: &mut Versions<Sizes>, commit: u6
 {
     pages.abandon(commit);
     sizes.abandon(commit);
+}
+
+/// A page, for another one that is to be written in its place: the page that the commit wrote itself, which is taken
+/// out, or a copy of an older one.
+fn take_page(
+    alloc: Global,
+    pages: &mut Versions<Rows>,
+    n: u32,
+    commit: u64,
+) -> Result<Rows, NoMemory>
+    requires { AllChainsBelow (commit + 1) pages.old }
+    ensures page { IfOk result (λ page. page ≡ page_of_versions pages.old n commit) }
+    ensures taken { IsTaken n commit pages.old pages.new }
+{
+    match pages.take(n, commit) {
+        Some(page) => Ok(page),
+        None => copy_page(alloc, pages, n, commit),
+    }
+}
+
+fn copy_page(alloc: Global, pages: &Versions<Rows>, n: u32, snap: u64) -> Result<Rows, NoMemory>
+    ensures { IfOk result (λ page. page ≡ page_of_versions pages.now n snap) }
+{
+    match pages.read(n, snap) {
+        Some(page) => page.copy(alloc),
+        None => Ok(Rows::new(alloc)),
+    }
+}
+
+/// Gives a row of a page values, or takes it away.
+fn change_page(page: &mut Rows, row: RowNo, values: Option<Values>) -> Result<(), NoMemory>
+    ensures { OnOk result (page.new ≡ with_values row.0 values page.old) }
+{
+    match values {
+        Some(values) => page.put(Record { row, values }),
+        None => {
+            page.remove(row);
+            Ok(())
+        }
+    }
+}
+
+/// A page with a row's values, or without the row, of which the commit's own version is taken out.
+fn page_with(
+    alloc: Global,
+    pages: &mut Versions<Rows>,
+    row: RowNo,
+    values: Option<Values>,
+    commit: u64,
+) -> Result<Rows, NoMemory>
+    requires narrow { row.0 < 4294967296 }
+    requires newest { AllChainsBelow (commit + 1) pages.old }
+    ensures page { IfOk result (λ page. page ≡ page_after row.0 values pages.old commit) }
+    ensures taken { IsTaken (row.0 / 32) commit pages.old pages.new }
+{
+    let mut page = take_page(alloc, pages, (row.0 / 32) as u32, commit)?;
+    change_page(&mut page, row, values)?;
+    Ok(page)
+}
+
+/// Gives a row values, or takes it away, and writes its page and the sizes, which are given without the page's rows.
+/// Where memory is wanted, all that was written at the commit is taken back.
+fn put_row(
+    alloc: Global,
+    pages: &mut Versions<Rows>,
+    sizes: &mut Versions<Sizes>,
+    row: RowNo,
+    values: Option<Values>,
+    others: Sizes,
+    commit: u64,
+) -> Result<(), NoMemory>
+    requires narrow { row.0 < 4294967296 }
+    requires few { others.rows ≤ 4294967296 }
+    requires newest { AllChainsBelow (commit + 1) pages.old }
+    requires newest_sizes { AllChainsBelow (commit + 1) sizes.old }
+    ensures ok { OnOk result (IsWritten (row.0 / 32) commit (page_after row.0 values pages.old commit) (sizes_with others (page_after row.0 values pages.old commit)) pages.old pages.new sizes.old sizes.new) }
+    ensures err { OnErr result (IsTakenBack commit pages.old pages.new sizes.old sizes.new) }
+{
+    let page = match page_with(alloc, pages, row, values, commit) {
+        Ok(page) => page,
+        Err(NoMemory) => {
+            take_back(pages, sizes, commit);
+            return Err(NoMemory);
+        }
+    };
+    let size = Sizes {
+        pages: others.pages,
+        rows: others.rows + page.as_slice().len() as u64,
+    };
+    write_both(pages, sizes, (row.0 / 32) as u32, page, size, commit)
 }
 
 /// Writes a page and the sizes. Where memory is wanted, all that was written at the commit is taken back.

@@ -40,7 +40,7 @@ outcome_of done = Ok done
 
 -- ---- statements that leave the cursors
 
-abbrev creates : State → TableDef → Option ℕ → Bool → Outcome
+abbrev pub creates : State → TableDef → Option ℕ → Bool → Outcome
 creates s def busy full = do
   idle ← refuse_at busy Busy
   room ← refuse_if full (Limit Tables 64)
@@ -54,7 +54,7 @@ created_by s c def None false = refl
 pub created_with : (s : State) (c : List Cursor) (def : TableDef) → created (with_cursors s c) def ≡ outcome_with c (created s def)
 created_with s c def = created_by s c def (lowest s.transactions.active) (nat_lt 63 (length s.schema.tables))
 
-abbrev indexes : State → IndexDef → Option ℕ → Bool → Outcome
+abbrev pub indexes : State → IndexDef → Option ℕ → Bool → Outcome
 indexes s def busy full = do
   idle ← refuse_at busy Busy
   room ← refuse_if full (Limit Indexes 8)
@@ -72,7 +72,7 @@ indexed_with s c def = indexed_by s c def (lowest s.transactions.active) (nat_lt
 pub indexed_done : (old mid new : Stand) (replies : Reply × Reply) (c : List Cursor) (def : IndexDef) → mid.db ≡ old.db → Does (indexed mid.db def) mid replies new → Done (indexed (with_cursors old.db c) def) (with_cursors old.db c) replies.0 (with_cursors new.db c)
 indexed_done old mid new replies c def same does = subst (λ (s : State). Done (indexed (with_cursors s c) def) (with_cursors s c) replies.0 (with_cursors new.db c)) same (done_with (indexed mid.db def) (indexed (with_cursors mid.db c) def) mid new replies c (indexed_with mid.db c def) does)
 
-abbrev begins : State → Result (ℕ × Transactions) Refusal → Outcome
+abbrev pub begins : State → Result (ℕ × Transactions) Refusal → Outcome
 begins s r = do
   begun ← r
   Ok (Began begun.0, record s { transactions = begun.1; bases = s.bases ++ s.rows ∷ [] })
@@ -84,7 +84,7 @@ began_by s c (Err e) = refl
 pub began_with : (s : State) (c : List Cursor) (session : ℕ) (read_only : Bool) → began (with_cursors s c) session read_only ≡ outcome_with c (began s session read_only)
 began_with s c session read_only = began_by s c (transactions.began s.transactions session read_only s.last)
 
-abbrev inserts : State → Result (RowNo × Transactions) Refusal → Outcome
+abbrev pub inserts : State → Result (RowNo × Transactions) Refusal → Outcome
 inserts s r = do
   more ← r
   Ok (Inserted more.0, record s { transactions = more.1 })
@@ -96,7 +96,7 @@ inserted_by s c (Err e) = refl
 pub inserted_with : (s : State) (c : List Cursor) (session table : ℕ) (values : List Value) → inserted (with_cursors s c) session table values ≡ outcome_with c (inserted s session table values)
 inserted_with s c session table values = inserted_by s c (transactions.inserted s.transactions session table values)
 
-abbrev changes : State → Result (ℕ × Transactions) Refusal → Outcome
+abbrev pub changes : State → Result (ℕ × Transactions) Refusal → Outcome
 changes s r = do
   done ← r
   Ok (Touched done.0, record s { transactions = done.1 })
@@ -138,7 +138,7 @@ commits_made : (changes : List Change) (s : State) (session own : ℕ) → is_re
 commits_made [] s session own = refl
 commits_made (x ∷ xs) s session own = refl
 
-abbrev commits : State → ℕ → Option ℕ → Outcome
+abbrev pub commits : State → ℕ → Option ℕ → Outcome
 commits s session place = do
   own ← ok_or place NoTransaction
   Ok (committed_with (transaction_at s.transactions.active own).changes s session own)
@@ -157,7 +157,7 @@ committed_done s c session replies new does =
     let place = transaction_of s.db.transactions.active session in
     ended_with (commits s.db session place) (commits (with_cursors s.db c) session place) s new replies c (other_cursors c session) (commit_made s.db session place) (commit_over s.db c session place) does
 
-abbrev rolls : State → ℕ → Option ℕ → Outcome
+abbrev pub rolls : State → ℕ → Option ℕ → Outcome
 rolls s session place = do
   own ← ok_or place NoTransaction
   Ok (RolledBack, ended s own session (transactions.without s.transactions own))

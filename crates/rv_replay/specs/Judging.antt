@@ -14,7 +14,7 @@ use Rattle.rv_model.specs.declared.state.State.{State}
 use Rattle.rv_model.specs.History.{IsNext, stepped}
 use Rattle.rv_model.specs.Database.{cursor_at}
 use Rattle.rv_model.specs.Offers.{same_values}
-use Rattle.rv_model.specs.Step.{Allows, AllowsAsked, AllowsFetch, Offers, Outcome, fetched, next, next_asked, offers_after, other_cursors, reply_of, state_of}
+use Rattle.rv_model.specs.Step.{Allows, AllowsAsked, AllowsFetch, AllowsShow, AllowsStep, Offers, Outcome, fetched, next, next_asked, offers_after, other_cursors, reply_of, state_of}
 
 -- A statement was done: this is its reply, and the state after it.
 abbrev pub Done : Outcome → State → Reply → State → Type 0
@@ -34,6 +34,13 @@ JudgesAt b place old given new = Judges b (Offers (cursor_at old place).offers g
 
 abbrev pub JudgesFetch : Bool → Option ℕ → State → List ℕ → Reply → State → Type 0
 JudgesFetch b place old name given new = Judges b (AllowsFetch place old name given) (new ≡ fetched place old given)
+
+-- STEP and SHOW leave the state
+abbrev pub JudgesStep : Bool → Option ℕ → State → List ℕ → ℕ → Reply → Type 0
+JudgesStep b place s name most given = Judges b (AllowsStep place name most given) (s ≡ s)
+
+abbrev pub JudgesShow : Bool → Option ℕ → State → List ℕ → Reply → Type 0
+JudgesShow b place s name given = Judges b (AllowsShow place s name given) (s ≡ s)
 
 abbrev pub JudgesAsked : Bool → Result Resolved Refusal → State → ℕ → Reply → State → Type 0
 JudgesAsked b asked old session given new = Judges b (AllowsAsked asked old session given) (new ≡ next_asked asked old session given)

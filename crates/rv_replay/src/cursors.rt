@@ -1,6 +1,6 @@
 //! Open cursors: how they are found, opened and closed.
 ghost use Rattle.std.specs.Prelude.{◌≡◌, ◌<◌, Ok, IfErr, IfOk, length};
-ghost use Rattle.rv_model.specs.Database.{cursor_named};
+ghost use Rattle.rv_model.specs.Database.{cursor_at, cursor_named};
 ghost use Rattle.rv_model.specs.Step.{other_cursors, own_cursors};
 ghost use Rattle.rv_txn.specs.Calls.{IsFault};
 ghost use Rattle.rv_core.specs.Doing.{opening_base};
@@ -49,6 +49,14 @@ pub fn fetch_at(cursors: &mut Items<Cursor>, place: usize, given: &Reply) -> boo
     ensures { JudgesAt result place cursors.old given.now cursors.new }
 {
     take_given(&mut cursors.at_mut(place).offers, given)
+}
+
+/// The table of the first FROM item of the cursor in a place.
+pub fn table_at(cursors: &Items<Cursor>, place: usize) -> u32
+    requires { place < length cursors.now }
+    ensures { result ≡ (cursor_at cursors.now place).table }
+{
+    cursors.as_slice()[place].table
 }
 
 /// The base of the session's transaction, where it may open a cursor of a name over tables.

@@ -2,6 +2,7 @@
 ghost use Rattle.std.specs.Prelude.{◌≡◌, ◌≤◌, ◌↔◌, All, IfOk, IsTrue, length};
 ghost use Rattle.rv_model.specs.Database.{empty};
 ghost use Rattle.rv_model.specs.Standing.{HasRoom};
+ghost use Rattle.rv_decide.specs.Naming.{AreNamedApart};
 ghost use Rattle.rv_replay.specs.Judging.{JudgesEntry};
 ghost use Rattle.rv_replay.specs.Replaying.{Tells};
 
@@ -67,6 +68,7 @@ fn judge_entry(
 ) -> Result<bool, NoMemory>
     requires short { length entry.now.text ≤ 4096 }
     requires room { HasRoom plain.old }
+    requires apart { AreNamedApart plain.old.schema.indexes }
     ensures { IfOk result (λ follows. JudgesEntry follows plain.old phase entry.now plain.new) }
 {
     if entry.session < 1 || 8 < entry.session || entry.phase < phase {

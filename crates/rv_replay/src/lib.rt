@@ -3,9 +3,11 @@
 
 pub mod cursors;
 pub mod following;
+pub mod opening;
 pub mod plain;
 pub mod queues;
 pub mod same;
+pub mod telling;
 #[cfg(test)]
 mod tests;
 

@@ -6,14 +6,17 @@ ghost use Rattle.rv_parse.specs.Reading.{statement_of};
 ghost use Rattle.rv_lang.specs.declared.reply.Reply.TheVariants.{Refused};
 ghost use Rattle.rv_catalog.specs.Fits.{FitsSchema, IsNewIndex, IsNewTable, IsQueryOf, IsRowOf, is_over_table};
 ghost use Rattle.rv_core.specs.Doing.{IsWhole};
+ghost use Rattle.rv_decide.specs.Naming.{AreNamedApart};
 ghost use Rattle.rv_model.specs.Database.{cursor_named, empty};
 ghost use Rattle.rv_model.specs.Standing.{HasRoom};
 ghost use Rattle.rv_model.specs.Step.{began, changed, closed, committed, created, indexed, inserted, opened, rolled_back};
-ghost use Rattle.rv_replay.specs.Judging.{Compares, Done, JudgesAsked, JudgesFetch, JudgesStatement, is_refused, kept_after};
+ghost use Rattle.rv_replay.specs.Judging.{Compares, Done, JudgesAsked, JudgesFetch, JudgesShow, JudgesStatement, JudgesStep, is_refused, kept_after};
 
-use crate::cursors::{close_all, cursor_named, fetch_at, may_open};
+use crate::cursors::{close_all, cursor_named, fetch_at, may_open, table_at};
+use crate::opening::{first_table, offers_of};
 use crate::queues::queue_of;
 use crate::same::same_reply;
+use crate::telling::{may_step, may_tell};
 use rv_catalog::{BindFault, Catalog, IndexDef, Resolved, Select, TableDef};
 use rv_core::database::Database;
 use rv_core::statements::understand;
@@ -42,7 +45,7 @@ impl Model for PlainDatabase {
 
     ghost Value = { State };
 
-    ghost view = { λ p. with_cursors p.database.db p.cursors };
+    ghost view = { λ p. with_cursors p.database.stand.db p.cursors };
 }
 
 impl PlainDatabase {
@@ -147,10 +150,9 @@ impl PlainDatabase {
         Ok(reply)
     }
 
-    /// OPEN of a query over one FROM item.
+    /// OPEN.
     fn open(&mut self, session: u8, name: Text, select: &Select) -> Result<Reply, NoMemory>
-        requires one { length select.now.tables ≡ 1 }
-        requires query { IsQueryOf self.old.schema select.now }
+        requires { IsQueryOf self.old.schema select.now }
         ensures { IfOk result (λ reply. Done (opened self.old session name select.now) self.old reply self.new) }
     {
         match may_open(
@@ -166,11 +168,12 @@ impl PlainDatabase {
             Err(TxnFault::Refused(refusal)) => return Ok(Reply::Refused(refusal)),
             Err(TxnFault::NoMemory) => return Err(NoMemory),
         }
-        let offers = self.database.offers(session, select)?;
+        let offers = offers_of(self.alloc, &self.database, session, select)?;
         let offers = queue_of(self.alloc, offers)?;
         self.cursors.push(Cursor {
             session,
             name,
+            table: first_table(select),
             offers,
         })?;
         Ok(Reply::Opened)
@@ -183,6 +186,30 @@ impl PlainDatabase {
         match cursor_named(&self.cursors, session, &name) {
             Some(place) => fetch_at(&mut self.cursors, place, given),
             None => same_reply(&Reply::Refused(Refusal::NoCursor(name)), given),
+        }
+    }
+
+    /// STEP: whether so many background steps may have been done.
+    fn step(&self, session: u8, name: Text, most: u64, given: &Reply) -> bool
+        ensures { JudgesStep result (cursor_named self.now.cursors session name) self.now name most given.now }
+    {
+        match cursor_named(&self.cursors, session, &name) {
+            Some(_place) => may_step(most, given),
+            None => same_reply(&Reply::Refused(Refusal::NoCursor(name)), given),
+        }
+    }
+
+    /// SHOW: whether the cursor may show this.
+    fn show(&self, session: u8, name: Text, given: &Reply) -> Result<bool, NoMemory>
+        requires { AreNamedApart self.now.schema.indexes }
+        ensures { IfOk result (λ allowed. JudgesShow allowed (cursor_named self.now.cursors session name) self.now name given.now) }
+    {
+        match cursor_named(&self.cursors, session, &name) {
+            Some(place) => {
+                let table = table_at(&self.cursors, place);
+                may_tell(self.alloc, self.database.catalog().indexes(), table, given)
+            }
+            None => Ok(same_reply(&Reply::Refused(Refusal::NoCursor(name)), given)),
         }
     }
 
@@ -244,6 +271,7 @@ pub fn judge(
 ) -> Result<bool, NoMemory>
     requires short { length text.now ≤ 4096 }
     requires room { HasRoom plain.old }
+    requires apart { AreNamedApart plain.old.schema.indexes }
     ensures { IfOk result (λ allowed. JudgesStatement allowed plain.old session (statement_of text.now) given.now plain.new) }
 {
     let statement = read_statement(alloc, text)?;
@@ -258,6 +286,7 @@ fn judge_statement(
 ) -> Result<bool, NoMemory>
     requires parts { IfSome statement.now HasParts }
     requires room { HasRoom plain.old }
+    requires apart { AreNamedApart plain.old.schema.indexes }
     ensures { IfOk result (λ allowed. JudgesStatement allowed plain.old session statement.now given.now plain.new) }
 {
     match understand(plain.catalog(), statement) {
@@ -275,6 +304,7 @@ fn judge_asked(
     given: &Reply,
 ) -> Result<bool, NoMemory>
     requires room { HasRoom plain.old }
+    requires apart { AreNamedApart plain.old.schema.indexes }
     requires fits { FitsSchema plain.old.schema asked }
     requires whole { IsWhole asked }
     ensures { IfOk result (λ allowed. JudgesAsked allowed (Ok asked) plain.old session given.now plain.new) }
@@ -298,8 +328,7 @@ fn judge_asked(
         Resolved::Open { cursor, select } => compared(plain.open(session, cursor, &select), given),
         Resolved::Fetch(name) => Ok(plain.fetch(session, name, given)),
         Resolved::Close(name) => compared(plain.close(session, name), given),
-        Resolved::Step { .. } | Resolved::Show(_) => {
-            Ok(same_reply(&Reply::Refused(Refusal::NotBuilt), given))
-        }
+        Resolved::Step { cursor, n } => Ok(plain.step(session, cursor, n, given)),
+        Resolved::Show(name) => plain.show(session, name, given),
     }
 }

@@ -32,7 +32,6 @@ pub fn same_refusal(a: &Refusal, b: &Refusal) -> bool
     ensures { IsTrue result ↔ (a.now ≡ b.now) }
 {
     match (a, b) {
-        (Refusal::NotBuilt, Refusal::NotBuilt) => true,
         (Refusal::Syntax, Refusal::Syntax) => true,
         (Refusal::Unknown(a), Refusal::Unknown(b)) => same_text(a, b),
         (Refusal::Exists(a), Refusal::Exists(b)) => same_text(a, b),

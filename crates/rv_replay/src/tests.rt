@@ -1,8 +1,9 @@
 //! Histories that were written by hand, with their replies by the rules.
 use crate::*;
-use rv_lang::{Refusal, Reply};
+use rv_judge::{Control, Strategy};
+use rv_lang::{Refusal, Reply, Shown, ShownEvent};
 use rv_model::Entry;
-use rv_value::{NoMemory, RowNo, Text, Value, Values};
+use rv_value::{Items, NoMemory, RowNo, Text, Value, Values};
 use std::alloc::Global;
 use std::test::Fail;
 
@@ -147,5 +148,91 @@ fn sessions_phases_and_replies_are_tested(rt: HostRuntime) -> Result<(), Fail> {
     assert_eq!(rt; replayed(alloc, &other)?, Replayed::Broken { entry: 1 });
     let syntax = [entry(alloc, 1, 1, "begin;;", Reply::Refused(Refusal::Syntax))?];
     assert_eq!(rt; replayed(alloc, &syntax)?, Replayed::Legal);
+    Ok(())
+}
+
+/// A cursor over an empty table, and this reply to a call on it.
+fn asked(alloc: Global, text: &str, reply: Reply) -> Result<Vec<Entry>, NoMemory> {
+    let mut all = vec![in alloc;
+        entry(alloc, 1, 1, "CREATE TABLE T (A BIGINT)", Reply::Created)?,
+        entry(alloc, 1, 1, "BEGIN", Reply::Began(1))?,
+        entry(alloc, 1, 1, "OPEN C SELECT * FROM T", Reply::Opened)?,
+    ]?;
+    all.push(entry(alloc, 1, 1, text, reply)?)?;
+    Ok(all)
+}
+
+#[test]
+fn a_step_does_no_more_than_is_asked(rt: HostRuntime) -> Result<(), Fail> {
+    let alloc = rt.alloc();
+    let done = asked(alloc, "STEP C 3", Reply::Stepped(3))?;
+    assert_eq!(rt; replayed(alloc, done.as_slice())?, Replayed::Legal);
+    let more = asked(alloc, "STEP C 3", Reply::Stepped(4))?;
+    assert_eq!(rt;
+        replayed(alloc, more.as_slice())?,
+        Replayed::Broken { entry: 4 }
+    );
+    Ok(())
+}
+
+/// A trace of a table alone, from this control on.
+fn trace(alloc: Global, control: Control) -> Result<Reply, NoMemory> {
+    Ok(Reply::Trace(Shown {
+        strategy: Strategy::Table,
+        events: Items::from_vec(vec![in alloc; ShownEvent::At(control)]?),
+        pages: 7,
+        leaves: 0,
+        fetches: 0,
+    }))
+}
+
+#[test]
+fn a_shown_trace_is_one_of_the_course(rt: HostRuntime) -> Result<(), Fail> {
+    let alloc = rt.alloc();
+    let told = asked(alloc, "SHOW C", trace(alloc, Control::FinalTable)?)?;
+    assert_eq!(rt; replayed(alloc, told.as_slice())?, Replayed::Legal);
+    let invented = asked(alloc, "SHOW C", trace(alloc, Control::FinalList)?)?;
+    assert_eq!(rt;
+        replayed(alloc, invented.as_slice())?,
+        Replayed::Broken { entry: 4 }
+    );
+    Ok(())
+}
+
+/// Two tables of a row each, and a cursor over both; then a fetch with this reply.
+fn joined(alloc: Global, reply: Reply) -> Result<Vec<Entry>, NoMemory> {
+    let first = Reply::Inserted(RowNo(0));
+    let mut all = vec![in alloc;
+        entry(alloc, 1, 1, "CREATE TABLE X (K BIGINT)", Reply::Created)?,
+        entry(alloc, 1, 1, "CREATE TABLE Y (K BIGINT)", Reply::Created)?,
+        entry(alloc, 1, 1, "BEGIN", Reply::Began(1))?,
+        entry(alloc, 1, 1, "INSERT INTO X VALUES (1)", first)?,
+        entry(
+            alloc,
+            1,
+            1,
+            "INSERT INTO Y VALUES (2)",
+            Reply::Inserted(RowNo(0))
+        )?,
+        entry(alloc, 1, 1, "COMMIT", Reply::Committed(1))?,
+        entry(alloc, 1, 1, "BEGIN", Reply::Began(2))?,
+    ]?;
+    let over = "OPEN C SELECT X.K FROM X, Y WHERE X.K < Y.K";
+    all.push(entry(alloc, 1, 1, over, Reply::Opened)?)?;
+    all.push(entry(alloc, 1, 1, "FETCH C", reply)?)?;
+    Ok(all)
+}
+
+#[test]
+fn a_cursor_over_two_items_offers_what_qualifies(rt: HostRuntime) -> Result<(), Fail> {
+    let alloc = rt.alloc();
+    let given = Reply::Row(Values::from_vec(vec![in alloc; Value::Int(1)]?));
+    let told = joined(alloc, given)?;
+    assert_eq!(rt; replayed(alloc, told.as_slice())?, Replayed::Legal);
+    let ended = joined(alloc, Reply::End)?;
+    assert_eq!(rt;
+        replayed(alloc, ended.as_slice())?,
+        Replayed::Broken { entry: 9 }
+    );
     Ok(())
 }

@@ -52,7 +52,6 @@ fn every_reply_has_its_words(rt: HostRuntime) -> Result<(), Fail> {
 fn every_refusal_has_its_words(rt: HostRuntime) -> Result<(), Fail> {
     let alloc = rt.alloc();
     for (refusal, words) in [
-        (Refusal::NotBuilt, "3 ?\n= not built\n"),
         (Refusal::Syntax, "3 ?\n= syntax\n"),
         (
             Refusal::Unknown(Text::read(alloc, "T")?),

@@ -98,7 +98,6 @@ fn write_refusal<K: Sink>(
     ensures { Goes sofar (K.written sink.old) (K.written sink.new) (K.faults sink.old) (K.faults sink.new) result (refusal_text refusal.now) }
 {
     match refusal {
-        Refusal::NotBuilt => write_next(sink, sofar, b"not built"),
         Refusal::Syntax => write_next(sink, sofar, b"syntax"),
         Refusal::Unknown(name) => write_two(sink, sofar, b"unknown ", name.as_str().as_bytes()),
         Refusal::Exists(name) => write_two(sink, sofar, b"exists ", name.as_str().as_bytes()),

@@ -60,6 +60,13 @@ module _ {T : Type 0} where
   AllBelow-set high zero (x ∷ xs) v b l = (l, b.1)
   AllBelow-set high (suc i) (x ∷ xs) v b l = (b.0, AllBelow-set high i xs v b.1 l)
 
+  -- the last one is read at its own commit
+  pub value_from-newest : (best : Option T) (commit i : ℕ) (vs : List (Version T)) (d : Version T) → i + 1 ≡ length vs → (get_or vs i d).commit ≡ commit → value_from best vs commit ≡ Some (get_or vs i d).value
+  value_from-newest best commit i [] d e same = absurd (omega arith)
+  value_from-newest best commit zero (x ∷ []) d e same = grind (arith, nat_tests)
+  value_from-newest best commit zero (x ∷ y ∷ ys) d e same = absurd (omega arith)
+  value_from-newest best commit (suc i) (x ∷ xs) d e same = value_from-newest (if nat_le x.commit commit then Some x.value else best) commit i xs d (omega arith) same
+
   -- without the last one
   pub value_from-front : (best : Option T) (i : ℕ) (vs : List (Version T)) (d : Version T) (snap : ℕ) → i + 1 ≡ length vs → snap < (get_or vs i d).commit → value_from best (take i vs) snap ≡ value_from best vs snap
   value_from-front best i [] d snap e l = absurd (omega arith)
@@ -181,7 +188,7 @@ module _ {T : Type 0} where
 
 pub ruleset read_steps = (value_from-zero, value_from-count)
 
-pub ruleset chain_steps = (value_from-push, value_from-last, value_from-front, AscendFrom-push, AscendFrom-last, AscendFrom-take, AllBelow-push, AllBelow-set, AllBelow-front, AllBelow-more, AllBelow-none, earlier)
+pub ruleset chain_steps = (value_from-push, value_from-last, value_from-newest, value_from-front, AscendFrom-push, AscendFrom-last, AscendFrom-take, AllBelow-push, AllBelow-set, AllBelow-front, AllBelow-more, AllBelow-none, earlier)
 
 pub ruleset purge_steps = (value_from-drop, AscendFrom-drop, AllBelow-drop, versions_to-drop)
 

@@ -1,4 +1,4 @@
-ghost use Rattle.std.specs.Prelude.{◌≡◌, ℕ, ◌+◌, ◌<◌, ◌≤◌, [], drop, length, IfErr, OnOk};
+ghost use Rattle.std.specs.Prelude.{◌≡◌, ℕ, ◌+◌, ◌<◌, ◌≤◌, [], Some, drop, length, IfErr, IfSome, IfNone, OnOk};
 ghost use Rattle.std.specs.Option.{option_copied};
 ghost use Rattle.rv_versions.specs.Chains.{value_at, AscendFrom, AllBelow, IsWritten, versions_to};
 
@@ -68,6 +68,26 @@ impl<T: Drop> Chain<T> {
         match self.versions.push(Version { commit, value }) {
             Ok(()) => Ok(()),
             Err(failed) => Err(failed.value.value),
+        }
+    }
+
+    /// Takes the version of a commit out, above which there is none; None, and nothing changes, where there is none of
+    /// this commit.
+    #[tactic(auto, using(crate::proofs::Values::chain_steps))]
+    pub fn take(&mut self, commit: u64) -> Option<T>
+        requires { AllBelow (commit + 1) self.old }
+        ensures some { IfSome result (λ value. value_at self.old commit ≡ Some value) }
+        ensures none { IfNone result (self.new ≡ self.old) }
+        ensures same { (snap : ℕ) → snap < commit → value_at self.new snap ≡ value_at self.old snap }
+        ensures below { AllBelow commit self.new }
+    {
+        let len = self.versions.len();
+        if len == 0 || self.versions[len - 1].commit != commit {
+            return None;
+        }
+        match self.versions.pop() {
+            Some(version) => Some(version.value),
+            None => None,
         }
     }
 

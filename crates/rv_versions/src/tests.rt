@@ -31,3 +31,16 @@ fn places_between_ids_are_empty(rt: HostRuntime) -> Result<(), Fail> {
     assert_eq!(rt; versions.read(4, 9), None);
     Ok(())
 }
+
+#[test]
+fn taken_out_and_written_again(rt: HostRuntime) -> Result<(), Fail> {
+    let mut versions = Versions::new(rt.alloc());
+    assert!(rt; versions.write(0, 4, 'b').is_ok());
+    assert_eq!(rt; versions.take(0, 4), Some('b'));
+    assert_eq!(rt; versions.take(0, 4), None);
+    assert_eq!(rt; versions.read(0, 9), None);
+    assert!(rt; versions.write(0, 4, 'c').is_ok());
+    assert_eq!(rt; versions.read(0, 4), Some(&'c'));
+    assert_eq!(rt; versions.take(1, 4), None);
+    Ok(())
+}

@@ -1,6 +1,6 @@
-ghost use Rattle.std.specs.Prelude.{◌≡◌, ◌==◌, ℕ, ◌+◌, ◌<◌, ◌≤◌, List, [], length, max, slice_index_or, IfErr, OnOk, vec_capacity};
+ghost use Rattle.std.specs.Prelude.{◌≡◌, ◌==◌, ℕ, ◌+◌, ◌<◌, ◌≤◌, List, [], length, max, slice_index_or, IfErr, IfSome, IfNone, OnOk, Some, vec_capacity};
 ghost use Rattle.std.specs.Option.{option_copied};
-ghost use Rattle.rv_versions.specs.Chains.{value_of, versions_to, AllChainsBelow, IsPut, IsFilled};
+ghost use Rattle.rv_versions.specs.Chains.{value_of, versions_to, AllBelow, AllChainsBelow, IsPut, IsFilled};
 
 use crate::chain::Chain;
 use std::alloc::Global;
@@ -110,6 +110,26 @@ impl<T: Drop> Versions<T> {
         match self.chains.push(chain) {
             Ok(()) => Ok(()),
             Err(_) => unreachable!(),
+        }
+    }
+
+    /// Takes the version of a commit out of an id, so that its value can be changed and written again; no version is
+    /// above the commit. None, and nothing changes, where the id has none of this commit. It takes no memory.
+    pub fn take(&mut self, id: u32, commit: u64) -> Option<T>
+        requires { AllChainsBelow (commit + 1) self.old }
+        ensures some { IfSome result (λ value. value_of self.old id commit ≡ Some value) }
+        ensures none { IfNone result (self.new ≡ self.old) }
+        ensures len { length self.new ≡ length self.old }
+        ensures same { (other snap : ℕ) → snap < commit → value_of self.new other snap ≡ value_of self.old other snap }
+        ensures others { (other : ℕ) → (other ≡ id → ⊥) → slice_index_or self.new other [] ≡ slice_index_or self.old other [] }
+        ensures gone { AllBelow commit (slice_index_or self.new id []) }
+        ensures below { AllChainsBelow (commit + 1) self.new }
+    {
+        let id = id as usize;
+        if id < self.chains.len() {
+            self.chains[id].take(commit)
+        } else {
+            None
         }
     }
 

@@ -1,11 +1,12 @@
 -- What is read is what the words ask.
-use Rattle.std.proofs.Common.{◌≡◌, ℕ, List, [], ◌∷◌, refl, sym, ap, ◌∙◌, Option, Some, None, inl, inr, unwrap_or}
+use Rattle.std.proofs.Common.{◌≡◌, ◌≤◌, ℕ, List, [], ◌∷◌, refl, sym, ap, ◌∙◌, subst, arith, Option, Some, None, inl, inr, unwrap_or}
 use Rattle.std.specs.Prelude.{IfSome}
+use Rattle.std.specs.List.{AllByRecursion}
 use Rattle.rv_words.specs.declared.choices.Asked.{Asked}
 use Rattle.rv_words.specs.declared.choices.Choice.{Choice}
 use Rattle.rv_words.specs.declared.choices.Choice.TheVariants.{Judge, Steps, Gen}
 use Rattle.rv_words.specs.declared.reading.Sofar.{Sofar}
-use Rattle.rv_words.specs.Words.{AreAccepted, Ask, Item, Lacks, Once, asked_of, number, value_of}
+use Rattle.rv_words.specs.Words.{AreAccepted, AreWithin, Ask, IsItem, Item, Lacks, Once, asked_of, greatest, number, value_of}
 use Rattle.rv_words.specs.Reading.{asked_from, ended, given, start, with_value}
 use Rattle.rv_words.proofs.Accepts.{Free, given_other, given_same, idle, option_cases, read_items, read_words, with_items}
 
@@ -54,9 +55,42 @@ pub ask_of : (words : List (List ℕ)) (told : Option Asked) → told ≡ asked_
 ask_of words None e = tt
 ask_of words (Some asked) e = told_some words asked (sym e)
 
+-- words that ask something are read so
+read_so : (words : List (List ℕ)) (asked : Asked) → Ask words asked → asked_from start words ≡ Some asked
+read_so words asked ask =
+    let spelled = ask.spelled in
+    ap (asked_from start) spelled.whole
+    ∙ read_items start ask.items spelled.fit spelled.once (free_start ask.items)
+    ∙ asks ask.items spelled.once
+    ∙ ap (λ (a : Asked). Some a) (sym ask.asks)
+
+pub ask_only : (words : List (List ℕ)) (told : Option Asked) → told ≡ asked_from start words → IfSome told (λ asked. (other : Asked) → Ask words other → other ≡ asked)
+ask_only words None e = tt
+ask_only words (Some asked) e = λ other ask. let same : Some other ≡ Some asked = sym (read_so words other ask) ∙ sym e in cc
+
+-- the value of an option is in its range, or there is none
+value_within : (option : Choice) (items : List Item) → AllByRecursion IsItem items → IfSome (value_of option items) (λ n. n ≤ greatest option)
+value_within option [] all = tt
+value_within option (item ∷ items) all = elim (option_cases option item.option) [
+  | inl same ↦ rw same.1 (subst (λ (c : Choice). number item.digits ≤ greatest c) (sym same.0) all.0.within)
+  | inr other ↦ rw other.1 (value_within option items all.1)
+]
+
+within_or : (o : Option ℕ) (most otherwise : ℕ) → IfSome o (λ n. n ≤ most) → otherwise ≤ most → unwrap_or o otherwise ≤ most
+within_or None most otherwise some none = none
+within_or (Some n) most otherwise some none = some
+
+asked_within : (asked : Asked) (items : List Item) → AllByRecursion IsItem items → asked ≡ asked_of items → AreWithin asked
+asked_within asked items all e = subst AreWithin (sym e) (record {
+  judge = within_or (value_of Judge items) 2 0 (value_within Judge items all) (omega arith);
+  steps = within_or (value_of Steps items) 64 1 (value_within Steps items all) (omega arith);
+})
+
+pub within_of : (words : List (List ℕ)) (told : Option Asked) → told ≡ asked_from start words → IfSome told AreWithin
+within_of words None e = tt
+within_of words (Some asked) e = let ask = told_some words asked (sym e) in asked_within asked ask.items ask.spelled.fit ask.asks
+
 pub none_accepted : (words : List (List ℕ)) (told : Option Asked) → told ≡ asked_from start words → told ≡ None → ¬ (AreAccepted words)
 none_accepted words told e none = λ accepted.
-    let spelled = accepted.spelled in
-    let read : asked_from start words ≡ Some (asked_of accepted.items) =
-    ap (asked_from start) spelled.whole ∙ read_items start accepted.items spelled.fit spelled.once (free_start accepted.items) ∙ asks accepted.items spelled.once in
+    let read = read_so words (asked_of accepted.items) (record { items = accepted.items; spelled = accepted.spelled; asks = refl }) in
     let wrong : None ≡ Some (asked_of accepted.items) = sym none ∙ e ∙ read in cc

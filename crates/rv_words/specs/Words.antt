@@ -99,3 +99,8 @@ pub record Ask (words : List (List ℕ)) (asked : Asked) : Type 0 where
   pub items : List Item
   pub spelled : Spell words items
   pub asks : asked ≡ asked_of items
+
+-- The values are in their ranges.
+pub record AreWithin (asked : Asked) : Type 0 where
+  pub judge : asked.judge ≤ greatest Judge
+  pub steps : asked.steps ≤ greatest Steps

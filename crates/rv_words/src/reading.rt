@@ -2,7 +2,8 @@
 ghost use Rattle.std.specs.Prelude.{◌≡◌, ◌≤◌, ◌↔◌, None, IfSome, IsTrue};
 ghost use Rattle.rv_words.specs.Forms.{form_of};
 ghost use Rattle.rv_words.specs.Reading.{asked_from, ended, number_from, start, value, with_form, with_new, with_word};
-ghost use Rattle.rv_words.specs.Words.{AreAccepted, Ask, greatest};
+ghost use Rattle.rv_words.specs.Words.{AreAccepted, AreWithin, Ask, greatest};
+ghost use Rattle.rv_words.specs.declared.choices.Asked.{Asked as AskedOnce};
 
 use crate::choices::{Asked, Choice};
 use crate::form::{Form, read_form};
@@ -28,6 +29,8 @@ pub fn accepted(words: &[Text]) -> bool
 /// What words ask; None where they are not accepted.
 pub fn asked(words: &[Text]) -> Option<Asked>
     ensures some { IfSome result (Ask words.now) }
+    ensures only { IfSome result (λ asked. (other : AskedOnce) → Ask words.now other → other ≡ asked) }
+    ensures within { IfSome result AreWithin }
     ensures none { result ≡ None → ¬ (AreAccepted words.now) }
 {
     read(words)

@@ -4,6 +4,7 @@ use Rattle.rv_cli.proofs.calls.make_phase.Given as goal
 
 abbrev pub invariant-lines : goal.invariant-lines
 invariant-lines g l = record {
-  phase : l.core.phase ≡ l.fn.core.phase;
-  calls : calls_made l.core.history ≡ calls_made l.fn.core.history ++ calls_in l.fn.core.phase (take l.line-index l.lines);
+  phase : l.core.engine.phase ≡ l.fn.core.engine.phase;
+  calls : calls_made l.core.engine.history ≡ calls_made l.fn.core.engine.history ++ calls_in l.fn.core.engine.phase (take l.line-index l.lines);
+  beside : l.core.beside ≡ l.fn.core.beside;
 }

@@ -1,4 +1,4 @@
-use Rattle.rv_cursor.proofs.Holding.{kept_stays, row_stays}
+use Rattle.rv_cursor.proofs.Holding.{kept_stays, none_moved, row_stays}
 use Rattle.rv_cursor.proofs.cursor.fill.Goals as goal
 
 pub returns-in-Ok-Row-clause-stays : goal.returns-in-Ok-Row-clause-stays
@@ -11,3 +11,8 @@ returns-in-Ok-Working-clause-stays g c =
 
 pub returns-in-Err-clause-stays : goal.returns-in-Err-clause-stays
 returns-in-Err-clause-stays g c = kept_stays (g.R.Reader.shown c.args.reader.now) c.args.cursor.now c.step.new.self c.requires.empty c.requires.fits c.step.ensures.fits c.in-Err.ensures.err.asked c.in-Err.ensures.err.rest_kept
+
+pub returns-in-Ok-End-clause-stays : goal.returns-in-Ok-End-clause-stays
+returns-in-Ok-End-clause-stays g c =
+    let moves = rw c.in-Ok-End.field-0-is at c.in-Ok-End.ensures.step in
+    kept_stays (g.R.Reader.shown c.args.reader.now) c.args.cursor.now c.step.new.self c.requires.empty c.requires.fits c.step.ensures.fits moves.asked (none_moved _ _ moves.step.0 moves.step.1)

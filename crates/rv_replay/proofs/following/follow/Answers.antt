@@ -3,6 +3,7 @@ use Rattle.std.proofs.lemmas.List.{length-take-le}
 use Rattle.rv_model.proofs.Bounds.{HasRoom-after}
 use Rattle.rv_replay.proofs.Ends.{breaks, follows}
 use Rattle.rv_replay.proofs.Follows.{is_next, not_next}
+use Rattle.rv_replay.proofs.Named.{apart_after}
 use Rattle.rv_replay.proofs.following.follow.Goals as goal
 
 pub judge_entry-requires-clause-room : goal.judge_entry-requires-clause-room
@@ -10,6 +11,9 @@ judge_entry-requires-clause-room c =
     let read : length (take c.entries.entry-index c.args.entries.now) ≡ c.entries.entry-index = length-take-le c.entries.entry-index c.args.entries.now (omega arith) in
     let fewer : length (take c.entries.entry-index c.args.entries.now) < 2 ^ 63 = omega (arith, read) in
     rw c.entries.invariant.state (HasRoom-after (take c.entries.entry-index c.args.entries.now) fewer)
+
+pub judge_entry-requires-clause-apart : goal.judge_entry-requires-clause-apart
+judge_entry-requires-clause-apart c = rw c.entries.invariant.state (apart_after (take c.entries.entry-index c.args.entries.now))
 
 pub returns-then-not-follows : goal.returns-then-not-follows
 returns-then-not-follows c =

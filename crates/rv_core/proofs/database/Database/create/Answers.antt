@@ -1,16 +1,18 @@
 use Rattle.std.proofs.Common.{◌∙◌, sym, ap, length}
-use Rattle.rv_core.proofs.Calling.{creates, creates_tied, low_room, same_stand}
-use Rattle.std.proofs.Common.{map}
-use Rattle.rv_core.specs.Db.{seen_of}
+use Rattle.rv_core.proofs.Calling.{low_room}
+use Rattle.rv_core.proofs.Databases.{creates_all, creates_standing, stand_again, standing_same}
 use Rattle.rv_core.proofs.database.Database.create.Goals as goal
 
+pub invariant_of-self : goal.invariant_of-self
+invariant_of-self g c = standing_same (g.S.Reader.shown c.self.inside.store) (g.S.Reader.shown c.add_table.new.store) c.self.inside.catalog c.add_table.new.catalog c.self.inside.txns c.self.inside.cursors c.self.inside.opened c.in-Err.ensures.err_catalog c.in-Err.ensures.err_store c.self.invariant
+
 pub returns-in-Err-clause-err : goal.returns-in-Err-clause-err
-returns-in-Err-clause-err g c = rw (← c.self.view_is) (same_stand (g.S.Reader.shown c.self.inside.store) (g.S.Reader.shown c.add_table.new.store) c.self.inside.catalog c.add_table.new.catalog c.self.inside.txns (map seen_of c.self.inside.cursors) c.in-Err.ensures.err_catalog c.in-Err.ensures.err_store c.self.invariant)
+returns-in-Err-clause-err g c = rw (← c.self.view_is) (stand_again (g.S.Reader.shown c.self.inside.store) (g.S.Reader.shown c.add_table.new.store) c.self.inside.catalog c.add_table.new.catalog c.self.inside.txns c.self.inside.cursors c.self.inside.opened c.in-Err.ensures.err_catalog c.in-Err.ensures.err_store c.self.invariant)
 
 pub invariant_of-self-2 : goal.invariant_of-self-2
-invariant_of-self-2 g c = creates_tied (g.S.Reader.shown c.self.inside.store) (g.S.Reader.shown c.add_table.new.store) c.self.inside.catalog c.add_table.new.catalog c.args.def c.self.inside.txns (sym c.active.ensures ∙ c.in_default.is) c.in-Ok.ensures.catalog c.in-Ok.ensures.store c.self.invariant
+invariant_of-self-2 g c = creates_standing (g.S.Reader.shown c.self.inside.store) (g.S.Reader.shown c.add_table.new.store) c.self.inside.catalog c.add_table.new.catalog c.args.def c.self.inside.txns c.self.inside.cursors c.self.inside.opened (sym c.active.ensures ∙ c.in_default.is) c.in-Ok.ensures.catalog c.in-Ok.ensures.store c.self.invariant
 
 pub returns-clause-ok : goal.returns-clause-ok
 returns-clause-ok g c =
     let room = low_room (length c.self.inside.catalog.tables) (length c.tables.result.now) (ap length c.tables.ensures.same) c.if-tables-gt63.false in
-    rw (← c.self.view_is) (creates (g.S.Reader.shown c.self.inside.store) (g.S.Reader.shown c.add_table.new.store) c.self.inside.catalog c.add_table.new.catalog c.args.def c.self.inside.txns (map seen_of c.self.inside.cursors) (sym c.active.ensures ∙ c.in_default.is) room c.in-Ok.ensures.catalog c.in-Ok.ensures.store c.self.invariant)
+    rw (← c.self.view_is) (creates_all (g.S.Reader.shown c.self.inside.store) (g.S.Reader.shown c.add_table.new.store) c.self.inside.catalog c.add_table.new.catalog c.args.def c.self.inside.txns c.self.inside.cursors c.self.inside.opened (sym c.active.ensures ∙ c.in_default.is) room c.in-Ok.ensures.catalog c.in-Ok.ensures.store c.self.invariant)

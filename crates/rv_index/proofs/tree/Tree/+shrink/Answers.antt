@@ -1,4 +1,4 @@
-use Rattle.std.proofs.Common.{ℕ, suc, ◌-◌, ◌≡◌, ◌∙◌, List, [], sym, arith, length, ap, subst, None, Result, Ok, Err, OnOk}
+use Rattle.std.proofs.Common.{refl, ℕ, suc, ◌-◌, ◌≡◌, ◌∙◌, List, [], sym, arith, length, ap, subst, None, Result, Ok, Err, OnOk}
 use Rattle.std.specs.Prelude.{filter}
 use Rattle.rv_node.specs.Nodes.{Parts}
 use Rattle.rv_value.specs.declared.record.IndexEntry.{IndexEntry}
@@ -6,7 +6,7 @@ use Rattle.rv_reader.specs.Entries.{comes_before}
 use Rattle.rv_node.specs.Trees.{up_to, differs}
 use Rattle.rv_node.specs.Descent.{child_in}
 use Rattle.rv_index.specs.Index.{nodes_at, IsOwn}
-use Rattle.rv_index.specs.Steps.{IsGrown, IsNodePut, shrunken}
+use Rattle.rv_index.specs.Steps.{leaf_without, IsGrown, IsNodePut, shrunken}
 use Rattle.rv_index.proofs.Growing.{own_there, own_kid, shrunk_none, shrunk_leaf}
 use Rattle.rv_index.proofs.tree.Tree.+shrink.Goals as goal
 
@@ -14,30 +14,28 @@ OnOk-map : {A E : Type 0} (r : Result A E) (P Q : Type 0) → (P → Q) → OnOk
 OnOk-map (Ok x) P Q f h = f h
 OnOk-map (Err e) P Q f h = tt
 
-pub replace-requires-clause-there : goal.replace-requires-clause-there
-replace-requires-clause-there t c = own_there (length c.args.self.now) c.args.level c.args.id (nodes_at c.args.self.now c.args.commit) c.requires.own
+pub shrink_leaf-requires-clause-there : goal.shrink_leaf-requires-clause-there
+shrink_leaf-requires-clause-there t c = own_there (length c.args.self.now) c.args.level c.args.id (nodes_at c.args.self.now c.args.commit) c.requires.own
 
-leaf_case : (e : IndexEntry) (len len' level id : ℕ) (at at' : ℕ → Parts) (es : List IndexEntry) (node : Parts) → level ≡ 0 → len' ≡ len → es ≡ filter (differs comes_before e) (at id).entries → node ≡ record { level = 0; entries = es; children = [] } → IsOwn len level id at → IsNodePut id node at at'
-    → IsGrown len len' level id (shrunken level e) None at at'
-leaf_case e len len' level id at at' es node zero same is n own s =
+leaf_case : (e : IndexEntry) (len len' level id : ℕ) (at at' : ℕ → Parts) → level ≡ 0 → len' ≡ len → IsOwn len level id at → IsNodePut id (leaf_without e (at id)) at at' → IsGrown len len' level id (shrunken level e) None at at'
+leaf_case e len len' level id at at' zero same own s =
     let own' = subst (λ v. IsOwn len v id at) zero own in
-    let g = shrunk_leaf e len id at at' es is own' (subst (λ x. IsNodePut id x at at') n s) in
+    let g = shrunk_leaf e len id at at' (leaf_without e (at id)).entries refl own' s in
     subst (λ v. IsGrown len len' v id (shrunken v e) None at at') (sym zero) (subst (λ m. IsGrown len m 0 id (shrunken 0 e) None at at') (sym same) g)
 
 pub returns-then-level-eq0-clause-ok : goal.returns-then-level-eq0-clause-ok
 returns-then-level-eq0-clause-ok t c =
-    let at = nodes_at c.args.self.now c.args.commit in let at' = nodes_at c.replace.new.self c.args.commit in
-    let with_kids : List ℕ → Parts = λ cs. record { level = 0; entries = c.in_ok-entries.entries.items; children = cs } in
-    OnOk-map c.replace.result _ (IsGrown (length c.args.self.now) (length c.replace.new.self) c.args.level c.args.id (shrunken c.args.level c.args.entry.now) None at at')
-    (leaf_case c.args.entry.now (length c.args.self.now) (length c.replace.new.self) c.args.level c.args.id at at' c.in_ok-entries.entries.items c.make.result c.if-level-eq0.true c.replace.ensures.len c.in_ok-entries.ensures.without (c.make.ensures ∙ ap with_kids c.new-none.ensures.items) c.requires.own)
-    c.replace.ensures.ok
+    let at = nodes_at c.args.self.now c.args.commit in let at' = nodes_at c.shrink_leaf.new.self c.args.commit in
+    OnOk-map c.shrink_leaf.result _ (IsGrown (length c.args.self.now) (length c.shrink_leaf.new.self) c.args.level c.args.id (shrunken c.args.level c.args.entry.now) None at at')
+    (leaf_case c.args.entry.now (length c.args.self.now) (length c.shrink_leaf.new.self) c.args.level c.args.id at at' c.if-level-eq0.true c.shrink_leaf.ensures.len c.requires.own)
+    c.shrink_leaf.ensures.ok
 
 pub shrink-requires : goal.shrink-requires
 shrink-requires t c =
     let len = length c.args.self.now in let at = nodes_at c.args.self.now c.args.commit in
     let up : c.args.level ≡ suc (c.args.level - 1) = omega arith in
     let own = subst (λ v. IsOwn len v c.args.id at) up c.requires.own in
-    (omega (arith, c.decreases), (subst (λ k. IsOwn len (c.args.level - 1) k at) (sym c.kid-kid.ensures) (own_kid c.args.entry.now len (c.args.level - 1) c.args.id at own), c.requires.newest))
+    (omega (arith, c.decreases), (subst (λ k. IsOwn len (c.args.level - 1) k at) (sym c.kid-kid.ensures.kid) (own_kid c.args.entry.now len (c.args.level - 1) c.args.id at own), c.requires.newest))
 
 kid_case : (e : IndexEntry) (len len' level down id kid : ℕ) (at at' : ℕ → Parts) → level ≡ suc down → IsOwn len level id at → kid ≡ (child_in (up_to comes_before e) (at id).entries (at id).children None).0 → IsGrown len len' down kid (shrunken down e) None at at'
     → IsGrown len len' level id (shrunken level e) None at at'
@@ -49,5 +47,5 @@ pub returns-clause-ok : goal.returns-clause-ok
 returns-clause-ok t c =
     let at = nodes_at c.args.self.now c.args.commit in let at' = nodes_at c.shrink.new.self c.args.commit in
     OnOk-map c.shrink.result _ (IsGrown (length c.args.self.now) (length c.shrink.new.self) c.args.level c.args.id (shrunken c.args.level c.args.entry.now) None at at')
-    (kid_case c.args.entry.now (length c.args.self.now) (length c.shrink.new.self) c.args.level (c.args.level - 1) c.args.id c.kid-kid.result at at' (omega arith) c.requires.own c.kid-kid.ensures)
+    (kid_case c.args.entry.now (length c.args.self.now) (length c.shrink.new.self) c.args.level (c.args.level - 1) c.args.id c.kid-kid.result.0 at at' (omega arith) c.requires.own c.kid-kid.ensures.kid)
     c.shrink.ensures.ok

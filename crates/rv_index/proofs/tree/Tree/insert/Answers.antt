@@ -18,8 +18,8 @@ returns-in-None-clause-ok c =
     (inserted_none (length c.args.self.now) (length c.grow.new.self) c.level-level.result c.args.entry at at' c.level-level.ensures c.requires.sound
     (subst (λ (r : Option (IndexEntry × ℕ)). IsGrown (length c.args.self.now) (length c.grow.new.self) c.level-level.result 0 (grow c.level-level.result comes_before c.args.entry) r at at') c.in-None.is c.in_ok-grow.ensures.ok))
 
-pub returns-clause-ok : goal.returns-clause-ok
-returns-clause-ok c =
+pub returns-in-Some-clause-ok : goal.returns-in-Some-clause-ok
+returns-in-Some-clause-ok c =
     let at = nodes_at c.args.self.now c.args.commit in let at' = nodes_at c.grow.new.self c.args.commit in let at2 = nodes_at c.raise.new.self c.args.commit in
     OnOk-map c.raise.result _ (IsInserted c.args.commit c.args.entry c.args.self.now c.raise.new.self)
     (λ raised. inserted_is c.args.commit c.args.entry c.args.self.now c.raise.new.self c.requires.sound c.requires.absent

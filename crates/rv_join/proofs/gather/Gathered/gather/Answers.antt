@@ -7,3 +7,12 @@ returns-in-Gave-clause-gathers g c = gathered_more c.args.asked.now (g.R.Reader.
 
 pub returns-in-Moving-clause-gathers : goal.returns-in-Moving-clause-gathers
 returns-in-Moving-clause-gathers g c = moving_is c.args.asked.now (g.R.Reader.shown c.args.reader.now) c.args.stack.now c.advance.new.self c.args.self.now _ (rw c.in-Moving.is at c.in_ok-offer.ensures.moves) (search rules)
+
+pub returns-in-Gave-clause-spends : goal.returns-in-Gave-clause-spends
+returns-in-Gave-clause-spends g c = λ one. (let spends = c.in_ok-offer.ensures.spends one in rw c.in-Gave.is at spends)
+
+pub returns-in-Moving-clause-spends : goal.returns-in-Moving-clause-spends
+returns-in-Moving-clause-spends g c = λ one. (let spends = c.in_ok-offer.ensures.spends one in rw c.in-Moving.is at spends)
+
+pub returns-in-Done-clause-spends : goal.returns-in-Done-clause-spends
+returns-in-Done-clause-spends g c = λ one. (let spends = c.in_ok-offer.ensures.spends one in rw c.in-Done.is at spends)

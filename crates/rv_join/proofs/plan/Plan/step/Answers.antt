@@ -6,7 +6,7 @@ pub returns-clause-fits : goal.returns-clause-fits
 returns-clause-fits g c =
     let shown = g.R.Reader.shown c.args.reader.now in
     let stepped = c.stage_step-stepped.ensures in
-    fits_counted shown c.args.self.now c.stage_step-stepped.new.self c.count.new.self c.counts-before.result c.counts.result c.requires.fits stepped.holds (rw (c.counts-before.ensures, c.counts.ensures) stepped.alone) stepped.reads (asked_same shown c.stage_step-stepped.result c.args.self.now c.stage_step-stepped.new.self stepped.step stepped.err) c.count.ensures.same c.count.ensures.none
+    fits_counted shown c.args.self.now c.stage_step-stepped.new.self c.count.new.self c.counts-before.result c.counts.result c.requires.fits stepped.holds (rw (c.counts-before.ensures, c.counts.ensures) stepped.alone) stepped.reads (asked_same shown c.stage_step-stepped.result c.args.self.now c.stage_step-stepped.new.self stepped.step stepped.err) stepped.plans c.count.ensures.same c.count.ensures.none
 
 pub returns-clause-step : goal.returns-clause-step
 returns-clause-step g c = counted_moves (g.R.Reader.shown c.args.reader.now) c.stage_step-stepped.result c.args.self.now c.stage_step-stepped.new.self c.count.new.self _ c.stage_step-stepped.ensures.step c.count.ensures.same

@@ -1,3 +1,9 @@
+use Rattle.std.proofs.Common.{subst, sym}
+use Rattle.rv_retrieval.specs.Shape.{Shape}
+use Rattle.rv_join.specs.declared.level.Level.{Level}
+use Rattle.rv_join.specs.Levels.{first_of}
+use Rattle.rv_join.specs.Rules.{SamePlans}
+use Rattle.rv_join.proofs.OneItem.{alone_ended, alone_none, done_spends, first_plans, once_plans, uses_once, uses_spends}
 use Rattle.rv_join.proofs.Accounting.{alone_ends, alone_rises, alone_uses}
 use Rattle.rv_join.proofs.Catching.{stays_moves}
 use Rattle.rv_join.proofs.Stacking.{kept_at, kept_if_not, kept_less, kept_then, kept_then_if}
@@ -43,3 +49,36 @@ returns-in-Ended-clause-alone g c = alone_ends c.args.asked.now (g.R.Reader.show
 
 pub returns-in-Ready-clause-alone : goal.returns-in-Ready-clause-alone
 returns-in-Ready-clause-alone g c = alone_uses c.args.asked.now (g.R.Reader.shown c.args.reader.now) c.args.self.now c.ready.new.self c.use_row.new.self c.args.steps.now c.ready.new.steps c.use_row.new.steps c.requires.fits c.ready.ensures.same c.ready.ensures.counts c.use_row.ensures.alone
+
+pub returns-in_err-ready-clause-plans : goal.returns-in_err-ready-clause-plans
+returns-in_err-ready-clause-plans g c = first_plans c.args.self.now c.ready.new.self c.ready.ensures.same (once_plans _ _ _ _ _ _ _ _ c.ready.ensures.once.calls)
+
+pub returns-in-Worked-clause-plans : goal.returns-in-Worked-clause-plans
+returns-in-Worked-clause-plans g c = first_plans c.args.self.now c.ready.new.self c.ready.ensures.same (once_plans _ _ _ _ _ _ _ _ c.ready.ensures.once.calls)
+
+pub returns-in-Ended-clause-plans : goal.returns-in-Ended-clause-plans
+returns-in-Ended-clause-plans g c = subst (λ (l : Level). SamePlans (first_of c.args.self.now).here l.here) (sym c.end.ensures.first) (first_plans c.args.self.now c.ready.new.self c.ready.ensures.same (once_plans _ _ _ _ _ _ _ _ c.ready.ensures.once.calls))
+
+pub returns-in-Ready-clause-plans : goal.returns-in-Ready-clause-plans
+returns-in-Ready-clause-plans g c = subst (λ (v : Shape). SamePlans (first_of c.args.self.now).here v) (sym c.use_row.ensures.first) (first_plans c.args.self.now c.ready.new.self c.ready.ensures.same (once_plans _ _ _ _ _ _ _ _ c.ready.ensures.once.calls))
+
+pub returns-in-Worked-clause-spends : goal.returns-in-Worked-clause-spends
+returns-in-Worked-clause-spends g c = λ one. (let spends = c.in_ok-ready.ensures.spends in rw c.in-Worked.is at spends)
+
+pub returns-in-Ended-clause-once : goal.returns-in-Ended-clause-once
+returns-in-Ended-clause-once g c = λ one. (let same = alone_ended c.args.asked.now (g.R.Reader.shown c.args.reader.now) c.args.self.now c.ready.new.self c.end.new.self c.requires.fits c.ready.ensures.same c.end.ensures.alone one in rw same c.ready.ensures.once)
+
+pub returns-in-Ended-clause-spends : goal.returns-in-Ended-clause-spends
+returns-in-Ended-clause-spends g c = λ one. (
+    let asked = c.args.asked.now in
+    let shown = g.R.Reader.shown c.args.reader.now in
+    let same = alone_ended asked shown c.args.self.now c.ready.new.self c.end.new.self c.requires.fits c.ready.ensures.same c.end.ensures.alone one in
+    let none = alone_none asked shown c.args.self.now c.ready.new.self c.requires.fits c.ready.ensures.same one in
+    let spends = c.in_ok-ready.ensures.spends in
+    rw same (done_spends c.end.result _ _ _ _ (c.end.ensures.done none) (rw c.in-Ended.is at spends)))
+
+pub returns-in-Ready-clause-once : goal.returns-in-Ready-clause-once
+returns-in-Ready-clause-once g c = λ one. uses_once c.use_row.result _ _ _ (g.R.Reader.shown c.args.reader.now) c.args.steps.now c.ready.new.steps c.use_row.new.steps c.args.self.now.at c.ready.new.self c.use_row.new.self (c.use_row.ensures.used one) c.use_row.ensures.err (c.use_row.ensures.alone one).1 c.ready.ensures.once
+
+pub returns-in-Ready-clause-spends : goal.returns-in-Ready-clause-spends
+returns-in-Ready-clause-spends g c = λ one. (let spends = c.in_ok-ready.ensures.spends in uses_spends c.use_row.result (g.R.Reader.shown c.args.reader.now) c.args.steps.now c.ready.new.steps c.use_row.new.steps c.args.self.now.at c.ready.new.self c.use_row.new.self (c.use_row.ensures.used one) (c.use_row.ensures.alone one).1 (rw c.in-Ready.is at spends))

@@ -1,5 +1,7 @@
-use Rattle.std.proofs.Common.{refl}
+use Rattle.std.proofs.Common.{refl, rules}
+use Rattle.rv_join.proofs.OneItem.{first_plans, none_above}
 use Rattle.rv_join.proofs.Calls.{stays_above, stays_at}
+use Rattle.rv_join.proofs.Numbers.{at_waits}
 use Rattle.rv_join.proofs.stack.Stack.take.Goals as goal
 
 pub returns-then-at-len-clause-taken : goal.returns-then-at-len-clause-taken
@@ -10,3 +12,24 @@ returns-then-at-len-clause-stays g c = rw (← c.self.view_is) (λ a fits. stays
 
 pub returns-else-at-len-clause-stays : goal.returns-else-at-len-clause-stays
 returns-else-at-len-clause-stays g c = rw (← c.self.view_is) (λ a fits. stays_at a (g.R.Reader.shown c.args.reader.now) (record { above = c.self.inside.above.items; at = c.self.inside.at; openings = c.self.inside.openings }) (record { above = c.self.inside.above.items; at = c.take_level.new.level; openings = c.self.inside.openings }) fits (c.take_level.ensures.stays a fits.at) refl)
+
+pub returns-else-at-len-clause-waits : goal.returns-else-at-len-clause-waits
+returns-else-at-len-clause-waits g c = rw (← c.self.view_is) (at_waits (record { above = c.self.inside.above.items; at = c.self.inside.at; openings = c.self.inside.openings }) (record { above = c.self.inside.above.items; at = c.take_level.new.level; openings = c.self.inside.openings }) c.take_level.ensures.waits refl)
+
+pub returns-then-at-len-clause-plans : goal.returns-then-at-len-clause-plans
+returns-then-at-len-clause-plans g c = rw (← c.self.view_is) (c.take_at.ensures.plans c.self.inside.at)
+
+pub returns-then-at-len-clause-once : goal.returns-then-at-len-clause-once
+returns-then-at-len-clause-once g c = rw (← c.self.view_is) (λ none. none_above c.args.at c.self.inside.above.items (search rules) none)
+
+pub returns-then-at-len-clause-spends : goal.returns-then-at-len-clause-spends
+returns-then-at-len-clause-spends g c = rw (← c.self.view_is) (λ none. none_above c.args.at c.self.inside.above.items (search rules) none)
+
+pub returns-else-at-len-clause-plans : goal.returns-else-at-len-clause-plans
+returns-else-at-len-clause-plans g c = rw (← c.self.view_is) (first_plans (record { above = c.self.inside.above.items; at = c.self.inside.at; openings = c.self.inside.openings }) (record { above = c.self.inside.above.items; at = c.take_level.new.level; openings = c.self.inside.openings }) refl c.take_level.ensures.plans)
+
+pub returns-else-at-len-clause-once : goal.returns-else-at-len-clause-once
+returns-else-at-len-clause-once g c = rw (← c.self.view_is) (λ none. c.take_level.ensures.once)
+
+pub returns-else-at-len-clause-spends : goal.returns-else-at-len-clause-spends
+returns-else-at-len-clause-spends g c = rw (← c.self.view_is) (λ none. c.take_level.ensures.spends)

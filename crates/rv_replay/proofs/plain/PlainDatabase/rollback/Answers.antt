@@ -2,4 +2,4 @@ use Rattle.rv_replay.proofs.Lifts.{rolled_done}
 use Rattle.rv_replay.proofs.plain.PlainDatabase.rollback.Goals as goal
 
 pub returns : goal.returns
-returns c = rw (← c.self.view_is, c.close_after.ensures, c.first-reply.ensures) (rolled_done c.self.inside.database c.self.inside.cursors c.args.session c.in_ok-replies.replies c.rollback.new.self c.in_ok-replies.ensures.ok)
+returns c = rw (← c.self.view_is, c.close_after.ensures, c.first-reply.ensures) (rolled_done c.self.inside.database.stand c.self.inside.cursors c.args.session c.in_ok-replies.replies c.rollback.new.self.stand c.in_ok-replies.ensures.ok)

@@ -1,0 +1,15 @@
+use Rattle.std.proofs.Common.{Ok, ap}
+use Rattle.rv_join.specs.Plans.{plan_rest}
+use Rattle.join_table.proofs.Drives.{given_all}
+use Rattle.join_table.proofs.drive.drive.Goals as goal
+
+pub returns-then-branch : goal.returns-then-branch
+returns-then-branch g c = λ ended.
+    let shown = g.R.Reader.shown c.args.reader.now in
+    let due = plan_rest shown c.args.plan.now in
+    given_all shown due c.forward.new.offers.items c.forward.new.plan (c.in_ok-forward.ensures.gives due c.steps.invariant) (c.in_ok-forward.ensures.ends (ap Ok c.if-branch.true))
+
+pub background-requires : goal.background-requires
+background-requires g c =
+    let due = plan_rest (g.R.Reader.shown c.args.reader.now) c.args.plan.now in
+    (c.in_ok-forward.ensures.gives due c.steps.invariant).fits

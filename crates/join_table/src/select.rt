@@ -1,0 +1,188 @@
+//! The selects of the table.
+ghost use Rattle.std.specs.Prelude.{◌≡◌, ◌<◌, ◌≤◌, IfOk, IfSome, length};
+ghost use Rattle.std.specs.List.{list_all};
+ghost use Rattle.rv_restrict.specs.Groups.{groups_of};
+ghost use Rattle.rv_restrict.specs.Truth.{atom_names_only, group_names_only, names_only};
+ghost use Rattle.join_table.specs.Asking.{HasIndexes, IsOurs, is_column, is_table};
+ghost use Rattle.join_table.specs.Laying.{columns_of, table_of};
+
+use crate::forms::{at, groups, groups_of_three, order, tables};
+use crate::load::{columns_of, table_of};
+use rv_catalog::{Goal, IndexDef, Select};
+use rv_restrict::{Atom, ColRef, Operand, Restriction};
+use rv_value::{Items, NoMemory, Text};
+use std::alloc::Global;
+
+/// A FROM list, a form of restriction and a form of order, by their numbers.
+#[derive(Clone, Copy, PartialEq, Eq, Debug)]
+pub struct Asked {
+    pub from: u32,
+    pub form: u32,
+    pub order: u32,
+}
+
+/// The columns returned: the second of each item and the third of the last.
+fn returns(alloc: Global, places: u32) -> Result<Vec<ColRef>, NoMemory> {
+    let mut returns = Vec::new(alloc);
+    'places: for place in 0..places {
+        returns.push(at(place, 1))?;
+    }
+    returns.push(at(places.saturating_sub(1), 2))?;
+    Ok(returns)
+}
+
+fn are_tables(tables: &[u32]) -> bool
+    ensures { result ≡ list_all is_table tables.now }
+{
+    tables.iter().all(|table| *table < 4)
+}
+
+fn is_column(items: usize, column: ColRef) -> bool
+    ensures { result ≡ is_column items column }
+{
+    (column.place as usize) < items && column.column < 3
+}
+
+fn are_columns(items: usize, columns: &[ColRef]) -> bool
+    ensures { result ≡ list_all (is_column items) columns.now }
+{
+    match columns {
+        [] => true,
+        [column, more @ ..] => is_column(items, *column) && are_columns(items, more),
+    }
+}
+
+fn is_operand(items: usize, operand: &Operand) -> bool
+    ensures { result ≡ Rattle.rv_restrict.specs.Truth.operand_names_only (is_column items) operand.now }
+{
+    match operand {
+        Operand::Literal(_) => true,
+        Operand::Column(column) => is_column(items, *column),
+    }
+}
+
+fn is_atom(items: usize, atom: &Atom) -> bool
+    ensures { result ≡ atom_names_only (is_column items) atom.now }
+{
+    match atom {
+        Atom::Compare {
+            column,
+            op: _,
+            operand,
+        } => is_column(items, *column) && is_operand(items, operand),
+        Atom::Between {
+            column,
+            low: _,
+            high: _,
+        } => is_column(items, *column),
+        Atom::Among { column, list: _ } => is_column(items, *column),
+        Atom::IsNull { column, not: _ } => is_column(items, *column),
+        Atom::Starts { column, text: _ } => is_column(items, *column),
+        Atom::Const(_) => true,
+    }
+}
+
+fn is_group(items: usize, group: &[Atom]) -> bool
+    ensures { result ≡ group_names_only (is_column items) group.now }
+{
+    match group {
+        [] => true,
+        [atom, more @ ..] => is_atom(items, atom) && is_group(items, more),
+    }
+}
+
+fn are_groups(items: usize, groups: &[Vec<Atom>]) -> bool
+    ensures { result ≡ names_only (is_column items) (groups_of groups.now) }
+{
+    match groups {
+        [] => true,
+        [group, more @ ..] => is_group(items, group.as_slice()) && are_groups(items, more),
+    }
+}
+
+/// Whether a select is over one to four of the tables, and columns of theirs alone.
+fn is_ours(select: &Select) -> bool
+    ensures { result ≡ Rattle.std.specs.Prelude.true → IsOurs select.now }
+{
+    let items = select.tables.len();
+    if items == 0 || items > 4 || !are_tables(select.tables.as_slice()) {
+        return false;
+    }
+    if !are_columns(items, select.returns.as_slice()) {
+        return false;
+    }
+    if !are_columns(items, select.order.as_slice()) {
+        return false;
+    }
+    are_groups(items, select.only.groups())
+}
+
+/// The select for what is asked; None where it is not over the tables.
+pub fn select(alloc: Global, asked: Asked) -> Result<Option<Select>, NoMemory>
+    ensures { IfOk result (λ found. IfSome found IsOurs) }
+{
+    let select = made(alloc, asked)?;
+    if is_ours(&select) {
+        Ok(Some(select))
+    } else {
+        Ok(None)
+    }
+}
+
+/// A join of three tables by K and M; None where it is not over the tables.
+pub fn of_three(alloc: Global) -> Result<Option<Select>, NoMemory>
+    ensures { IfOk result (λ found. IfSome found IsOurs) }
+{
+    let select = Select {
+        tables: Items::from_vec(vec![in alloc; 0, 1, 2]?),
+        only: Restriction::from_groups(groups_of_three(alloc)?),
+        returns: Items::from_vec(vec![in alloc; at(0, 0), at(2, 0)]?),
+        order: Items::new(alloc),
+        goal: Goal::FastFirst,
+    };
+    if is_ours(&select) {
+        Ok(Some(select))
+    } else {
+        Ok(None)
+    }
+}
+
+fn made(alloc: Global, asked: Asked) -> Result<Select, NoMemory> {
+    let tables = tables(alloc, asked.from)?;
+    let places = tables.len() as u32;
+    let goal = if asked.form % 2 == 0 {
+        Goal::FastFirst
+    } else {
+        Goal::TotalTime
+    };
+    Ok(Select {
+        tables: Items::from_vec(tables),
+        only: Restriction::from_groups(groups(alloc, asked.form)?),
+        returns: Items::from_vec(returns(alloc, places)?),
+        order: Items::from_vec(order(alloc, asked.order, places.saturating_sub(1))?),
+        goal,
+    })
+}
+
+fn index_def(alloc: Global, index: u32) -> Result<IndexDef, NoMemory>
+    ensures table { IfOk result (λ d. d.table ≡ table_of index) }
+    ensures columns { IfOk result (λ d. d.columns ≡ columns_of index) }
+{
+    Ok(IndexDef {
+        name: Text::read(alloc, "I")?,
+        table: table_of(index),
+        columns: columns_of(alloc, index)?,
+    })
+}
+
+/// The first so many indexes.
+pub fn indexes(alloc: Global, count: u32) -> Result<Vec<IndexDef>, NoMemory>
+    requires { count ≤ 6 }
+    ensures { IfOk result (λ indexes. HasIndexes indexes.items) }
+{
+    let mut indexes = Vec::new(alloc);
+    'indexes: for index in 0..count {
+        indexes.push(index_def(alloc, index)?)?;
+    }
+    Ok(indexes)
+}

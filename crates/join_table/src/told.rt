@@ -1,0 +1,101 @@
+//! What came of a plan, in words.
+use crate::drive::Driven;
+use rv_model::Offer;
+use rv_value::{NoMemory, Value, Values, cmp_values};
+use std::alloc::Global;
+use std::cmp::Ordering;
+
+fn mixed(mix: u64, more: u64) -> u64 {
+    (mix % 1000003 * 31 + more % 1000003 + 1) % 1000003
+}
+
+fn mix_values(mix: u64, values: &Values) -> u64 {
+    let mut mix = mix;
+    'values: for value in values.as_slice() {
+        mix = match value {
+            Value::Int(n) => mixed(mix, (*n).unsigned_abs() % 1000003 + 2),
+            Value::Null => mixed(mix, 1),
+            Value::Str(_) => mixed(mix, 0),
+        };
+    }
+    mix
+}
+
+/// A number that tells one list of offers from most others.
+fn mix(offers: &[Offer]) -> u64 {
+    let mut mix = 0;
+    'offers: for offer in offers {
+        mix = mix_values(mix, &offer.order);
+        mix = mix_values(mix, &offer.returned);
+    }
+    mix
+}
+
+/// Whether the order values never fall.
+fn rises(offers: &[Offer]) -> bool {
+    match offers {
+        [first, second, more @ ..] => {
+            cmp_values(second.order.as_slice(), first.order.as_slice()) != Ordering::Less
+                && rises_from(second, more)
+        }
+        _ => true,
+    }
+}
+
+fn rises_from(first: &Offer, offers: &[Offer]) -> bool {
+    match offers {
+        [second, more @ ..] => {
+            cmp_values(second.order.as_slice(), first.order.as_slice()) != Ordering::Less
+                && rises_from(second, more)
+        }
+        [] => true,
+    }
+}
+
+fn word(rises: bool, ended: bool) -> &'static str {
+    match (rises, ended) {
+        (true, true) => "in order",
+        (false, true) => "OUT OF ORDER",
+        (_, false) => "NOT ENDED",
+    }
+}
+
+fn value_text(alloc: Global, value: &Value) -> Result<String, NoMemory> {
+    match value {
+        Value::Int(n) => Ok(format!(in alloc; "{n}")?),
+        Value::Null => Ok(format!(in alloc; "NULL")?),
+        Value::Str(_) => Ok(format!(in alloc; "a text")?),
+    }
+}
+
+fn row_text(alloc: Global, values: &[Value]) -> Result<String, NoMemory> {
+    let mut text = format!(in alloc; "row")?;
+    let mut mark = " ";
+    'values: for value in values {
+        text.push_str(mark)?;
+        let value = value_text(alloc, value)?;
+        text.push_str(value.as_str())?;
+        mark = ", ";
+    }
+    Ok(text)
+}
+
+/// The values returned, a line for each offer, and the end.
+pub fn add_rows(alloc: Global, driven: &Driven, lines: &mut Vec<String>) -> Result<(), NoMemory> {
+    'offers: for offer in driven.offers.as_slice() {
+        lines.push(row_text(alloc, offer.returned.as_slice())?)?;
+    }
+    if driven.ended {
+        lines.push(format!(in alloc; "end")?)?;
+    }
+    Ok(())
+}
+
+/// How many offers came, whether in order, and their number once they are sorted wholly.
+pub fn told(alloc: Global, driven: Driven) -> Result<String, NoMemory> {
+    let Driven { mut offers, ended } = driven;
+    let word = word(rises(offers.as_slice()), ended);
+    let count = offers.len();
+    offers.sort()?;
+    Ok(format!(in alloc; "{count} {word}, mix {}", mix(offers.as_slice()))?)
+}

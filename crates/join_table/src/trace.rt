@@ -1,0 +1,53 @@
+//! Traces in words.
+
+use rv_judge::{Control, Event, Strategy, Trace};
+use rv_value::NoMemory;
+use std::alloc::Global;
+
+fn strategy_word(strategy: Strategy) -> &'static str {
+    match strategy {
+        Strategy::Table => "table",
+        Strategy::BackgroundOnly => "background-only",
+        Strategy::FastFirst => "fast-first",
+        Strategy::Sorted => "sorted",
+        Strategy::IndexOnly => "index-only",
+    }
+}
+
+fn control_word(control: Control) -> &'static str {
+    match control {
+        Control::Building => "building",
+        Control::ForegroundAlone => "foreground",
+        Control::BackgroundAlone => "background",
+        Control::FinalList => "final-list",
+        Control::FinalTable => "final-table",
+        Control::Done => "done",
+    }
+}
+
+fn event_text(alloc: Global, event: Event) -> Result<String, NoMemory> {
+    match event {
+        Event::At(control) => Ok(format!(in alloc; "{}", control_word(control))?),
+        Event::Scan(index) => Ok(format!(in alloc; "scan {}", index)?),
+        Event::List(index, keys) => Ok(format!(in alloc; "list {} {keys}", index)?),
+        Event::Drop(index) => Ok(format!(in alloc; "drop {}", index)?),
+        Event::Full => Ok(format!(in alloc; "full")?),
+        Event::Stop => Ok(format!(in alloc; "stop")?),
+    }
+}
+
+/// The strategy, the events and the counts of a trace.
+pub fn trace_text(alloc: Global, trace: &Trace) -> Result<String, NoMemory> {
+    let mut text = format!(in alloc; "trace {}", strategy_word(trace.strategy))?;
+    'events: for event in trace.events.as_slice() {
+        let word = event_text(alloc, *event)?;
+        text.push(' ')?;
+        text.push_str(word.as_str())?;
+    }
+    let counts = format!(in alloc;
+        " pages {} leaves {} fetches {}",
+        trace.pages, trace.leaves, trace.fetches
+    )?;
+    text.push_str(counts.as_str())?;
+    Ok(text)
+}

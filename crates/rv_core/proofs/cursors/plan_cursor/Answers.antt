@@ -1,0 +1,11 @@
+use Rattle.rv_core.proofs.Plans.{plans, plans_seen, reads_all}
+use Rattle.rv_core.proofs.cursors.plan_cursor.Goals as goal
+
+pub look_at-requires : goal.look_at-requires
+look_at-requires g c = rw c.as_slice.ensures (reads_all (g.S.Reader.shown c.args.store.now) c.args.catalog.now c.requires.tied.0 c.args.snap c.args.select.now.tables c.requires.tied.1 c.requires.query.there c.requires.base)
+
+pub open_cursor-requires : goal.open_cursor-requires
+open_cursor-requires g c = plans (g.S.Reader.shown c.args.store.now) c.args.catalog.now c.requires.tied.0 c.args.select.now c.args.snap c.indexes.result.now c.requires.tied.1 c.last-newest.ensures.stored c.requires.base c.requires.query c.requires.some c.indexes.ensures.same c.indexes.ensures.room (rw c.as_slice.ensures at c.look_at.ensures)
+
+pub returns-clause-seen : goal.returns-clause-seen
+returns-clause-seen g c = plans_seen c.open_cursor.result (g.S.Reader.shown c.args.store.now) c.args.catalog.now c.requires.tied.0 c.args.select.now c.args.snap c.args.session c.args.number c.args.name c.indexes.result.now c.requires.tied.1 c.requires.query c.requires.some c.requires.base c.open_cursor.ensures.left c.open_cursor.ensures.asked c.open_cursor.ensures.session c.open_cursor.ensures.name

@@ -1,0 +1,26 @@
+use Rattle.std.proofs.Common.{refl}
+use Rattle.rv_cursor.specs.Left.{CursorFits}
+use Rattle.rv_core.specs.Db.{IsOpen}
+use Rattle.rv_core.proofs.Databases.{given_stays}
+use Rattle.rv_core.proofs.Numbering.{numbered_set}
+use Rattle.rv_core.proofs.Opens.{all_get, opens_at, same_at}
+use Rattle.rv_core.proofs.pieces.give_at.Goals as goal
+
+pub returns-clause-seen : goal.returns-clause-seen
+returns-clause-seen g c shown all =
+    let cursor = c.at_mut-cursor.result.now in
+    let here = all_get (CursorFits shown) c.args.cursors.now c.args.place cursor c.at_mut-cursor.ensures.value all in
+    let s = given_stays shown cursor c.give.new.self c.give.ensures.fits c.give.ensures.stays here in
+    same_at shown c.args.cursors.now c.args.place cursor (record cursor { plan = c.give.new.self }) c.at_mut-cursor.ensures.value s.same s.left
+
+pub returns-clause-opens : goal.returns-clause-opens
+returns-clause-opens g c shown schema active all =
+    let cursor = c.at_mut-cursor.result.now in
+    let here = all_get (IsOpen shown schema active) c.args.cursors.now c.args.place cursor c.at_mut-cursor.ensures.value all in
+    let s = given_stays shown cursor c.give.new.self c.give.ensures.fits c.give.ensures.stays here.fits in
+    opens_at shown schema active c.args.cursors.now c.args.place cursor (record cursor { plan = c.give.new.self }) c.at_mut-cursor.ensures.value s.fits s.same all
+
+pub returns-clause-numbers : goal.returns-clause-numbers
+returns-clause-numbers g c low high n =
+    let cursor = c.at_mut-cursor.result.now in
+    numbered_set low high c.args.cursors.now c.args.place cursor (record cursor { plan = c.give.new.self }) c.at_mut-cursor.ensures.value refl n

@@ -1,0 +1,135 @@
+//! The core: an engine with the judge that rules on its scans.
+ghost use Rattle.std.specs.Prelude.{◌≡◌, ◌+◌, ◌-◌, ◌<◌, ◌≤◌, ◌^◌, [], IfOk, OnErr, length};
+ghost use Rattle.rv_model.specs.Database.{empty};
+ghost use Rattle.rv_core.specs.Core.{Answers, IsSound, horizon_of};
+ghost use Rattle.rv_core.specs.Pieces.{GivesTo, TakesNext, next_waiting, numbered};
+
+use crate::engine::Engine;
+use rv_jscan::{Given, Sieved, Taken};
+use rv_judge::{Judge, Steps, Uncounted};
+use rv_lang::Reply;
+use rv_model::Entry;
+use rv_reader::{Reader, Store};
+use rv_value::NoMemory;
+use std::alloc::Global;
+use std::mem;
+
+/// The database over a store with the history of its calls, the judge that rules on its background scans, and the number of
+/// background steps that may follow each foreground step of a FETCH.
+#[derive(Drop)]
+pub struct Core<S: Store + Reader<Ledger = Uncounted> + Drop> {
+    engine: Engine<S>,
+    judge: Box<dyn Judge>,
+    beside: u8,
+}
+
+impl<S: Store + Reader<Ledger = Uncounted> + Drop> Core<S> {
+    /// A core with no call made, in phase 1, over a store without tables and commits. It takes no memory.
+    pub fn new(alloc: Global, store: S, judge: Box<dyn Judge>, beside: u8) -> Core<S>
+        requires tables { (S.shown store).tables ≡ 0 }
+        requires newest { (S.shown store).newest ≡ 0 }
+        ensures engine { result.engine ≡ record { history = []; phase = 1; db = empty; horizon = 0; opens = []; opened = 1 } }
+        ensures judge { result.judge ≡ judge }
+        ensures beside { result.beside ≡ beside }
+    {
+        Core {
+            engine: Engine::new(alloc, store),
+            judge,
+            beside,
+        }
+    }
+
+    /// The entries of the calls that were answered, in order.
+    pub fn history(&self) -> &[Entry]
+        ensures entries { result.now ≡ self.now.engine.history }
+        ensures sound { IsSound self.now.engine }
+    {
+        self.engine.history()
+    }
+
+    /// The phase of the next call.
+    pub fn phase(&self) -> u32
+        ensures { result ≡ self.now.engine.phase }
+    {
+        self.engine.phase()
+    }
+
+    /// How many cursors are open.
+    pub fn open_cursors(&self) -> usize
+        ensures { result ≡ length self.now.engine.opens }
+    {
+        self.engine.open_cursors()
+    }
+
+    /// Begins the next phase.
+    pub fn next_phase(&mut self)
+        requires { self.old.engine.phase < 2 ^ 32 - 1 }
+        ensures engine { self.new.engine ≡ record self.old.engine { phase = self.old.engine.phase + 1 } }
+        ensures judge { self.new.judge ≡ self.old.judge }
+        ensures beside { self.new.beside ≡ self.old.beside }
+    {
+        self.engine.next_phase();
+    }
+
+    /// Swaps the judge, and hands the one before back with its state.
+    pub fn set_judge(&mut self, judge: Box<dyn Judge>) -> Box<dyn Judge>
+        ensures before { result ≡ self.old.judge }
+        ensures judge { self.new.judge ≡ judge }
+        ensures engine { self.new.engine ≡ self.old.engine }
+        ensures beside { self.new.beside ≡ self.old.beside }
+    {
+        mem::replace(&mut self.judge, judge)
+    }
+
+    /// Makes a session's call: the reply is given and written to the history with the text. On `NoMemory` nothing is changed
+    /// but how far the plans of cursors have come.
+    pub fn call(&mut self, session: u8, text: &str) -> Result<Reply, NoMemory>
+        requires from { 1 ≤ session }
+        requires to { session ≤ 8 }
+        requires short { length text.now ≤ 4096 }
+        ensures ok { IfOk result (λ reply. Answers self.old.engine self.new.engine session text.now reply) }
+        ensures err { OnErr result (self.new.engine ≡ record self.old.engine { opens = self.new.engine.opens }) }
+        ensures beside { self.new.beside ≡ self.old.beside }
+    {
+        self.engine
+            .call(session, text, &mut self.judge, self.beside)
+    }
+
+    /// Takes the awaited piece of an open cursor: of those that await one, that with the lowest number above `after`, or
+    /// with the lowest number where there is none above. `Nothing` where no open cursor awaits a piece.
+    pub fn take_piece(
+        &mut self,
+        after: u64,
+        steps: &mut Steps<Uncounted>,
+    ) -> Result<Taken, NoMemory>
+        ensures taken { IfOk result (λ t. TakesNext (next_waiting after self.old.engine.opens) self.old.engine.opens self.new.engine.opens t) }
+        ensures same { self.new.engine ≡ record self.old.engine { opens = self.new.engine.opens } }
+        ensures judge { self.new.judge ≡ self.old.judge }
+        ensures beside { self.new.beside ≡ self.old.beside }
+    {
+        self.engine.take_piece(after, steps)
+    }
+
+    /// Gives a sieved piece to the open cursor from which it was taken, on which the judge then rules. It is stale where
+    /// that is closed.
+    pub fn give_piece<L: Drop>(
+        &mut self,
+        sieved: Sieved,
+        steps: &mut Steps<L>,
+    ) -> Result<Given, NoMemory>
+        ensures given { IfOk result (λ g. GivesTo (numbered sieved.id.cursor self.old.engine.opens) (would self.old.judge) (state self.old.judge) (state self.new.judge) self.old.engine.opens sieved g self.new.engine.opens) }
+        ensures same { self.new.engine ≡ record self.old.engine { opens = self.new.engine.opens } }
+        ensures beside { self.new.beside ≡ self.old.beside }
+    {
+        self.engine.give_piece(sieved, &mut self.judge, steps)
+    }
+
+    /// Takes away what no transaction needs of the store, a part at a time, as each answered call does too.
+    pub fn sweep_step(&mut self)
+        ensures engine { self.new.engine ≡ record self.old.engine { horizon = horizon_of self.old.engine.db } }
+        ensures judge { self.new.judge ≡ self.old.judge }
+        ensures beside { self.new.beside ≡ self.old.beside }
+    {
+        self.engine.sweep_step();
+    }
+}

@@ -1,0 +1,116 @@
+//! The pieces of open cursors: which is handed out, and to whom one is given.
+ghost use Rattle.std.specs.Prelude.{◌≡◌, ◌<◌, ◌==◌, ◌&&◌, ℕ, List, Option, Some, IfOk, OnErr, length, nat_lt, position};
+ghost use Rattle.std.specs.List.{AllByRecursion};
+ghost use Rattle.rv_catalog.specs.Schema.{Schema};
+ghost use Rattle.rv_reader.specs.Shown.{Shown};
+ghost use Rattle.rv_retrieval.specs.Given.{TakesPiece};
+ghost use Rattle.rv_join.specs.Pieces.{waited};
+ghost use Rattle.rv_model.specs.declared.transactions.Transaction.{Transaction};
+ghost use Rattle.rv_cursor.specs.Left.{CursorFits, Stays};
+ghost use Rattle.rv_core.specs.Db.{AreNumbered, IsOpen, seen};
+ghost use Rattle.rv_core.specs.Pieces.{GivesTo, TakesNext, is_waiting, next_waiting, numbered};
+
+use rv_cursor::Open;
+use rv_jscan::{Given, PieceId, Sieved, Taken};
+use rv_judge::{Judge, Steps, Uncounted};
+use rv_reader::{Reader, Store};
+use rv_snapshot::Snapshot;
+use rv_value::{Items, NoMemory};
+
+fn is_waiting(cursor: &Open) -> bool
+    ensures { result ≡ is_waiting cursor.now }
+{
+    cursor.plan.awaited().is_some()
+}
+
+fn waiting_above(cursors: &Items<Open>, after: u64) -> Option<usize>
+    ensures { result ≡ position (λ c. nat_lt after c.number && is_waiting c) cursors.now }
+{
+    cursors
+        .as_slice()
+        .iter()
+        .position(|cursor| after < cursor.number && is_waiting(cursor))
+}
+
+fn first_waiting(cursors: &Items<Open>) -> Option<usize>
+    ensures { result ≡ position is_waiting cursors.now }
+{
+    cursors
+        .as_slice()
+        .iter()
+        .position(|cursor| is_waiting(cursor))
+}
+
+/// The place of the open cursor whose piece is handed out after that of a cursor of the number `after`.
+pub fn next_waiting(cursors: &Items<Open>, after: u64) -> Option<usize>
+    ensures { result ≡ next_waiting after cursors.now }
+{
+    match waiting_above(cursors, after) {
+        Some(place) => Some(place),
+        None => first_waiting(cursors),
+    }
+}
+
+/// The place of the open cursor of a number.
+pub fn numbered(cursors: &Items<Open>, number: u64) -> Option<usize>
+    ensures { result ≡ numbered number cursors.now }
+{
+    cursors
+        .as_slice()
+        .iter()
+        .position(|cursor| cursor.number == number)
+}
+
+/// Takes the awaited piece of a cursor's plan.
+fn take<R: Reader>(
+    cursor: &mut Open,
+    reader: &R,
+    steps: &mut Steps<R::Ledger>,
+) -> Result<Taken, NoMemory>
+    requires fits { CursorFits (R.shown reader.now) cursor.old }
+    ensures taken { IfOk result (TakesPiece (waited cursor.old.plan cursor.new.plan)) }
+    ensures same { cursor.new ≡ record cursor.old { plan = cursor.new.plan } }
+    ensures stays { Stays (R.shown reader.now) cursor.old cursor.new }
+{
+    let seen = Snapshot {
+        reader,
+        snap: cursor.snap,
+    };
+    cursor.plan.take(&seen, steps)
+}
+
+/// Takes the awaited piece of the cursor in a place.
+#[tactic(auto, using(crate::proofs::Opens::same_at, crate::proofs::Opens::all_get))]
+pub fn take_at<S: Store + Reader<Ledger = Uncounted>>(
+    store: &S,
+    cursors: &mut Items<Open>,
+    place: usize,
+    steps: &mut Steps<Uncounted>,
+) -> Result<Taken, NoMemory>
+    requires place { place < length cursors.old }
+    requires fits { AllByRecursion (CursorFits (S.shown store.now)) cursors.old }
+    ensures taken { IfOk result (λ t. TakesNext (Some place) cursors.old cursors.new t) }
+    ensures seen { seen (S.shown store.now) cursors.new ≡ seen (S.shown store.now) cursors.old }
+    ensures opens { (schema : Schema) (active : List Transaction) → AllByRecursion (IsOpen (S.shown store.now) schema active) cursors.old → AllByRecursion (IsOpen (S.shown store.now) schema active) cursors.new }
+    ensures numbers { (low high : ℕ) → AreNumbered low high cursors.old → AreNumbered low high cursors.new }
+{
+    take(cursors.at_mut(place), store, steps)
+}
+
+/// Gives a sieved piece to the cursor in a place.
+pub fn give_at<L: Drop>(
+    cursors: &mut Items<Open>,
+    place: usize,
+    sieved: Sieved,
+    judge: &mut Box<dyn Judge>,
+    steps: &mut Steps<L>,
+) -> Result<Given, NoMemory>
+    requires place { place < length cursors.old }
+    ensures given { IfOk result (λ g. GivesTo (Some place) (would judge.old) (state judge.old) (state judge.new) cursors.old sieved g cursors.new) }
+    ensures seen { (shown : Shown) → AllByRecursion (CursorFits shown) cursors.old → seen shown cursors.new ≡ seen shown cursors.old }
+    ensures opens { (shown : Shown) (schema : Schema) (active : List Transaction) → AllByRecursion (IsOpen shown schema active) cursors.old → AllByRecursion (IsOpen shown schema active) cursors.new }
+    ensures numbers { (low high : ℕ) → AreNumbered low high cursors.old → AreNumbered low high cursors.new }
+{
+    let cursor = cursors.at_mut(place);
+    cursor.plan.give(sieved, judge, steps)
+}

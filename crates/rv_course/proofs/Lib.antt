@@ -1,0 +1,5 @@
+pub mod Controls
+pub mod Scanned
+pub mod Sound
+pub mod Complete
+pub mod Deciding

@@ -1,0 +1,86 @@
+-- The events of an allowed trace name the indexes of its scans alone.
+use Rattle.std.proofs.Common.{◌≡◌, ℕ, List, [], ◌∷◌, Bool, true, false, ◌&&◌, refl, sym, ap, ◌∙◌, subst, Option, Some, None}
+use Rattle.std.specs.Prelude.{if◌then◌else◌, is_some}
+use Rattle.std.specs.List.{list_all}
+use Rattle.rv_judge.specs.declared.events.Strategy.{Strategy}
+use Rattle.rv_judge.specs.declared.events.Control.{Control}
+use Rattle.rv_judge.specs.declared.events.Event.{Event}
+use Rattle.rv_judge.specs.declared.events.Event.TheVariants.{At, Scan, List as ListOf, Drop, Full as FullEvent, Stop}
+use Rattle.rv_judge.specs.Runs.{has_index, scans}
+use Rattle.rv_course.specs.Reading.{begun_by, goes_on, is_known, is_read, is_scanning, leads_to, listed_by, reads, reads_all, reads_at}
+use Rattle.rv_course.proofs.Controls.{both, left_true, no_way, number_is, right_true}
+use Rattle.rv_decide.proofs.Names.{names_known}
+
+-- the scan under way is of one of these indexes
+abbrev scan_known : List ℕ → Option ℕ → Bool
+scan_known indexes None = true
+scan_known indexes (Some i) = has_index i indexes
+
+abbrev pending : Option Event → List Event → List Event
+pending None es = es
+pending (Some own) es = own ∷ es
+
+kept_known : (indexes : List ℕ) (b : Bool) (scan : Option ℕ) → scan_known indexes scan ≡ true → scan_known indexes (if b then scan else None) ≡ true
+kept_known indexes true scan k = k
+kept_known indexes false scan k = refl
+
+under_way : (indexes : List ℕ) (scan : Option ℕ) (i : ℕ) → scan_known indexes scan ≡ true → is_scanning scan i ≡ true → has_index i indexes ≡ true
+under_way indexes None i k h = no_way (sym h)
+under_way indexes (Some j) i k h = subst (λ (n : ℕ). has_index n indexes ≡ true) (number_is j i h) k
+
+led_known : (indexes : List ℕ) (s : Strategy) (c to : Control) (scan listed : Option ℕ) (own : Event) → scan_known indexes scan ≡ true → leads_to s (record { control = c; scan = scan; listed = listed; own = Some own }) own to ≡ true → names_known indexes own ≡ true
+led_known indexes s c to scan listed (ListOf i keys) k l = under_way indexes scan i k (left_true _ _ l)
+led_known indexes s c to scan listed (Drop i) k l = under_way indexes scan i k (left_true _ _ l)
+led_known indexes s c to scan listed FullEvent k l = refl
+led_known indexes s c to scan listed Stop k l = refl
+led_known indexes s c to scan listed (At d) k l = refl
+led_known indexes s c to scan listed (Scan i) k l = no_way (sym l)
+
+on_known : (indexes : List ℕ) (c : Control) (scan listed : Option ℕ) (own : Event) → scan_known indexes scan ≡ true → goes_on (record { control = c; scan = scan; listed = listed; own = Some own }) own ≡ true → names_known indexes own ≡ true
+on_known indexes c scan listed (ListOf i keys) k g = under_way indexes scan i k (left_true _ _ g)
+on_known indexes c scan listed (Drop i) k g = under_way indexes scan i k (left_true _ _ g)
+on_known indexes c scan listed FullEvent k g = refl
+on_known indexes c scan listed Stop k g = refl
+on_known indexes c scan listed (At d) k g = refl
+on_known indexes c scan listed (Scan i) k g = no_way (sym g)
+
+read_known : (indexes : List ℕ) (s : Strategy) (c : Control) (scan listed : Option ℕ) (own : Option Event) (es : List Event) → scan_known indexes scan ≡ true → list_all (is_known indexes) es ≡ true → reads s (record { control = c; scan = scan; listed = listed; own = own }) es ≡ true → list_all (names_known indexes) (pending own es) ≡ true
+read_known indexes s c scan listed None [] k all r = refl
+read_known indexes s c scan listed (Some own) [] k all r = no_way (sym r)
+read_known indexes s c scan listed None (At to ∷ es) k all r = read_known indexes s to (if scans to then scan else None) listed None es (kept_known indexes (scans to) scan k) all (right_true _ _ r)
+read_known indexes s c scan listed None (Scan i ∷ es) k all r = no_way (sym r)
+read_known indexes s c scan listed None (ListOf i keys ∷ es) k all r = read_known indexes s c scan listed (Some (ListOf i keys)) es k all r
+read_known indexes s c scan listed None (Drop i ∷ es) k all r = read_known indexes s c scan listed (Some (Drop i)) es k all r
+read_known indexes s c scan listed None (FullEvent ∷ es) k all r = read_known indexes s c scan listed (Some FullEvent) es k all r
+read_known indexes s c scan listed None (Stop ∷ es) k all r = read_known indexes s c scan listed (Some Stop) es k all r
+read_known indexes s c scan listed (Some own) (At to ∷ es) k all r =
+    both _ _ (led_known indexes s c to scan listed own k (left_true _ _ r))
+    (read_known indexes s to (if scans to then scan else None) (listed_by (Some own) listed) None es (kept_known indexes (scans to) scan k) all (right_true _ _ r))
+read_known indexes s c scan listed (Some own) (Scan j ∷ es) k all r =
+    both _ _ (on_known indexes c scan listed own k (left_true _ _ r))
+    (both _ _ (left_true _ _ all) (read_known indexes s c (Some j) (listed_by (Some own) listed) None es (left_true _ _ all) (right_true (has_index j indexes) _ all) (right_true _ _ r)))
+read_known indexes s c scan listed (Some own) (ListOf i keys ∷ es) k all r = no_way (sym r)
+read_known indexes s c scan listed (Some own) (Drop i ∷ es) k all r = no_way (sym r)
+read_known indexes s c scan listed (Some own) (FullEvent ∷ es) k all r = no_way (sym r)
+read_known indexes s c scan listed (Some own) (Stop ∷ es) k all r = no_way (sym r)
+
+at_known : (indexes : List ℕ) (s : Strategy) (c : Control) (es : List Event) → list_all (is_known indexes) es ≡ true → reads_at s c es ≡ true → list_all (names_known indexes) es ≡ true
+at_known indexes s c [] all r = refl
+at_known indexes s c (Scan i ∷ es) all r = both _ _ (left_true _ _ all) (read_known indexes s c (Some i) None None es (left_true _ _ all) (right_true (has_index i indexes) _ all) (right_true _ _ r))
+at_known indexes s c (At to ∷ es) all r = read_known indexes s c None None None (At to ∷ es) refl all (right_true _ _ r)
+at_known indexes s c (ListOf i keys ∷ es) all r = read_known indexes s c None None None (ListOf i keys ∷ es) refl all (right_true _ _ r)
+at_known indexes s c (Drop i ∷ es) all r = read_known indexes s c None None None (Drop i ∷ es) refl all (right_true _ _ r)
+at_known indexes s c (FullEvent ∷ es) all r = read_known indexes s c None None None (FullEvent ∷ es) refl all (right_true _ _ r)
+at_known indexes s c (Stop ∷ es) all r = read_known indexes s c None None None (Stop ∷ es) refl all (right_true _ _ r)
+
+all_known : (indexes : List ℕ) (s : Strategy) (es : List Event) → list_all (is_known indexes) es ≡ true → reads_all s es ≡ true → list_all (names_known indexes) es ≡ true
+all_known indexes s [] all r = refl
+all_known indexes s (At c ∷ es) all r = at_known indexes s c es all r
+all_known indexes s (Scan i ∷ es) all r = no_way (sym r)
+all_known indexes s (ListOf i keys ∷ es) all r = no_way (sym r)
+all_known indexes s (Drop i ∷ es) all r = no_way (sym r)
+all_known indexes s (FullEvent ∷ es) all r = no_way (sym r)
+all_known indexes s (Stop ∷ es) all r = no_way (sym r)
+
+pub events_known : (indexes : List ℕ) (s : Strategy) (es : List Event) → is_read s es indexes ≡ true → list_all (names_known indexes) es ≡ true
+events_known indexes s es r = all_known indexes s es (left_true _ _ (left_true _ _ r)) (right_true _ _ r)

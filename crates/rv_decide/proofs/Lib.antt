@@ -1,0 +1,5 @@
+pub mod Choices
+pub mod Names
+pub mod Known
+pub mod May
+pub mod Shown

@@ -1,0 +1,9 @@
+use Rattle.std.proofs.Common.{◌∙◌, ap}
+use Rattle.std.specs.List.{insert}
+use Rattle.rv_index.proofs.Places.{insert_placed}
+use Rattle.rv_index.proofs.parts.put_entry.Goals as goal
+
+pub returns : goal.returns
+returns c =
+    let place = rw c.as_slice.ensures.value at c.place_of-at.ensures.place in
+    c.in_ok-insert.ensures.items ∙ ap (λ i. insert c.args.entries.now.items i c.args.entry) place ∙ insert_placed c.args.entry c.args.entries.now.items

@@ -1,0 +1,333 @@
+-- A plan over one FROM item: what its one retrieval does, and what the first item's retrieval keeps.
+use Rattle.std.proofs.Common.{◌≡◌, ℕ, ◌+◌, ◌<◌, ◌≤◌, List, [], ◌∷◌, ◌++◌, length, Bool, true, false, ◌==◌, Option, Some, None, IfSome, is_some, refl, ap, sym, ◌∙◌, arith, subst, inl, inr, zero, suc, slice_index_or, slice_set, Result, Ok, Err, IfOk, OnOk, OnErr}
+use Rattle.rv_value.specs.declared.value.Value.{Value}
+use Rattle.rv_judge.specs.Counting.{reads}
+use Rattle.rv_judge.specs.declared.counting.Counts.{Counts}
+use Rattle.rv_judge.specs.declared.events.Event.TheVariants.{Full as FullEvent}
+use Rattle.rv_judge.specs.declared.events.Happening.{Happening}
+use Rattle.rv_judge.specs.declared.events.Happening.TheVariants.{FrontEnded, FinalEnded}
+use Rattle.rv_judge.specs.declared.judging.Facts.{Facts}
+use Rattle.rv_judge.specs.declared.judging.Verdict.{Verdict}
+use Rattle.rv_reader.specs.Shown.{Shown}
+use Rattle.rv_scan.specs.declared.skip.Scanned.{Scanned}
+use Rattle.rv_scan.specs.declared.skip.Scanned.TheVariants.{Found, Working, End}
+use Rattle.rv_jscan.specs.Joint.{Joint}
+use Rattle.rv_jscan.specs.Pieces.{Pieced}
+use Rattle.rv_jscan.specs.declared.jscan.Given.{Given}
+use Rattle.rv_jscan.specs.declared.jscan.Given.TheVariants.{Accepted, Stale}
+use Rattle.rv_value.specs.declared.record.IndexEntry.{IndexEntry}
+use Rattle.rv_jscan.specs.Steps.{Accepts, TakeLeaves, held_next}
+use Rattle.rv_retrieval.specs.declared.steps.Fg.{Fg}
+use Rattle.rv_retrieval.specs.declared.steps.Fg.TheVariants.{Row as FgRow, Working as FgWorking, End as FgEnd}
+use Rattle.rv_retrieval.specs.Effort.{GiveSpends, Tries, effort, life_of}
+use Rattle.rv_retrieval.specs.Given.{TakesLeaf, TakesLeafBy}
+use Rattle.rv_retrieval.specs.Opened.{Opened}
+use Rattle.rv_retrieval.specs.Rulings.{GivesOn, gone}
+use Rattle.rv_retrieval.specs.Runs.{SameCourse}
+use Rattle.rv_retrieval.specs.Shape.{Shape, is_background}
+use Rattle.rv_retrieval.specs.Short.{Settled, fetches_left, has_short, is_settled}
+use Rattle.rv_judge.specs.declared.events.Control.{Control}
+use Rattle.rv_judge.specs.declared.events.Control.TheVariants.{Building, ForegroundAlone, BackgroundAlone, FinalList, FinalTable, Done as ControlDone}
+use Rattle.rv_retrieval.specs.Stepping.{DoesAs, Kind, OnePiece, Remembered, RemembersBy, StepsAs, StepsBehind, ended_by, filled, is_awaiting, kind_of}
+use Rattle.rv_retrieval.specs.Stepping.Kind.{Borrow, Piece, Walk, WalkBoth, NextKey, NextPage, Over}
+use Rattle.rv_retrieval.specs.Accounts.{fresh_of}
+use Rattle.rv_join.specs.declared.level.Caught.TheVariants.{Ready, Ended, Worked}
+use Rattle.rv_join.specs.declared.level.Level.{Level}
+use Rattle.rv_join.specs.declared.plan.PlanStep.{PlanStep}
+use Rattle.rv_join.specs.declared.plan.PlanStep.TheVariants.{Row, End as PlanEnd, Working as PlanWorking}
+use Rattle.rv_join.specs.declared.stack.Moved.{Moved}
+use Rattle.rv_join.specs.declared.stack.Moved.TheVariants.{Gave, Done, Moving}
+use Rattle.rv_join.specs.Alone.{CallsOnce, FgCalls, GatherSpends, LevelSpends, MovedSpends, PlanSpends, Spends, StepsOnce, TakesOnce, level_effort, plan_effort, plan_life}
+use Rattle.rv_catalog.specs.declared.def.IndexDef.{IndexDef}
+use Rattle.rv_catalog.specs.declared.def.Select.{Select}
+use Rattle.rv_model.specs.declared.state.Offer.{Offer}
+use Rattle.rv_retrieval.specs.declared.query.Query.{Query}
+use Rattle.rv_join.specs.declared.places.Asked.{Asked}
+use Rattle.rv_join.specs.Asking.{Asks, IsAsked}
+use Rattle.rv_join.specs.Levels.{StackFits, Stacked, down, first_in, first_of, used}
+use Rattle.rv_join.specs.Plans.{Gives, step_of}
+use Rattle.rv_join.specs.Rules.{IsByRules, SamePlans}
+use Rattle.rv_join.specs.Work.{held_rows}
+use Rattle.rv_join.proofs.Accounting.{alone_above}
+use Rattle.rv_join.proofs.Numbers.{Turns, accepted_turns}
+
+-- Strategy and planned scans.
+
+pub plans_then : (u v w : Shape) → SamePlans u v → SamePlans v w → SamePlans u w
+plans_then u v w first then = record { query = then.query ∙ first.query; strategy = then.strategy ∙ first.strategy; plans = then.plans ∙ first.plans }
+
+pub plans_stay : (v : Shape) → SamePlans v v
+plans_stay v = record { query = refl; strategy = refl; plans = refl }
+
+turned_plans : (u v : Shape) → Turns u v → SamePlans u v
+turned_plans u v turns = record { query = turns.query; strategy = turns.strategy; plans = turns.plans }
+
+accepted_plans : (old new : Joint) (entries : List IndexEntry) (next : Option IndexEntry) → Accepts old new entries next → new.plans ≡ old.plans
+accepted_plans old new entries (Some cut) accepts = ap (λ (j : Joint). j.plans) accepts
+accepted_plans old new entries None accepts = ap (λ (j : Joint). j.plans) accepts.3
+
+pub given_plans : (would : ℕ → Facts → Verdict) (state after : ℕ) (piece : Pieced) (g : Given) (old new : Shape) → GivesOn would state after piece g old new → SamePlans old new
+given_plans would state after piece Accepted old new gives =
+    let turns = accepted_turns would state after piece old new gives in
+    record { query = turns.query; strategy = turns.strategy; plans = turns.plans ∙ accepted_plans old.joint gives.0 piece.entries (held_next old.joint.held) gives.1 }
+given_plans would state after piece (Stale asked now) old new gives = subst (SamePlans old) (sym gives.0) (plans_stay old)
+
+taken_plans : (back : Bool) (old new : Joint) → TakesLeafBy back old new → new.plans ≡ old.plans
+taken_plans true old new taken = ap (λ (j : Joint). j.plans) taken.same
+taken_plans false old new taken = ap (λ (j : Joint). j.plans) taken
+
+pub take_plans : (old new : Shape) → new ≡ record old { joint = new.joint; trace = new.trace } → TakesLeaf old new.joint → SamePlans old new
+take_plans old new same leaves = record {
+  query = ap (λ (v : Shape). v.query) same;
+  strategy = ap (λ (v : Shape). v.strategy) same;
+  plans = taken_plans (is_background old.control) old.joint new.joint leaves;
+}
+
+filled_plans : (v : Shape) → SamePlans v (filled v)
+filled_plans v = by_full (length v.delivered == 1024) refl
+  where
+    by_full : (b : Bool) → (length v.delivered == 1024) ≡ b → SamePlans v (filled v)
+    by_full true e = rw e (record { query = refl; strategy = refl; plans = refl })
+    by_full false e = rw e (plans_stay v)
+
+remembers_plans : (s : Scanned) (old new : Shape) → RemembersBy s old new → SamePlans old new
+remembers_plans (Found r) old new does = subst (SamePlans old) (sym does.same) (plans_then old (record old { delivered = new.delivered }) _ (record { query = refl; strategy = refl; plans = refl }) (filled_plans (record old { delivered = new.delivered })))
+remembers_plans Working old new does = subst (SamePlans old) (sym does) (plans_stay old)
+remembers_plans End old new does = subst (SamePlans old) (sym does) (record { query = refl; strategy = refl; plans = refl })
+
+ended_plans : (h : Happening) (s : Scanned) (v : Shape) → SamePlans v (ended_by h s v)
+ended_plans h (Found r) v = plans_stay v
+ended_plans h Working v = plans_stay v
+ended_plans h End v = record { query = refl; strategy = refl; plans = refl }
+
+behind_plans : (b : Bool) (would : ℕ → Facts → Verdict) (state after : ℕ) (old new : Shape) → StepsBehind b would state after old new → SamePlans old new
+behind_plans true would state after old new does = plans_then old (record old { joint = does.taken }) new (record { query = refl; strategy = refl; plans = ap (λ (j : Joint). j.plans) does.leaves.same }) (given_plans would state after does.piece Accepted (record old { joint = does.taken }) new does.obeys)
+behind_plans false would state after old new does = subst (SamePlans old) (sym does.0) (plans_stay old)
+
+does_plans : (k : Kind) (would : ℕ → Facts → Verdict) (state after : ℕ) (shown : Shown) (c d : Counts) (s : Scanned) (old new : Shape) → DoesAs k would state after shown c d s old new → SamePlans old new
+does_plans (Borrow key) would state after shown c d s old new does = plans_then old (record old { borrowed = new.borrowed }) new (record { query = refl; strategy = refl; plans = refl }) (remembers_plans s (record old { borrowed = new.borrowed }) new does.1.left)
+does_plans Piece would state after shown c d s old new does = plans_then old (record old { borrowed = does.1.passed }) new (record { query = refl; strategy = refl; plans = refl }) (behind_plans (is_awaiting old) would state after (record old { borrowed = does.1.passed }) new does.1.does)
+does_plans Walk would state after shown c d s old new does = subst (SamePlans old) (sym does.2) (plans_then old (record old { front = new.front }) _ (record { query = refl; strategy = refl; plans = refl }) (ended_plans FrontEnded s (record old { front = new.front })))
+does_plans WalkBoth would state after shown c d s old new does = plans_then old (record old { front = new.front }) new (record { query = refl; strategy = refl; plans = refl }) (remembers_plans s (record old { front = new.front }) new does.1)
+does_plans NextKey would state after shown c d s old new does = subst (SamePlans old) (sym does.2) (plans_then old (record old { at = new.at }) _ (record { query = refl; strategy = refl; plans = refl }) (ended_plans FinalEnded s (record old { at = new.at })))
+does_plans NextPage would state after shown c d s old new does = subst (SamePlans old) (sym does.1) (plans_then old (record old { last = new.last }) _ (record { query = refl; strategy = refl; plans = refl }) (ended_plans FinalEnded s (record old { last = new.last })))
+does_plans Over would state after shown c d s old new does = subst (SamePlans old) (sym does.2) (plans_stay old)
+
+steps_plans : (would : ℕ → Facts → Verdict) (state after : ℕ) (shown : Shown) (c d : Counts) (fg : Fg) (old new : Shape) → StepsAs would state after shown c d fg old new → SamePlans old new
+steps_plans would state after shown c d fg old new steps = subst (SamePlans old) (sym steps.counts) (plans_then old steps.stepped _ (does_plans (kind_of old.control old.strategy (fresh_of old)) would state after shown c d steps.scanned old steps.stepped steps.does) (record { query = refl; strategy = refl; plans = refl }))
+
+course_plans : (old new : Shape) → SameCourse old new → SamePlans old new
+course_plans old new same = record { query = same.query; strategy = same.strategy; plans = same.plans }
+
+fg_plans : (fg : Option Fg) (would : ℕ → Facts → Verdict) (state after : ℕ) (shown : Shown) (c d : Counts) (old new : Shape) → FgCalls fg would state after shown c d old new → SamePlans old new
+fg_plans (Some fg) would state after shown c d old new calls = steps_plans would state after shown c d fg old new calls.does
+fg_plans None would state after shown c d old new calls = course_plans old new (calls.wants refl).1
+
+-- the retrieval of a level made a step, or none
+pub once_plans : (would : ℕ → Facts → Verdict) (state after : ℕ) (shown : Shown) (c d : Counts) (old new : Shape) → CallsOnce would state after shown c d old new → SamePlans old new
+once_plans would state after shown c d old new calls = elim calls [
+  | inl call ↦ fg_plans call.0 would state after shown c d old new call.1
+  | inr still ↦ subst (SamePlans old) (sym still.0) (plans_stay old)
+]
+
+-- The calls of a level's retrieval.
+
+never_none : {A X : Type 0} (x : A) → Some x ≡ None → X
+never_none x e = absurd (cc)
+
+pub ok_calls : (would : ℕ → Facts → Verdict) (state after : ℕ) (shown : Shown) (c d : Counts) (fg : Fg) (old new : Shape) → StepsAs would state after shown c d fg old new → (Settled old → Settled new) → (Settled old → after ≡ state) → (Settled old → d.pages ≡ c.pages) → (Settled old → d.records + fetches_left new shown ≤ c.records + fetches_left old shown) → CallsOnce would state after shown c d old new
+ok_calls would state after shown c d fg old new does settled unasked pages records = inl (
+  Some fg,
+  record {
+    does = does;
+    wants = λ e. never_none fg e;
+    settled = λ s. (settled s, unasked s, pages s);
+    records = records;
+  },
+)
+
+pub err_calls : (would : ℕ → Facts → Verdict) (state after : ℕ) (shown : Shown) (c d : Counts) (old new : Shape) → after ≡ state → SameCourse old new → (Settled old → Settled new) → (Settled old → d.pages ≡ c.pages) → CallsOnce would state after shown c d old new
+err_calls would state after shown c d old new quiet course settled pages = inl (
+  None,
+  record {
+    does = tt;
+    wants = λ e. (quiet, course);
+    settled = λ s. (settled s, quiet, pages s);
+    records = λ s. tt;
+  },
+)
+
+-- nothing was called
+pub no_call : (would : ℕ → Facts → Verdict) (state : ℕ) (shown : Shown) (c : Counts) (l : Level) → StepsOnce would state state shown c c l l
+no_call would state shown c l = record { calls = inr (refl, refl, refl); tries = record { once = omega arith; less = omega arith } }
+
+less_held : (e f k : ℕ) → e < f → e + k < f + k
+less_held e f k h = omega (arith, h)
+
+pub held_tries : (c d : Counts) (e f : ℕ) (row now : Option (List Value)) → now ≡ row → Tries c d f e → Tries c d (f + held_rows row) (e + held_rows now)
+held_tries c d e f row now same tries = let less = tries.less in rw same (record { once = tries.once; less = omega (arith, less) })
+
+-- a row was found, and is held
+pub row_tries : (c d : Counts) (e f : ℕ) (row : Option (List Value)) → row ≡ None → Tries c d f e → e < f → Tries c d (f + held_rows row) (e + 1)
+row_tries c d e f row none tries less = rw none (record { once = tries.once; less = omega (arith, less) })
+
+pub row_spends : (c d : Counts) (e f : ℕ) (row : Option (List Value)) → row ≡ None → Spends c d f e → e < f → Spends c d (f + held_rows row) e × (e < f + held_rows row)
+row_spends c d e f row none spends less = rw none (omega (arith, spends), omega (arith, less))
+
+pub worked_spends : (c d : Counts) (e f : ℕ) (row : Option (List Value)) → Spends c d f e → e < f → Spends c d (f + held_rows row) (e + held_rows row) × (e + held_rows row < f + held_rows row)
+worked_spends c d e f row spends less = (omega (arith, spends), omega (arith, less))
+
+pub ended_spends : (c d : Counts) (e f : ℕ) (row : Option (List Value)) → Spends c d f e → e ≤ f → Spends c d (f + held_rows row) (e + held_rows row) × (e + held_rows row ≤ f + held_rows row)
+ended_spends c d e f row spends less = (omega (arith, spends), omega (arith, less))
+
+-- a row that was held is used
+pub held_spends : (c : Counts) (e : ℕ) (row : Option (List Value)) → is_some row ≡ true → Spends c c (e + held_rows row) e × (e < e + held_rows row)
+held_spends c e None some = absurd (cc)
+held_spends c e (Some row) some = (omega arith, omega arith)
+
+-- Steps of the nested loops.
+
+-- the row is dropped, whatever the step is then called
+pub used_spends : (shown : Shown) (m : Moved) (c d : Counts) (o : ℕ) (v : Stacked) → Spends c d o (effort v.at.here shown) → effort v.at.here shown < o → MovedSpends m c d o (level_effort shown (used v).at)
+used_spends shown (Gave offer) c d o v spends less = (omega (arith, spends), omega (arith, less))
+used_spends shown Done c d o v spends less = (omega (arith, spends), omega (arith, less))
+used_spends shown Moving c d o v spends less = (omega (arith, spends), omega (arith, less))
+
+pub used_once : (would : ℕ → Facts → Verdict) (state after : ℕ) (shown : Shown) (c d : Counts) (old : Level) (v : Stacked) → StepsOnce would state after shown c d old v.at → StepsOnce would state after shown c d old (used v).at
+used_once would state after shown c d old v once = let tries = once.tries in let less = tries.less in record { calls = once.calls; tries = record { once = tries.once; less = omega (arith, less) } }
+
+pub moved_spends : (m : Moved) (c d : Counts) (old new : ℕ) → MovedSpends m c d old new → PlanSpends (step_of m) c d old new
+moved_spends (Gave o) c d old new spends = let less = spends.1 in (spends.0, omega (arith, less))
+moved_spends Done c d old new spends = spends
+moved_spends Moving c d old new spends = spends
+
+-- A look for a level's next row: it failed, it came to no row, and it found one.
+
+pub catch_err : (would : ℕ → Facts → Verdict) (state after : ℕ) (shown : Shown) (c d : Counts) (old : Level) (new : Shape) → after ≡ state → SameCourse old.here new → (Settled old.here → Settled new) → (Settled old.here → d.pages ≡ c.pages) → Tries c d (effort old.here shown) (effort new shown) → StepsOnce would state after shown c d old (record old { here = new })
+catch_err would state after shown c d old new quiet course settled pages tries = record { calls = err_calls would state after shown c d old.here new quiet course settled pages; tries = held_tries c d (effort new shown) (effort old.here shown) old.row old.row refl tries }
+
+pub catch_none : (would : ℕ → Facts → Verdict) (state after : ℕ) (shown : Shown) (c d : Counts) (fg : Fg) (old : Level) (new : Shape) → StepsAs would state after shown c d fg old.here new → (Settled old.here → Settled new) → (Settled old.here → after ≡ state) → (Settled old.here → d.pages ≡ c.pages) → (Settled old.here → d.records + fetches_left new shown ≤ c.records + fetches_left old.here shown) → Tries c d (effort old.here shown) (effort new shown) → StepsOnce would state after shown c d old (record old { here = new })
+catch_none would state after shown c d fg old new does settled unasked pages records tries = record { calls = ok_calls would state after shown c d fg old.here new does settled unasked pages records; tries = held_tries c d (effort new shown) (effort old.here shown) old.row old.row refl tries }
+
+pub catch_row : (would : ℕ → Facts → Verdict) (state after : ℕ) (shown : Shown) (c d : Counts) (fg : Fg) (old : Level) (new : Shape) (values : List Value) → old.row ≡ None → StepsAs would state after shown c d fg old.here new → (Settled old.here → Settled new) → (Settled old.here → after ≡ state) → (Settled old.here → d.pages ≡ c.pages) → (Settled old.here → d.records + fetches_left new shown ≤ c.records + fetches_left old.here shown) → Tries c d (effort old.here shown) (effort new shown) → effort new shown < effort old.here shown → StepsOnce would state after shown c d old (record { outer = old.outer; row = Some values; here = new })
+catch_row would state after shown c d fg old new values none does settled unasked pages records tries less = record { calls = ok_calls would state after shown c d fg old.here new does settled unasked pages records; tries = row_tries c d (effort new shown) (effort old.here shown) old.row none tries less }
+
+-- Open levels.
+
+pub alone_ended : (a : Asked) (shown : Shown) (old mid new : Stacked) → StackFits a shown old → mid ≡ record old { at = mid.at } → (mid.above ≡ [] → new ≡ mid) → length a.items ≡ 1 → new ≡ mid
+alone_ended a shown old mid new fits same ends one = ends (ap (λ (v : Stacked). v.above) same ∙ alone_above a shown old fits one)
+
+pub alone_none : (a : Asked) (shown : Shown) (old mid : Stacked) → StackFits a shown old → mid ≡ record old { at = mid.at } → length a.items ≡ 1 → mid.above ≡ []
+alone_none a shown old mid fits same one = ap (λ (v : Stacked). v.above) same ∙ alone_above a shown old fits one
+
+pub done_spends : (m : Moved) (c d : Counts) (old new : ℕ) → m ≡ Done → Spends c d old new × (new ≤ old) → MovedSpends m c d old new
+done_spends m c d old new done spends = rw done spends
+
+pub uses_once : {E : Type 0} (r : Result Moved E) (would : ℕ → Facts → Verdict) (state after : ℕ) (shown : Shown) (c d end : Counts) (old : Level) (mid new : Stacked) → OnOk r (new ≡ used mid) → OnErr r (new ≡ mid) → end ≡ d → StepsOnce would state after shown c d old mid.at → StepsOnce would state after shown c end old new.at
+uses_once (Ok m) would state after shown c d end old mid new uses err same once = rw (uses, same) (used_once would state after shown c d old mid once)
+uses_once (Err e) would state after shown c d end old mid new uses err same once = rw (err, same) once
+
+pub uses_spends : {E : Type 0} (r : Result Moved E) (shown : Shown) (c d end : Counts) (old : Level) (mid new : Stacked) → OnOk r (new ≡ used mid) → end ≡ d → LevelSpends shown Ready c d old mid.at → IfOk r (λ m. MovedSpends m c end (level_effort shown old) (level_effort shown new.at))
+uses_spends (Ok m) shown c d end old mid new uses same spends = rw (uses, same) (used_spends shown m c d (level_effort shown old) mid spends.0 spends.1)
+uses_spends (Err e) shown c d end old mid new uses same spends = tt
+
+pub first_plans : (old new : Stacked) → new ≡ record old { at = new.at } → SamePlans old.at.here new.at.here → SamePlans (first_of old).here (first_of new).here
+first_plans old new same plans = subst (λ (ls : List Level). SamePlans (first_of old).here (first_in ls new.at).here) (sym (ap (λ (v : Stacked). v.above) same)) (by_above old.above)
+  where
+    by_above : (ls : List Level) → SamePlans (first_in ls old.at).here (first_in ls new.at).here
+    by_above [] = plans
+    by_above (l ∷ ls) = plans_stay l.here
+
+pub climbed_first : (old new : List Level) (at left : Level) → old ≡ new ++ at ∷ [] → first_in new at ≡ first_in old left
+climbed_first old [] at left is = rw is refl
+climbed_first old (l ∷ ls) at left is = rw is refl
+
+pub down_first : (v : Stacked) (inner : Level) → (first_of (down v inner)).here ≡ (first_of v).here
+down_first v inner = by_above v.above
+  where
+    by_above : (ls : List Level) → (first_in (ls ++ (record v.at { row = None }) ∷ []) inner).here ≡ (first_in ls v.at).here
+    by_above [] = refl
+    by_above (l ∷ ls) = refl
+
+pub list_plans : (ls : List Level) (i : ℕ) (old new : Level) → i < length ls → old ≡ slice_index_or ls i old → SamePlans old.here new.here → (d : Level) → SamePlans (first_in ls d).here (first_in (slice_set ls i new) d).here
+list_plans [] i old new le is plans d = absurd (omega (arith, le))
+list_plans (l ∷ ls) zero old new le is plans d = subst (λ (x : Level). SamePlans x.here new.here) is plans
+list_plans (l ∷ ls) (suc i) old new le is plans d = plans_stay l.here
+
+pub result_plans : {E : Type 0} (r : Result Given E) (would : ℕ → Facts → Verdict) (state after : ℕ) (piece : Pieced) (old new : Shape) → IfOk r (λ g. GivesOn would state after piece g old new) → OnErr r (new ≡ old) → SamePlans old new
+result_plans (Ok g) would state after piece old new gives err = given_plans would state after piece g old new gives
+result_plans (Err e) would state after piece old new gives err = subst (SamePlans old) (sym err) (plans_stay old)
+
+-- Takes and gives over one FROM item.
+
+settled_back : (c : Control) → is_settled c ≡ true → is_background c ≡ false
+settled_back Building s = absurd (cc)
+settled_back ForegroundAlone s = refl
+settled_back BackgroundAlone s = absurd (cc)
+settled_back FinalList s = refl
+settled_back FinalTable s = absurd (cc)
+settled_back ControlDone s = refl
+
+settled_joint : (b : Bool) (old new : Joint) → b ≡ false → TakesLeafBy b old new → new ≡ old
+settled_joint true old new e taken = absurd (cc)
+settled_joint false old new e taken = taken
+
+settled_fetches : (shown : Shown) (old new : Shape) → new ≡ record old { joint = new.joint; trace = new.trace } → new.joint ≡ old.joint → fetches_left new shown ≡ fetches_left old shown
+settled_fetches shown old new same joint = ap (λ (v : Shape). fetches_left v shown) same ∙ ap (λ (j : Joint). fetches_left (record old { joint = j; trace = new.trace }) shown) joint
+
+pub taken_once : (shown : Shown) (c d : Counts) (old : Level) (new : Shape) → Tries c d (effort old.here shown) (effort new shown) → new ≡ record old.here { joint = new.joint; trace = new.trace } → TakesLeaf old.here new.joint → (Settled old.here → Settled new × (d ≡ c)) → TakesOnce shown c d old (record old { here = new })
+taken_once shown c d old new tries same leaves settled = record {
+  tries = held_tries c d (effort new shown) (effort old.here shown) old.row old.row refl tries;
+  settled = λ s. ((settled s).0, (settled s).1, settled_fetches shown old.here new same (settled_joint (is_background old.here.control) old.here.joint new.joint (settled_back old.here.control s.over) leaves));
+}
+
+pub taken_spends : {T E : Type 0} (r : Result T E) (shown : Shown) (c d : Counts) (old : Level) (new : Shape) → IfOk r (λ t. reads d + effort new shown ≤ reads c + effort old.here shown) → IfOk r (λ t. Spends c d (level_effort shown old) (level_effort shown (record old { here = new })))
+taken_spends (Ok t) shown c d old new spends = let s = spends in omega (arith, s)
+taken_spends (Err e) shown c d old new spends = tt
+
+pub none_above : {X : Type 0} (i : ℕ) (ls : List Level) → i < length ls → ls ≡ [] → X
+none_above i ls le none = let e = ap length none in absurd (omega (arith, le, e))
+
+pub still_once : (shown : Shown) (c : Counts) (l : Level) → TakesOnce shown c c l l
+still_once shown c l = record { tries = record { once = omega arith; less = omega arith }; settled = λ s. (s, refl, refl) }
+
+pub given_less : {E : Type 0} (r : Result Given E) (shown : Shown) (old : Level) (new : Shape) → IfOk r (λ g. GiveSpends g (effort old.here shown) (effort new shown)) → IfOk r (λ g. GiveSpends g (level_effort shown old) (level_effort shown (record old { here = new })))
+given_less (Ok Accepted) shown old new less = let l = less in omega (arith, l)
+given_less (Ok (Stale asked now)) shown old new same = ap (λ (n : ℕ). n + held_rows old.row) same
+given_less (Err e) shown old new less = tt
+
+-- Plans.
+
+pub given_spends : (m : PlanStep) (had has : List Offer) → Gives m had has → (c : Counts) (n : ℕ) → PlanSpends m c c n n
+given_spends (Row o) had has gives c n = (omega arith, omega arith)
+given_spends PlanEnd had has gives c n = (omega arith, omega arith)
+given_spends PlanWorking had has gives c n = absurd (cc)
+
+-- all are gathered, and the first is given
+pub all_spends : (m : PlanStep) (had has : List Offer) (c d : Counts) (old new : ℕ) → Gives m had has → Spends c d old new × (new ≤ old) → PlanSpends m c d old new
+all_spends (Row o) had has c d old new gives spends = spends
+all_spends PlanEnd had has c d old new gives spends = spends
+all_spends PlanWorking had has c d old new gives spends = absurd (cc)
+
+-- At opening.
+
+pub life_is : (s : Select) (indexes : List IndexDef) (shown : Shown) (snap cursor : ℕ) (a : Asked) (q : Query) → 1 ≤ length s.tables → IsAsked s indexes snap cursor a → Asks a [] q → life_of q shown ≡ plan_life s indexes shown snap
+life_is s indexes shown snap cursor a q some asked asks =
+    let item = asked.items 0 some in
+    rw (asks.item.table ∙ item.table, asks.item.snap ∙ asked.snap, asks.item.over ∙ item.over) refl
+
+pub begins_life : (s : Select) (indexes : List IndexDef) (shown : Shown) (snap cursor : ℕ) (a : Asked) (v : Stacked) (c d : Counts) → 1 ≤ length s.tables → IsAsked s indexes snap cursor a → Asks a [] v.at.here.query → v.at.row ≡ None → reads d + effort v.at.here shown ≤ reads c + life_of v.at.here.query shown → reads d + level_effort shown v.at ≤ reads c + plan_life s indexes shown snap
+begins_life s indexes shown snap cursor a v c d some asked asks none life =
+    let same = life_is s indexes shown snap cursor a v.at.here.query some asked asks in
+    rw (none, ← same) (omega (arith, life))
+
+pub opened_life : {E : Type 0} (r : Result Shape E) (q : Query) (shown : Shown) (cursor opening : ℕ) (c d : Counts) → IfOk r (λ v. Opened q shown cursor opening v) → IfOk r (λ v. reads d + effort v shown ≤ reads c + life_of q shown) → IfOk r (λ v. reads d + effort v shown ≤ reads c + life_of v.query shown)
+opened_life (Ok v) q shown cursor opening c d opened life = subst (λ (x : Query). reads d + effort v shown ≤ reads c + life_of x shown) (sym opened.made.asked) life
+opened_life (Err e) q shown cursor opening c d opened life = tt
+
+pub opened_short : {E : Type 0} (r : Result Shape E) (q : Query) (shown : Shown) (cursor opening : ℕ) → IfOk r (λ v. Opened q shown cursor opening v) → (has_short q shown ≡ true → IfOk r (λ v. Settled v × (fetches_left v shown ≤ 20))) → IfOk r (λ v. has_short v.query shown ≡ true → Settled v × (fetches_left v shown ≤ 20))
+opened_short (Ok v) q shown cursor opening opened short = λ e. short (subst (λ (x : Query). has_short x shown ≡ true) opened.made.asked e)
+opened_short (Err e) q shown cursor opening opened short = tt
+
+pub opened_rules : (shown : Shown) (cursor opening : ℕ) (v : Shape) → Opened v.query shown cursor opening v → IsByRules shown v
+opened_rules shown cursor opening v opened = record { choice = opened.choice; chosen = opened.chosen; strategy = opened.made.strategy; scans = opened.made.scans }

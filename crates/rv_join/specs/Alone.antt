@@ -1,0 +1,90 @@
+-- A PLAN OVER ONE FROM ITEM: its calls are those of its one retrieval.
+use Rattle.std.specs.Prelude.{◌≡◌, ◌⊎◌, ℕ, ◌+◌, ◌<◌, ◌≤◌, Bool, true, false, List, length, Option, Some, None, IfSome}
+use Rattle.rv_judge.specs.Account.{life_bound}
+use Rattle.rv_judge.specs.Counting.{reads}
+use Rattle.rv_judge.specs.declared.counting.Counts.{Counts}
+use Rattle.rv_judge.specs.declared.judging.Facts.{Facts}
+use Rattle.rv_judge.specs.declared.judging.Verdict.{Verdict}
+use Rattle.rv_catalog.specs.declared.def.IndexDef.{IndexDef}
+use Rattle.rv_catalog.specs.declared.def.Select.{Select}
+use Rattle.rv_reader.specs.Shown.{Shown}
+use Rattle.rv_retrieval.specs.declared.steps.Fg.{Fg}
+use Rattle.rv_retrieval.specs.Effort.{Tries, cuts_and_entries, effort}
+use Rattle.rv_retrieval.specs.Runs.{SameCourse}
+use Rattle.rv_retrieval.specs.Shape.{Shape}
+use Rattle.rv_retrieval.specs.Short.{Settled, fetches_left}
+use Rattle.rv_retrieval.specs.Stepping.{StepsAs}
+use Rattle.rv_join.specs.declared.level.Caught.{Caught}
+use Rattle.rv_join.specs.declared.level.Caught.TheVariants.{Ready, Ended, Worked}
+use Rattle.rv_join.specs.declared.level.Level.{Level}
+use Rattle.rv_join.specs.declared.plan.PlanStep.{PlanStep}
+use Rattle.rv_join.specs.declared.plan.PlanStep.TheVariants.{Row, End, Working}
+use Rattle.rv_join.specs.declared.stack.Moved.{Moved}
+use Rattle.rv_join.specs.declared.stack.Moved.TheVariants.{Gave, Done, Moving}
+use Rattle.rv_join.specs.Asking.{indexes_from, table_at}
+use Rattle.rv_join.specs.Plans.{Planned}
+use Rattle.rv_join.specs.Work.{held_rows}
+
+abbrev pub IsAlone : Planned → Type 0
+IsAlone p = length p.asked.items ≡ 1
+
+-- A step of the retrieval was made, which answered this, or for which memory was wanting: it did what a foreground step
+-- does, and asked the judge as one does. Where a short index was scanned at opening it asked no judge and read no page.
+pub record FgCalls (fg : Option Fg) (would : ℕ → Facts → Verdict) (state after : ℕ) (shown : Shown) (c d : Counts) (old new : Shape) : Type 0 where
+  pub does : IfSome fg (λ s. StepsAs would state after shown c d s old new)
+  pub wants : fg ≡ None → (after ≡ state) × SameCourse old new
+  pub settled : Settled old → Settled new × (after ≡ state) × (d.pages ≡ c.pages)
+  pub records : Settled old → IfSome fg (λ s. d.records + fetches_left new shown ≤ c.records + fetches_left old shown)
+
+-- a step was made, or nothing was done
+abbrev pub CallsOnce : (ℕ → Facts → Verdict) → ℕ → ℕ → Shown → Counts → Counts → Shape → Shape → Type 0
+CallsOnce would state after shown c d old new = ((fg : Option Fg) × FgCalls fg would state after shown c d old new) ⊎ ((new ≡ old) × (d ≡ c) × (after ≡ state))
+
+-- THE EFFORT OF A PLAN OVER ONE FROM ITEM: that of its retrieval, and one for a row that is held
+abbrev pub level_effort : Shown → Level → ℕ
+level_effort shown l = effort l.here shown + held_rows l.row
+
+abbrev pub plan_effort : Shown → Planned → ℕ
+plan_effort shown p = level_effort shown p.stack.at
+
+-- WHAT A STEP DOES TO THE ONE RETRIEVAL, whatever it answers: at most one step of it, which reads at most once and does not
+-- raise the effort
+pub record StepsOnce (would : ℕ → Facts → Verdict) (state after : ℕ) (shown : Shown) (c d : Counts) (old new : Level) : Type 0 where
+  pub calls : CallsOnce would state after shown c d old.here new.here
+  pub tries : Tries c d (level_effort shown old) (level_effort shown new)
+
+-- the effort falls by the reads
+abbrev pub Spends : Counts → Counts → ℕ → ℕ → Type 0
+Spends c d old new = reads d + new ≤ reads c + old
+
+-- WHAT A STEP SPENDS: it lowers the effort by its reads, and Working by at least one
+abbrev pub PlanSpends : PlanStep → Counts → Counts → ℕ → ℕ → Type 0
+PlanSpends (Row o) c d old new = Spends c d old new × (new ≤ old)
+PlanSpends End c d old new = Spends c d old new × (new ≤ old)
+PlanSpends Working c d old new = Spends c d old new × (new < old)
+
+-- the same of a look for a level's next row, whose row is still held
+abbrev pub LevelSpends : Shown → Caught → Counts → Counts → Level → Level → Type 0
+LevelSpends shown Ready c d old new = Spends c d (level_effort shown old) (effort new.here shown) × (effort new.here shown < level_effort shown old)
+LevelSpends shown Ended c d old new = Spends c d (level_effort shown old) (level_effort shown new) × (level_effort shown new ≤ level_effort shown old)
+LevelSpends shown Worked c d old new = Spends c d (level_effort shown old) (level_effort shown new) × (level_effort shown new < level_effort shown old)
+
+-- the same of a step of the nested loops
+abbrev pub MovedSpends : Moved → Counts → Counts → ℕ → ℕ → Type 0
+MovedSpends (Gave o) c d old new = Spends c d old new × (new < old)
+MovedSpends Done c d old new = Spends c d old new × (new ≤ old)
+MovedSpends Moving c d old new = Spends c d old new × (new < old)
+
+-- the same of a step that gathers, which may find that all is gathered
+abbrev pub GatherSpends : Bool → Counts → Counts → ℕ → ℕ → Type 0
+GatherSpends true c d old new = Spends c d old new × (new ≤ old)
+GatherSpends false c d old new = Spends c d old new × (new < old)
+
+-- WHAT A TAKE DOES TO THE ONE RETRIEVAL
+pub record TakesOnce (shown : Shown) (c d : Counts) (old new : Level) : Type 0 where
+  pub tries : Tries c d (level_effort shown old) (level_effort shown new)
+  pub settled : Settled old.here → Settled new.here × (d ≡ c) × (fetches_left new.here shown ≡ fetches_left old.here shown)
+
+-- the bound at opening, of the select, its indexes and the reader's lists alone
+abbrev pub plan_life : Select → List IndexDef → Shown → ℕ → ℕ
+plan_life s indexes shown snap = life_bound (shown.pages (table_at s 0) snap) (cuts_and_entries (indexes_from (table_at s 0) 0 indexes) shown snap)

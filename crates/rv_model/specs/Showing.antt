@@ -1,0 +1,33 @@
+-- What SHOW may answer: a trace of the course, with the names of indexes in place of their numbers.
+use Rattle.std.specs.Prelude.{◌≡◌, ℕ, ◌+◌, List, [], ◌∷◌, ◌==◌, map, if◌then◌else◌}
+use Rattle.rv_judge.specs.declared.events.Event.{Event}
+use Rattle.rv_judge.specs.declared.events.Event.TheVariants as events
+use Rattle.rv_judge.specs.declared.events.Trace.{Trace}
+use Rattle.rv_judge.specs.Runs.{Allowed}
+use Rattle.rv_lang.specs.declared.reply.Shown.{Shown}
+use Rattle.rv_lang.specs.declared.reply.ShownEvent.{ShownEvent}
+use Rattle.rv_lang.specs.declared.reply.ShownEvent.TheVariants as told
+use Rattle.rv_catalog.specs.declared.def.IndexDef.{IndexDef}
+use Rattle.rv_model.specs.Database.{index_at}
+
+-- the numbers of the indexes over a table; the first index of the list has the number given
+abbrev pub numbers_over : ℕ → ℕ → List IndexDef → List ℕ
+numbers_over table number [] = []
+numbers_over table number (d ∷ ds) = if d.table == table then number ∷ numbers_over table (number + 1) ds else numbers_over table (number + 1) ds
+
+abbrev pub named : List IndexDef → Event → ShownEvent
+named indexes (events.At control) = told.At control
+named indexes (events.Scan i) = told.Scan (index_at indexes i).name
+named indexes (events.List i keys) = told.List (index_at indexes i).name keys
+named indexes (events.Drop i) = told.Drop (index_at indexes i).name
+named indexes events.Full = told.Full
+named indexes events.Stop = told.Stop
+
+abbrev pub trace_named : List IndexDef → Trace → Shown
+trace_named indexes t = record { strategy = t.strategy; events = map (named indexes) t.events.items; pages = t.pages; leaves = t.leaves; fetches = t.fetches }
+
+-- a trace that the course allows for the indexes over a table
+pub record ShowsTrace (indexes : List IndexDef) (table : ℕ) (shown : Shown) : Type 0 where
+  pub trace : Trace
+  pub allowed : Allowed trace (numbers_over table 0 indexes)
+  pub names : shown ≡ trace_named indexes trace
