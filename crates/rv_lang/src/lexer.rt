@@ -353,6 +353,16 @@ impl From<AllocFailed<Token>> for LexFault {
     }
 }
 
+impl From<AllocError> for LexFault {
+    ghost use Rattle.rv_lang.specs.declared.token.LexFault.TheVariants.{NoMemory};
+
+    ghost from_gives = { λ _ e. e ≡ NoMemory };
+
+    fn from(_e: AllocError) -> LexFault {
+        LexFault::NoMemory
+    }
+}
+
 /// The tokens of a statement's text, of at most 4,096 bytes. Space and tab separate tokens and mean nothing else.
 pub fn lex(alloc: Global, text: &str) -> Result<Vec<Token>, LexFault>
     requires { length text.now ≤ 4096 }
@@ -364,7 +374,8 @@ pub fn lex(alloc: Global, text: &str) -> Result<Vec<Token>, LexFault>
     // The same as a function of the text.
     ensures exact { Lexes (λ tokens. tokens.items) result (tokens_of text.now) }
 {
-    let mut tokens = Vec::new(alloc);
+    // (as much room as there are bytes, so that no list of tokens is moved while it grows)
+    let mut tokens = Vec::with_capacity(alloc, text.len())?;
     let bytes = text.as_bytes();
     let mut rest = past_blanks(bytes);
     'tokens: while !rest.is_empty() {

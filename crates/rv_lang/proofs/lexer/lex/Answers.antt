@@ -6,7 +6,7 @@ use Rattle.rv_lang.proofs.lexer.lex.Goals as goal
 
 pub tokens-init : goal.tokens-init
 tokens-init c = rw (c.past_blanks-rest.ensures, c.as_bytes-bytes.ensures.value) (record {
-  cut = rw c.new-tokens.ensures.items refl;
+  cut = rw c.in_ok-tokens.ensures.items refl;
   utf8 = utf8_past_blanks c.args.text.now c.utf8.text;
   within = past_blank_le c.args.text.now;
 })
