@@ -1,5 +1,5 @@
 -- OPEN, FETCH and CLOSE over cursors that are lists of offers.
-use Rattle.std.proofs.Common.{◌≡◌, ◌↔◌, ℕ, ◌<◌, List, [], ◌∷◌, ◌++◌, refl, sym, ap, ◌∙◌, subst, Bool, true, false, IsTrue, Option, Some, None, Result, Ok, Err, slice_get, slice_set}
+use Rattle.std.proofs.Common.{◌≡◌, ◌↔◌, ℕ, List, [], ◌∷◌, ◌++◌, refl, sym, ap, Bool, true, false, IsTrue, Option, Some, None, Ok, Err, slice_get, slice_set}
 use Rattle.std.proofs.lemmas.Option.{get_or_from_slice_get}
 use Rattle.rv_lang.specs.declared.reply.Reply.{Reply}
 use Rattle.rv_lang.specs.declared.reply.Reply.TheVariants.{Opened, Refused}
@@ -12,8 +12,8 @@ use Rattle.rv_model.specs.declared.state.State.{State}
 use Rattle.rv_model.specs.Database.{base_rows, cursor_at, no_cursor}
 use Rattle.rv_model.specs.Offering.{offers_over}
 use Rattle.rv_model.specs.Offers.{sorted}
-use Rattle.rv_model.specs.Step.{Offers, fetched, offers_after, opened, opening, rows_seen, table_of}
-use Rattle.rv_model.specs.Transactions.{transaction_at, transaction_of}
+use Rattle.rv_model.specs.Step.{opened, rows_seen, table_of}
+use Rattle.rv_model.specs.Transactions.{transaction_of}
 use Rattle.rv_core.specs.Doing.{opening_base}
 use Rattle.rv_core.proofs.Calling.{opening_is, opens_err}
 use Rattle.rv_replay.specs.Judging.{Done, JudgesAt, JudgesFetch, JudgesOffers, with_cursors}

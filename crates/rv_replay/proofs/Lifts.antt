@@ -1,5 +1,5 @@
 -- What the statements do where the cursors are others.
-use Rattle.std.proofs.Common.{◌≡◌, ◌↔◌, ℕ, ◌+◌, List, [], ◌∷◌, ◌++◌, refl, sym, ap, ◌∙◌, subst, Bool, true, false, IsTrue, Option, Some, None, Result, Ok, Err, IfOk, if◌then◌else◌, nat_lt, length}
+use Rattle.std.proofs.Common.{◌≡◌, ◌↔◌, ℕ, List, [], ◌∷◌, ◌++◌, refl, sym, ap, ◌∙◌, subst, Bool, true, false, IsTrue, Option, Some, None, Result, Ok, Err, IfOk, if◌then◌else◌, nat_lt, length}
 use Rattle.rv_value.specs.declared.duplicate.NoMemory.{NoMemory}
 use Rattle.rv_value.specs.declared.value.Value.{Value}
 use Rattle.rv_value.specs.declared.record.Record.{Record}
@@ -7,7 +7,7 @@ use Rattle.rv_value.specs.declared.record.RowNo.{RowNo}
 use Rattle.rv_restrict.specs.declared.atom.Atom.{Atom}
 use Rattle.rv_rows.specs.declared.changes.Change.{Change}
 use Rattle.rv_lang.specs.declared.reply.Reply.{Reply}
-use Rattle.rv_lang.specs.declared.reply.Reply.TheVariants.{Created, Began, Inserted, Touched, RolledBack, Refused}
+use Rattle.rv_lang.specs.declared.reply.Reply.TheVariants.{Created, Began, Inserted, Touched, RolledBack}
 use Rattle.rv_lang.specs.declared.reply.Refusal.{Refusal}
 use Rattle.rv_lang.specs.declared.reply.Refusal.TheVariants.{Busy, NoTransaction, Limit}
 use Rattle.rv_lang.specs.declared.reply.Which.TheVariants.{Tables, Indexes}

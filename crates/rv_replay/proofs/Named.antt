@@ -1,10 +1,7 @@
 -- After any history the names of indexes are all different.
-use Rattle.std.proofs.Common.{◌≡◌, ℕ, ◌≤◌, arith, List, [], ◌∷◌, ◌++◌, refl, sym, ap, ◌∙◌, subst, Bool, true, false, ◌||◌, Option, Some, None, Result, Ok, Err, bytes_eq, nat_lt, length, IfOk, remove}
-use Rattle.std.specs.List.{list_any}
+use Rattle.std.proofs.Common.{◌≡◌, ℕ, ◌≤◌, arith, List, [], ◌∷◌, ◌++◌, refl, sym, Bool, true, false, ◌||◌, Option, Some, None, Result, Ok, Err, bytes_eq, nat_lt, length, remove}
 use Rattle.std.proofs.lemmas.Slice.Eq.{bytes_eq-Decides}
 use Rattle.std.proofs.lemmas.Bool.Decides.{nat_tests}
-use Rattle.rv_value.specs.declared.value.Value.{Value}
-use Rattle.rv_restrict.specs.declared.atom.Atom.{Atom}
 use Rattle.rv_rows.specs.declared.changes.Change.{Change}
 use Rattle.rv_lang.specs.declared.statement.Statement.{Statement}
 use Rattle.rv_lang.specs.declared.reply.Refusal.{Refusal}
@@ -16,7 +13,6 @@ use Rattle.rv_value.specs.declared.record.RowNo.{RowNo}
 use Rattle.rv_parse.specs.Reading.{statement_of}
 use Rattle.rv_catalog.specs.declared.def.IndexDef.{IndexDef}
 use Rattle.rv_catalog.specs.declared.def.TableDef.{TableDef}
-use Rattle.rv_catalog.specs.declared.def.Select.{Select}
 use Rattle.rv_catalog.specs.declared.def.Resolved.{Resolved}
 use Rattle.rv_catalog.specs.declared.def.Resolved.TheVariants as asks
 use Rattle.rv_catalog.specs.Schema.{Schema, index_named}
@@ -35,7 +31,7 @@ use Rattle.rv_model.specs.declared.entry.Entry.{Entry}
 use Rattle.rv_model.specs.declared.state.State.{State}
 use Rattle.rv_model.specs.Database.{base_rows, cursor_named, empty}
 use Rattle.rv_model.specs.History.{after, after_from, stepped}
-use Rattle.rv_model.specs.Step.{began, changed, closed, committed, committed_with, created, fetched, indexed, inserted, next_asked, opened, opening, rolled_back, rows_seen, state_of, table_of, understood}
+use Rattle.rv_model.specs.Step.{committed_with, fetched, next_asked, opening, rows_seen, state_of, table_of, understood}
 use Rattle.rv_model.specs.Transactions as transactions
 use Rattle.rv_model.specs.Transactions.{lowest, transaction_at, transaction_of}
 use Rattle.rv_decide.specs.Naming.{AreNamedApart, is_named}

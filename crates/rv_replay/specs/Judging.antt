@@ -1,5 +1,5 @@
 -- What is decided of one entry.
-use Rattle.std.specs.Prelude.{◌≡◌, ◌↔◌, ℕ, List, Bool, true, false, IsTrue, ◌&&◌, Option, Some, None, Result, Ok, Err, if◌then◌else◌, slice_set}
+use Rattle.std.specs.Prelude.{◌≡◌, ◌↔◌, ℕ, List, Bool, true, false, IsTrue, ◌&&◌, Option, Result, Ok, Err, if◌then◌else◌, slice_set}
 use Rattle.rv_value.specs.declared.duplicate.NoMemory.{NoMemory}
 use Rattle.rv_value.specs.declared.value.Value.{Value}
 use Rattle.rv_lang.specs.declared.reply.Reply.{Reply}

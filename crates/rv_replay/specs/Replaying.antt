@@ -1,5 +1,5 @@
 -- What a replay tells of a list of entries.
-use Rattle.std.specs.Prelude.{◌≡◌, ℕ, ◌-◌, ◌≤◌, List, length, take}
+use Rattle.std.specs.Prelude.{ℕ, ◌-◌, ◌≤◌, List, length, take}
 use Rattle.rv_model.specs.declared.entry.Entry.{Entry}
 use Rattle.rv_model.specs.History.{IsLegal}
 use Rattle.rv_replay.specs.declared.following.Replayed.{Replayed}

@@ -1,4 +1,4 @@
-use Rattle.std.proofs.Common.{◌≡◌, None, Some, rules, slice_get, get_or}
+use Rattle.std.proofs.Common.{◌≡◌, None, Some, rules, slice_get}
 use Rattle.std.proofs.lemmas.Option.{get_or_from_slice_get}
 use Rattle.rv_replay.proofs.Places.{some_there}
 use Rattle.rv_replay.proofs.queues.fits_at.Goals as goal

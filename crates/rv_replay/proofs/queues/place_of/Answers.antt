@@ -1,4 +1,4 @@
-use Rattle.std.proofs.Common.{◌≡◌, ◌∙◌, Some, None, arith, rules, slice_get, sym}
+use Rattle.std.proofs.Common.{◌≡◌, Some, arith, rules, slice_get, sym}
 use Rattle.rv_replay.proofs.Places.{none_first, none_more, place_found, place_none}
 use Rattle.rv_replay.proofs.queues.place_of.Goals as goal
 

@@ -1,4 +1,4 @@
-use Rattle.std.proofs.Common.{ap, refl}
+use Rattle.std.proofs.Common.{ap}
 use Rattle.rv_core.specs.Db.{Whole}
 use Rattle.rv_replay.proofs.Lifts.{indexed_done}
 use Rattle.rv_replay.proofs.plain.PlainDatabase.create_index.Goals as goal
