@@ -13,16 +13,16 @@ halves. An entry belongs to the last child that does not begin above it. An esti
 may have the range; where k > 1 children may, at level l, it is (k - 1) * 16 ** l, and not exact.
 
 A retrieval is asked for the rows whose columns lie in spans, by some of the indexes, with some columns, in the order of
-the third column or in any, the first rows soon or all rows soon. How it goes is written at each function below."""
+the third column or in any, the first rows soon or all rows soon. How it goes is written in slow_retrieval.py."""
 
 import bisect
 import sys
 
+from slow_retrieval import LEAF, PAGE, Counts, Retrieval
+
 NULL = (0, 0)
 NAMES = ["IA", "IB", "ICA", "IC"]
 COLUMNS = [(0,), (1,), (2, 0), (2,)]
-LEAF = PAGE = 32
-SHORT, BUFFER, SMALL = 20, 1024, 1024
 
 
 def value(number):
@@ -122,7 +122,7 @@ class Index:
     """An index as a query sees it: its range is the span of its first column, whole where that has none."""
 
     def __init__(self, table, asked, number):
-        self.number, self.columns = number, COLUMNS[number]
+        self.name, self.columns = NAMES[number], COLUMNS[number]
         self.leaves = table.leaves[number]
         self.range = asked.spans.get(self.columns[0])
         self.restricted = self.range is not None
@@ -156,23 +156,6 @@ class Index:
         inside = [e for e in self.leaves[at] if self.side(e[0]) == 0]
         more = at + 1 < len(self.leaves) and first_side(at + 1) <= 0
         return inside, at + 1 if more else None
-
-
-class KeyList:
-    """A list of keys: in the order in which they came, then ascending. Up to 1,024 keys it tells exactly whether it has
-    a key, above that by a filter of 65,536 bits."""
-
-    def __init__(self, keys):
-        self.keys = keys
-        self.exact = set(keys)
-        self.bits = {self.bit(k) for k in keys} if len(keys) > SMALL else None
-
-    @staticmethod
-    def bit(key):
-        return (key * 0x9E3779B97F4A7C15 % 2**64) >> 48
-
-    def may_have(self, key):
-        return key in self.exact if self.bits is None else self.bit(key) in self.bits
 
 
 # The judges.
@@ -213,276 +196,25 @@ JUDGES = [
 ]
 
 
-def project(estimate, scanned, kept):
-    """The leaves to come, at 16 entries each, and the records of the list that is to be expected."""
-    total = max(estimate, scanned)
-    keys = total if scanned == 0 else -(-kept * total // scanned)
-    return -(-(total - scanned) // 16) + keys
+class Drive(Retrieval):
+    """A retrieval of what is asked of a table, under a judge."""
 
-
-class Scan:
-    """A background scan: where it stands, and the keys that it has listed."""
-
-    def __init__(self, index):
-        self.index = index
-        self.place, self.held = None, None
-        self.scanned, self.kept, self.keys = 0, 0, []
-
-
-class Walk:
-    """A foreground's scan of an index: the entries held, and the place at which the next leaf begins."""
-
-    def __init__(self, index):
-        self.index, self.held = index, []
-        self.place, self.more = None, True
-
-    def read_on(self):
-        self.held, self.place = self.index.leaf(self.place)
-        self.more = self.place is not None
-
-
-class Retrieval:
     def __init__(self, table, asked, judge):
         self.table, self.asked, self.judge = table, asked, judge
-        self.pages = self.leaves = self.fetches = 0
-        self.delivered = []
-        self.list = None  # the complete list
-        self.lent, self.borrowed = None, 0  # which list is borrowed from, and how many of its keys were
-        self.number = 1  # of the piece awaited
-        self.at, self.page, self.held = 0, 0, []  # the final stages
-        self.choose()
-        self.events = []
-        self.to(self.first())
-        self.begin()
-        if self.at_once:
-            while self.scan is not None:
-                self.give(self.take())
+        indexes = [Index(table, asked, number) for number in asked.uses]
+        super().__init__(indexes, table.pages, (2,) if asked.ordered else (), asked.soon, Counts())
 
-    # The choice.
-
-    def choose(self):
-        asked = self.asked
-        indexes = [Index(self.table, asked, n) for n in asked.uses]
-        restricted = [i for i in indexes if i.restricted]
-        few = [i for i in restricted if i.exact and i.estimate <= SHORT]
-        covering = [i for i in indexes if i.covers]
-        leading = [i for i in indexes if asked.ordered and i.columns[0] == 2]
-        least = lambda some: min(some, key=lambda i: i.estimate)  # of equal ones the first
-        self.front, self.at_once, planned = None, False, []
-        if asked.ordered:
-            self.strategy, self.front = "sorted", leading[0]
-            if not self.front.covers:
-                planned = [i for i in restricted if i is not self.front]
-        elif covering and not few:
-            self.strategy, self.front = "index-only", least(covering)
-            planned = [i for i in restricted if i is not self.front]
-        elif restricted:
-            self.strategy = "fast-first" if asked.soon and not few else "background-only"
-            planned = restricted
-        else:
-            self.strategy = "table"
-        if few:
-            self.at_once, planned = True, [least(few)]
-        self.planned = sorted(planned, key=lambda i: i.estimate)
-        self.walk = Walk(self.front) if self.front else None
-        if self.strategy == "sorted":
-            self.guaranteed = self.front.estimate
-        elif self.strategy == "index-only":
-            self.guaranteed = -(-self.front.estimate // 16)
-        else:
-            self.guaranteed = self.table.pages
-
-    def first(self):
-        if self.strategy == "table":
-            return "final-table"
-        if self.strategy == "background-only":
-            return "background"
-        return "building" if self.planned else "foreground"
-
-    # The course.
-
-    def to(self, control):
-        self.control = control
-        self.events.append(control)
-
-    def in_background(self):
-        return self.control in ("building", "background")
-
-    def begin(self):
-        """The next background scan begins, where one is planned."""
-        self.scan = None
-        if self.planned:
-            self.scan = Scan(self.planned.pop(0))
-            if self.in_background():
-                self.events.append("scan " + NAMES[self.scan.index.number])
-
-    def more(self):
-        return bool(self.planned) and (self.list is None or bool(self.list.keys))
-
-    def ends(self, verdict):
-        """A scan completed or was dropped and nothing is to follow, or the background was ended."""
-        self.scan = None
-        if self.control == "building" and self.strategy == "sorted":
-            self.to("foreground")
-        elif self.control == "building" and self.strategy == "index-only" and (verdict == "end" or self.list is None):
-            self.to("foreground")
-        else:
-            self.to("final-table" if self.list is None else "final-list")
-
-    def completed(self):
-        scan = self.scan
-        self.list = KeyList(sorted(scan.keys))
-        self.guaranteed = min(self.guaranteed, len(scan.keys))
-        self.events.append(f"list {NAMES[scan.index.number]} {len(scan.keys)}")
-        if self.more():
-            self.begin()
-        else:
-            self.ends(None)
-
-    def obey(self, verdict):
-        if verdict == "stop" and self.control == "building" and self.strategy in ("fast-first", "index-only"):
-            self.events.append("stop")
-            self.to("background")
-        if verdict in ("drop", "end"):
-            more = self.more()
-            self.events.append("drop " + NAMES[self.scan.index.number])
-            if verdict == "drop" and more:
-                self.begin()
-            else:
-                self.ends(verdict)
-
-    # The background: pieces.
-
-    def take(self):
-        """The awaited piece; its leaf is read where it was not yet."""
-        if not self.in_background() or self.scan is None:
-            return None
-        scan = self.scan
-        if scan.held is None:
-            self.leaves += 1
-            scan.held = scan.index.leaf(scan.place)
-        return (self.number, scan.held[0])
-
-    def give(self, piece):
-        """Whether the piece was accepted. That of another number is not, nor one that was never taken."""
-        if not self.in_background() or self.scan is None or piece[0] != self.number or self.scan.held is None:
-            return False
-        scan, (entries, following) = self.scan, self.scan.held
-        kept = [n for key, n in entries if scan.index.passes(key) and (self.list is None or self.list.may_have(n))]
-        scan.scanned += len(entries)
-        scan.kept += len(kept)
-        scan.keys += kept
-        scan.place, scan.held = following, None
-        self.number += 1
-        if following is None:
-            self.completed()
-        elif not self.at_once:
-            self.obey(self.judge({
-                "projected": project(scan.index.estimate, scan.scanned, scan.kept),
-                "guaranteed": self.guaranteed,
-            }))
-        return True
-
-    # The foreground.
-
-    def fetch(self, number):
-        self.fetches += 1
+    def is_wanted(self, number):
         return self.asked.qualifies(self.table.rows[number])
 
-    def remember(self, number):
-        self.delivered.append(number)
-        if len(self.delivered) == BUFFER:
-            self.events.append("full")
-            self.to("background" if self.strategy == "fast-first" else "foreground")
+    def page_rows(self, page):
+        return list(range(page * PAGE, min((page + 1) * PAGE, len(self.table.rows))))
 
-    def step(self):
-        """A row's number, None where no row came yet, or "end"."""
-        return {
-            "building": self.building_step,
-            "background": self.background_step,
-            "foreground": self.walk_step,
-            "final-list": self.list_step,
-            "final-table": self.table_step,
-            "done": lambda: "end",
-        }[self.control]()
-
-    def background_step(self):
-        self.give(self.take())
-        return None
-
-    def building_step(self):
-        if self.strategy == "fast-first":
-            return self.borrow_step()
-        return self.walk_step()
-
-    def borrow_step(self):
-        """A key is fetched of the complete list, or else of the list that is built; where another list is borrowed from,
-        borrowing begins anew. Without a fresh key it is a background step."""
-        if self.list is not None:
-            lent, keys = self.list, self.list.keys
-        else:
-            lent, keys = self.scan, self.scan.keys
-        if lent is not self.lent:
-            self.lent, self.borrowed = lent, 0
-        while self.borrowed < len(keys) and keys[self.borrowed] in self.delivered:
-            self.borrowed += 1
-        if self.borrowed == len(keys):
-            return self.background_step()
-        number = keys[self.borrowed]
-        self.borrowed += 1
-        if not self.fetch(number):
-            return None
-        self.remember(number)
-        return number
-
-    def walk_step(self):
-        """A step of the foreground's scan of its index. One by the index alone passes over what does not qualify; one with
-        fetches answers nothing for a row that does not qualify. Sorted skips what a complete list cannot have."""
-        walk, sorts = self.walk, self.strategy == "sorted"
-        while walk.held:
-            key, number = walk.held.pop(0)
-            if sorts and self.list is not None and not self.list.may_have(number):
-                continue
-            if not walk.index.covers:
-                return number if self.fetch(number) else None
-            if self.asked.qualifies(self.table.rows[number]):
-                if self.control == "building" and not sorts:
-                    self.remember(number)
-                return number
-        if not walk.more:
-            self.to("done")
-            return "end"
-        self.leaves += 1
-        walk.read_on()
-        return None
-
-    def list_step(self):
-        keys = self.list.keys
-        while self.at < len(keys) and keys[self.at] in self.delivered:
-            self.at += 1
-        if self.at == len(keys):
-            self.to("done")
-            return "end"
-        number = keys[self.at]
-        self.at += 1
-        return number if self.fetch(number) else None
-
-    def table_step(self):
-        while self.held:
-            number = self.held.pop(0)
-            if number not in self.delivered and self.asked.qualifies(self.table.rows[number]):
-                return number
-        if self.page == self.table.pages:
-            self.to("done")
-            return "end"
-        self.pages += 1
-        first = self.page * PAGE
-        self.held = list(range(first, min(first + PAGE, len(self.table.rows))))
-        self.page += 1
-        return None
+    def rule(self, projected, guaranteed):
+        return self.judge({"projected": projected, "guaranteed": guaranteed})
 
     def trace(self):
-        counts = f"pages {self.pages} leaves {self.leaves} fetches {self.fetches}"
+        counts = f"pages {self.counts.pages} leaves {self.counts.leaves} fetches {self.counts.fetches}"
         return " ".join([self.strategy] + self.events + [counts])
 
 
@@ -526,7 +258,7 @@ def rows_text(rows):
 
 
 def outcome(table, asked, judge, way):
-    retrieval = Retrieval(table, asked, judge)
+    retrieval = Drive(table, asked, judge)
     rows, hand = [], []
     while True:
         found = retrieval.step()

@@ -6,10 +6,9 @@ An index entry is (key, row number), a key a tuple of values as `place` of one_t
 from bisect import bisect_right
 
 from one_thread import FALSE, Database, atom_truth, offer, place, places_of, qualifies
+from slow_retrieval import LEAF, PAGE, Counts, Retrieval, begins_with
 
 NULL = place(None)
-LEAF = PAGE = 32
-SHORT, BUFFER, SMALL = 20, 1024, 1024
 
 
 # Index trees. A node is never changed but copied, so that a snapshot keeps its trees.
@@ -250,35 +249,7 @@ class Contrary:
         return ["stop", "go on", "drop", "end"][(self.turn - 1) % 4]
 
 
-def project(estimate, scanned, kept):
-    """The leaves to come, at 16 entries each, and the records of the list that is to be expected."""
-    total = max(estimate, scanned)
-    keys = total if scanned == 0 else -(-kept * total // scanned)
-    return min(-(-(total - scanned) // 16) + keys, 2**64 - 1)
-
-
 # One retrieval.
-
-
-class Counts:
-    def __init__(self):
-        self.pages = self.leaves = self.fetches = 0
-
-
-class KeyList:
-    """A complete list, ascending. Up to 1,024 keys it tells exactly whether it has one, above that by a filter of 65,536 bits."""
-
-    def __init__(self, keys):
-        self.keys = keys
-        self.exact = set(keys)
-        self.bits = {self.bit(k) for k in keys} if len(keys) > SMALL else None
-
-    @staticmethod
-    def bit(key):
-        return (key * 0x9E3779B97F4A7C15 % 2**64) >> 48
-
-    def may_have(self, key):
-        return key in self.exact if self.bits is None else self.bit(key) in self.bits
 
 
 class Used:
@@ -316,23 +287,6 @@ def value_of(placed):
     return placed[1] if placed[0] == 1 else placed[1].decode()
 
 
-class Scan:
-    """A background scan: where it stands, and the keys that it has listed."""
-
-    def __init__(self, index):
-        self.index = index
-        self.place, self.held = None, None
-        self.scanned, self.kept, self.keys = 0, 0, []
-
-
-class Walk:
-    """A foreground's scan of an index: the entries held, and the place at which the next leaf begins."""
-
-    def __init__(self, index):
-        self.index, self.held = index, []
-        self.place, self.more = None, True
-
-
 class Query:
     """What a retrieval is asked: rows, pages and indexes (name, columns, entries) of a table, groups over its columns, the
     columns needed, the order, and whether the first rows are wanted soon."""
@@ -342,234 +296,22 @@ class Query:
         self.need, self.order, self.soon = need, order, soon
 
 
-class Retrieval:
+class Asked(Retrieval):
+    """A retrieval of a query."""
+
     def __init__(self, query, judges, counts):
-        self.query, self.judges, self.counts = query, judges, counts
-        self.delivered = set()
-        self.list = None  # the complete list
-        self.lent, self.borrowed = None, 0  # which list is borrowed from, and how many of its keys were
-        self.at, self.page, self.held = 0, 0, []  # the final stages
-        self.events, self.control = [], None
-        self.choose()
-        self.to(self.first())
-        self.begin()
-        if self.at_once:
-            while self.scan is not None:
-                self.background()
-
-    # The choice.
-
-    def choose(self):
-        query = self.query
+        self.query, self.judges = query, judges
         indexes = [Used(*index, query.groups, query.need) for index in query.indexes]
-        restricted = [i for i in indexes if i.restricted]
-        few = [i for i in restricted if i.exact and i.estimate <= SHORT]
-        covering = [i for i in indexes if i.covers]
-        least = lambda some: min(some, key=lambda i: i.estimate)  # of equal ones the first
-        self.front, self.at_once, planned = None, False, []
-        if query.order:
-            self.strategy = "sorted"
-            self.front = next(i for i in indexes if begins_with(i.columns, query.order))
-            if not self.front.covers:
-                planned = [i for i in restricted if i is not self.front]
-        elif covering and not few:
-            self.strategy, self.front = "index-only", least(covering)
-            planned = [i for i in restricted if i is not self.front]
-        elif restricted:
-            self.strategy = "fast-first" if query.soon and not few else "background-only"
-            planned = restricted
-        else:
-            self.strategy = "table"
-        if few:
-            self.at_once, planned = True, [least(few)]
-        self.planned = sorted(planned, key=lambda i: i.estimate)
-        self.walk = Walk(self.front) if self.front else None
-        if self.strategy == "sorted":
-            self.guaranteed = self.front.estimate
-        elif self.strategy == "index-only":
-            self.guaranteed = -(-self.front.estimate // 16)
-        else:
-            self.guaranteed = query.pages
-
-    def first(self):
-        if self.strategy == "table":
-            return "final-table"
-        if self.strategy == "background-only":
-            return "background"
-        return "building" if self.planned else "foreground"
-
-    # The course.
-
-    def to(self, control):
-        self.control = control
-        self.events.append(control)
-
-    def in_background(self):
-        return self.control in ("building", "background")
-
-    def begin(self):
-        """The next background scan begins, where one is planned."""
-        self.scan = None
-        if self.planned:
-            self.scan = Scan(self.planned.pop(0))
-            self.events.append("scan " + self.scan.index.name)
-
-    def more(self):
-        return bool(self.planned) and (self.list is None or bool(self.list.keys))
-
-    def ends(self, verdict):
-        """A scan completed or was dropped and nothing is to follow, or the background was ended."""
-        self.scan = None
-        if self.control == "building" and self.strategy == "sorted":
-            self.to("foreground")
-        elif self.control == "building" and self.strategy == "index-only" and (verdict == "end" or self.list is None):
-            self.to("foreground")
-        else:
-            self.to("final-table" if self.list is None else "final-list")
-
-    def completed(self):
-        scan = self.scan
-        self.list = KeyList(sorted(scan.keys))
-        self.guaranteed = min(self.guaranteed, len(scan.keys))
-        self.events.append(f"list {scan.index.name} {len(scan.keys)}")
-        if self.more():
-            self.begin()
-        else:
-            self.ends(None)
-
-    def obey(self, verdict):
-        if verdict == "stop" and self.control == "building" and self.strategy in ("fast-first", "index-only"):
-            self.events.append("stop")
-            self.to("background")
-        if verdict in ("drop", "end"):
-            self.events.append("drop " + self.scan.index.name)
-            if verdict == "drop" and self.more():
-                self.begin()
-            else:
-                self.ends(verdict)
-
-    # The background.
-
-    def awaits(self):
-        return self.in_background() and self.scan is not None
-
-    def background(self):
-        """A piece, which is a leaf of the scan, is read and its keys are added."""
-        if not self.awaits():
-            return
-        scan = self.scan
-        self.counts.leaves += 1
-        entries, following = scan.index.leaf(scan.place)
-        kept = [n for key, n in entries if scan.index.passes(key) and (self.list is None or self.list.may_have(n))]
-        scan.scanned += len(entries)
-        scan.kept += len(kept)
-        scan.keys += kept
-        scan.place = following
-        if following is None:
-            self.completed()
-        elif not self.at_once:
-            self.obey(self.judges.rule(project(scan.index.estimate, scan.scanned, scan.kept), self.guaranteed))
-
-    # The foreground.
+        super().__init__(indexes, query.pages, query.order, query.soon, counts)
 
     def is_wanted(self, number):
         return qualifies(self.query.groups, lambda column: self.query.rows[number][column])
 
-    def fetch(self, number):
-        self.counts.fetches += 1
-        return self.is_wanted(number)
+    def page_rows(self, page):
+        return [n for n in range(page * PAGE, (page + 1) * PAGE) if n in self.query.rows]
 
-    def remember(self, number):
-        self.delivered.add(number)
-        if len(self.delivered) == BUFFER:
-            self.events.append("full")
-            self.to("background" if self.strategy == "fast-first" else "foreground")
-
-    def step(self):
-        """A row's number, None where no row came yet, or "end"."""
-        return {
-            "building": self.building_step,
-            "background": self.background_step,
-            "foreground": self.walk_step,
-            "final-list": self.list_step,
-            "final-table": self.table_step,
-            "done": lambda: "end",
-        }[self.control]()
-
-    def background_step(self):
-        self.background()
-        return None
-
-    def building_step(self):
-        return self.borrow_step() if self.strategy == "fast-first" else self.walk_step()
-
-    def borrow_step(self):
-        """A key is fetched of the complete list, or else of the list that is built; where another list is borrowed from,
-        borrowing begins anew. Without a fresh key it is a background step."""
-        lent = self.list or self.scan
-        if lent is not self.lent:
-            self.lent, self.borrowed = lent, 0
-        keys = lent.keys
-        while self.borrowed < len(keys) and keys[self.borrowed] in self.delivered:
-            self.borrowed += 1
-        if self.borrowed == len(keys):
-            return self.background_step()
-        number = keys[self.borrowed]
-        self.borrowed += 1
-        if not self.fetch(number):
-            return None
-        self.remember(number)
-        return number
-
-    def walk_step(self):
-        """A step of the foreground's scan of its index. One by the index alone passes over what does not qualify; one with
-        fetches answers nothing for a row that does not qualify. Sorted skips what a complete list cannot have."""
-        walk, sorts = self.walk, self.strategy == "sorted"
-        while walk.held:
-            _, number = walk.held.pop(0)
-            if sorts and self.list is not None and not self.list.may_have(number):
-                continue
-            if not walk.index.covers:
-                return number if self.fetch(number) else None
-            if self.is_wanted(number):
-                if self.control == "building" and not sorts:
-                    self.remember(number)
-                return number
-        if not walk.more:
-            self.to("done")
-            return "end"
-        self.counts.leaves += 1
-        walk.held, walk.place = walk.index.leaf(walk.place)
-        walk.more = walk.place is not None
-        return None
-
-    def list_step(self):
-        keys = self.list.keys
-        while self.at < len(keys) and keys[self.at] in self.delivered:
-            self.at += 1
-        if self.at == len(keys):
-            self.to("done")
-            return "end"
-        number = keys[self.at]
-        self.at += 1
-        return number if self.fetch(number) else None
-
-    def table_step(self):
-        while self.held:
-            number = self.held.pop(0)
-            if number not in self.delivered and self.is_wanted(number):
-                return number
-        if self.page == self.query.pages:
-            self.to("done")
-            return "end"
-        self.counts.pages += 1
-        self.held = [n for n in range(self.page * PAGE, (self.page + 1) * PAGE) if n in self.query.rows]
-        self.page += 1
-        return None
-
-
-def begins_with(columns, order):
-    return columns[: len(order)] == order
+    def rule(self, projected, guaranteed):
+        return self.judges.rule(projected, guaranteed)
 
 
 # Joins and cursors.
@@ -596,7 +338,7 @@ class Plan:
         named = [p for g in self.select.groups for a in g for p in places_of(a)]
         need = {c for at, c in self.select.returns + named + self.select.order if at == item}
         order = [c for _, c in self.select.order] if self.ordered and item == 0 else []
-        self.open.append(Retrieval(Query(rows, pages, indexes, groups, need, order, self.select.soon), self.judges, self.counts))
+        self.open.append(Asked(Query(rows, pages, indexes, groups, need, order, self.select.soon), self.judges, self.counts))
 
     def step(self):
         """An offer, None where none came yet, or "end"."""

@@ -4,8 +4,8 @@
 usage: tools/slow_program.py [--plain] [--judge N] [--steps K] [--gen SEED] < SCRIPT
 
 With --plain it is the program over the plain store. A program over the paged store has to write the same bytes, traces and
-counts of background steps among them. It is made of slow_language.py, one_thread.py and slow_engine.py, and shares no code
-with the program. With --gen it writes the summary of the generated workload of the seed."""
+counts of background steps among them. It is made of slow_language.py, one_thread.py, slow_engine.py and slow_retrieval.py,
+and shares no code with the program. With --gen it writes the summary of the generated workload of the seed."""
 import sys
 
 from slow_engine import Engine
