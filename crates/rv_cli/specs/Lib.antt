@@ -3,3 +3,4 @@ pub mod Making
 pub mod Performing
 pub mod Script
 pub mod Words
+pub mod Ruling

@@ -33,7 +33,7 @@ use Rattle.rv_model.specs.Transactions.{done, horizon, lowest, no_transaction, n
 use Rattle.rv_model.specs.Step.{committed, created, indexed, rolled_back, rows_seen}
 use Rattle.rv_txn.specs.Calls.{finished, rolled_back as undone}
 use Rattle.rv_cursor.specs.declared.cursor.Open.{Open}
-use Rattle.rv_core.specs.Db.{base_of, AreNumbered, IsOpen, IsStanding, IsTied, db_of, seen, stand_of}
+use Rattle.rv_core.specs.Db.{base_of, own_opens, AreListed, IsOpen, IsStanding, IsTied, db_of, seen, stand_of, whole_of}
 use Rattle.rv_core.specs.Doing.{Does, Shows, opening_base}
 use Rattle.rv_core.specs.Obeying.{TellsPlan}
 use Rattle.rv_core.proofs.Bases.{base_found}
@@ -43,7 +43,7 @@ use Rattle.rv_core.proofs.Calling.{at_own, commits_does, commits_tied, creates, 
 use Rattle.rv_core.proofs.Facts.{all_append, all_filter, all_more, all_remove, get_there}
 use Rattle.rv_core.proofs.Indexing.{indexes_does, indexes_tied}
 use Rattle.rv_core.proofs.Keeping.{Kept, SameBases, all_seen, begun_bases, kept_committed, kept_same, kept_swept, none_open, opens_over, opens_stay, others_bases, same_bases, with_bases}
-use Rattle.rv_core.proofs.Numbering.{numbered_filter, numbered_push, numbered_remove}
+use Rattle.rv_core.proofs.Numbering.{listed_filter, listed_push, listed_remove, none_listed}
 use Rattle.rv_core.proofs.Opens.{all_get, at_seen, others_seen}
 use Rattle.rv_core.proofs.Standing.{begun_is, finished_is, inserted_is, rolled_is, stand_swept, tied_began, tied_inserted, calls_made, changed_is, fresh_tied}
 use Rattle.rv_core.proofs.Tied.{none_lowest, tied_same, tied_swept}
@@ -53,7 +53,7 @@ others cs session = filter (λ (c : Open). not (c.session == session)) cs
 
 -- no table, no commit, no transaction, no cursor
 pub fresh_standing : (shown : Shown) → shown.tables ≡ 0 → IsStored shown → IsStanding shown (record { tables = []; indexes = [] }) no_transactions [] 1
-fresh_standing shown none stored = record { tied = fresh_tied shown none stored; opens = tt; numbers = omega arith }
+fresh_standing shown none stored = record { tied = fresh_tied shown none stored; opens = tt; listed = none_listed }
 
 -- A store that shows the same.
 
@@ -63,7 +63,7 @@ standing_same old new schema left txns cs n is same h =
     rw is record {
       tied = after;
       opens = opens_stay old new schema txns txns cs (kept_same old new same) h.tied after (same_bases txns.active cs) h.opens;
-      numbers = h.numbers;
+      listed = h.listed;
     }
 
 pub stand_again : (old new : Shown) (schema left : Schema) (txns : Transactions) (cs : List Open) (n : ℕ) → left ≡ schema → IsSame old new → IsStanding old schema txns cs n → stand_of new left txns (seen new cs) ≡ stand_of old schema txns (seen old cs)
@@ -88,7 +88,7 @@ pub creates_standing : (old new : Shown) (schema left : Schema) (def : TableDef)
 creates_standing old new schema left def txns cs n idle is more h = record {
   tied = creates_tied old new schema left def txns idle is more h.tied;
   opens = idle_opens old new schema left txns.active cs idle h.opens;
-  numbers = h.numbers;
+  listed = h.listed;
 }
 
 pub creates_all : (old new : Shown) (schema left : Schema) (def : TableDef) (txns : Transactions) (cs : List Open) (n : ℕ) → lowest txns.active ≡ None → nat_lt 63 (length schema.tables) ≡ false → left ≡ record schema { tables = schema.tables ++ def ∷ [] } → CreatedIn old new (length def.columns) → IsStanding old schema txns cs n
@@ -101,7 +101,7 @@ pub indexes_standing : (old new : Shown) (schema left : Schema) (def : IndexDef)
 indexes_standing old new schema left def txns cs n idle there room is more h = record {
   tied = indexes_tied old new schema left def txns there room is more h.tied;
   opens = idle_opens old new schema left txns.active cs idle h.opens;
-  numbers = h.numbers;
+  listed = h.listed;
 }
 
 pub indexes_all : (old new : Shown) (schema left : Schema) (def : IndexDef) (txns : Transactions) (cs : List Open) (n : ℕ) → lowest txns.active ≡ None → nat_lt 7 (indexes_over def.table schema.indexes) ≡ false → left ≡ record schema { indexes = schema.indexes ++ def ∷ [] } → IndexedIn old new def.table def.columns → IsStanding old schema txns cs n
@@ -114,7 +114,7 @@ indexes_all old new schema left def txns cs n idle room is more h =
 
 -- others are active, and each cursor's transaction has its base
 pub standing_over : (shown : Shown) (schema : Schema) (txns new : Transactions) (cs : List Open) (n : ℕ) → IsTied shown schema new → SameBases txns.active new.active cs → IsStanding shown schema txns cs n → IsStanding shown schema new cs n
-standing_over shown schema txns new cs n tied bases h = record { tied = tied; opens = opens_over shown schema txns.active new.active cs bases h.opens; numbers = h.numbers }
+standing_over shown schema txns new cs n tied bases h = record { tied = tied; opens = opens_over shown schema txns.active new.active cs bases h.opens; listed = h.listed }
 
 pub begins_standing : (shown : Shown) (schema : Schema) (txns new : Transactions) (cs : List Open) (n session : ℕ) (read_only : Bool) (k : ℕ) → calls.began txns session read_only shown.newest ≡ Ok (k, new) → IsStanding shown schema txns cs n → IsStanding shown schema new cs n
 begins_standing shown schema txns new cs n session read_only k did h =
@@ -173,7 +173,7 @@ commits_standing old new schema txns left cs kept n session k base c changes did
     rw same record {
       tied = after;
       opens = opens_stay old new schema txns left (others cs session) (commits_kept old new base c changes told) h.tied after bases (all_filter (IsOpen old schema txns.active) (λ (c : Open). not (c.session == session)) cs h.opens);
-      numbers = numbered_filter (λ (c : Open). not (c.session == session)) 1 n cs h.numbers;
+      listed = listed_filter (λ (c : Open). not (c.session == session)) n cs h.listed;
     }
 
 pub commits_all : (old new : Shown) (schema : Schema) (txns left : Transactions) (cs kept : List Open) (n session k base c : ℕ) (changes : List Change) → finished txns session ≡ Ok (k, base, changes) → CommitsTo old new base changes c → IfSome (transaction_of txns.active session) (λ own. left ≡ done txns own c) → kept ≡ filter (λ (c : Open). not (c.session == session)) cs → IsStanding old schema txns cs n
@@ -192,7 +192,7 @@ rolls_standing shown schema txns left cs kept n session did same h =
     rw same record {
       tied = rolls_tied shown schema txns left session did h.tied;
       opens = opens_over shown schema txns.active left.active (others cs session) bases (all_filter (IsOpen shown schema txns.active) (λ (c : Open). not (c.session == session)) cs h.opens);
-      numbers = numbered_filter (λ (c : Open). not (c.session == session)) 1 n cs h.numbers;
+      listed = listed_filter (λ (c : Open). not (c.session == session)) n cs h.listed;
     }
 
 pub rolls_all : (shown : Shown) (schema : Schema) (txns left : Transactions) (cs kept : List Open) (session : ℕ) → undone txns session ≡ Ok left → kept ≡ filter (λ (c : Open). not (c.session == session)) cs
@@ -202,7 +202,7 @@ rolls_all shown schema txns left cs kept session did same = rolls_does shown sch
 -- CLOSE
 
 pub closes_standing : (shown : Shown) (schema : Schema) (txns : Transactions) (cs kept : List Open) (n place : ℕ) → kept ≡ remove cs place → IsStanding shown schema txns cs n → IsStanding shown schema txns kept n
-closes_standing shown schema txns cs kept n place is h = rw is record { tied = h.tied; opens = all_remove (IsOpen shown schema txns.active) cs place h.opens; numbers = numbered_remove 1 n cs place h.numbers }
+closes_standing shown schema txns cs kept n place is h = rw is record { tied = h.tied; opens = all_remove (IsOpen shown schema txns.active) cs place h.opens; listed = listed_remove n cs place h.listed }
 
 -- OPEN
 
@@ -216,11 +216,11 @@ fresh_open shown schema txns cursors session base name tables c h own at fits ov
       over = over;
     }
 
-pub opens_standing : (shown : Shown) (schema : Schema) (txns : Transactions) (cs more : List Open) (c : Open) (n : ℕ) → more ≡ cs ++ c ∷ [] → c.number ≡ n → IsOpen shown schema txns.active c → IsStanding shown schema txns cs n → IsStanding shown schema txns more (n + 1)
-opens_standing shown schema txns cs more c n is at fresh h = rw is record {
+pub opens_standing : (shown : Shown) (schema : Schema) (txns : Transactions) (cs more : List Open) (c : Open) (n : ℕ) → more ≡ cs ++ c ∷ [] → c.number ≡ n → c.session < 256 → length (own_opens cs c.session) < 16 → IsOpen shown schema txns.active c → IsStanding shown schema txns cs n → IsStanding shown schema txns more (n + 1)
+opens_standing shown schema txns cs more c n is at own room fresh h = rw is record {
   tied = h.tied;
   opens = all_append (IsOpen shown schema txns.active) cs (c ∷ []) h.opens (fresh, tt);
-  numbers = numbered_push 1 n cs c at h.numbers;
+  listed = listed_push n cs c at own room h.listed;
 }
 
 -- A sweep.
@@ -228,7 +228,7 @@ opens_standing shown schema txns cs more c n is at fresh h = rw is record {
 pub sweeps_standing : (old new : Shown) (schema : Schema) (txns : Transactions) (cs : List Open) (n newest low : ℕ) → newest ≡ old.newest → low ≡ horizon txns.active newest → Swept old new low → IsStanding old schema txns cs n → IsStanding new schema txns cs n
 sweeps_standing old new schema txns cs n newest low is at swept h =
     let after = tied_swept old new schema txns newest low is at swept h.tied in
-    record { tied = after; opens = opens_stay old new schema txns txns cs (kept_swept old new low swept) h.tied after (same_bases txns.active cs) h.opens; numbers = h.numbers }
+    record { tied = after; opens = opens_stay old new schema txns txns cs (kept_swept old new low swept) h.tied after (same_bases txns.active cs) h.opens; listed = h.listed }
 
 pub sweeps_all : (old new : Shown) (schema : Schema) (txns : Transactions) (cs : List Open) (n newest low : ℕ) → newest ≡ old.newest → low ≡ horizon txns.active newest → Swept old new low → IsStanding old schema txns cs n → stand_of new schema txns (seen new cs) ≡ record (stand_of old schema txns (seen old cs)) { horizon = horizon txns.active old.newest }
 sweeps_all old new schema txns cs n newest low is at swept h =
@@ -241,8 +241,8 @@ sweeps_all old new schema txns cs n newest low is at swept h =
 pub opens_fit : (shown : Shown) (schema : Schema) (active : List Transaction) (cs : List Open) → AllByRecursion (IsOpen shown schema active) cs → AllByRecursion (CursorFits shown) cs
 opens_fit shown schema active cs h = all_more (IsOpen shown schema active) (CursorFits shown) (λ c o. o.fits) cs h
 
-pub standing_at : (shown : Shown) (schema : Schema) (txns : Transactions) (cs more : List Open) (n : ℕ) → ((s : Schema) (active : List Transaction) → AllByRecursion (IsOpen shown s active) cs → AllByRecursion (IsOpen shown s active) more) → ((low high : ℕ) → AreNumbered low high cs → AreNumbered low high more) → IsStanding shown schema txns cs n → IsStanding shown schema txns more n
-standing_at shown schema txns cs more n opens numbers h = record { tied = h.tied; opens = opens schema txns.active h.opens; numbers = numbers 1 n h.numbers }
+pub standing_at : (shown : Shown) (schema : Schema) (txns : Transactions) (cs more : List Open) (n : ℕ) → ((s : Schema) (active : List Transaction) → AllByRecursion (IsOpen shown s active) cs → AllByRecursion (IsOpen shown s active) more) → ((next : ℕ) → AreListed next cs → AreListed next more) → IsStanding shown schema txns cs n → IsStanding shown schema txns more n
+standing_at shown schema txns cs more n opens listed h = record { tied = h.tied; opens = opens schema txns.active h.opens; listed = listed n h.listed }
 
 -- a piece was given to the plan of the cursor in a place
 
@@ -276,3 +276,7 @@ refused_adds r refusal P is e = absurd (apart (sym is ∙ e))
 -- what a plan is asked, by the cursor's own number and snapshot
 pub opened_asked : (s : Select) (indexes : List IndexDef) (snap number : ℕ) (c : Open) → c.snap ≡ snap → c.number ≡ number → IsAsked s indexes snap number c.plan.asked → IsAsked s indexes c.snap c.number c.plan.asked
 opened_asked s indexes snap number c at own h = subst (λ (n : ℕ). IsAsked s indexes n c.number c.plan.asked) (sym at) (subst (λ (n : ℕ). IsAsked s indexes snap n c.plan.asked) (sym own) h)
+
+-- other cursors that are seen as these
+pub whole_opens : {S : Type 0} (store : S) (shown : Shown) (schema : Schema) (txns : Transactions) (cs more : List Open) (n : ℕ) → seen shown more ≡ seen shown cs → whole_of store shown schema txns more n ≡ record (whole_of store shown schema txns cs n) { opens = more }
+whole_opens store shown schema txns cs more n e = rw e refl

@@ -1,5 +1,5 @@
 -- Facts of all items of a list.
-use Rattle.std.proofs.Common.{ℕ, zero, suc, List, [], ◌∷◌, ◌++◌, Bool, true, false, cond, filter, map, take, drop, remove, slice_get, slice_set, length, ◌<◌, ◌≡◌, refl, arith, Result, Ok, Err, IfOk, Some}
+use Rattle.std.proofs.Common.{ℕ, zero, suc, List, [], ◌∷◌, ◌++◌, Bool, true, false, cond, filter, map, take, drop, remove, slice_get, slice_set, length, ◌<◌, ◌≡◌, refl, arith, Result, Ok, Err, IfOk, OnOk, OnErr, Some, subst}
 use Rattle.std.specs.List.{AllByRecursion, slice_index_or}
 use Rattle.rv_rows.specs.Rising.{put_in}
 
@@ -67,3 +67,22 @@ pub get_there : {X : Type 0} (xs : List X) (i : ℕ) → i < length xs → (x : 
 get_there [] i h = absurd (omega arith)
 get_there (x ∷ xs) zero h = (x, refl)
 get_there (x ∷ xs) (suc i) h = get_there xs i (omega arith)
+
+-- the item in a place has what all have
+pub all_get_at : {X : Type 0} (P : X → Type 0) (xs : List X) (i : ℕ) (x : X) → slice_get xs i ≡ Some x → AllByRecursion P xs → P x
+all_get_at P [] i x h all = cc
+all_get_at P (y ∷ ys) zero x h all = let e : y ≡ x = cc in subst P e all.0
+all_get_at P (y ∷ ys) (suc i) x h all = all_get_at P ys i x h all.1
+
+pub if_ok_three : {A E : Type 0} (r : Result A E) (P Q R S : A → Type 0) → ((a : A) → P a → Q a → R a → S a) → IfOk r P → IfOk r Q → IfOk r R → IfOk r S
+if_ok_three (Ok a) P Q R S more h k l = more a h k l
+if_ok_three (Err e) P Q R S more h k l = tt
+
+-- what holds of each answer that is not an error
+pub on_ok : {A E : Type 0} (r : Result A E) (P : Type 0) (Q : A → Type 0) → ((a : A) → P → Q a) → OnOk r P → IfOk r Q
+on_ok (Ok a) P Q more h = more a h
+on_ok (Err e) P Q more h = tt
+
+pub on_err : {A E : Type 0} (r : Result A E) (P : Type 0) → P → OnErr r P
+on_err (Ok a) P h = tt
+on_err (Err e) P h = h

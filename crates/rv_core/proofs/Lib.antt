@@ -6,6 +6,8 @@ pub mod Opens
 pub mod Planning
 pub mod Plans
 pub mod Facts
+pub mod Few
+pub mod Handling
 pub mod Images
 pub mod Indexing
 pub mod Keeping
@@ -16,3 +18,4 @@ pub mod Showing
 pub mod Soundness
 pub mod Standing
 pub mod Tied
+pub mod Turning

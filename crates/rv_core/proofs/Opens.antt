@@ -1,12 +1,14 @@
 -- Open cursors as the definitions have them.
 use Rattle.std.proofs.Common.{◌≡◌, ℕ, ◌+◌, List, [], ◌∷◌, ◌++◌, ◌==◌, ◌&&◌, refl, ap, sym, subst, ◌∙◌, Bool, true, false, not, cond, filter, length, suc, zero, slice_get, slice_set, remove, bytes_eq, Some}
 use Rattle.std.specs.List.{AllByRecursion, prefix_len, slice_index_or}
+use Rattle.rv_lang.specs.declared.reply.Refusal.{Refusal}
 use Rattle.rv_lang.specs.declared.reply.Reply.{Reply}
+use Rattle.rv_lang.specs.declared.reply.Reply.TheVariants.{Refused}
 use Rattle.rv_reader.specs.Shown.{Shown}
 use Rattle.rv_model.specs.declared.state.Cursor.{Cursor}
 use Rattle.rv_model.specs.declared.state.Offer.{Offer}
 use Rattle.rv_model.specs.Database.{cursor_at, cursor_named, no_cursor}
-use Rattle.rv_model.specs.Step.{other_cursors, own_cursors}
+use Rattle.rv_model.specs.Step.{Offers, other_cursors, own_cursors}
 use Rattle.rv_cursor.specs.declared.cursor.Open.{Open}
 use Rattle.rv_cursor.specs.Left.{CursorFits, SameCursor, TakesOffer, left}
 use Rattle.rv_catalog.specs.Schema.{Schema}
@@ -14,11 +16,11 @@ use Rattle.rv_model.specs.declared.transactions.Transaction.{Transaction}
 use Rattle.rv_join.specs.declared.places.Asked.{Asked}
 use Rattle.rv_join.specs.Asking.{indexes_from, item_at}
 use Rattle.rv_core.specs.Db.{IsOpen, base_of, open_named, own_opens, seen, seen_of}
-use Rattle.rv_core.proofs.Facts.{all_set}
+use Rattle.rv_core.proofs.Facts.{all_get_at, all_set}
 use Rattle.rv_core.proofs.Images.{map_remove}
 use Rattle.rv_core.specs.Doing.{TakesAt}
 
-length_seen : (shown : Shown) (cs : List Open) → length (seen shown cs) ≡ length cs
+pub length_seen : (shown : Shown) (cs : List Open) → length (seen shown cs) ≡ length cs
 length_seen shown [] = refl
 length_seen shown (c ∷ cs) = ap (λ n. suc n) (length_seen shown cs)
 
@@ -83,9 +85,7 @@ removed_seen shown cs i = map_remove (seen_of shown) cs i
 
 -- the cursor in a place has what all have
 pub all_get : (P : Open → Type 0) (cs : List Open) (i : ℕ) (c : Open) → slice_get cs i ≡ Some c → AllByRecursion P cs → P c
-all_get P [] i c h all = cc
-all_get P (d ∷ ds) zero c h all = let e : d ≡ c = cc in subst P e all.0
-all_get P (d ∷ ds) (suc i) c h all = all_get P ds i c h all.1
+all_get P cs i c h all = all_get_at P cs i c h all
 
 -- a cursor that stays open, with what it was opened with
 pub opens_at : (shown : Shown) (schema : Schema) (active : List Transaction) (cs : List Open) (place : ℕ) (c new : Open) → slice_get cs place ≡ Some c → CursorFits shown new → SameCursor c new → AllByRecursion (IsOpen shown schema active) cs → AllByRecursion (IsOpen shown schema active) (slice_set cs place new)
@@ -110,3 +110,10 @@ fetches_at shown cs place c new replies at same takes = takes_at shown cs place 
 
 pub same_at : (shown : Shown) (cs : List Open) (place : ℕ) (c new : Open) → slice_get cs place ≡ Some c → SameCursor c new → left shown new ≡ left shown c → seen shown (slice_set cs place new) ≡ seen shown cs
 same_at shown cs place c new at same is = leaves_at shown cs place c new at (same_seen shown c new (left shown c) same is)
+
+-- a row or the end is no refusal
+pub offers_no_refusal : (offers : List Offer) (r : Reply) → Offers offers r → (refusal : Refusal) → ¬ (r ≡ Refused refusal)
+offers_no_refusal offers r o refusal e = subst (Offers offers) e o
+
+pub takes_no_refusal : (old : List Offer) (replies : Reply × Reply) (new : List Offer) → TakesOffer old replies new → (refusal : Refusal) → ¬ (replies.0 ≡ Refused refusal)
+takes_no_refusal old replies new takes refusal = offers_no_refusal old replies.0 takes.1 refusal

@@ -7,13 +7,14 @@ use Rattle.rv_model.specs.Database.{empty}
 use Rattle.rv_model.specs.History.{IsNext, IsLegal, stepped, after, phase_after}
 use Rattle.rv_model.proofs.Histories.{after_from-push, IsLegalFrom-push, phase_after-push}
 use Rattle.rv_parse.specs.Reading.{statement_of}
-use Rattle.rv_core.specs.Core.{Shown, IsSound, Answers, entry, horizon_of, shown_of}
+use Rattle.rv_core.specs.Core.{Shown, IsSound, Answers, Unanswered, entry, horizon_of, plans_in, shown_of}
+use Rattle.rv_core.proofs.Handling.{leaves_text}
 use Rattle.rv_core.specs.Db.{Stand, Whole}
 use Rattle.rv_core.specs.Doing.{Executes}
-use Rattle.rv_core.specs.Obeying.{HandlesText}
+use Rattle.rv_core.specs.Obeying.{HandlesText, LeavesText, Under, plans_of}
 
-pub IsSound-Answers : (old new : Shown) (session : ℕ) (text : List ℕ) (reply : Reply) → IsSound old → Answers old new session text reply → IsSound new
-IsSound-Answers old new session text reply sound a =
+pub IsSound-Answers : {S : Type 0} (u : Under) (judge ruled : ℕ) (old new : Shown S) (session : ℕ) (text : List ℕ) (reply : Reply) → IsSound old → Answers u judge ruled old new session text reply → IsSound new
+IsSound-Answers u judge ruled old new session text reply sound a =
     let e : Entry = entry session old.phase text reply in
     let after_is : after (old.history ++ e ∷ []) ≡ stepped (after old.history) e = after_from-push empty old.history e in
     let Follows : State → Type 0 = λ s. IsNext s old.phase e in
@@ -30,9 +31,9 @@ IsSound-Answers old new session text reply sound a =
     }
 
 -- what a call owes, from what is done below it
-pub answered : (w d e : Whole) (history more : List Entry) (phase session : ℕ) (text copy : List ℕ) (reply kept : Reply) → 1 ≤ session → session ≤ 8 → more ≡ history ++ entry session phase copy kept ∷ [] → copy ≡ text → Executes w.stand session (statement_of text) (reply, kept) d.stand → HandlesText (statement_of text) w session reply d.opens → d.opened ≤ w.opened + 1 → e ≡ record d { stand = record d.stand { horizon = horizon_of d.stand.db } }
-    → Answers (shown_of history phase w) (shown_of more phase e) session text reply
-answered w d e history more phase session text copy reply kept from to pushed copied did handled grown swept =
+pub answered : {S : Type 0} (u : Under) (judge ruled : ℕ) (w d e : Whole S) (history more : List Entry) (phase session : ℕ) (text copy : List ℕ) (reply kept : Reply) → 1 ≤ session → session ≤ 8 → more ≡ history ++ entry session phase copy kept ∷ [] → copy ≡ text → Executes w.stand session (statement_of text) (reply, kept) d.stand → HandlesText u (statement_of text) w.stand.db session reply (plans_of w judge) (plans_of d ruled) → d.opened ≤ w.opened + 1 → e ≡ record d { store = e.store; stand = record d.stand { horizon = horizon_of d.stand.db } }
+    → Answers u judge ruled (shown_of history phase w) (shown_of more phase e) session text reply
+answered u judge ruled w d e history more phase session text copy reply kept from to pushed copied did handled grown swept =
     let same : kept ≡ reply = did.0 in
     let own : entry session phase copy kept ≡ entry session phase text reply = rw (copied, same) refl in
     rw swept record {
@@ -44,3 +45,14 @@ answered w d e history more phase session text copy reply kept from to pushed co
       numbers = grown;
       plans = handled;
     }
+
+-- what a call owes for which no memory was found
+pub unanswered : {S : Type 0} (u : Under) (judge ruled : ℕ) (w d : Whole S) (history : List Entry) (phase session : ℕ) (text : List ℕ) → d.stand ≡ w.stand → d.opened ≡ w.opened → LeavesText u (statement_of text) w.stand.db session (plans_of w judge) (plans_of d ruled) → Unanswered u judge ruled (shown_of history phase w) (shown_of history phase d) session text
+unanswered u judge ruled w d history phase session text stand opened leaves = record { kept = rw (stand, opened) refl; plans = leaves }
+
+pub IsSound-Unanswered : {S : Type 0} (u : Under) (judge ruled : ℕ) (old new : Shown S) (session : ℕ) (text : List ℕ) → IsSound old → Unanswered u judge ruled old new session text → IsSound new
+IsSound-Unanswered u judge ruled old new session text sound a = rw a.kept record { legal = sound.legal; database = sound.database; phases = sound.phases; kept = sound.kept; numbers = sound.numbers }
+
+-- nothing was done
+pub unanswered_same : {S : Type 0} (u : Under) (judge : ℕ) (shown : Shown S) (session : ℕ) (text : List ℕ) → Unanswered u judge judge shown shown session text
+unanswered_same u judge shown session text = record { kept = refl; plans = leaves_text u (statement_of text) shown.db session (plans_in shown judge) }

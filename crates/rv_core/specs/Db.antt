@@ -58,14 +58,15 @@ pub record Stand : Type 0 where
 abbrev pub stand_of : Shown → Schema → Transactions → List Cursor → Stand
 stand_of shown schema transactions cursors = record { db = db_of shown schema transactions cursors; horizon = shown.horizon }
 
--- the same with the open cursors, in the order in which they were opened, and the number of the next
-pub record Whole : Type 0 where
+-- the same with its store, the open cursors, in the order in which they were opened, and the number of the next
+pub record Whole (S : Type 0) : Type 0 where
+  pub store : S
   pub stand : Stand
   pub opens : List Open
   pub opened : ℕ
 
-abbrev pub whole_of : Shown → Schema → Transactions → List Open → ℕ → Whole
-whole_of shown schema transactions opens opened = record { stand = stand_of shown schema transactions (seen shown opens); opens = opens; opened = opened }
+abbrev pub whole_of : {S : Type 0} → S → Shown → Schema → Transactions → List Open → ℕ → Whole S
+whole_of store shown schema transactions opens opened = record { store = store; stand = stand_of shown schema transactions (seen shown opens); opens = opens; opened = opened }
 
 -- the base of the session's transaction, where it has one
 abbrev pub base_of : List Transaction → ℕ → Option ℕ
@@ -117,8 +118,14 @@ abbrev pub AreNumbered : ℕ → ℕ → List Open → Type 0
 AreNumbered low high [] = low ≤ high
 AreNumbered low high (c ∷ cs) = (low ≤ c.number) × AreNumbered (c.number + 1) high cs
 
+-- The open cursors stand in the order of their numbers, which lie below the next, and no session has more than 16 of them.
+pub record AreListed (next : ℕ) (cursors : List Open) : Type 0 where
+  pub numbers : AreNumbered 1 next cursors
+  pub few : (session : ℕ) → length (own_opens cursors session) ≤ 16
+  pub sessions : AllByRecursion (λ (c : Open). c.session < 256) cursors
+
 -- what a database keeps
 pub record IsStanding (shown : Shown) (schema : Schema) (transactions : Transactions) (cursors : List Open) (opened : ℕ) : Type 0 where
   pub tied : IsTied shown schema transactions
   pub opens : AllByRecursion (IsOpen shown schema transactions.active) cursors
-  pub numbers : AreNumbered 1 opened cursors
+  pub listed : AreListed opened cursors

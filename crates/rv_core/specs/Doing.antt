@@ -1,5 +1,5 @@
 -- What the calls of a database do: two equal replies, and the next state. The store's horizon stays.
-use Rattle.std.specs.Prelude.{◌≡◌, ◌≤◌, ℕ, List, Option, Result, Ok, length, slice_set}
+use Rattle.std.specs.Prelude.{◌≡◌, ◌≤◌, ℕ, List, Option, Some, None, Result, Ok, Err, length, slice_set}
 use Rattle.rv_lang.specs.declared.statement.Statement.{Statement}
 use Rattle.rv_lang.specs.declared.reply.Refusal.{Refusal}
 use Rattle.rv_lang.specs.declared.reply.Reply.{Reply}
@@ -39,6 +39,15 @@ StepsOn old session name most replies new = (replies.1 ≡ replies.0) × AllowsS
 -- SHOW
 abbrev pub Shows : Stand → ℕ → List ℕ → Reply × Reply → Type 0
 Shows old session name replies = (replies.1 ≡ replies.0) × AllowsShow (cursor_named old.db.cursors session name) old.db name replies.0
+
+-- one turn's part of a call: it is answered, or it works on
+abbrev pub PartIs : {R : Type 0} → (R → Type 0) → Type 0 → Option R → Type 0
+PartIs answered works None = works
+PartIs answered works (Some replies) = answered replies
+
+abbrev pub parted : {R E : Type 0} → Result R E → Result (Option R) E
+parted (Ok replies) = Ok (Some replies)
+parted (Err fault) = Err fault
 
 -- The base of the session's transaction, where it may open the cursor.
 abbrev pub opening_base : List TableDef → List Transaction → List Cursor → ℕ → List ℕ → List ℕ → Result ℕ Refusal

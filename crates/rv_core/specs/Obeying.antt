@@ -1,75 +1,161 @@
--- What OPEN, STEP and SHOW make of the open cursors and tell of their plans.
-use Rattle.std.specs.Prelude.{◌≡◌, ◌<◌, ℕ, List, [], ◌∷◌, ◌++◌, Option, Some, None, Result, Ok, Err, IfSome, slice_get, slice_set}
+-- WHAT A CALL DOES TO THE PLANS OF THE OPEN CURSORS, and what it tells of them.
+use Rattle.std.specs.Prelude.{◌≡◌, ◌<◌, ◌+◌, ◌==◌, ℕ, Bool, true, false, List, [], ◌∷◌, ◌++◌, Option, Some, None, Result, Ok, Err, IfSome, IsSome, not, filter, remove, slice_get, slice_set}
 use Rattle.std.specs.List.{AllByRecursion}
+use Rattle.rv_judge.specs.declared.judging.Facts.{Facts}
+use Rattle.rv_judge.specs.Verdicts.{Ruling}
 use Rattle.rv_lang.specs.declared.statement.Statement.{Statement}
 use Rattle.rv_lang.specs.declared.reply.Refusal.{Refusal}
 use Rattle.rv_lang.specs.declared.reply.Reply.{Reply}
-use Rattle.rv_lang.specs.declared.reply.Reply.TheVariants.{Opened, Stepped, Trace}
+use Rattle.rv_lang.specs.declared.reply.Reply.TheVariants.{Opened, Refused, Stepped, Trace}
 use Rattle.rv_catalog.specs.declared.def.IndexDef.{IndexDef}
 use Rattle.rv_catalog.specs.declared.def.Resolved.{Resolved}
 use Rattle.rv_catalog.specs.declared.def.Resolved.TheVariants as asks
 use Rattle.rv_catalog.specs.declared.def.Select.{Select}
 use Rattle.rv_reader.specs.Shown.{Shown}
+use Rattle.rv_model.specs.declared.state.State.{State}
 use Rattle.rv_model.specs.Showing.{trace_named}
 use Rattle.rv_model.specs.Step.{rows_seen, understood}
 use Rattle.rv_model.specs.Transactions.{transaction_of}
-use Rattle.rv_snapshot.specs.Alone.{alone}
 use Rattle.rv_join.specs.Asking.{IsAsked}
 use Rattle.rv_join.specs.Pieces.{counted_up, plan_awaited, plan_pieces}
 use Rattle.rv_join.specs.Plans.{LeadsWith, plan_trace}
 use Rattle.rv_cursor.specs.declared.cursor.Open.{Open}
-use Rattle.rv_cursor.specs.Left.{CursorFits, SameCursor}
+use Rattle.rv_cursor.specs.Left.{CursorFits, SameCursor, seen_by}
+use Rattle.rv_cursor.specs.Moves.{FetchMoves, Moves, Ruled, StepsBacks, TurnMoves, ruled}
 use Rattle.rv_core.specs.Db.{Whole, base_of, open_named}
 
--- OPEN adds a cursor last, under the next number, at the base of the session's transaction, whose plan is that of its select:
--- drawn from what a reader shows whose rows are the session's at that base, with the strategy and the scans of the five rules.
-pub record OpensPlan (s : Select) (old : Whole) (session : ℕ) (name : List ℕ) (opens : List Open) : Type 0 where
-  pub cursor : Open
-  pub added : opens ≡ old.opens ++ cursor ∷ []
-  pub owner : cursor.session ≡ session
-  pub called : cursor.name ≡ name
-  pub number : cursor.number ≡ old.opened
-  pub base : base_of old.stand.db.transactions.active session ≡ Some cursor.snap
-  pub asked : IsAsked s old.stand.db.schema.indexes cursor.snap cursor.number cursor.plan.asked
-  pub reader : Shown
-  pub rows : AllByRecursion (λ (t : ℕ). reader.rows t cursor.snap ≡ rows_seen old.stand.db (transaction_of old.stand.db.transactions.active session) t) s.tables
-  pub fits : CursorFits reader cursor
-  pub leads : LeadsWith (alone reader cursor.snap) cursor.plan
+-- WHAT A CALL IS MADE UNDER: what the store shows, what the judge would rule, and how many background steps may follow each
+-- foreground step of a FETCH
+pub record Under : Type 0 where
+  pub store : Shown
+  pub would : ℕ → Facts → Ruling
+  pub beside : ℕ
 
-abbrev pub AddsPlan : Select → Whole → ℕ → List ℕ → Reply → List Open → Type 0
-AddsPlan s old session name reply opens = reply ≡ Opened → OpensPlan s old session name opens
+abbrev pub under : Shown → (ℕ → Facts → Ruling) → ℕ → Under
+under store would beside = record { store = store; would = would; beside = beside }
 
--- STEP: so many pieces of one cursor's plan were accepted, and there are fewer than asked only where none is awaited then
-pub record StepsAt (place done most : ℕ) (old new : List Open) : Type 0 where
+-- THE PLANS: the open cursors, the number of the next, and where the judge stands that rules on their scans
+pub record Plans : Type 0 where
+  pub opens : List Open
+  pub opened : ℕ
+  pub judge : ℕ
+
+abbrev pub plans_of : {S : Type 0} → Whole S → ℕ → Plans
+plans_of w judge = record { opens = w.opens; opened = w.opened; judge = judge }
+
+-- the plan of the cursor in a place moved in some way, and no other
+pub record MovesAt (way : Open → Shown → Ruled → Ruled → Type 0) (shown : Shown) (place judge ruled_to : ℕ) (old new : List Open) : Type 0 where
   pub before : Open
   pub after : Open
   pub here : slice_get old place ≡ Some before
-  pub called : new ≡ slice_set old place after
+  pub set : new ≡ slice_set old place after
   pub same : SameCursor before after
-  pub counted : plan_pieces after.plan ≡ counted_up (plan_pieces before.plan) done
-  pub fewer : done < most → plan_awaited after.plan ≡ None
+  pub moved : way before (seen_by shown before) (ruled before judge) (ruled after ruled_to)
 
-abbrev pub StepsTold : ℕ → ℕ → Reply → List Open → List Open → Type 0
-StepsTold place most (Stepped done) old new = StepsAt place done most old new
-StepsTold place most reply old new = ⊥
+-- the same of the cursor of a name, where one is open
+abbrev pub MovesNamed : (Open → Shown → Ruled → Ruled → Type 0) → Shown → Option ℕ → Plans → Plans → Type 0
+MovesNamed way shown None old new = new ≡ old
+MovesNamed way shown (Some place) old new = (new.opened ≡ old.opened) × MovesAt way shown place old.judge new.judge old.opens new.opens
 
-abbrev pub StepsPlan : Option ℕ → ℕ → Reply → List Open → List Open → Type 0
-StepsPlan None most reply old new = new ≡ old
-StepsPlan (Some place) most reply old new = StepsTold place most reply old new
+-- the ways in which a cursor's plan moves: by calls of the plan alone; by a FETCH, which leaves it where a row is in hand; and
+-- by one turn of a FETCH, which makes a reply or works on
+abbrev pub AnyOf : (ℕ → Facts → Ruling) → Open → Shown → Ruled → Ruled → Type 0
+AnyOf would c shown old new = Moves would shown old new
+
+pub record FetchOf (most : ℕ) (would : ℕ → Facts → Ruling) (c : Open) (shown : Shown) (old new : Ruled) : Type 0 where
+  pub rounds : FetchMoves most would shown old new
+  pub held : IsSome c.hand → new ≡ old
+
+abbrev pub TurnOf : Option (Reply × Reply) → ℕ → (ℕ → Facts → Ruling) → Open → Shown → Ruled → Ruled → Type 0
+TurnOf part most would c shown old new = TurnMoves c.hand part most would shown old new
+
+-- OPEN adds a cursor last, under the next number, at the base of the session's transaction, whose plan is that of its select:
+-- drawn from what the store shows, with the strategy and the scans that the five rules choose by the store's own estimates.
+pub record OpensPlan (shown : Shown) (s : Select) (db : State) (session : ℕ) (name : List ℕ) (old new : Plans) : Type 0 where
+  pub cursor : Open
+  pub added : new ≡ record old { opens = old.opens ++ cursor ∷ []; opened = old.opened + 1 }
+  pub owner : cursor.session ≡ session
+  pub called : cursor.name ≡ name
+  pub number : cursor.number ≡ old.opened
+  pub base : base_of db.transactions.active session ≡ Some cursor.snap
+  pub asked : IsAsked s db.schema.indexes cursor.snap cursor.number cursor.plan.asked
+  pub rows : AllByRecursion (λ (t : ℕ). shown.rows t cursor.snap ≡ rows_seen db (transaction_of db.transactions.active session) t) s.tables
+  pub fits : CursorFits shown cursor
+  pub leads : LeadsWith (seen_by shown cursor) cursor.plan
+
+-- STEP: so many background steps, and fewer than asked only where no piece is awaited then
+pub record StepOf (would : ℕ → Facts → Ruling) (done most : ℕ) (c : Open) (shown : Shown) (old new : Ruled) : Type 0 where
+  pub steps : StepsBacks done would shown old new
+  pub counted : plan_pieces new.plan ≡ counted_up (plan_pieces old.plan) done
+  pub fewer : done < most → plan_awaited new.plan ≡ None
+
+abbrev pub StepsTold : Under → ℕ → Option ℕ → Reply → Plans → Plans → Type 0
+StepsTold u most None reply old new = new ≡ old
+StepsTold u most (Some place) (Stepped done) old new = MovesNamed (StepOf u.would done most) u.store (Some place) old new
+StepsTold u most (Some place) reply old new = ⊥
 
 -- SHOW: the trace of that cursor's plan, with the names of indexes
 abbrev pub TellsPlan : Option ℕ → List IndexDef → List Open → Reply → Type 0
 TellsPlan None indexes opens reply = Unit {0}
 TellsPlan (Some place) indexes opens reply = IfSome (slice_get opens place) (λ c. reply ≡ Trace (trace_named indexes (plan_trace c.plan)))
 
--- WHAT A CALL DOES TO THE PLANS, by what it asks
-abbrev pub Handles : Result Resolved Refusal → Whole → ℕ → Reply → List Open → Type 0
-Handles (Ok (asks.Open name s)) old session reply opens = AddsPlan s old session name reply opens
-Handles (Ok (asks.Step name n)) old session reply opens = StepsPlan (open_named old.opens session name) n reply old.opens opens
-Handles (Ok (asks.Show name)) old session reply opens = TellsPlan (open_named old.opens session name) old.stand.db.schema.indexes old.opens reply × (opens ≡ old.opens)
-Handles (Ok other) old session reply opens = Unit {0}
-Handles (Err refusal) old session reply opens = opens ≡ old.opens
+-- COMMIT and ROLLBACK close the session's cursors, where they are not refused
+abbrev pub ended_by : Reply → ℕ → List Open → List Open
+ended_by (Refused refusal) session opens = opens
+ended_by reply session opens = filter (λ (c : Open). not (c.session == session)) opens
 
--- the same of the statement of a text, where there is one
-abbrev pub HandlesText : Option Statement → Whole → ℕ → Reply → List Open → Type 0
-HandlesText statement old session reply opens = Handles (understood old.stand.db.schema statement) old session reply opens
+-- CLOSE closes the cursor of a name, where one is open
+abbrev pub closed_in : Option ℕ → List Open → List Open
+closed_in None opens = opens
+closed_in (Some place) opens = remove opens place
+
+-- WHAT AN ANSWERED CALL DOES TO THE PLANS, by what it asks
+abbrev pub Handles : Under → Result Resolved Refusal → State → ℕ → Reply → Plans → Plans → Type 0
+Handles u (Ok (asks.Open name s)) db session reply old new = reply ≡ Opened → OpensPlan u.store s db session name old new
+Handles u (Ok (asks.Fetch name)) db session reply old new = MovesNamed (FetchOf u.beside u.would) u.store (open_named old.opens session name) old new
+Handles u (Ok (asks.Step name n)) db session reply old new = StepsTold u n (open_named old.opens session name) reply old new
+Handles u (Ok (asks.Show name)) db session reply old new = TellsPlan (open_named old.opens session name) db.schema.indexes old.opens reply × (new ≡ old)
+Handles u (Ok asks.Commit) db session reply old new = new ≡ record old { opens = ended_by reply session old.opens }
+Handles u (Ok asks.Rollback) db session reply old new = new ≡ record old { opens = ended_by reply session old.opens }
+Handles u (Ok (asks.Close name)) db session reply old new = new ≡ record old { opens = closed_in (open_named old.opens session name) old.opens }
+Handles u (Ok other) db session reply old new = new ≡ old
+Handles u (Err refusal) db session reply old new = new ≡ old
+
+-- the same of the statement of a text, where there is one; and a refused call leaves the plans, whatever it asked
+pub record HandlesText (u : Under) (statement : Option Statement) (db : State) (session : ℕ) (reply : Reply) (old new : Plans) : Type 0 where
+  pub asked : Handles u (understood db.schema statement) db session reply old new
+  pub refused : (refusal : Refusal) → reply ≡ Refused refusal → new ≡ old
+
+-- WHAT ONE TURN'S PART OF A CALL DOES WHERE IT WORKS ON: the call is a FETCH of an open cursor, whose plan's step answered
+-- Working
+abbrev pub Works : Under → Result Resolved Refusal → ℕ → Plans → Plans → Type 0
+Works u (Ok (asks.Fetch name)) session old new = IsSome (open_named old.opens session name) × MovesNamed (TurnOf None u.beside u.would) u.store (open_named old.opens session name) old new
+Works u (Ok other) session old new = ⊥
+Works u (Err refusal) session old new = ⊥
+
+pub record WorksText (u : Under) (statement : Option Statement) (db : State) (session : ℕ) (old new : Plans) : Type 0 where
+  pub works : Works u (understood db.schema statement) session old new
+
+abbrev pub is_fetch : Resolved → Bool
+is_fetch (asks.Fetch name) = true
+is_fetch other = false
+
+-- what it does where it is answered: of a FETCH one turn at most
+abbrev pub Turns : Under → Result Resolved Refusal → ℕ → Reply → Plans → Plans → Type 0
+Turns u (Ok (asks.Fetch name)) session reply old new = MovesNamed (TurnOf (Some (reply, reply)) u.beside u.would) u.store (open_named old.opens session name) old new
+Turns u (Ok other) session reply old new = Unit {0}
+Turns u (Err refusal) session reply old new = Unit {0}
+
+pub record TurnsText (u : Under) (statement : Option Statement) (db : State) (session : ℕ) (reply : Reply) (old new : Plans) : Type 0 where
+  pub turn : Turns u (understood db.schema statement) session reply old new
+
+-- WHAT A CALL DOES TO THE PLANS FOR WHICH NO MEMORY WAS FOUND: FETCH and STEP may have moved their cursor's plan, and no other
+-- call does anything
+abbrev pub Leaves : Under → Result Resolved Refusal → ℕ → Plans → Plans → Type 0
+Leaves u (Ok (asks.Fetch name)) session old new = MovesNamed (AnyOf u.would) u.store (open_named old.opens session name) old new
+Leaves u (Ok (asks.Step name n)) session old new = MovesNamed (AnyOf u.would) u.store (open_named old.opens session name) old new
+Leaves u (Ok other) session old new = new ≡ old
+Leaves u (Err refusal) session old new = new ≡ old
+
+pub record LeavesText (u : Under) (statement : Option Statement) (db : State) (session : ℕ) (old new : Plans) : Type 0 where
+  pub left : Leaves u (understood db.schema statement) session old new

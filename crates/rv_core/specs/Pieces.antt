@@ -1,16 +1,21 @@
--- Which open cursor's piece is handed out, and what becomes of a piece that is given.
+-- WHICH OPEN CURSOR'S PIECE IS HANDED OUT, and what becomes of a piece that is given.
 use Rattle.std.specs.Prelude.{◌≡◌, ℕ, ◌==◌, ◌&&◌, Bool, List, Option, Some, None, is_some, nat_lt, position, slice_get, slice_set}
+use Rattle.rv_judge.specs.declared.counting.Counts.{Counts}
+use Rattle.rv_judge.specs.declared.judging.Facts.{Facts}
+use Rattle.rv_judge.specs.Verdicts.{Ruling}
+use Rattle.rv_reader.specs.Shown.{Shown}
 use Rattle.rv_jscan.specs.declared.jscan.Given.{Given}
 use Rattle.rv_jscan.specs.declared.jscan.Given.TheVariants.{Stale}
 use Rattle.rv_jscan.specs.declared.jscan.Taken.{Taken}
 use Rattle.rv_jscan.specs.declared.jscan.Taken.TheVariants.{Nothing}
 use Rattle.rv_jscan.specs.Pieces.{Pieced}
-use Rattle.rv_judge.specs.declared.judging.Facts.{Facts}
-use Rattle.rv_judge.specs.declared.judging.Verdict.{Verdict}
 use Rattle.rv_retrieval.specs.Given.{TakesPiece}
 use Rattle.rv_retrieval.specs.Rulings.{GivesOn}
-use Rattle.rv_join.specs.Pieces.{GivesPiece, plan_awaited, waited, waiting}
+use Rattle.rv_retrieval.specs.Telling.{CountsRise, SameCounts}
+use Rattle.rv_join.specs.Pieces.{CountsPiece, GivesPiece, TakesAwaited, plan_awaited, plan_pieces, waited, waiting}
+use Rattle.rv_join.specs.Plans.{PlanStays, plan_trace}
 use Rattle.rv_cursor.specs.declared.cursor.Open.{Open}
+use Rattle.rv_cursor.specs.Left.{seen_by}
 
 abbrev pub is_waiting : Open → Bool
 is_waiting c = is_some (plan_awaited c.plan)
@@ -24,24 +29,54 @@ or_else None other = other
 abbrev pub next_waiting : ℕ → List Open → Option ℕ
 next_waiting after opens = or_else (position (λ (c : Open). nat_lt after c.number && is_waiting c) opens) (position is_waiting opens)
 
--- one cursor's plan was called, and nothing else
+-- the plan of the cursor in a place was called, and nothing else
 pub record CallsOne (place : ℕ) (old new : List Open) (c d : Open) : Type 0 where
   pub here : slice_get old place ≡ Some c
   pub called : new ≡ slice_set old place d
   pub same : d ≡ record c { plan = d.plan }
 
--- what a take of the next awaited piece answers
-abbrev pub TakesNext : Option ℕ → List Open → List Open → Taken → Type 0
-TakesNext None old new taken = (taken ≡ Nothing) × (new ≡ old)
-TakesNext (Some place) old new taken = (c d : Open) × CallsOne place old new c d × TakesPiece (waited c.plan d.plan) taken
+-- A TAKE from the cursor in a place, whatever it answers: the same piece is awaited, none is counted, and what was read is
+-- counted in the trace
+pub record TriesAt (shown : Shown) (place : ℕ) (before after : Counts) (old new : List Open) : Type 0 where
+  pub cursor : Open
+  pub left : Open
+  pub calls : CallsOne place old new cursor left
+  pub awaited : plan_awaited left.plan ≡ plan_awaited cursor.plan
+  pub pieces : plan_pieces left.plan ≡ plan_pieces cursor.plan
+  pub counts : CountsRise (plan_trace cursor.plan) (plan_trace left.plan) before after
+  pub stays : PlanStays (seen_by shown cursor) cursor.plan left.plan
+
+-- the piece that it answers is the one that was awaited before the call, and that may now be given
+pub record TakesAt (shown : Shown) (place : ℕ) (before after : Counts) (old new : List Open) (taken : Taken) : Type 0 where
+  pub tries : TriesAt shown place before after old new
+  pub answers : TakesAwaited tries.cursor.plan taken
+  pub ready : TakesPiece (waiting tries.left.plan) taken
+
+-- what a take of the next awaited piece answers, and what it does where it finds no memory
+abbrev pub TakesNext : Shown → Option ℕ → Counts → Counts → List Open → List Open → Taken → Type 0
+TakesNext shown None before after old new taken = (taken ≡ Nothing) × (new ≡ old) × (after ≡ before)
+TakesNext shown (Some place) before after old new taken = TakesAt shown place before after old new taken
+
+abbrev pub TriesNext : Shown → Option ℕ → Counts → Counts → List Open → List Open → Type 0
+TriesNext shown None before after old new = (new ≡ old) × (after ≡ before)
+TriesNext shown (Some place) before after old new = TriesAt shown place before after old new
 
 -- the open cursor of a number
 abbrev pub numbered : ℕ → List Open → Option ℕ
 numbered number opens = position (λ (c : Open). c.number == number) opens
 
--- What a give answers: that of the piece's cursor, whose plan the judge rules on, and stale with nothing awaited where the
--- cursor is not open.
-abbrev pub GivesTo : Option ℕ → (ℕ → Facts → Verdict) → ℕ → ℕ → List Open → Pieced → Given → List Open → Type 0
+-- A GIVE to the cursor in a place: accepted exactly where the piece is the awaited one, once taken; an accepted piece is
+-- counted and the judge obeyed, a stale one changes nothing
+pub record GivesAt (would : ℕ → Facts → Ruling) (state after : ℕ) (place : ℕ) (old : List Open) (piece : Pieced) (given : Given) (new : List Open) : Type 0 where
+  pub cursor : Open
+  pub left : Open
+  pub calls : CallsOne place old new cursor left
+  pub answers : GivesPiece cursor.plan piece given left.plan
+  pub obeys : GivesOn would state after piece given (waiting cursor.plan) (waited cursor.plan left.plan)
+  pub pieces : CountsPiece given (plan_pieces cursor.plan) (plan_pieces left.plan)
+  pub counts : SameCounts (plan_trace cursor.plan) (plan_trace left.plan)
+
+-- What a give answers: that of the piece's cursor, and stale with nothing awaited where that is not open.
+abbrev pub GivesTo : Option ℕ → (ℕ → Facts → Ruling) → ℕ → ℕ → List Open → Pieced → Given → List Open → Type 0
 GivesTo None would state after old piece given new = (given ≡ Stale piece.id None) × (new ≡ old) × (after ≡ state)
-GivesTo (Some place) would state after old piece given new =
-    (c d : Open) × CallsOne place old new c d × GivesPiece c.plan piece given d.plan × GivesOn would state after piece given (waiting c.plan) (waited c.plan d.plan)
+GivesTo (Some place) would state after old piece given new = GivesAt would state after place old piece given new

@@ -1,5 +1,5 @@
 //! Open cursors of sessions: how they are found, opened, read and closed.
-ghost use Rattle.std.specs.Prelude.{◌≡◌, ◌<◌, ◌≤◌, ◌==◌, ℕ, List, true, not, Ok, IfErr, IfOk, IfSome, OnErr, length, filter, find, slice_get};
+ghost use Rattle.std.specs.Prelude.{◌≡◌, ◌<◌, ◌≤◌, ◌==◌, ℕ, List, true, not, Ok, IfErr, IfOk, IfSome, None, OnErr, Some, length, filter, find, slice_get};
 ghost use Rattle.std.specs.List.{AllByRecursion};
 ghost use Rattle.rv_rows.specs.Rows.{Ascend};
 ghost use Rattle.rv_reader.specs.Shown.{CanRead, IsSnapshot, Shown};
@@ -9,7 +9,9 @@ ghost use Rattle.rv_judge.specs.Runs.{Allowed};
 ghost use Rattle.rv_join.specs.Asking.{IsAsked, indexes_from, item_at};
 ghost use Rattle.rv_join.specs.Plans.{LeadsWith, numbers_of, plan_trace};
 ghost use Rattle.rv_snapshot.specs.Alone.{alone};
-ghost use Rattle.rv_core.specs.Obeying.{StepsAt};
+ghost use Rattle.rv_core.specs.Obeying.{AnyOf, FetchOf, MovesAt, StepOf, TurnOf};
+ghost use Rattle.rv_lang.specs.declared.reply.Refusal.{Refusal as TheRefusal};
+ghost use Rattle.rv_lang.specs.declared.reply.Reply.TheVariants.{Refused};
 ghost use Rattle.rv_model.specs.declared.transactions.Transaction.{Transaction};
 ghost use Rattle.rv_model.specs.declared.transactions.Transactions.{Transactions};
 ghost use Rattle.rv_model.specs.Database.{cursor_at, cursor_named};
@@ -19,12 +21,12 @@ ghost use Rattle.rv_model.specs.Step.{Showing, Stepping, own_cursors, table_of};
 ghost use Rattle.rv_model.specs.Transactions.{transaction_of};
 ghost use Rattle.rv_cursor.specs.Left.{CursorFits};
 ghost use Rattle.rv_txn.specs.Calls.{IsFault, has_changed};
-ghost use Rattle.rv_core.specs.Db.{AreNumbered, IsOpen, IsTied, open_named, own_opens, seen, seen_of};
-ghost use Rattle.rv_core.specs.Doing.{TakesAt, opening_base};
+ghost use Rattle.rv_core.specs.Db.{AreListed, IsOpen, IsTied, open_named, own_opens, seen, seen_of};
+ghost use Rattle.rv_core.specs.Doing.{PartIs, TakesAt, opening_base};
 
 use crate::replies::{limit, table_name};
 use rv_catalog::{Catalog, Select};
-use rv_cursor::{Open, fetch, open_cursor, step};
+use rv_cursor::{Open, fetch, fetch_step, open_cursor, step};
 use rv_judge::{Judge, Steps, Trace, Uncounted};
 use rv_lang::{Refusal, Reply, Which};
 use rv_reader::{Reader, Store};
@@ -51,7 +53,8 @@ fn open_named(cursors: &Items<Open>, session: u8, name: &Text) -> Option<usize>
 /// How many cursors of the session are open.
 #[tactic(auto, using(crate::proofs::Opens::own_seen))]
 fn count_cursors(cursors: &Items<Open>, session: u8) -> usize
-    ensures { (shown : Shown) → result ≡ length (own_cursors (seen shown cursors.now) session) }
+    ensures seen { (shown : Shown) → result ≡ length (own_cursors (seen shown cursors.now) session) }
+    ensures opens { result ≡ length (own_opens cursors.now session) }
 {
     count_open(cursors, session)
 }
@@ -84,6 +87,7 @@ pub fn opening(
     tables: &[u32],
 ) -> Result<u64, TxnFault>
     ensures ok { IfOk result (λ base. (shown : Shown) → opening_base catalog.now.tables txns.now.active (seen shown cursors.now) session name.now tables.now ≡ Ok base) }
+    ensures room { IfOk result (λ base. length (own_opens cursors.now session) < 16) }
     ensures fault { IfErr result (λ fault. (shown : Shown) → IsFault (opening_base catalog.now.tables txns.now.active (seen shown cursors.now) session name.now tables.now) fault) }
 {
     let Some(standing) = txns.standing(session) else {
@@ -189,11 +193,48 @@ pub fn fetch_at<S: Store + Reader<Ledger = Uncounted>>(
     requires fits { AllByRecursion (CursorFits (S.shown store.now)) cursors.old }
     ensures ok { IfOk result (λ replies. TakesAt place (seen (S.shown store.now) cursors.old) replies (seen (S.shown store.now) cursors.new)) }
     ensures err { OnErr result (seen (S.shown store.now) cursors.new ≡ seen (S.shown store.now) cursors.old) }
+    ensures moves { IfOk result (λ replies. MovesAt (FetchOf beside (would judge.old)) (S.shown store.now) place (state judge.old) (state judge.new) cursors.old cursors.new) }
+    ensures lost { OnErr result (MovesAt (AnyOf (would judge.old)) (S.shown store.now) place (state judge.old) (state judge.new) cursors.old cursors.new) }
+    ensures given { IfOk result (λ replies. (refusal : TheRefusal) → ¬ (replies.0 ≡ Refused refusal)) }
+    ensures rules { would judge.new ≡ would judge.old }
     ensures opens { (schema : Schema) (active : List Transaction) → AllByRecursion (IsOpen (S.shown store.now) schema active) cursors.old → AllByRecursion (IsOpen (S.shown store.now) schema active) cursors.new }
-    ensures numbers { (low high : ℕ) → AreNumbered low high cursors.old → AreNumbered low high cursors.new }
+    ensures listed { (next : ℕ) → AreListed next cursors.old → AreListed next cursors.new }
 {
     let mut steps = Steps::new(Uncounted);
     fetch(
+        alloc,
+        cursors.at_mut(place),
+        store,
+        judge,
+        beside,
+        &mut steps,
+    )
+}
+
+/// One turn's part of a FETCH of the cursor in a place.
+#[tactic(auto, using(crate::proofs::Opens::same_at, crate::proofs::Opens::all_get))]
+pub fn fetch_step_at<S: Store + Reader<Ledger = Uncounted>>(
+    alloc: Global,
+    store: &S,
+    cursors: &mut Items<Open>,
+    place: usize,
+    judge: &mut Box<dyn Judge>,
+    beside: u8,
+) -> Result<Option<(Reply, Reply)>, NoMemory>
+    requires place { place < length cursors.old }
+    requires fits { AllByRecursion (CursorFits (S.shown store.now)) cursors.old }
+    ensures ok { IfOk result (PartIs (λ replies. TakesAt place (seen (S.shown store.now) cursors.old) replies (seen (S.shown store.now) cursors.new)) (seen (S.shown store.now) cursors.new ≡ seen (S.shown store.now) cursors.old)) }
+    ensures err { OnErr result (seen (S.shown store.now) cursors.new ≡ seen (S.shown store.now) cursors.old) }
+    ensures moves { IfOk result (PartIs (λ replies. MovesAt (FetchOf beside (would judge.old)) (S.shown store.now) place (state judge.old) (state judge.new) cursors.old cursors.new) (MovesAt (TurnOf None beside (would judge.old)) (S.shown store.now) place (state judge.old) (state judge.new) cursors.old cursors.new)) }
+    ensures turn { IfOk result (PartIs (λ replies. MovesAt (TurnOf (Some (replies.0, replies.0)) beside (would judge.old)) (S.shown store.now) place (state judge.old) (state judge.new) cursors.old cursors.new) (Unit {0})) }
+    ensures lost { OnErr result (MovesAt (AnyOf (would judge.old)) (S.shown store.now) place (state judge.old) (state judge.new) cursors.old cursors.new) }
+    ensures given { IfOk result (PartIs (λ replies. (refusal : TheRefusal) → ¬ (replies.0 ≡ Refused refusal)) (Unit {0})) }
+    ensures rules { would judge.new ≡ would judge.old }
+    ensures opens { (schema : Schema) (active : List Transaction) → AllByRecursion (IsOpen (S.shown store.now) schema active) cursors.old → AllByRecursion (IsOpen (S.shown store.now) schema active) cursors.new }
+    ensures listed { (next : ℕ) → AreListed next cursors.old → AreListed next cursors.new }
+{
+    let mut steps = Steps::new(Uncounted);
+    fetch_step(
         alloc,
         cursors.at_mut(place),
         store,
@@ -215,10 +256,12 @@ pub fn step_at<S: Store + Reader<Ledger = Uncounted>>(
     requires place { place < length cursors.old }
     requires fits { AllByRecursion (CursorFits (S.shown store.now)) cursors.old }
     ensures most { IfOk result (λ done. done ≤ most) }
-    ensures steps { IfOk result (λ done. StepsAt place done most cursors.old cursors.new) }
+    ensures steps { IfOk result (λ done. MovesAt (StepOf (would judge.old) done most) (S.shown store.now) place (state judge.old) (state judge.new) cursors.old cursors.new) }
+    ensures lost { OnErr result (MovesAt (AnyOf (would judge.old)) (S.shown store.now) place (state judge.old) (state judge.new) cursors.old cursors.new) }
+    ensures rules { would judge.new ≡ would judge.old }
     ensures seen { seen (S.shown store.now) cursors.new ≡ seen (S.shown store.now) cursors.old }
     ensures opens { (schema : Schema) (active : List Transaction) → AllByRecursion (IsOpen (S.shown store.now) schema active) cursors.old → AllByRecursion (IsOpen (S.shown store.now) schema active) cursors.new }
-    ensures numbers { (low high : ℕ) → AreNumbered low high cursors.old → AreNumbered low high cursors.new }
+    ensures listed { (next : ℕ) → AreListed next cursors.old → AreListed next cursors.new }
 {
     let mut steps = Steps::new(Uncounted);
     step(cursors.at_mut(place), store, judge, most, &mut steps)

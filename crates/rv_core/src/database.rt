@@ -1,5 +1,5 @@
 //! The database: a catalog, a store, transactions and cursors, and what each statement does to them.
-ghost use Rattle.std.specs.Prelude.{◌≡◌, ◌<◌, ◌≤◌, ◌+◌, ◌-◌, ◌^◌, [], true, IfOk, OnErr, length};
+ghost use Rattle.std.specs.Prelude.{◌≡◌, ◌<◌, ◌≤◌, ◌+◌, ◌-◌, ◌^◌, ℕ, [], true, IfOk, IsSome, None, Some, OnErr, length};
 ghost use Rattle.std.specs.Option.{option_copied};
 ghost use Rattle.rv_catalog.specs.Fits.{IsNewIndex, IsNewTable, IsQueryOf, IsRowOf, is_over_table};
 ghost use Rattle.rv_model.specs.Database.{empty};
@@ -8,13 +8,17 @@ ghost use Rattle.rv_model.specs.Step.{began, changed, closed, committed, created
 ghost use Rattle.rv_model.specs.Transactions.{transaction_of};
 ghost use Rattle.rv_core.specs.Core.{horizon_of};
 ghost use Rattle.rv_core.specs.Db.{open_named};
-ghost use Rattle.rv_core.specs.Doing.{Does, Fetches, Shows, StepsOn};
-ghost use Rattle.rv_core.specs.Obeying.{AddsPlan, StepsPlan, TellsPlan};
-ghost use Rattle.rv_core.specs.Pieces.{GivesTo, TakesNext, next_waiting, numbered};
+ghost use Rattle.rv_core.specs.Doing.{Does, Fetches, PartIs, Shows, StepsOn};
+ghost use Rattle.rv_core.specs.Obeying.{AnyOf, FetchOf, MovesNamed, OpensPlan, StepsTold, TellsPlan, TurnOf, closed_in, ended_by, plans_of, under};
+ghost use Rattle.rv_core.specs.Pieces.{GivesTo, TakesNext, TriesNext, next_waiting, numbered};
+ghost use Rattle.rv_lang.specs.declared.reply.Refusal.{Refusal as TheRefusal};
+ghost use Rattle.rv_lang.specs.declared.reply.Reply.TheVariants.{Opened, Refused};
 
-use crate::cursors::{close_all, cursor_named, fetch_at, opening, plan_cursor, step_at, trace_at};
+use crate::cursors::{
+    close_all, cursor_named, fetch_at, fetch_step_at, opening, plan_cursor, step_at, trace_at,
+};
 use crate::pieces::{give_at, next_waiting, numbered, take_at};
-use crate::replies::{limit, named_trace, refused};
+use crate::replies::{answered, limit, named_trace, refused};
 use crate::storing::{add_index, add_table, change_rows, commit_some};
 use rv_catalog::{Catalog, IndexDef, Select, TableDef};
 use rv_cursor::{Open, twice};
@@ -43,9 +47,9 @@ pub struct Database<S: Store + Reader<Ledger = Uncounted> + Drop> {
 impl<S: Store + Reader<Ledger = Uncounted> + Drop> Model for Database<S> {
     ghost use Rattle.rv_core.specs.Db.{IsStanding, Whole, whole_of};
 
-    ghost Value = { Whole };
+    ghost Value = { Whole S };
 
-    ghost view = { λ d. whole_of (S.shown d.store) d.catalog d.txns d.cursors d.opened };
+    ghost view = { λ d. whole_of d.store (S.shown d.store) d.catalog d.txns d.cursors d.opened };
 
     ghost invariant = { λ d. IsStanding (S.shown d.store) d.catalog d.txns d.cursors d.opened };
 }
@@ -55,7 +59,7 @@ impl<S: Store + Reader<Ledger = Uncounted> + Drop> Database<S> {
     pub fn new(alloc: Global, store: S) -> Database<S>
         requires tables { (S.shown store).tables ≡ 0 }
         requires newest { (S.shown store).newest ≡ 0 }
-        ensures { result ≡ record { stand = record { db = empty; horizon = 0 }; opens = []; opened = 1 } }
+        ensures { result ≡ record { store = store; stand = record { db = empty; horizon = 0 }; opens = []; opened = 1 } }
     {
         let _last = store.last();
         Database {
@@ -96,10 +100,11 @@ impl<S: Store + Reader<Ledger = Uncounted> + Drop> Database<S> {
     }
 
     /// How many cursors are open.
-    pub fn open_cursors(&self) -> usize
-        ensures { result ≡ length self.now.opens }
+    pub fn open_cursors(&self) -> u32
+        ensures opens { result ≡ length self.now.opens }
+        ensures cursors { result ≡ length self.now.stand.db.cursors }
     {
-        self.cursors.len()
+        self.cursors.len() as u32
     }
 
     /// CREATE TABLE.
@@ -108,6 +113,7 @@ impl<S: Store + Reader<Ledger = Uncounted> + Drop> Database<S> {
         ensures ok { IfOk result (λ replies. Does (created self.old.stand.db def) self.old.stand replies self.new.stand) }
         ensures err { OnErr result (self.new.stand ≡ self.old.stand) }
         ensures opened { self.new.opened ≡ self.old.opened }
+        ensures opens { self.new.opens ≡ self.old.opens }
     {
         if let Some(number) = self.txns.active() {
             return refused(self.alloc, Refusal::Busy(number));
@@ -130,6 +136,7 @@ impl<S: Store + Reader<Ledger = Uncounted> + Drop> Database<S> {
         ensures ok { IfOk result (λ replies. Does (indexed self.old.stand.db def) self.old.stand replies self.new.stand) }
         ensures err { OnErr result (self.new.stand ≡ self.old.stand) }
         ensures opened { self.new.opened ≡ self.old.opened }
+        ensures opens { self.new.opens ≡ self.old.opens }
     {
         if let Some(lowest) = self.txns.active() {
             return refused(self.alloc, Refusal::Busy(lowest));
@@ -150,6 +157,7 @@ impl<S: Store + Reader<Ledger = Uncounted> + Drop> Database<S> {
         ensures ok { IfOk result (λ replies. Does (began self.old.stand.db session read_only) self.old.stand replies self.new.stand) }
         ensures err { OnErr result (self.new.stand ≡ self.old.stand) }
         ensures opened { self.new.opened ≡ self.old.opened }
+        ensures opens { self.new.opens ≡ self.old.opens }
     {
         let base = self.store.last();
         let number = match self.txns.begin(session, read_only, base) {
@@ -171,6 +179,7 @@ impl<S: Store + Reader<Ledger = Uncounted> + Drop> Database<S> {
         ensures ok { IfOk result (λ replies. Does (inserted self.old.stand.db session table values) self.old.stand replies self.new.stand) }
         ensures err { OnErr result (self.new.stand ≡ self.old.stand) }
         ensures opened { self.new.opened ≡ self.old.opened }
+        ensures opens { self.new.opens ≡ self.old.opens }
     {
         let row = match self.txns.insert(session, table, values) {
             Ok(row) => row,
@@ -193,6 +202,7 @@ impl<S: Store + Reader<Ledger = Uncounted> + Drop> Database<S> {
         ensures ok { IfOk result (λ replies. Does (changed self.old.stand.db session table (option_copied sets.entry) only.now) self.old.stand replies self.new.stand) }
         ensures err { OnErr result (self.new.stand ≡ self.old.stand) }
         ensures opened { self.new.opened ≡ self.old.opened }
+        ensures opens { self.new.opens ≡ self.old.opens }
     {
         let count = match change_rows(
             &self.catalog,
@@ -216,6 +226,8 @@ impl<S: Store + Reader<Ledger = Uncounted> + Drop> Database<S> {
         ensures ok { IfOk result (λ replies. Does (committed self.old.stand.db session) self.old.stand replies self.new.stand) }
         ensures err { OnErr result (self.new.stand ≡ self.old.stand) }
         ensures opened { self.new.opened ≡ self.old.opened }
+        ensures opens { IfOk result (λ replies. self.new.opens ≡ ended_by replies.0 session self.old.opens) }
+        ensures lost { OnErr result (self.new.opens ≡ self.old.opens) }
     {
         let finished = match self.txns.finish(session) {
             Ok(finished) => finished,
@@ -236,6 +248,8 @@ impl<S: Store + Reader<Ledger = Uncounted> + Drop> Database<S> {
         ensures ok { IfOk result (λ replies. Does (rolled_back self.old.stand.db session) self.old.stand replies self.new.stand) }
         ensures err { OnErr result (self.new.stand ≡ self.old.stand) }
         ensures opened { self.new.opened ≡ self.old.opened }
+        ensures opens { IfOk result (λ replies. self.new.opens ≡ ended_by replies.0 session self.old.opens) }
+        ensures lost { OnErr result (self.new.opens ≡ self.old.opens) }
     {
         if let Err(refusal) = self.txns.rollback(session) {
             return refused(self.alloc, refusal);
@@ -257,7 +271,9 @@ impl<S: Store + Reader<Ledger = Uncounted> + Drop> Database<S> {
         requires numbers { self.old.opened < 2 ^ 64 - 1 }
         ensures ok { IfOk result (λ replies. Does (opened self.old.stand.db session name select.now) self.old.stand replies self.new.stand) }
         ensures err { OnErr result (self.new.stand ≡ self.old.stand) }
-        ensures adds { IfOk result (λ replies. AddsPlan select.now self.old session name replies.0 self.new.opens) }
+        ensures adds { (judge : ℕ) → IfOk result (λ replies. replies.0 ≡ Opened → OpensPlan (S.shown self.old.store) select.now self.old.stand.db session name (plans_of self.old judge) (plans_of self.new judge)) }
+        ensures refuses { (judge : ℕ) (refusal : TheRefusal) → IfOk result (λ replies. replies.0 ≡ Refused refusal → plans_of self.new judge ≡ plans_of self.old judge) }
+        ensures lost { (judge : ℕ) → OnErr result (plans_of self.new judge ≡ plans_of self.old judge) }
         ensures opened { self.new.opened ≤ self.old.opened + 1 }
         ensures unopened { OnErr result (self.new.opened ≡ self.old.opened) }
     {
@@ -306,6 +322,10 @@ impl<S: Store + Reader<Ledger = Uncounted> + Drop> Database<S> {
         ensures ok { IfOk result (λ replies. Fetches self.old.stand session name replies self.new.stand) }
         ensures err { OnErr result (self.new.stand ≡ self.old.stand) }
         ensures opened { self.new.opened ≡ self.old.opened }
+        ensures moves { IfOk result (λ replies. MovesNamed (FetchOf beside (would judge.old)) (S.shown self.old.store) (open_named self.old.opens session name) (plans_of self.old (state judge.old)) (plans_of self.new (state judge.new))) }
+        ensures refuses { (refusal : TheRefusal) → IfOk result (λ replies. replies.0 ≡ Refused refusal → plans_of self.new (state judge.new) ≡ plans_of self.old (state judge.old)) }
+        ensures lost { OnErr result (MovesNamed (AnyOf (would judge.old)) (S.shown self.old.store) (open_named self.old.opens session name) (plans_of self.old (state judge.old)) (plans_of self.new (state judge.new))) }
+        ensures rules { would judge.new ≡ would judge.old }
     {
         let Some(place) = cursor_named(&self.cursors, session, &name) else {
             return refused(self.alloc, Refusal::NoCursor(name));
@@ -324,6 +344,39 @@ impl<S: Store + Reader<Ledger = Uncounted> + Drop> Database<S> {
         Ok(replies)
     }
 
+    /// One turn's part of a FETCH: one step of the cursor's plan at most, with the background steps behind it.
+    pub fn fetch_step(
+        &mut self,
+        session: u8,
+        name: Text,
+        judge: &mut Box<dyn Judge>,
+        beside: u8,
+    ) -> Result<Option<(Reply, Reply)>, NoMemory>
+        ensures ok { IfOk result (PartIs (λ replies. Fetches self.old.stand session name replies self.new.stand) (self.new ≡ record self.old { opens = self.new.opens })) }
+        ensures err { OnErr result (self.new.stand ≡ self.old.stand) }
+        ensures opened { self.new.opened ≡ self.old.opened }
+        ensures moves { IfOk result (PartIs (λ replies. MovesNamed (FetchOf beside (would judge.old)) (S.shown self.old.store) (open_named self.old.opens session name) (plans_of self.old (state judge.old)) (plans_of self.new (state judge.new))) (IsSome (open_named self.old.opens session name) × MovesNamed (TurnOf None beside (would judge.old)) (S.shown self.old.store) (open_named self.old.opens session name) (plans_of self.old (state judge.old)) (plans_of self.new (state judge.new)))) }
+        ensures refuses { (refusal : TheRefusal) → IfOk result (PartIs (λ replies. replies.0 ≡ Refused refusal → plans_of self.new (state judge.new) ≡ plans_of self.old (state judge.old)) (Unit {0})) }
+        ensures turn { IfOk result (PartIs (λ replies. MovesNamed (TurnOf (Some (replies.0, replies.0)) beside (would judge.old)) (S.shown self.old.store) (open_named self.old.opens session name) (plans_of self.old (state judge.old)) (plans_of self.new (state judge.new))) (Unit {0})) }
+        ensures lost { OnErr result (MovesNamed (AnyOf (would judge.old)) (S.shown self.old.store) (open_named self.old.opens session name) (plans_of self.old (state judge.old)) (plans_of self.new (state judge.new))) }
+        ensures rules { would judge.new ≡ would judge.old }
+    {
+        let Some(place) = cursor_named(&self.cursors, session, &name) else {
+            return answered(refused(self.alloc, Refusal::NoCursor(name)));
+        };
+        match fetch_step_at(
+            self.alloc,
+            &self.store,
+            &mut self.cursors,
+            place,
+            judge,
+            beside,
+        ) {
+            Ok(part) => Ok(part),
+            Err(NoMemory) => Err(NoMemory),
+        }
+    }
+
     /// STEP: so many background steps at most.
     pub fn step(
         &mut self,
@@ -333,9 +386,12 @@ impl<S: Store + Reader<Ledger = Uncounted> + Drop> Database<S> {
         judge: &mut Box<dyn Judge>,
     ) -> Result<(Reply, Reply), NoMemory>
         ensures ok { IfOk result (λ replies. StepsOn self.old.stand session name most replies self.new.stand) }
-        ensures steps { IfOk result (λ replies. StepsPlan (open_named self.old.opens session name) most replies.0 self.old.opens self.new.opens) }
         ensures err { OnErr result (self.new.stand ≡ self.old.stand) }
         ensures opened { self.new.opened ≡ self.old.opened }
+        ensures steps { (beside : ℕ) → IfOk result (λ replies. StepsTold (under (S.shown self.old.store) (would judge.old) beside) most (open_named self.old.opens session name) replies.0 (plans_of self.old (state judge.old)) (plans_of self.new (state judge.new))) }
+        ensures refuses { (refusal : TheRefusal) → IfOk result (λ replies. replies.0 ≡ Refused refusal → plans_of self.new (state judge.new) ≡ plans_of self.old (state judge.old)) }
+        ensures lost { OnErr result (MovesNamed (AnyOf (would judge.old)) (S.shown self.old.store) (open_named self.old.opens session name) (plans_of self.old (state judge.old)) (plans_of self.new (state judge.new))) }
+        ensures rules { would judge.new ≡ would judge.old }
     {
         let Some(place) = cursor_named(&self.cursors, session, &name) else {
             return refused(self.alloc, Refusal::NoCursor(name));
@@ -367,9 +423,9 @@ impl<S: Store + Reader<Ledger = Uncounted> + Drop> Database<S> {
         after: u64,
         steps: &mut Steps<Uncounted>,
     ) -> Result<Taken, NoMemory>
-        ensures taken { IfOk result (λ t. TakesNext (next_waiting after self.old.opens) self.old.opens self.new.opens t) }
-        ensures stand { self.new.stand ≡ self.old.stand }
-        ensures opened { self.new.opened ≡ self.old.opened }
+        ensures taken { IfOk result (λ t. TakesNext (S.shown self.old.store) (next_waiting after self.old.opens) steps.old steps.new self.old.opens self.new.opens t) }
+        ensures tried { OnErr result (TriesNext (S.shown self.old.store) (next_waiting after self.old.opens) steps.old steps.new self.old.opens self.new.opens) }
+        ensures same { self.new ≡ record self.old { opens = self.new.opens } }
     {
         let Some(place) = next_waiting(&self.cursors, after) else {
             return Ok(Taken::Nothing);
@@ -385,8 +441,10 @@ impl<S: Store + Reader<Ledger = Uncounted> + Drop> Database<S> {
         steps: &mut Steps<L>,
     ) -> Result<Given, NoMemory>
         ensures given { IfOk result (λ g. GivesTo (numbered sieved.id.cursor self.old.opens) (would judge.old) (state judge.old) (state judge.new) self.old.opens sieved g self.new.opens) }
-        ensures stand { self.new.stand ≡ self.old.stand }
-        ensures opened { self.new.opened ≡ self.old.opened }
+        ensures same { self.new ≡ record self.old { opens = self.new.opens } }
+        ensures err { OnErr result ((self.new.opens ≡ self.old.opens) × (state judge.new ≡ state judge.old)) }
+        ensures rules { would judge.new ≡ would judge.old }
+        ensures reads { steps.new ≡ steps.old }
     {
         let id = sieved.id();
         let Some(place) = numbered(&self.cursors, id.cursor) else {
@@ -404,6 +462,9 @@ impl<S: Store + Reader<Ledger = Uncounted> + Drop> Database<S> {
         ensures ok { IfOk result (λ replies. Does (closed self.old.stand.db session name) self.old.stand replies self.new.stand) }
         ensures err { OnErr result (self.new.stand ≡ self.old.stand) }
         ensures opened { self.new.opened ≡ self.old.opened }
+        ensures opens { IfOk result (λ replies. self.new.opens ≡ closed_in (open_named self.old.opens session name) self.old.opens) }
+        ensures refuses { (refusal : TheRefusal) → IfOk result (λ replies. replies.0 ≡ Refused refusal → self.new.opens ≡ self.old.opens) }
+        ensures lost { OnErr result (self.new.opens ≡ self.old.opens) }
     {
         let Some(place) = cursor_named(&self.cursors, session, &name) else {
             return refused(self.alloc, Refusal::NoCursor(name));
@@ -414,7 +475,7 @@ impl<S: Store + Reader<Ledger = Uncounted> + Drop> Database<S> {
 
     /// Takes away what no transaction needs of the store, a part at a time. It takes no memory.
     pub fn sweep(&mut self)
-        ensures { self.new ≡ record self.old { stand = record self.old.stand { horizon = horizon_of self.old.stand.db } } }
+        ensures { self.new ≡ record self.old { store = self.new.store; stand = record self.old.stand { horizon = horizon_of self.old.stand.db } } }
     {
         let last = self.store.last();
         let horizon = self.txns.horizon(last);

@@ -1,11 +1,13 @@
 //! The engine: the calls of the sessions one after another over a store, and the history of them.
 ghost use Rattle.std.specs.Prelude.{◌≡◌, ◌+◌, ◌-◌, ◌<◌, ◌≤◌, ◌^◌, [], IfOk, OnErr, length};
 ghost use Rattle.rv_model.specs.Database.{empty};
-ghost use Rattle.rv_core.specs.Core.{Answers, IsSound, horizon_of};
-ghost use Rattle.rv_core.specs.Pieces.{GivesTo, TakesNext, next_waiting, numbered};
+ghost use Rattle.rv_model.specs.History.{after};
+ghost use Rattle.rv_core.specs.Core.{Answers, AnswersPart, IsSound, Unanswered, horizon_of};
+ghost use Rattle.rv_core.specs.Obeying.{under};
+ghost use Rattle.rv_core.specs.Pieces.{GivesTo, TakesNext, TriesNext, next_waiting, numbered};
 
 use crate::database::Database;
-use crate::statements::answer;
+use crate::statements::{answer, answer_step};
 use rv_jscan::{Given, Sieved, Taken};
 use rv_judge::{Judge, Steps, Uncounted};
 use rv_lang::Reply;
@@ -14,6 +16,15 @@ use rv_reader::{Reader, Store};
 use rv_value::{NoMemory, Text};
 use std::alloc::Global;
 use std::marker::Model;
+
+/// What one turn's part of a call came to.
+#[derive(Drop)]
+pub enum PartOf {
+    /// The call was answered, and stands in the history.
+    Answered(Reply),
+    /// The call is a FETCH whose cursor has worked on, and has no row yet.
+    Working,
+}
 
 /// The database over a store, with the history of its calls. Contracts see the history, the phase, the one-thread
 /// database for which it stands, the horizon of the store and the open cursors; the history is legal, and the database
@@ -29,7 +40,7 @@ pub struct Engine<S: Store + Reader<Ledger = Uncounted> + Drop> {
 impl<S: Store + Reader<Ledger = Uncounted> + Drop> Model for Engine<S> {
     ghost use Rattle.rv_core.specs.Core.{Shown, IsSound, shown_of};
 
-    ghost Value = { Shown };
+    ghost Value = { Shown S };
 
     ghost view = { λ e. shown_of e.history.items e.phase e.database };
 
@@ -41,7 +52,7 @@ impl<S: Store + Reader<Ledger = Uncounted> + Drop> Engine<S> {
     pub fn new(alloc: Global, store: S) -> Engine<S>
         requires tables { (S.shown store).tables ≡ 0 }
         requires newest { (S.shown store).newest ≡ 0 }
-        ensures { result ≡ record { history = []; phase = 1; db = empty; horizon = 0; opens = []; opened = 1 } }
+        ensures { result ≡ record { history = []; phase = 1; store = store; db = empty; horizon = 0; opens = []; opened = 1 } }
     {
         Engine {
             alloc,
@@ -67,8 +78,9 @@ impl<S: Store + Reader<Ledger = Uncounted> + Drop> Engine<S> {
     }
 
     /// How many cursors are open.
-    pub fn open_cursors(&self) -> usize
-        ensures { result ≡ length self.now.opens }
+    pub fn open_cursors(&self) -> u32
+        ensures opens { result ≡ length self.now.opens }
+        ensures cursors { result ≡ length (after self.now.history).cursors }
     {
         self.database.open_cursors()
     }
@@ -94,8 +106,10 @@ impl<S: Store + Reader<Ledger = Uncounted> + Drop> Engine<S> {
         requires from { 1 ≤ session }
         requires to { session ≤ 8 }
         requires short { length text.now ≤ 4096 }
-        ensures ok { IfOk result (λ reply. Answers self.old self.new session text.now reply) }
-        ensures err { OnErr result (self.new ≡ record self.old { opens = self.new.opens }) }
+        ensures ok { IfOk result (λ reply. Answers (under (S.shown self.old.store) (would judge.old) beside) (state judge.old) (state judge.new) self.old self.new session text.now reply) }
+        ensures err { OnErr result (Unanswered (under (S.shown self.old.store) (would judge.old) beside) (state judge.old) (state judge.new) self.old self.new session text.now) }
+        ensures rules { would judge.new ≡ would judge.old }
+        ensures sound { IsSound self.new }
     {
         let copy = Text::read(self.alloc, text)?;
         self.history.reserve(1)?;
@@ -112,6 +126,43 @@ impl<S: Store + Reader<Ledger = Uncounted> + Drop> Engine<S> {
         Ok(reply)
     }
 
+    /// One turn's part of a call: as `call`, but that a FETCH makes one foreground step at most, with the background steps
+    /// behind it, and answers `Working` where that step only worked on.
+    pub fn call_step(
+        &mut self,
+        session: u8,
+        text: &str,
+        judge: &mut Box<dyn Judge>,
+        beside: u8,
+    ) -> Result<PartOf, NoMemory>
+        requires from { 1 ≤ session }
+        requires to { session ≤ 8 }
+        requires short { length text.now ≤ 4096 }
+        ensures ok { IfOk result (λ part. AnswersPart (under (S.shown self.old.store) (would judge.old) beside) (state judge.old) (state judge.new) self.old self.new session text.now part) }
+        ensures err { OnErr result (Unanswered (under (S.shown self.old.store) (would judge.old) beside) (state judge.old) (state judge.new) self.old self.new session text.now) }
+        ensures rules { would judge.new ≡ would judge.old }
+        ensures sound { IsSound self.new }
+    {
+        let copy = Text::read(self.alloc, text)?;
+        self.history.reserve(1)?;
+        let (reply, kept) =
+            match answer_step(self.alloc, &mut self.database, session, text, judge, beside) {
+                Ok(Some(replies)) => replies,
+                Ok(None) => return Ok(PartOf::Working),
+                Err(NoMemory) => return Err(NoMemory),
+            };
+        self.database.sweep();
+        self.history
+            .push(Entry {
+                session,
+                phase: self.phase,
+                text: copy,
+                reply: kept,
+            })
+            .unwrap();
+        Ok(PartOf::Answered(reply))
+    }
+
     /// Takes the awaited piece of an open cursor: of those that await one, that with the lowest number above `after`, or
     /// with the lowest number where there is none above. `Nothing` where no open cursor awaits a piece.
     pub fn take_piece(
@@ -119,7 +170,8 @@ impl<S: Store + Reader<Ledger = Uncounted> + Drop> Engine<S> {
         after: u64,
         steps: &mut Steps<Uncounted>,
     ) -> Result<Taken, NoMemory>
-        ensures taken { IfOk result (λ t. TakesNext (next_waiting after self.old.opens) self.old.opens self.new.opens t) }
+        ensures taken { IfOk result (λ t. TakesNext (S.shown self.old.store) (next_waiting after self.old.opens) steps.old steps.new self.old.opens self.new.opens t) }
+        ensures tried { OnErr result (TriesNext (S.shown self.old.store) (next_waiting after self.old.opens) steps.old steps.new self.old.opens self.new.opens) }
         ensures same { self.new ≡ record self.old { opens = self.new.opens } }
     {
         self.database.take_piece(after, steps)
@@ -135,13 +187,16 @@ impl<S: Store + Reader<Ledger = Uncounted> + Drop> Engine<S> {
     ) -> Result<Given, NoMemory>
         ensures given { IfOk result (λ g. GivesTo (numbered sieved.id.cursor self.old.opens) (would judge.old) (state judge.old) (state judge.new) self.old.opens sieved g self.new.opens) }
         ensures same { self.new ≡ record self.old { opens = self.new.opens } }
+        ensures err { OnErr result ((self.new.opens ≡ self.old.opens) × (state judge.new ≡ state judge.old)) }
+        ensures rules { would judge.new ≡ would judge.old }
+        ensures reads { steps.new ≡ steps.old }
     {
         self.database.give_piece(sieved, judge, steps)
     }
 
     /// Takes away what no transaction needs of the store, a part at a time, as each answered call does too.
     pub fn sweep_step(&mut self)
-        ensures { self.new ≡ record self.old { horizon = horizon_of self.old.db } }
+        ensures { self.new ≡ record self.old { store = self.new.store; horizon = horizon_of self.old.db } }
     {
         self.database.sweep();
     }

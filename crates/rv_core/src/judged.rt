@@ -1,10 +1,12 @@
 //! The core: an engine with the judge that rules on its scans.
 ghost use Rattle.std.specs.Prelude.{◌≡◌, ◌+◌, ◌-◌, ◌<◌, ◌≤◌, ◌^◌, [], IfOk, OnErr, length};
 ghost use Rattle.rv_model.specs.Database.{empty};
-ghost use Rattle.rv_core.specs.Core.{Answers, IsSound, horizon_of};
-ghost use Rattle.rv_core.specs.Pieces.{GivesTo, TakesNext, next_waiting, numbered};
+ghost use Rattle.rv_model.specs.History.{after};
+ghost use Rattle.rv_core.specs.Core.{Answers, AnswersPart, IsSound, Unanswered, horizon_of};
+ghost use Rattle.rv_core.specs.Obeying.{under};
+ghost use Rattle.rv_core.specs.Pieces.{GivesTo, TakesNext, TriesNext, next_waiting, numbered};
 
-use crate::engine::Engine;
+use crate::engine::{Engine, PartOf};
 use rv_jscan::{Given, Sieved, Taken};
 use rv_judge::{Judge, Steps, Uncounted};
 use rv_lang::Reply;
@@ -28,12 +30,40 @@ impl<S: Store + Reader<Ledger = Uncounted> + Drop> Core<S> {
     pub fn new(alloc: Global, store: S, judge: Box<dyn Judge>, beside: u8) -> Core<S>
         requires tables { (S.shown store).tables ≡ 0 }
         requires newest { (S.shown store).newest ≡ 0 }
-        ensures engine { result.engine ≡ record { history = []; phase = 1; db = empty; horizon = 0; opens = []; opened = 1 } }
+        ensures engine { result.engine ≡ record { history = []; phase = 1; store = store; db = empty; horizon = 0; opens = []; opened = 1 } }
         ensures judge { result.judge ≡ judge }
         ensures beside { result.beside ≡ beside }
     {
         Core {
             engine: Engine::new(alloc, store),
+            judge,
+            beside,
+        }
+    }
+
+    /// The engine, the judge and the number of background steps, of which `of_parts` makes the core again. So what lends
+    /// the core to threads can show its judge.
+    pub fn into_parts(self) -> (Engine<S>, Box<dyn Judge>, u8)
+        ensures engine { result.0 ≡ self.engine }
+        ensures judge { result.1 ≡ self.judge }
+        ensures beside { result.2 ≡ self.beside }
+    {
+        let Core {
+            engine,
+            judge,
+            beside,
+        } = self;
+        (engine, judge, beside)
+    }
+
+    /// The core of an engine, a judge and a number of background steps.
+    pub fn of_parts(engine: Engine<S>, judge: Box<dyn Judge>, beside: u8) -> Core<S>
+        ensures engine { result.engine ≡ engine }
+        ensures judge { result.judge ≡ judge }
+        ensures beside { result.beside ≡ beside }
+    {
+        Core {
+            engine,
             judge,
             beside,
         }
@@ -55,8 +85,9 @@ impl<S: Store + Reader<Ledger = Uncounted> + Drop> Core<S> {
     }
 
     /// How many cursors are open.
-    pub fn open_cursors(&self) -> usize
-        ensures { result ≡ length self.now.engine.opens }
+    pub fn open_cursors(&self) -> u32
+        ensures opens { result ≡ length self.now.engine.opens }
+        ensures cursors { result ≡ length (after self.now.engine.history).cursors }
     {
         self.engine.open_cursors()
     }
@@ -87,12 +118,30 @@ impl<S: Store + Reader<Ledger = Uncounted> + Drop> Core<S> {
         requires from { 1 ≤ session }
         requires to { session ≤ 8 }
         requires short { length text.now ≤ 4096 }
-        ensures ok { IfOk result (λ reply. Answers self.old.engine self.new.engine session text.now reply) }
-        ensures err { OnErr result (self.new.engine ≡ record self.old.engine { opens = self.new.engine.opens }) }
+        ensures ok { IfOk result (λ reply. Answers (under (S.shown self.old.engine.store) (would self.old.judge) self.old.beside) (state self.old.judge) (state self.new.judge) self.old.engine self.new.engine session text.now reply) }
+        ensures err { OnErr result (Unanswered (under (S.shown self.old.engine.store) (would self.old.judge) self.old.beside) (state self.old.judge) (state self.new.judge) self.old.engine self.new.engine session text.now) }
+        ensures rules { would self.new.judge ≡ would self.old.judge }
+        ensures sound { IsSound self.new.engine }
         ensures beside { self.new.beside ≡ self.old.beside }
     {
         self.engine
             .call(session, text, &mut self.judge, self.beside)
+    }
+
+    /// One turn's part of a call: as `call`, but that a FETCH makes one foreground step at most, with the background steps
+    /// behind it, and answers `Working` where that step only worked on.
+    pub fn call_step(&mut self, session: u8, text: &str) -> Result<PartOf, NoMemory>
+        requires from { 1 ≤ session }
+        requires to { session ≤ 8 }
+        requires short { length text.now ≤ 4096 }
+        ensures ok { IfOk result (λ part. AnswersPart (under (S.shown self.old.engine.store) (would self.old.judge) self.old.beside) (state self.old.judge) (state self.new.judge) self.old.engine self.new.engine session text.now part) }
+        ensures err { OnErr result (Unanswered (under (S.shown self.old.engine.store) (would self.old.judge) self.old.beside) (state self.old.judge) (state self.new.judge) self.old.engine self.new.engine session text.now) }
+        ensures rules { would self.new.judge ≡ would self.old.judge }
+        ensures sound { IsSound self.new.engine }
+        ensures beside { self.new.beside ≡ self.old.beside }
+    {
+        self.engine
+            .call_step(session, text, &mut self.judge, self.beside)
     }
 
     /// Takes the awaited piece of an open cursor: of those that await one, that with the lowest number above `after`, or
@@ -102,7 +151,8 @@ impl<S: Store + Reader<Ledger = Uncounted> + Drop> Core<S> {
         after: u64,
         steps: &mut Steps<Uncounted>,
     ) -> Result<Taken, NoMemory>
-        ensures taken { IfOk result (λ t. TakesNext (next_waiting after self.old.engine.opens) self.old.engine.opens self.new.engine.opens t) }
+        ensures taken { IfOk result (λ t. TakesNext (S.shown self.old.engine.store) (next_waiting after self.old.engine.opens) steps.old steps.new self.old.engine.opens self.new.engine.opens t) }
+        ensures tried { OnErr result (TriesNext (S.shown self.old.engine.store) (next_waiting after self.old.engine.opens) steps.old steps.new self.old.engine.opens self.new.engine.opens) }
         ensures same { self.new.engine ≡ record self.old.engine { opens = self.new.engine.opens } }
         ensures judge { self.new.judge ≡ self.old.judge }
         ensures beside { self.new.beside ≡ self.old.beside }
@@ -119,6 +169,9 @@ impl<S: Store + Reader<Ledger = Uncounted> + Drop> Core<S> {
     ) -> Result<Given, NoMemory>
         ensures given { IfOk result (λ g. GivesTo (numbered sieved.id.cursor self.old.engine.opens) (would self.old.judge) (state self.old.judge) (state self.new.judge) self.old.engine.opens sieved g self.new.engine.opens) }
         ensures same { self.new.engine ≡ record self.old.engine { opens = self.new.engine.opens } }
+        ensures err { OnErr result ((self.new.engine.opens ≡ self.old.engine.opens) × (state self.new.judge ≡ state self.old.judge)) }
+        ensures rules { would self.new.judge ≡ would self.old.judge }
+        ensures reads { steps.new ≡ steps.old }
         ensures beside { self.new.beside ≡ self.old.beside }
     {
         self.engine.give_piece(sieved, &mut self.judge, steps)
@@ -126,7 +179,7 @@ impl<S: Store + Reader<Ledger = Uncounted> + Drop> Core<S> {
 
     /// Takes away what no transaction needs of the store, a part at a time, as each answered call does too.
     pub fn sweep_step(&mut self)
-        ensures engine { self.new.engine ≡ record self.old.engine { horizon = horizon_of self.old.engine.db } }
+        ensures engine { self.new.engine ≡ record self.old.engine { store = self.new.engine.store; horizon = horizon_of self.old.engine.db } }
         ensures judge { self.new.judge ≡ self.old.judge }
         ensures beside { self.new.beside ≡ self.old.beside }
     {

@@ -10,5 +10,5 @@ pub mod replies;
 pub mod statements;
 pub mod storing;
 
-pub use engine::Engine;
+pub use engine::{Engine, PartOf};
 pub use judged::Core;

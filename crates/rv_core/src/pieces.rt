@@ -4,11 +4,13 @@ ghost use Rattle.std.specs.List.{AllByRecursion};
 ghost use Rattle.rv_catalog.specs.Schema.{Schema};
 ghost use Rattle.rv_reader.specs.Shown.{Shown};
 ghost use Rattle.rv_retrieval.specs.Given.{TakesPiece};
-ghost use Rattle.rv_join.specs.Pieces.{waited};
+ghost use Rattle.rv_retrieval.specs.Telling.{CountsRise};
+ghost use Rattle.rv_join.specs.Pieces.{TakesAwaited, plan_awaited, plan_pieces, waiting};
+ghost use Rattle.rv_join.specs.Plans.{PlanStays, plan_trace};
 ghost use Rattle.rv_model.specs.declared.transactions.Transaction.{Transaction};
-ghost use Rattle.rv_cursor.specs.Left.{CursorFits, Stays};
-ghost use Rattle.rv_core.specs.Db.{AreNumbered, IsOpen, seen};
-ghost use Rattle.rv_core.specs.Pieces.{GivesTo, TakesNext, is_waiting, next_waiting, numbered};
+ghost use Rattle.rv_cursor.specs.Left.{CursorFits, Stays, seen_by};
+ghost use Rattle.rv_core.specs.Db.{AreListed, IsOpen, seen};
+ghost use Rattle.rv_core.specs.Pieces.{GivesTo, TakesNext, TriesNext, is_waiting, next_waiting, numbered};
 
 use rv_cursor::Open;
 use rv_jscan::{Given, PieceId, Sieved, Taken};
@@ -68,7 +70,12 @@ fn take<R: Reader>(
     steps: &mut Steps<R::Ledger>,
 ) -> Result<Taken, NoMemory>
     requires fits { CursorFits (R.shown reader.now) cursor.old }
-    ensures taken { IfOk result (TakesPiece (waited cursor.old.plan cursor.new.plan)) }
+    ensures answers { IfOk result (TakesAwaited cursor.old.plan) }
+    ensures ready { IfOk result (TakesPiece (waiting cursor.new.plan)) }
+    ensures awaited { plan_awaited cursor.new.plan ≡ plan_awaited cursor.old.plan }
+    ensures pieces { plan_pieces cursor.new.plan ≡ plan_pieces cursor.old.plan }
+    ensures counts { CountsRise (plan_trace cursor.old.plan) (plan_trace cursor.new.plan) steps.old steps.new }
+    ensures kept { PlanStays (seen_by (R.shown reader.now) cursor.old) cursor.old.plan cursor.new.plan }
     ensures same { cursor.new ≡ record cursor.old { plan = cursor.new.plan } }
     ensures stays { Stays (R.shown reader.now) cursor.old cursor.new }
 {
@@ -89,10 +96,11 @@ pub fn take_at<S: Store + Reader<Ledger = Uncounted>>(
 ) -> Result<Taken, NoMemory>
     requires place { place < length cursors.old }
     requires fits { AllByRecursion (CursorFits (S.shown store.now)) cursors.old }
-    ensures taken { IfOk result (λ t. TakesNext (Some place) cursors.old cursors.new t) }
+    ensures taken { IfOk result (λ t. TakesNext (S.shown store.now) (Some place) steps.old steps.new cursors.old cursors.new t) }
+    ensures tried { OnErr result (TriesNext (S.shown store.now) (Some place) steps.old steps.new cursors.old cursors.new) }
     ensures seen { seen (S.shown store.now) cursors.new ≡ seen (S.shown store.now) cursors.old }
     ensures opens { (schema : Schema) (active : List Transaction) → AllByRecursion (IsOpen (S.shown store.now) schema active) cursors.old → AllByRecursion (IsOpen (S.shown store.now) schema active) cursors.new }
-    ensures numbers { (low high : ℕ) → AreNumbered low high cursors.old → AreNumbered low high cursors.new }
+    ensures listed { (next : ℕ) → AreListed next cursors.old → AreListed next cursors.new }
 {
     take(cursors.at_mut(place), store, steps)
 }
@@ -107,9 +115,12 @@ pub fn give_at<L: Drop>(
 ) -> Result<Given, NoMemory>
     requires place { place < length cursors.old }
     ensures given { IfOk result (λ g. GivesTo (Some place) (would judge.old) (state judge.old) (state judge.new) cursors.old sieved g cursors.new) }
+    ensures err { OnErr result ((cursors.new ≡ cursors.old) × (state judge.new ≡ state judge.old)) }
+    ensures rules { would judge.new ≡ would judge.old }
+    ensures reads { steps.new ≡ steps.old }
     ensures seen { (shown : Shown) → AllByRecursion (CursorFits shown) cursors.old → seen shown cursors.new ≡ seen shown cursors.old }
     ensures opens { (shown : Shown) (schema : Schema) (active : List Transaction) → AllByRecursion (IsOpen shown schema active) cursors.old → AllByRecursion (IsOpen shown schema active) cursors.new }
-    ensures numbers { (low high : ℕ) → AreNumbered low high cursors.old → AreNumbered low high cursors.new }
+    ensures listed { (next : ℕ) → AreListed next cursors.old → AreListed next cursors.new }
 {
     let cursor = cursors.at_mut(place);
     cursor.plan.give(sieved, judge, steps)

@@ -5,6 +5,7 @@ ghost use Rattle.rv_lang.specs.declared.reply.Reply.TheVariants.{Refused};
 ghost use Rattle.rv_model.specs.Database.{index_at};
 ghost use Rattle.rv_model.specs.Showing.{named, trace_named};
 ghost use Rattle.rv_model.specs.Step.{table_name};
+ghost use Rattle.rv_core.specs.Doing.{parted};
 
 use rv_catalog::{Catalog, IndexDef};
 use rv_cursor::twice;
@@ -18,6 +19,18 @@ pub fn refused(alloc: Global, refusal: Refusal) -> Result<(Reply, Reply), NoMemo
     ensures { IfOk result (λ replies. (replies.0 ≡ Refused refusal) × (replies.1 ≡ Refused refusal)) }
 {
     twice(alloc, Reply::Refused(refusal))
+}
+
+/// A call that is answered in one turn.
+pub fn answered(
+    replies: Result<(Reply, Reply), NoMemory>,
+) -> Result<Option<(Reply, Reply)>, NoMemory>
+    ensures { result ≡ parted replies }
+{
+    match replies {
+        Ok(replies) => Ok(Some(replies)),
+        Err(NoMemory) => Err(NoMemory),
+    }
 }
 
 /// A limit of the state.

@@ -1,5 +1,5 @@
 //! What a text asks, and what is done for it.
-ghost use Rattle.std.specs.Prelude.{◌≡◌, ◌≤◌, ◌<◌, ◌+◌, ◌-◌, ◌^◌, Ok, IfOk, IfSome, OnErr, length};
+ghost use Rattle.std.specs.Prelude.{◌≡◌, ◌≤◌, ◌<◌, ◌+◌, ◌-◌, ◌^◌, Ok, IfErr, IfOk, IfSome, OnErr, false, length};
 ghost use Rattle.rv_parse.specs.Needed.{HasParts};
 ghost use Rattle.rv_parse.specs.Reading.{statement_of};
 ghost use Rattle.rv_catalog.specs.Answers.{Gives};
@@ -7,17 +7,20 @@ ghost use Rattle.rv_catalog.specs.Fits.{FitsSchema};
 ghost use Rattle.rv_model.specs.Standing.{HasRoom};
 ghost use Rattle.rv_model.specs.Step.{understood};
 ghost use Rattle.rv_core.specs.Core.{horizon_of};
-ghost use Rattle.rv_core.specs.Doing.{DoesAsked, Executes, IsWhole};
-ghost use Rattle.rv_core.specs.Obeying.{Handles, HandlesText};
+ghost use Rattle.rv_core.specs.Doing.{DoesAsked, Executes, IsWhole, PartIs};
+ghost use Rattle.rv_core.specs.Obeying.{Handles, HandlesText, Leaves, LeavesText, Turns, TurnsText, Works, WorksText, is_fetch, plans_of, under};
+ghost use Rattle.rv_catalog.specs.declared.def.Resolved.TheVariants.{Fetch};
+ghost use Rattle.rv_lang.specs.declared.reply.Refusal.{Refusal as TheRefusal};
+ghost use Rattle.rv_lang.specs.declared.reply.Reply.TheVariants.{Refused};
 
 use crate::database::Database;
-use crate::replies::refused;
+use crate::replies::{answered, refused};
 use rv_catalog::{BindFault, Catalog, Resolved};
 use rv_judge::{Judge, Uncounted};
 use rv_lang::{Refusal, Reply, Statement};
 use rv_parse::read_statement;
 use rv_reader::{Reader, Store};
-use rv_value::NoMemory;
+use rv_value::{NoMemory, Text};
 use std::alloc::Global;
 
 /// The reply to a text, twice, with the step that it makes.
@@ -34,13 +37,86 @@ pub fn answer<S: Store + Reader<Ledger = Uncounted> + Drop>(
     requires numbers { database.old.opened < 2 ^ 64 - 1 }
     requires swept { database.old.stand.horizon ≡ horizon_of database.old.stand.db }
     ensures ok { IfOk result (λ replies. Executes database.old.stand session (statement_of text.now) replies database.new.stand) }
-    ensures handles { IfOk result (λ replies. HandlesText (statement_of text.now) database.old session replies.0 database.new.opens) }
+    ensures handles { IfOk result (λ replies. HandlesText (under (S.shown database.old.store) (would judge.old) beside) (statement_of text.now) database.old.stand.db session replies.0 (plans_of database.old (state judge.old)) (plans_of database.new (state judge.new))) }
+    ensures lost { OnErr result (LeavesText (under (S.shown database.old.store) (would judge.old) beside) (statement_of text.now) database.old.stand.db session (plans_of database.old (state judge.old)) (plans_of database.new (state judge.new))) }
+    ensures rules { would judge.new ≡ would judge.old }
     ensures err { OnErr result (database.new.stand ≡ database.old.stand) }
     ensures opened { database.new.opened ≤ database.old.opened + 1 }
     ensures unopened { OnErr result (database.new.opened ≡ database.old.opened) }
 {
     let statement = read_statement(alloc, text)?;
     execute(alloc, database, session, &statement, judge, beside)
+}
+
+/// One turn's part of a call: the reply to a text, twice, with the step that it makes, or none where it is a FETCH whose
+/// cursor has worked on.
+pub fn answer_step<S: Store + Reader<Ledger = Uncounted> + Drop>(
+    alloc: Global,
+    database: &mut Database<S>,
+    session: u8,
+    text: &str,
+    judge: &mut Box<dyn Judge>,
+    beside: u8,
+) -> Result<Option<(Reply, Reply)>, NoMemory>
+    requires short { length text.now ≤ 4096 }
+    requires room { HasRoom database.old.stand.db }
+    requires numbers { database.old.opened < 2 ^ 64 - 1 }
+    requires swept { database.old.stand.horizon ≡ horizon_of database.old.stand.db }
+    ensures ok { IfOk result (PartIs (λ replies. Executes database.old.stand session (statement_of text.now) replies database.new.stand) (database.new ≡ record database.old { opens = database.new.opens })) }
+    ensures handles { IfOk result (PartIs (λ replies. HandlesText (under (S.shown database.old.store) (would judge.old) beside) (statement_of text.now) database.old.stand.db session replies.0 (plans_of database.old (state judge.old)) (plans_of database.new (state judge.new))) (WorksText (under (S.shown database.old.store) (would judge.old) beside) (statement_of text.now) database.old.stand.db session (plans_of database.old (state judge.old)) (plans_of database.new (state judge.new)))) }
+    ensures turn { IfOk result (PartIs (λ replies. TurnsText (under (S.shown database.old.store) (would judge.old) beside) (statement_of text.now) database.old.stand.db session replies.0 (plans_of database.old (state judge.old)) (plans_of database.new (state judge.new))) (Unit {0})) }
+    ensures lost { OnErr result (LeavesText (under (S.shown database.old.store) (would judge.old) beside) (statement_of text.now) database.old.stand.db session (plans_of database.old (state judge.old)) (plans_of database.new (state judge.new))) }
+    ensures rules { would judge.new ≡ would judge.old }
+    ensures err { OnErr result (database.new.stand ≡ database.old.stand) }
+    ensures opened { database.new.opened ≤ database.old.opened + 1 }
+    ensures unopened { OnErr result (database.new.opened ≡ database.old.opened) }
+{
+    let statement = read_statement(alloc, text)?;
+    match understand(database.catalog(), &statement) {
+        Ok(asked) => turn(database, session, asked, judge, beside),
+        Err(BindFault::Refused(refusal)) => answered(refused(alloc, refusal)),
+        Err(BindFault::NoMemory) => Err(NoMemory),
+    }
+}
+
+/// The name of the cursor of a FETCH, or else what is asked.
+fn fetch_name(asked: Resolved) -> Result<Text, Resolved>
+    ensures name { IfOk result (λ name. asked ≡ Fetch name) }
+    ensures other { IfErr result (λ other. (other ≡ asked) × (is_fetch asked ≡ false)) }
+{
+    match asked {
+        Resolved::Fetch(name) => Ok(name),
+        other => Err(other),
+    }
+}
+
+/// One turn's part of what is asked.
+fn turn<S: Store + Reader<Ledger = Uncounted> + Drop>(
+    database: &mut Database<S>,
+    session: u8,
+    asked: Resolved,
+    judge: &mut Box<dyn Judge>,
+    beside: u8,
+) -> Result<Option<(Reply, Reply)>, NoMemory>
+    requires room { HasRoom database.old.stand.db }
+    requires numbers { database.old.opened < 2 ^ 64 - 1 }
+    requires swept { database.old.stand.horizon ≡ horizon_of database.old.stand.db }
+    requires fits { FitsSchema database.old.stand.db.schema asked }
+    requires whole { IsWhole asked }
+    ensures ok { IfOk result (PartIs (λ replies. DoesAsked (Ok asked) database.old.stand session replies database.new.stand) (database.new ≡ record database.old { opens = database.new.opens })) }
+    ensures handles { IfOk result (PartIs (λ replies. Handles (under (S.shown database.old.store) (would judge.old) beside) (Ok asked) database.old.stand.db session replies.0 (plans_of database.old (state judge.old)) (plans_of database.new (state judge.new))) (Works (under (S.shown database.old.store) (would judge.old) beside) (Ok asked) session (plans_of database.old (state judge.old)) (plans_of database.new (state judge.new)))) }
+    ensures refuses { (refusal : TheRefusal) → IfOk result (PartIs (λ replies. replies.0 ≡ Refused refusal → plans_of database.new (state judge.new) ≡ plans_of database.old (state judge.old)) (Unit {0})) }
+    ensures turn { IfOk result (PartIs (λ replies. Turns (under (S.shown database.old.store) (would judge.old) beside) (Ok asked) session replies.0 (plans_of database.old (state judge.old)) (plans_of database.new (state judge.new))) (Unit {0})) }
+    ensures lost { OnErr result (Leaves (under (S.shown database.old.store) (would judge.old) beside) (Ok asked) session (plans_of database.old (state judge.old)) (plans_of database.new (state judge.new))) }
+    ensures rules { would judge.new ≡ would judge.old }
+    ensures err { OnErr result (database.new.stand ≡ database.old.stand) }
+    ensures opened { database.new.opened ≤ database.old.opened + 1 }
+    ensures unopened { OnErr result (database.new.opened ≡ database.old.opened) }
+{
+    match fetch_name(asked) {
+        Ok(name) => database.fetch_step(session, name, judge, beside),
+        Err(other) => answered(perform(database, session, other, judge, beside)),
+    }
 }
 
 /// The reply to a statement, or to a text that is none.
@@ -57,7 +133,9 @@ fn execute<S: Store + Reader<Ledger = Uncounted> + Drop>(
     requires numbers { database.old.opened < 2 ^ 64 - 1 }
     requires swept { database.old.stand.horizon ≡ horizon_of database.old.stand.db }
     ensures ok { IfOk result (λ replies. Executes database.old.stand session statement.now replies database.new.stand) }
-    ensures handles { IfOk result (λ replies. HandlesText statement.now database.old session replies.0 database.new.opens) }
+    ensures handles { IfOk result (λ replies. HandlesText (under (S.shown database.old.store) (would judge.old) beside) (statement.now) database.old.stand.db session replies.0 (plans_of database.old (state judge.old)) (plans_of database.new (state judge.new))) }
+    ensures lost { OnErr result (LeavesText (under (S.shown database.old.store) (would judge.old) beside) (statement.now) database.old.stand.db session (plans_of database.old (state judge.old)) (plans_of database.new (state judge.new))) }
+    ensures rules { would judge.new ≡ would judge.old }
     ensures err { OnErr result (database.new.stand ≡ database.old.stand) }
     ensures opened { database.new.opened ≤ database.old.opened + 1 }
     ensures unopened { OnErr result (database.new.opened ≡ database.old.opened) }
@@ -96,7 +174,10 @@ fn perform<S: Store + Reader<Ledger = Uncounted> + Drop>(
     requires fits { FitsSchema database.old.stand.db.schema asked }
     requires whole { IsWhole asked }
     ensures ok { IfOk result (λ replies. DoesAsked (Ok asked) database.old.stand session replies database.new.stand) }
-    ensures handles { IfOk result (λ replies. Handles (Ok asked) database.old session replies.0 database.new.opens) }
+    ensures handles { IfOk result (λ replies. Handles (under (S.shown database.old.store) (would judge.old) beside) (Ok asked) database.old.stand.db session replies.0 (plans_of database.old (state judge.old)) (plans_of database.new (state judge.new))) }
+    ensures refuses { (refusal : TheRefusal) → IfOk result (λ replies. replies.0 ≡ Refused refusal → plans_of database.new (state judge.new) ≡ plans_of database.old (state judge.old)) }
+    ensures lost { OnErr result (Leaves (under (S.shown database.old.store) (would judge.old) beside) (Ok asked) session (plans_of database.old (state judge.old)) (plans_of database.new (state judge.new))) }
+    ensures rules { would judge.new ≡ would judge.old }
     ensures err { OnErr result (database.new.stand ≡ database.old.stand) }
     ensures opened { database.new.opened ≤ database.old.opened + 1 }
     ensures unopened { OnErr result (database.new.opened ≡ database.old.opened) }

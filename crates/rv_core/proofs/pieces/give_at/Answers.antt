@@ -2,7 +2,8 @@ use Rattle.std.proofs.Common.{refl}
 use Rattle.rv_cursor.specs.Left.{CursorFits}
 use Rattle.rv_core.specs.Db.{IsOpen}
 use Rattle.rv_core.proofs.Databases.{given_stays}
-use Rattle.rv_core.proofs.Numbering.{numbered_set}
+use Rattle.rv_core.proofs.Handling.{err_both, given_back}
+use Rattle.rv_core.proofs.Numbering.{listed_set}
 use Rattle.rv_core.proofs.Opens.{all_get, opens_at, same_at}
 use Rattle.rv_core.proofs.pieces.give_at.Goals as goal
 
@@ -20,7 +21,10 @@ returns-clause-opens g c shown schema active all =
     let s = given_stays shown cursor c.give.new.self c.give.ensures.fits c.give.ensures.stays here.fits in
     opens_at shown schema active c.args.cursors.now c.args.place cursor (record cursor { plan = c.give.new.self }) c.at_mut-cursor.ensures.value s.fits s.same all
 
-pub returns-clause-numbers : goal.returns-clause-numbers
-returns-clause-numbers g c low high n =
+pub returns-clause-listed : goal.returns-clause-listed
+returns-clause-listed g c n h =
     let cursor = c.at_mut-cursor.result.now in
-    numbered_set low high c.args.cursors.now c.args.place cursor (record cursor { plan = c.give.new.self }) c.at_mut-cursor.ensures.value refl n
+    listed_set n c.args.cursors.now c.args.place cursor (record cursor { plan = c.give.new.self }) c.at_mut-cursor.ensures.value refl refl h
+
+pub returns-clause-err : goal.returns-clause-err
+returns-clause-err g c = err_both c.give.result _ _ _ (λ same quiet. (given_back c.args.cursors.now c.args.place c.at_mut-cursor.result.now c.give.new.self c.at_mut-cursor.ensures.value same, quiet)) c.give.ensures.err c.give.ensures.quiet

@@ -5,7 +5,7 @@ pub fetch_at-requires-clause-fits : goal.fetch_at-requires-clause-fits
 fetch_at-requires-clause-fits g c = opens_fit (g.S.Reader.shown c.self.inside.store) c.self.inside.catalog c.self.inside.txns.active c.self.inside.cursors c.self.invariant.opens
 
 pub invariant_of-self : goal.invariant_of-self
-invariant_of-self g c = standing_at (g.S.Reader.shown c.self.inside.store) c.self.inside.catalog c.self.inside.txns c.self.inside.cursors c.fetch_at.new.cursors c.self.inside.opened c.fetch_at.ensures.opens c.fetch_at.ensures.numbers c.self.invariant
+invariant_of-self g c = standing_at (g.S.Reader.shown c.self.inside.store) c.self.inside.catalog c.self.inside.txns c.self.inside.cursors c.fetch_at.new.cursors c.self.inside.opened c.fetch_at.ensures.opens c.fetch_at.ensures.listed c.self.invariant
 
 pub invariant_of-self-2 : goal.invariant_of-self-2
-invariant_of-self-2 g c = standing_at (g.S.Reader.shown c.self.inside.store) c.self.inside.catalog c.self.inside.txns c.self.inside.cursors c.fetch_at.new.cursors c.self.inside.opened c.fetch_at.ensures.opens c.fetch_at.ensures.numbers c.self.invariant
+invariant_of-self-2 g c = standing_at (g.S.Reader.shown c.self.inside.store) c.self.inside.catalog c.self.inside.txns c.self.inside.cursors c.fetch_at.new.cursors c.self.inside.opened c.fetch_at.ensures.opens c.fetch_at.ensures.listed c.self.invariant

@@ -1,11 +1,8 @@
-use Rattle.std.proofs.Common.{List, ap}
-use Rattle.rv_model.specs.declared.state.Cursor.{Cursor}
-use Rattle.rv_core.specs.Db.{stand_of}
-use Rattle.rv_core.proofs.Databases.{opens_fit, standing_at}
+use Rattle.rv_core.proofs.Databases.{opens_fit, standing_at, whole_opens}
 use Rattle.rv_core.proofs.database.Database.give_piece.Goals as goal
 
 pub invariant_of-self : goal.invariant_of-self
-invariant_of-self g c = standing_at (g.S.Reader.shown c.self.inside.store) c.self.inside.catalog c.self.inside.txns c.self.inside.cursors c.give_at.new.cursors c.self.inside.opened (c.give_at.ensures.opens (g.S.Reader.shown c.self.inside.store)) c.give_at.ensures.numbers c.self.invariant
+invariant_of-self g c = standing_at (g.S.Reader.shown c.self.inside.store) c.self.inside.catalog c.self.inside.txns c.self.inside.cursors c.give_at.new.cursors c.self.inside.opened (c.give_at.ensures.opens (g.S.Reader.shown c.self.inside.store)) c.give_at.ensures.listed c.self.invariant
 
-pub returns-clause-stand : goal.returns-clause-stand
-returns-clause-stand g c = rw (← c.self.view_is) (ap (λ (cs : List Cursor). stand_of (g.S.Reader.shown c.self.inside.store) c.self.inside.catalog c.self.inside.txns cs) (c.give_at.ensures.seen (g.S.Reader.shown c.self.inside.store) (opens_fit (g.S.Reader.shown c.self.inside.store) c.self.inside.catalog c.self.inside.txns.active c.self.inside.cursors c.self.invariant.opens)))
+pub returns-clause-same : goal.returns-clause-same
+returns-clause-same g c = rw (← c.self.view_is) (whole_opens c.self.inside.store (g.S.Reader.shown c.self.inside.store) c.self.inside.catalog c.self.inside.txns c.self.inside.cursors c.give_at.new.cursors c.self.inside.opened (c.give_at.ensures.seen (g.S.Reader.shown c.self.inside.store) (opens_fit (g.S.Reader.shown c.self.inside.store) c.self.inside.catalog c.self.inside.txns.active c.self.inside.cursors c.self.invariant.opens)))

@@ -1,7 +1,8 @@
-use Rattle.std.proofs.Common.{◌≡◌, ◌∙◌, ◌++◌, ◌∷◌, [], Err, ℕ, ap, sym, subst}
+use Rattle.std.proofs.Common.{◌≡◌, ◌∙◌, ◌+◌, ◌++◌, ◌∷◌, [], Err, List, ℕ, ap, arith, sym, subst}
 use Rattle.rv_snapshot.specs.Alone.{alone}
 use Rattle.rv_join.specs.Plans.{LeadsWith}
 use Rattle.rv_model.specs.declared.state.Cursor.{Cursor}
+use Rattle.rv_cursor.specs.declared.cursor.Open.{Open}
 use Rattle.rv_core.specs.Db.{base_of, seen}
 use Rattle.rv_core.specs.Doing.{opening_base}
 use Rattle.rv_core.proofs.Calling.{opened_rows, opening_snapshot, opens_does, opens_refused}
@@ -26,7 +27,7 @@ pub invariant_of-self-2 : goal.invariant_of-self-2
 invariant_of-self-2 g c =
     let shown = g.S.Reader.shown c.self.inside.store in
     let fresh = fresh_open shown c.self.inside.catalog c.self.inside.txns (seen shown c.self.inside.cursors) c.args.session c.in-Ok.base c.args.name c.as_slice.result.now c.in-Ok-plan_cursor.cursor (c.in-Ok.ensures.ok shown) c.in-Ok-plan_cursor.ensures.session c.in-Ok-plan_cursor.ensures.snap c.in-Ok-plan_cursor.ensures.fits c.in-Ok-plan_cursor.ensures.over in
-    opens_standing shown c.self.inside.catalog c.self.inside.txns c.self.inside.cursors c.push.new.self c.in-Ok-plan_cursor.cursor c.self.inside.opened c.in-Ok-push.ensures.ok c.in-Ok-plan_cursor.ensures.number fresh c.self.invariant
+    opens_standing shown c.self.inside.catalog c.self.inside.txns c.self.inside.cursors c.push.new.self c.in-Ok-plan_cursor.cursor c.self.inside.opened c.in-Ok-push.ensures.ok c.in-Ok-plan_cursor.ensures.number (let own = c.in-Ok-plan_cursor.ensures.session in omega (arith, own)) (rw c.in-Ok-plan_cursor.ensures.session c.in-Ok.ensures.room) fresh c.self.invariant
 
 pub returns-clause-ok : goal.returns-clause-ok
 returns-clause-ok g c =
@@ -36,20 +37,19 @@ returns-clause-ok g c =
     rw (← c.self.view_is) (opens_does shown c.self.inside.catalog c.self.inside.txns (seen shown c.self.inside.cursors) (seen shown c.push.new.self) c.args.session c.in-Ok.base c.args.name c.args.select.now (rw c.as_slice.ensures at (c.in-Ok.ensures.ok shown)) query.there pushed)
 
 pub returns-clause-adds : goal.returns-clause-adds
-returns-clause-adds g c opened =
+returns-clause-adds g c judge opened =
     let shown = g.S.Reader.shown c.self.inside.store in
     let fresh = fresh_open shown c.self.inside.catalog c.self.inside.txns (seen shown c.self.inside.cursors) c.args.session c.in-Ok.base c.args.name c.as_slice.result.now c.in-Ok-plan_cursor.cursor (c.in-Ok.ensures.ok shown) c.in-Ok-plan_cursor.ensures.session c.in-Ok-plan_cursor.ensures.snap c.in-Ok-plan_cursor.ensures.fits c.in-Ok-plan_cursor.ensures.over in
     let at = c.in-Ok-plan_cursor.ensures.snap in
     let query = rw (← c.self.view_is) at c.requires.query in
     rw (← c.self.view_is) record {
       cursor = c.in-Ok-plan_cursor.cursor;
-      added = c.in-Ok-push.ensures.ok;
+      added = ap (λ (cs : List Open). record { opens = cs; opened = c.self.inside.opened + 1; judge = judge }) c.in-Ok-push.ensures.ok;
       owner = c.in-Ok-plan_cursor.ensures.session;
       called = c.in-Ok-plan_cursor.ensures.name;
       number = c.in-Ok-plan_cursor.ensures.number;
       base = ap (λ (s : ℕ). base_of c.self.inside.txns.active s) (sym c.in-Ok-plan_cursor.ensures.session) ∙ fresh.base;
       asked = opened_asked c.args.select.now c.self.inside.catalog.indexes c.in-Ok.base c.self.inside.opened c.in-Ok-plan_cursor.cursor at c.in-Ok-plan_cursor.ensures.number c.in-Ok-plan_cursor.ensures.asked;
-      reader = shown;
       rows = opened_rows shown c.self.inside.catalog c.self.inside.txns (seen shown c.self.inside.cursors) c.args.session c.in-Ok.base c.in-Ok-plan_cursor.cursor.snap c.args.name c.args.select.now.tables (rw c.as_slice.ensures at (c.in-Ok.ensures.ok shown)) at query.there;
       fits = c.in-Ok-plan_cursor.ensures.fits;
       leads = subst (λ (n : ℕ). LeadsWith (alone shown n) c.in-Ok-plan_cursor.cursor.plan) (sym at) c.in-Ok-plan_cursor.ensures.leads;

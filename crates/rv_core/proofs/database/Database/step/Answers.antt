@@ -5,7 +5,7 @@ pub step_at-requires-clause-fits : goal.step_at-requires-clause-fits
 step_at-requires-clause-fits g c = opens_fit (g.S.Reader.shown c.self.inside.store) c.self.inside.catalog c.self.inside.txns.active c.self.inside.cursors c.self.invariant.opens
 
 pub invariant_of-self : goal.invariant_of-self
-invariant_of-self g c = standing_at (g.S.Reader.shown c.self.inside.store) c.self.inside.catalog c.self.inside.txns c.self.inside.cursors c.step_at.new.cursors c.self.inside.opened c.step_at.ensures.opens c.step_at.ensures.numbers c.self.invariant
+invariant_of-self g c = standing_at (g.S.Reader.shown c.self.inside.store) c.self.inside.catalog c.self.inside.txns c.self.inside.cursors c.step_at.new.cursors c.self.inside.opened c.step_at.ensures.opens c.step_at.ensures.listed c.self.invariant
 
 pub invariant_of-self-2 : goal.invariant_of-self-2
-invariant_of-self-2 g c = standing_at (g.S.Reader.shown c.self.inside.store) c.self.inside.catalog c.self.inside.txns c.self.inside.cursors c.step_at.new.cursors c.self.inside.opened c.step_at.ensures.opens c.step_at.ensures.numbers c.self.invariant
+invariant_of-self-2 g c = standing_at (g.S.Reader.shown c.self.inside.store) c.self.inside.catalog c.self.inside.txns c.self.inside.cursors c.step_at.new.cursors c.self.inside.opened c.step_at.ensures.opens c.step_at.ensures.listed c.self.invariant

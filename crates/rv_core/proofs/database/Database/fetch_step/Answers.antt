@@ -1,0 +1,19 @@
+use Rattle.std.proofs.Common.{◌∙◌, sym}
+use Rattle.rv_core.proofs.Facts.{if_ok}
+use Rattle.rv_core.proofs.Handling.{parted_ok, refused_fetch}
+use Rattle.rv_core.proofs.Databases.{opens_fit, standing_at}
+use Rattle.rv_core.proofs.database.Database.fetch_step.Goals as goal
+
+pub fetch_step_at-requires-clause-fits : goal.fetch_step_at-requires-clause-fits
+fetch_step_at-requires-clause-fits g c = opens_fit (g.S.Reader.shown c.self.inside.store) c.self.inside.catalog c.self.inside.txns.active c.self.inside.cursors c.self.invariant.opens
+
+pub invariant_of-self : goal.invariant_of-self
+invariant_of-self g c = standing_at (g.S.Reader.shown c.self.inside.store) c.self.inside.catalog c.self.inside.txns c.self.inside.cursors c.fetch_step_at.new.cursors c.self.inside.opened c.fetch_step_at.ensures.opens c.fetch_step_at.ensures.listed c.self.invariant
+
+pub invariant_of-self-2 : goal.invariant_of-self-2
+invariant_of-self-2 g c = standing_at (g.S.Reader.shown c.self.inside.store) c.self.inside.catalog c.self.inside.txns c.self.inside.cursors c.fetch_step_at.new.cursors c.self.inside.opened c.fetch_step_at.ensures.opens c.fetch_step_at.ensures.listed c.self.invariant
+
+pub returns-in_default-clause-ok : goal.returns-in_default-clause-ok
+returns-in_default-clause-ok g c =
+    let none = sym (c.cursor_named.ensures.seen (g.S.Reader.shown c.self.inside.store)) ∙ c.in_default.is in
+    rw (← c.self.view_is, c.answered.ensures) (parted_ok c.refused.result _ _ (if_ok c.refused.result _ _ (λ replies k. refused_fetch _ c.args.session c.args.name replies none k) c.refused.ensures))
