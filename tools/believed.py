@@ -357,7 +357,7 @@ def totals(files):
 
 
 ROW = re.compile(r"^\| `(crates/[^`]+)` \|(.*)\| *(\d+) *\| *(\d+) *\|$")
-KIT = re.compile(r"^\| `(std\.[^`]+|[a-z_]+\.specs\.[^`]+)` \| (.*) \|$")
+KIT = re.compile(r"^\| `(std\.[^`]+|[a-z_]+\.specs\.[^`]+)` \|(.*)\|$")
 TOTAL = re.compile(r"\*\*(\d[\d,]*) definitions in (\d+) files, (\d[\d,]*) lines, and (\d+) data types of (\d[\d,]*) lines\*\*")
 
 
@@ -379,7 +379,7 @@ def compare(page, specs, sources, kit):
             if not row[2].strip():
                 wrong.append("%s: no sentence says what it is" % row[1])
         elif kit_row:
-            said_kit[kit_row[1]] = set(re.findall(r"`([^`]+)`", kit_row[2]))
+            said_kit[kit_row[1]] = set(re.findall(r"`([^`]+)`", kit_row[2].replace("\\|", "|")))
     is_so = dict(specs)
     is_so.update(sources)
     for name in sorted(set(is_so) | set(said)):
@@ -409,7 +409,7 @@ def updated(page, specs, sources, kit):
         if row and row[1] in is_so:
             line = "| `%s` |%s| %d | %d |" % ((row[1], row[2]) + is_so[row[1]])
         elif kit_row and kit_row[1] in kit:
-            line = "| `%s` | %s |" % (kit_row[1], " ".join("`%s`" % n for n in sorted(kit[kit_row[1]])))
+            line = "| `%s` | %s |" % (kit_row[1], " ".join("`%s`" % n.replace("|", "\\|") for n in sorted(kit[kit_row[1]])))
         lines.append(TOTAL.sub(lambda m: total_line(specs, sources), line))
     return "\n".join(lines)
 
