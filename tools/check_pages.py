@@ -25,6 +25,7 @@ TICKED = re.compile(r"`([^`\n]+)`")
 LINK = re.compile(r"\]\(([^)#\s]+)[^)]*\)")
 NAME = re.compile(r"^[A-Za-z_]\w*(?:(?:::|\.)[A-Za-z_]\w*)*(?:\(\))?!?$")
 WORD = re.compile(r"[A-Za-z_]\w*")
+DEFINED = re.compile(r"^(?:(?:pub|abbrev|unfoldable|record|lemma|where)\s+)*([A-Za-z_]\w*)", re.M)
 EXTENSIONS = (".rt", ".antt", ".py", ".md", ".sh", ".edit", ".txt", ".transcript")
 LIST = r"((?:`[^`\n]+`(?:, | and |, and )?)+)"
 OF_CRATE = re.compile(LIST + r" (?:of|in) `?([a-z]+_[a-z]+)`?(?![\w/:.])")
@@ -52,25 +53,29 @@ class Repository:
                 name, _, rest = line.partition(":")
                 self.crates.append(name)
                 self.uses[name] = rest.split()
-        self.words, self.by_crate = set(), {}
+        self.words, self.by_crate, self.names = set(), {}, {}
         for crate in self.crates:
-            own = {crate}
-            for path in glob.glob(os.path.join(top, "crates", crate, "**", "*"), recursive=True):
-                if path.endswith((".rt", ".antt", ".edit")):
-                    own.update(WORD.findall(read(path)))
-                    own.add(os.path.splitext(os.path.basename(path))[0])
-            self.by_crate[crate] = own
-            self.words |= own
-        for path in glob.glob(os.path.join(top, "tools", "**", "*"), recursive=True):
-            if path.endswith((".py", ".sh")):
-                self.words.update(WORD.findall(read(path)))
-        for path in glob.glob(os.path.join(top, "examples", "*")) + glob.glob(os.path.join(top, "tools", "*")):
-            name = os.path.basename(path)
-            self.words.update(WORD.findall(name))
-            if os.path.isfile(path):
-                self.words.update(WORD.findall(read(path)))
+            self.by_crate[crate] = {crate} | self.words_below(os.path.join("crates", crate), (".rt", ".antt", ".edit"))
+            self.words |= self.by_crate[crate]
+        self.words |= self.words_below("tools", (".py", ".sh")) | self.words_below("examples", None)
         for kit in self.uses.values():
             self.words.update(kit)
+
+    def words_below(self, folder, endings):
+        """The words of the files below a folder, of proofs only those that they define; and the files' own names."""
+        words = set()
+        for place, folders, names in os.walk(os.path.join(self.top, folder)):
+            folders[:] = [name for name in folders if name not in ("out", ".git", "__pycache__")]
+            for name in names:
+                if endings is None or name.endswith(endings):
+                    path = os.path.join(place, name)
+                    self.names.setdefault(name, []).append(path)
+                    words.update(WORD.findall(name))
+                    if name.endswith(".antt") and "/proofs" in place:
+                        words.update(DEFINED.findall(read(path)))
+                    else:
+                        words.update(WORD.findall(read(path)))
+        return words
 
     def pages(self):
         names = ["README.md"] + sorted(os.path.relpath(p, self.top) for p in glob.glob(os.path.join(self.top, "docs", "*.md")))
@@ -84,10 +89,12 @@ class Repository:
         if page.startswith("docs/") or page == "README.md":
             if name.split("/")[0] in ("src", "specs", "proofs", "must-fail"):
                 folders += [os.path.join(self.top, "crates", c) for c in self.crates]
-        found = [p for folder in folders for p in glob.glob(os.path.join(folder, name))]
+        if "*" in name:
+            return [p for folder in folders for p in glob.glob(os.path.join(folder, name))]
+        found = [p for p in (os.path.join(folder, name) for folder in folders) if os.path.exists(p)]
         if not found and "/" not in name:
-            part = page.split("/")[1] if page.startswith("crates/") else "*"
-            found = glob.glob(os.path.join(self.top, "crates", part, "**", name), recursive=True)
+            own = os.path.join(self.top, os.path.dirname(page), "") if page.startswith("crates/") else ""
+            found = [p for p in self.names.get(name, []) if p.startswith(own)]
         return found
 
 
@@ -119,7 +126,7 @@ def sentences(lines):
 
 
 def is_path(name):
-    if name.startswith(("http", "/", "~", "-")) or " " in name or ".." in name or "<" in name or "\\" in name:
+    if not re.fullmatch(r"[\w.*/-]+", name, re.A) or name.startswith(("/", "-")) or ".." in name:
         return False
     return "/" in name and not name.startswith("./rvdyn") or name.endswith(EXTENSIONS) and len(name) > 4
 
