@@ -84,7 +84,7 @@ class Repository:
 
     def paths(self, page, name):
         """The files that a path in a page may mean. A name without a folder is some file of the crate's."""
-        name = name.rstrip("/")
+        name = name.rstrip("/").replace("NAME", "*")
         folders = [self.top, os.path.dirname(os.path.join(self.top, page))]
         if page.startswith("docs/") or page == "README.md":
             if name.split("/")[0] in ("src", "specs", "proofs", "must-fail"):
