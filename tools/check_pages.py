@@ -7,6 +7,7 @@ Fails where a page
   - names in backticks what no source, specification, proof or tool has: a call, a clause, a type, a word;
   - says "`x` of rv_y", "`x` of `path`" or "`x` in `path`" where rv_y or the file has no x;
   - says in a crate's page that the program does not use the crate, although crates.txt says that it does;
+  - has a block ```excerpt FILE that does not stand in FILE as it is;
 or where a crate has no page, or one of fewer than 10 or more than 60 lines, or README.md is over 8,192 bytes.
 Every sentence with "yet", "not built", "no clause" or "to come" is listed with --yet, to be read again.
 
@@ -31,6 +32,7 @@ LIST = r"((?:`[^`\n]+`(?:, | and |, and )?)+)"
 OF_CRATE = re.compile(LIST + r" (?:of|in) `?([a-z]+_[a-z]+)`?(?![\w/:.])")
 OF_PATH = re.compile(LIST + r" (?:of|in) `([\w*./-]+/[\w.*-]+)`")
 PATH_OF = re.compile(r"`([\w.-]+(?:/[\w.-]+)+)` of `?([a-z]+_[a-z]+)`?(?![\w/:.])")
+EXCERPT = re.compile(r"^```excerpt (\S+)\n(.*?)^```$", re.M | re.S)
 YET = re.compile(r"\byet\b|not built|[Nn]o clause|\bto come\b")
 # Names that are another's: of the kit, of its prover, of the system; words of the language; patterns of names.
 FOREIGN = set("""rt cc omega grind simp rw subst search absurd elim ap refl let unfolding git python3 sqlite3
@@ -166,6 +168,10 @@ def check_page(repository, page, coming):
             for name in TICKED.findall(names)[-1:]:
                 if files and NAME.match(name) and not notes and not set(WORD.findall(name)) <= inside:
                     yield number, "`%s` is not in %s" % (name, path)
+    for block in EXCERPT.finditer(text):
+        files = repository.paths(page, block[1])
+        if not files or "\n" + block[2] not in "\n" + read(files[0]):
+            yield text.count("\n", 0, block.start()) + 1, "the excerpt does not stand in %s" % block[1]
     if page.startswith("crates/"):
         crate = page.split("/")[1]
         count = len(text.rstrip("\n").split("\n"))
@@ -210,7 +216,7 @@ def self_test():
         write("crates/rv_a/README.md", "# rv_a\n`good` in `src/lib.rt`. The program does not use it.\n" + lines + "end\n")
         write("crates/rv_b/README.md", "# rv_b\nIt is not proved yet. `src/gone.rt`\n")
         write("README.md", "`good` of rv_a, `good` and `other` of rv_b, `nothing`, `docs/NO.md`, [x](docs/COMING.md) `specs/X.antt`\n"
-              "```\n`unseen`\n```\n`other` of `specs/X.antt` `kept` of `specs/X.antt` `rt check`\n" + "x" * 8200)
+              "```\n`unseen`\n```\n```excerpt crates.txt\nrv_b:\nrv_c:\n```\n```excerpt crates.txt\nrv_b:\n```\n`other` of `specs/X.antt` `kept` of `specs/X.antt` `rt check`\n" + "x" * 8200)
         found = sorted("%s %s" % (p, w) for p, _, w in check(Repository(top), {"docs/COMING.md"}))
         wanted = sorted([
             "crates/rv_cli has no README.md",
@@ -221,6 +227,7 @@ def self_test():
             "README.md `docs/NO.md` is not there",
             "README.md `good` is not in rv_b",
             "README.md `kept` is not in specs/X.antt",
+            "README.md the excerpt does not stand in crates.txt",
             "README.md %d bytes, at most 8,192 are wanted" % len(read(os.path.join(top, "README.md"))),
         ])
         assert found == wanted, "\n".join(sorted(set(found) ^ set(wanted)))

@@ -1,5 +1,5 @@
 #!/usr/bin/env python3
-"""Runs the examples of README.md, docs/LANGUAGE.md, docs/TRACES.md and examples/ through a program, and compares what it writes.
+"""Runs the examples of docs/LANGUAGE.md and of examples/ through a program, and compares what it writes.
 
 usage: tools/doc_examples.py PROGRAM [words of its own]
 
@@ -23,10 +23,6 @@ def blocks(text):
     return [(words.split(), body) for words, body in re.findall(r"^```(\w[^\n]*)\n(.*?)^```$", text, re.M | re.S)]
 
 
-def kinds(page):
-    return [((words[0], words[1:]), body) for words, body in blocks(read(page)) if words[0] in ("transcript", "run", "excerpt")]
-
-
 def written(command, script):
     ran = subprocess.run(command, input=script.encode(), capture_output=True, timeout=600)
     return ran.stdout.decode() if ran.returncode == 0 else f"status {ran.returncode}: {ran.stderr.decode()}"
@@ -47,13 +43,12 @@ def main(args):
     if not args:
         sys.exit(__doc__)
     wrong, count = 0, 0
-    pages = ["README.md", "docs/LANGUAGE.md", "docs/TRACES.md"]
-    for page, kind, words, body in [(page, *block[0], block[1]) for page in pages for block in kinds(page)]:
+    for (kind, *words), body in blocks(read("docs/LANGUAGE.md")):
         count += 1
         difference = differs(args, kind, words, body)
         if difference is not None:
             wrong += 1
-            print(f"{page}, {kind} {' '.join(words)} {body.split(chr(10))[0]!r}: {difference}")
+            print(f"LANGUAGE.md, {kind} {' '.join(words)} {body.split(chr(10))[0]!r}: {difference}")
     for name in sorted(os.listdir(os.path.join(TOP, "examples"))):
         if not name.endswith(".transcript"):
             count += 1
