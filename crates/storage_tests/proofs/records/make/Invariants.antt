@@ -1,6 +1,6 @@
 use Rattle.std.proofs.Common.{◌≡◌, ◌+◌}
 use Rattle.rv_records.specs.Pages.{IsBelow}
-use Rattle.rv_records.proofs.tests.make.Given as goal
+use Rattle.storage_tests.proofs.records.make.Given as goal
 
 abbrev pub invariant-changes : goal.invariant-changes
 invariant-changes l = record {

@@ -1,5 +1,5 @@
 use Rattle.std.proofs.Common.{◌≡◌, length}
-use Rattle.rv_node.proofs.tests.children_for.Given as goal
+use Rattle.storage_tests.proofs.nodes.children_for.Given as goal
 
 abbrev pub invariant-lows : goal.invariant-lows
 invariant-lows l = record {

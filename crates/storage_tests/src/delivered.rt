@@ -1,4 +1,4 @@
-use crate::Delivered;
+use rv_delivered::Delivered;
 use rv_value::{NoMemory, RowNo};
 
 #[test]

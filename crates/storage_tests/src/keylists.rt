@@ -1,6 +1,6 @@
 ghost use Rattle.std.specs.Prelude.{◌≡◌, IfOk, length, true, false};
 
-use crate::{KeyList, Stage};
+use rv_keylist::{KeyList, Stage};
 use rv_value::{NoMemory, RowNo};
 use std::alloc::Global;
 use std::process::Abort;

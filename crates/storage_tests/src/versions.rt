@@ -1,4 +1,4 @@
-use crate::Versions;
+use rv_versions::Versions;
 use std::test::Fail;
 
 #[test]

@@ -1,7 +1,7 @@
 ghost use Rattle.std.specs.Prelude.{◌≡◌, ◌+◌, ◌<◌, ◌≤◌};
 ghost use Rattle.rv_records.specs.Pages.{IsBelow};
 
-use crate::Records;
+use rv_records::Records;
 use rv_rows::Rows;
 use rv_value::{Duplicate, NoMemory, Record, RowNo, Value, Values, copy_slice};
 use std::alloc::Global;
