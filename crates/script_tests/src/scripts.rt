@@ -1,4 +1,4 @@
-use crate::*;
+use rv_script::{Script, ScriptFault, read_script};
 use std::alloc::Global;
 use std::process::Abort;
 use std::test::Fail;

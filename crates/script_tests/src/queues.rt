@@ -1,5 +1,5 @@
-use crate::offers::cmp_offer;
-use crate::*;
+use rv_model::offers::cmp_offer;
+use rv_model::{Offer, Queue};
 use rv_value::{NoMemory, Value, Values};
 use std::alloc::Global;
 use std::cmp::Ordering;

@@ -1,5 +1,5 @@
 //! The generated script against lines that were written by the rules in words, and summaries counted by hand.
-use crate::*;
+use rv_gen::{generate, summary_of, write_summary};
 use rv_io::MemSink;
 use rv_model::{Entry, Refusal, Reply};
 use rv_script::{Phase, Script};

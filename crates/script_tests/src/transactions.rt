@@ -1,7 +1,7 @@
 ghost use Rattle.std.specs.Prelude.{◌≡◌, ◌≤◌, ◌+◌, ◌<◌};
 
-use crate::*;
 use rv_model::Refusal;
+use rv_txn::{Standing, TxnFault, Txns};
 use rv_value::{NoMemory, RowNo, Value, Values};
 use std::alloc::Global;
 use std::test::Fail;
@@ -11,7 +11,7 @@ fn one_value(alloc: Global, n: i64) -> Result<Values, NoMemory> {
 }
 
 /// Begins a transaction.
-#[tactic(auto, using(crate::proofs::Beginning::began_next))]
+#[tactic(auto, using(rv_txn::proofs::Beginning::began_next))]
 fn begin(txns: &mut Txns, session: u8, read_only: bool, base: u64) -> Result<u64, TxnFault>
     requires { txns.old.next < 1000 }
     ensures { txns.new.next ≤ txns.old.next + 1 }

@@ -1,6 +1,6 @@
 //! A join of two lists by hand, and a trace under the name of an index.
-use crate::{may_show, offers_over};
 use rv_catalog::{Goal, IndexDef, Select};
+use rv_decide::{may_show, offers_over};
 use rv_judge::{Control, Strategy};
 use rv_lang::{Shown, ShownEvent};
 use rv_restrict::{Atom, ColRef, Op, Operand, Restriction};

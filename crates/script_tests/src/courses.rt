@@ -1,5 +1,5 @@
 //! Traces that were worked out by hand, and traces that no run leaves.
-use crate::is_allowed;
+use rv_course::is_allowed;
 use rv_judge::{Control, Event, Strategy};
 
 #[test]
