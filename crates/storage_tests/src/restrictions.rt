@@ -85,13 +85,19 @@ fn parts_compare_by_columns_and_atoms(rt: HostRuntime) -> Result<(), Fail> {
 
 /// Column 0 of place 0 less than column 0 of place 1, bound at place 1 behind a row (5).
 fn bind_at_five(alloc: Global) -> Result<Restriction, NoMemory> {
-    let outer = Operand::Column(ColRef {
-        place: 1,
-        column: 0,
-    });
-    let mut groups = Vec::new(alloc);
-    groups.push(compares(alloc, column(0), Op::Lt, outer)?)?;
-    let only = Restriction::from_groups(groups);
+    let less = Atom::Compare {
+        column: ColRef {
+            place: 0,
+            column: 0,
+        },
+        op: Op::Lt,
+        operand: Operand::Column(ColRef {
+            place: 1,
+            column: 0,
+        }),
+    };
+    let group = vec![in alloc; less]?;
+    let only = Restriction::from_groups(vec![in alloc; group]?);
     let row = Values::from_vec(vec![in alloc; Value::Int(5)]?);
     only.bind(alloc, 1, std::slice::from_ref(&row))
 }
