@@ -3,9 +3,9 @@
 
 usage: tools/random_scripts.py PROGRAM [COUNT [SEED]] [--exact | --beside PROGRAM]
 
-The evaluation (one_thread.py) shares no code with the program and reads no text: each script is made as a list of statements
+The evaluation (model/database.py) shares no code with the program and reads no text: each script is made as a list of statements
 with their meaning, and spelled at random. A FETCH may give any row whose order values equal those of the first that is left; a
-STEP answers a number that is not above the one asked for; a trace is a front of a course (course.py), only grows, and counts
+STEP answers a number that is not above the one asked for; a trace is a front of a course (model/course.py), only grows, and counts
 what was stepped. With --exact each transcript is also the one that slow_program.py writes, traces and all.
 
 With --beside a second program, or the same one over another store (tools/plain_program.sh builds the one over the plain
@@ -18,9 +18,9 @@ import random
 import subprocess
 import sys
 
-from course import Seen
-from one_thread import COMPARISONS, Database, shown
-from slow_program import run
+from model.course import Seen
+from model.database import COMPARISONS, Database, shown
+from model.program import run
 
 
 class Checked(Database):

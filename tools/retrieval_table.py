@@ -13,12 +13,12 @@ halves. An entry belongs to the last child that does not begin above it. An esti
 may have the range; where k > 1 children may, at level l, it is (k - 1) * 16 ** l, and not exact.
 
 A retrieval is asked for the rows whose columns lie in spans, by some of the indexes, with some columns, in the order of
-the third column or in any, the first rows soon or all rows soon. How it goes is written in slow_retrieval.py."""
+the third column or in any, the first rows soon or all rows soon. How it goes is written in model/retrieval.py."""
 
 import bisect
 import sys
 
-from slow_retrieval import LEAF, PAGE, Counts, Retrieval
+from model.retrieval import LEAF, PAGE, Counts, Retrieval
 
 NULL = (0, 0)
 NAMES = ["IA", "IB", "ICA", "IC"]
