@@ -1,5 +1,5 @@
 #!/usr/bin/env python3
-"""Runs the examples of docs/ and of examples/ through a program, and tells where it writes something else.
+"""Runs the examples of README.md, docs/ and examples/ through a program, and tells where it writes something else.
 
 A block ```transcript of a page is a transcript, from an empty database on; words behind it are the program's. A block ```run
 has words, and what is written without a script. A block ```excerpt FILE stands in that file as it is. Each file of examples/
@@ -50,9 +50,9 @@ def of_file(command: list[str], script: Path) -> str | None:
 
 def differences(command: list[str]) -> Iterator[tuple[str, str | None]]:
     """Each example and how it differs, or None."""
-    for page in sorted((TOP / "docs").glob("*.md")):
+    for page in [TOP / "README.md", *sorted((TOP / "docs").glob("*.md"))]:
         for kind, words, body in BLOCK.findall(page.read_text(encoding="utf-8")):
-            name = f"docs/{page.name}, {kind}{words} {body.split(chr(10))[0]!r}"
+            name = f"{page.name}, {kind}{words} {body.split(chr(10))[0]!r}"
             yield name, of_block(command, kind, words.split(), body)
     for script in sorted((TOP / "examples").iterdir()):
         if script.suffix != ".transcript" and script.is_file():
