@@ -54,12 +54,26 @@ class NotThere(Exception):
     """The script has no such cursor."""
 
 
-def courses(script: str, session: int | None, cursor: str | None, number: int, judge: int | None, steps: int) -> Course:
-    """The course of the cursor that is opened by this session, under this name, for the number-th time; where the session
-    or the name is not given, the first that fits."""
+@dataclass
+class Sought:
+    """Which opening is looked for: of this session and name (None: of any), the number-th that fits."""
+
+    session: int | None
+    cursor: str | None
+    number: int
+
+    def is_found(self, call: Call, said: tuple, reply: str) -> bool:
+        fits = said[0] == "open" and reply == "opened" and self.session in (None, call.session) and self.cursor in (None, said[1])
+        self.number -= fits
+        return fits and self.number == 0
+
+
+def course_of(script: str, sought: Sought, judge: int | None, steps: int) -> Course:
+    """The course of a cursor, until it is closed or the script ends. A judge that is given rules the whole run."""
     log: list[tuple] = []
     run = Session(judge or 0, steps, log=log)
     found: Course | None = None
+    key = None
     for call in calls_of(script):
         if isinstance(call, Mark):
             run.mark(call.judge if judge is None else None)
@@ -68,18 +82,15 @@ def courses(script: str, session: int | None, cursor: str | None, number: int, j
         said = statement(call.text)
         reply = run.call(call.session, call.text)
         if found is None:
-            fits = said[0] == "open" and reply == "opened" and session in (None, call.session) and cursor in (None, said[1])
-            number -= fits
-            if fits and number == 0:
-                found = Course(JUDGES[run.engine.judge], call)
-                key = call.session, said[1]
+            if sought.is_found(call, said, reply):
+                found, key = Course(JUDGES[run.engine.judge], call), (call.session, said[1])
                 found.steps.append(Step(call.line, call.text, reply, list(log)))
-        elif call.session == key[0] and said[0] in ("fetch", "step", "show") and said[1] == key[1]:
+        elif said[0] in ("fetch", "step", "show") and key == (call.session, said[1]):
             found.steps.append(Step(call.line, call.text, reply, list(log)))
-        if found is not None and key in run.engine.cursors:
+        if found is not None:
+            if key not in run.engine.cursors:
+                break
             found.trace = run.engine.cursors[key].trace()
-        elif found is not None:
-            break
     if found is None:
         raise NotThere
     return found
@@ -146,14 +157,14 @@ def head(course: Course) -> list[str]:
     return [f"judge {course.judge}", course.trace.removeprefix("trace "), f"{sum(step.cost for step in course.steps)} reads in {len(course.steps)} calls", ""]
 
 
-def text(courses_told: list[Course], width: int) -> str:
+def text(courses: list[Course], width: int) -> str:
     """The courses, side by side where there are two."""
-    opened = courses_told[0].opened
+    opened = courses[0].opened
     lines = [f"line {opened.line}, session {opened.session}: {opened.text}", ""]
-    if len(courses_told) == 1:
-        lines += head(courses_told[0]) + [line for block in blocks(courses_told[0]) for line in block]
+    if len(courses) == 1:
+        lines += head(courses[0]) + [line for block in blocks(courses[0]) for line in block]
     else:
-        pairs = [tuple(map(head, courses_told)), *zip_longest(*map(blocks, courses_told), fillvalue=[])]
+        pairs = [tuple(map(head, courses)), *zip_longest(*map(blocks, courses), fillvalue=[])]
         for left, right in pairs:
             wrapped = [[part for line in side for part in wrap(line, width)] for side in (left, right)]
             lines += [f"{a:{width}} | {b}".rstrip() for a, b in zip_longest(*wrapped, fillvalue="")]
@@ -172,6 +183,13 @@ def wrap(line: str, width: int) -> list[str]:
     return parts + [now.rstrip()]
 
 
+def read_script(name: str) -> bytes:
+    if name == "-":
+        return sys.stdin.buffer.read()
+    with open(name, "rb") as file:
+        return file.read()
+
+
 def main() -> int:
     parser = argparse.ArgumentParser(description=__doc__, formatter_class=argparse.RawDescriptionHelpFormatter)
     parser.add_argument("script", metavar="FILE", help="a script, or - for standard input")
@@ -185,14 +203,21 @@ def main() -> int:
     words = parser.parse_args()
     if words.judge and len(words.judge) > 2:
         parser.error("at most two judges")
-    data = sys.stdin.buffer.read() if words.script == "-" else open(words.script, "rb").read()
+    try:
+        data = read_script(words.script)
+    except OSError as error:
+        print(f"timeline: {words.script}: {error.strerror}", file=sys.stderr)
+        return 2
     fault = fault_of(data)
     if fault is not None:
         print(fault[1], file=sys.stderr)
         return fault[0]
     script = data.decode()
     try:
-        told = [courses(script, words.session, words.cursor, words.opening, judge, words.steps) for judge in words.judge or [None]]
+        told = [
+            course_of(script, Sought(words.session, words.cursor, words.opening), judge, words.steps)
+            for judge in words.judge or [None]
+        ]
     except NotThere:
         print("timeline: no such cursor is opened in this script", file=sys.stderr)
         return 1

@@ -5,7 +5,7 @@ import unittest
 import xml.etree.ElementTree as ElementTree
 from pathlib import Path
 
-from timeline import NotThere, courses, picture, runs, text, wrap
+from timeline import NotThere, Sought, course_of, picture, runs, text, wrap
 
 TOP = Path(__file__).resolve().parents[2]
 SCRIPT = (TOP / "examples/change-of-path").read_text(encoding="utf-8")
@@ -14,8 +14,8 @@ SCRIPT = (TOP / "examples/change-of-path").read_text(encoding="utf-8")
 class Timeline(unittest.TestCase):
     @classmethod
     def setUpClass(cls):
-        cls.threshold = courses(SCRIPT, 1, "C", 1, 0, 1)
-        cls.patient = courses(SCRIPT, 1, "C", 1, 1, 1)
+        cls.threshold = course_of(SCRIPT, Sought(1, "C", 1), 0, 1)
+        cls.patient = course_of(SCRIPT, Sought(1, "C", 1), 1, 1)
 
     def test_reads_are_those_of_the_trace(self):
         for course in (self.threshold, self.patient):
@@ -55,7 +55,7 @@ class Timeline(unittest.TestCase):
 
     def test_opening_that_is_not_there(self):
         with self.assertRaises(NotThere):
-            courses(SCRIPT, 1, "C", 9, None, 1)
+            course_of(SCRIPT, Sought(1, "C", 9), None, 1)
 
     def test_runs_and_wrap(self):
         self.assertEqual(runs([3, 5, 6, 7, 9]), "3, 5-7, 9")
