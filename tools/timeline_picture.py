@@ -9,7 +9,7 @@ from xml.sax.saxutils import escape
 if TYPE_CHECKING:
     from timeline import Course
 
-LEFT, RIGHT, LANE, GAP = 150, 30, 26, 10
+LEFT, RIGHT, LANE, GAP = 170, 30, 26, 10
 WIDTH = 1000
 COLOURS = {
     "building": "#8ecae6",
@@ -75,7 +75,7 @@ class Panel:
     def lane(self, label: str, height: float = LANE) -> float:
         """A lane with its label; gives its top."""
         top = self.y
-        self.canvas.text(LEFT - 8, top + height / 2 + 4, label, 12, INK, "end")
+        self.canvas.text(LEFT - 8, top + height / 2 + 4, shortened(label, 24), 12, INK, "end")
         self.canvas.line([(LEFT, top + height), (WIDTH - RIGHT, top + height)], "#eeeeee", 1)
         self.y += height
         return top
@@ -143,7 +143,9 @@ class Panel:
         self.canvas.text(LEFT - 8, top + height / 2 + 18, "(- - guaranteed)", 10, GREY, "end")
         most = max(max(r.projected, r.guaranteed) for _, r in told)
         y = lambda cost: top + height - 4 - (height - 16) * cost / max(most, 1)
-        self.canvas.line([(self.x(at), y(r.guaranteed)) for at, r in told], GREY, 1.5, "4 3")
+        guaranteed = [(self.x(at), y(r.guaranteed)) for at, r in told]
+        ends = [(guaranteed[0][0] - 10, guaranteed[0][1])], [(guaranteed[-1][0] + 10, guaranteed[-1][1])]
+        self.canvas.line([*ends[0], *guaranteed, *ends[1]], GREY, 1.5, "4 3")
         self.canvas.line([(self.x(at), y(r.projected)) for at, r in told], INK, 1.5)
         labelled = 0.0
         for at, r in told:
@@ -153,7 +155,7 @@ class Panel:
                 labelled = self.x(at)
                 self.canvas.text(labelled + 5, y(r.projected) - 5, f"{r.projected}", 10)
         last = told[-1]
-        self.canvas.text(self.x(last[0]) + 8, y(last[1].guaranteed) + 12, f"guaranteed {last[1].guaranteed}", 10, GREY)
+        self.canvas.text(self.x(last[0]) + 14, y(last[1].guaranteed) + 4, f"guaranteed {last[1].guaranteed}", 10, GREY)
 
 
 def shortened(words: str, most: int) -> str:
