@@ -13,7 +13,8 @@ use clap::{Arg, ArgMatches, Command};
 use rv_value::{NoMemory, Text};
 use std::alloc::{AllocError, Global};
 
-/// What accepted words ask, as clap parses them.
+/// What accepted words ask: clap parses them, and gives each option's value as a text of digits. `NoMemory` also where
+/// clap refuses them.
 pub fn asked(alloc: Global, words: &[Text]) -> Result<Asked, NoMemory>
     requires { AreAccepted words.now }
     ensures ok { IfOk result (Ask words.now) }
@@ -36,7 +37,7 @@ fn texts_of<'a>(alloc: Global, words: &'a [Text]) -> Result<Vec<&'a str>, NoMemo
     Ok(texts)
 }
 
-/// What clap finds in the words. `NoMemory` also where it refuses them.
+/// What clap finds in the words.
 fn parsed<'a>(alloc: Global, words: &'a [&'a str]) -> Result<ArgMatches<'a>, NoMemory>
     ensures { IfOk result (λ matches. rows_of (found_of matches) ≡ matches_of app (map (λ word. word.now) words.now)) }
 {
