@@ -1,115 +1,10 @@
 """The engine, evaluated slowly: index trees, retrievals and joins by the rules in words, so that the rows of a cursor come
 in the order in which the program gives them, and STEP and SHOW have their one reply. `Engine` is the database of
-one_thread.py with such cursors. The rules stand in docs/LANGUAGE.md; it shares no code with the program.
-
-An index entry is (key, row number), a key a tuple of values as `place` of one_thread.py makes them."""
-from bisect import bisect_right
-
-from one_thread import FALSE, Database, atom_truth, offer, place, places_of, qualifies
-from slow_retrieval import LEAF, PAGE, Counts, Retrieval, begins_with
-
-NULL = place(None)
-
-
-# Index trees. A node is never changed but copied, so that a snapshot keeps its trees.
-
-
-class Node:
-    """The entries of a leaf, or the children of a node above with their low entries."""
-
-    def __init__(self, level, lows, children=()):
-        self.level, self.lows, self.children = level, lows, children
-
-    def at(self, entry):
-        return max(0, bisect_right(self.lows, entry, 1 if self.lows else 0) - 1)
-
-    def put(self, entry):
-        """The node with the entry: itself, or its first 16 and last 17 parts."""
-        lows, children = list(self.lows), list(self.children)
-        if self.level == 0:
-            lows.insert(bisect_right(lows, entry), entry)
-        else:
-            at = self.at(entry)
-            first, *last = children[at].put(entry)
-            children[at] = first
-            for node, low in last:
-                children.insert(at + 1, node)
-                lows.insert(at + 1, low)
-        if len(lows) <= LEAF:
-            return [Node(self.level, lows, children)]
-        return [Node(self.level, lows[:16], children[:16]), (Node(self.level, lows[16:], children[16:]), lows[16])]
-
-    def without(self, entry):
-        lows, children = list(self.lows), list(self.children)
-        if self.level == 0:
-            lows.remove(entry)
-        else:
-            at = self.at(entry)
-            children[at] = children[at].without(entry)
-        return Node(self.level, lows, children)
-
-    def leaves(self, cut=None):
-        """The leaves, each with the cut at which it begins."""
-        if self.level == 0:
-            return [(cut, self.lows)]
-        cuts = [cut] + self.lows[1:]
-        return [leaf for cut, child in zip(cuts, self.children) for leaf in child.leaves(cut)]
-
-    def estimate(self, bounds):
-        """How many entries are in a range, and whether exactly."""
-        if self.level == 0:
-            return sum(bounds.side(key) == 0 for key, _ in self.lows), True
-        sides = [bounds.side(key) for key, _ in self.lows]
-        last = max(i for i in range(len(sides)) if i == 0 or sides[i] <= 0)
-        first = max(i for i in range(last + 1) if i == 0 or sides[i] < 0)
-        if first == last:
-            return self.children[first].estimate(bounds)
-        return (last - first) * 16**self.level, False
-
-
-class Tree:
-    """An index of the paged store at a snapshot."""
-
-    def __init__(self, root=Node(0, [])):
-        self.root, self.read = root, None
-
-    def put(self, entry):
-        first, *last = self.root.put(entry)
-        for node, low in last:
-            first = Node(first.level + 1, [low, low], [first, node])
-        return Tree(first)
-
-    def without(self, entry):
-        return Tree(self.root.without(entry))
-
-    def leaves(self):
-        if self.read is None:
-            self.read = self.root.leaves()
-        return self.read
-
-    def estimate(self, bounds):
-        return (0, True) if bounds.is_empty() else self.root.estimate(bounds)
-
-
-class Sorted:
-    """An index of the plain store at a snapshot: sorted entries, cut at each 32nd."""
-
-    def __init__(self, entries=()):
-        self.entries = list(entries)
-
-    def put(self, entry):
-        at = bisect_right(self.entries, entry)
-        return Sorted(self.entries[:at] + [entry] + self.entries[at:])
-
-    def without(self, entry):
-        return Sorted(e for e in self.entries if e != entry)
-
-    def leaves(self):
-        parts = [self.entries[i : i + LEAF] for i in range(0, len(self.entries), LEAF)] or [[]]
-        return [(part[0] if at else None, part) for at, part in enumerate(parts)]
-
-    def estimate(self, bounds):
-        return sum(bounds.side(key) == 0 for key, _ in self.entries), True
+database.py with such cursors. The rules stand in docs/LANGUAGE.md; it shares no code with the program."""
+from .database import Database, atom_truth, offer, place, places_of, qualifies
+from .ranges import NULL, range_for
+from .retrieval import PAGE, Counts, Retrieval, begins_with
+from .trees import Sorted, Tree
 
 
 # Restrictions at one item: places are columns here.
@@ -141,90 +36,6 @@ def bound_atom(atom, item, outer):
 
 def columns_of(groups):
     return {column for group in groups for atom in group for column in places_of(atom)}
-
-
-class Bounds:
-    """A range of keys: low and high are (values, closed) or None; `starts` where the last low value is a front."""
-
-    def __init__(self, low, high, starts=None):
-        self.low, self.high, self.starts = low, high, starts
-
-    def is_whole(self):
-        return self.low is None and self.high is None
-
-    def is_empty(self):
-        if self.starts is not None or self.low is None or self.high is None or len(self.low[0]) != len(self.high[0]):
-            return False
-        return self.low[0] > self.high[0] or (self.low[0] == self.high[0] and not (self.low[1] and self.high[1]))
-
-    def side(self, key):
-        """-1 before the range, 0 in it, 1 after it."""
-        if self.low is not None:
-            front = key[: len(self.low[0])]
-            if front < self.low[0] or (front == self.low[0] and not self.low[1]):
-                return -1
-        if self.high is not None:
-            front = key[: len(self.high[0])]
-            if front > self.high[0] or (front == self.high[0] and not self.high[1]):
-                return 1
-        if self.starts is not None:
-            at = len(self.low[0]) - 1
-            begins = key[at][0] == 2 and key[at][1].startswith(self.starts.encode())
-            return 0 if key[:at] == self.low[0][:at] and begins else 1
-        return 0
-
-
-def range_for(groups, columns):
-    """The range of an index: what the groups of a single atom say of its columns, one after another."""
-    prefix = ()
-    for column in columns:
-        atoms = [g[0] for g in groups if len(g) == 1 and places_of(g[0]) == [column] and bounds_something(g[0])]
-        equal = [place(a[3]) if a[0] == "compare" else NULL for a in atoms if is_equal(a)]
-        if equal:
-            prefix += (equal[0],)
-            continue
-        fronts = [a[2] for a in atoms if a[0] == "start"]
-        if fronts:
-            return Bounds((prefix + (place(fronts[0]),), True), None, fronts[0])
-        if atoms:
-            # of equal low values one that is not closed is the greater bound, of equal high ones the less
-            low = max((low_of(a) for a in atoms), key=lambda b: (b[0], not b[1]))
-            highs = [b for b in map(high_of, atoms) if b is not None]
-            high = min(highs, key=lambda b: (b[0], b[1])) if highs else None
-            low = (prefix + (low[0],), low[1])
-            if high is not None:
-                return Bounds(low, (prefix + (high[0],), high[1]))
-            return Bounds(low, (prefix, True) if prefix else None)
-        break
-    return Bounds((prefix, True), (prefix, True)) if prefix else Bounds(None, None)
-
-
-def bounds_something(atom):
-    if atom[0] == "compare":
-        return atom[2] != "<>" and atom[3] is not None
-    if atom[0] == "between":
-        return atom[2] is not None and atom[3] is not None
-    return atom[0] in ("start", "null")
-
-
-def is_equal(atom):
-    return (atom[0] == "compare" and atom[2] == "=") or (atom[0] == "null" and not atom[2])
-
-
-def low_of(atom):
-    if atom[0] == "between":
-        return place(atom[2]), True
-    if atom[0] == "compare" and atom[2][0] == ">":
-        return place(atom[3]), atom[2] == ">="
-    return NULL, False
-
-
-def high_of(atom):
-    if atom[0] == "between":
-        return place(atom[3]), True
-    if atom[0] == "compare" and atom[2][0] == "<":
-        return place(atom[3]), atom[2] == "<="
-    return None
 
 
 # Judges.
@@ -278,6 +89,7 @@ class Used:
             at = max(i for i in range(len(self.leaves)) if i == 0 or begins(i) < 0)
         inside = [e for e in self.leaves[at][1] if self.bounds.side(e[0]) == 0]
         more = at + 1 < len(self.leaves) and begins(at + 1) <= 0
+        self.last_read = at
         return inside, at + 1 if more else None
 
 
@@ -297,10 +109,10 @@ class Query:
 
 
 class Asked(Retrieval):
-    """A retrieval of a query."""
+    """A retrieval of a query, at an item of FROM. It writes what happens into a log, if there is one."""
 
-    def __init__(self, query, judges, counts):
-        self.query, self.judges = query, judges
+    def __init__(self, query, item, judges, counts, log):
+        self.query, self.item, self.judges, self.log = query, item, judges, log
         indexes = [Used(*index, query.groups, query.need) for index in query.indexes]
         super().__init__(indexes, query.pages, query.order, query.soon, counts)
 
@@ -313,15 +125,19 @@ class Asked(Retrieval):
     def rule(self, projected, guaranteed):
         return self.judges.rule(projected, guaranteed)
 
+    def note(self, kind, what):
+        if self.log is not None:
+            self.log.append((self.item, kind, (what.name, what.last_read) if kind == "leaf" else what))
+
 
 # Joins and cursors.
 
 
 class Plan:
-    """Retrievals in loops, one inside the other. It has the calls of one_thread.py's Cursor."""
+    """Retrievals in loops, one inside the other. It has the calls of database.py's Cursor."""
 
-    def __init__(self, select, tables, judges, steps):
-        self.select, self.tables, self.judges, self.steps = select, tables, judges, steps
+    def __init__(self, select, tables, judges, steps, log):
+        self.select, self.tables, self.judges, self.steps, self.log = select, tables, judges, steps, log
         self.counts, self.open, self.rows, self.gathered = Counts(), [], [], None
         order = select.order
         first = [c for _, c in order]
@@ -338,7 +154,8 @@ class Plan:
         named = [p for g in self.select.groups for a in g for p in places_of(a)]
         need = {c for at, c in self.select.returns + named + self.select.order if at == item}
         order = [c for _, c in self.select.order] if self.ordered and item == 0 else []
-        self.open.append(Asked(Query(rows, pages, indexes, groups, need, order, self.select.soon), self.judges, self.counts))
+        query = Query(rows, pages, indexes, groups, need, order, self.select.soon)
+        self.open.append(Asked(query, item, self.judges, self.counts, self.log))
 
     def step(self):
         """An offer, None where none came yet, or "end"."""
@@ -399,8 +216,12 @@ class Plan:
 
 
 class Engine(Database):
-    def __init__(self, judge=0, steps=1, plain=False):
+    """The database with cursors over plans. A log, if one is given, is a list to which each retrieval of any cursor adds
+    (item of FROM, kind, what) as `Retrieval.note` has them."""
+
+    def __init__(self, judge=0, steps=1, plain=False, log=None):
         super().__init__()
+        self.log = log
         self.judges, self.judge, self.steps = [Threshold(), Patient(), Contrary()], judge, steps
         self.empty = Sorted if plain else Tree
         self.entries = {}  # of each index, at the last commit
@@ -443,7 +264,7 @@ class Engine(Database):
         for name in select.tables:
             indexes = [(i, made.columns, self.own.entries[i]) for i, made in self.indexes.items() if made.table == name]
             tables.append((self.own.rows[name], self.own.pages[name], indexes))
-        return Plan(select, tables, self, self.steps)
+        return Plan(select, tables, self, self.steps, self.log)
 
     def step(self, name, n):
         plan, done = self.need_cursor(name), 0

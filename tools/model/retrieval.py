@@ -3,6 +3,7 @@ rules stand in docs/LANGUAGE.md. Who uses it says what a row and an index are an
 `Retrieval`.
 
 An index has `name`, `columns`, `estimate`, `exact`, `restricted` and `covers`, and the calls `passes(key)` and `leaf(at)`."""
+from dataclasses import dataclass
 
 LEAF = PAGE = 32
 SHORT, BUFFER, SMALL = 20, 1024, 1024
@@ -18,6 +19,19 @@ def project(estimate, scanned, kept):
 class Counts:
     def __init__(self):
         self.pages = self.leaves = self.fetches = 0
+
+
+@dataclass(frozen=True)
+class Ruling:
+    """What a judge was asked after a leaf of a background scan, and what it answered."""
+
+    scan: str
+    scanned: int
+    kept: int
+    estimate: int
+    projected: int
+    guaranteed: int
+    verdict: str
 
 
 class KeyList:
@@ -114,9 +128,13 @@ class Retrieval:
 
     # The course.
 
+    def tell(self, event):
+        self.events.append(event)
+        self.note("event", event)
+
     def to(self, control):
         self.control = control
-        self.events.append(control)
+        self.tell(control)
 
     def in_background(self):
         return self.control in ("building", "background")
@@ -126,7 +144,7 @@ class Retrieval:
         self.scan = None
         if self.planned:
             self.scan = Scan(self.planned.pop(0))
-            self.events.append("scan " + self.scan.index.name)
+            self.tell("scan " + self.scan.index.name)
 
     def more(self):
         return bool(self.planned) and (self.list is None or bool(self.list.keys))
@@ -145,7 +163,7 @@ class Retrieval:
         scan = self.scan
         self.list = KeyList(sorted(scan.keys))
         self.guaranteed = min(self.guaranteed, len(scan.keys))
-        self.events.append(f"list {scan.index.name} {len(scan.keys)}")
+        self.tell(f"list {scan.index.name} {len(scan.keys)}")
         if self.more():
             self.begin()
         else:
@@ -153,10 +171,10 @@ class Retrieval:
 
     def obey(self, verdict):
         if verdict == "stop" and self.control == "building" and self.strategy in ("fast-first", "index-only"):
-            self.events.append("stop")
+            self.tell("stop")
             self.to("background")
         if verdict in ("drop", "end"):
-            self.events.append("drop " + self.scan.index.name)
+            self.tell("drop " + self.scan.index.name)
             if verdict == "drop" and self.more():
                 self.begin()
             else:
@@ -173,8 +191,7 @@ class Retrieval:
             return None
         scan = self.scan
         if scan.held is None:
-            self.counts.leaves += 1
-            scan.held = scan.index.leaf(scan.place)
+            scan.held = self.read_leaf(scan.index, scan.place)
         return (self.number, scan.held[0])
 
     def give(self, piece):
@@ -191,7 +208,10 @@ class Retrieval:
         if following is None:
             self.completed()
         elif not self.at_once:
-            self.obey(self.rule(project(scan.index.estimate, scan.scanned, scan.kept), self.guaranteed))
+            projected = project(scan.index.estimate, scan.scanned, scan.kept)
+            verdict = self.rule(projected, self.guaranteed)
+            self.note("ruled", Ruling(scan.index.name, scan.scanned, scan.kept, scan.index.estimate, projected, self.guaranteed, verdict))
+            self.obey(verdict)
         return True
 
     def background(self):
@@ -204,12 +224,19 @@ class Retrieval:
 
     def fetch(self, number):
         self.counts.fetches += 1
+        self.note("record", number)
         return self.is_wanted(number)
+
+    def read_leaf(self, index, place):
+        self.counts.leaves += 1
+        read = index.leaf(place)
+        self.note("leaf", index)
+        return read
 
     def remember(self, number):
         self.delivered.add(number)
         if len(self.delivered) == BUFFER:
-            self.events.append("full")
+            self.tell("full")
             self.to("background" if self.strategy == "fast-first" else "foreground")
 
     def step(self):
@@ -265,8 +292,7 @@ class Retrieval:
         if not walk.more:
             self.to("done")
             return "end"
-        self.counts.leaves += 1
-        walk.held, walk.place = walk.index.leaf(walk.place)
+        walk.held, walk.place = self.read_leaf(walk.index, walk.place)
         walk.more = walk.place is not None
         return None
 
@@ -290,6 +316,7 @@ class Retrieval:
             self.to("done")
             return "end"
         self.counts.pages += 1
+        self.note("page", self.page)
         self.held = self.page_rows(self.page)
         self.page += 1
         return None
@@ -307,6 +334,10 @@ class Retrieval:
     def rule(self, projected, guaranteed):
         """The judge's verdict: "go on", "drop", "stop" or "end"."""
         raise NotImplementedError
+
+    def note(self, kind, what):
+        """Who wants to watch is told what happens: ("event", its text), ("page", number), ("leaf", index), ("record", number)
+        and ("ruled", a Ruling)."""
 
 
 def begins_with(columns, order):

@@ -69,7 +69,12 @@ def qualifies(groups, row):
 
 
 class Refused(Exception):
-    """The reply of a call that is refused."""
+    """The reply of a call that is refused. `name` is the name that it shows, as the statement has it, if it is one of those
+    that "Names and kinds" tells; `at` is which value of INSERT is of the wrong kind, or one too many or too few."""
+
+    def __init__(self, reply, name=None, at=None):
+        super().__init__(f"{reply} {name}" if name is not None else reply)
+        self.name, self.at = name, at
 
 
 class Table:
@@ -127,22 +132,26 @@ class Database:
         self.touched = {}  # by table and number: the commit that last wrote the row
 
     def answer(self, session, statement):
-        self.session, self.own = session, self.active.get(session)
         if statement[0] == "syntax":
             return "syntax"
         try:
-            for which, most, counts in LIMITS:
-                if any(count > most for count in counts(statement)):
-                    raise Refused(f"limit {which} {most}")
-            return getattr(self, statement[0])(*statement[1:])
+            return self.perform(session, statement)
         except Refused as refused:
             return str(refused)
+
+    def perform(self, session, statement):
+        """As `answer`, but raises Refused."""
+        self.session, self.own = session, self.active.get(session)
+        for which, most, counts in LIMITS:
+            if any(count > most for count in counts(statement)):
+                raise Refused(f"limit {which} {most}")
+        return getattr(self, statement[0])(*statement[1:])
 
     # Names.
 
     def table(self, name):
         if name not in self.tables:
-            raise Refused(f"unknown {name}")
+            raise Refused("unknown", name)
         return self.tables[name]
 
     def fit(self, reference, items):
@@ -154,17 +163,19 @@ class Database:
             if qualifier in (None, name) and column in [c for c, _ in table.columns]
         ]
         if len(found) != 1:
-            raise Refused(f"unknown {column}")
+            raise Refused("unknown", column)
         return found[0]
 
     def placed(self, groups, items):
         return [[placed_atom(atom, lambda reference: self.fit(reference, items)) for atom in group] for group in groups]
 
-    def kinds(self, groups, items):
-        width = lambda reference: items[reference[0]][1].columns[reference[1]]
-        for atom in itertools.chain(*groups):
-            if not suits(atom, lambda reference: width(reference)[1]):
-                raise Refused(f"kind {width(atom[1])[0]}")
+    def kinds(self, groups, placed, items):
+        """Tests the kinds of the groups of a statement, whose places are given beside them."""
+        width = lambda at: items[at[0]][1].columns[at[1]][1]
+        for atom, with_places in zip(itertools.chain(*groups), itertools.chain(*placed)):
+            if not suits(with_places, width):
+                _, column = atom[1]
+                raise Refused("kind", column)
 
     # Refusals of the state.
 
@@ -180,14 +191,14 @@ class Database:
 
     def need_cursor(self, name):
         if (self.session, name) not in self.cursors:
-            raise Refused(f"no cursor {name}")
+            raise Refused("no cursor", name)
         return self.cursors[self.session, name]
 
     # Statements.
 
     def create(self, name, columns):
         if name in self.tables:
-            raise Refused(f"exists {name}")
+            raise Refused("exists", name)
         no_repeat([column for column, _ in columns])
         self.need_quiet()
         if len(self.tables) >= 64:
@@ -198,7 +209,7 @@ class Database:
     def index(self, name, table, columns):
         places = [self.fit((None, column), [(table, self.table(table))])[1] for column in columns]
         if name in self.indexes:
-            raise Refused(f"exists {name}")
+            raise Refused("exists", name)
         no_repeat(columns)
         self.need_quiet()
         if sum(index.table == table for index in self.indexes.values()) >= 8:
@@ -215,11 +226,12 @@ class Database:
 
     def insert(self, name, values):
         table = self.table(name)
-        for (column, width), value in zip(table.columns, values):
+        for at, ((column, width), value) in enumerate(zip(table.columns, values)):
             if not holds(value, width):
-                raise Refused(f"kind {column}")
+                raise Refused("kind", column, at)
         if len(values) != len(table.columns):
-            raise Refused(f"kind {table.columns[min(len(values), len(table.columns) - 1)][0]}")
+            least = min(len(values), len(table.columns))
+            raise Refused("kind", table.columns[min(least, len(table.columns) - 1)][0], least)
         self.need_transaction(writes=True)
         if table.next >= 1_000_000:
             raise Refused("limit rows 1000000")
@@ -234,15 +246,15 @@ class Database:
         table = self.table(name)
         items = [(name, table)]
         places = [self.fit((None, column), items)[1] for column, _ in sets or []]
-        groups = self.placed(groups, items)
+        placed = self.placed(groups, items)
         no_repeat([column for column, _ in sets or []])
         for (column, value), at in zip(sets or [], places):
             if not holds(value, table.columns[at][1]):
-                raise Refused(f"kind {column}")
-        self.kinds(groups, items)
+                raise Refused("kind", column)
+        self.kinds(groups, placed, items)
         self.need_transaction(writes=True)
         view = self.view(name)
-        hit = [n for n in sorted(view) if qualifies(groups, lambda p: view[n][p[1]])]
+        hit = [n for n in sorted(view) if qualifies(placed, lambda p: view[n][p[1]])]
         self.may_change(name, hit)
         for number in hit:
             values = None
@@ -306,19 +318,19 @@ class Database:
         named = [(second or name, self.table(name)) for name, second in items]
         every = [(at, c) for at, (_, table) in enumerate(named) for c in range(len(table.columns))]
         returns = every if returned is None else [self.fit(reference, named) for reference in returned]
-        groups = self.placed(groups, named)
+        placed = self.placed(groups, named)
         order = [self.fit(reference, named) for reference in order]
         no_repeat([name for name, _ in named])
-        self.kinds(groups, named)
+        self.kinds(groups, placed, named)
         self.need_transaction()
         if (self.session, cursor) in self.cursors:
-            raise Refused(f"cursor open {cursor}")
+            raise Refused("cursor open", cursor)
         for name, _ in items:
             if any(table == name for table, _ in self.own.new):
-                raise Refused(f"pending {name}")
+                raise Refused("pending", name)
         if sum(session == self.session for session, _ in self.cursors) >= 16:
             raise Refused("limit cursors 16")
-        self.cursors[self.session, cursor] = self.opened(Select([name for name, _ in items], returns, groups, order, soon))
+        self.cursors[self.session, cursor] = self.opened(Select([name for name, _ in items], returns, placed, order, soon))
         return "opened"
 
     def opened(self, select):
@@ -369,7 +381,7 @@ def offer(select, rows):
 def no_repeat(names):
     for at, name in enumerate(names):
         if name in names[:at]:
-            raise Refused(f"exists {name}")
+            raise Refused("exists", name)
 
 
 def places_of(atom):
