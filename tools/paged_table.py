@@ -18,61 +18,32 @@ touched. Leaves of the plain store have 32 entries each. A range is read from th
 or the first one, to the last leaf that does not begin after it. The estimate of a range goes down from the root
 while one child may hold the range; where k > 1 children may, at level l, it is (k - 1) * 16 ** l."""
 
-import bisect
+from model.trees import Tree
 
 
-class Node:
-    def __init__(self, level, lows, kids):
-        self.level, self.lows, self.kids = level, lows, kids
+class Span:
+    """A range of first values, as an estimate asks for it."""
 
-    def child(self, entry):
-        return max(i for i in range(len(self.kids)) if i == 0 or self.lows[i] <= entry)
+    def __init__(self, low, high):
+        self.low, self.high = (True, low), (True, high)
 
-    def put(self, entry):
-        """Puts an entry in, and gives the right half where the node was split."""
-        if self.level == 0:
-            bisect.insort(self.lows, entry)
-        else:
-            at = self.child(entry)
-            right = self.kids[at].put(entry)
-            if right is not None:
-                self.lows.insert(at + 1, right.low)
-                self.kids.insert(at + 1, right)
-        if len(self.lows) <= 32:
-            return None
-        right = Node(self.level, self.lows[16:], self.kids[16:])
-        right.low = right.lows[0]
-        self.lows, self.kids = self.lows[:16], self.kids[:16]
-        return right
+    def is_empty(self):
+        return self.low > self.high
 
-    def take(self, entry):
-        if self.level == 0:
-            self.lows.remove(entry)
-        else:
-            self.kids[self.child(entry)].take(entry)
-
-    def leaves(self):
-        return [self] if self.level == 0 else [leaf for kid in self.kids for leaf in kid.leaves()]
-
-    def cuts(self):
-        cuts = []
-        for i, kid in enumerate(self.kids):
-            cuts += ([self.lows[i]] if i else []) + kid.cuts()
-        return cuts
+    def side(self, key):
+        return -1 if key[0] < self.low else 1 if key[0] > self.high else 0
 
 
 class Index:
     def __init__(self, columns):
-        self.columns, self.root = columns, Node(0, [], [])
+        self.columns, self.tree = columns, Tree()
 
     def entry(self, row, values):
         # NULL comes before all numbers
-        return tuple((values[c] is not None, values[c] or 0) for c in self.columns) + (row,)
+        return tuple((values[c] is not None, values[c] or 0) for c in self.columns), row
 
     def put(self, entry):
-        right = self.root.put(entry)
-        if right is not None:
-            self.root = Node(self.root.level + 1, [right.low, right.low], [self.root, right])
+        self.tree = self.tree.put(entry)
 
     def change(self, row, old, new):
         before = old and self.entry(row, old)
@@ -80,13 +51,14 @@ class Index:
         if before == after:
             return
         if before:
-            self.root.take(before)
+            self.tree = self.tree.without(before)
         if after:
             self.put(after)
 
     def shape(self):
         """The leaves, one after another, and the cuts between them."""
-        return [list(leaf.lows) for leaf in self.root.leaves()], self.root.cuts()
+        leaves = self.tree.leaves()
+        return [lows for _, lows in leaves], [cut for cut, _ in leaves[1:]]
 
 
 def plain_shape(entries):
@@ -95,7 +67,7 @@ def plain_shape(entries):
 
 def key(entry):
     """The first value of an entry, with what tells NULL from a number."""
-    return entry[0]
+    return entry[0][0]
 
 
 def read(shape, low, high):
@@ -115,19 +87,6 @@ def read_from(shape, start):
     first = 0 if start is None else sum(cut <= start for cut in cuts)
     found = [e for leaf in leaves[first:] for e in leaf if start is None or e >= start]
     return len(found), len(leaves) - first
-
-
-def estimate(node, low, high):
-    low, high = (True, low), (True, high)
-    if low > high:
-        return True, 0
-    while node.level > 0:
-        last = max(i for i in range(len(node.kids)) if i == 0 or key(node.lows[i]) <= high)
-        first = max(i for i in range(last + 1) if i == 0 or key(node.lows[i]) < low)
-        if first < last:
-            return False, (last - first) * 16 ** node.level
-        node = node.kids[first]
-    return True, sum(low <= key(e) <= high for e in node.lows)
 
 
 def mixed(number):
@@ -162,7 +121,7 @@ class Snapshot:
                 self.add(read_from(paged, start), read_from(plain, start))
             for low, high in ((50, 99), (7, 7)):
                 self.add(read(paged, low, high), read(plain, low, high))
-                self.exact += estimate(index.root, low, high)[0]
+                self.exact += index.tree.estimate(Span(low, high))[1]
 
     def add(self, paged, plain):
         assert paged[0] == plain[0]
@@ -220,7 +179,7 @@ def main():
         parts = "".join(f" {sizes.count(size)} of {size}" for size in range(33) if size in sizes)
         print(f"index {number}: {sum(sizes)} entries in {len(leaves)} leaves:{parts}")
         for low, high in ((7, 7), (50, 99), (100, 299), (299, 100), (0, 999)):
-            exact, value = estimate(index.root, low, high)
+            value, exact = index.tree.estimate(Span(low, high))
             entries, read_leaves = read(index.shape(), low, high)
             print(f"  {low} to {high}: {'exactly' if exact else 'about'} {value}, {entries} in {read_leaves}")
 

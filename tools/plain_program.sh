@@ -1,14 +1,13 @@
 #!/usr/bin/env bash
 # Makes the program over the plain store, whose rows are whole lists and whose indexes are sorted vectors.
 #
-# usage: tools/plain_program.sh FOLDER
+# usage: tools/plain_program.sh FOLDER [--prove]
 #
 # Copies the repository, as it is committed, to FOLDER, with what was proved of it so far, and hands the program in the copy a
-# Plain in place of a Paged: two words of crates/rv_cli/src/main.rt. Then it proves and builds that program, and prints how to
-# compare the two. Nothing in this repository is changed. With RVDYN_UNPROVED=1 nothing is proved or built, and FOLDER/rvdyn
-# runs the copy as this repository's ./rvdyn does with the same variable.
+# Plain in place of a Paged: two words of crates/rv_cli/src/main.rt. Then it builds that program, with --prove the proved one,
+# as ./rvdyn does, and prints how to compare the two. Nothing in this repository is changed.
 set -e
-[ $# = 1 ] && [ ! -e "$1" ] || { sed -n '2,/^set/{/^set/d;s/^# \{0,1\}//;p}' "$0" >&2; exit 1; }
+[ $# = 1 ] || [ "$*" = "$1 --prove" ] && [ ! -e "$1" ] || { sed -n '2,/^set/{/^set/d;s/^# \{0,1\}//;p}' "$0" >&2; exit 1; }
 top=$(cd "$(dirname "$0")/.." && pwd)
 git clone -q "$top" "$1"
 copy=$(cd "$1" && pwd)
@@ -19,5 +18,5 @@ rm -f "$copy/crates/rv_cli/out/rv_cli"
 main=$copy/crates/rv_cli/src/main.rt
 sed -i 's/^use rv_store::Paged;/use rv_plain::Plain;/; s/Paged::new(alloc)/Plain::new(alloc)/' "$main"
 [ "$(grep -c Plain "$main")" = 2 ] && ! grep -q Paged "$main" || { echo "main makes its store in another way" >&2; exit 1; }
-[ -n "$RVDYN_UNPROVED" ] || (cd "$copy" && ./rvdyn < /dev/null)
+"$copy/rvdyn" ${2:+"$2"} < /dev/null
 echo "tools/random_scripts.py ./rvdyn 500 1 --beside $copy/rvdyn"

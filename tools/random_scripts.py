@@ -1,11 +1,9 @@
 #!/usr/bin/env python3
 """Runs random scripts through a built program and replays each transcript against a slow evaluation of what the calls mean.
 
-usage: tools/random_scripts.py PROGRAM [COUNT [SEED]] [--exact | --beside PROGRAM]
-
-The evaluation (one_thread.py) shares no code with the program and reads no text: each script is made as a list of statements
+The evaluation (model/database.py) shares no code with the program and reads no text: each script is made as a list of statements
 with their meaning, and spelled at random. A FETCH may give any row whose order values equal those of the first that is left; a
-STEP answers a number that is not above the one asked for; a trace is a front of a course (course.py), only grows, and counts
+STEP answers a number that is not above the one asked for; a trace is a front of a course (model/course.py), only grows, and counts
 what was stepped. With --exact each transcript is also the one that slow_program.py writes, traces and all.
 
 With --beside a second program, or the same one over another store (tools/plain_program.sh builds the one over the plain
@@ -14,13 +12,14 @@ STEP, whose replies depend on the store's leaves and estimates, and which row a 
 `end`, and when a cursor comes to its end both gave the same rows.
 
 Prints the scripts that differ, with the first line at which they do, and ends with status 1 where one did."""
+import argparse
 import random
 import subprocess
 import sys
 
-from course import Seen
-from one_thread import COMPARISONS, Database, shown
-from slow_program import run
+from model.course import Seen
+from model.database import COMPARISONS, Database, shown
+from model.program import run
 
 
 class Checked(Database):
@@ -490,21 +489,22 @@ def apart(first, second, calls):
     return None
 
 
-def main(args):
-    exact = "--exact" in args
-    beside = args[args.index("--beside") + 1] if "--beside" in args[:-1] else None
-    args = [a for a in args if a not in ("--exact", "--beside", beside)]
-    if not 1 <= len(args) <= 3 or not all(a.isdigit() for a in args[1:]):
-        sys.exit(__doc__)
-    count = int(args[1]) if len(args) > 1 else 1000
-    seed = int(args[2]) if len(args) > 2 else 1
-    wrong = 0
+def main():
+    parser = argparse.ArgumentParser(description=__doc__, formatter_class=argparse.RawDescriptionHelpFormatter)
+    parser.add_argument("program", metavar="PROGRAM")
+    parser.add_argument("count", type=int, nargs="?", default=1000, metavar="COUNT", help="how many scripts (default 1000)")
+    parser.add_argument("seed", type=int, nargs="?", default=1, metavar="SEED", help="of which seed (default 1)")
+    how = parser.add_mutually_exclusive_group()
+    how.add_argument("--exact", action="store_true", help="each transcript is the one of the slow model")
+    how.add_argument("--beside", metavar="PROGRAM", help="compare with this program too")
+    asked = parser.parse_args()
+    count, seed, wrong = asked.count, asked.seed, 0
     for number in range(count):
         script, calls, broken, words = Maker(random.Random(seed * 1_000_000 + number)).script()
-        ran = transcript(args[0], script, words)
-        difference = differs(ran, script, calls, broken, words, exact)
-        if difference is None and beside is not None:
-            other = transcript(beside, script, words)
+        ran = transcript(asked.program, script, words)
+        difference = differs(ran, script, calls, broken, words, asked.exact)
+        if difference is None and asked.beside is not None:
+            other = transcript(asked.beside, script, words)
             difference = differs(other, script, calls, broken, words, False)
             difference = "beside: " + difference if difference else None if broken else apart(ran, other, calls)
         if difference is not None:
@@ -515,4 +515,4 @@ def main(args):
 
 
 if __name__ == "__main__":
-    sys.exit(main(sys.argv[1:]))
+    sys.exit(main())

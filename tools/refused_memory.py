@@ -1,11 +1,10 @@
 #!/usr/bin/env python3
 """Refuses each allocation of a run in turn, one a run, and looks at how the run ends.
 
-usage: tools/refused_memory.py PROGRAM SCRIPT TRANSCRIPT
-
 Needs a C compiler as `cc`. Each run has to end with status 0 and the transcript, or with status 4, `no memory` on
 standard error and the transcript of the first calls. The last run is the one that makes fewer allocations than the
 number of the one refused. Prints how many runs there were and how they ended; status 1 where one ended otherwise."""
+import argparse
 import collections
 import os
 import subprocess
@@ -65,10 +64,13 @@ def is_front(output, transcript):
     return transcript.startswith(output) and output.count(b"\n") % 2 == 0 and output[-1:] in (b"", b"\n")
 
 
-def main(args):
-    if len(args) != 3:
-        sys.exit(__doc__)
-    program, script, transcript = os.path.abspath(args[0]), open(args[1], "rb").read(), open(args[2], "rb").read()
+def main():
+    parser = argparse.ArgumentParser(description=__doc__, formatter_class=argparse.RawDescriptionHelpFormatter)
+    parser.add_argument("program", type=os.path.abspath, metavar="PROGRAM")
+    parser.add_argument("script", type=argparse.FileType("rb"), metavar="SCRIPT")
+    parser.add_argument("transcript", type=argparse.FileType("rb"), metavar="TRANSCRIPT", help="what the program writes of it")
+    asked = parser.parse_args()
+    program, script, transcript = asked.program, asked.script.read(), asked.transcript.read()
     ends, wrong, number, asked = collections.Counter(), 0, 0, True
     with tempfile.TemporaryDirectory() as folder:
         source, shim = os.path.join(folder, "shim.c"), os.path.join(folder, "shim.so")
@@ -90,4 +92,4 @@ def main(args):
 
 
 if __name__ == "__main__":
-    sys.exit(main(sys.argv[1:]))
+    sys.exit(main())

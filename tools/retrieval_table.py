@@ -13,12 +13,12 @@ halves. An entry belongs to the last child that does not begin above it. An esti
 may have the range; where k > 1 children may, at level l, it is (k - 1) * 16 ** l, and not exact.
 
 A retrieval is asked for the rows whose columns lie in spans, by some of the indexes, with some columns, in the order of
-the third column or in any, the first rows soon or all rows soon. How it goes is written in slow_retrieval.py."""
+the third column or in any, the first rows soon or all rows soon. How it goes is written in model/retrieval.py."""
 
-import bisect
 import sys
 
-from slow_retrieval import LEAF, PAGE, Counts, Retrieval
+from model.retrieval import LEAF, PAGE, Counts, Retrieval
+from model.trees import Tree
 
 NULL = (0, 0)
 NAMES = ["IA", "IB", "ICA", "IC"]
@@ -29,52 +29,10 @@ def value(number):
     return (1, number)
 
 
-class Node:
-    """A node of a tree: the entries of a leaf, or the children of a node above, and their low entries."""
-
-    def __init__(self, level, lows, children):
-        self.level, self.lows, self.children = level, lows, children
-
-    def put(self, entry):
-        """Puts an entry in, and gives the last 17 where they are split off, with the first of them."""
-        if self.level == 0:
-            bisect.insort(self.lows, entry)
-        else:
-            at = max(i for i in range(len(self.lows)) if i == 0 or self.lows[i] <= entry)
-            split = self.children[at].put(entry)
-            if split is not None:
-                self.lows.insert(at + 1, split[0])
-                self.children.insert(at + 1, split[1])
-        if len(self.lows) <= 32:
-            return None
-        last = Node(self.level, self.lows[16:], self.children[16:])
-        self.lows, self.children = self.lows[:16], self.children[:16]
-        return last.lows[0], last
-
-    def leaves(self):
-        if self.level == 0:
-            return [self.lows]
-        return [leaf for child in self.children for leaf in child.leaves()]
-
-    def estimate(self, side):
-        """How many entries are in a range, and whether exactly. `side` tells on which side of it a key is."""
-        if self.level == 0:
-            return sum(side(key) == 0 for key, _ in self.lows), True
-        sides = [side(key) for key, _ in self.lows]
-        last = max(i for i in range(len(sides)) if i == 0 or sides[i] <= 0)
-        first = max(i for i in range(last + 1) if i == 0 or sides[i] < 0)
-        if first == last:
-            return self.children[first].estimate(side)
-        return (last - first) * 16**self.level, False
-
-
 def tree(entries):
-    root = Node(0, [], [])
+    root = Tree()
     for entry in entries:
-        split = root.put(entry)
-        if split is not None:
-            # the low entry of a first child is not looked at
-            root = Node(root.level + 1, [root.lows[0], split[0]], [root, split[1]])
+        root = root.put(entry)
     return root
 
 
@@ -97,7 +55,7 @@ class Table:
             entries.sort()
             parts = [entries[start:start + LEAF] for start in range(0, count, LEAF)]
             self.trees.append(root)
-            self.leaves.append(root.leaves() if paged else parts)
+            self.leaves.append([lows for _, lows in root.leaves()] if paged else parts)
         self.pages = -(-count // PAGE)
 
 
@@ -127,12 +85,15 @@ class Index:
         self.range = asked.spans.get(self.columns[0])
         self.restricted = self.range is not None
         if table.trees[number] is not None:
-            self.estimate, self.exact = table.trees[number].estimate(self.side)
+            self.estimate, self.exact = table.trees[number].estimate(self)
         else:
             self.estimate, self.exact = sum(self.side(key) == 0 for leaf in self.leaves for key, _ in leaf), True
         self.covers = asked.needed <= set(self.columns)
         # the part of the restriction that it tests by itself
         self.part = {c: span for c, span in asked.spans.items() if c in self.columns}
+
+    def is_empty(self):
+        return self.range is not None and self.range[0] > self.range[1]
 
     def side(self, key):
         """-1 before the range, 0 in it, 1 after it."""

@@ -5,8 +5,6 @@
 
 mod fits;
 mod read;
-#[cfg(test)]
-mod tests;
 
 use fits::all_fit;
 use read::{Fault, columns, restriction, values};

@@ -1,7 +1,8 @@
 -- How runs end.
-use Rattle.std.proofs.Common.{◌≡◌, ℕ, List, [], ◌++◌, refl, sym, ap, ◌∙◌, subst, append-nil, Bool, Option, Some, None, Result, Ok, Err, IfSome, IsOkAnd, IsSomeAnd, OnOk}
+use Rattle.std.proofs.Common.{◌≡◌, ◌≤◌, arith, ℕ, length, List, [], ◌++◌, refl, sym, ap, ◌∙◌, subst, append-nil, Bool, Option, Some, None, Result, Ok, Err, IfSome, IsOkAnd, IsSomeAnd, OnOk}
 use Rattle.std.specs.Prelude.{is_ok}
-use Rattle.rv_io.specs.Pieces.{TakesAll}
+use Rattle.rv_io.proofs.Streams.{consumes_none}
+use Rattle.rv_io.specs.Pieces.{TakesAll, TakesUpTo}
 use Rattle.rv_value.specs.declared.duplicate.NoMemory.{NoMemory}
 use Rattle.rv_script.specs.declared.scripts.Script.{Script}
 use Rattle.rv_script.specs.declared.scripts.ScriptFault.{ScriptFault}
@@ -11,8 +12,12 @@ use Rattle.rv_script.specs.Script.{script_of}
 use Rattle.rv_cli.specs.declared.status.Status.{Status}
 use Rattle.rv_cli.specs.declared.status.Status.TheVariants as statuses
 use Rattle.rv_core.specs.Core.{Shown}
-use Rattle.rv_cli.specs.Script.{HasAllCalls, HasFirstCalls, HasTooMany, Runs, StopsShort, Told, WritesAll, WritesFront, calls_asked}
+use Rattle.rv_cli.specs.Script.{HasAllCalls, HasFirst, HasFirstCalls, HasTooMany, ReadsAll, Runs, StopsShort, Told, Write, WritesAll, WritesFront, calls_asked}
 use Rattle.rv_cli.specs.Performing.{Hinders, Performs, PerformsFirst, PerformsFront, calls_status, script_status}
+
+-- where nothing was taken
+pub takes_none : (left : Option (List ℕ)) (most : ℕ) → TakesUpTo left left most
+takes_none left most = record { bytes = []; taken = consumes_none left; few = omega arith }
 
 -- the bytes that were taken are those that were told
 told : (left after : Option (List ℕ)) (bytes : List ℕ) → TakesAll left after bytes → IfSome left (λ xs. xs ≡ bytes)
@@ -26,22 +31,25 @@ of_told : (left : Option (List ℕ)) (bytes : List ℕ) (P : List ℕ → Type 0
 of_told None bytes P e p = tt
 of_told (Some xs) bytes P e p = subst P (sym e) p
 
+all_of : (left after : Option (List ℕ)) (bytes : List ℕ) (P : List ℕ → Type 0) → TakesAll left after bytes → P bytes → ReadsAll left after P
+all_of left after bytes P taken p = record { end = taken.end; told = of_told left bytes P (told left after bytes taken) p }
+
 -- a script's fault hinders the run by its status
-pub hinders : (fault : ScriptFault) (left after : Option (List ℕ)) (bytes : List ℕ) (before now : ℕ) → FaultIs fault (script_of bytes) → TakesAll left after bytes → Hinders left after before now (script_status fault)
-hinders (faults.NoSession line) left after bytes before now said taken = record { kind = tt; first = of_told left bytes (λ xs. script_of xs ≡ Err (faults.NoSession line)) (told left after bytes taken) said }
-hinders (faults.NotText offset) left after bytes before now said taken = record { kind = tt; first = of_told left bytes (λ xs. script_of xs ≡ Err (faults.NotText offset)) (told left after bytes taken) said }
-hinders (faults.TooLong line) left after bytes before now said taken = of_told left bytes (λ xs. script_of xs ≡ Err (faults.TooLong line)) (told left after bytes taken) said
-hinders (faults.TooMany lines) left after bytes before now said taken = of_told left bytes HasTooMany (told left after bytes taken) (record { lines = lines; first = said })
-hinders faults.NoMemory left after bytes before now said taken = tt
+pub hinders : (fault : ScriptFault) (left after : Option (List ℕ)) (bytes : List ℕ) (before now : ℕ) → length bytes ≤ 16777216 → FaultIs fault (script_of bytes) → TakesAll left after bytes → Hinders left after before now (script_status fault)
+hinders (faults.NoSession line) left after bytes before now few said taken = record { kind = tt; whole = all_of left after bytes (λ xs. HasFirst xs (faults.NoSession line)) taken (record { few = few; first = said }) }
+hinders (faults.NotText offset) left after bytes before now few said taken = record { kind = tt; whole = all_of left after bytes (λ xs. HasFirst xs (faults.NotText offset)) taken (record { few = few; first = said }) }
+hinders (faults.TooLong line) left after bytes before now few said taken = all_of left after bytes (λ xs. HasFirst xs (faults.TooLong line)) taken (record { few = few; first = said })
+hinders (faults.TooMany lines) left after bytes before now few said taken = all_of left after bytes HasTooMany taken (record { lines = lines; first = record { few = few; first = said } })
+hinders faults.NoMemory left after bytes before now few said taken = tt
 
 -- the script that the bytes taken write is the one that the source told
-pub told_script : (left after : Option (List ℕ)) (bytes : List ℕ) (script : Script) → TakesAll left after bytes → script_of bytes ≡ Ok script → Told left (λ told. told ≡ script)
-told_script left after bytes script taken is = of_told left bytes (λ xs. IsOkAnd (script_of xs) (λ told. told ≡ script)) (told left after bytes taken) (rw is refl)
+pub told_script : (left after : Option (List ℕ)) (bytes : List ℕ) (script : Script) → length bytes ≤ 16777216 → TakesAll left after bytes → script_of bytes ≡ Ok script → Told left (λ told. told ≡ script)
+told_script left after bytes script few taken is = of_told left bytes (λ xs. Write xs (λ told. told ≡ script)) (told left after bytes taken) (record { few = few; script = rw is refl })
 
 -- what holds of the script that is run
 told_of : (left : Option (List ℕ)) (script : Script) (P : Script → Type 0) → Told left (λ told. told ≡ script) → P script → Told left P
 told_of None script P is p = tt
-told_of (Some bytes) script P is p = ok_of (script_of bytes) script P is p
+told_of (Some bytes) script P is p = record { few = is.few; script = ok_of (script_of bytes) script P is.script p }
   where
     ok_of : (said : Result Script ScriptFault) (script : Script) (P : Script → Type 0) → IsOkAnd said (λ told. told ≡ script) → P script → IsOkAnd said P
     ok_of (Ok s) script P is p = subst P (sym is) p

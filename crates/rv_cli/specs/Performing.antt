@@ -1,7 +1,6 @@
 -- What performing a script comes to, and which status a fault gives.
 use Rattle.std.specs.Prelude.{ℕ, List, Option, Bool, true, false}
 use Rattle.std.specs.Io.KnownBytes.{Appends}
-use Rattle.rv_io.specs.Causes.{Rose}
 use Rattle.rv_io.specs.Pieces.{AppendsFront}
 use Rattle.rv_io.specs.declared.all.ReadFault.{ReadFault}
 use Rattle.rv_io.specs.declared.all.ReadFault.TheVariants as reading
@@ -13,7 +12,7 @@ use Rattle.rv_core.specs.Core.{Shown}
 use Rattle.rv_cli.specs.declared.status.Over.TheVariants as over
 use Rattle.rv_cli.specs.declared.status.Status.{Status}
 use Rattle.rv_cli.specs.declared.status.Status.TheVariants as statuses
-use Rattle.rv_cli.specs.Script.{HasAllCalls, HasFault, HasFirstCalls, PassesLimit, calls_asked, output}
+use Rattle.rv_cli.specs.Script.{FailsToRead, HasAllCalls, HasFault, HasFirstCalls, PassesLimit, calls_asked, output}
 
 -- The output of a legal history of the script's calls is written, whole.
 pub record Performs (seed : Option ℕ) (old new : Option (List ℕ)) (script : Script) (core : Shown) : Type 0 where
@@ -42,9 +41,9 @@ IsPerformed status = ⊥
 
 -- Why there is no script to run, by the status that tells it.
 abbrev pub Hinders : Option (List ℕ) → Option (List ℕ) → ℕ → ℕ → Status → Type 0
-Hinders left after before now (statuses.Script fault) = HasFault left fault
-Hinders left after before now (statuses.Limit which) = PassesLimit left after 16777216 which
-Hinders left after before now statuses.ReadFault = Rose before now
+Hinders left after before now (statuses.Script fault) = HasFault left after fault
+Hinders left after before now (statuses.Limit which) = PassesLimit left after which
+Hinders left after before now statuses.ReadFault = FailsToRead left after before now
 Hinders left after before now statuses.Memory = Unit {0}
 Hinders left after before now status = ⊥
 

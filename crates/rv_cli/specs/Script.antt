@@ -1,8 +1,9 @@
 -- What a run makes of a script.
-use Rattle.std.specs.Prelude.{◌≡◌, ℕ, ◌+◌, ◌==◌, List, [], ◌∷◌, ◌++◌, Option, Some, None, Err, map, filter, IfSome, IsOkAnd}
+use Rattle.std.specs.Prelude.{◌≡◌, ℕ, ◌+◌, ◌≤◌, ◌==◌, List, [], ◌∷◌, ◌++◌, Option, Some, None, Err, length, map, filter, IfSome, IsOkAnd}
 use Rattle.std.specs.List.{slice_index_or}
-use Rattle.std.specs.Io.KnownBytes.{Appends}
-use Rattle.rv_io.specs.Pieces.{AppendsFront, TakesTooMany}
+use Rattle.std.specs.Io.KnownBytes.{Appends, IsAtEnd}
+use Rattle.rv_io.specs.Causes.{Rose}
+use Rattle.rv_io.specs.Pieces.{AppendsFront, TakesTooMany, TakesUpTo}
 use Rattle.rv_script.specs.declared.scripts.Line.{Line}
 use Rattle.rv_script.specs.declared.scripts.Phase.{Phase}
 use Rattle.rv_script.specs.declared.scripts.Script.{Script}
@@ -63,9 +64,14 @@ pub record HasFirstCalls (history : List Entry) (all : List Call) : Type 0 where
   pub rest : List Call
   pub whole : all ≡ calls_made history ++ rest
 
+-- The bytes, of which there are 16,777,216 at most, write a script of which this holds.
+pub record Write (bytes : List ℕ) (P : Script → Type 0) : Type 0 where
+  pub few : length bytes ≤ 16777216
+  pub script : IsOkAnd (script_of bytes) P
+
 -- a fact of the script that the source told, where it tells
 abbrev pub Told : Option (List ℕ) → (Script → Type 0) → Type 0
-Told left P = IfSome left (λ bytes. IsOkAnd (script_of bytes) P)
+Told left P = IfSome left (λ bytes. Write bytes P)
 
 -- a fact of the script that is run: the generated one of a seed, else the one that the source told, where it tells
 abbrev pub Runs : Option ℕ → Option (List ℕ) → (Script → Type 0) → Type 0
@@ -95,23 +101,39 @@ pub record WritesFront (seed : Option ℕ) (left old new : Option (List ℕ)) (c
   pub written : AppendsFront old new (output seed core.history)
   pub calls : Runs seed left (λ script. HasFirstCalls core.history (calls_asked script))
 
+-- The bytes, of which there are 16,777,216 at most, have this first fault.
+pub record HasFirst (bytes : List ℕ) (fault : ScriptFault) : Type 0 where
+  pub few : length bytes ≤ 16777216
+  pub first : script_of bytes ≡ Err fault
+
+-- Their first fault is that there are too many lines.
+pub record HasTooMany (bytes : List ℕ) : Type 0 where
+  pub lines : ℕ
+  pub first : HasFirst bytes (faults.TooMany lines)
+
+-- The source was read to its end, and this holds of the bytes that it told.
+pub record ReadsAll (left after : Option (List ℕ)) (P : List ℕ → Type 0) : Type 0 where
+  pub end : IsAtEnd after
+  pub told : IfSome left P
+
 -- What status 2 says: the source's bytes have this first fault, a line without a session or a byte that is not UTF-8.
 abbrev pub IsScriptFault : ScriptFault → Type 0
 IsScriptFault (faults.NoSession line) = Unit {0}
 IsScriptFault (faults.NotText offset) = Unit {0}
 IsScriptFault fault = ⊥
 
-pub record HasFault (left : Option (List ℕ)) (fault : ScriptFault) : Type 0 where
+pub record HasFault (left after : Option (List ℕ)) (fault : ScriptFault) : Type 0 where
   pub kind : IsScriptFault fault
-  pub first : IfSome left (λ bytes. script_of bytes ≡ Err fault)
+  pub whole : ReadsAll left after (λ bytes. HasFirst bytes fault)
 
--- The first fault is that there are too many lines.
-pub record HasTooMany (bytes : List ℕ) : Type 0 where
-  pub lines : ℕ
-  pub first : script_of bytes ≡ Err (faults.TooMany lines)
+-- What status 3 says: one byte more than 16,777,216 was taken, and no further one; or the first fault of the source's bytes
+-- is another limit passed.
+abbrev pub PassesLimit : Option (List ℕ) → Option (List ℕ) → Over → Type 0
+PassesLimit left after over.Bytes = TakesTooMany left after 16777216
+PassesLimit left after over.Lines = ReadsAll left after HasTooMany
+PassesLimit left after (over.Line n) = ReadsAll left after (λ bytes. HasFirst bytes (faults.TooLong n))
 
--- What status 3 says: more than so many bytes were taken, or the first fault of the source's bytes is a limit passed.
-abbrev pub PassesLimit : Option (List ℕ) → Option (List ℕ) → ℕ → Over → Type 0
-PassesLimit left after limit over.Bytes = TakesTooMany left after limit
-PassesLimit left after limit over.Lines = IfSome left HasTooMany
-PassesLimit left after limit (over.Line n) = IfSome left (λ bytes. script_of bytes ≡ Err (faults.TooLong n))
+-- What status 5 says: a fault was counted, before more than 16,777,216 bytes were taken.
+pub record FailsToRead (left after : Option (List ℕ)) (before now : ℕ) : Type 0 where
+  pub rose : Rose before now
+  pub taken : TakesUpTo left after 16777216

@@ -13,17 +13,20 @@ mod status;
 mod tests;
 #[cfg(test)]
 mod trace_tests;
+#[cfg(test)]
+mod word_tests;
+mod words;
 
 use crate::run::{Ran, run_plain};
 use crate::status::Status;
+use crate::words::read_words;
 use rv_io::{StdSink, StdSource};
 use rv_judge::{Contrary, Judge, Patient, Threshold};
 use rv_store::Paged;
-use rv_value::{NoMemory, Text};
-use std::alloc::Global;
+use rv_value::NoMemory;
+use std::io;
 use std::io::BufWriter;
 use std::process::ExitCode;
-use std::{env, io};
 
 /// Runs as the words ask, says on standard error how that ended, and exits with the status's code.
 fn main(rt: HostRuntime) -> ExitCode {
@@ -38,7 +41,10 @@ fn main(rt: HostRuntime) -> ExitCode {
 /// The run over the standard streams, under the supplied judges.
 fn whole(rt: &HostRuntime) -> Result<Status, NoMemory> {
     let alloc = rt.alloc();
-    let words = read_words(rt, alloc)?;
+    let words = match read_words(rt) {
+        Ok(words) => words,
+        Err(status) => return Ok(status),
+    };
     let mut judges: Vec<Box<dyn Judge>> = Vec::new(alloc);
     judges.push(Box::new(alloc, Threshold::new())?)?;
     judges.push(Box::new(alloc, Patient::new())?)?;
@@ -63,16 +69,4 @@ fn whole(rt: &HostRuntime) -> Result<Status, NoMemory> {
         Ok(()) => status,
         Err(_fault) => Status::WriteFault,
     })
-}
-
-/// The words after the program's name.
-fn read_words(rt: &HostRuntime, alloc: Global) -> Result<Vec<Text>, NoMemory> {
-    let mut words = Vec::new(alloc);
-    let Ok(all) = env::args(rt) else {
-        return Err(NoMemory);
-    };
-    for word in all.skip(1) {
-        words.push(Text::read(alloc, word.as_str())?)?;
-    }
-    Ok(words)
 }

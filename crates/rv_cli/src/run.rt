@@ -1,13 +1,13 @@
 //! The top call: a script from a source or from a seed, its transcript or its summary to a sink.
-ghost use Rattle.std.specs.Prelude.{◌≡◌, ◌≤◌, ◌<◌, ◌↔◌, All, Err, IfErr, IfOk, IfSome, IsOk, IsSome, IsSomeAnd, None, Ok, [], length};
-ghost use Rattle.std.specs.Io.KnownBytes.{IsAtEnd, Keeps};
+ghost use Rattle.std.specs.Prelude.{◌≡◌, ◌≤◌, ◌<◌, ◌↔◌, Err, IfErr, IfOk, IfSome, IsOk, IsSome, IsSomeAnd, None, Ok, [], length};
+ghost use Rattle.std.specs.Io.KnownBytes.{IsAtEnd};
 ghost use Rattle.rv_io.specs.Causes.{Rose};
-ghost use Rattle.rv_io.specs.Pieces.{Goes};
+ghost use Rattle.rv_io.specs.Pieces.{Goes, TakesUpTo};
 ghost use Rattle.rv_gen.specs.Workload.{generated};
 ghost use Rattle.rv_words.specs.declared.choices.Asked.{Asked as Askings};
 ghost use Rattle.rv_words.specs.Words.{AreAccepted, Ask};
 ghost use Rattle.rv_cli.specs.Judges.{by_number};
-ghost use Rattle.rv_cli.specs.Script.{HasFault, PassesLimit, Runs, StopsShort, Told, WritesAll, WritesFront, output};
+ghost use Rattle.rv_cli.specs.Script.{FailsToRead, HasFault, PassesLimit, Runs, StopsShort, Told, WritesAll, WritesFront, output};
 ghost use Rattle.rv_cli.specs.Making.{FitsScript};
 ghost use Rattle.rv_cli.specs.Performing.{Hinders, IsPerformed, Performs, PerformsFirst, PerformsFront, calls_status, reading_status, script_status};
 ghost use Rattle.rv_cli.specs.declared.status.Over.{Over as Limits};
@@ -24,7 +24,7 @@ use rv_model::Entry;
 use rv_reader::{Reader, Store};
 use rv_script::{Script, ScriptFault, read_script, write_text};
 use rv_value::{NoMemory, Text};
-use rv_words::{Asked, asked};
+use rv_words::{Asked, accepted, asked};
 use std::alloc::Global;
 
 /// The end of a run, with the core that it made.
@@ -54,18 +54,22 @@ pub fn run_plain<P: Store + Reader<Ledger = Uncounted> + Drop, S: Source, K: Sin
     // The output of one legal history of a one-thread database was written, which holds each session's calls, each
     // once, in its order and phase: the transcript, or of a generated script the summary.
     ensures done { (asked : Askings) → Ask words.now asked → result.status ≡ Status.Done → IsSomeAnd result.core (λ core. WritesAll asked.seed (S.left source.old) (K.written sink.old) (K.written sink.new) core.engine) }
-    ensures all_read { (asked : Askings) → Ask words.now asked → asked.seed ≡ None → result.status ≡ Status.Done → IsAtEnd (S.left source.new) }
 
     // Nothing was written, or the output of a legal history of the first calls.
     ensures memory { (asked : Askings) → Ask words.now asked → result.status ≡ Status.Memory → IfSome result.core (λ core. StopsShort asked.seed (S.left source.old) (K.written sink.old) (K.written sink.new) core.engine) }
 
-    // Exactly where the words are not accepted.
+    // Exactly where the words are not accepted, and then nothing is read.
     ensures usage { (result.status ≡ Status.Usage) ↔ ¬ (AreAccepted words.now) }
-    ensures script { (fault : Faults) → result.status ≡ Status.Script fault → HasFault (S.left source.old) fault }
-    ensures limit { (over : Limits) → result.status ≡ Status.Limit over → PassesLimit (S.left source.old) (S.left source.new) LIMIT over }
-    ensures read { result.status ≡ Status.ReadFault → Rose (S.faults source.old) (S.faults source.new) }
+    ensures unasked { result.status ≡ Status.Usage → source.new ≡ source.old }
+    ensures script { (fault : Faults) → result.status ≡ Status.Script fault → HasFault (S.left source.old) (S.left source.new) fault }
+    ensures limit { (over : Limits) → result.status ≡ Status.Limit over → PassesLimit (S.left source.old) (S.left source.new) over }
+    ensures read { result.status ≡ Status.ReadFault → FailsToRead (S.left source.old) (S.left source.new) (S.faults source.old) (S.faults source.new) }
     ensures write { result.status ≡ Status.WriteFault → Rose (K.faults sink.old) (K.faults sink.new) }
     ensures front { (asked : Askings) → Ask words.now asked → result.status ≡ Status.WriteFault → IsSomeAnd result.core (λ core. WritesFront asked.seed (S.left source.old) (K.written sink.old) (K.written sink.new) core.engine) }
+
+    // However it ends, at most one byte more than the limit is taken; and all is read before the first call.
+    ensures taken { TakesUpTo (S.left source.old) (S.left source.new) 16777217 }
+    ensures all_read { (asked : Askings) → Ask words.now asked → asked.seed ≡ None → IsSome result.core → IsAtEnd (S.left source.new) }
 
     // A generated script has no fault, and nothing is read for it.
     ensures generated { (asked : Askings) → Ask words.now asked → IsSome asked.seed → IsPerformed result.status }
@@ -73,13 +77,16 @@ pub fn run_plain<P: Store + Reader<Ledger = Uncounted> + Drop, S: Source, K: Sin
 
     // A run that ended before the calls has no core, and wrote nothing.
     ensures called { IsSome result.core → IsPerformed result.status }
-    ensures early { result.core ≡ None → Keeps (K.written sink.old) (K.written sink.new) }
+    ensures early { result.core ≡ None → sink.new ≡ sink.old }
 
     // So many background steps may follow each foreground step as the words ask.
     ensures steps { (asked : Askings) → Ask words.now asked → IfSome result.core (λ core. core.beside ≡ asked.steps) }
 {
-    let Some(asked) = asked(words) else {
+    if !accepted(words) {
         return ended(Status::Usage);
+    }
+    let Ok(asked) = asked(alloc, words) else {
+        return ended(Status::Memory);
     };
     match script_to_run(alloc, asked.seed, source) {
         Ok(script) => perform(alloc, store, asked, &script, sink, judges),
@@ -96,6 +103,7 @@ fn script_to_run<S: Source>(
     ensures script { IfOk result (λ script. Runs seed (S.left source.old) (λ told. told ≡ script)) }
     ensures fits { IfOk result FitsScript }
     ensures all_read { seed ≡ None → IsOk result → IsAtEnd (S.left source.new) }
+    ensures taken { TakesUpTo (S.left source.old) (S.left source.new) 16777217 }
     ensures fault { IfErr result (Hinders (S.left source.old) (S.left source.new) (S.faults source.old) (S.faults source.new)) }
     ensures generated { IsSome seed → IfErr result (λ status. status ≡ Status.Memory) }
     ensures unread { IsSome seed → source.new ≡ source.old }
@@ -124,6 +132,7 @@ fn read_input<S: Source>(alloc: Global, source: &mut S) -> Result<Script, Status
     ensures script { IfOk result (λ script. Told (S.left source.old) (λ told. told ≡ script)) }
     ensures fits { IfOk result FitsScript }
     ensures all_read { IsOk result → IsAtEnd (S.left source.new) }
+    ensures taken { TakesUpTo (S.left source.old) (S.left source.new) 16777217 }
     ensures fault { IfErr result (Hinders (S.left source.old) (S.left source.new) (S.faults source.old) (S.faults source.new)) }
 {
     let bytes = match read_all(alloc, source, LIMIT) {
@@ -226,7 +235,6 @@ fn judged_core<P: Store + Reader<Ledger = Uncounted> + Drop>(
 
 /// Writes the transcript of a history, or of a generated run the summary.
 fn write_output<K: Sink>(sink: &mut K, seed: Option<u32>, entries: &[Entry]) -> Result<(), Failed>
-    requires { All (λ e. e.session ≤ 8) entries.now }
     ensures { Goes (Ok tt) (K.written sink.old) (K.written sink.new) (K.faults sink.old) (K.faults sink.new) result (output seed entries.now) }
 {
     match seed {

@@ -2,8 +2,6 @@
 #![tactic(auto)]
 
 pub mod reading;
-#[cfg(test)]
-mod tests;
 
 ghost use Rattle.std.specs.Prelude.{◌↔◌, IsTrue};
 ghost use Rattle.rv_judge.specs.Runs.{Allowed};

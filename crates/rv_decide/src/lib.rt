@@ -3,8 +3,6 @@
 
 pub mod choosing;
 pub mod showing;
-#[cfg(test)]
-mod tests;
 pub mod truths;
 
 pub use choosing::offers_over;

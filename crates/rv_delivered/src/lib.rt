@@ -97,6 +97,3 @@ fn put_in(rows: &mut Vec<u64>, at: usize, row: u64)
         Err(_) => unreachable!(),
     }
 }
-
-#[cfg(test)]
-mod tests;

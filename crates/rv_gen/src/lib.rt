@@ -3,8 +3,6 @@
 
 pub mod draws;
 pub mod summary;
-#[cfg(test)]
-mod tests;
 pub mod workload;
 
 pub use summary::{Summary, summary_of, write_summary};

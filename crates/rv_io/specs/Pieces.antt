@@ -20,6 +20,12 @@ pub record TakesPiece (old new : Option (List ℕ)) (before now : List ℕ) (n :
   pub taken : Consumes old new piece
   pub end : n ≡ 0 → IsAtEnd new
 
+-- So many bytes were taken at most.
+pub record TakesUpTo (old new : Option (List ℕ)) (most : ℕ) : Type 0 where
+  pub bytes : List ℕ
+  pub taken : Consumes old new bytes
+  pub few : length bytes ≤ most
+
 -- These are all the bytes that were left.
 pub record TakesAll (old new : Option (List ℕ)) (bytes : List ℕ) : Type 0 where
   pub taken : Consumes old new bytes

@@ -1,6 +1,7 @@
-ghost use Rattle.std.specs.Prelude.{◌≡◌, ◌<◌, ◌≤◌, IfOk, IsErrOf, vec_len};
+ghost use Rattle.std.specs.Prelude.{◌≡◌, ◌<◌, ◌≤◌, ◌+◌, IfOk, IsErrOf, OnErr, vec_len};
+ghost use Rattle.std.specs.Io.KnownBytes.{Keeps};
 ghost use Rattle.rv_io.specs.Causes.{Rose};
-ghost use Rattle.rv_io.specs.Pieces.{Goes, TakesAll, TakesPiece, TakesTooMany, Wrote};
+ghost use Rattle.rv_io.specs.Pieces.{Goes, TakesAll, TakesPiece, TakesTooMany, TakesUpTo, Wrote};
 
 use crate::traits::{Failed, Sink, Source};
 use std::alloc::Global;
@@ -16,12 +17,14 @@ pub enum ReadFault {
 /// How much is asked of a source at once.
 const PIECE: usize = 4096;
 
-/// All bytes to the end of input, where they are at most `limit`. At most `limit` and one are taken;
-/// after a read that failed there is no further one.
+/// All bytes to the end of input, where they are at most `limit`. Whatever is answered, at most one byte more than
+/// `limit` is taken; after a read that failed there is no further one.
 pub fn read_all<S: Source>(alloc: Global, source: &mut S, limit: u32) -> Result<Vec<u8>, ReadFault>
     ensures bytes { IfOk result (λ bytes. TakesAll (S.left source.old) (S.left source.new) bytes.items) }
     ensures within { IfOk result (λ bytes. vec_len bytes ≤ limit) }
+    ensures taken { TakesUpTo (S.left source.old) (S.left source.new) (limit + 1) }
     ensures failed { IsErrOf result ReadFault.Failed → Rose (S.faults source.old) (S.faults source.new) }
+    ensures early { IsErrOf result ReadFault.Failed → TakesUpTo (S.left source.old) (S.left source.new) limit }
     ensures too_big { IsErrOf result ReadFault.TooBig → TakesTooMany (S.left source.old) (S.left source.new) limit }
     ensures later { S.faults source.old ≤ S.faults source.new }
 {
@@ -47,6 +50,8 @@ fn read_piece<S: Source>(
     requires { 0 < room }
     ensures piece { IfOk result (λ n. TakesPiece (S.left source.old) (S.left source.new) bytes.old.items bytes.new.items n) }
     ensures within { IfOk result (λ n. n ≤ room) }
+    ensures taken { OnErr result (TakesUpTo (S.left source.old) (S.left source.new) room) }
+    ensures kept { IsErrOf result ReadFault.Failed → Keeps (S.left source.old) (S.left source.new) }
     ensures failed { IsErrOf result ReadFault.Failed → Rose (S.faults source.old) (S.faults source.new) }
     ensures other { ¬ (IsErrOf result ReadFault.TooBig) }
     ensures later { S.faults source.old ≤ S.faults source.new }

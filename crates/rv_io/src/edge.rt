@@ -1,5 +1,6 @@
 //! The trusted edge: std's readers and writers as a source and a sink. They tell no content.
 ghost use Rattle.std.specs.Prelude.{None, ◌≡◌};
+ghost use Rattle.rv_io.specs.Causes.{HasCause};
 
 use crate::traits::{Failed, Sink, Source};
 use std::io::{Read, Write};
@@ -54,10 +55,15 @@ impl<W: Drop> StdSink<W> {
 
 impl<W: Write + Drop> StdSink<W> {
     /// Hands everything to the writer's target. `Failed` where that cannot be done.
-    pub fn finish(mut self) -> Result<(), Failed> {
+    pub fn finish(&mut self) -> Result<(), Failed>
+        ensures { HasCause self.old.faults self.new.faults result }
+    {
         match self.inner.flush() {
             Ok(()) => Ok(()),
-            Err(_error) => Err(Failed),
+            Err(_error) => {
+                self.faults = self.faults.saturating_add(1);
+                Err(Failed)
+            }
         }
     }
 }

@@ -49,6 +49,15 @@ leaf_keys j shown chunk way can leaf = chunk_keys (length (present j).part.colum
 pub leaf_apart : (j : Joint) (shown : Shown) (chunk : Chunk) → under_way j ≡ true → JointFits j shown → IsNextLeaf j shown chunk → Apart chunk.entries
 leaf_apart j shown chunk way f leaf = chunk_apart (shown.entries (present j).index j.snap) (shown.cuts (present j).index j.snap) (present j).range j.place chunk leaf (f.apart j.ended (way_within j way))
 
+-- no row of the list being built is in the leaf
+pub leaf_fresh : (j : Joint) (shown : Shown) (chunk : Chunk) → JointFits j shown → IsNextLeaf j shown chunk → Disjoint j.building chunk.entries
+leaf_fresh j shown chunk f leaf n =
+    let after = run_after (shown.entries (present j).index j.snap) (present j).range chunk.next in
+    without (has_key n j.building) (has_entry n chunk.entries) (has_entry n after) _ (subst (λ (es : List IndexEntry). (has_key n j.building && has_entry n es) ≡ false) leaf.parts (f.fresh n)) (has_append n chunk.entries after)
+  where
+    without : (b e a ea : Bool) → (b && ea) ≡ false → ea ≡ (e || a) → (b && e) ≡ false
+    without b e a ea h1 h2 = grind arith
+
 pub held_fits : (j : Joint) (shown : Shown) (chunk : Chunk) → IsNextLeaf j shown chunk → JointFits j shown → JointFits (record j { held = Some chunk }) shown
 held_fits j shown chunk d f = record { room = f.room; within = f.within; apart = f.apart; covers = f.covers; builds = f.builds; fresh = f.fresh; drawn = d }
 

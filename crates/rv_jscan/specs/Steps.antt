@@ -62,8 +62,12 @@ reads_leaf j = under_way j && not (is_some j.held)
 abbrev pub leaf_counted : ScanCounts → ScanCounts
 leaf_counted c = record c { leaves = one_more c.leaves }
 
+-- the counts with one more leaf of the present scan
+abbrev pub one_leaf : Joint → List ScanCounts
+one_leaf j = slice_set j.counts j.ended (leaf_counted (counts_at j.counts j.ended))
+
 abbrev pub counts_read : Joint → List ScanCounts
-counts_read j = if reads_leaf j then slice_set j.counts j.ended (leaf_counted (counts_at j.counts j.ended)) else j.counts
+counts_read j = if reads_leaf j then one_leaf j else j.counts
 
 abbrev pub steps_read : Joint → Counts → Counts
 steps_read j steps = if reads_leaf j then leaf_read steps else steps

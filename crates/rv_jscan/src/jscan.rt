@@ -6,7 +6,7 @@ ghost use Rattle.rv_reader.specs.Shown.{Shown};
 ghost use Rattle.rv_reader.specs.Storing.{AreKeys};
 ghost use Rattle.rv_jscan.specs.Entries.{Apart, Disjoint};
 ghost use Rattle.rv_jscan.specs.Joint.{CanTake, Covers, IsNextLeaf, JointFits, counts_at, keys_of, plan_at, present, under_way};
-ghost use Rattle.rv_jscan.specs.Steps.{Accepts, Awaits, Gives, HasEntries, Nearer, TakeLeaves, Takes, abandoned, awaited_id, begun, held_next, kept_of, leaf_counted, next_id, piece_counted, steps_read};
+ghost use Rattle.rv_jscan.specs.Steps.{Accepts, Awaits, Gives, HasEntries, Nearer, TakeLeaves, Takes, abandoned, awaited_id, begun, counts_read, held_next, kept_of, next_id, one_leaf, piece_counted, steps_read};
 
 use crate::keeping::add_marked;
 use crate::piece::{Piece, PieceId, Sieved};
@@ -257,7 +257,7 @@ impl Jscan {
 
     fn count_leaf(&mut self)
         requires { under_way self.old ≡ true }
-        ensures { self.new ≡ record self.old { counts = slice_set self.old.counts self.old.ended (leaf_counted (counts_at self.old.counts self.old.ended)) } }
+        ensures { self.new ≡ record self.old { counts = one_leaf self.old } }
     {
         let at = self.ended as usize;
         let _plans = &self.plans;
@@ -280,22 +280,39 @@ impl Jscan {
         self.held.is_some()
     }
 
-    /// Reads the awaited leaf, where it is not held.
-    fn read<R: Reader>(&mut self, reader: &R, steps: &mut Steps<R::Ledger>) -> Result<(), NoMemory>
+    /// Reads the awaited leaf and copies its piece. The leaf is held once the copy is made, so without one the piece is
+    /// not taken.
+    fn read<R: Reader>(
+        &mut self,
+        reader: &R,
+        steps: &mut Steps<R::Ledger>,
+    ) -> Result<Piece, NoMemory>
         requires way { under_way self.old ≡ true }
         requires can { CanTake self.old (R.shown reader.now) }
         requires fits { JointFits self.old (R.shown reader.now) }
-        ensures leaves { TakeLeaves self.old self.new }
-        ensures held { OnOk result (IsSome self.new.held) }
+        ensures same { self.new ≡ record self.old { held = self.new.held; counts = one_leaf self.old } }
+        ensures taken { IfOk result (λ p. Awaits self.new p) }
+        ensures err { OnErr result (self.new ≡ record self.old { counts = one_leaf self.old }) }
         ensures fits { JointFits self.new (R.shown reader.now) }
-        ensures reads { steps.new ≡ steps_read self.old steps.old }
+        ensures reads { steps.new ≡ leaf_read steps.old }
     {
-        if !self.is_held() {
-            self.count_leaf();
-            let held = self.leaf(reader, steps)?;
-            self.hold(held);
-        }
-        Ok(())
+        self.count_leaf();
+        let held = self.leaf(reader, steps)?;
+        let piece = self.piece_of(&held)?;
+        self.hold(held);
+        Ok(piece)
+    }
+
+    /// A copy of the piece of a leaf.
+    fn piece_of(&self, leaf: &Chunk) -> Result<Piece, NoMemory>
+        requires way { under_way self.now ≡ true }
+        requires short { length leaf.now.entries ≤ 32 }
+        requires keys { AreKeys (length (present self.now).part.columns) leaf.now.entries }
+        ensures { IfOk result (λ p. p ≡ record { id = next_id self.now; entries = leaf.now.entries; part = (present self.now).part }) }
+    {
+        let entries = copy_slice(self.alloc, leaf.entries.as_slice())?;
+        let part = self.plans[self.ended as usize].part.copy(self.alloc)?;
+        Ok(Piece::make(self.next_id(), entries, part))
     }
 
     fn copy_held(&self) -> Result<Piece, NoMemory>
@@ -304,17 +321,14 @@ impl Jscan {
         ensures { IfOk result (λ p. Awaits self.now p) }
     {
         match &self.held {
-            Some(held) => {
-                let entries = copy_slice(self.alloc, held.entries.as_slice())?;
-                let part = self.plans[self.ended as usize].part.copy(self.alloc)?;
-                Ok(Piece::make(self.next_id(), entries, part))
-            }
+            Some(held) => self.piece_of(held),
             None => unreachable!(),
         }
     }
 
     /// A copy of the awaited piece; Nothing exactly where no scan is under way. The leaf is read at the first take of its
-    /// piece, and again only after one that answered `NoMemory` for the read.
+    /// piece, and again only after one that answered `NoMemory`. A piece is taken once a take has answered it: `NoMemory`
+    /// leaves what was taken, and counts the leaf that was read.
     pub fn take<R: Reader>(
         &mut self,
         reader: &R,
@@ -324,14 +338,17 @@ impl Jscan {
         requires fits { JointFits self.old (R.shown reader.now) }
         ensures leaves { TakeLeaves self.old self.new }
         ensures taken { IfOk result (Takes self.new) }
+        ensures err { OnErr result (self.new ≡ record self.old { counts = counts_read self.old }) }
         ensures fits { JointFits self.new (R.shown reader.now) }
         ensures reads { steps.new ≡ steps_read self.old steps.old }
     {
         if !self.is_under_way() {
             return Ok(Taken::Nothing);
         }
-        self.read(reader, steps)?;
-        Ok(Taken::Piece(self.copy_held()?))
+        if self.is_held() {
+            return Ok(Taken::Piece(self.copy_held()?));
+        }
+        Ok(Taken::Piece(self.read(reader, steps)?))
     }
 }
 

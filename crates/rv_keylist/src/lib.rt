@@ -185,6 +185,3 @@ impl KeyList {
         }
     }
 }
-
-#[cfg(test)]
-mod tests;

@@ -4,8 +4,6 @@
 pub mod lexer;
 pub mod reply;
 pub mod statement;
-#[cfg(test)]
-mod tests;
 pub mod token;
 
 pub use lexer::lex;

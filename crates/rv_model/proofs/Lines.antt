@@ -2,6 +2,7 @@
 use Rattle.std.proofs.Common.{◌≡◌, ℕ, ◌+◌, ◌<◌, ◌^◌, List, [], ◌∷◌, ◌++◌, refl, sym, ap, ◌∙◌, subst, arith, Bool, true, false, ◌&&◌, not, codes, eqb, append_assoc, nat_le, flat_map, cond}
 use Rattle.std.specs.List.{list_all, AllByRecursion}
 use Rattle.std.specs.Fmt.{decimal, signed_decimal}
+use Rattle.std.proofs.lemmas.Fmt.{decimal_digit}
 use Rattle.std.proofs.lemmas.List.Folds.{list_all-append}
 use Rattle.std.proofs.lemmas.Bool.Decides.{nat_tests}
 use Rattle.rv_value.specs.declared.value.Value.{Value}
@@ -174,12 +175,12 @@ reply_line (replies.Trace shown) p = spaced_line (trace_words shown) (trace_line
 reply_line (replies.Refused r) p = refusal_line r p
 
 -- an entry and what follows, by its two ends of lines
-entry_parts : (e : Entry) (x : List ℕ) → entry_text e ++ x ≡ (48 + e.session) ∷ 32 ∷ (e.text ++ 10 ∷ 61 ∷ 32 ∷ (reply_text e.reply ++ 10 ∷ x))
-entry_parts e x = simp append_assoc
+entry_parts : (e : Entry) (x : List ℕ) → IsPlain e → entry_text e ++ x ≡ (48 + e.session) ∷ 32 ∷ (e.text ++ 10 ∷ 61 ∷ 32 ∷ (reply_text e.reply ++ 10 ∷ x))
+entry_parts e x p = let digit = decimal_digit e.session (let to = p.to in omega (arith, to)) in rw digit (simp append_assoc)
 
 entry_cut : (a b : Entry) (x y : List ℕ) → IsPlain a → IsPlain b → entry_text a ++ x ≡ entry_text b ++ y → SameButPhase a b × (x ≡ y)
 entry_cut a b x y pa pb e =
-    let f : (48 + a.session) ∷ 32 ∷ (a.text ++ 10 ∷ 61 ∷ 32 ∷ (reply_text a.reply ++ 10 ∷ x)) ≡ (48 + b.session) ∷ 32 ∷ (b.text ++ 10 ∷ 61 ∷ 32 ∷ (reply_text b.reply ++ 10 ∷ y)) = sym (entry_parts a x) ∙ e ∙ entry_parts b y in
+    let f : (48 + a.session) ∷ 32 ∷ (a.text ++ 10 ∷ 61 ∷ 32 ∷ (reply_text a.reply ++ 10 ∷ x)) ≡ (48 + b.session) ∷ 32 ∷ (b.text ++ 10 ∷ 61 ∷ 32 ∷ (reply_text b.reply ++ 10 ∷ y)) = sym (entry_parts a x pa) ∙ e ∙ entry_parts b y pb in
     let digits : 48 + a.session ≡ 48 + b.session = cc in
     let lines : a.text ++ 10 ∷ 61 ∷ 32 ∷ (reply_text a.reply ++ 10 ∷ x) ≡ b.text ++ 10 ∷ 61 ∷ 32 ∷ (reply_text b.reply ++ 10 ∷ y) = cc in
     let first = cut no_lf a.text b.text (10 ∷ 61 ∷ 32 ∷ (reply_text a.reply ++ 10 ∷ x)) (10 ∷ 61 ∷ 32 ∷ (reply_text b.reply ++ 10 ∷ y)) pa.asked pb.asked refl refl lines in
@@ -187,10 +188,13 @@ entry_cut a b x y pa pb e =
     let second = cut no_lf (reply_text a.reply) (reply_text b.reply) (10 ∷ x) (10 ∷ y) (reply_line a.reply pa.answered) (reply_line b.reply pb.answered) refl refl replies in
     (record { session = omega (arith, digits); text = first.0; reply = reply_same a.reply b.reply pa.answered pb.answered second.0 }, cc second.1)
 
+no_text : (e : Entry) (x : List ℕ) (X : Type 0) → IsPlain e → [] ≡ entry_text e ++ x → X
+no_text e x X p none = let wrong : [] ≡ (48 + e.session) ∷ 32 ∷ (e.text ++ 10 ∷ 61 ∷ 32 ∷ (reply_text e.reply ++ 10 ∷ x)) = none ∙ entry_parts e x p in cc
+
 pub text_same : (es bs : List Entry) → AllByRecursion IsPlain es → AllByRecursion IsPlain bs → text es ≡ text bs → AllSameButPhase es bs
 text_same [] [] pa pb e = tt
-text_same [] (b ∷ bs) pa pb e = cc
-text_same (a ∷ es) [] pa pb e = cc
+text_same [] (b ∷ bs) pa pb e = no_text b (text bs) (AllSameButPhase [] (b ∷ bs)) pb.0 e
+text_same (a ∷ es) [] pa pb e = no_text a (text es) (AllSameButPhase (a ∷ es) []) pa.0 (sym e)
 text_same (a ∷ es) (b ∷ bs) pa pb e =
     let r = entry_cut a b (text es) (text bs) pa.0 pb.0 e in
     (r.0, text_same es bs pa.1 pb.1 r.1)

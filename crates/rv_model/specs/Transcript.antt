@@ -124,9 +124,9 @@ reply_text (replies.Stepped n) = codes "stepped " ++ decimal n
 reply_text (replies.Trace shown) = codes "trace" ++ spaced (trace_words shown)
 reply_text (replies.Refused refusal) = refusal_text refusal
 
--- the session's digit, a space and the text as given; then "= " and the reply's text; each line ends with LF
+-- the session's number, a space and the text as given; then "= " and the reply's text; each line ends with LF
 abbrev pub entry_text : Entry → List ℕ
-entry_text e = (48 + e.session) ∷ 32 ∷ e.text ++ codes "\n= " ++ reply_text e.reply ++ 10 ∷ []
+entry_text e = decimal e.session ++ 32 ∷ e.text ++ codes "\n= " ++ reply_text e.reply ++ 10 ∷ []
 
 abbrev pub text : List Entry → List ℕ
 text entries = flat_map entry_text entries

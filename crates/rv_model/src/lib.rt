@@ -13,6 +13,3 @@ pub use queue::Queue;
 pub use rv_lang::{Refusal, Reply, Shown, ShownEvent, Which};
 pub use state::{Cursor, Offer, State};
 pub use transactions::{Transaction, Transactions};
-
-#[cfg(test)]
-mod tests;

@@ -5,6 +5,3 @@ mod children;
 mod node;
 
 pub use node::Node;
-
-#[cfg(test)]
-mod tests;

@@ -9,8 +9,6 @@ pub mod parser;
 pub mod parts;
 pub mod selects;
 pub mod statements;
-#[cfg(test)]
-mod tests;
 
 pub use fault::ParseFault;
 pub use parser::{parse, read_statement};

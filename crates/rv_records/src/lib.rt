@@ -5,6 +5,3 @@ mod finding;
 mod records;
 
 pub use records::Records;
-
-#[cfg(test)]
-mod tests;

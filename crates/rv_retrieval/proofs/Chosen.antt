@@ -44,7 +44,7 @@ use Rattle.rv_retrieval.specs.Fronts.{Front, front_left, walk_of}
 use Rattle.rv_retrieval.specs.Opened.{Begun, front_begun, front_candidate, has_scans, is_one, walk_begun}
 use Rattle.rv_retrieval.specs.Opens.{Opens, first_of}
 use Rattle.rv_retrieval.specs.Rest.{qualifies_at}
-use Rattle.rv_retrieval.specs.Shape.{FrontFits, Shape, is_background, is_led, is_sorted}
+use Rattle.rv_retrieval.specs.Shape.{FrontFits, Shape, is_background, is_index_only, is_led, is_sorted}
 use Rattle.rv_retrieval.proofs.Choices.{IsCandidate, all_at, are_candidates, leads_begins, stand_all}
 use Rattle.rv_retrieval.proofs.Entered.{all_kept, entered}
 use Rattle.rv_retrieval.proofs.Planning.{is_true_true, planned_apart, planned_meets}
@@ -94,6 +94,7 @@ pub record ChosenFront (order : List ℕ) (cs : List Candidate) (choice : Choice
   pub is : choice.front ≡ Some at
   pub there : at < length cs
   pub begins : is_sorted choice.strategy ≡ true → leads order (candidate_at cs at).columns ≡ true
+  pub suffices : is_index_only choice.strategy ≡ true → (candidate_at cs at).sufficient ≡ true
 
 no_lead : {X : Type 0} (goal : Goal2) (choice : Choice) (restricted : Option ℕ) → choice ≡ restricted_choice goal restricted → is_led choice.strategy ≡ true → X
 no_lead Soon choice (Some at) e h = absurd (let bad : true ≡ false = sym h ∙ ap (λ (c : Choice). is_led c.strategy) e in cc)
@@ -104,20 +105,21 @@ no_lead TotalTime choice None e h = absurd (let bad : true ≡ false = sym h ∙
 pub chosen_front : (order : List ℕ) (goal : Goal2) (cs : List Candidate) (choice : Choice) → IsChosen order goal cs choice → is_led choice.strategy ≡ true → ChosenFront order cs choice
 chosen_front order goal cs choice chosen led = go (order_index order cs) chosen.short chosen.sufficient chosen.restricted refl chosen.least_sufficient chosen.rules
   where
-    ordered : (at : ℕ) (short : Option ℕ) → order_index order cs ≡ Some at → choice ≡ ordered_choice cs at short → choice.front ≡ Some at → ChosenFront order cs choice
+    ordered : (at : ℕ) (short : Option ℕ) → order_index order cs ≡ Some at → choice.strategy ≡ Sorted → choice.front ≡ Some at → ChosenFront order cs choice
     ordered at short e r f =
         let found = position-Some (λ (c : Candidate). leads order c.columns) cs at no_candidate e in
-        record { at = at; is = f; there = found.0; begins = λ h. found.1 }
+        record { at = at; is = f; there = found.0; begins = λ h. found.1; suffices = λ h. absurd (let bad : true ≡ false = sym h ∙ ap is_index_only r in cc) }
 
     go : (found short sufficient restricted : Option ℕ) → order_index order cs ≡ found → IsLeastOf Sufficient cs sufficient → choice ≡ choice_of cs goal found short sufficient restricted → ChosenFront order cs choice
-    go (Some at) (Some s) sufficient restricted e l r = ordered at (Some s) e r (ap (λ (c : Choice). c.front) r)
-    go (Some at) None sufficient restricted e l r = ordered at None e r (ap (λ (c : Choice). c.front) r)
+    go (Some at) (Some s) sufficient restricted e l r = ordered at (Some s) e (ap (λ (c : Choice). c.strategy) r) (ap (λ (c : Choice). c.front) r)
+    go (Some at) None sufficient restricted e l r = ordered at None e (ap (λ (c : Choice). c.strategy) r) (ap (λ (c : Choice). c.front) r)
     go None (Some s) sufficient restricted e l r = absurd (let bad : true ≡ false = sym led ∙ ap (λ (c : Choice). is_led c.strategy) r in cc)
     go None None (Some at) restricted e l r = record {
       at = at;
       is = ap (λ (c : Choice). c.front) r;
       there = l.below;
       begins = λ h. absurd (let bad : true ≡ false = sym h ∙ ap (λ (c : Choice). is_sorted c.strategy) r in cc);
+      suffices = λ h. l.is;
     }
     go None None None restricted e l r = no_lead goal choice restricted r led
 
@@ -178,8 +180,8 @@ no_order query shown choice can chosen other = by can.ordered
 pub walk_same : (query : Query) (c : Candidate) → walk_of (front_begun query c) ≡ walk_begun query c
 walk_same query c = elim c.sufficient as (λ b. cond b (walk_begun query c) (walk_begun query c) ≡ walk_begun query c) [ true ↦ refl | false ↦ refl ]
 
-begun_fits : (query : Query) (shown : Shown) (c : Candidate) (strategy : Strategy) → CanAsk query shown → IsCandidate query shown c → (is_sorted strategy ≡ true → leads query.order c.columns ≡ true) → FrontFits query strategy (front_begun query c) shown
-begun_fits query shown c strategy can is begins =
+begun_fits : (query : Query) (shown : Shown) (c : Candidate) (strategy : Strategy) → CanAsk query shown → IsCandidate query shown c → (is_sorted strategy ≡ true → leads query.order c.columns ≡ true) → (is_index_only strategy ≡ true → c.sufficient ≡ true) → FrontFits query strategy (front_begun query c) shown
+begun_fits query shown c strategy can is begins suffices =
     let same = walk_same query c in
     record {
       can = record {
@@ -193,6 +195,7 @@ begun_fits query shown c strategy can is begins =
       };
       follows = subst (λ (w : Along). Follows w (shown.entries w.index query.snap)) (sym same) (0, refl);
       entries = subst (λ (w : Along). shown.entries w.index query.snap ≡ entries_of c.columns (shown.rows query.table query.snap)) (sym same) is.index_of.entries;
+      alone = suffices;
       covering = λ alone. all alone;
       begins = λ h. leads_begins query.order c.columns (begins h);
       needs = can.needs;
@@ -235,7 +238,7 @@ choice_opens query shown choice scans can chosen s =
     front_ok : AllByRecursion (IsCandidate query shown) (candidates_of query shown) → is_led choice.strategy ≡ true → FrontFits query choice.strategy (front_begun query (front_candidate (candidates_of query shown) choice.front)) shown
     front_ok candidates h =
         let f = chosen_front query.order query.goal (candidates_of query shown) choice chosen h in
-        subst (λ (at : Option ℕ). FrontFits query choice.strategy (front_begun query (front_candidate (candidates_of query shown) at)) shown) (sym f.is) (begun_fits query shown (candidate_at (candidates_of query shown) f.at) choice.strategy can (all_at (IsCandidate query shown) (candidates_of query shown) f.at no_candidate candidates f.there) f.begins)
+        subst (λ (at : Option ℕ). FrontFits query choice.strategy (front_begun query (front_candidate (candidates_of query shown) at)) shown) (sym f.is) (begun_fits query shown (candidate_at (candidates_of query shown) f.at) choice.strategy can (all_at (IsCandidate query shown) (candidates_of query shown) f.at no_candidate candidates f.there) f.begins f.suffices)
 
     all_ok : AllByRecursion (IsCandidate query shown) (candidates_of query shown) → is_led choice.strategy ≡ true → (n : ℕ) → qualifies_at query.only (shown.rows query.table query.snap) n ≡ true → front_left (front_begun query (front_candidate (candidates_of query shown) choice.front)) (shown.entries (walk_of (front_begun query (front_candidate (candidates_of query shown) choice.front))).index query.snap) n ≡ true
     all_ok candidates h n q =

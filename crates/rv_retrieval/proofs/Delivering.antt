@@ -127,6 +127,7 @@ front_again query strategy old new shown same follows f = record {
   };
   follows = subst (λ (i : ℕ). Follows (walk_of new) (shown.entries i query.snap)) (sym same.index) follows;
   entries = subst (λ (i : ℕ). shown.entries i query.snap ≡ entries_of new.columns (shown.rows query.table query.snap)) (sym same.index) (subst (λ (cs : List ℕ). shown.entries (walk_of old).index query.snap ≡ entries_of cs (shown.rows query.table query.snap)) (sym same.columns) f.entries);
+  alone = λ e. same.alone ∙ f.alone e;
   covering = λ e c h. subst (λ (cs : List ℕ). stands_among cs c ≡ true) (sym same.columns) (f.covering (sym same.alone ∙ e) c h);
   needs = f.needs;
   begins = λ s. subst (λ (cs : List ℕ). take (length query.order) cs ≡ query.order) (sym same.columns) (f.begins s);

@@ -8,6 +8,7 @@ use Rattle.rv_judge.specs.declared.events.Happening.{Happening}
 use Rattle.rv_judge.specs.declared.events.Happening.TheVariants.{ScanEnded, Ruled}
 use Rattle.rv_judge.specs.declared.judging.Facts.{Facts}
 use Rattle.rv_judge.specs.declared.judging.Verdict.{Verdict}
+use Rattle.rv_judge.specs.Verdicts.{Ruling}
 use Rattle.rv_judge.specs.declared.judging.Verdict.TheVariants.{Continue, AbandonScan, AbandonForeground, AbandonBackground}
 use Rattle.rv_judge.specs.Account.{facts_of}
 use Rattle.rv_judge.specs.Course.{next_control}
@@ -73,11 +74,11 @@ scan_over_less scan v shown = by (under_way v.joint)
 
 -- A piece is given.
 
-obeyed_less : (same way : Bool) (would : ℕ → Facts → Verdict) (state after before : ℕ) (v new : Shape) (shown : Shown) (limit : ℕ) → Obeyed same way would state after before v new → under_way v.joint ≡ way → effort v shown < limit → (same ≡ false → effort (record v { borrowed = 0 }) shown < limit) → effort new shown < limit
+obeyed_less : (same way : Bool) (would : ℕ → Facts → Ruling) (state after before : ℕ) (v new : Shape) (shown : Shown) (limit : ℕ) → Obeyed same way would state after before v new → under_way v.joint ≡ way → effort v shown < limit → (same ≡ false → effort (record v { borrowed = 0 }) shown < limit) → effort new shown < limit
 obeyed_less true true would state after before v new shown limit o way near again =
-    let verdict = would state (facts_of (account_of v) v.joint.ended) in
+    let verdict = (would state (facts_of (account_of v) v.joint.ended)).verdict in
     let less : effort (ruled verdict v) shown ≤ effort v shown = ruled_less verdict v shown way in
-    let is : effort new shown ≡ effort (ruled verdict v) shown = ap (λ (x : Shape). effort x shown) o in
+    let is : effort new shown ≡ effort (ruled verdict v) shown = ap (λ (x : Shape). effort x shown) o.0 in
     omega arith
 obeyed_less true false would state after before v new shown limit o way near again = let is = ap (λ (x : Shape). effort x shown) o.0 in omega arith
 obeyed_less false way would state after before v new shown limit o w near again =
@@ -89,7 +90,7 @@ obeyed_less false way would state after before v new shown limit o w near again 
 same_number : (n : ℕ) → nat_eq n n ≡ true
 same_number n = grind (arith, nat_tests)
 
-pub given_less : (would : ℕ → Facts → Verdict) (state after : ℕ) (piece : Pieced) (old new : Shape) (j : Joint) (shown : Shown) → is_background old.control ≡ true → Awaits old.joint piece → Accepts old.joint j piece.entries (held_next old.joint.held) → Obeys would state after old.joint.ended (record old { joint = j }) new → JointFits old.joint shown → effort new shown < effort old shown
+pub given_less : (would : ℕ → Facts → Ruling) (state after : ℕ) (piece : Pieced) (old new : Shape) (j : Joint) (shown : Shown) → is_background old.control ≡ true → Awaits old.joint piece → Accepts old.joint j piece.entries (held_next old.joint.held) → Obeys would state after old.joint.ended (record old { joint = j }) new → JointFits old.joint shown → effort new shown < effort old shown
 given_less would state after piece old new j shown back w a o f =
     let mid = record old { joint = j } in
     let near = sum_near old.control (back_work j old.borrowed shown) (back_work old.joint old.borrowed shown) (front_work old shown) (table_work old shown) (keys_work mid) (keys_work old) back (accepted_less old.joint j piece shown old.borrowed w a f) in
@@ -103,15 +104,15 @@ given_less would state after piece old new j shown back w a o f =
         sum_near old.control (back_work j 0 shown) (back_work old.joint old.borrowed shown) (front_work old shown) (table_work old shown) (keys_work (record old { joint = j })) (keys_work old) back here
 
 -- whatever a give answers
-pub give_spends : (would : ℕ → Facts → Verdict) (state after : ℕ) (piece : Pieced) (given : Given) (old new : Shape) (shown : Shown) → Answers old piece given new → GivesOn would state after piece given old new → RetrievalFits old shown → GiveSpends given (effort old shown) (effort new shown)
+pub give_spends : (would : ℕ → Facts → Ruling) (state after : ℕ) (piece : Pieced) (given : Given) (old new : Shape) (shown : Shown) → Answers old piece given new → GivesOn would state after piece given old new → RetrievalFits old shown → GiveSpends given (effort old shown) (effort new shown)
 give_spends would state after piece Accepted old new shown a g f = given_less would state after piece old new g.0 shown a.back a.awaits g.1 g.2 f.joint
 give_spends would state after piece (Stale asked now) old new shown a g f = ap (λ (x : Shape). effort x shown) g.0
 
-pub give_if : {E : Type 0} (r : Result Given E) (would : ℕ → Facts → Verdict) (state after : ℕ) (piece : Pieced) (old new : Shape) (shown : Shown) → IfOk r (λ g. Answers old piece g new) → IfOk r (λ g. GivesOn would state after piece g old new) → RetrievalFits old shown → IfOk r (λ g. GiveSpends g (effort old shown) (effort new shown))
+pub give_if : {E : Type 0} (r : Result Given E) (would : ℕ → Facts → Ruling) (state after : ℕ) (piece : Pieced) (old new : Shape) (shown : Shown) → IfOk r (λ g. Answers old piece g new) → IfOk r (λ g. GivesOn would state after piece g old new) → RetrievalFits old shown → IfOk r (λ g. GiveSpends g (effort old shown) (effort new shown))
 give_if (Ok g) would state after piece old new shown a o f = give_spends would state after piece g old new shown a o f
 give_if (Err e) would state after piece old new shown a o f = tt
 
-pub give_less : {E : Type 0} (r : Result Given E) (would : ℕ → Facts → Verdict) (state after : ℕ) (piece : Pieced) (old new : Shape) (shown : Shown) → IfOk r (λ g. Answers old piece g new) → IfOk r (λ g. GivesOn would state after piece g old new) → OnErr r (new ≡ old) → RetrievalFits old shown → effort new shown ≤ effort old shown
+pub give_less : {E : Type 0} (r : Result Given E) (would : ℕ → Facts → Ruling) (state after : ℕ) (piece : Pieced) (old new : Shape) (shown : Shown) → IfOk r (λ g. Answers old piece g new) → IfOk r (λ g. GivesOn would state after piece g old new) → OnErr r (new ≡ old) → RetrievalFits old shown → effort new shown ≤ effort old shown
 give_less (Ok g) would state after piece old new shown a o e f = by g (give_spends would state after piece g old new shown a o f)
   where
     by : (g : Given) → GiveSpends g (effort old shown) (effort new shown) → effort new shown ≤ effort old shown
@@ -155,11 +156,11 @@ over_awaits scan v back front = by (under_way v.joint) refl
     by true e = record { way = λ h. e; both = front }
     by false e = gone_awaits (ScanEnded false (is_some v.joint.list)) (listed scan v) (ended_none v.strategy v.control (is_some v.joint.list) front back)
 
-given_awaits : (would : ℕ → Facts → Verdict) (state after : ℕ) (piece : Pieced) (old new : Shape) (j : Joint) → is_background old.control ≡ true → Awaits old.joint piece → Accepts old.joint j piece.entries (held_next old.joint.held) → Obeys would state after old.joint.ended (record old { joint = j }) new → Awaiting old → Awaiting new
+given_awaits : (would : ℕ → Facts → Ruling) (state after : ℕ) (piece : Pieced) (old new : Shape) (j : Joint) → is_background old.control ≡ true → Awaits old.joint piece → Accepts old.joint j piece.entries (held_next old.joint.held) → Obeys would state after old.joint.ended (record old { joint = j }) new → Awaiting old → Awaiting new
 given_awaits would state after piece old new j back w acc o a = by (held_next old.joint.held) acc
   where
     on : (same way : Bool) → Obeyed same way would state after old.joint.ended (record old { joint = j }) new → same ≡ true → way ≡ true → under_way j ≡ true → Awaiting new
-    on true true o s y u = subst Awaiting (sym o) (ruled_awaits _ (record old { joint = j }) back u (record { way = λ b. u; both = a.both }))
+    on true true o s y u = subst Awaiting (sym o.0) (ruled_awaits _ (record old { joint = j }) back u (record { way = λ b. u; both = a.both }))
     on true false o s y u = no_way (sym y)
     on false way o s y u = no_way (sym s)
 
@@ -176,10 +177,10 @@ given_awaits would state after piece old new j back w acc o a = by (held_next ol
         on (nat_eq j.ended old.joint.ended) (under_way j) o (ap (λ (x : Joint). nat_eq x.ended old.joint.ended) acc ∙ same_number old.joint.ended) way way
     by None acc = over (nat_eq j.ended old.joint.ended) (under_way j) o (ap (λ (x : Joint). nat_eq x.ended old.joint.ended) acc.3 ∙ other_number old.joint.ended)
 
-give_keeps : (would : ℕ → Facts → Verdict) (state after : ℕ) (piece : Pieced) (given : Given) (old new : Shape) → Answers old piece given new → GivesOn would state after piece given old new → Awaiting old → Awaiting new
+give_keeps : (would : ℕ → Facts → Ruling) (state after : ℕ) (piece : Pieced) (given : Given) (old new : Shape) → Answers old piece given new → GivesOn would state after piece given old new → Awaiting old → Awaiting new
 give_keeps would state after piece Accepted old new a g w = given_awaits would state after piece old new g.0 a.back a.awaits g.1 g.2 w
 give_keeps would state after piece (Stale asked now) old new a g w = subst Awaiting (sym g.0) w
 
-pub give_awaits : {E : Type 0} (r : Result Given E) (would : ℕ → Facts → Verdict) (state after : ℕ) (piece : Pieced) (old new : Shape) → IfOk r (λ g. Answers old piece g new) → IfOk r (λ g. GivesOn would state after piece g old new) → OnErr r (new ≡ old) → Awaiting old → Awaiting new
+pub give_awaits : {E : Type 0} (r : Result Given E) (would : ℕ → Facts → Ruling) (state after : ℕ) (piece : Pieced) (old new : Shape) → IfOk r (λ g. Answers old piece g new) → IfOk r (λ g. GivesOn would state after piece g old new) → OnErr r (new ≡ old) → Awaiting old → Awaiting new
 give_awaits (Ok g) would state after piece old new a o e w = give_keeps would state after piece g old new a o w
 give_awaits (Err x) would state after piece old new a o e w = subst Awaiting (sym e) w

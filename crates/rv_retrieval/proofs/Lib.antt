@@ -25,3 +25,4 @@ pub mod Openings
 pub mod BothSides
 pub mod Fetches
 pub mod Shorts
+pub mod Waiting

@@ -5,7 +5,7 @@ use Rattle.rv_judge.specs.declared.counting.Counts.{Counts}
 use Rattle.rv_judge.specs.declared.events.Control.{Control}
 use Rattle.rv_judge.specs.declared.events.Control.TheVariants.{Building, ForegroundAlone, BackgroundAlone, FinalList, FinalTable, Done}
 use Rattle.rv_judge.specs.declared.judging.Facts.{Facts}
-use Rattle.rv_judge.specs.declared.judging.Verdict.{Verdict}
+use Rattle.rv_judge.specs.Verdicts.{Ruling}
 use Rattle.rv_judge.specs.Counting.{reads}
 use Rattle.rv_reader.specs.Shown.{Shown}
 use Rattle.rv_jscan.specs.declared.jscan.Given.{Given}
@@ -38,7 +38,7 @@ sum_spends Done r q a b f t k l h n = absurd (cc)
 pub tries_to : (before after : Counts) (old mid new : ℕ) → Tries before after old mid → new ≤ mid → Tries before after old new
 tries_to before after old mid new t l = let less = t.less in record { once = t.once; less = omega arith }
 
-pub gave_less : (would : ℕ → Facts → Verdict) (state after : ℕ) (piece sieved : Pieced) (g : Given) (mid new : Shape) (shown : Shown) → TakesPiece mid (Piece piece) → sieved ≡ piece → Answers mid sieved g new → GivesOn would state after sieved g mid new → RetrievalFits mid shown → effort new shown < effort mid shown
+pub gave_less : (would : ℕ → Facts → Ruling) (state after : ℕ) (piece sieved : Pieced) (g : Given) (mid new : Shape) (shown : Shown) → TakesPiece mid (Piece piece) → sieved ≡ piece → Answers mid sieved g new → GivesOn would state after sieved g mid new → RetrievalFits mid shown → effort new shown < effort mid shown
 gave_less would state after piece sieved Accepted mid new shown p e a o f = give_spends would state after sieved Accepted mid new shown a o f
 gave_less would state after piece sieved (Stale asked now) mid new shown p e a o f = absurd (a.0 (subst (AwaitsPiece mid) (sym e) p))
 

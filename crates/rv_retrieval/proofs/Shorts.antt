@@ -30,7 +30,9 @@ use Rattle.rv_jscan.specs.Steps.{Accepts, Awaits, Gives, TakeLeaves, completed, 
 use Rattle.rv_jscan.proofs.Fits.{by_held, way_within}
 use Rattle.rv_retrieval.specs.declared.query.Query.{Query}
 use Rattle.rv_retrieval.specs.declared.choosing.Background.{Background}
-use Rattle.rv_retrieval.specs.declared.choosing.Background.TheVariants.{One}
+use Rattle.rv_retrieval.specs.declared.query.Goal2.{Goal2}
+use Rattle.rv_retrieval.specs.declared.query.Goal2.TheVariants.{FastFirst as Soon, TotalTime}
+use Rattle.rv_retrieval.specs.declared.choosing.Background.TheVariants.{Nothing, One, EachBut}
 use Rattle.rv_retrieval.specs.declared.choosing.Candidate.{Candidate}
 use Rattle.rv_retrieval.specs.declared.choosing.Choice.{Choice}
 use Rattle.rv_retrieval.specs.declared.choosing.Role.TheVariants.{Short}
@@ -342,6 +344,31 @@ few_if (Err x) query shown choice scans front cs guaranteed cursor opening e can
 
 pub short_one : (query : Query) (shown : Shown) (choice : Choice) (order : List ℕ) (cs : List Candidate) → order ≡ query.order → cs ≡ candidates_of query shown → IsChosen order query.goal cs choice → has_short query shown ≡ true → is_one choice.background ≡ true
 short_one query shown choice order cs o e chosen some = ap is_one (short_background query cs choice (subst (λ (xs : List ℕ). IsChosen xs query.goal cs choice) o chosen) (ap (list_any (plays Short)) e ∙ some)).1.2
+
+-- Where no index is short, none is scanned at opening.
+
+any_at : {X : Type 0} (p : X → Bool) (xs : List X) (i : ℕ) (d : X) → i < length xs → p (slice_index_or xs i d) ≡ true → list_any p xs ≡ true
+any_at p [] i d l h = absurd (omega arith)
+any_at p (x ∷ xs) zero d l h = ap (λ (b : Bool). b || list_any p xs) h
+any_at p (x ∷ xs) (suc i) d l h = later (p x) (list_any p xs) (any_at p xs i d (omega arith) h)
+  where
+    later : (a b : Bool) → b ≡ true → (a || b) ≡ true
+    later a b h = grind arith
+
+not_one : (cs : List Candidate) (goal : Goal2) (lead sufficient restricted : Option ℕ) → is_one (choice_of cs goal lead None sufficient restricted).background ≡ false
+not_one cs goal (Some front) sufficient restricted = elim (candidate_at cs front).sufficient as (λ b. is_one (cond b Nothing (EachBut (candidate_at cs front).index)) ≡ false) [ true ↦ refl | false ↦ refl ]
+not_one cs goal None (Some front) restricted = refl
+not_one cs Soon None None (Some at) = refl
+not_one cs TotalTime None None (Some at) = refl
+not_one cs Soon None None None = refl
+not_one cs TotalTime None None None = refl
+
+pub none_short : (query : Query) (shown : Shown) (choice : Choice) (order : List ℕ) (cs : List Candidate) → cs ≡ candidates_of query shown → IsChosen order query.goal cs choice → has_short query shown ≡ false → is_one choice.background ≡ false
+none_short query shown choice order cs e chosen none = by chosen.short chosen.least_short chosen.rules
+  where
+    by : (short : Option ℕ) → IsLeastOf Short cs short → choice ≡ choice_of cs query.goal (order_index order cs) short chosen.sufficient chosen.restricted → is_one choice.background ≡ false
+    by (Some at) l rules = absurd (let some : list_any (plays Short) cs ≡ true = any_at (plays Short) cs at no_candidate l.below l.is in let bad : true ≡ false = sym some ∙ ap (list_any (plays Short)) e ∙ none in cc)
+    by None l rules = ap (λ (c : Choice). is_one c.background) rules ∙ not_one cs query.goal (order_index order cs) chosen.sufficient chosen.restricted
 
 pub most_keys : (a b : ℕ) → a ≤ b → b ≤ 20 → a ≤ 20
 most_keys a b l h = omega arith

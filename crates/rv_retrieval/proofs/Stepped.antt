@@ -1,5 +1,5 @@
 -- What a step does, from what its parts do.
-use Rattle.std.proofs.Common.{◌≡◌, ◌⊎◌, ◌∙◌, ℕ, ◌+◌, List, [], ◌∷◌, Bool, true, false, not, cond, ◌&&◌, Option, Some, None, Result, Ok, Err, IfOk, drop, find, is_some, length, nat_lt, refl, ap, sym, subst, arith, inl, inr, ◌==◌}
+use Rattle.std.proofs.Common.{◌≡◌, ◌⊎◌, ◌∙◌, ℕ, ◌+◌, ◌∷◌, Bool, true, false, not, ◌&&◌, Option, Some, None, Result, Ok, Err, IfOk, drop, find, length, refl, ap, sym, subst, arith, inl, inr, ◌==◌}
 use Rattle.std.specs.Prelude.{if◌then◌else◌}
 use Rattle.std.proofs.lemmas.Bool.{cases_Bool}
 use Rattle.rv_value.specs.declared.record.Record.{Record}
@@ -13,7 +13,7 @@ use Rattle.rv_judge.specs.declared.events.Control.TheVariants.{Building}
 use Rattle.rv_judge.specs.declared.events.Strategy.{Strategy}
 use Rattle.rv_judge.specs.declared.events.Strategy.TheVariants.{Table, BackgroundOnly, FastFirst}
 use Rattle.rv_judge.specs.declared.judging.Facts.{Facts}
-use Rattle.rv_judge.specs.declared.judging.Verdict.{Verdict}
+use Rattle.rv_judge.specs.Verdicts.{Ruling}
 use Rattle.rv_restrict.specs.Truth.{qualifies}
 use Rattle.rv_reader.specs.Shown.{Shown}
 use Rattle.rv_reader.specs.Tables.{row_at}
@@ -73,7 +73,7 @@ borrowed_row v mid new row found shown c d e m l r =
 way_taken : (old new : Joint) → TakeLeaves old new → under_way new ≡ under_way old
 way_taken old new t = ap under_way t.same
 
-pub one_piece : (would : ℕ → Facts → Verdict) (state after : ℕ) (old mid new : Shape) (piece sieved : Pieced) (g : Given) → mid ≡ record old { joint = mid.joint } → TakesLeafBy (is_background old.control) old.joint mid.joint → AwaitsPiece mid piece → sieved ≡ piece → Answers mid sieved g new → GivesOn would state after sieved g mid new → StepsBehind (is_awaiting old) would state after old new
+pub one_piece : (would : ℕ → Facts → Ruling) (state after : ℕ) (old mid new : Shape) (piece sieved : Pieced) (g : Given) → mid ≡ record old { joint = mid.joint } → TakesLeafBy (is_background old.control) old.joint mid.joint → AwaitsPiece mid piece → sieved ≡ piece → Answers mid sieved g new → GivesOn would state after sieved g mid new → StepsBehind (is_awaiting old) would state after old new
 one_piece would state after old mid new piece sieved g e leaves a s answers o =
     let back : is_background old.control ≡ true = ap (λ (x : Shape). is_background x.control) (sym e) ∙ a.back in
     let taken : TakeLeaves old.joint mid.joint = subst (λ (b : Bool). TakesLeafBy b old.joint mid.joint) back leaves in
@@ -93,10 +93,10 @@ one_piece would state after old mid new piece sieved g e leaves a s answers o =
     accepted Accepted answers o = o
     accepted (Stale asked now) (never, _, _, _) o = absurd (never (subst (AwaitsPiece mid) (sym s) a))
 
-pub as_it_is : (would : ℕ → Facts → Verdict) (state after : ℕ) (old new : Shape) → StepsBehind (is_awaiting old) would state after old new → StepsBackground would state after old new
+pub as_it_is : (would : ℕ → Facts → Ruling) (state after : ℕ) (old new : Shape) → StepsBehind (is_awaiting old) would state after old new → StepsBackground would state after old new
 as_it_is would state after old new s = record { passed = old.borrowed; fresh = refl; does = s }
 
-pub passed_first : (would : ℕ → Facts → Verdict) (state after : ℕ) (old mid new : Shape) → mid ≡ record old { borrowed = mid.borrowed } → first_fresh mid ≡ first_fresh old → StepsBackground would state after mid new → StepsBackground would state after old new
+pub passed_first : (would : ℕ → Facts → Ruling) (state after : ℕ) (old mid new : Shape) → mid ≡ record old { borrowed = mid.borrowed } → first_fresh mid ≡ first_fresh old → StepsBackground would state after mid new → StepsBackground would state after old new
 passed_first would state after old mid new e f s =
     let moved = subst (λ (x : Shape). StepsBackground would state after x new) e s in
     record {
@@ -109,7 +109,7 @@ passed_first would state after old mid new e f s =
     same = sym (ap fresh_of e) ∙ ap (λ (o : Option ℕ). if building mid.control && fast_first mid.strategy then o else None) f ∙ ap (λ (x : Shape). if building x.control && fast_first x.strategy then first_fresh old else None) e
 
 -- a fast-first step without a fresh key
-pub fast_behind : {E : Type 0} (r : Result Scanned E) (would : ℕ → Facts → Verdict) (state after : ℕ) (shown : Shown) (c d : Counts) (v mid new : Shape) → v.control ≡ Building → v.strategy ≡ FastFirst → mid ≡ record v { borrowed = mid.borrowed } → first_fresh mid ≡ first_fresh v → first_fresh v ≡ None → IfOk r (λ s. (s ≡ Working) × StepsBackground would state after mid new) → IfOk r (λ s. DoesIts would state after shown c d s v new)
+pub fast_behind : {E : Type 0} (r : Result Scanned E) (would : ℕ → Facts → Ruling) (state after : ℕ) (shown : Shown) (c d : Counts) (v mid new : Shape) → v.control ≡ Building → v.strategy ≡ FastFirst → mid ≡ record v { borrowed = mid.borrowed } → first_fresh mid ≡ first_fresh v → first_fresh v ≡ None → IfOk r (λ s. (s ≡ Working) × StepsBackground would state after mid new) → IfOk r (λ s. DoesIts would state after shown c d s v new)
 fast_behind (Err x) would state after shown c d v mid new ec es e f none b = tt
 fast_behind (Ok s) would state after shown c d v mid new ec es e f none b =
     let fresh : fresh_of v ≡ None = ap (λ (x : Control). if building x && fast_first v.strategy then first_fresh v else None) ec ∙ ap (λ (x : Strategy). if fast_first x then first_fresh v else None) es ∙ none in
@@ -121,7 +121,7 @@ background_kind : (control : Control) (strategy : Strategy) (fresh : Option ℕ)
 background_kind control strategy fresh both (inl table) = rw (both, table) refl
 background_kind control strategy fresh both (inr alone) = rw (both, alone) refl
 
-pub piece_does : {E : Type 0} (r : Result Scanned E) (would : ℕ → Facts → Verdict) (state after : ℕ) (shown : Shown) (c d : Counts) (old new : Shape) → old.control ≡ Building → (old.strategy ≡ Table) ⊎ (old.strategy ≡ BackgroundOnly) → IfOk r (λ s. (s ≡ Working) × StepsBackground would state after old new) → IfOk r (λ s. DoesIts would state after shown c d s old new)
+pub piece_does : {E : Type 0} (r : Result Scanned E) (would : ℕ → Facts → Ruling) (state after : ℕ) (shown : Shown) (c d : Counts) (old new : Shape) → old.control ≡ Building → (old.strategy ≡ Table) ⊎ (old.strategy ≡ BackgroundOnly) → IfOk r (λ s. (s ≡ Working) × StepsBackground would state after old new) → IfOk r (λ s. DoesIts would state after shown c d s old new)
 piece_does (Ok s) would state after shown c d old new both which h = subst (λ (k : Kind). DoesAs k would state after shown c d s old new) (sym (background_kind old.control old.strategy (fresh_of old) both which)) h
 piece_does (Err e) would state after shown c d old new both which h = tt
 

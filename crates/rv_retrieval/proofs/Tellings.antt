@@ -19,6 +19,7 @@ use Rattle.rv_judge.specs.declared.events.Strategy.{Strategy}
 use Rattle.rv_judge.specs.declared.events.Strategy.TheVariants.{Table, BackgroundOnly, FastFirst, Sorted, IndexOnly}
 use Rattle.rv_judge.specs.declared.judging.Facts.{Facts}
 use Rattle.rv_judge.specs.declared.judging.Verdict.{Verdict}
+use Rattle.rv_judge.specs.Verdicts.{Ruling}
 use Rattle.rv_judge.specs.declared.judging.Verdict.TheVariants.{Continue, AbandonScan, AbandonForeground, AbandonBackground}
 use Rattle.rv_judge.specs.Account.{facts_of}
 use Rattle.rv_judge.specs.Course.{building, fast_first, final, foreground_alone, index_only, next_control}
@@ -168,18 +169,18 @@ ruled_tells AbandonBackground v back t = background_drops v back t
 
 -- A piece is accepted.
 
-accepted_tells : (would : ℕ → Facts → Verdict) (state after : ℕ) (v new : Shape) (j : Joint) (entries : List IndexEntry) (next : Option IndexEntry) → is_background v.control ≡ true → under_way v.joint ≡ true → Accepts v.joint j entries next → Obeys would state after v.joint.ended (record v { joint = j }) new → Tells v → Tells new
+accepted_tells : (would : ℕ → Facts → Ruling) (state after : ℕ) (v new : Shape) (j : Joint) (entries : List IndexEntry) (next : Option IndexEntry) → is_background v.control ≡ true → under_way v.joint ≡ true → Accepts v.joint j entries next → Obeys would state after v.joint.ended (record v { joint = j }) new → Tells v → Tells new
 accepted_tells would state after v new j entries (Some cut) back way e o t =
     let w : Shape = record v { joint = going v.joint entries cut } in
     let goes : Obeyed (nat_eq v.joint.ended v.joint.ended) (under_way v.joint) would state after v.joint.ended w new = subst (λ (x : Joint). Obeys would state after v.joint.ended (record v { joint = x }) new) e o in
-    let obeyed : new ≡ ruled (would state (facts_of (account_of w) v.joint.ended)) w = asked (nat_eq v.joint.ended v.joint.ended) (under_way v.joint) w (itself v.joint.ended) way goes in
-    subst Tells (sym obeyed) (ruled_tells (would state (facts_of (account_of w) v.joint.ended)) w back t)
+    let obeyed : new ≡ ruled (would state (facts_of (account_of w) v.joint.ended)).verdict w = asked (nat_eq v.joint.ended v.joint.ended) (under_way v.joint) w (itself v.joint.ended) way goes in
+    subst Tells (sym obeyed) (ruled_tells (would state (facts_of (account_of w) v.joint.ended)).verdict w back t)
   where
     itself : (n : ℕ) → nat_eq n n ≡ true
     itself n = grind (arith, nat_tests)
 
-    asked : (a b : Bool) (w : Shape) → a ≡ true → b ≡ true → Obeyed a b would state after v.joint.ended w new → new ≡ ruled (would state (facts_of (account_of w) w.joint.ended)) w
-    asked true true w e f o = o
+    asked : (a b : Bool) (w : Shape) → a ≡ true → b ≡ true → Obeyed a b would state after v.joint.ended w new → new ≡ ruled (would state (facts_of (account_of w) w.joint.ended)).verdict w
+    asked true true w e f o = o.0
     asked true false w e f o = absurd (cc)
     asked false b w e f o = absurd (cc)
 accepted_tells would state after v new j entries None back way (keys, _, _, e) o t =
@@ -194,13 +195,13 @@ accepted_tells would state after v new j entries None back way (keys, _, _, e) o
     ended true b w e o = absurd (cc)
     ended false b w e o = o.0
 
-pub given_tells : {E : Type 0} (r : Result Given E) (would : ℕ → Facts → Verdict) (state after : ℕ) (piece : Pieced) (v new : Shape) → IfOk r (λ g. Answers v piece g new) → IfOk r (λ g. GivesOn would state after piece g v new) → OnErr r (new ≡ v) → Tells v → Tells new
+pub given_tells : {E : Type 0} (r : Result Given E) (would : ℕ → Facts → Ruling) (state after : ℕ) (piece : Pieced) (v new : Shape) → IfOk r (λ g. Answers v piece g new) → IfOk r (λ g. GivesOn would state after piece g v new) → OnErr r (new ≡ v) → Tells v → Tells new
 given_tells (Ok Accepted) would state after piece v new a (j, accepts, obeys) err t = accepted_tells would state after v new j piece.entries (held_next v.joint.held) a.back a.awaits.way accepts obeys t
 given_tells (Ok (Stale asked now)) would state after piece v new a o err t = subst Tells (sym o.0) t
 given_tells (Err x) would state after piece v new a o err t = subst Tells (sym err) t
 
 -- a background step
-pub behind_tells : (awaiting : Bool) (would : ℕ → Facts → Verdict) (state after : ℕ) (v new : Shape) → (awaiting ≡ true → is_background v.control ≡ true) → StepsBehind awaiting would state after v new → Tells v → Tells new
+pub behind_tells : (awaiting : Bool) (would : ℕ → Facts → Ruling) (state after : ℕ) (v new : Shape) → (awaiting ≡ true → is_background v.control ≡ true) → StepsBehind awaiting would state after v new → Tells v → Tells new
 behind_tells true would state after v new back s t =
     let taken : Tells (record v { joint = s.taken }) = took s.taken s.leaves.same in
     let (j, accepts, obeys) = s.obeys in
@@ -285,7 +286,7 @@ no_end only (Some r) e = go (qualifies only r.values) e
     go false e = let bad : Working ≡ End = e in cc
 
 -- a foreground step
-pub steps_tells : (would : ℕ → Facts → Verdict) (state after : ℕ) (shown : Shown) (c d : Counts) (s : Scanned) (v new : Shape) → (source v ≡ Ahead → is_led v.strategy ≡ true) → DoesIts would state after shown c d s v new → Tells v → Tells new
+pub steps_tells : (would : ℕ → Facts → Ruling) (state after : ℕ) (shown : Shown) (c d : Counts) (s : Scanned) (v new : Shape) → (source v ≡ Ahead → is_led v.strategy ≡ true) → DoesIts would state after shown c d s v new → Tells v → Tells new
 steps_tells would state after shown c d s v new led does t = go v.control v.strategy (fresh_of v) refl refl does
   where
     can : (now : Control) (st : Strategy) → building now ≡ true → (fast_first st || index_only st) ≡ true → (building now && (fast_first st || index_only st)) ≡ true

@@ -8,6 +8,7 @@ use Rattle.rv_judge.specs.declared.judging.Verdict.{Verdict}
 use Rattle.rv_judge.specs.declared.judging.Verdict.TheVariants.{Continue, AbandonScan, AbandonForeground, AbandonBackground}
 use Rattle.rv_judge.specs.Account.{facts_of, guarantee_with}
 use Rattle.rv_judge.specs.Course.{next_control}
+use Rattle.rv_judge.specs.Verdicts.{Ruling}
 use Rattle.rv_jscan.specs.declared.jscan.Given.{Given}
 use Rattle.rv_jscan.specs.declared.jscan.Given.TheVariants.{Accepted, Stale}
 use Rattle.rv_jscan.specs.Joint.{Joint, under_way}
@@ -51,16 +52,20 @@ ruled AbandonScan v = dropped AbandonScan (more_behind v.joint) (more_behind v.j
 ruled AbandonForeground v = stopped (more_behind v.joint) v
 ruled AbandonBackground v = dropped AbandonBackground (more_behind v.joint) false v
 
--- The judge is asked where the scan goes on, with the facts of the account; it is not asked where the scan completed.
-abbrev pub Obeyed : Bool → Bool → (ℕ → Facts → Verdict) → ℕ → ℕ → ℕ → Shape → Shape → Type 0
-Obeyed true true would state after before v new = new ≡ ruled (would state (facts_of (account_of v) v.joint.ended)) v
+-- what a question does: its verdict is obeyed, and the judge stands where that one question leaves it
+abbrev pub IsRuled : Ruling → ℕ → Shape → Shape → Type 0
+IsRuled ruling after v new = (new ≡ ruled ruling.verdict v) × (after ≡ ruling.next)
+
+-- THE JUDGE IS ASKED ONCE where the scan goes on, with the facts of the account, and never where it does not.
+abbrev pub Obeyed : Bool → Bool → (ℕ → Facts → Ruling) → ℕ → ℕ → ℕ → Shape → Shape → Type 0
+Obeyed true true would state after before v new = IsRuled (would state (facts_of (account_of v) v.joint.ended)) after v new
 Obeyed true false would state after before v new = (new ≡ v) × (after ≡ state)
 Obeyed false way would state after before v new = (new ≡ scan_over before v) × (after ≡ state)
 
-abbrev pub Obeys : (ℕ → Facts → Verdict) → ℕ → ℕ → ℕ → Shape → Shape → Type 0
+abbrev pub Obeys : (ℕ → Facts → Ruling) → ℕ → ℕ → ℕ → Shape → Shape → Type 0
 Obeys would state after before v new = Obeyed (nat_eq v.joint.ended before) (under_way v.joint) would state after before v new
 
 -- what a give leaves: the piece's entries are counted and its keys added, and then the judge is obeyed
-abbrev pub GivesOn : (ℕ → Facts → Verdict) → ℕ → ℕ → Pieced → Given → Shape → Shape → Type 0
+abbrev pub GivesOn : (ℕ → Facts → Ruling) → ℕ → ℕ → Pieced → Given → Shape → Shape → Type 0
 GivesOn would state after piece Accepted old new = (j : Joint) × Accepts old.joint j piece.entries (held_next old.joint.held) × Obeys would state after old.joint.ended (record old { joint = j }) new
 GivesOn would state after piece (Stale asked now) old new = (new ≡ old) × (after ≡ state)

@@ -138,11 +138,13 @@ is_early Pages = false
 is_early Nowhere = false
 
 -- the foreground's scan was drawn from what a reader shows; its index has every row that qualifies, where it is scanned
--- alone every column needed, and where the retrieval is ordered it begins with the order columns
+-- alone, as in an index-only retrieval, every column needed, and where the retrieval is ordered it begins with the order
+-- columns
 pub record FrontFits (query : Query) (strategy : Strategy) (f : Front) (shown : Shown) : Type 0 where
   pub can : CanFront f query.only query.table shown query.snap
   pub follows : Follows (walk_of f) (shown.entries (walk_of f).index query.snap)
   pub entries : shown.entries (walk_of f).index query.snap ≡ entries_of f.columns (shown.rows query.table query.snap)
+  pub alone : is_index_only strategy ≡ true → f.alone ≡ true
   pub covering : f.alone ≡ true → (c : ℕ) → stands_among query.need c ≡ true → stands_among f.columns c ≡ true
   pub begins : is_sorted strategy ≡ true → take (length query.order) f.columns ≡ query.order
   pub needs : (c : ℕ) → stands_among query.order c ≡ true → stands_among query.need c ≡ true

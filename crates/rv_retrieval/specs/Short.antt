@@ -1,5 +1,5 @@
 -- WHERE A SHORT INDEX WAS SCANNED AT OPENING: the background is over, and few records may still be fetched.
-use Rattle.std.specs.Prelude.{◌≡◌, ℕ, ◌+◌, ◌⊎◌, Bool, true, false, List, length, filter, is_some, if◌then◌else◌}
+use Rattle.std.specs.Prelude.{◌≡◌, ℕ, ◌+◌, Bool, true, false, List, length, filter, if◌then◌else◌}
 use Rattle.std.specs.List.{list_any}
 use Rattle.rv_value.specs.declared.record.IndexEntry.{IndexEntry}
 use Rattle.rv_judge.specs.declared.counting.Counts.{Counts}

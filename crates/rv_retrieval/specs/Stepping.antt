@@ -1,9 +1,9 @@
 -- What a foreground step does, by the control, the strategy and the fresh key.
-use Rattle.std.specs.Prelude.{◌≡◌, ◌⊎◌, ℕ, Bool, true, false, not, ◌&&◌, ◌==◌, find, length, Option, Some, None, if◌then◌else◌}
+use Rattle.std.specs.Prelude.{◌≡◌, ◌⊎◌, ℕ, ◌≤◌, Bool, true, false, not, ◌&&◌, ◌==◌, find, length, Option, Some, None, if◌then◌else◌}
 use Rattle.rv_delivered.specs.Rows.{AddsRow}
 use Rattle.rv_keys.specs.Keys.{has_key}
 use Rattle.rv_value.specs.declared.record.RowNo.{RowNo}
-use Rattle.rv_judge.specs.Counting.{record_read}
+use Rattle.rv_judge.specs.Counting.{leaf_read, page_read, record_read}
 use Rattle.rv_judge.specs.declared.counting.Counts.{Counts}
 use Rattle.rv_judge.specs.declared.events.Control.{Control}
 use Rattle.rv_judge.specs.declared.events.Control.TheVariants.{Building, ForegroundAlone, BackgroundAlone, FinalList, FinalTable, Done}
@@ -13,18 +13,22 @@ use Rattle.rv_judge.specs.declared.events.Happening.TheVariants.{Full, FrontEnde
 use Rattle.rv_judge.specs.declared.events.Strategy.{Strategy}
 use Rattle.rv_judge.specs.declared.events.Strategy.TheVariants.{Table, BackgroundOnly, FastFirst, Sorted, IndexOnly}
 use Rattle.rv_judge.specs.declared.judging.Facts.{Facts}
-use Rattle.rv_judge.specs.declared.judging.Verdict.{Verdict}
+use Rattle.rv_judge.specs.Verdicts.{Ruling}
 use Rattle.rv_reader.specs.Shown.{Shown}
 use Rattle.rv_reader.specs.Tables.{row_at}
-use Rattle.rv_scan.specs.Alongs.{looked}
+use Rattle.rv_scan.specs.Alongs.{FetchReads, looked}
+use Rattle.rv_scan.specs.Places.{PageReads}
+use Rattle.rv_scan.specs.Told.{KeyReads}
 use Rattle.rv_scan.specs.declared.skip.Scanned.{Scanned}
 use Rattle.rv_scan.specs.declared.skip.Scanned.TheVariants.{Found, Working, End}
 use Rattle.rv_jscan.specs.declared.jscan.Given.TheVariants.{Accepted}
 use Rattle.rv_jscan.specs.Joint.{Joint, under_way}
 use Rattle.rv_jscan.specs.Pieces.{Pieced, may}
-use Rattle.rv_jscan.specs.Steps.{Awaits, TakeLeaves}
+use Rattle.rv_jscan.specs.Steps.{Awaits, TakeLeaves, steps_read}
 use Rattle.rv_retrieval.specs.Accounts.{fresh_of}
+use Rattle.rv_retrieval.specs.Effort.{keys_work}
 use Rattle.rv_retrieval.specs.declared.steps.Fg.{Fg}
+use Rattle.rv_retrieval.specs.Given.{TakesLeaf}
 use Rattle.rv_retrieval.specs.Opens.{fg_of}
 use Rattle.rv_retrieval.specs.Rulings.{GivesOn, gone}
 use Rattle.rv_retrieval.specs.Shape.{Shape, keys_left, is_background, is_sorted, rows_of}
@@ -35,7 +39,7 @@ abbrev pub is_awaiting : Shape → Bool
 is_awaiting v = is_background v.control && under_way v.joint
 
 -- the awaited piece is taken, sieved and given
-pub record OnePiece (would : ℕ → Facts → Verdict) (state after : ℕ) (old new : Shape) : Type 0 where
+pub record OnePiece (would : ℕ → Facts → Ruling) (state after : ℕ) (old new : Shape) : Type 0 where
   pub taken : Joint
   pub piece : Pieced
   pub leaves : TakeLeaves old.joint taken
@@ -43,12 +47,12 @@ pub record OnePiece (would : ℕ → Facts → Verdict) (state after : ℕ) (old
   pub obeys : GivesOn would state after piece Accepted (record old { joint = taken }) new
 
 -- A BACKGROUND STEP: one piece, upon which the judge is asked and obeyed as by a give; nothing where none is awaited
-abbrev pub StepsBehind : Bool → (ℕ → Facts → Verdict) → ℕ → ℕ → Shape → Shape → Type 0
+abbrev pub StepsBehind : Bool → (ℕ → Facts → Ruling) → ℕ → ℕ → Shape → Shape → Type 0
 StepsBehind true would state after old new = OnePiece would state after old new
 StepsBehind false would state after old new = (new ≡ old) × (after ≡ state)
 
 -- the same where delivered keys are passed over before
-pub record StepsBackground (would : ℕ → Facts → Verdict) (state after : ℕ) (old new : Shape) : Type 0 where
+pub record StepsBackground (would : ℕ → Facts → Ruling) (state after : ℕ) (old new : Shape) : Type 0 where
   pub passed : ℕ
   pub fresh : fresh_of (record old { borrowed = passed }) ≡ fresh_of old
   pub does : StepsBehind (is_awaiting old) would state after (record old { borrowed = passed }) new
@@ -133,7 +137,7 @@ kind_of FinalTable strategy fresh = NextPage
 kind_of Done strategy fresh = Over
 
 -- what each of them changes; the judge is asked by a background step alone
-abbrev pub DoesAs : Kind → (ℕ → Facts → Verdict) → ℕ → ℕ → Shown → Counts → Counts → Scanned → Shape → Shape → Type 0
+abbrev pub DoesAs : Kind → (ℕ → Facts → Ruling) → ℕ → ℕ → Shown → Counts → Counts → Scanned → Shape → Shape → Type 0
 DoesAs (Borrow key) would state after shown c d s old new = (after ≡ state) × Borrows key shown c d s old new
 DoesAs Piece would state after shown c d s old new = (s ≡ Working) × StepsBackground would state after old new
 DoesAs Walk would state after shown c d s old new = (after ≡ state) × WalkReads old shown c d s × (new ≡ ended_by FrontEnded s (record old { front = new.front }))
@@ -143,13 +147,66 @@ DoesAs NextPage would state after shown c d s old new = (after ≡ state) × (ne
 DoesAs Over would state after shown c d s old new = (after ≡ state) × (s ≡ End) × (new ≡ old)
 
 -- WHAT A FOREGROUND STEP DOES
-abbrev pub DoesIts : (ℕ → Facts → Verdict) → ℕ → ℕ → Shown → Counts → Counts → Scanned → Shape → Shape → Type 0
+abbrev pub DoesIts : (ℕ → Facts → Ruling) → ℕ → ℕ → Shown → Counts → Counts → Scanned → Shape → Shape → Type 0
 DoesIts would state after shown c d s old new = DoesAs (kind_of old.control old.strategy (fresh_of old)) would state after shown c d s old new
 
--- what it does, and then what it read is counted
-pub record StepsAs (would : ℕ → Facts → Verdict) (state after : ℕ) (shown : Shown) (c d : Counts) (fg : Fg) (old new : Shape) : Type 0 where
+-- at most one read of a sort, and no other
+abbrev pub OneAtMost : (Counts → Counts) → Counts → Counts → Type 0
+OneAtMost one c d = (d ≡ c) ⊎ (d ≡ one c)
+
+-- a foreground's scan reads leaves alone where its index has every column needed, else leaves and records
+abbrev pub FrontMayRead : Bool → Counts → Counts → Type 0
+FrontMayRead true c d = OneAtMost leaf_read c d
+FrontMayRead false c d = OneAtMost leaf_read c d ⊎ OneAtMost record_read c d
+
+-- the awaited leaf is read where it is not held
+abbrev pub piece_read : Shape → Counts → Counts
+piece_read v c = if is_background v.control then steps_read v.joint c else c
+
+-- WHAT A STEP OF EACH KIND MAY READ, whatever it answers: the record of the fresh key, the awaited leaf, a leaf or a
+-- record of the foreground's scan, the record of a listed key, a page, or nothing
+abbrev pub MayRead : Kind → Shape → Counts → Counts → Type 0
+MayRead (Borrow key) v c d = d ≡ record_read c
+MayRead Piece v c d = d ≡ piece_read v c
+MayRead Walk v c d = FrontMayRead v.front.alone c d
+MayRead WalkBoth v c d = OneAtMost leaf_read c d
+MayRead NextKey v c d = OneAtMost record_read c d
+MayRead NextPage v c d = OneAtMost page_read c d
+MayRead Over v c d = d ≡ c
+
+abbrev pub MayReadIts : Shape → Counts → Counts → Type 0
+MayReadIts v c d = MayRead (kind_of v.control v.strategy (fresh_of v)) v c d
+
+abbrev pub FrontReads : Bool → Scanned → Counts → Counts → Type 0
+FrontReads true s c d = KeyReads s c d
+FrontReads false s c d = FetchReads s c d
+
+-- what it reads by its answer: a scan reads nothing where it gives a row of the leaf or page that it holds
+abbrev pub ReadsAs : Kind → Shape → Scanned → Counts → Counts → Type 0
+ReadsAs (Borrow key) v s c d = d ≡ record_read c
+ReadsAs Piece v s c d = d ≡ piece_read v c
+ReadsAs Walk v s c d = FrontReads v.front.alone s c d
+ReadsAs WalkBoth v s c d = KeyReads s c d
+ReadsAs NextKey v s c d = OneAtMost record_read c d
+ReadsAs NextPage v s c d = PageReads s c d
+ReadsAs Over v s c d = d ≡ c
+
+abbrev pub ReadsIts : Shape → Counts → Counts → Scanned → Type 0
+ReadsIts v c d s = ReadsAs (kind_of v.control v.strategy (fresh_of v)) v s c d
+
+-- WHAT A STEP LEAVES THAT FOUND NO MEMORY: the awaited leaf may have been taken and keys of delivered rows passed over. No
+-- piece is accepted.
+pub record OnlyTakes (old new : Shape) : Type 0 where
+  pub same : new ≡ record old { joint = new.joint; borrowed = new.borrowed; at = new.at; trace = new.trace }
+  pub leaves : (new.joint ≡ old.joint) ⊎ TakesLeaf old new.joint
+  pub fresh : under_way old.joint ≡ true → fresh_of new ≡ fresh_of old
+  pub fewer : keys_work new ≤ keys_work old
+
+-- what it does and reads, and then what it read is counted
+pub record StepsAs (would : ℕ → Facts → Ruling) (state after : ℕ) (shown : Shown) (c d : Counts) (fg : Fg) (old new : Shape) : Type 0 where
   pub scanned : Scanned
   pub stepped : Shape
   pub answers : fg ≡ fg_of scanned
   pub does : DoesIts would state after shown c d scanned old stepped
+  pub reads : ReadsIts old c d scanned
   pub counts : new ≡ record stepped { trace = counted stepped.trace c d }

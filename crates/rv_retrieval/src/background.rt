@@ -3,11 +3,12 @@ ghost use Rattle.rv_reader.specs.Shown.{Shown};
 ghost use Rattle.rv_judge.specs.Course.{next_control};
 ghost use Rattle.rv_judge.specs.declared.events.Event.{Event as TheEvent};
 ghost use Rattle.rv_jscan.specs.Joint.{under_way};
-ghost use Rattle.rv_retrieval.specs.Given.{Answers, TakesLeaf, TakesPiece};
+ghost use Rattle.rv_retrieval.specs.Fronts.{SameFront};
+ghost use Rattle.rv_retrieval.specs.Given.{Answers, TakesLeaf, TakesPiece, awaited};
 ghost use Rattle.rv_retrieval.specs.Rulings.{GivesOn, Obeys, dropped, listed, ruled, scan_over, stopped};
 ghost use Rattle.rv_retrieval.specs.Runs.{IsOfUndropped, SameCourse, Tells};
 ghost use Rattle.rv_retrieval.specs.Shape.{DoesStep, EndsIn, Keeps, RetrievalFits, is_background, rest};
-ghost use Rattle.rv_retrieval.specs.Stepping.{StepsBackground, StepsBehind, is_awaiting};
+ghost use Rattle.rv_retrieval.specs.Stepping.{OnlyTakes, StepsBackground, StepsBehind, is_awaiting, piece_read};
 ghost use Rattle.rv_retrieval.specs.Telling.{CountsRise, SameCounts, can_stop, list_len, noted, noted_drop, noted_list, noted_scan};
 ghost use Rattle.rv_retrieval.specs.Effort.{Awaiting, Falls, GiveSpends, Tries, effort};
 ghost use Rattle.rv_judge.specs.Counting.{reads};
@@ -91,6 +92,7 @@ impl Retrieval {
         ensures counts { SameCounts self.old.trace self.new.trace }
         ensures keeps { Keeps self.old self.new }
         ensures dropped { self.new ≡ dropped verdict more next self.old }
+        ensures front { self.new.front ≡ self.old.front }
     {
         let scan = self.ended();
         let listed = self.is_listed();
@@ -115,6 +117,7 @@ impl Retrieval {
         ensures counts { SameCounts self.old.trace self.new.trace }
         ensures keeps { Keeps self.old self.new }
         ensures ruled { self.new ≡ ruled verdict self.old }
+        ensures front { self.new.front ≡ self.old.front }
     {
         let more = self.more_behind();
         match verdict {
@@ -140,6 +143,7 @@ impl Retrieval {
         ensures counts { SameCounts self.old.trace self.new.trace }
         ensures keeps { Keeps self.old self.new }
         ensures stopped { self.new ≡ stopped more self.old }
+        ensures front { self.new.front ≡ self.old.front }
     {
         if self.can_stop() {
             let listed = self.is_listed();
@@ -167,11 +171,13 @@ impl Retrieval {
         ensures err { OnErr result (self.new ≡ self.old) }
         ensures reads { _steps.new ≡ _steps.old }
         ensures quiet { OnErr result (state judge.new ≡ state judge.old) }
+        ensures stays { would judge.new ≡ would judge.old }
         ensures tells { Tells self.old → Tells self.new }
         ensures less { (shown : Shown) → RetrievalFits self.old shown → effort self.new shown ≤ effort self.old shown }
         ensures spends { (shown : Shown) → RetrievalFits self.old shown → IfOk result (λ g. GiveSpends g (effort self.old shown) (effort self.new shown)) }
         ensures awaiting { Awaiting self.old → Awaiting self.new }
         ensures settled { Settled self.old → (self.new ≡ self.old) × (state judge.new ≡ state judge.old) }
+        ensures front { self.new.front ≡ self.old.front }
     {
         self.give_piece(sieved, judge)
     }
@@ -183,7 +189,9 @@ impl Retrieval {
         ensures keeps { Keeps self.old self.new }
         ensures err { OnErr result (self.new ≡ self.old) }
         ensures quiet { OnErr result (state judge.new ≡ state judge.old) }
+        ensures stays { would judge.new ≡ would judge.old }
         ensures settled { Settled self.old → (self.new ≡ self.old) × (state judge.new ≡ state judge.old) }
+        ensures front { self.new.front ≡ self.old.front }
     {
         if !self.is_background() {
             return Ok(Given::Stale {
@@ -205,6 +213,8 @@ impl Retrieval {
         ensures counts { SameCounts self.old.trace self.new.trace }
         ensures keeps { Keeps self.old self.new }
         ensures obeys { Obeys (would judge.old) (state judge.old) (state judge.new) before self.old self.new }
+        ensures stays { would judge.new ≡ would judge.old }
+        ensures front { self.new.front ≡ self.old.front }
     {
         if self.ended() != before {
             self.scan_ended(before);
@@ -215,7 +225,8 @@ impl Retrieval {
         }
     }
 
-    /// A copy of the awaited piece; Nothing exactly where none is awaited.
+    /// A copy of the awaited piece; Nothing exactly where none is awaited. The leaf is read where it is not held, and
+    /// `NoMemory` takes nothing.
     pub fn take<R: Reader>(
         &mut self,
         reader: &R,
@@ -229,6 +240,9 @@ impl Retrieval {
         ensures rest { rest self.new (R.shown reader.now) ≡ rest self.old (R.shown reader.now) }
         ensures same { self.new ≡ record self.old { joint = self.new.joint; trace = self.new.trace } }
         ensures leaves { TakesLeaf self.old self.new.joint }
+        ensures awaits { awaited self.new ≡ awaited self.old }
+        ensures untaken { OnErr result (self.new.joint.held ≡ self.old.joint.held) }
+        ensures reads { steps.new ≡ piece_read self.old steps.old }
         ensures tells { Tells self.old → Tells self.new }
         ensures tries { Tries steps.old steps.new (effort self.old (R.shown reader.now)) (effort self.new (R.shown reader.now)) }
         ensures spends { IfOk result (λ taken. reads steps.new + effort self.new (R.shown reader.now) ≤ reads steps.old + effort self.old (R.shown reader.now)) }
@@ -255,11 +269,14 @@ impl Retrieval {
         ensures rest { rest self.new (R.shown reader.now) ≡ rest self.old (R.shown reader.now) }
         ensures same { self.new ≡ record self.old { joint = self.new.joint } }
         ensures leaves { TakesLeaf self.old self.new.joint }
+        ensures untaken { OnErr result (self.new.joint.held ≡ self.old.joint.held) }
+        ensures reads { steps.new ≡ piece_read self.old steps.old }
         ensures tries { Tries steps.old steps.new (effort self.old (R.shown reader.now)) (effort self.new (R.shown reader.now)) }
         ensures spends { IfOk result (λ taken. reads steps.new + effort self.new (R.shown reader.now) ≤ reads steps.old + effort self.old (R.shown reader.now)) }
         ensures awaiting { Awaiting self.old → Awaiting self.new }
         ensures control { self.new.control ≡ self.old.control }
         ensures settled { Settled self.old → Settled self.new × (steps.new ≡ steps.old) }
+        ensures front { self.new.front ≡ self.old.front }
     {
         if !self.is_background() {
             return Ok(Taken::Nothing);
@@ -281,10 +298,14 @@ impl Retrieval {
         ensures rest { rest self.new (R.shown reader.now) ≡ rest self.old (R.shown reader.now) }
         ensures does { OnOk result (StepsBehind (is_awaiting self.old) (would judge.old) (state judge.old) (state judge.new) self.old self.new) }
         ensures quiet { OnErr result (state judge.new ≡ state judge.old) }
+        ensures stays { would judge.new ≡ would judge.old }
         ensures course { OnErr result (SameCourse self.old self.new) }
+        ensures still { OnErr result (OnlyTakes self.old self.new) }
+        ensures reads { steps.new ≡ piece_read self.old steps.old }
         ensures tries { Tries steps.old steps.new (effort self.old (R.shown reader.now)) (effort self.new (R.shown reader.now)) }
         ensures falls { is_background self.old.control ≡ true → Awaiting self.old → OnOk result (effort self.new (R.shown reader.now) < effort self.old (R.shown reader.now)) }
         ensures awaiting { Awaiting self.old → Awaiting self.new }
+        ensures front { self.new.front ≡ self.old.front }
     {
         match self.take_piece(reader, steps)? {
             Taken::Piece(piece) => {
@@ -310,10 +331,14 @@ impl Retrieval {
         ensures err { OnErr result (rest self.new (R.shown reader.now) ≡ rest self.old (R.shown reader.now)) }
         ensures does { IfOk result (λ s. (s ≡ Scanned.Working) × StepsBackground (would judge.old) (state judge.old) (state judge.new) self.old self.new) }
         ensures quiet { OnErr result (state judge.new ≡ state judge.old) }
+        ensures stays { would judge.new ≡ would judge.old }
         ensures course { OnErr result (SameCourse self.old self.new) }
+        ensures still { OnErr result (OnlyTakes self.old self.new) }
+        ensures reads { steps.new ≡ piece_read self.old steps.old }
         ensures tries { Tries steps.old steps.new (effort self.old (R.shown reader.now)) (effort self.new (R.shown reader.now)) }
         ensures falls { is_background self.old.control ≡ true → Awaiting self.old → IfOk result (λ s. Falls s steps.old steps.new (effort self.old (R.shown reader.now)) (effort self.new (R.shown reader.now))) }
         ensures awaiting { Awaiting self.old → Awaiting self.new }
+        ensures front { SameFront self.old.front self.new.front }
     {
         self.background(reader, judge, steps)?;
         Ok(Scanned::Working)

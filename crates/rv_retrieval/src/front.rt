@@ -3,6 +3,7 @@ ghost use Rattle.rv_scan.specs.Alongs.{Follows, leaf_work, FetchesDue};
 ghost use Rattle.rv_scan.specs.Due.{IsReady, StepsTo, skipped};
 ghost use Rattle.rv_retrieval.specs.Fronts.{CanFront, SameFront, front_rest, walk_of};
 ghost use Rattle.rv_retrieval.specs.Effort.{ReadsNone};
+ghost use Rattle.rv_retrieval.specs.Stepping.{FrontMayRead, FrontReads};
 ghost use Rattle.rv_judge.specs.Counting.{reads};
 ghost use Rattle.rv_retrieval.specs.Short.{front_fetches};
 
@@ -67,6 +68,8 @@ impl Front {
         ensures none { IfOk result (λ scanned. ReadsNone scanned steps.old steps.new) }
         ensures records { let entries = (R.shown reader.now).entries (walk_of self.old).index (walk_of self.old).snap in IfOk result (λ scanned. steps.new.records + front_fetches self.new entries (skipped skip.now) ≤ steps.old.records + front_fetches self.old entries (skipped skip.now)) }
         ensures pages { steps.new.pages ≡ steps.old.pages }
+        ensures may_read { FrontMayRead self.old.alone steps.old steps.new }
+        ensures reads { IfOk result (λ s. FrontReads self.old.alone s steps.old steps.new) }
     {
         self.fetching.step(reader, only, skip, steps)
     }
@@ -90,6 +93,8 @@ impl Front {
         ensures none { IfOk result (λ scanned. ReadsNone scanned steps.old steps.new) }
         ensures records { let entries = (R.shown reader.now).entries (walk_of self.old).index (walk_of self.old).snap in IfOk result (λ scanned. steps.new.records + front_fetches self.new entries (skipped skip.now) ≤ steps.old.records + front_fetches self.old entries (skipped skip.now)) }
         ensures pages { steps.new.pages ≡ steps.old.pages }
+        ensures may_read { FrontMayRead self.old.alone steps.old steps.new }
+        ensures reads { IfOk result (λ s. FrontReads self.old.alone s steps.old steps.new) }
     {
         self.telling
             .step(reader, only, skip, self.columns.as_slice(), steps)
@@ -114,6 +119,8 @@ impl Front {
         ensures none { IfOk result (λ scanned. ReadsNone scanned steps.old steps.new) }
         ensures records { let entries = (R.shown reader.now).entries (walk_of self.old).index (walk_of self.old).snap in IfOk result (λ scanned. steps.new.records + front_fetches self.new entries (skipped skip.now) ≤ steps.old.records + front_fetches self.old entries (skipped skip.now)) }
         ensures pages { steps.new.pages ≡ steps.old.pages }
+        ensures may_read { FrontMayRead self.old.alone steps.old steps.new }
+        ensures reads { IfOk result (λ s. FrontReads self.old.alone s steps.old steps.new) }
     {
         if self.is_alone() {
             self.tell(reader, only, skip, steps)

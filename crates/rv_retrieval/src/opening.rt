@@ -264,6 +264,7 @@ impl Retrieval {
         ensures settled { is_one background ≡ true → Awaiting self.old → self.old.joint.list ≡ None → OnOk result (Settled self.new) }
         ensures few { is_one background ≡ true → Awaiting self.old → self.old.joint.list ≡ None → keys_most self.old.joint (R.shown reader.now) ≤ 20 → OnOk result (fetches_left self.new (R.shown reader.now) ≤ 20) }
         ensures only { OnlyLeaves steps.old steps.new }
+        ensures unread { is_one background ≡ false → steps.new ≡ steps.old }
     {
         match background {
             Background::One(_) => self.scan_at_once(reader, steps),
@@ -341,6 +342,7 @@ impl Retrieval {
         ensures awaiting { IfOk result (λ r. Awaiting r) }
         ensures short { has_short query (R.shown reader.now) ≡ true → IfOk result (λ r. Settled r × (fetches_left r (R.shown reader.now) ≤ 20)) }
         ensures only { OnlyLeaves steps.old steps.new }
+        ensures unread { has_short query (R.shown reader.now) ≡ false → steps.new ≡ steps.old }
     {
         let before = steps.counts();
         let candidates = candidates(alloc, reader, &query)?;

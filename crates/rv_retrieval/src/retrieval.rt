@@ -5,12 +5,12 @@ ghost use Rattle.rv_restrict.specs.Truth.{names_only, row_has};
 ghost use Rattle.rv_reader.specs.Shown.{Shown, CanRead};
 ghost use Rattle.rv_reader.specs.Tables.{row_at};
 ghost use Rattle.rv_scan.specs.Alongs.{Follows, looked};
-ghost use Rattle.rv_scan.specs.Places.{Fits as PlaceFits, unseen, work as pages_work};
+ghost use Rattle.rv_scan.specs.Places.{Fits as PlaceFits, PageReads, unseen, work as pages_work};
 ghost use Rattle.rv_scan.specs.Due.{HaveColumns};
 ghost use Rattle.rv_jscan.specs.Joint.{CanTake, JointFits, keys_of, under_way};
-ghost use Rattle.rv_jscan.specs.Steps.{Gives, Nearer, TakeLeaves, Takes, abandoned, awaited_id, begun, steps_read};
+ghost use Rattle.rv_jscan.specs.Steps.{Gives, Nearer, TakeLeaves, Takes, abandoned, awaited_id, begun, counts_read, steps_read};
 ghost use Rattle.rv_judge.specs.Account.{facts_of, guarantee_with};
-ghost use Rattle.rv_judge.specs.Counting.{record_read};
+ghost use Rattle.rv_judge.specs.Counting.{page_read, record_read};
 ghost use Rattle.rv_retrieval.specs.Accounts.{NextBorrowed, account_of};
 ghost use Rattle.rv_retrieval.specs.Fronts.{SameFront, front_left, walk_of};
 ghost use Rattle.rv_retrieval.specs.Given.{awaited, more_behind};
@@ -20,7 +20,7 @@ ghost use Rattle.rv_judge.specs.Runs.{Allowed};
 ghost use Rattle.rv_retrieval.specs.Rest.{StepMarks, qualifying};
 ghost use Rattle.rv_retrieval.specs.Runs.{Tells, indexes_asked};
 ghost use Rattle.rv_retrieval.specs.Shape.{KeyAt, LastFits, LeastOf, NextKey, Remembers, RetrievalFits, Source, given_as, left_at, lending, front_entries, is_background, is_led, is_sorted, keys_left, rest, rows_of};
-ghost use Rattle.rv_retrieval.specs.Stepping.{WalkReads};
+ghost use Rattle.rv_retrieval.specs.Stepping.{FrontMayRead, FrontReads, OneAtMost, WalkReads};
 ghost use Rattle.rv_retrieval.specs.Telling.{counted, index_of, list_len, new_trace, noted};
 ghost use Rattle.rv_retrieval.specs.Effort.{Falls, Tries, front_work, table_work};
 ghost use Rattle.rv_judge.specs.Counting.{record_read};
@@ -227,6 +227,7 @@ impl Retrieval {
         ensures same { self.new ≡ record self.old { joint = self.new.joint } }
         ensures leaves { TakeLeaves self.old.joint self.new.joint }
         ensures taken { IfOk result (Takes self.new.joint) }
+        ensures err { OnErr result (self.new.joint ≡ record self.old.joint { counts = counts_read self.old.joint }) }
         ensures fits { JointFits self.new.joint (R.shown reader.now) }
         ensures reads { steps.new ≡ steps_read self.old.joint steps.old }
         ensures only { OnlyLeaves steps.old steps.new }
@@ -276,6 +277,8 @@ impl Retrieval {
         ensures falls { IfOk result (λ s. Falls s steps.old steps.new (front_work self.old (R.shown reader.now)) (front_work self.new (R.shown reader.now))) }
         ensures records { is_sorted self.old.strategy ≡ true → IfOk result (λ s. steps.new.records + scan_fetches self.new (R.shown reader.now) ≤ steps.old.records + scan_fetches self.old (R.shown reader.now)) }
         ensures pages { steps.new.pages ≡ steps.old.pages }
+        ensures may_read { FrontMayRead self.old.front.alone steps.old steps.new }
+        ensures reads { IfOk result (λ s. FrontReads self.old.front.alone s steps.old steps.new) }
     {
         let skip = Skip {
             delivered: None,
@@ -316,6 +319,8 @@ impl Retrieval {
         ensures last { LastFits self.old.query self.new.last (R.shown reader.now) }
         ensures marks { let shown = R.shown reader.now in IfOk result (λ s. StepMarks self.old.query.need self.old.query.only (rows_of self.old shown) s (left_at Source.Pages self.old shown) (left_at Source.Pages self.new shown)) }
         ensures err { OnErr result (self.new ≡ self.old) }
+        ensures may_read { OneAtMost page_read steps.old steps.new }
+        ensures reads { IfOk result (λ s. PageReads s steps.old steps.new) }
         ensures tries { Tries steps.old steps.new (table_work self.old (R.shown reader.now)) (table_work self.new (R.shown reader.now)) }
         ensures falls { IfOk result (λ s. Falls s steps.old steps.new (table_work self.old (R.shown reader.now)) (table_work self.new (R.shown reader.now))) }
     {

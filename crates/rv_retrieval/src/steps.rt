@@ -1,15 +1,18 @@
 ghost use Rattle.std.specs.Prelude.{◌≡◌, ◌+◌, ◌-◌, ◌^◌, ◌<◌, ◌≤◌, ◌&&◌, ◌⊎◌, true, false, length, IfOk, IfSome, OnErr, Ok};
 ghost use Rattle.rv_keys.specs.Keys.{has_key};
-ghost use Rattle.rv_judge.specs.Counting.{record_read};
+ghost use Rattle.rv_judge.specs.Counting.{leaf_read, page_read, record_read};
 ghost use Rattle.rv_reader.specs.Shown.{Shown};
 ghost use Rattle.rv_reader.specs.Tables.{row_at};
 ghost use Rattle.rv_scan.specs.Alongs.{looked};
+ghost use Rattle.rv_scan.specs.Places.{PageReads};
+ghost use Rattle.rv_scan.specs.Told.{KeyReads};
 ghost use Rattle.rv_jscan.specs.Joint.{under_way};
 ghost use Rattle.rv_retrieval.specs.Accounts.{IsFresh, first_fresh};
+ghost use Rattle.rv_retrieval.specs.Fronts.{SameFront};
 ghost use Rattle.rv_retrieval.specs.Opens.{GivesStep, fg_of};
 ghost use Rattle.rv_retrieval.specs.Runs.{SameCourse, Tells};
 ghost use Rattle.rv_retrieval.specs.Shape.{Delivers, DoesStep, EndsIn, KeyAt, NextKey, PassesKeys, RetrievalFits, Source, given_as, is_background, is_building, is_index_only, rest, source, lending, rows_of};
-ghost use Rattle.rv_retrieval.specs.Stepping.{Borrows, DoesIts, Remembered, RemembersBy, StepsAs, ended_by, IsFirstLeft, ListReads, WalkReads};
+ghost use Rattle.rv_retrieval.specs.Stepping.{Borrows, DoesIts, FrontMayRead, FrontReads, IsFirstLeft, ListReads, MayReadIts, OneAtMost, OnlyTakes, ReadsIts, Remembered, RemembersBy, StepsAs, WalkReads, ended_by};
 ghost use Rattle.rv_retrieval.specs.Telling.{CountsRise, SameCounts};
 ghost use Rattle.rv_retrieval.specs.Effort.{Awaiting, Falls, FgSpends, Tries, effort, keys_work, to_borrow};
 ghost use Rattle.rv_retrieval.specs.Short.{Settled, fetches_left};
@@ -93,12 +96,15 @@ impl Retrieval {
         ensures does { IfOk result (λ s. self.new ≡ ended_by Happening.FinalEnded s (record self.old { at = self.new.at })) }
         ensures fetches { IfOk result (ListReads self.old (R.shown reader.now) steps.old steps.new) }
         ensures course { OnErr result (SameCourse self.old self.new) }
+        ensures may_read { OneAtMost record_read steps.old steps.new }
+        ensures still { OnErr result (OnlyTakes self.old self.new) }
         ensures tries { Tries steps.old steps.new (effort self.old (R.shown reader.now)) (effort self.new (R.shown reader.now)) }
         ensures falls { IfOk result (λ s. Falls s steps.old steps.new (effort self.old (R.shown reader.now)) (effort self.new (R.shown reader.now))) }
         ensures awaiting { Awaiting self.old → Awaiting self.new }
         ensures records { IfOk result (λ s. steps.new.records + fetches_left self.new (R.shown reader.now) ≤ steps.old.records + fetches_left self.old (R.shown reader.now)) }
         ensures pages { steps.new.pages ≡ steps.old.pages }
         ensures settled { Settled self.old → Settled self.new }
+        ensures front { SameFront self.old.front self.new.front }
     {
         match self.final_key() {
             None => {
@@ -134,6 +140,7 @@ impl Retrieval {
         ensures records { IfOk result (λ s. steps.new.records + fetches_left self.new (R.shown reader.now) ≤ steps.old.records + fetches_left self.old (R.shown reader.now)) }
         ensures pages { steps.new.pages ≡ steps.old.pages }
         ensures settled { Settled self.old → Settled self.new }
+        ensures front { SameFront self.old.front self.new.front }
     {
         let found = self.examine(reader, row, steps)?;
         self.pass_key();
@@ -155,12 +162,15 @@ impl Retrieval {
         ensures ends { IfOk result (EndsIn self.new) }
         ensures err { OnErr result (self.new ≡ self.old) }
         ensures does { IfOk result (λ s. self.new ≡ ended_by Happening.FinalEnded s (record self.old { last = self.new.last })) }
+        ensures may_read { OneAtMost page_read steps.old steps.new }
+        ensures reads { IfOk result (λ s. PageReads s steps.old steps.new) }
         ensures tries { Tries steps.old steps.new (effort self.old (R.shown reader.now)) (effort self.new (R.shown reader.now)) }
         ensures falls { IfOk result (λ s. Falls s steps.old steps.new (effort self.old (R.shown reader.now)) (effort self.new (R.shown reader.now))) }
         ensures awaiting { Awaiting self.old → Awaiting self.new }
+        ensures front { SameFront self.old.front self.new.front }
     {
         match self.scan_last(reader, steps)? {
-            Scanned::Found(record) => Ok(Scanned::Found(record)),
+            Scanned::Found(found) => Ok(Scanned::Found(found)),
             Scanned::Working => Ok(Scanned::Working),
             Scanned::End => {
                 self.go(Happening::FinalEnded);
@@ -226,9 +236,11 @@ impl Retrieval {
         ensures ends { IfOk result (EndsIn self.new) }
         ensures err { OnErr result (self.new ≡ self.old) }
         ensures does { IfOk result (λ s. Borrows row.0 (R.shown reader.now) steps.old steps.new s self.old self.new) }
+        ensures reads { steps.new ≡ record_read steps.old }
         ensures tries { Tries steps.old steps.new (effort self.old (R.shown reader.now)) (effort self.new (R.shown reader.now)) }
         ensures falls { self.old.borrowed < length (lending self.old.joint) → IfOk result (λ s. Falls s steps.old steps.new (effort self.old (R.shown reader.now)) (effort self.new (R.shown reader.now))) }
         ensures awaiting { Awaiting self.old → Awaiting self.new }
+        ensures front { SameFront self.old.front self.new.front }
     {
         match self.examine(reader, row, steps)? {
             Some(found) => {
@@ -261,6 +273,11 @@ impl Retrieval {
         ensures err { OnErr result (rest self.new (R.shown reader.now) ≡ rest self.old (R.shown reader.now)) }
         ensures does { under_way self.old.joint ≡ true → IfOk result (λ s. DoesIts (would judge.old) (state judge.old) (state judge.new) (R.shown reader.now) steps.old steps.new s self.old self.new) }
         ensures quiet { OnErr result (state judge.new ≡ state judge.old) }
+        ensures may_read { under_way self.old.joint ≡ true → MayReadIts self.old steps.old steps.new }
+        ensures reads { under_way self.old.joint ≡ true → IfOk result (ReadsIts self.old steps.old steps.new) }
+        ensures still { OnErr result (OnlyTakes self.old self.new) }
+        ensures front { SameFront self.old.front self.new.front }
+        ensures stays { would judge.new ≡ would judge.old }
         ensures course { OnErr result (SameCourse self.old self.new) }
         ensures tries { Tries steps.old steps.new (effort self.old (R.shown reader.now)) (effort self.new (R.shown reader.now)) }
         ensures falls { Awaiting self.old → IfOk result (λ s. Falls s steps.old steps.new (effort self.old (R.shown reader.now)) (effort self.new (R.shown reader.now))) }
@@ -288,6 +305,8 @@ impl Retrieval {
         ensures ends { IfOk result (EndsIn self.new) }
         ensures err { OnErr result (self.new ≡ self.old) }
         ensures does { IfOk result (λ s. self.new ≡ ended_by Happening.FrontEnded s (record self.old { front = self.new.front })) }
+        ensures may_read { FrontMayRead self.old.front.alone steps.old steps.new }
+        ensures reads { IfOk result (λ s. FrontReads self.old.front.alone s steps.old steps.new) }
         ensures tries { Tries steps.old steps.new (effort self.old (R.shown reader.now)) (effort self.new (R.shown reader.now)) }
         ensures falls { IfOk result (λ s. Falls s steps.old steps.new (effort self.old (R.shown reader.now)) (effort self.new (R.shown reader.now))) }
         ensures awaiting { Awaiting self.old → Awaiting self.new }
@@ -295,6 +314,7 @@ impl Retrieval {
         ensures records { Settled self.old → IfOk result (λ s. steps.new.records + fetches_left self.new (R.shown reader.now) ≤ steps.old.records + fetches_left self.old (R.shown reader.now)) }
         ensures pages { steps.new.pages ≡ steps.old.pages }
         ensures settled { Settled self.old → Settled self.new }
+        ensures front { SameFront self.old.front self.new.front }
     {
         match self.scan_front(reader, steps)? {
             Scanned::Found(record) => Ok(Scanned::Found(record)),
@@ -321,9 +341,12 @@ impl Retrieval {
         ensures ends { IfOk result (EndsIn self.new) }
         ensures err { OnErr result (self.new ≡ self.old) }
         ensures does { IfOk result (λ s. RemembersBy s (record self.old { front = self.new.front }) self.new) }
+        ensures may_read { OneAtMost leaf_read steps.old steps.new }
+        ensures reads { IfOk result (λ s. KeyReads s steps.old steps.new) }
         ensures tries { Tries steps.old steps.new (effort self.old (R.shown reader.now)) (effort self.new (R.shown reader.now)) }
         ensures falls { IfOk result (λ s. Falls s steps.old steps.new (effort self.old (R.shown reader.now)) (effort self.new (R.shown reader.now))) }
         ensures awaiting { Awaiting self.old → Awaiting self.new }
+        ensures front { SameFront self.old.front self.new.front }
     {
         match self.scan_front(reader, steps)? {
             Scanned::Found(record) => {
@@ -354,6 +377,11 @@ impl Retrieval {
         ensures err { OnErr result (rest self.new (R.shown reader.now) ≡ rest self.old (R.shown reader.now)) }
         ensures does { (is_background self.old.control ≡ true → under_way self.old.joint ≡ true) → IfOk result (λ s. DoesIts (would judge.old) (state judge.old) (state judge.new) (R.shown reader.now) steps.old steps.new s self.old self.new) }
         ensures quiet { OnErr result (state judge.new ≡ state judge.old) }
+        ensures may_read { (is_background self.old.control ≡ true → under_way self.old.joint ≡ true) → MayReadIts self.old steps.old steps.new }
+        ensures reads { (is_background self.old.control ≡ true → under_way self.old.joint ≡ true) → IfOk result (ReadsIts self.old steps.old steps.new) }
+        ensures still { OnErr result (OnlyTakes self.old self.new) }
+        ensures front { SameFront self.old.front self.new.front }
+        ensures stays { would judge.new ≡ would judge.old }
         ensures course { OnErr result (SameCourse self.old self.new) }
         ensures tries { Tries steps.old steps.new (effort self.old (R.shown reader.now)) (effort self.new (R.shown reader.now)) }
         ensures falls { Awaiting self.old → IfOk result (λ s. Falls s steps.old steps.new (effort self.old (R.shown reader.now)) (effort self.new (R.shown reader.now))) }
@@ -385,6 +413,11 @@ impl Retrieval {
         ensures err { OnErr result (rest self.new (R.shown reader.now) ≡ rest self.old (R.shown reader.now)) }
         ensures does { (is_background self.old.control ≡ true → under_way self.old.joint ≡ true) → IfOk result (λ s. DoesIts (would judge.old) (state judge.old) (state judge.new) (R.shown reader.now) steps.old steps.new s self.old self.new) }
         ensures quiet { OnErr result (state judge.new ≡ state judge.old) }
+        ensures may_read { (is_background self.old.control ≡ true → under_way self.old.joint ≡ true) → MayReadIts self.old steps.old steps.new }
+        ensures reads { (is_background self.old.control ≡ true → under_way self.old.joint ≡ true) → IfOk result (ReadsIts self.old steps.old steps.new) }
+        ensures still { OnErr result (OnlyTakes self.old self.new) }
+        ensures front { SameFront self.old.front self.new.front }
+        ensures stays { would judge.new ≡ would judge.old }
         ensures course { OnErr result (SameCourse self.old self.new) }
         ensures tries { Tries steps.old steps.new (effort self.old (R.shown reader.now)) (effort self.new (R.shown reader.now)) }
         ensures falls { Awaiting self.old → IfOk result (λ s. Falls s steps.old steps.new (effort self.old (R.shown reader.now)) (effort self.new (R.shown reader.now))) }
@@ -425,6 +458,11 @@ impl Retrieval {
         ensures err { OnErr result (rest self.new (R.shown reader.now) ≡ rest self.old (R.shown reader.now)) }
         ensures does { Tells self.old → IfOk result (λ fg. StepsAs (would judge.old) (state judge.old) (state judge.new) (R.shown reader.now) steps.old steps.new fg self.old self.new) }
         ensures quiet { OnErr result (state judge.new ≡ state judge.old) }
+        ensures may_read { Tells self.old → MayReadIts self.old steps.old steps.new }
+        ensures still { OnErr result (OnlyTakes self.old self.new) }
+        ensures fewer { OnErr result (fetches_left self.new (R.shown reader.now) ≤ fetches_left self.old (R.shown reader.now)) }
+        ensures front { SameFront self.old.front self.new.front }
+        ensures stays { would judge.new ≡ would judge.old }
         ensures course { OnErr result (SameCourse self.old self.new) }
         ensures tells { Tells self.old → Tells self.new }
         ensures tries { Tries steps.old steps.new (effort self.old (R.shown reader.now)) (effort self.new (R.shown reader.now)) }

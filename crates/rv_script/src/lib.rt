@@ -2,10 +2,6 @@
 #![tactic(auto)]
 
 pub mod scripts;
-#[cfg(test)]
-mod telling;
-#[cfg(test)]
-mod tests;
 pub mod traces;
 pub mod transcript;
 pub mod values;

@@ -1,4 +1,4 @@
-ghost use Rattle.std.specs.Prelude.{◌≡◌, ◌≤◌, ◌++◌, ◌∷◌, [], All, codes, decimal, Ok};
+ghost use Rattle.std.specs.Prelude.{◌≡◌, ◌++◌, ◌∷◌, [], codes, decimal, Ok};
 ghost use Rattle.rv_io.specs.Pieces.{Goes};
 ghost use Rattle.rv_model.specs.Transcript.{text, entry_text, reply_text, refusal_text, limit_word};
 
@@ -8,11 +8,10 @@ use itoa::Buffer;
 use rv_io::{Failed, Sink, write_next};
 use rv_model::{Entry, Refusal, Reply, Which};
 
-/// Appends the transcript of entries: two lines for each, the session's digit, a space and the text as
+/// Appends the transcript of entries: two lines for each, the session's number, a space and the text as
 /// given, then `= ` and the text of the reply. Each line takes at least one write. After a write that
 /// failed there is no further one.
 pub fn write_text<K: Sink>(sink: &mut K, entries: &[Entry]) -> Result<(), Failed>
-    requires { All (λ e. e.session ≤ 8) entries.now }
     ensures { Goes (Ok tt) (K.written sink.old) (K.written sink.new) (K.faults sink.old) (K.faults sink.new) result (text entries.now) }
 {
     let mut sofar = Ok(());
@@ -28,11 +27,12 @@ fn write_entry<K: Sink>(
     sofar: Result<(), Failed>,
     entry: &Entry,
 ) -> Result<(), Failed>
-    requires { entry.now.session ≤ 8 }
     ensures { Goes sofar (K.written sink.old) (K.written sink.new) (K.faults sink.old) (K.faults sink.new) result (entry_text entry.now) }
 {
-    let head = write_next(sink, sofar, &[b'0' + entry.session, b' ']);
-    let asked = write_next(sink, head, entry.text.as_str().as_bytes());
+    let mut digits = Buffer::new();
+    let session = write_next(sink, sofar, digits.format(entry.session).as_bytes());
+    let space = write_next(sink, session, b" ");
+    let asked = write_next(sink, space, entry.text.as_str().as_bytes());
     let sign = write_next(sink, asked, b"\n= ");
     let reply = write_reply(sink, sign, &entry.reply);
     write_next(sink, reply, b"\n")

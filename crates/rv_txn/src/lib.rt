@@ -10,6 +10,3 @@ mod txns;
 
 pub use changing::kept_rows;
 pub use txns::{Finished, Standing, TxnFault, Txns};
-
-#[cfg(test)]
-mod tests;

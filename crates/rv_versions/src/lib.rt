@@ -6,6 +6,3 @@ pub mod versions;
 
 pub use chain::Version;
 pub use versions::Versions;
-
-#[cfg(test)]
-mod tests;

@@ -3,3 +3,4 @@ mod Forms
 pub mod Loops
 pub mod Told
 mod Values
+pub mod Walking

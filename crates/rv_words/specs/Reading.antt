@@ -1,8 +1,7 @@
 -- Words read one after another, as the code reads them. `specs/Words.antt` says which words are accepted.
-use Rattle.std.specs.Prelude.{ℕ, ◌+◌, ◌-◌, ◌*◌, ◌&&◌, ◌==◌, List, [], ◌∷◌, Option, Some, None, bytes_eq, drop, take, if◌then◌else◌, is_some, length, nat_le, position, option_and_then, unwrap_or}
+use Rattle.std.specs.Prelude.{ℕ, ◌+◌, ◌-◌, ◌*◌, ◌&&◌, ◌==◌, Bool, true, false, List, [], ◌∷◌, Option, Some, None, bytes_eq, drop, take, if◌then◌else◌, is_some, length, nat_le, position, option_and_then}
 use Rattle.rv_words.specs.declared.choices.Choice.{Choice}
 use Rattle.rv_words.specs.declared.choices.Choice.TheVariants.{Judge, Steps, Gen}
-use Rattle.rv_words.specs.declared.choices.Asked.{Asked}
 use Rattle.rv_words.specs.declared.reading.Sofar.{Sofar}
 use Rattle.rv_words.specs.Words.{greatest, is_digit, name_of}
 
@@ -58,45 +57,49 @@ value option digits = if nat_le 1 (length digits) && nat_le (length digits) 10 t
 -- ---- what was read so far
 
 abbrev pub start : Sofar
-start = record { judge = None; steps = None; seed = None; waiting = None }
+start = record { judge = false; steps = false; seed = false; waiting = None }
 
-abbrev pub given : Choice → Sofar → Option ℕ
+abbrev pub given : Choice → Sofar → Bool
 given Judge s = s.judge
 given Steps s = s.steps
 given Gen s = s.seed
 
-abbrev pub with_value : Sofar → Choice → ℕ → Sofar
-with_value s Judge n = record s { judge = Some n }
-with_value s Steps n = record s { steps = Some n }
-with_value s Gen n = record s { seed = Some n }
+abbrev pub marked : Sofar → Choice → Sofar
+marked s Judge = record s { judge = true }
+marked s Steps = record s { steps = true }
+marked s Gen = record s { seed = true }
 
--- with an option's value, which was not given yet
-abbrev pub with_new : Sofar → Choice → Option ℕ → Option Sofar
-with_new s option None = None
-with_new s option (Some n) = if is_some (given option s) then None else Some (with_value s option n)
+-- with an option that has a value, which was not given yet
+abbrev pub with_new : Sofar → Choice → Bool → Option Sofar
+with_new s option false = None
+with_new s option true = if given option s then None else Some (marked s option)
 
 abbrev pub with_form : Sofar → Form → Option Sofar
 with_form s (Named option) = Some (record s { waiting = Some option })
-with_form s (Joined option digits) = with_new s option (value option digits)
+with_form s (Joined option digits) = with_new s option (is_some (value option digits))
 with_form s Other = None
 
 abbrev pub with_word_at : Option Choice → Sofar → List ℕ → Option Sofar
 with_word_at None s word = with_form s (form word)
-with_word_at (Some option) s word = with_new (record s { waiting = None }) option (value option word)
+with_word_at (Some option) s word = with_new (record s { waiting = None }) option (is_some (value option word))
 
 -- with the next word
 abbrev pub with_word : Sofar → List ℕ → Option Sofar
 with_word s word = with_word_at s.waiting s word
 
 -- no value is to come
-abbrev pub ended_at : Option Choice → Sofar → Option Asked
-ended_at None s = Some (record { judge = unwrap_or s.judge 0; steps = unwrap_or s.steps 1; seed = s.seed })
-ended_at (Some option) s = None
+abbrev pub ended_at : Option Choice → Bool
+ended_at None = true
+ended_at (Some option) = false
 
-abbrev pub ended : Sofar → Option Asked
-ended s = ended_at s.waiting s
+abbrev pub ended : Sofar → Bool
+ended s = ended_at s.waiting
 
--- what words ask behind those that were read
-abbrev pub asked_from : Sofar → List (List ℕ) → Option Asked
-asked_from s [] = ended s
-asked_from s (w ∷ ws) = option_and_then (λ (more : Sofar). asked_from more ws) (with_word s w)
+abbrev pub fit_more : (Sofar → Bool) → Option Sofar → Bool
+fit_more rest None = false
+fit_more rest (Some more) = rest more
+
+-- whether words fit behind those that were read
+abbrev pub fit_from : Sofar → List (List ℕ) → Bool
+fit_from s [] = ended s
+fit_from s (w ∷ ws) = fit_more (λ (more : Sofar). fit_from more ws) (with_word s w)

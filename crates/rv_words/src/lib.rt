@@ -2,10 +2,13 @@
 #![tactic(auto)]
 
 pub mod choices;
+mod command;
+mod digits;
 mod form;
 mod reading;
 #[cfg(test)]
 mod tests;
 
 pub use choices::{Asked, Choice};
-pub use reading::{accepted, asked};
+pub use command::asked;
+pub use reading::accepted;

@@ -1,20 +1,20 @@
-//! Words read one after another.
-ghost use Rattle.std.specs.Prelude.{◌≡◌, ◌≤◌, ◌↔◌, None, IfSome, IsTrue};
+//! Which words are accepted: they are read one after another.
+ghost use Rattle.std.specs.Prelude.{◌≡◌, ◌↔◌, IsTrue, None, is_some};
 ghost use Rattle.rv_words.specs.Forms.{form_of};
-ghost use Rattle.rv_words.specs.Reading.{asked_from, ended, number_from, start, value, with_form, with_new, with_word};
-ghost use Rattle.rv_words.specs.Words.{AreAccepted, AreWithin, Ask, greatest};
-ghost use Rattle.rv_words.specs.declared.choices.Asked.{Asked as AskedOnce};
+ghost use Rattle.rv_words.specs.Reading.{ended, fit_from, start, value, with_form, with_new, with_word};
+ghost use Rattle.rv_words.specs.Words.{AreAccepted};
 
-use crate::choices::{Asked, Choice};
+use crate::choices::Choice;
+use crate::digits::value;
 use crate::form::{Form, read_form};
 use rv_value::Text;
 
-/// The values that were read so far, and the option whose value is the next word.
+/// Which options were read so far, and the one whose value is the next word.
 #[derive(Clone, Copy)]
 struct Sofar {
-    judge: Option<u8>,
-    steps: Option<u8>,
-    seed: Option<u32>,
+    judge: bool,
+    steps: bool,
+    seed: bool,
     waiting: Option<Choice>,
 }
 
@@ -23,32 +23,22 @@ struct Sofar {
 pub fn accepted(words: &[Text]) -> bool
     ensures { IsTrue result ↔ AreAccepted words.now }
 {
-    asked(words).is_some()
+    fit(words)
 }
 
-/// What words ask; None where they are not accepted.
-pub fn asked(words: &[Text]) -> Option<Asked>
-    ensures some { IfSome result (Ask words.now) }
-    ensures only { IfSome result (λ asked. (other : AskedOnce) → Ask words.now other → other ≡ asked) }
-    ensures within { IfSome result AreWithin }
-    ensures none { result ≡ None → ¬ (AreAccepted words.now) }
-{
-    read(words)
-}
-
-fn read(words: &[Text]) -> Option<Asked>
-    ensures { result ≡ asked_from start words.now }
+fn fit(words: &[Text]) -> bool
+    ensures { result ≡ fit_from start words.now }
 {
     let mut sofar = Sofar {
-        judge: None,
-        steps: None,
-        seed: None,
+        judge: false,
+        steps: false,
+        seed: false,
         waiting: None,
     };
     'words: for word in words {
         match with_word(sofar, word.as_str().as_bytes()) {
             Some(more) => sofar = more,
-            None => return None,
+            None => return false,
         }
     }
     ended(sofar)
@@ -60,7 +50,7 @@ fn with_word(sofar: Sofar, word: &[u8]) -> Option<Sofar>
 {
     match sofar.waiting {
         None => with_form(sofar, read_form(word)),
-        Some(option) => with_new(without_waiting(sofar), option, value(option, word)),
+        Some(option) => with_new(without_waiting(sofar), option, is_value(option, word)),
     }
 }
 
@@ -81,96 +71,44 @@ fn with_form(sofar: Sofar, form: Form<'_>) -> Option<Sofar>
             waiting: Some(option),
             ..sofar
         }),
-        Form::Joined(option, digits) => with_new(sofar, option, value(option, digits)),
+        Form::Joined(option, digits) => with_new(sofar, option, is_value(option, digits)),
         Form::Other => None,
     }
 }
 
-/// What was read, with an option's value, where it was not given yet.
-fn with_new(sofar: Sofar, option: Choice, value: Option<u32>) -> Option<Sofar>
-    requires { IfSome value (λ n. n ≤ greatest option) }
-    ensures { result ≡ with_new sofar option value }
+/// What was read, with an option that has a value, where it was not given yet.
+fn with_new(sofar: Sofar, option: Choice, has_value: bool) -> Option<Sofar>
+    ensures { result ≡ with_new sofar option has_value }
 {
-    let value = value?;
+    if !has_value {
+        return None;
+    }
     match option {
-        Choice::Judge if sofar.judge.is_none() => Some(Sofar {
-            judge: Some(value as u8),
+        Choice::Judge if !sofar.judge => Some(Sofar {
+            judge: true,
             ..sofar
         }),
-        Choice::Steps if sofar.steps.is_none() => Some(Sofar {
-            steps: Some(value as u8),
+        Choice::Steps if !sofar.steps => Some(Sofar {
+            steps: true,
             ..sofar
         }),
-        Choice::Gen if sofar.seed.is_none() => Some(Sofar {
-            seed: Some(value),
+        Choice::Gen if !sofar.seed => Some(Sofar {
+            seed: true,
             ..sofar
         }),
         _ => None,
     }
 }
 
-/// What the words ask, where no value is to come.
-fn ended(sofar: Sofar) -> Option<Asked>
+/// Whether no value is to come.
+fn ended(sofar: Sofar) -> bool
     ensures { result ≡ ended sofar }
 {
-    match sofar.waiting {
-        Some(_) => None,
-        None => Some(Asked {
-            judge: sofar.judge.unwrap_or(0),
-            steps: sofar.steps.unwrap_or(1),
-            seed: sofar.seed,
-        }),
-    }
+    sofar.waiting.is_none()
 }
 
-/// An option's value: 1 to 10 decimal digits, whose number is in the option's range.
-fn value(option: Choice, digits: &[u8]) -> Option<u32>
-    ensures same { result ≡ value option digits.now }
-    ensures within { IfSome result (λ n. n ≤ greatest option) }
+fn is_value(option: Choice, digits: &[u8]) -> bool
+    ensures { result ≡ is_some (value option digits.now) }
 {
-    if digits.is_empty() || digits.len() > 10 {
-        return None;
-    }
-    match number(digits) {
-        Some(number) if number <= greatest(option) => Some(number),
-        _ => None,
-    }
-}
-
-fn greatest(option: Choice) -> u32
-    ensures { result ≡ greatest option }
-{
-    match option {
-        Choice::Judge => 2,
-        Choice::Steps => 64,
-        Choice::Gen => u32::MAX,
-    }
-}
-
-/// The number that decimal digits write, where it is a `u32`.
-fn number(digits: &[u8]) -> Option<u32>
-    ensures { result ≡ number_from 0 digits.now }
-{
-    let mut number = 0u32;
-    'digits: for digit in digits {
-        match with_digit(number, *digit) {
-            Some(more) => number = more,
-            None => return None,
-        }
-    }
-    Some(number)
-}
-
-/// The number with one digit more.
-fn with_digit(number: u32, digit: u8) -> Option<u32>
-    ensures { result ≡ Rattle.rv_words.specs.Reading.with_digit number digit }
-{
-    if digit < b'0' || b'9' < digit {
-        return None;
-    }
-    let more = u64::from(number) * 10 + u64::from(digit - b'0');
-    if more > u64::from(u32::MAX) {
-        return None;
-    }
-    Some(more as u32)
+    value(option, digits).is_some()
 }

@@ -19,10 +19,11 @@ fn cut(alloc: Global, line: &str) -> Result<Vec<Text>, Fail> {
 /// What a line asks: the judge, the steps and the seed, where its words are accepted.
 fn asks(alloc: Global, line: &str) -> Result<Option<(u8, u8, Option<u32>)>, Fail> {
     let words = cut(alloc, line)?;
-    Ok(match asked(words.as_slice()) {
-        Some(asked) => Some((asked.judge, asked.steps, asked.seed)),
-        None => None,
-    })
+    if !accepted(words.as_slice()) {
+        return Ok(None);
+    }
+    let asked = asked(alloc, words.as_slice())?;
+    Ok(Some((asked.judge, asked.steps, asked.seed)))
 }
 
 #[test]

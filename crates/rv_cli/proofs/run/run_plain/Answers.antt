@@ -3,26 +3,26 @@ use Rattle.rv_words.specs.declared.choices.Asked.{Asked}
 use Rattle.rv_cli.proofs.Ends.{done_writes, memory_writes, fault_writes, some_if}
 use Rattle.rv_cli.proofs.run.run_plain.Goals as goal
 
-pub returns-in-Ok-clause-done : goal.returns-in-Ok-clause-done
-returns-in-Ok-clause-done g c = λ asked ask done. rw (c.in-Some.ensures.only asked ask) (done_writes c.perform.result.core (λ core. core.engine) _ _ _ _ c.in-Ok.script c.in-Ok.ensures.script (c.perform.ensures.done done))
+pub returns-in-Ok-script_to_run-clause-done : goal.returns-in-Ok-script_to_run-clause-done
+returns-in-Ok-script_to_run-clause-done g c = λ asked ask done. rw (c.in-Ok.ensures.only asked ask) (done_writes c.perform.result.core (λ core. core.engine) _ _ _ _ c.in-Ok-script_to_run.script c.in-Ok-script_to_run.ensures.script (c.perform.ensures.done done))
 
-pub returns-in-Ok-clause-all_read : goal.returns-in-Ok-clause-all_read
-returns-in-Ok-clause-all_read g c = λ asked ask none done. c.in-Ok.ensures.all_read (ap (λ (a : Asked). a.seed) (sym (c.in-Some.ensures.only asked ask)) ∙ none) refl
+pub returns-in-Ok-script_to_run-clause-all_read : goal.returns-in-Ok-script_to_run-clause-all_read
+returns-in-Ok-script_to_run-clause-all_read g c = λ asked ask none some. c.in-Ok-script_to_run.ensures.all_read (ap (λ (a : Asked). a.seed) (sym (c.in-Ok.ensures.only asked ask)) ∙ none) refl
 
-pub returns-in-Ok-clause-memory : goal.returns-in-Ok-clause-memory
-returns-in-Ok-clause-memory g c = λ asked ask memory. rw (c.in-Some.ensures.only asked ask) (memory_writes c.perform.result.core (λ core. core.engine) _ _ _ _ c.in-Ok.script c.in-Ok.ensures.script (c.perform.ensures.memory memory))
+pub returns-in-Ok-script_to_run-clause-memory : goal.returns-in-Ok-script_to_run-clause-memory
+returns-in-Ok-script_to_run-clause-memory g c = λ asked ask memory. rw (c.in-Ok.ensures.only asked ask) (memory_writes c.perform.result.core (λ core. core.engine) _ _ _ _ c.in-Ok-script_to_run.script c.in-Ok-script_to_run.ensures.script (c.perform.ensures.memory memory))
 
-pub returns-in-Ok-clause-front : goal.returns-in-Ok-clause-front
-returns-in-Ok-clause-front g c = λ asked ask fault. rw (c.in-Some.ensures.only asked ask) (fault_writes c.perform.result.core (λ core. core.engine) _ _ _ _ c.in-Ok.script c.in-Ok.ensures.script (c.perform.ensures.front fault))
+pub returns-in-Ok-script_to_run-clause-front : goal.returns-in-Ok-script_to_run-clause-front
+returns-in-Ok-script_to_run-clause-front g c = λ asked ask fault. rw (c.in-Ok.ensures.only asked ask) (fault_writes c.perform.result.core (λ core. core.engine) _ _ _ _ c.in-Ok-script_to_run.script c.in-Ok-script_to_run.ensures.script (c.perform.ensures.front fault))
 
-pub returns-in-Ok-clause-unread : goal.returns-in-Ok-clause-unread
-returns-in-Ok-clause-unread g c = λ asked ask some. c.in-Ok.ensures.unread (rw (c.in-Some.ensures.only asked ask) at some)
+pub returns-in-Ok-script_to_run-clause-unread : goal.returns-in-Ok-script_to_run-clause-unread
+returns-in-Ok-script_to_run-clause-unread g c = λ asked ask some. c.in-Ok-script_to_run.ensures.unread (rw (c.in-Ok.ensures.only asked ask) at some)
 
-pub returns-in-Ok-clause-steps : goal.returns-in-Ok-clause-steps
-returns-in-Ok-clause-steps g c = λ asked ask. rw (c.in-Some.ensures.only asked ask) (some_if c.perform.result.core (λ core. core.beside ≡ c.in-Some.asked.steps) c.perform.ensures.core)
+pub returns-in-Ok-script_to_run-clause-steps : goal.returns-in-Ok-script_to_run-clause-steps
+returns-in-Ok-script_to_run-clause-steps g c = λ asked ask. rw (c.in-Ok.ensures.only asked ask) (some_if c.perform.result.core (λ core. core.beside ≡ c.in-Ok.asked.steps) c.perform.ensures.core)
 
 pub returns-in-Err-clause-generated : goal.returns-in-Err-clause-generated
-returns-in-Err-clause-generated g c = λ asked ask some. rw (c.ended-in-Err.ensures.status, c.in-Err.ensures.generated (rw (c.in-Some.ensures.only asked ask) at some)) tt
+returns-in-Err-clause-generated g c = λ asked ask some. rw (c.ended-in-Err.ensures.status, c.in-Err.ensures.generated (rw (c.in-Ok.ensures.only asked ask) at some)) tt
 
 pub returns-in-Err-clause-unread : goal.returns-in-Err-clause-unread
-returns-in-Err-clause-unread g c = λ asked ask some. c.in-Err.ensures.unread (rw (c.in-Some.ensures.only asked ask) at some)
+returns-in-Err-clause-unread g c = λ asked ask some. c.in-Err.ensures.unread (rw (c.in-Ok.ensures.only asked ask) at some)

@@ -1,8 +1,10 @@
 use Rattle.rv_retrieval.proofs.Stepped.{one_piece}
-use Rattle.std.proofs.Common.{◌∙◌, ap}
+use Rattle.std.proofs.Common.{◌∙◌, ap, subst, sym}
 use Rattle.rv_retrieval.specs.Shape.{is_background}
 use Rattle.rv_retrieval.proofs.Efforts.{give_awaits, give_less}
 use Rattle.rv_retrieval.proofs.Openings.{below, gave_less, nothing_awaited, tries_to}
+use Rattle.rv_retrieval.specs.Stepping.{OnlyTakes}
+use Rattle.rv_retrieval.proofs.Waiting.{kept_if_not, took_only}
 use Rattle.rv_retrieval.proofs.retrieval.Retrieval.background.Goals as goal
 
 pub returns-in_ok-_given-in-Piece-clause-does : goal.returns-in_ok-_given-in-Piece-clause-does
@@ -28,3 +30,9 @@ returns-in_ok-_given-in-Piece-clause-awaiting g c a = give_awaits c.give_piece.r
 
 pub returns-in-Nothing-clause-falls : goal.returns-in-Nothing-clause-falls
 returns-in-Nothing-clause-falls g c back a = nothing_awaited c.take_piece.new.self (ap is_background c.take_piece.ensures.control ∙ back) (c.take_piece.ensures.awaiting a) (rw c.in-Nothing.is at c.in_ok-piece.ensures.taken)
+
+pub returns-in_err-piece-clause-still : goal.returns-in_err-piece-clause-still
+returns-in_err-piece-clause-still g c = kept_if_not _ _ (took_only c.args.self.now c.take_piece.new.self c.take_piece.ensures.same c.take_piece.ensures.leaves)
+
+pub returns-in_err-_given-in-Piece-clause-still : goal.returns-in_err-_given-in-Piece-clause-still
+returns-in_err-_given-in-Piece-clause-still g c = kept_if_not _ _ (subst (OnlyTakes c.args.self.now) (sym c.in_err-_given-in-Piece.ensures.err) (took_only c.args.self.now c.take_piece.new.self c.take_piece.ensures.same c.take_piece.ensures.leaves))

@@ -1,4 +1,4 @@
-use Rattle.std.proofs.Common.{◌+◌, ◌≤◌, ◌∙◌, subst, sym}
+use Rattle.std.proofs.Common.{◌+◌, ◌≤◌, ◌∙◌, rules, subst, sym}
 use Rattle.rv_retrieval.specs.Shape.{Shape}
 use Rattle.rv_retrieval.specs.Short.{fetches_left}
 use Rattle.rv_retrieval.proofs.AtOnce.{gives_step}
@@ -26,3 +26,16 @@ returns-in-Ok-clause-tells g c t =
 
 pub returns-in-Ok-clause-records : goal.returns-in-Ok-clause-records
 returns-in-Ok-clause-records g c settled = subst (λ (x : Shape). c.step-stepped.new.steps.records + fetches_left x (g.R.Reader.shown c.args.reader.now) ≤ c.args.steps.now.records + fetches_left c.args.self.now (g.R.Reader.shown c.args.reader.now)) (sym c.count.ensures) (c.in-Ok.ensures.records settled)
+
+pub returns-in-Ok-clause-does : goal.returns-in-Ok-clause-does
+returns-in-Ok-clause-does g c t = record {
+  scanned = c.in-Ok.scanned;
+  stepped = c.step-stepped.new.self;
+  answers = c.answer.ensures;
+  does = c.in-Ok.ensures.does t.way;
+  reads = c.in-Ok.ensures.reads t.way;
+  counts = search rules;
+}
+
+pub returns-in-Ok-clause-may_read : goal.returns-in-Ok-clause-may_read
+returns-in-Ok-clause-may_read g c t = c.step-stepped.ensures.may_read t.way

@@ -6,7 +6,7 @@ use Rattle.rv_retrieval.proofs.AtOnce.{counts_all, opened_by}
 use Rattle.rv_retrieval.proofs.Starting.{opened_tells}
 use Rattle.rv_retrieval.specs.Shape.{Shape}
 use Rattle.rv_retrieval.specs.Short.{Settled, fetches_left}
-use Rattle.rv_retrieval.proofs.Shorts.{short_one}
+use Rattle.rv_retrieval.proofs.Shorts.{none_short, short_one}
 use Rattle.rv_retrieval.proofs.Switching.{trace_keeps}
 use Rattle.rv_retrieval.proofs.retrieval.Retrieval.open.Goals as goal
 
@@ -37,3 +37,9 @@ returns-clause-short g c short =
     let settled = c.in_ok-settle.ensures.settled one c.in_ok-retrieval.ensures.awaiting c.in_ok-retrieval.ensures.unlisted in
     let few = c.in_ok-settle.ensures.few one c.in_ok-retrieval.ensures.awaiting c.in_ok-retrieval.ensures.unlisted (c.in_ok-retrieval.ensures.few short) in
     subst (λ (x : Shape). Settled x × (fetches_left x shown ≤ 20)) (sym c.count.ensures) (record { over = settled.over; sorted = settled.sorted }, few)
+
+pub returns-clause-unread : goal.returns-clause-unread
+returns-clause-unread g c none = c.settle.ensures.unread (none_short c.args.query (g.R.Reader.shown c.args.reader.now) c.choose-choice.result c.as_slice-2.result.now c.as_slice.result.now (c.as_slice.ensures.value ∙ c.in_ok-candidates.ensures.are) c.choose-choice.ensures none)
+
+pub returns-in_err-settle-clause-unread : goal.returns-in_err-settle-clause-unread
+returns-in_err-settle-clause-unread g c none = c.settle.ensures.unread (none_short c.args.query (g.R.Reader.shown c.args.reader.now) c.choose-choice.result c.as_slice-2.result.now c.as_slice.result.now (c.as_slice.ensures.value ∙ c.in_ok-candidates.ensures.are) c.choose-choice.ensures none)

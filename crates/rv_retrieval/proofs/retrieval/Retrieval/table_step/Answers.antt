@@ -11,11 +11,11 @@ returns-in-End-clause-step g c =
     let v = c.args.self.now in
     let mid = c.scan_last.new.self in
     let control : mid.control ≡ FinalTable = ap (λ (x : Shape). x.control) c.scan_last.ensures.same ∙ c.requires.control in
-    let none = table_scanned v mid shown End c.requires.control c.scan_last.ensures.same c.requires.fits (rw c.in-End.is at c.in_ok-record.ensures.marks) in
+    let none = table_scanned v mid shown End c.requires.control c.scan_last.ensures.same c.requires.fits (rw c.in-End.is at c.in_ok-found.ensures.marks) in
     ended v mid c.go.new.self shown none.0 (final_ends mid c.go.new.self (inr control) c.go.ensures.same)
 
 pub returns-in-Found-clause-step : goal.returns-in-Found-clause-step
-returns-in-Found-clause-step g c = table_scanned c.args.self.now c.scan_last.new.self (g.R.Reader.shown c.args.reader.now) (Found c.in-Found.record) c.requires.control c.scan_last.ensures.same c.requires.fits (rw c.in-Found.is at c.in_ok-record.ensures.marks)
+returns-in-Found-clause-step g c = table_scanned c.args.self.now c.scan_last.new.self (g.R.Reader.shown c.args.reader.now) (Found c.in-Found.found) c.requires.control c.scan_last.ensures.same c.requires.fits (rw c.in-Found.is at c.in_ok-found.ensures.marks)
 
 pub returns-in-Working-clause-step : goal.returns-in-Working-clause-step
-returns-in-Working-clause-step g c = table_scanned c.args.self.now c.scan_last.new.self (g.R.Reader.shown c.args.reader.now) Working c.requires.control c.scan_last.ensures.same c.requires.fits (rw c.in-Working.is at c.in_ok-record.ensures.marks)
+returns-in-Working-clause-step g c = table_scanned c.args.self.now c.scan_last.new.self (g.R.Reader.shown c.args.reader.now) Working c.requires.control c.scan_last.ensures.same c.requires.fits (rw c.in-Working.is at c.in_ok-found.ensures.marks)

@@ -1,0 +1,104 @@
+-- What a step leaves that found no memory.
+use Rattle.std.proofs.Common.{◌≡◌, ◌≤◌, ◌∙◌, ◌⊎◌, ℕ, Bool, true, false, not, ◌&&◌, List, Result, Ok, Err, OnErr, length, filter, drop, find, inl, inr, refl, ap, sym, subst, arith}
+use Rattle.std.specs.Prelude.{if◌then◌else◌, Option, None}
+use Rattle.rv_value.specs.declared.record.IndexEntry.{IndexEntry}
+use Rattle.rv_keys.specs.Keys.{has_key}
+use Rattle.rv_judge.specs.Course.{building, fast_first}
+use Rattle.rv_judge.specs.declared.events.Control.{Control}
+use Rattle.rv_judge.specs.declared.events.Control.TheVariants.{Building, ForegroundAlone, BackgroundAlone, FinalList, FinalTable, Done}
+use Rattle.rv_judge.specs.declared.events.Trace.{Trace}
+use Rattle.rv_reader.specs.Shown.{Shown}
+use Rattle.rv_scan.specs.Alongs.{left}
+use Rattle.rv_jscan.specs.Joint.{Joint, under_way}
+use Rattle.rv_jscan.specs.Pieces.{may}
+use Rattle.rv_jscan.specs.Steps.{awaited_id}
+use Rattle.rv_retrieval.specs.Accounts.{fresh_of}
+use Rattle.rv_retrieval.specs.Effort.{keys_work}
+use Rattle.rv_retrieval.specs.Given.{TakesLeaf, TakesLeafBy, awaited}
+use Rattle.rv_retrieval.specs.Shape.{Shape, front_entries, is_background, keys_left, lending}
+use Rattle.rv_retrieval.specs.Short.{fetches_by, fetches_left, scan_fetches}
+use Rattle.rv_retrieval.specs.Stepping.{OnlyTakes}
+
+lends : (b : Bool) (old new : Joint) → TakesLeafBy b old new → lending new ≡ lending old
+lends true old new t = ap lending t.same
+lends false old new e = ap lending e
+
+lists : (b : Bool) (old new : Joint) → TakesLeafBy b old new → new.list ≡ old.list
+lists true old new t = ap (λ (j : Joint). j.list) t.same
+lists false old new e = ap (λ (j : Joint). j.list) e
+
+-- the awaited leaf was taken, or it was tried
+pub took_only : (old new : Shape) → new ≡ record old { joint = new.joint } → TakesLeaf old new.joint → OnlyTakes old new
+took_only old new e leaves = record {
+  same = subst (λ (x : Shape). x ≡ record old { joint = x.joint; borrowed = x.borrowed; at = x.at; trace = x.trace }) (sym e) refl;
+  leaves = inr leaves;
+  fresh = λ way. ap fresh_of e ∙ ap (λ (l : List ℕ). if building old.control && fast_first old.strategy then find (λ (k : ℕ). not (has_key k old.delivered)) (drop old.borrowed l) else None) (lends (is_background old.control) old.joint new.joint leaves);
+  fewer = subst (λ (n : ℕ). n ≤ keys_work old) (sym (ap keys_work e ∙ ap (λ (l : Option (List ℕ)). length (keys_left l old.at)) (lists (is_background old.control) old.joint new.joint leaves))) (omega arith);
+}
+
+pub kept_if_not : {X E : Type 0} (r : Result X E) (P : Type 0) → P → OnErr r P
+kept_if_not (Ok x) P p = tt
+kept_if_not (Err e) P p = p
+
+only_itself : (v : Shape) → OnlyTakes v v
+only_itself v = record { same = refl; leaves = inl refl; fresh = λ way. refl; fewer = omega arith }
+
+pub only_if : {X E : Type 0} (r : Result X E) (old new : Shape) → OnErr r (new ≡ old) → OnErr r (OnlyTakes old new)
+only_if (Ok x) old new e = tt
+only_if (Err x) old new e = subst (OnlyTakes old) (sym e) (only_itself old)
+
+-- keys were passed over before
+after_passed : (v mid new : Shape) → mid ≡ record v { borrowed = mid.borrowed; at = mid.at } → (under_way v.joint ≡ true → fresh_of mid ≡ fresh_of v) → keys_work mid ≤ keys_work v → OnlyTakes mid new → OnlyTakes v new
+after_passed v mid new e fresh fewer o =
+    let joint : mid.joint ≡ v.joint = ap (λ (x : Shape). x.joint) e in
+    record {
+      same = subst (λ (x : Shape). new ≡ record x { joint = new.joint; borrowed = new.borrowed; at = new.at; trace = new.trace }) e o.same;
+      leaves = subst (λ (x : Shape). (new.joint ≡ x.joint) ⊎ TakesLeaf x new.joint) e o.leaves;
+      fresh = λ way. o.fresh (ap under_way joint ∙ way) ∙ fresh way;
+      fewer = let less = o.fewer in omega arith;
+    }
+
+pub after_borrowed : {X E : Type 0} (r : Result X E) (v mid new : Shape) → mid ≡ record v { borrowed = mid.borrowed } → (under_way v.joint ≡ true → fresh_of mid ≡ fresh_of v) → OnErr r (OnlyTakes mid new) → OnErr r (OnlyTakes v new)
+after_borrowed (Ok x) v mid new e fresh o = tt
+after_borrowed (Err x) v mid new e fresh o = after_passed v mid new (subst (λ (x : Shape). x ≡ record v { borrowed = x.borrowed; at = x.at }) (sym e) refl) fresh (subst (λ (n : ℕ). n ≤ keys_work v) (sym (ap keys_work e)) (omega arith)) o
+
+pub after_keys : {X E : Type 0} (r : Result X E) (v mid new : Shape) → mid ≡ record v { at = mid.at } → keys_work mid ≤ keys_work v → OnErr r (OnlyTakes mid new) → OnErr r (OnlyTakes v new)
+after_keys (Ok x) v mid new e fewer o = tt
+after_keys (Err x) v mid new e fewer o = after_passed v mid new (subst (λ (x : Shape). x ≡ record v { borrowed = x.borrowed; at = x.at }) (sym e) refl) (λ way. ap fresh_of e) fewer o
+
+-- what was read is counted
+pub only_counted : (v mid new : Shape) (t : Trace) → new ≡ record mid { trace = t } → OnlyTakes v mid → OnlyTakes v new
+only_counted v mid new t e o = record {
+  same = subst (λ (x : Shape). x ≡ record v { joint = x.joint; borrowed = x.borrowed; at = x.at; trace = x.trace }) (sym e) (ap (λ (x : Shape). record x { trace = t }) o.same);
+  leaves = subst (λ (j : Joint). (j ≡ v.joint) ⊎ TakesLeaf v j) (sym (ap (λ (x : Shape). x.joint) e)) o.leaves;
+  fresh = λ way. ap fresh_of e ∙ o.fresh way;
+  fewer = subst (λ (n : ℕ). n ≤ keys_work v) (sym (ap keys_work e)) o.fewer;
+}
+
+-- the fetches that are left do not rise
+
+by_control : (c : Control) (f g k n : ℕ) → g ≡ f → n ≤ k → fetches_by c g n ≤ fetches_by c f k
+by_control Building f g k n e l = omega arith
+by_control ForegroundAlone f g k n e l = omega arith
+by_control BackgroundAlone f g k n e l = omega arith
+by_control FinalList f g k n e l = omega arith
+by_control FinalTable f g k n e l = omega arith
+by_control Done f g k n e l = omega arith
+
+pub fewer_fetches : (old new : Shape) (shown : Shown) → OnlyTakes old new → fetches_left new shown ≤ fetches_left old shown
+fewer_fetches old new shown o =
+    let same_lists : new.joint.list ≡ old.joint.list = listed o.leaves in
+    let scans : scan_fetches new shown ≡ scan_fetches old shown = ap (λ (x : Shape). scan_fetches x shown) o.same ∙ ap (λ (l : Option (List ℕ)). if old.front.alone then 0 else length (filter (λ (e : IndexEntry). may l e.row.0) (left old.front.fetching.walk (front_entries old shown)))) same_lists in
+    subst (λ (c : Control). fetches_by c (scan_fetches new shown) (keys_work new) ≤ fetches_left old shown) (sym (ap (λ (x : Shape). x.control) o.same)) (by_control old.control (scan_fetches old shown) (scan_fetches new shown) (keys_work old) (keys_work new) scans o.fewer)
+  where
+    listed : (new.joint ≡ old.joint) ⊎ TakesLeaf old new.joint → new.joint.list ≡ old.joint.list
+    listed (inl e) = ap (λ (j : Joint). j.list) e
+    listed (inr t) = lists (is_background old.control) old.joint new.joint t
+
+-- a take leaves what is awaited
+pub keeps_awaited : (old new : Shape) → new ≡ record old { joint = new.joint; trace = new.trace } → TakesLeaf old new.joint → awaited new ≡ awaited old
+keeps_awaited old new e leaves = ap awaited e ∙ by (is_background old.control) leaves
+  where
+    by : (b : Bool) → TakesLeafBy b old.joint new.joint → (if b then awaited_id new.joint else None) ≡ (if b then awaited_id old.joint else None)
+    by true t = ap awaited_id t.same
+    by false e = refl

@@ -1,0 +1,280 @@
+#!/usr/bin/env python3
+"""Looks over scripts before they are run, and tells each mistake with file, line and column.
+
+It finds the first token that fits no statement, with what could stand there; keywords used as names; limits of a
+statement; names of tables, columns, indexes and cursors that are unknown or in use; values of the wrong kind, too many
+and too few. Names are followed through the script as its calls would make them. Rows are not: so what depends on them
+(held, changed, pending) is not told, and neither are calls in a wrong state (no transaction, active, busy, read only),
+which a script may well mean to show."""
+from __future__ import annotations
+
+import argparse
+import sys
+from dataclasses import dataclass
+from typing import Iterator
+
+from model.database import Database, Refused, references_of
+from model.language import END, KEYWORDS, Call, Syntax, Token, calls_of, fault_of, read_statement, tokens
+
+TOLD = ("unknown", "exists", "kind", "no cursor", "cursor open", "limit")
+
+# What users of SQL write, and what stands for it here.
+INSTEAD = {
+    "LIKE": "there is no LIKE: STARTING WITH 'front' finds the texts that begin so",
+    "LIMIT": "there is no LIMIT: FETCH as many rows as are wanted, then CLOSE; OPTIMIZE FOR FAST FIRST finds them soon",
+    "DESC": "there is no DESC: ORDER BY gives the least first",
+    "ASC": "ORDER BY gives the least first, without a word",
+    "JOIN": "tables are joined by commas: FROM X, Y WHERE X.A = Y.A",
+    "INNER": "tables are joined by commas: FROM X, Y WHERE X.A = Y.A",
+    "LEFT": "there are no outer joins",
+    "DISTINCT": "there is no DISTINCT",
+    "GROUP": "there are no groups and no counts",
+    "COUNT": "there are no groups and no counts",
+    "AS": "a second name follows without AS: FROM T X",
+    "INT": "the kinds are BIGINT and VARCHAR(n)",
+    "INTEGER": "the kinds are BIGINT and VARCHAR(n)",
+    "TEXT": "the kinds are BIGINT and VARCHAR(n)",
+    "UNIQUE": "the kinds of indexes have no UNIQUE here",
+    "PRIMARY": "there are no keys: CREATE INDEX name ON table (column) makes an index",
+    "DROP": "nothing is dropped",
+    "ALTER": "nothing is altered",
+    "SELECT": "a query begins with a cursor: OPEN C SELECT .., and FETCH C gives its rows",
+    "DECLARE": "OPEN C SELECT .. opens a cursor",
+    "START": "BEGIN begins a transaction",
+    "ABORT": "ROLLBACK ends a transaction without its changes",
+    "NOT": "there is no NOT before a condition: IS NOT NULL and <> are there",
+    "NULL": "NULL is tested by IS NULL and IS NOT NULL",
+}
+
+
+@dataclass(frozen=True)
+class Finding:
+    line: int
+    column: int
+    words: str
+
+
+class Names(Database):
+    """The database without rows: what its calls make of names."""
+
+    def view(self, name):
+        return {}
+
+    def opened(self, select):
+        return None
+
+    def fetch(self, name):
+        self.need_cursor(name)
+        return "end"
+
+    def given(self, statement, reply):
+        pass
+
+
+def listed(wanted: list[str]) -> str:
+    words = [f"`{word}`" if word.upper() == word else word for word in wanted]
+    return words[0] if len(words) == 1 else ", ".join(words[:-1]) + " or " + words[-1]
+
+
+def token_at(found: list[Token], at: int) -> Token | None:
+    return next((token for token in found if token.at == at), None)
+
+
+def no_token(text: str, at: int) -> str:
+    """Why no token begins here."""
+    rest = text[at:]
+    if rest.startswith("!="):
+        return "`!=` is written `<>`"
+    if rest[0] == "'":
+        return "this text has no end: a quote within a text is written twice"
+    if rest[0] == '"':
+        return 'names stand without quotes, texts between two \''
+    if rest.startswith("--"):
+        return "a statement has no comment: a line that begins with # is one"
+    if rest[0].isdigit() or (rest[0] == "-" and rest[1:2].isdigit()):
+        return "no integer of 64 bits, which ends before a letter, a digit or `_`"
+    if rest[0] in "+-/%|":
+        return f"`{rest[0]}` is no token: there is no arithmetic"
+    return f"`{rest[0]}` begins no token"
+
+
+def instead(found: list[Token], at: int) -> str:
+    """The hint at a habit of SQL at this place or at the word before it."""
+    near = [token.value for token in found if token.at <= at][-2:]
+    hints = [INSTEAD[word] for word in reversed(near) if word in INSTEAD]
+    return f" ({hints[0]})" if hints else ""
+
+
+def of_syntax(text: str, fault: Syntax) -> tuple[int, str]:
+    """Where a text stops being a statement, and why."""
+    if not fault.wanted:
+        return fault.at, no_token(text, fault.at)
+    found = tokens(text)
+    token = token_at(found, fault.at)
+    if token is None:
+        return fault.at, f"the statement ends here, and {listed(fault.wanted)} should follow"
+    shown = text[token.at : token.end]
+    hint = instead(found, fault.at)
+    if token.value in KEYWORDS and "a name" in fault.wanted and not hint:
+        return fault.at, f"`{shown}` is a keyword, and no name; here could stand {listed(fault.wanted)}"
+    if fault.wanted == [END]:
+        return fault.at, f"`{shown}` stands behind the end of the statement{hint}"
+    if shown.upper() in ("AND", "OR") and not hint:
+        hint = " (a group of OR stands in parentheses beside AND)"
+    return fault.at, f"`{shown}` does not fit; here could stand {listed(fault.wanted)}{hint}"
+
+
+def of_insert(table_columns: list, values: list, found: list[Token], refused: Refused) -> tuple[int, str]:
+    """A value of the wrong kind, or a wrong count of values."""
+    literals = found[found.index(next(t for t in found if t.value == "(")) + 1 :: 2]
+    at = literals[min(refused.at, len(values) - 1)].at
+    if refused.at < min(len(values), len(table_columns)):
+        return at, f"no value for column {refused.name}, which is {kind_words(table_columns[refused.at][1])}"
+    names = ", ".join(name for name, _ in table_columns)
+    return at, f"{counted(len(values), 'value')} for {counted(len(table_columns), 'column')}: {names}"
+
+
+def tables_of(said: tuple) -> list[str]:
+    """The tables that a statement names, other than one that it makes."""
+    if said[0] == "open":
+        return [table for table, _ in said[3]]
+    return [said[2]] if said[0] == "index" else [said[1]] if said[0] in ("insert", "change") else []
+
+
+def of_kind(said: tuple, refused: Refused) -> str:
+    return f"column {refused.name} is of another kind than what stands beside it, or too short for it"
+
+
+def of_cursor(said: tuple, refused: Refused) -> str:
+    """A cursor's name, or a limit."""
+    words = str(refused)
+    if words.startswith("no cursor"):
+        return f"the session has no open cursor {refused.name}"
+    return f"the session has cursor {refused.name} open already" if words.startswith("cursor open") else words
+
+
+def counted(number: int, noun: str) -> str:
+    return f"{number} {noun}" + ("s" if number != 1 else "")
+
+
+def kind_words(width: int | None) -> str:
+    return "BIGINT" if width is None else f"VARCHAR({width})"
+
+
+class Checker:
+    """Follows the calls of a script."""
+
+    def __init__(self):
+        self.names = Names()
+        self.missed: set[tuple] = set()  # names of tables and cursors that were told to be unknown
+
+    def look_at(self, call: Call) -> tuple[int, str] | None:
+        """The first mistake of a call and its offset in the text, or None."""
+        try:
+            said = read_statement(call.text)
+        except Syntax as fault:
+            return of_syntax(call.text, fault)
+        try:
+            self.names.perform(call.session, said)
+            return None
+        except Refused as refused:
+            if not str(refused).startswith(TOLD) or self.is_known_to_miss(call.session, said, refused):
+                return None
+            return self.of_refusal(call.text, said, refused)
+
+    def is_known_to_miss(self, session: int, said: tuple, refused: Refused) -> bool:
+        """Whether this unknown table, or this cursor that is not open, was told before: one mistake is told once."""
+        words = str(refused)
+        if words.startswith("unknown") and refused.name in tables_of(said) and refused.name not in self.names.tables:
+            missed = (words,)
+        elif words.startswith("no cursor"):
+            missed = (session, words)
+        else:
+            return False
+        was_told = missed in self.missed
+        self.missed.add(missed)
+        return was_told
+
+    def of_refusal(self, text: str, said: tuple, refused: Refused) -> tuple[int, str]:
+        found = tokens(text)
+        reply, _, _ = str(refused).rpartition(" ")
+        if refused.at is not None:
+            return of_insert(self.names.tables[said[1]].columns, said[2], found, refused)
+        words = {"kind": of_kind, "unknown": self.of_unknown, "exists": self.of_exists}.get(reply, of_cursor)(said, refused)
+        return self.offset(found, refused), words
+
+    def of_unknown(self, said: tuple, refused: Refused) -> str:
+        tables = tables_of(said)
+        if any(name not in self.names.tables for name in tables):
+            return f"there is no table {refused.name}"
+        items = [(second or table, table) for table, second in said[3]] if said[0] == "open" else [(tables[0], tables[0])]
+        qualifier = next((q for q, column in references_of(said) if column is refused.name), None)
+        if qualifier is not None and qualifier not in [name for name, _ in items]:
+            return f"no table of this statement is called {qualifier}; there is {', '.join(name for name, _ in items)}"
+        having = [name for name, table in items if refused.name in self.columns(table)]
+        if qualifier is None and having:
+            return f"{refused.name} fits several columns: {', '.join(f'{name}.{refused.name}' for name in having)}"
+        asked = [table for name, table in items if qualifier in (None, name)]
+        return f"there is no column {refused.name}; " + "; ".join(f"{table} has {', '.join(self.columns(table))}" for table in asked)
+
+    def columns(self, table: str) -> list[str]:
+        return [name for name, _ in self.names.tables[table].columns]
+
+    def of_exists(self, said: tuple, refused: Refused) -> str:
+        made = self.names.tables if said[0] == "create" else self.names.indexes if said[0] == "index" else {}
+        if refused.name is said[1] and refused.name in made:
+            return f"there is {'a table' if said[0] == 'create' else 'an index'} {refused.name} already"
+        return f"{refused.name} stands here twice" + (": give one of the two a second name" if said[0] == "open" else "")
+
+    @staticmethod
+    def offset(found: list[Token], refused: Refused) -> int:
+        at = getattr(refused.name, "at", None)
+        if at is not None:
+            return at
+        same = [token.at for token in found if token.value == refused.name]
+        return same[0] if same else found[0].at
+
+
+def findings(script: str) -> Iterator[Finding]:
+    checker = Checker()
+    for call in calls_of(script):
+        if isinstance(call, Call):
+            mistake = checker.look_at(call)
+            if mistake is not None:
+                at, words = mistake
+                yield Finding(call.line, at + 3, words)
+
+
+def check(name: str, data: bytes) -> int:
+    """Prints the mistakes of a script, and gives their number."""
+    fault = fault_of(data)
+    if fault is not None:
+        print(f"{name}: {fault[1]}" + (" (a line is `S statement` with a session S from 1 to 8, `# comment`, or `--`)" if fault[0] == 2 else ""))
+        return 1
+    found = list(findings(data.decode()))
+    for finding in found:
+        print(f"{name}:{finding.line}:{finding.column}: {finding.words}")
+    return len(found)
+
+
+def main() -> int:
+    parser = argparse.ArgumentParser(description=__doc__, formatter_class=argparse.RawDescriptionHelpFormatter)
+    parser.add_argument("scripts", nargs="*", default=["-"], metavar="FILE", help="scripts, or - for standard input (the default)")
+    parser.epilog = "Status 0: nothing was found; 1: something was; 2: a file cannot be read, or the words are none of these."
+    words = parser.parse_args()
+    mistakes = 0
+    for name in words.scripts:
+        try:
+            if name == "-":
+                mistakes += check("-", sys.stdin.buffer.read())
+            else:
+                with open(name, "rb") as file:
+                    mistakes += check(name, file.read())
+        except OSError as error:
+            print(f"check_script: {name}: {error.strerror}", file=sys.stderr)
+            return 2
+    return 1 if mistakes else 0
+
+
+if __name__ == "__main__":
+    sys.exit(main())

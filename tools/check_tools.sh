@@ -1,0 +1,15 @@
+#!/usr/bin/env bash
+# Runs the tests of the tools, the examples by the slow model, and the check of the pages. It takes under a minute, and needs
+# Python alone. Where PROGRAM is there, the examples are run by it too.
+#
+# usage: tools/check_tools.sh [PROGRAM]
+program=${1:+$(realpath -m "$1")}
+cd "$(dirname "$0")" || exit 1
+status=0
+python3 -m unittest discover -q -s tests -t . || status=1
+./doc_examples.py || status=1
+if [ -x "$program" ]; then
+    ./doc_examples.py "$program" || status=1
+fi
+./check_pages.py --test && ./check_pages.py --coming docs/AUDIT.md || status=1
+exit $status

@@ -1,0 +1,276 @@
+"""The engine, evaluated slowly: index trees, retrievals and joins by the rules in words, so that the rows of a cursor come
+in the order in which the program gives them, and STEP and SHOW have their one reply. `Engine` is the database of
+database.py with such cursors. The rules stand in docs/LANGUAGE.md; it shares no code with the program."""
+from .database import Database, atom_truth, offer, place, places_of, qualifies
+from .ranges import NULL, range_for
+from .retrieval import PAGE, Counts, Retrieval, begins_with
+from .trees import Sorted, Tree
+
+
+# Restrictions at one item: places are columns here.
+
+
+def bound_groups(groups, item, outer):
+    """The groups whose last item is this one, with the values of the outer rows put in; columns are then plain numbers."""
+    taken = [g for g in groups if max((p[0] for a in g for p in places_of(a)), default=0) == item]
+    return [[bound_atom(atom, item, outer) for atom in group] for group in taken]
+
+
+TURNED = {"=": "=", "<>": "<>", "<": ">", "<=": ">=", ">": "<", ">=": "<="}
+
+
+def bound_atom(atom, item, outer):
+    value = lambda p: outer[p[0]][p[1]]
+    own = [p[0] == item for p in places_of(atom)]
+    if atom[0] == "const" or not any(own):
+        return ("const", atom_truth(atom, value))
+    if atom[0] != "columns":
+        return (atom[0], atom[1][1], *atom[2:])
+    _, left, op, right = atom
+    if all(own):
+        return ("columns", left[1], op, right[1])
+    if own[0]:
+        return ("compare", left[1], op, value(right))
+    return ("compare", right[1], TURNED[op], value(left))
+
+
+def columns_of(groups):
+    return {column for group in groups for atom in group for column in places_of(atom)}
+
+
+# Judges.
+
+
+class Threshold:
+    def rule(self, projected, guaranteed):
+        return "drop" if 20 * projected >= 19 * guaranteed else "go on"
+
+
+class Patient:
+    def rule(self, projected, guaranteed):
+        return "go on"
+
+
+class Contrary:
+    def __init__(self):
+        self.turn = 0
+
+    def rule(self, projected, guaranteed):
+        self.turn += 1
+        return ["stop", "go on", "drop", "end"][(self.turn - 1) % 4]
+
+
+# One retrieval.
+
+
+class Used:
+    """An index as a retrieval sees it."""
+
+    def __init__(self, name, columns, entries, groups, need):
+        self.name, self.columns = name, columns
+        self.bounds = range_for(groups, columns)
+        self.leaves = entries.leaves()
+        self.estimate, self.exact = entries.estimate(self.bounds)
+        self.restricted = not self.bounds.is_whole()
+        self.covers = need <= set(columns)
+        # the part of the restriction that it tests by itself
+        self.part = [g for g in groups if columns_of([g]) <= set(columns)]
+
+    def passes(self, key):
+        # a key has places of values; (kind, value) is turned back
+        back = {c: value_of(v) for c, v in zip(self.columns, key)}
+        return qualifies(self.part, lambda column: back[column])
+
+    def leaf(self, at):
+        """The entries in the range of a leaf, and the number of the next one where that may have more. The first reading
+        is of the last leaf that begins before the range, or of the first leaf."""
+        begins = lambda i: self.bounds.side(self.leaves[i][0][0])
+        if at is None:
+            at = max(i for i in range(len(self.leaves)) if i == 0 or begins(i) < 0)
+        inside = [e for e in self.leaves[at][1] if self.bounds.side(e[0]) == 0]
+        more = at + 1 < len(self.leaves) and begins(at + 1) <= 0
+        self.last_read = at
+        return inside, at + 1 if more else None
+
+
+def value_of(placed):
+    if placed == NULL:
+        return None
+    return placed[1] if placed[0] == 1 else placed[1].decode()
+
+
+class Query:
+    """What a retrieval is asked: rows, pages and indexes (name, columns, entries) of a table, groups over its columns, the
+    columns needed, the order, and whether the first rows are wanted soon."""
+
+    def __init__(self, rows, pages, indexes, groups, need, order, soon):
+        self.rows, self.pages, self.indexes, self.groups = rows, pages, indexes, groups
+        self.need, self.order, self.soon = need, order, soon
+
+
+class Asked(Retrieval):
+    """A retrieval of a query, at an item of FROM. It writes what happens into a log, if there is one."""
+
+    def __init__(self, query, item, judges, counts, log):
+        self.query, self.item, self.judges, self.log = query, item, judges, log
+        indexes = [Used(*index, query.groups, query.need) for index in query.indexes]
+        super().__init__(indexes, query.pages, query.order, query.soon, counts)
+
+    def is_wanted(self, number):
+        return qualifies(self.query.groups, lambda column: self.query.rows[number][column])
+
+    def page_rows(self, page):
+        return [n for n in range(page * PAGE, (page + 1) * PAGE) if n in self.query.rows]
+
+    def rule(self, projected, guaranteed):
+        return self.judges.rule(projected, guaranteed)
+
+    def note(self, kind, what):
+        if self.log is not None:
+            self.log.append((self.item, kind, (what.name, what.last_read) if kind == "leaf" else what))
+
+
+# Joins and cursors.
+
+
+class Plan:
+    """Retrievals in loops, one inside the other. It has the calls of database.py's Cursor."""
+
+    def __init__(self, select, tables, judges, steps, log):
+        self.select, self.tables, self.judges, self.steps, self.log = select, tables, judges, steps, log
+        self.counts, self.open, self.rows, self.gathered = Counts(), [], [], None
+        order = select.order
+        first = [c for _, c in order]
+        self.ordered = bool(order) and all(p[0] == 0 for p in order) and any(begins_with(i[1], first) for i in tables[0][2])
+        if order and not self.ordered:
+            self.gathered = []
+        self.sorted = None
+        self.deepen()
+
+    def deepen(self):
+        item = len(self.open)
+        rows, pages, indexes = self.tables[item]
+        groups = bound_groups(self.select.groups, item, self.rows)
+        named = [p for g in self.select.groups for a in g for p in places_of(a)]
+        need = {c for at, c in self.select.returns + named + self.select.order if at == item}
+        order = [c for _, c in self.select.order] if self.ordered and item == 0 else []
+        query = Query(rows, pages, indexes, groups, need, order, self.select.soon)
+        self.open.append(Asked(query, item, self.judges, self.counts, self.log))
+
+    def step(self):
+        """An offer, None where none came yet, or "end"."""
+        if self.sorted is not None:
+            return self.sorted.pop(0) if self.sorted else "end"
+        found = self.open[-1].step()
+        if found == "end":
+            return self.ended()
+        if found is None:
+            return None
+        self.rows.append(self.tables[len(self.open) - 1][0][found])
+        if len(self.open) < len(self.tables):
+            self.deepen()
+            return None
+        given = offer(self.select, self.rows)
+        self.rows.pop()
+        if self.gathered is None:
+            return given
+        self.gathered.append(given)
+        return None
+
+    def ended(self):
+        if len(self.open) > 1:
+            self.open.pop()
+            self.rows.pop()
+            return None
+        if self.gathered is None:
+            return "end"
+        self.sorted = sorted(self.gathered, key=lambda o: o[0])
+        return self.step()
+
+    def background(self):
+        """One background step, and whether there was one to do."""
+        waiting = [retrieval for retrieval in self.open if retrieval.awaits()]
+        if waiting:
+            waiting[0].background()
+        return bool(waiting)
+
+    def allowed(self):
+        while True:
+            found = self.step()
+            for _ in range(self.steps):
+                if not any(retrieval.control == "building" for retrieval in self.open):
+                    break
+                self.background()
+            if found == "end":
+                return {"end"}
+            if found is not None:
+                return {found[1]}
+
+    def give(self, reply):
+        pass
+
+    def trace(self):
+        first, counts = self.open[0], self.counts
+        told = f"pages {counts.pages} leaves {counts.leaves} fetches {counts.fetches}"
+        return " ".join(["trace", first.strategy] + first.events + [told])
+
+
+class Engine(Database):
+    """The database with cursors over plans. A log, if one is given, is a list to which each retrieval of any cursor adds
+    (item of FROM, kind, what) as `Retrieval.note` has them."""
+
+    def __init__(self, judge=0, steps=1, plain=False, log=None):
+        super().__init__()
+        self.log = log
+        self.judges, self.judge, self.steps = [Threshold(), Patient(), Contrary()], judge, steps
+        self.empty = Sorted if plain else Tree
+        self.entries = {}  # of each index, at the last commit
+        self.seen = {}  # by session: pages and entries at its base
+
+    def rule(self, projected, guaranteed):
+        return self.judges[self.judge].rule(projected, guaranteed)
+
+    def index(self, name, table, columns):
+        reply = super().index(name, table, columns)
+        entries = self.empty()
+        for number, values in sorted(self.tables[table].rows.items()):
+            entries = entries.put((self.key(name, values), number))
+        self.entries[name] = entries
+        return reply
+
+    def key(self, index, values):
+        return tuple(place(values[c]) for c in self.indexes[index].columns)
+
+    def write(self, name, number, values):
+        before = self.tables[name].rows.get(number)
+        super().write(name, number, values)
+        for index in [i for i, made in self.indexes.items() if made.table == name]:
+            old = None if before is None else self.key(index, before)
+            new = None if values is None else self.key(index, values)
+            if old != new:
+                if old is not None:
+                    self.entries[index] = self.entries[index].without((old, number))
+                if new is not None:
+                    self.entries[index] = self.entries[index].put((new, number))
+
+    def begin(self, read_only):
+        reply = super().begin(read_only)
+        self.active[self.session].pages = {name: table.pages for name, table in self.tables.items()}
+        self.active[self.session].entries = dict(self.entries)
+        return reply
+
+    def opened(self, select):
+        tables = []
+        for name in select.tables:
+            indexes = [(i, made.columns, self.own.entries[i]) for i, made in self.indexes.items() if made.table == name]
+            tables.append((self.own.rows[name], self.own.pages[name], indexes))
+        return Plan(select, tables, self, self.steps, self.log)
+
+    def step(self, name, n):
+        plan, done = self.need_cursor(name), 0
+        while done < n and plan.background():
+            done += 1
+        return f"stepped {done}"
+
+    def show(self, name):
+        return self.need_cursor(name).trace()

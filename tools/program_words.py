@@ -1,0 +1,62 @@
+#!/usr/bin/env python3
+"""Runs a built program on command lines, among them words that are not UTF-8, and compares statuses and words on standard error.
+
+usage: tools/program_words.py PROGRAM
+
+The expected statuses are from the form of the command line as README gives it: options, each at most once and in any order,
+with a value of 1 to 10 decimal digits in its range, in the next word or behind `=`. Prints the lines that differ, and ends with
+status 1 where one did."""
+import subprocess
+import sys
+
+USAGE = b"usage: rvdyn [--judge N] [--steps K] [--gen SEED]\n"
+
+ACCEPTED = [
+    [],
+    [b"--judge", b"2"],
+    [b"--judge=0", b"--steps=64"],
+    [b"--steps", b"0", b"--judge", b"1"],
+    [b"--judge", b"0000000002"],
+    [b"--steps=007"],
+]
+
+FAULTY = [
+    [b"--judge=\xff"],
+    [b"--judge", b"\xff"],
+    [b"\xc3"],
+    [b"--steps", b"1", b"\xed\xa0\x80"],
+    [b"\xff", b"--judge", b"1"],
+    [b""],
+    [b"--"],
+    [b"7"],
+    [b"-h"],
+    [b"--help"],
+    [b"--version"],
+    [b"--judge"],
+    [b"--judge="],
+    [b"--judge", b"3"],
+    [b"--judge", b"-1"],
+    [b"--judge", b"--steps", b"1"],
+    [b"--judge=1", b"--judge=1"],
+    [b"--steps", b"65"],
+    [b"--gen", b"4294967296"],
+    [b"--gen", b"00000000001"],
+    [b"--jud", b"1"],
+    ["--judge=\u0661".encode()],
+]
+
+
+def main():
+    if len(sys.argv) != 2:
+        sys.exit(__doc__)
+    wrong = 0
+    for words, wanted in [(w, (0, b"", b"")) for w in ACCEPTED] + [(w, (1, b"", USAGE)) for w in FAULTY]:
+        run = subprocess.run([sys.argv[1].encode(), *words], input=b"", capture_output=True)
+        if (run.returncode, run.stdout, run.stderr) != wanted:
+            print(f"{words}: {run.returncode} {run.stdout!r} {run.stderr!r}")
+            wrong += 1
+    print(f"{len(ACCEPTED) + len(FAULTY)} command lines, {wrong} differ")
+    return 1 if wrong else 0
+
+
+sys.exit(main())
