@@ -61,15 +61,15 @@ runs_of (Some seed) left script P is p = subst P (sym is) p
 
 -- what a performed script wrote, by the script that is run
 
-pub done_writes : {X : Type 0} (core : Option X) (shown : X → Shown) (seed : Option ℕ) (left old new : Option (List ℕ)) (script : Script) → Runs seed left (λ told. told ≡ script) → IsSomeAnd core (λ c. Performs seed old new script (shown c)) → IsSomeAnd core (λ c. WritesAll seed left old new (shown c))
+pub done_writes : {X S : Type 0} (core : Option X) (shown : X → Shown S) (seed : Option ℕ) (left old new : Option (List ℕ)) (script : Script) → Runs seed left (λ told. told ≡ script) → IsSomeAnd core (λ c. Performs seed old new script (shown c)) → IsSomeAnd core (λ c. WritesAll seed left old new (shown c))
 done_writes None shown seed left old new script is p = p
 done_writes (Some c) shown seed left old new script is p = record { legal = p.legal; written = p.written; calls = runs_of seed left script (HasAllCalls (shown c).history) is p.calls }
 
-pub memory_writes : {X : Type 0} (core : Option X) (shown : X → Shown) (seed : Option ℕ) (left old new : Option (List ℕ)) (script : Script) → Runs seed left (λ told. told ≡ script) → IsSomeAnd core (λ c. PerformsFirst seed old new script (shown c)) → IfSome core (λ c. StopsShort seed left old new (shown c))
+pub memory_writes : {X S : Type 0} (core : Option X) (shown : X → Shown S) (seed : Option ℕ) (left old new : Option (List ℕ)) (script : Script) → Runs seed left (λ told. told ≡ script) → IsSomeAnd core (λ c. PerformsFirst seed old new script (shown c)) → IfSome core (λ c. StopsShort seed left old new (shown c))
 memory_writes None shown seed left old new script is p = tt
 memory_writes (Some c) shown seed left old new script is p = record { legal = p.legal; written = p.written; calls = runs_of seed left script (λ s. HasFirstCalls (shown c).history (calls_asked s)) is p.calls }
 
-pub fault_writes : {X : Type 0} (core : Option X) (shown : X → Shown) (seed : Option ℕ) (left old new : Option (List ℕ)) (script : Script) → Runs seed left (λ told. told ≡ script) → IsSomeAnd core (λ c. PerformsFront seed old new script (shown c)) → IsSomeAnd core (λ c. WritesFront seed left old new (shown c))
+pub fault_writes : {X S : Type 0} (core : Option X) (shown : X → Shown S) (seed : Option ℕ) (left old new : Option (List ℕ)) (script : Script) → Runs seed left (λ told. told ≡ script) → IsSomeAnd core (λ c. PerformsFront seed old new script (shown c)) → IsSomeAnd core (λ c. WritesFront seed left old new (shown c))
 fault_writes None shown seed left old new script is p = p
 fault_writes (Some c) shown seed left old new script is p = record { legal = p.legal; written = p.written; calls = runs_of seed left script (λ s. HasFirstCalls (shown c).history (calls_asked s)) is p.calls }
 

@@ -3,4 +3,3 @@ pub mod Making
 pub mod Performing
 pub mod Script
 pub mod Words
-pub mod Ruling

@@ -15,19 +15,19 @@ use Rattle.rv_cli.specs.declared.status.Status.TheVariants as statuses
 use Rattle.rv_cli.specs.Script.{FailsToRead, HasAllCalls, HasFault, HasFirstCalls, PassesLimit, calls_asked, output}
 
 -- The output of a legal history of the script's calls is written, whole.
-pub record Performs (seed : Option ℕ) (old new : Option (List ℕ)) (script : Script) (core : Shown) : Type 0 where
+pub record Performs {S : Type 0} (seed : Option ℕ) (old new : Option (List ℕ)) (script : Script) (core : Shown S) : Type 0 where
   pub legal : IsLegal core.history
   pub calls : HasAllCalls core.history script
   pub written : Appends old new (output seed core.history)
 
 -- The same of the script's first calls.
-pub record PerformsFirst (seed : Option ℕ) (old new : Option (List ℕ)) (script : Script) (core : Shown) : Type 0 where
+pub record PerformsFirst {S : Type 0} (seed : Option ℕ) (old new : Option (List ℕ)) (script : Script) (core : Shown S) : Type 0 where
   pub legal : IsLegal core.history
   pub calls : HasFirstCalls core.history (calls_asked script)
   pub written : Appends old new (output seed core.history)
 
 -- A front of such an output is written.
-pub record PerformsFront (seed : Option ℕ) (old new : Option (List ℕ)) (script : Script) (core : Shown) : Type 0 where
+pub record PerformsFront {S : Type 0} (seed : Option ℕ) (old new : Option (List ℕ)) (script : Script) (core : Shown S) : Type 0 where
   pub legal : IsLegal core.history
   pub calls : HasFirstCalls core.history (calls_asked script)
   pub written : AppendsFront old new (output seed core.history)

@@ -84,19 +84,19 @@ output None history = text history
 output (Some seed) history = summary_text (summary history)
 
 -- What status 0 says: the output of one legal history was written, whole, and the history has the calls of the script.
-pub record WritesAll (seed : Option ℕ) (left old new : Option (List ℕ)) (core : Shown) : Type 0 where
+pub record WritesAll {S : Type 0} (seed : Option ℕ) (left old new : Option (List ℕ)) (core : Shown S) : Type 0 where
   pub legal : IsLegal core.history
   pub written : Appends old new (output seed core.history)
   pub calls : Runs seed left (HasAllCalls core.history)
 
 -- What status 4 says where calls were made: the output of one legal history of the script's first calls was written.
-pub record StopsShort (seed : Option ℕ) (left old new : Option (List ℕ)) (core : Shown) : Type 0 where
+pub record StopsShort {S : Type 0} (seed : Option ℕ) (left old new : Option (List ℕ)) (core : Shown S) : Type 0 where
   pub legal : IsLegal core.history
   pub written : Appends old new (output seed core.history)
   pub calls : Runs seed left (λ script. HasFirstCalls core.history (calls_asked script))
 
 -- What status 6 says: a front of such an output was written.
-pub record WritesFront (seed : Option ℕ) (left old new : Option (List ℕ)) (core : Shown) : Type 0 where
+pub record WritesFront {S : Type 0} (seed : Option ℕ) (left old new : Option (List ℕ)) (core : Shown S) : Type 0 where
   pub legal : IsLegal core.history
   pub written : AppendsFront old new (output seed core.history)
   pub calls : Runs seed left (λ script. HasFirstCalls core.history (calls_asked script))

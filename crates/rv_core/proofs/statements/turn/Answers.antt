@@ -1,7 +1,19 @@
-use Rattle.std.proofs.Common.{rules}
-use Rattle.rv_core.proofs.Facts.{if_ok, any_ok}
+use Rattle.rv_core.proofs.Facts.{any_ok}
 use Rattle.rv_core.proofs.Handling.{parted_err, parted_ok, turns_other}
 use Rattle.rv_core.proofs.statements.turn.Goals as goal
 
 pub returns-in-Err : goal.returns-in-Err
-returns-in-Err g c = ?
+returns-in-Err g c =
+    let is = c.in-Err.ensures.other.0 in
+    let none = c.in-Err.ensures.other.1 in
+    record {
+      ok = rw c.answered.ensures (parted_ok c.perform.result _ _ (rw is at c.perform.ensures.ok));
+      handles = rw c.answered.ensures (parted_ok c.perform.result _ _ (rw is at c.perform.ensures.handles));
+      refuses = λ refusal. rw c.answered.ensures (parted_ok c.perform.result _ _ (c.perform.ensures.refuses refusal));
+      turn = rw c.answered.ensures (parted_ok c.perform.result _ _ (any_ok c.perform.result _ (λ replies. turns_other _ c.args.asked _ replies.0 _ _ none)));
+      lost = rw c.answered.ensures (parted_err c.perform.result _ (rw is at c.perform.ensures.lost));
+      rules = c.perform.ensures.rules;
+      err = rw c.answered.ensures (parted_err c.perform.result _ c.perform.ensures.err);
+      opened = c.perform.ensures.opened;
+      unopened = rw c.answered.ensures (parted_err c.perform.result _ c.perform.ensures.unopened);
+    }

@@ -2,7 +2,7 @@ use Rattle.std.proofs.Common.{◌≡◌, ◌++◌, ◌∷◌, [], arith, rules}
 use Rattle.rv_model.proofs.Bounds.{HasRoom-after}
 use Rattle.rv_core.specs.Core.{entry, shown_of}
 use Rattle.rv_core.proofs.Facts.{on_err}
-use Rattle.rv_core.proofs.Soundness.{IsSound-Answers, answered, unanswered_same}
+use Rattle.rv_core.proofs.Soundness.{IsSound-Answers, answered, unanswered_kept, unanswered_same}
 use Rattle.rv_core.proofs.engine.Engine.call.Goals as goal
 
 pub answer-requires-clause-room : goal.answer-requires-clause-room
@@ -15,7 +15,7 @@ pub returns-in_err-copy-clause-err : goal.returns-in_err-copy-clause-err
 returns-in_err-copy-clause-err g c = on_err _ _ (unanswered_same _ _ _ _ _)
 
 pub returns-in_err-reserve-clause-err : goal.returns-in_err-reserve-clause-err
-returns-in_err-reserve-clause-err g c = rw (← c.self.view_is) (on_err _ _ (unanswered_same _ _ _ _ _))
+returns-in_err-reserve-clause-err g c = rw (← c.self.view_is) (on_err _ _ (unanswered_kept _ _ c.self.inside.database c.self.inside.history.items c.reserve.new.self.items c.self.inside.phase c.args.session c.args.text.now c.in_err-reserve.ensures.items))
 
 pub invariant_of-self-2 : goal.invariant_of-self-2
 invariant_of-self-2 g c =
