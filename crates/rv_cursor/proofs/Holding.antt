@@ -1,19 +1,21 @@
 -- What becomes of a cursor's offers when its plan is called.
-use Rattle.std.proofs.Common.{◌≡◌, ℕ, ◌<◌, ◌≤◌, List, [], ◌∷◌, ◌++◌, refl, ap, sym, ◌∙◌, subst, arith, Option, Some, None, IfSome, IsSome}
+use Rattle.std.proofs.Common.{◌≡◌, ℕ, ◌<◌, ◌≤◌, List, [], ◌∷◌, ◌++◌, refl, ap, sym, ◌∙◌, subst, arith, Option, Some, None, IfSome, IsSome, Result, Ok, Err}
 use Rattle.std.specs.List.Sorted.{IsPermutation}
 use Rattle.std.proofs.lemmas.List.Sorted.{IsPermutation-refl}
 use Rattle.rv_value.specs.declared.value.Value.{Value}
 use Rattle.rv_lang.specs.declared.reply.Reply.{Reply}
 use Rattle.rv_lang.specs.declared.reply.Reply.TheVariants.{Row}
 use Rattle.rv_reader.specs.Shown.{Shown}
+use Rattle.rv_snapshot.specs.Alone.{alone}
 use Rattle.rv_model.specs.declared.state.Offer.{Offer}
 use Rattle.rv_model.specs.Offers.{sorted}
 use Rattle.rv_cursor.proofs.Sorted.{sorted_moved}
 use Rattle.rv_join.specs.Order.{IsLeastOf}
-use Rattle.rv_join.specs.Plans.{GivesOne, PlanFits, PlanKept, PlanMoves, PlanStays, Planned, plan_rest}
+use Rattle.rv_join.specs.Plans.{GivesOne, PlanFits, PlanKept, PlanMoves, PlanStays, Planned, plan_rest, plan_work}
 use Rattle.rv_join.specs.declared.plan.PlanStep.TheVariants.{Row as PlanRow, End as PlanEnd, Working as PlanWorking}
 use Rattle.rv_cursor.specs.declared.cursor.Open.{Open}
-use Rattle.rv_cursor.specs.declared.cursor.Filled.TheVariants.{Nearer, Ended}
+use Rattle.rv_cursor.specs.declared.cursor.Filled.{Filled}
+use Rattle.rv_cursor.specs.declared.cursor.Filled.TheVariants.{Brought, Nearer, Ended}
 use Rattle.rv_cursor.specs.Left.{CursorFits, Fills, SameCursor, Stays, TakesOffer, in_hand, left, seen_by, to_come, to_do, work}
 use Rattle.rv_cursor.proofs.Giving.{gives_least}
 
@@ -23,16 +25,19 @@ same_itself c = record { session = refl; name = refl; number = refl; snap = refl
 pub stays_itself : (shown : Shown) (c : Open) → CursorFits shown c → Stays shown c c
 stays_itself shown c fits = record { fits = fits; same = same_itself c; left = refl }
 
+pub same_on : (a b c : Open) → SameCursor a b → SameCursor b c → SameCursor a c
+same_on a b c first then = record {
+  session = then.session ∙ first.session;
+  name = then.name ∙ first.name;
+  number = then.number ∙ first.number;
+  snap = then.snap ∙ first.snap;
+  asked = then.asked ∙ first.asked;
+}
+
 pub stays_on : (shown : Shown) (a b c : Open) → Stays shown a b → Stays shown b c → Stays shown a c
 stays_on shown a b c first then = record {
   fits = then.fits;
-  same = record {
-    session = then.same.session ∙ first.same.session;
-    name = then.same.name ∙ first.same.name;
-    number = then.same.number ∙ first.same.number;
-    snap = then.same.snap ∙ first.same.snap;
-    asked = then.same.asked ∙ first.same.asked;
-  };
+  same = same_on a b c first.same then.same;
   left = then.left ∙ first.left;
 }
 
@@ -88,5 +93,27 @@ hand_gives shown c o values hand replies held empty copied made fits =
     rw (held, empty) (gives_least o (to_come shown c) replies least twice first)
 
 -- what is done beside changes no row in hand, and adds no work
-pub nearer_beside : (shown : Shown) (old mid new : Open) → to_do shown mid < to_do shown old → new.hand ≡ mid.hand → work shown new ≤ work shown mid → to_do shown new < to_do shown old
-nearer_beside shown old mid new nearer same less = rw same (omega (arith, nearer, less))
+pub nearer_beside : (shown : Shown) (old mid new : Open) → old.hand ≡ None → SameCursor old mid → Fills shown Nearer old mid → new.hand ≡ mid.hand → work shown new ≤ work shown mid → to_do shown new < to_do shown old
+nearer_beside shown old mid new empty same fills hand less =
+    let at : work shown mid < work shown old = subst (λ (n : ℕ). plan_work (alone shown n) mid.plan < work shown old) (sym same.snap) fills.moves.work in
+    rw (hand ∙ fills.held, empty) (omega (arith, at, less))
+
+pub nearer_if : {E : Type 0} (f : Filled) (shown : Shown) (old mid new : Open) → old.hand ≡ None → SameCursor old mid → Fills shown f old mid → new.hand ≡ mid.hand → work shown new ≤ work shown mid → ◌≡◌ {A = Result Filled E} (Ok f) (Ok Nearer) → to_do shown new < to_do shown old
+nearer_if Brought shown old mid new empty same fills hand less is = absurd (cc)
+nearer_if Nearer shown old mid new empty same fills hand less is = nearer_beside shown old mid new empty same fills hand less
+nearer_if Ended shown old mid new empty same fills hand less is = absurd (cc)
+
+pub nearer_none : {E X : Type 0} {e : E} → ◌≡◌ {A = Result Filled E} (Err e) (Ok Nearer) → X
+nearer_none is = absurd (cc)
+
+-- a reader at the same snapshot
+pub seen_stays : (shown : Shown) (old new : Open) → SameCursor old new → seen_by shown new ≡ seen_by shown old
+seen_stays shown old new same = ap (alone shown) same.snap
+
+-- the end was found
+pub ended_left : (shown : Shown) (old new : Open) → old.hand ≡ None → Fills shown Ended old new → left shown old ≡ []
+ended_left shown old new empty fills = none_left shown old empty fills.moves.step.0
+
+-- what was left at first is given
+pub takes_then : (old mid new : List Offer) (replies : Reply × Reply) → mid ≡ old → TakesOffer mid replies new → TakesOffer old replies new
+takes_then old mid new replies same takes = subst (λ (offers : List Offer). TakesOffer offers replies new) same takes

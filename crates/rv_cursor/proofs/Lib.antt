@@ -1,4 +1,4 @@
 pub mod Giving
 pub mod Holding
 pub mod Sorted
-pub mod Worked
+pub mod Moving

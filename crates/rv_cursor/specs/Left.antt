@@ -7,10 +7,12 @@ use Rattle.rv_model.specs.Step.{Offers, offers_after}
 use Rattle.rv_reader.specs.Shown.{Shown}
 use Rattle.rv_snapshot.specs.Alone.{alone}
 use Rattle.rv_join.specs.Order.{IsLeastOf}
-use Rattle.rv_join.specs.Plans.{PlanFits, plan_rest, plan_work}
+use Rattle.rv_join.specs.Plans.{PlanFits, PlanMoves, plan_rest, plan_work}
+use Rattle.rv_join.specs.declared.plan.PlanStep.{PlanStep}
+use Rattle.rv_join.specs.declared.plan.PlanStep.TheVariants.{Row, End, Working}
 use Rattle.rv_cursor.specs.declared.cursor.Open.{Open}
 use Rattle.rv_cursor.specs.declared.cursor.Filled.{Filled}
-use Rattle.rv_cursor.specs.declared.cursor.Filled.TheVariants.{Nearer, Ended}
+use Rattle.rv_cursor.specs.declared.cursor.Filled.TheVariants.{Brought, Nearer, Ended}
 
 -- the reader at the cursor's snapshot alone
 abbrev pub seen_by : Shown → Open → Shown
@@ -60,11 +62,22 @@ missing (Some o) = 0
 abbrev pub to_do : Shown → Open → ℕ
 to_do shown c = work shown c + missing c.hand
 
--- a plan's step: a row came nearer, or none is left
+-- a plan's step answered this, and this is then in hand
+pub record FillsWith (shown : Shown) (step : PlanStep) (row : Option Offer) (old new : Open) : Type 0 where
+  pub moves : PlanMoves (seen_by shown old) step old.plan new.plan
+  pub held : new.hand ≡ row
+
+-- a row was brought, or came nearer, or none is left
 abbrev pub Fills : Shown → Filled → Open → Open → Type 0
-Fills shown Nearer old new = to_do shown new < to_do shown old
-Fills shown Ended old new = left shown old ≡ []
+Fills shown Brought old new = (o : Offer) × FillsWith shown (Row o) (Some o) old new
+Fills shown Nearer old new = FillsWith shown Working None old new
+Fills shown Ended old new = FillsWith shown End None old new
 
 -- Two equal replies may be given by a cursor of these offers, and these are left.
 abbrev pub TakesOffer : List Offer → Reply × Reply → List Offer → Type 0
 TakesOffer old replies new = (replies.1 ≡ replies.0) × Offers old replies.0 × (new ≡ offers_after old replies.0)
+
+-- the same of a turn that may make no reply yet, and then leaves the offers
+abbrev pub TakesPart : List Offer → Option (Reply × Reply) → List Offer → Type 0
+TakesPart old (Some replies) new = TakesOffer old replies new
+TakesPart old None new = new ≡ old

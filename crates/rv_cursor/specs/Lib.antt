@@ -1,2 +1,2 @@
 pub mod Left
-pub mod Working
+pub mod Moves

@@ -1,5 +1,8 @@
 //! A cursor, and the steps of its plan.
-ghost use Rattle.std.specs.Prelude.{◌≡◌, ◌≤◌, false, None, Ok, IfOk, OnErr};
+ghost use Rattle.std.specs.Prelude.{◌≡◌, ◌+◌, ◌≤◌, true, false, None, Ok, IfOk, OnErr};
+ghost use Rattle.rv_judge.specs.Counting.{reads};
+ghost use Rattle.rv_retrieval.specs.Short.{OnlyLeaves, Settled, fetches_left, has_short};
+ghost use Rattle.rv_join.specs.Alone.{plan_effort, plan_life};
 ghost use Rattle.rv_join.specs.Asking.{CanPlan, IsAsked};
 ghost use Rattle.rv_join.specs.Levels.{table_rows};
 ghost use Rattle.rv_join.specs.Plans.{LeadsWith};
@@ -7,8 +10,8 @@ ghost use Rattle.rv_model.specs.Offering.{offers_over};
 ghost use Rattle.rv_model.specs.Offers.{sorted};
 ghost use Rattle.rv_snapshot.specs.Alone.{alone};
 ghost use Rattle.rv_join.specs.Pieces.{plan_awaited, plan_pieces};
-ghost use Rattle.rv_cursor.specs.Left.{CursorFits, Fills, Stays, left, work};
-ghost use Rattle.rv_cursor.specs.Working.{WorksPiece};
+ghost use Rattle.rv_cursor.specs.Left.{CursorFits, Fills, Stays, left, seen_by, work};
+ghost use Rattle.rv_cursor.specs.Moves.{Moves, StepsFront, WorksPiece, ruled};
 
 use rv_catalog::{IndexDef, Select};
 use rv_join::{Plan, PlanStep};
@@ -34,7 +37,9 @@ pub struct Open {
 /// What a step of a cursor's plan came to.
 #[derive(Clone, Copy, Debug, PartialEq, Eq)]
 pub enum Filled {
-    /// A row is in hand, or has come nearer by some work.
+    /// A row is in hand.
+    Brought,
+    /// A row has come nearer by some work.
     Nearer,
     /// Nothing is left.
     Ended,
@@ -57,6 +62,9 @@ pub fn open_cursor<R: Reader>(
     ensures left { IfOk result (λ c. left (R.shown reader.now) c ≡ sorted (offers_over select.now (table_rows (alone (R.shown reader.now) snap) snap))) }
     ensures asked { IfOk result (λ c. IsAsked select.now indexes.now snap number c.plan.asked) }
     ensures leads { IfOk result (λ c. LeadsWith (alone (R.shown reader.now) snap) c.plan) }
+    ensures life { IfOk result (λ c. reads steps.new + plan_effort (alone (R.shown reader.now) snap) c.plan ≤ reads steps.old + plan_life select.now indexes.now (alone (R.shown reader.now) snap) snap) }
+    ensures short { IfOk result (λ c. has_short c.plan.stack.at.here.query (alone (R.shown reader.now) snap) ≡ true → Settled c.plan.stack.at.here × (fetches_left c.plan.stack.at.here (alone (R.shown reader.now) snap) ≤ 20)) }
+    ensures only { OnlyLeaves steps.old steps.new }
     ensures session { IfOk result (λ c. c.session ≡ session) }
     ensures name { IfOk result (λ c. c.name ≡ name) }
     ensures number { IfOk result (λ c. c.number ≡ number) }
@@ -85,6 +93,9 @@ pub fn fill<R: Reader>(
     requires empty { cursor.old.hand ≡ None }
     ensures stays { Stays (R.shown reader.now) cursor.old cursor.new }
     ensures fills { IfOk result (λ f. Fills (R.shown reader.now) f cursor.old cursor.new) }
+    ensures held { OnErr result (cursor.new.hand ≡ None) }
+    ensures front { StepsFront (would judge.old) (seen_by (R.shown reader.now) cursor.old) (ruled cursor.old (state judge.old)) (ruled cursor.new (state judge.new)) }
+    ensures stays_rule { would judge.new ≡ would judge.old }
 {
     let seen = Snapshot {
         reader,
@@ -93,7 +104,7 @@ pub fn fill<R: Reader>(
     match cursor.plan.step(&seen, judge, steps) {
         Ok(PlanStep::Row(offer)) => {
             let _before = cursor.hand.replace(offer);
-            Ok(Filled::Nearer)
+            Ok(Filled::Brought)
         }
         Ok(PlanStep::End) => Ok(Filled::Ended),
         Ok(PlanStep::Working) => Ok(Filled::Nearer),
@@ -113,7 +124,9 @@ pub fn work_piece<R: Reader>(
     ensures stays { Stays (R.shown reader.now) cursor.old cursor.new }
     ensures hand { cursor.new.hand ≡ cursor.old.hand }
     ensures work { work (R.shown reader.now) cursor.new ≤ work (R.shown reader.now) cursor.old }
-    ensures piece { IfOk result (λ worked. WorksPiece worked cursor.old cursor.new) }
+    ensures worked { IfOk result (λ worked. WorksPiece worked (would judge.old) (seen_by (R.shown reader.now) cursor.old) (ruled cursor.old (state judge.old)) (ruled cursor.new (state judge.new))) }
+    ensures moves { Moves (would judge.old) (seen_by (R.shown reader.now) cursor.old) (ruled cursor.old (state judge.old)) (ruled cursor.new (state judge.new)) }
+    ensures stays_rule { would judge.new ≡ would judge.old }
     ensures none { plan_awaited cursor.old.plan ≡ None → (result ≡ Ok false) × (steps.new ≡ steps.old) }
     ensures err { OnErr result (plan_pieces cursor.new.plan ≡ plan_pieces cursor.old.plan) }
 {

@@ -1,9 +1,9 @@
 //! FETCH and STEP of a cursor.
-ghost use Rattle.std.specs.Prelude.{◌≡◌, ◌<◌, ◌≤◌, None, IfOk, IsSome, OnErr, OnOk};
+ghost use Rattle.std.specs.Prelude.{◌≡◌, ◌<◌, ◌≤◌, None, Ok, IfNone, IfOk, IsSome, OnErr, OnOk};
 ghost use Rattle.rv_reader.specs.Shown.{Shown};
 ghost use Rattle.rv_join.specs.Pieces.{counted_up, plan_awaited, plan_pieces};
-ghost use Rattle.rv_cursor.specs.Left.{CursorFits, SameCursor, Stays, TakesOffer, left, work};
-ghost use Rattle.rv_cursor.specs.Working.{Beside};
+ghost use Rattle.rv_cursor.specs.Left.{CursorFits, SameCursor, Stays, TakesOffer, TakesPart, left, seen_by, to_do, work};
+ghost use Rattle.rv_cursor.specs.Moves.{Beside, FetchMoves, Moves, StepsBacks, TurnMoves, TurnTo, ruled};
 
 use crate::cursor::{Filled, Open, fill, work_piece};
 use crate::replies::twice;
@@ -19,6 +19,8 @@ fn give(alloc: Global, cursor: &mut Open) -> Result<(Reply, Reply), NoMemory>
     ensures fits { (shown : Shown) → CursorFits shown cursor.old → CursorFits shown cursor.new }
     ensures same { SameCursor cursor.old cursor.new }
     ensures ok { IfOk result (λ replies. (shown : Shown) → CursorFits shown cursor.old → TakesOffer (left shown cursor.old) replies (left shown cursor.new)) }
+    ensures plan { cursor.new.plan ≡ cursor.old.plan }
+    ensures given { OnOk result (cursor.new.hand ≡ None) }
     ensures err { OnErr result (cursor.new ≡ cursor.old) }
 {
     let Some(offer) = &cursor.hand else {
@@ -29,8 +31,8 @@ fn give(alloc: Global, cursor: &mut Open) -> Result<(Reply, Reply), NoMemory>
     Ok(replies)
 }
 
-/// Up to so many background steps, as long as both sides of some retrieval run. One that finds no memory is the last.
-#[tactic(auto, using(crate::proofs::Holding::stays_itself, crate::proofs::Holding::stays_on, crate::proofs::Worked::works_more))]
+/// Up to so many background steps, as long as both sides of some retrieval run.
+#[tactic(auto, using(crate::proofs::Holding::stays_itself, crate::proofs::Holding::stays_on))]
 fn work_beside<R: Reader>(
     cursor: &mut Open,
     reader: &R,
@@ -42,7 +44,9 @@ fn work_beside<R: Reader>(
     ensures stays { Stays (R.shown reader.now) cursor.old cursor.new }
     ensures hand { cursor.new.hand ≡ cursor.old.hand }
     ensures work { work (R.shown reader.now) cursor.new ≤ work (R.shown reader.now) cursor.old }
-    ensures beside { OnOk result (Beside most cursor.old cursor.new) }
+    ensures beside { OnOk result (Beside most (would judge.old) (seen_by (R.shown reader.now) cursor.old) (ruled cursor.old (state judge.old)) (ruled cursor.new (state judge.new))) }
+    ensures moves { Moves (would judge.old) (seen_by (R.shown reader.now) cursor.old) (ruled cursor.old (state judge.old)) (ruled cursor.new (state judge.new)) }
+    ensures stays_rule { would judge.new ≡ would judge.old }
 {
     'pieces: for _done in 0..most {
         if !cursor.plan.is_building() {
@@ -55,6 +59,94 @@ fn work_beside<R: Reader>(
         }
     }
     Ok(())
+}
+
+/// A step of the plan of a cursor that has no row in hand, and up to so many background steps beside it; none where the
+/// step finds the end.
+fn turn<R: Reader>(
+    cursor: &mut Open,
+    reader: &R,
+    judge: &mut Box<dyn Judge>,
+    beside: u8,
+    steps: &mut Steps<R::Ledger>,
+) -> Result<Filled, NoMemory>
+    requires fits { CursorFits (R.shown reader.now) cursor.old }
+    requires empty { cursor.old.hand ≡ None }
+    ensures stays { Stays (R.shown reader.now) cursor.old cursor.new }
+    ensures nearer { result ≡ Ok Filled.Nearer → to_do (R.shown reader.now) cursor.new < to_do (R.shown reader.now) cursor.old }
+    ensures turn { IfOk result (λ f. TurnTo f cursor.new.hand beside (would judge.old) (seen_by (R.shown reader.now) cursor.old) (ruled cursor.old (state judge.old)) (ruled cursor.new (state judge.new))) }
+    ensures moves { Moves (would judge.old) (seen_by (R.shown reader.now) cursor.old) (ruled cursor.old (state judge.old)) (ruled cursor.new (state judge.new)) }
+    ensures stays_rule { would judge.new ≡ would judge.old }
+{
+    let filled = match fill(cursor, reader, judge, steps) {
+        Ok(filled) => filled,
+        Err(NoMemory) => return Err(NoMemory),
+    };
+    match filled {
+        Filled::Ended => Ok(Filled::Ended),
+        _ => match work_beside(cursor, reader, judge, beside, steps) {
+            Ok(()) => Ok(filled),
+            Err(NoMemory) => Err(NoMemory),
+        },
+    }
+}
+
+/// A turn of a FETCH that has no row in hand.
+fn bring<R: Reader>(
+    alloc: Global,
+    cursor: &mut Open,
+    reader: &R,
+    judge: &mut Box<dyn Judge>,
+    beside: u8,
+    steps: &mut Steps<R::Ledger>,
+) -> Result<Option<(Reply, Reply)>, NoMemory>
+    requires fits { CursorFits (R.shown reader.now) cursor.old }
+    requires empty { cursor.old.hand ≡ None }
+    ensures fits { CursorFits (R.shown reader.now) cursor.new }
+    ensures same { SameCursor cursor.old cursor.new }
+    ensures ok { IfOk result (λ part. TakesPart (left (R.shown reader.now) cursor.old) part (left (R.shown reader.now) cursor.new)) }
+    ensures err { OnErr result (left (R.shown reader.now) cursor.new ≡ left (R.shown reader.now) cursor.old) }
+    ensures given { OnOk result (cursor.new.hand ≡ None) }
+    ensures nearer { IfOk result (λ part. IfNone part (to_do (R.shown reader.now) cursor.new < to_do (R.shown reader.now) cursor.old)) }
+    ensures turn { IfOk result (λ part. TurnMoves None part beside (would judge.old) (seen_by (R.shown reader.now) cursor.old) (ruled cursor.old (state judge.old)) (ruled cursor.new (state judge.new))) }
+    ensures moves { Moves (would judge.old) (seen_by (R.shown reader.now) cursor.old) (ruled cursor.old (state judge.old)) (ruled cursor.new (state judge.new)) }
+    ensures stays_rule { would judge.new ≡ would judge.old }
+{
+    match turn(cursor, reader, judge, beside, steps) {
+        Ok(Filled::Brought) => Ok(Some(give(alloc, cursor)?)),
+        Ok(Filled::Nearer) => Ok(None),
+        Ok(Filled::Ended) => Ok(Some(twice(alloc, Reply::End)?)),
+        Err(NoMemory) => Err(NoMemory),
+    }
+}
+
+/// One turn of a FETCH, behind which another call may come: a row of those left, none of which comes before it, or End
+/// where none is left; None exactly where the plan's step answered that it works on.
+pub fn fetch_step<R: Reader>(
+    alloc: Global,
+    cursor: &mut Open,
+    reader: &R,
+    judge: &mut Box<dyn Judge>,
+    beside: u8,
+    steps: &mut Steps<R::Ledger>,
+) -> Result<Option<(Reply, Reply)>, NoMemory>
+    requires fits { CursorFits (R.shown reader.now) cursor.old }
+    ensures fits { CursorFits (R.shown reader.now) cursor.new }
+    ensures same { SameCursor cursor.old cursor.new }
+    ensures ok { IfOk result (λ part. TakesPart (left (R.shown reader.now) cursor.old) part (left (R.shown reader.now) cursor.new)) }
+    ensures err { OnErr result (left (R.shown reader.now) cursor.new ≡ left (R.shown reader.now) cursor.old) }
+    ensures given { OnOk result (cursor.new.hand ≡ None) }
+    ensures nearer { IfOk result (λ part. IfNone part (to_do (R.shown reader.now) cursor.new < to_do (R.shown reader.now) cursor.old)) }
+    ensures turn { IfOk result (λ part. TurnMoves cursor.old.hand part beside (would judge.old) (seen_by (R.shown reader.now) cursor.old) (ruled cursor.old (state judge.old)) (ruled cursor.new (state judge.new))) }
+    ensures held { IsSome cursor.old.hand → ruled cursor.new (state judge.new) ≡ ruled cursor.old (state judge.old) }
+    ensures moves { Moves (would judge.old) (seen_by (R.shown reader.now) cursor.old) (ruled cursor.old (state judge.old)) (ruled cursor.new (state judge.new)) }
+    ensures stays_rule { would judge.new ≡ would judge.old }
+{
+    if cursor.hand.is_none() {
+        return bring(alloc, cursor, reader, judge, beside, steps);
+    }
+    let replies = give(alloc, cursor)?;
+    Ok(Some(replies))
 }
 
 /// FETCH: a row of those left, none of which comes before it, or End where none is left. Each step of the plan is
@@ -73,20 +165,23 @@ pub fn fetch<R: Reader>(
     ensures same { SameCursor cursor.old cursor.new }
     ensures ok { IfOk result (λ replies. TakesOffer (left (R.shown reader.now) cursor.old) replies (left (R.shown reader.now) cursor.new)) }
     ensures err { OnErr result (left (R.shown reader.now) cursor.new ≡ left (R.shown reader.now) cursor.old) }
+    ensures given { OnOk result (cursor.new.hand ≡ None) }
+    ensures rounds { OnOk result (FetchMoves beside (would judge.old) (seen_by (R.shown reader.now) cursor.old) (ruled cursor.old (state judge.old)) (ruled cursor.new (state judge.new))) }
+    ensures held { IsSome cursor.old.hand → ruled cursor.new (state judge.new) ≡ ruled cursor.old (state judge.old) }
+    ensures moves { Moves (would judge.old) (seen_by (R.shown reader.now) cursor.old) (ruled cursor.old (state judge.old)) (ruled cursor.new (state judge.new)) }
+    ensures stays_rule { would judge.new ≡ would judge.old }
 {
-    'fills: while cursor.hand.is_none() {
-        match fill(cursor, reader, judge, steps) {
-            Ok(Filled::Nearer) => {}
-            Ok(Filled::Ended) => return twice(alloc, Reply::End),
+    'turns: loop {
+        match fetch_step(alloc, cursor, reader, judge, beside, steps) {
+            Ok(Some(replies)) => return Ok(replies),
+            Ok(None) => {}
             Err(NoMemory) => return Err(NoMemory),
         }
-        let _beside = work_beside(cursor, reader, judge, beside, steps);
     }
-    give(alloc, cursor)
 }
 
 /// STEP: up to `most` background steps; how many there were. There are fewer only where the plan awaits no piece.
-#[tactic(auto, using(crate::proofs::Holding::stays_itself, crate::proofs::Holding::stays_on, crate::proofs::Worked::counted_more))]
+#[tactic(auto, using(crate::proofs::Holding::stays_itself, crate::proofs::Holding::stays_on))]
 pub fn step<R: Reader>(
     cursor: &mut Open,
     reader: &R,
@@ -99,6 +194,9 @@ pub fn step<R: Reader>(
     ensures hand { cursor.new.hand ≡ cursor.old.hand }
     ensures most { IfOk result (λ done. done ≤ most) }
     ensures counted { IfOk result (λ done. plan_pieces cursor.new.plan ≡ counted_up (plan_pieces cursor.old.plan) done) }
+    ensures backs { IfOk result (λ done. StepsBacks done (would judge.old) (seen_by (R.shown reader.now) cursor.old) (ruled cursor.old (state judge.old)) (ruled cursor.new (state judge.new))) }
+    ensures moves { Moves (would judge.old) (seen_by (R.shown reader.now) cursor.old) (ruled cursor.old (state judge.old)) (ruled cursor.new (state judge.new)) }
+    ensures stays_rule { would judge.new ≡ would judge.old }
     ensures fewer { IfOk result (λ done. done < most → plan_awaited cursor.new.plan ≡ None) }
 {
     let mut done = 0u64;

@@ -6,5 +6,5 @@ pub mod fetching;
 pub mod replies;
 
 pub use cursor::{Open, open_cursor};
-pub use fetching::{fetch, step};
+pub use fetching::{fetch, fetch_step, step};
 pub use replies::twice;

@@ -18,6 +18,12 @@ fit_at a shown place [] i d le all = absurd (omega (arith, le))
 fit_at a shown place (l ∷ ls) zero d le all = all.1
 fit_at a shown place (l ∷ ls) (suc i) d le all = fit_at a shown (place + 1) ls i d (omega (arith, le)) all.2
 
+-- past the levels above the innermost one is that one
+pub at_past : (ls : List Level) (i : ℕ) (d : Level) → length ls ≤ i → slice_index_or ls i d ≡ d
+at_past [] i d le = refl
+at_past (l ∷ ls) zero d le = absurd (omega (arith, le))
+at_past (l ∷ ls) (suc i) d le = at_past ls i d (omega (arith, le))
+
 levels_set : (a : Asked) (shown : Shown) (place : ℕ) (ls : List Level) (i : ℕ) (d new : Level) → i < length ls → AllFit a shown place ls → LevelStays a shown (slice_index_or ls i d) new → LevelsStay a shown place ls (slice_set ls i new)
 levels_set a shown place [] i d new le all stays = absurd (omega (arith, le))
 levels_set a shown place (l ∷ ls) zero d new le all stays = record {

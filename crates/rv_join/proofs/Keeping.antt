@@ -15,14 +15,12 @@ use Rattle.rv_join.specs.Asking.{item_at}
 use Rattle.rv_join.specs.Levels.{AllFit, LevelFits, Stacked, StackFits, first_in, first_of}
 use Rattle.rv_join.specs.Moves.{Rises, StackStays}
 use Rattle.rv_join.specs.Pieces.{level_at}
-use Rattle.rv_join.specs.Plans.{AreReads, HoldsGood, PlanFits, PlanKept, PlanMoves, PlanStays, Planned, RisesAlone, numbers_of, plan_trace, plan_work, rest_at, work_at}
+use Rattle.rv_join.specs.Plans.{AreReads, HoldsGood, PlanFits, PlanKept, PlanMoves, PlanStays, Planned, RisesAlone, numbers_of, plan_trace, rest_at}
 use Rattle.rv_join.specs.Work.{loops_work}
-use Rattle.rv_join.specs.declared.gather.Stage.{Stage}
-use Rattle.rv_join.specs.declared.gather.Stage.TheVariants.{AsFound, Gathering, Giving}
 use Rattle.rv_join.specs.Rules.{SamePlans}
 use Rattle.rv_join.proofs.Accounting.{alone_above}
 use Rattle.rv_join.proofs.Numbers.{rules_stay}
-use Rattle.rv_join.proofs.Working.{none_le, same_le}
+use Rattle.rv_join.proofs.Working.{same_le}
 
 -- The retrieval of a place.
 
@@ -89,29 +87,15 @@ taken_rises shown old new i before after holds stays rise one =
 pub still_stays : (a : Asked) (shown : Shown) (v : Stacked) → StackFits a shown v → StackStays a shown v v
 still_stays a shown v fits = record { fits = fits; work = same_le (loops_work a shown v); bag = refl; led = λ led. led }
 
-less_at : (s : Stage) (n m : ℕ) → n ≤ m → work_at s n ≤ work_at s m
-less_at AsFound n m h = h
-less_at Gathering n m h = h
-less_at Giving n m h = same_le 0
-
 pub stays_still : (shown : Shown) (old new : Planned) → StackStays old.asked shown old.stack new.stack → new ≡ record old { stack = new.stack } → PlanStays shown old new
 stays_still shown old new stays same = rw same (record {
   asked = refl;
   rest_same = ap (rest_at old.stage old.gathered) stays.bag;
-  work = less_at old.stage (loops_work old.asked shown new.stack) (loops_work old.asked shown old.stack) stays.work;
+  work = stays.work;
 })
 
 pub stays_counted : (shown : Shown) (old mid new : Planned) (reads : Counts) → PlanStays shown old mid → new ≡ record mid { reads = reads } → PlanStays shown old new
 stays_counted shown old mid new reads stays same = rw same (record { asked = stays.asked; rest_same = stays.rest_same; work = stays.work })
-
--- the work at opening
-pub begins_work : (shown : Shown) (p : Planned) (k : ℕ) → loops_work p.asked shown p.stack ≤ k → plan_work shown p ≤ k
-begins_work shown p k h = by_stage p.stage
-  where
-    by_stage : (s : Stage) → work_at s (loops_work p.asked shown p.stack) ≤ k
-    by_stage AsFound = h
-    by_stage Gathering = h
-    by_stage Giving = none_le k
 
 -- A step, whose reads are counted behind it.
 

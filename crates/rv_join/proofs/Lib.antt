@@ -15,3 +15,5 @@ pub mod Accounting
 pub mod Keeping
 pub mod Numbers
 pub mod OneItem
+pub mod Going
+pub mod Lowering

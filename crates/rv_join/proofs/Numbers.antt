@@ -5,6 +5,7 @@ use Rattle.std.proofs.lemmas.List.Folds.{position_or_len-set}
 use Rattle.std.specs.List.{position_or_len}
 use Rattle.rv_judge.specs.Counting.{one_more}
 use Rattle.rv_judge.specs.declared.judging.Facts.{Facts}
+use Rattle.rv_judge.specs.Verdicts.{Ruling}
 use Rattle.rv_judge.specs.declared.judging.Verdict.{Verdict}
 use Rattle.rv_judge.specs.declared.judging.Verdict.TheVariants.{Continue, AbandonScan, AbandonForeground, AbandonBackground}
 use Rattle.rv_value.specs.declared.record.IndexEntry.{IndexEntry}
@@ -144,17 +145,17 @@ ruled_turns AbandonScan v = dropped_turns AbandonScan (more_behind v.joint) (mor
 ruled_turns AbandonForeground v = stopped_turns (more_behind v.joint) v
 ruled_turns AbandonBackground v = dropped_turns AbandonBackground (more_behind v.joint) false v
 
-obeyed_turns : (same way : Bool) (would : ℕ → Facts → Verdict) (state after before : ℕ) (v new : Shape) → Obeyed same way would state after before v new → Turns v new
-obeyed_turns true true would state after before v new obeyed = subst (Turns v) (sym obeyed) (ruled_turns _ v)
+obeyed_turns : (same way : Bool) (would : ℕ → Facts → Ruling) (state after before : ℕ) (v new : Shape) → Obeyed same way would state after before v new → Turns v new
+obeyed_turns true true would state after before v new obeyed = subst (Turns v) (sym obeyed.0) (ruled_turns _ v)
 obeyed_turns true false would state after before v new obeyed = subst (Turns v) (sym obeyed.0) (turned v)
 obeyed_turns false way would state after before v new obeyed = subst (Turns v) (sym obeyed.0) (over_turns before v)
 
 -- a piece is accepted, and then the judge is obeyed
-pub accepted_turns : (would : ℕ → Facts → Verdict) (state after : ℕ) (piece : Pieced) (old new : Shape) → (gives : GivesOn would state after piece Accepted old new) → Turns (record old { joint = gives.0 }) new
+pub accepted_turns : (would : ℕ → Facts → Ruling) (state after : ℕ) (piece : Pieced) (old new : Shape) → (gives : GivesOn would state after piece Accepted old new) → Turns (record old { joint = gives.0 }) new
 accepted_turns would state after piece old new gives = obeyed_turns _ _ would state after old.joint.ended (record old { joint = gives.0 }) new gives.2
 
 -- a piece that is given is counted where it is accepted
-pub given_number : (would : ℕ → Facts → Verdict) (state after : ℕ) (piece : Pieced) (g : Given) (old new : Shape) → GivesOn would state after piece g old new → CountsPiece g old.joint.number new.joint.number
+pub given_number : (would : ℕ → Facts → Ruling) (state after : ℕ) (piece : Pieced) (g : Given) (old new : Shape) → GivesOn would state after piece g old new → CountsPiece g old.joint.number new.joint.number
 given_number would state after piece Accepted old new gives = (accepted_turns would state after piece old new gives).number ∙ accepted_number old.joint gives.0 piece.entries (held_next old.joint.held) gives.1
 given_number would state after piece (Stale asked now) old new gives = ap (λ (w : Shape). w.joint.number) gives.0
 
@@ -190,7 +191,7 @@ innermost_counts (Ok g) ls old new counts = below ls
     below (l ∷ ls) = pieces_more g l.here.joint.number (pieces_in ls old) (pieces_in ls new) (below ls)
 innermost_counts (Err e) ls old new counts = tt
 
-pub given_counts : {E : Type 0} (r : Result Given E) (would : ℕ → Facts → Verdict) (state after : ℕ) (piece : Pieced) (old new : Shape) → IfOk r (λ g. GivesOn would state after piece g old new) → IfOk r (λ g. CountsPiece g old.joint.number new.joint.number)
+pub given_counts : {E : Type 0} (r : Result Given E) (would : ℕ → Facts → Ruling) (state after : ℕ) (piece : Pieced) (old new : Shape) → IfOk r (λ g. GivesOn would state after piece g old new) → IfOk r (λ g. CountsPiece g old.joint.number new.joint.number)
 given_counts (Ok g) would state after piece old new gives = given_number would state after piece g old new gives
 given_counts (Err e) would state after piece old new gives = tt
 

@@ -7,11 +7,11 @@ use Rattle.rv_judge.specs.declared.events.Event.TheVariants.{Full as FullEvent}
 use Rattle.rv_judge.specs.declared.events.Happening.{Happening}
 use Rattle.rv_judge.specs.declared.events.Happening.TheVariants.{FrontEnded, FinalEnded}
 use Rattle.rv_judge.specs.declared.judging.Facts.{Facts}
-use Rattle.rv_judge.specs.declared.judging.Verdict.{Verdict}
+use Rattle.rv_judge.specs.Verdicts.{Ruling}
 use Rattle.rv_reader.specs.Shown.{Shown}
 use Rattle.rv_scan.specs.declared.skip.Scanned.{Scanned}
 use Rattle.rv_scan.specs.declared.skip.Scanned.TheVariants.{Found, Working, End}
-use Rattle.rv_jscan.specs.Joint.{Joint}
+use Rattle.rv_jscan.specs.Joint.{Joint, under_way}
 use Rattle.rv_jscan.specs.Pieces.{Pieced}
 use Rattle.rv_jscan.specs.declared.jscan.Given.{Given}
 use Rattle.rv_jscan.specs.declared.jscan.Given.TheVariants.{Accepted, Stale}
@@ -20,7 +20,7 @@ use Rattle.rv_jscan.specs.Steps.{Accepts, TakeLeaves, held_next}
 use Rattle.rv_retrieval.specs.declared.steps.Fg.{Fg}
 use Rattle.rv_retrieval.specs.declared.steps.Fg.TheVariants.{Row as FgRow, Working as FgWorking, End as FgEnd}
 use Rattle.rv_retrieval.specs.Effort.{GiveSpends, Tries, effort, life_of}
-use Rattle.rv_retrieval.specs.Given.{TakesLeaf, TakesLeafBy}
+use Rattle.rv_retrieval.specs.Given.{TakesLeaf, TakesLeafBy, awaited}
 use Rattle.rv_retrieval.specs.Opened.{Opened}
 use Rattle.rv_retrieval.specs.Rulings.{GivesOn, gone}
 use Rattle.rv_retrieval.specs.Runs.{SameCourse}
@@ -28,7 +28,7 @@ use Rattle.rv_retrieval.specs.Shape.{Shape, is_background}
 use Rattle.rv_retrieval.specs.Short.{Settled, fetches_left, has_short, is_settled}
 use Rattle.rv_judge.specs.declared.events.Control.{Control}
 use Rattle.rv_judge.specs.declared.events.Control.TheVariants.{Building, ForegroundAlone, BackgroundAlone, FinalList, FinalTable, Done as ControlDone}
-use Rattle.rv_retrieval.specs.Stepping.{DoesAs, Kind, OnePiece, Remembered, RemembersBy, StepsAs, StepsBehind, ended_by, filled, is_awaiting, kind_of}
+use Rattle.rv_retrieval.specs.Stepping.{DoesAs, Kind, MayReadIts, OnePiece, OnlyTakes, Remembered, RemembersBy, StepsAs, StepsBehind, ended_by, filled, is_awaiting, kind_of, piece_read}
 use Rattle.rv_retrieval.specs.Stepping.Kind.{Borrow, Piece, Walk, WalkBoth, NextKey, NextPage, Over}
 use Rattle.rv_retrieval.specs.Accounts.{fresh_of}
 use Rattle.rv_join.specs.declared.level.Caught.TheVariants.{Ready, Ended, Worked}
@@ -66,7 +66,7 @@ accepted_plans : (old new : Joint) (entries : List IndexEntry) (next : Option In
 accepted_plans old new entries (Some cut) accepts = ap (λ (j : Joint). j.plans) accepts
 accepted_plans old new entries None accepts = ap (λ (j : Joint). j.plans) accepts.3
 
-pub given_plans : (would : ℕ → Facts → Verdict) (state after : ℕ) (piece : Pieced) (g : Given) (old new : Shape) → GivesOn would state after piece g old new → SamePlans old new
+pub given_plans : (would : ℕ → Facts → Ruling) (state after : ℕ) (piece : Pieced) (g : Given) (old new : Shape) → GivesOn would state after piece g old new → SamePlans old new
 given_plans would state after piece Accepted old new gives =
     let turns = accepted_turns would state after piece old new gives in
     record { query = turns.query; strategy = turns.strategy; plans = turns.plans ∙ accepted_plans old.joint gives.0 piece.entries (held_next old.joint.held) gives.1 }
@@ -100,11 +100,11 @@ ended_plans h (Found r) v = plans_stay v
 ended_plans h Working v = plans_stay v
 ended_plans h End v = record { query = refl; strategy = refl; plans = refl }
 
-behind_plans : (b : Bool) (would : ℕ → Facts → Verdict) (state after : ℕ) (old new : Shape) → StepsBehind b would state after old new → SamePlans old new
+behind_plans : (b : Bool) (would : ℕ → Facts → Ruling) (state after : ℕ) (old new : Shape) → StepsBehind b would state after old new → SamePlans old new
 behind_plans true would state after old new does = plans_then old (record old { joint = does.taken }) new (record { query = refl; strategy = refl; plans = ap (λ (j : Joint). j.plans) does.leaves.same }) (given_plans would state after does.piece Accepted (record old { joint = does.taken }) new does.obeys)
 behind_plans false would state after old new does = subst (SamePlans old) (sym does.0) (plans_stay old)
 
-does_plans : (k : Kind) (would : ℕ → Facts → Verdict) (state after : ℕ) (shown : Shown) (c d : Counts) (s : Scanned) (old new : Shape) → DoesAs k would state after shown c d s old new → SamePlans old new
+does_plans : (k : Kind) (would : ℕ → Facts → Ruling) (state after : ℕ) (shown : Shown) (c d : Counts) (s : Scanned) (old new : Shape) → DoesAs k would state after shown c d s old new → SamePlans old new
 does_plans (Borrow key) would state after shown c d s old new does = plans_then old (record old { borrowed = new.borrowed }) new (record { query = refl; strategy = refl; plans = refl }) (remembers_plans s (record old { borrowed = new.borrowed }) new does.1.left)
 does_plans Piece would state after shown c d s old new does = plans_then old (record old { borrowed = does.1.passed }) new (record { query = refl; strategy = refl; plans = refl }) (behind_plans (is_awaiting old) would state after (record old { borrowed = does.1.passed }) new does.1.does)
 does_plans Walk would state after shown c d s old new does = subst (SamePlans old) (sym does.2) (plans_then old (record old { front = new.front }) _ (record { query = refl; strategy = refl; plans = refl }) (ended_plans FrontEnded s (record old { front = new.front })))
@@ -113,18 +113,18 @@ does_plans NextKey would state after shown c d s old new does = subst (SamePlans
 does_plans NextPage would state after shown c d s old new does = subst (SamePlans old) (sym does.1) (plans_then old (record old { last = new.last }) _ (record { query = refl; strategy = refl; plans = refl }) (ended_plans FinalEnded s (record old { last = new.last })))
 does_plans Over would state after shown c d s old new does = subst (SamePlans old) (sym does.2) (plans_stay old)
 
-steps_plans : (would : ℕ → Facts → Verdict) (state after : ℕ) (shown : Shown) (c d : Counts) (fg : Fg) (old new : Shape) → StepsAs would state after shown c d fg old new → SamePlans old new
+steps_plans : (would : ℕ → Facts → Ruling) (state after : ℕ) (shown : Shown) (c d : Counts) (fg : Fg) (old new : Shape) → StepsAs would state after shown c d fg old new → SamePlans old new
 steps_plans would state after shown c d fg old new steps = subst (SamePlans old) (sym steps.counts) (plans_then old steps.stepped _ (does_plans (kind_of old.control old.strategy (fresh_of old)) would state after shown c d steps.scanned old steps.stepped steps.does) (record { query = refl; strategy = refl; plans = refl }))
 
 course_plans : (old new : Shape) → SameCourse old new → SamePlans old new
 course_plans old new same = record { query = same.query; strategy = same.strategy; plans = same.plans }
 
-fg_plans : (fg : Option Fg) (would : ℕ → Facts → Verdict) (state after : ℕ) (shown : Shown) (c d : Counts) (old new : Shape) → FgCalls fg would state after shown c d old new → SamePlans old new
+fg_plans : (fg : Option Fg) (would : ℕ → Facts → Ruling) (state after : ℕ) (shown : Shown) (c d : Counts) (old new : Shape) → FgCalls fg would state after shown c d old new → SamePlans old new
 fg_plans (Some fg) would state after shown c d old new calls = steps_plans would state after shown c d fg old new calls.does
 fg_plans None would state after shown c d old new calls = course_plans old new (calls.wants refl).1
 
 -- the retrieval of a level made a step, or none
-pub once_plans : (would : ℕ → Facts → Verdict) (state after : ℕ) (shown : Shown) (c d : Counts) (old new : Shape) → CallsOnce would state after shown c d old new → SamePlans old new
+pub once_plans : (would : ℕ → Facts → Ruling) (state after : ℕ) (shown : Shown) (c d : Counts) (old new : Shape) → CallsOnce would state after shown c d old new → SamePlans old new
 once_plans would state after shown c d old new calls = elim calls [
   | inl call ↦ fg_plans call.0 would state after shown c d old new call.1
   | inr still ↦ subst (SamePlans old) (sym still.0) (plans_stay old)
@@ -135,30 +135,34 @@ once_plans would state after shown c d old new calls = elim calls [
 never_none : {A X : Type 0} (x : A) → Some x ≡ None → X
 never_none x e = absurd (cc)
 
-pub ok_calls : (would : ℕ → Facts → Verdict) (state after : ℕ) (shown : Shown) (c d : Counts) (fg : Fg) (old new : Shape) → StepsAs would state after shown c d fg old new → (Settled old → Settled new) → (Settled old → after ≡ state) → (Settled old → d.pages ≡ c.pages) → (Settled old → d.records + fetches_left new shown ≤ c.records + fetches_left old shown) → CallsOnce would state after shown c d old new
-ok_calls would state after shown c d fg old new does settled unasked pages records = inl (
+pub ok_calls : (would : ℕ → Facts → Ruling) (state after : ℕ) (shown : Shown) (c d : Counts) (fg : Fg) (old new : Shape) → StepsAs would state after shown c d fg old new → MayReadIts old c d → (Settled old → Settled new) → (Settled old → after ≡ state) → (Settled old → d.pages ≡ c.pages) → (Settled old → d.records + fetches_left new shown ≤ c.records + fetches_left old shown) → CallsOnce would state after shown c d old new
+ok_calls would state after shown c d fg old new does reads settled unasked pages records = inl (
   Some fg,
   record {
     does = does;
     wants = λ e. never_none fg e;
+    may_read = reads;
     settled = λ s. (settled s, unasked s, pages s);
     records = records;
+    fewer = λ e. never_none fg e;
   },
 )
 
-pub err_calls : (would : ℕ → Facts → Verdict) (state after : ℕ) (shown : Shown) (c d : Counts) (old new : Shape) → after ≡ state → SameCourse old new → (Settled old → Settled new) → (Settled old → d.pages ≡ c.pages) → CallsOnce would state after shown c d old new
-err_calls would state after shown c d old new quiet course settled pages = inl (
+pub err_calls : (would : ℕ → Facts → Ruling) (state after : ℕ) (shown : Shown) (c d : Counts) (old new : Shape) → after ≡ state → SameCourse old new → OnlyTakes old new → MayReadIts old c d → fetches_left new shown ≤ fetches_left old shown → (Settled old → Settled new) → (Settled old → d.pages ≡ c.pages) → CallsOnce would state after shown c d old new
+err_calls would state after shown c d old new quiet course takes reads fewer settled pages = inl (
   None,
   record {
     does = tt;
-    wants = λ e. (quiet, course);
+    wants = λ e. (quiet, course, takes);
+    may_read = reads;
     settled = λ s. (settled s, quiet, pages s);
     records = λ s. tt;
+    fewer = λ e. fewer;
   },
 )
 
 -- nothing was called
-pub no_call : (would : ℕ → Facts → Verdict) (state : ℕ) (shown : Shown) (c : Counts) (l : Level) → StepsOnce would state state shown c c l l
+pub no_call : (would : ℕ → Facts → Ruling) (state : ℕ) (shown : Shown) (c : Counts) (l : Level) → StepsOnce would state state shown c c l l
 no_call would state shown c l = record { calls = inr (refl, refl, refl); tries = record { once = omega arith; less = omega arith } }
 
 less_held : (e f k : ℕ) → e < f → e + k < f + k
@@ -193,7 +197,7 @@ used_spends shown (Gave offer) c d o v spends less = (omega (arith, spends), ome
 used_spends shown Done c d o v spends less = (omega (arith, spends), omega (arith, less))
 used_spends shown Moving c d o v spends less = (omega (arith, spends), omega (arith, less))
 
-pub used_once : (would : ℕ → Facts → Verdict) (state after : ℕ) (shown : Shown) (c d : Counts) (old : Level) (v : Stacked) → StepsOnce would state after shown c d old v.at → StepsOnce would state after shown c d old (used v).at
+pub used_once : (would : ℕ → Facts → Ruling) (state after : ℕ) (shown : Shown) (c d : Counts) (old : Level) (v : Stacked) → StepsOnce would state after shown c d old v.at → StepsOnce would state after shown c d old (used v).at
 used_once would state after shown c d old v once = let tries = once.tries in let less = tries.less in record { calls = once.calls; tries = record { once = tries.once; less = omega (arith, less) } }
 
 pub moved_spends : (m : Moved) (c d : Counts) (old new : ℕ) → MovedSpends m c d old new → PlanSpends (step_of m) c d old new
@@ -203,14 +207,14 @@ moved_spends Moving c d old new spends = spends
 
 -- A look for a level's next row: it failed, it came to no row, and it found one.
 
-pub catch_err : (would : ℕ → Facts → Verdict) (state after : ℕ) (shown : Shown) (c d : Counts) (old : Level) (new : Shape) → after ≡ state → SameCourse old.here new → (Settled old.here → Settled new) → (Settled old.here → d.pages ≡ c.pages) → Tries c d (effort old.here shown) (effort new shown) → StepsOnce would state after shown c d old (record old { here = new })
-catch_err would state after shown c d old new quiet course settled pages tries = record { calls = err_calls would state after shown c d old.here new quiet course settled pages; tries = held_tries c d (effort new shown) (effort old.here shown) old.row old.row refl tries }
+pub catch_err : (would : ℕ → Facts → Ruling) (state after : ℕ) (shown : Shown) (c d : Counts) (old : Level) (new : Shape) → after ≡ state → SameCourse old.here new → OnlyTakes old.here new → MayReadIts old.here c d → fetches_left new shown ≤ fetches_left old.here shown → (Settled old.here → Settled new) → (Settled old.here → d.pages ≡ c.pages) → Tries c d (effort old.here shown) (effort new shown) → StepsOnce would state after shown c d old (record old { here = new })
+catch_err would state after shown c d old new quiet course takes reads fewer settled pages tries = record { calls = err_calls would state after shown c d old.here new quiet course takes reads fewer settled pages; tries = held_tries c d (effort new shown) (effort old.here shown) old.row old.row refl tries }
 
-pub catch_none : (would : ℕ → Facts → Verdict) (state after : ℕ) (shown : Shown) (c d : Counts) (fg : Fg) (old : Level) (new : Shape) → StepsAs would state after shown c d fg old.here new → (Settled old.here → Settled new) → (Settled old.here → after ≡ state) → (Settled old.here → d.pages ≡ c.pages) → (Settled old.here → d.records + fetches_left new shown ≤ c.records + fetches_left old.here shown) → Tries c d (effort old.here shown) (effort new shown) → StepsOnce would state after shown c d old (record old { here = new })
-catch_none would state after shown c d fg old new does settled unasked pages records tries = record { calls = ok_calls would state after shown c d fg old.here new does settled unasked pages records; tries = held_tries c d (effort new shown) (effort old.here shown) old.row old.row refl tries }
+pub catch_none : (would : ℕ → Facts → Ruling) (state after : ℕ) (shown : Shown) (c d : Counts) (fg : Fg) (old : Level) (new : Shape) → StepsAs would state after shown c d fg old.here new → MayReadIts old.here c d → (Settled old.here → Settled new) → (Settled old.here → after ≡ state) → (Settled old.here → d.pages ≡ c.pages) → (Settled old.here → d.records + fetches_left new shown ≤ c.records + fetches_left old.here shown) → Tries c d (effort old.here shown) (effort new shown) → StepsOnce would state after shown c d old (record old { here = new })
+catch_none would state after shown c d fg old new does reads settled unasked pages records tries = record { calls = ok_calls would state after shown c d fg old.here new does reads settled unasked pages records; tries = held_tries c d (effort new shown) (effort old.here shown) old.row old.row refl tries }
 
-pub catch_row : (would : ℕ → Facts → Verdict) (state after : ℕ) (shown : Shown) (c d : Counts) (fg : Fg) (old : Level) (new : Shape) (values : List Value) → old.row ≡ None → StepsAs would state after shown c d fg old.here new → (Settled old.here → Settled new) → (Settled old.here → after ≡ state) → (Settled old.here → d.pages ≡ c.pages) → (Settled old.here → d.records + fetches_left new shown ≤ c.records + fetches_left old.here shown) → Tries c d (effort old.here shown) (effort new shown) → effort new shown < effort old.here shown → StepsOnce would state after shown c d old (record { outer = old.outer; row = Some values; here = new })
-catch_row would state after shown c d fg old new values none does settled unasked pages records tries less = record { calls = ok_calls would state after shown c d fg old.here new does settled unasked pages records; tries = row_tries c d (effort new shown) (effort old.here shown) old.row none tries less }
+pub catch_row : (would : ℕ → Facts → Ruling) (state after : ℕ) (shown : Shown) (c d : Counts) (fg : Fg) (old : Level) (new : Shape) (values : List Value) → old.row ≡ None → StepsAs would state after shown c d fg old.here new → MayReadIts old.here c d → (Settled old.here → Settled new) → (Settled old.here → after ≡ state) → (Settled old.here → d.pages ≡ c.pages) → (Settled old.here → d.records + fetches_left new shown ≤ c.records + fetches_left old.here shown) → Tries c d (effort old.here shown) (effort new shown) → effort new shown < effort old.here shown → StepsOnce would state after shown c d old (record { outer = old.outer; row = Some values; here = new })
+catch_row would state after shown c d fg old new values none does reads settled unasked pages records tries less = record { calls = ok_calls would state after shown c d fg old.here new does reads settled unasked pages records; tries = row_tries c d (effort new shown) (effort old.here shown) old.row none tries less }
 
 -- Open levels.
 
@@ -223,7 +227,7 @@ alone_none a shown old mid fits same one = ap (λ (v : Stacked). v.above) same �
 pub done_spends : (m : Moved) (c d : Counts) (old new : ℕ) → m ≡ Done → Spends c d old new × (new ≤ old) → MovedSpends m c d old new
 done_spends m c d old new done spends = rw done spends
 
-pub uses_once : {E : Type 0} (r : Result Moved E) (would : ℕ → Facts → Verdict) (state after : ℕ) (shown : Shown) (c d end : Counts) (old : Level) (mid new : Stacked) → OnOk r (new ≡ used mid) → OnErr r (new ≡ mid) → end ≡ d → StepsOnce would state after shown c d old mid.at → StepsOnce would state after shown c end old new.at
+pub uses_once : {E : Type 0} (r : Result Moved E) (would : ℕ → Facts → Ruling) (state after : ℕ) (shown : Shown) (c d end : Counts) (old : Level) (mid new : Stacked) → OnOk r (new ≡ used mid) → OnErr r (new ≡ mid) → end ≡ d → StepsOnce would state after shown c d old mid.at → StepsOnce would state after shown c end old new.at
 uses_once (Ok m) would state after shown c d end old mid new uses err same once = rw (uses, same) (used_once would state after shown c d old mid once)
 uses_once (Err e) would state after shown c d end old mid new uses err same once = rw (err, same) once
 
@@ -254,7 +258,7 @@ list_plans [] i old new le is plans d = absurd (omega (arith, le))
 list_plans (l ∷ ls) zero old new le is plans d = subst (λ (x : Level). SamePlans x.here new.here) is plans
 list_plans (l ∷ ls) (suc i) old new le is plans d = plans_stay l.here
 
-pub result_plans : {E : Type 0} (r : Result Given E) (would : ℕ → Facts → Verdict) (state after : ℕ) (piece : Pieced) (old new : Shape) → IfOk r (λ g. GivesOn would state after piece g old new) → OnErr r (new ≡ old) → SamePlans old new
+pub result_plans : {E : Type 0} (r : Result Given E) (would : ℕ → Facts → Ruling) (state after : ℕ) (piece : Pieced) (old new : Shape) → IfOk r (λ g. GivesOn would state after piece g old new) → OnErr r (new ≡ old) → SamePlans old new
 result_plans (Ok g) would state after piece old new gives err = given_plans would state after piece g old new gives
 result_plans (Err e) would state after piece old new gives err = subst (SamePlans old) (sym err) (plans_stay old)
 
@@ -287,6 +291,15 @@ taken_spends (Err e) shown c d old new spends = tt
 
 pub none_above : {X : Type 0} (i : ℕ) (ls : List Level) → i < length ls → ls ≡ [] → X
 none_above i ls le none = let e = ap length none in absurd (omega (arith, le, e))
+
+-- nothing is read where no piece is awaited
+pub none_read : (v : Shape) (c : Counts) → awaited v ≡ None → c ≡ piece_read v c
+none_read v c none = by (is_background v.control) (under_way v.joint) refl refl
+  where
+    by : (b w : Bool) → is_background v.control ≡ b → under_way v.joint ≡ w → c ≡ piece_read v c
+    by true true e f = absurd (let some = rw (e, f) at none in cc)
+    by true false e f = rw (e, f) refl
+    by false w e f = rw e refl
 
 pub still_once : (shown : Shown) (c : Counts) (l : Level) → TakesOnce shown c c l l
 still_once shown c l = record { tries = record { once = omega arith; less = omega arith }; settled = λ s. (s, refl, refl) }

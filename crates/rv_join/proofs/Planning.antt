@@ -1,5 +1,5 @@
 -- Plans: each step keeps what it keeps, and does to the rest what it answers.
-use Rattle.std.proofs.Common.{◌≡◌, ◌+◌, ◌<◌, List, [], ◌∷◌, ◌++◌, true, false, reverse, refl, ap, sym, ◌∙◌, arith, subst, suc, slice_index_or}
+use Rattle.std.proofs.Common.{◌≡◌, ◌+◌, ◌<◌, ◌≤◌, List, [], ◌∷◌, ◌++◌, true, false, reverse, refl, ap, sym, ◌∙◌, arith, subst, suc, slice_index_or}
 use Rattle.std.specs.Cmp.{IsStrictWeakOrder}
 use Rattle.std.specs.List.Sorted.{IsPermutation, IsSortedBy}
 use Rattle.std.proofs.lemmas.List.Sorted.{IsPermutation-refl, IsPermutation-append, IsPermutation-append_right, IsPermutation-middle, IsPermutation-trans, IsPermutation-sym, IsPermutation-reverse, ranks_by, sorted_far}
@@ -20,7 +20,7 @@ use Rattle.rv_join.specs.Plans.{GathersAll, GathersMore, Gives, GivesOne, HoldsG
 use Rattle.rv_join.proofs.Opening.{append_nil}
 use Rattle.rv_join.specs.Work.{loops_work}
 use Rattle.rv_join.proofs.Stacking.{none_before}
-use Rattle.rv_join.proofs.Working.{less_le, none_le, same_le}
+use Rattle.rv_join.proofs.Working.{less_le, same_le}
 
 pub offers_weak : IsStrictWeakOrder before
 offers_weak = ranks_by values_cmp_total (λ (o : Offer). o.order)
@@ -49,12 +49,12 @@ found_gives shown old new o holds stage takes same = rw same (record {
 })
 
 pub found_kept : (shown : Shown) (old new : Planned) → old.stage ≡ AsFound → Kept old.asked shown old.stack new.stack → new ≡ record old { stack = new.stack } → PlanKept shown old new
-found_kept shown old new stage kept same = rw same (record { asked = refl; rest_kept = rw stage kept.bag; work = rw stage kept.work })
+found_kept shown old new stage kept same = rw same (record { asked = refl; rest_kept = rw stage kept.bag; work = kept.work })
 
 pub found_moves : (shown : Shown) (m : Moved) (old new : Planned) → HoldsGood shown old → old.stage ≡ AsFound → Moves old.asked shown m old.stack new.stack → new ≡ record old { stack = new.stack } → PlanMoves shown (step_of m) old new
-found_moves shown (Gave o) old new holds stage moves same = rw same (record { asked = refl; step = rw stage (record { out = moves.bag; least = moves.least (holds.ordered stage) (holds.led stage) }); work = rw stage (less_le _ _ moves.work) })
-found_moves shown Done old new holds stage moves same = rw same (record { asked = refl; step = rw stage (moves.1, none_before _ (IsPermutation-sym _ _ (subst (λ l. IsPermutation l (bag old.asked shown new.stack)) moves.1 moves.0.bag))); work = rw stage moves.0.work })
-found_moves shown Moving old new holds stage moves same = rw same (record { asked = refl; step = rw stage moves.0.bag; work = rw stage moves.1 })
+found_moves shown (Gave o) old new holds stage moves same = rw same (record { asked = refl; step = rw stage (record { out = moves.bag; least = moves.least (holds.ordered stage) (holds.led stage) }); work = less_le _ _ moves.work })
+found_moves shown Done old new holds stage moves same = rw same (record { asked = refl; step = rw stage (moves.1, none_before _ (IsPermutation-sym _ _ (subst (λ l. IsPermutation l (bag old.asked shown new.stack)) moves.1 moves.0.bag))); work = moves.0.work })
+found_moves shown Moving old new holds stage moves same = rw same (record { asked = refl; step = rw stage moves.0.bag; work = moves.1 })
 
 pub found_good : (shown : Shown) (m : Moved) (old new : Planned) → HoldsGood shown old → old.stage ≡ AsFound → Moves old.asked shown m old.stack new.stack → new ≡ record old { stack = new.stack } → HoldsGood shown new
 found_good shown (Gave o) old new holds stage moves same = found_gives shown old new o holds stage moves same
@@ -104,10 +104,18 @@ gather_good shown old new holds stage fits same = rw same (record {
     no_other h = absurd (cc)
 
 pub gather_moves : (shown : Shown) (old new : Planned) → old.stage ≡ Gathering → GathersMore old.asked shown old.stack old.gathered new.stack new.gathered → new ≡ record old { stack = new.stack; gathered = new.gathered } → PlanMoves shown Working old new
-gather_moves shown old new stage gathers same = rw same (record { asked = refl; step = rw stage gathers.bag; work = rw stage gathers.work })
+gather_moves shown old new stage gathers same = rw same (record { asked = refl; step = rw stage gathers.bag; work = gathers.work })
 
 pub gather_kept : (shown : Shown) (old new : Planned) → old.stage ≡ Gathering → Kept old.asked shown old.stack new.stack → IsPermutation old.gathered new.gathered → new ≡ record old { stack = new.stack; gathered = new.gathered } → PlanKept shown old new
-gather_kept shown old new stage kept moved same = rw same (record { asked = refl; rest_kept = rw stage (IsPermutation-append old.gathered new.gathered (bag old.asked shown old.stack) (bag old.asked shown new.stack) moved kept.bag); work = rw stage kept.work })
+gather_kept shown old new stage kept moved same = rw same (record { asked = refl; rest_kept = rw stage (IsPermutation-append old.gathered new.gathered (bag old.asked shown old.stack) (bag old.asked shown new.stack) moved kept.bag); work = kept.work })
+
+-- all is gathered, and no memory was found to sort it
+pub sort_failed : (shown : Shown) (old mid new : Planned) → old.stage ≡ Gathering → GathersAll old.asked shown old.stack old.gathered mid.stack mid.gathered → mid ≡ record old { stack = mid.stack; gathered = mid.gathered } → IsPermutation mid.gathered new.gathered → new ≡ record mid { gathered = new.gathered } → PlanKept shown old new
+sort_failed shown old mid new stage all gathered moved failed = rw (failed, gathered) (record {
+  asked = refl;
+  rest_kept = rw stage (IsPermutation-append old.gathered new.gathered (bag old.asked shown old.stack) (bag old.asked shown mid.stack) (subst (λ (l : List Offer). IsPermutation l new.gathered) all.offers moved) all.kept.bag);
+  work = all.kept.work;
+})
 
 -- Giving.
 
@@ -122,8 +130,8 @@ pub sorted_tail : (o : Offer) (new : List Offer) → IsSortedBy before (o ∷ ne
 sorted_tail o new up = λ k d low high. let next : suc k + 1 ≡ suc (k + 1) = omega arith in subst (λ n. before (slice_index_or (o ∷ new) n d) (slice_index_or new k d) ≡ false) next (up (suc k) d (omega arith) (omega (arith, high)))
 
 pub given_moves : (shown : Shown) (m : PlanStep) (old new : Planned) → HoldsGood shown old → old.stage ≡ Giving → Gives m old.gathered new.gathered → new ≡ record old { gathered = new.gathered } → PlanMoves shown m old new
-given_moves shown (Row o) old new holds stage gives same = rw same (record { asked = refl; step = rw (stage, gives) (first_least o new.gathered (rw gives at holds.sorted stage)); work = rw stage (same_le 0) })
-given_moves shown End old new holds stage gives same = rw same (record { asked = refl; step = rw stage gives; work = rw stage (same_le 0) })
+given_moves shown (Row o) old new holds stage gives same = rw same (record { asked = refl; step = rw (stage, gives) (first_least o new.gathered (rw gives at holds.sorted stage)); work = same_le (loops_work old.asked shown old.stack) })
+given_moves shown End old new holds stage gives same = rw same (record { asked = refl; step = rw stage gives; work = same_le (loops_work old.asked shown old.stack) })
 given_moves shown Working old new holds stage gives same = no_way gives
 
 pub given_good : (shown : Shown) (m : PlanStep) (old new : Planned) → HoldsGood shown old → old.stage ≡ Giving → Gives m old.gathered new.gathered → new ≡ record old { gathered = new.gathered } → HoldsGood shown new
@@ -166,12 +174,12 @@ all_moves shown m old mid sorted new holds stage all gathered sorts gives same =
     sorted_is : plan_rest shown sorted ≡ sorted.gathered
     sorted_is = rw sorts.same refl
 
-    none_left : plan_work shown new ≡ 0
-    none_left = rw (same, sorts.same) refl
+    less : plan_work shown new ≤ plan_work shown old
+    less = rw (same, sorts.same, gathered) all.kept.work
 
     worked : (m : PlanStep) → Gives m sorted.gathered new.gathered → WorkTo m (plan_work shown old) (plan_work shown new)
-    worked (Row o) gives = rw none_left (none_le (plan_work shown old))
-    worked End gives = rw none_left (none_le (plan_work shown old))
+    worked (Row o) gives = less
+    worked End gives = less
     worked Working gives = no_way gives
 
     moved : IsPermutation old.gathered sorted.gathered

@@ -46,9 +46,6 @@ used_sum e n k c w one h = let none : 0 + n ≡ n = omega arith in let more : (k
 pub same_le : (n : ℕ) → n ≤ n
 same_le n = omega arith
 
-pub none_le : (n : ℕ) → 0 ≤ n
-none_le n = omega arith
-
 pub less_le : (n m : ℕ) → n < m → n ≤ m
 less_le n m h = omega (arith, h)
 

@@ -1,10 +1,10 @@
--- A PLAN OVER ONE FROM ITEM: its calls are those of its one retrieval.
-use Rattle.std.specs.Prelude.{◌≡◌, ◌⊎◌, ℕ, ◌+◌, ◌<◌, ◌≤◌, Bool, true, false, List, length, Option, Some, None, IfSome}
+-- WHAT A STEP OF A PLAN DOES TO ITS OPEN RETRIEVALS; a plan over one FROM item, whose calls are those of its one retrieval.
+use Rattle.std.specs.Prelude.{◌≡◌, ◌⊎◌, ℕ, ◌+◌, ◌<◌, ◌≤◌, ◌++◌, ◌∷◌, [], Bool, true, false, List, length, Option, Some, None, IfSome}
 use Rattle.rv_judge.specs.Account.{life_bound}
 use Rattle.rv_judge.specs.Counting.{reads}
 use Rattle.rv_judge.specs.declared.counting.Counts.{Counts}
 use Rattle.rv_judge.specs.declared.judging.Facts.{Facts}
-use Rattle.rv_judge.specs.declared.judging.Verdict.{Verdict}
+use Rattle.rv_judge.specs.Verdicts.{Ruling}
 use Rattle.rv_catalog.specs.declared.def.IndexDef.{IndexDef}
 use Rattle.rv_catalog.specs.declared.def.Select.{Select}
 use Rattle.rv_reader.specs.Shown.{Shown}
@@ -13,7 +13,7 @@ use Rattle.rv_retrieval.specs.Effort.{Tries, cuts_and_entries, effort}
 use Rattle.rv_retrieval.specs.Runs.{SameCourse}
 use Rattle.rv_retrieval.specs.Shape.{Shape}
 use Rattle.rv_retrieval.specs.Short.{Settled, fetches_left}
-use Rattle.rv_retrieval.specs.Stepping.{StepsAs}
+use Rattle.rv_retrieval.specs.Stepping.{MayReadIts, OnlyTakes, StepsAs}
 use Rattle.rv_join.specs.declared.level.Caught.{Caught}
 use Rattle.rv_join.specs.declared.level.Caught.TheVariants.{Ready, Ended, Worked}
 use Rattle.rv_join.specs.declared.level.Level.{Level}
@@ -22,22 +22,26 @@ use Rattle.rv_join.specs.declared.plan.PlanStep.TheVariants.{Row, End, Working}
 use Rattle.rv_join.specs.declared.stack.Moved.{Moved}
 use Rattle.rv_join.specs.declared.stack.Moved.TheVariants.{Gave, Done, Moving}
 use Rattle.rv_join.specs.Asking.{indexes_from, table_at}
+use Rattle.rv_join.specs.Levels.{Stacked, down, used}
 use Rattle.rv_join.specs.Plans.{Planned}
 use Rattle.rv_join.specs.Work.{held_rows}
 
 abbrev pub IsAlone : Planned → Type 0
 IsAlone p = length p.asked.items ≡ 1
 
--- A step of the retrieval was made, which answered this, or for which memory was wanting: it did what a foreground step
--- does, and asked the judge as one does. Where a short index was scanned at opening it asked no judge and read no page.
-pub record FgCalls (fg : Option Fg) (would : ℕ → Facts → Verdict) (state after : ℕ) (shown : Shown) (c d : Counts) (old new : Shape) : Type 0 where
+-- A step of the retrieval was made, which answered this, or for which memory was wanting: it did and read what a foreground
+-- step does and may read, and asked the judge as one does; without memory it may have taken a leaf, and accepted no piece.
+-- Where a short index was scanned at opening it asked no judge and read no page.
+pub record FgCalls (fg : Option Fg) (would : ℕ → Facts → Ruling) (state after : ℕ) (shown : Shown) (c d : Counts) (old new : Shape) : Type 0 where
   pub does : IfSome fg (λ s. StepsAs would state after shown c d s old new)
-  pub wants : fg ≡ None → (after ≡ state) × SameCourse old new
+  pub wants : fg ≡ None → (after ≡ state) × SameCourse old new × OnlyTakes old new
+  pub may_read : MayReadIts old c d
   pub settled : Settled old → Settled new × (after ≡ state) × (d.pages ≡ c.pages)
   pub records : Settled old → IfSome fg (λ s. d.records + fetches_left new shown ≤ c.records + fetches_left old shown)
+  pub fewer : fg ≡ None → fetches_left new shown ≤ fetches_left old shown
 
 -- a step was made, or nothing was done
-abbrev pub CallsOnce : (ℕ → Facts → Verdict) → ℕ → ℕ → Shown → Counts → Counts → Shape → Shape → Type 0
+abbrev pub CallsOnce : (ℕ → Facts → Ruling) → ℕ → ℕ → Shown → Counts → Counts → Shape → Shape → Type 0
 CallsOnce would state after shown c d old new = ((fg : Option Fg) × FgCalls fg would state after shown c d old new) ⊎ ((new ≡ old) × (d ≡ c) × (after ≡ state))
 
 -- THE EFFORT OF A PLAN OVER ONE FROM ITEM: that of its retrieval, and one for a row that is held
@@ -49,9 +53,42 @@ plan_effort shown p = level_effort shown p.stack.at
 
 -- WHAT A STEP DOES TO THE ONE RETRIEVAL, whatever it answers: at most one step of it, which reads at most once and does not
 -- raise the effort
-pub record StepsOnce (would : ℕ → Facts → Verdict) (state after : ℕ) (shown : Shown) (c d : Counts) (old new : Level) : Type 0 where
+pub record StepsOnce (would : ℕ → Facts → Ruling) (state after : ℕ) (shown : Shown) (c d : Counts) (old new : Level) : Type 0 where
   pub calls : CallsOnce would state after shown c d old.here new.here
   pub tries : Tries c d (level_effort shown old) (level_effort shown new)
+
+-- HOW NESTED LOOPS GO ON once the innermost retrieval was called: they rest; the row that it holds is used; the next item's
+-- retrieval is opened over that row; or the level above is returned to
+pub data Onward : Type 0 where
+  Rests : Onward
+  Uses : Onward
+  Opens : Level → Onward
+  Returns : Onward
+
+abbrev pub GoesBy : Onward → Stacked → Stacked → Type 0
+GoesBy Rests old new = new ≡ old
+GoesBy Uses old new = new ≡ used old
+GoesBy (Opens inner) old new = new ≡ down old inner
+GoesBy Returns old new = (old.above ≡ new.above ++ new.at ∷ []) × (new.openings ≡ old.openings)
+
+abbrev pub GoesOn : Stacked → Stacked → Type 0
+GoesOn old new = (onward : Onward) × GoesBy onward old new
+
+-- the innermost open retrieval was called once, and the nested loops went on
+pub record StackCalls (would : ℕ → Facts → Ruling) (state after : ℕ) (shown : Shown) (before : Counts) (old new : Stacked) : Type 0 where
+  pub level : Level
+  pub counts : Counts
+  pub once : StepsOnce would state after shown before counts old.at level
+  pub goes : GoesOn (record old { at = level }) new
+
+-- or nothing was called
+abbrev pub StackAsks : (ℕ → Facts → Ruling) → ℕ → ℕ → Shown → Counts → Stacked → Stacked → Type 0
+StackAsks would state after shown before old new = StackCalls would state after shown before old new ⊎ ((new ≡ old) × (after ≡ state))
+
+-- A STEP OF A PLAN, whatever it answers: at most one step of the innermost open retrieval, upon which the judge is asked and
+-- obeyed as by that step, and never else
+abbrev pub PlanAsks : (ℕ → Facts → Ruling) → ℕ → ℕ → Shown → Counts → Planned → Planned → Type 0
+PlanAsks would state after shown before old new = StackAsks would state after shown before old.stack new.stack
 
 -- the effort falls by the reads
 abbrev pub Spends : Counts → Counts → ℕ → ℕ → Type 0

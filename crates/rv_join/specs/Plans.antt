@@ -41,14 +41,9 @@ rest_at Giving gathered to_come = gathered
 abbrev pub plan_rest : Shown → Planned → List Offer
 plan_rest shown p = rest_at p.stage p.gathered (bag p.asked shown p.stack)
 
--- THE WORK LEFT OF A PLAN: none where its offers are sorted
-abbrev pub work_at : Stage → ℕ → ℕ
-work_at AsFound loops = loops
-work_at Gathering loops = loops
-work_at Giving loops = 0
-
+-- THE WORK LEFT OF A PLAN: that of its nested loops
 abbrev pub plan_work : Shown → Planned → ℕ
-plan_work shown p = work_at p.stage (loops_work p.asked shown p.stack)
+plan_work shown p = loops_work p.asked shown p.stack
 
 -- Working lowers it; no answer raises it
 abbrev pub WorkTo : PlanStep → ℕ → ℕ → Type 0

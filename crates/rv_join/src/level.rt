@@ -148,6 +148,7 @@ impl Level {
         requires none { self.old.row ≡ None }
         ensures caught { IfOk result (λ c. Catches _asked.now (R.shown reader.now) c self.old self.new) }
         ensures counts { Rises self.old.here self.new.here steps.old steps.new }
+        ensures stays { would judge.new ≡ would judge.old }
         ensures once { StepsOnce (would judge.old) (state judge.old) (state judge.new) (R.shown reader.now) steps.old steps.new self.old self.new }
         ensures spends { IfOk result (λ c. LevelSpends (R.shown reader.now) c steps.old steps.new self.old self.new) }
         ensures err { OnErr result (LevelStays _asked.now (R.shown reader.now) self.old self.new) }
@@ -176,6 +177,7 @@ impl Level {
         requires fits { LevelFits asked.now (R.shown reader.now) self.old }
         ensures caught { IfOk result (λ c. Catches asked.now (R.shown reader.now) c self.old self.new) }
         ensures counts { Rises self.old.here self.new.here steps.old steps.new }
+        ensures stays { would judge.new ≡ would judge.old }
         ensures once { StepsOnce (would judge.old) (state judge.old) (state judge.new) (R.shown reader.now) steps.old steps.new self.old self.new }
         ensures spends { IfOk result (λ c. LevelSpends (R.shown reader.now) c steps.old steps.new self.old self.new) }
         ensures err { OnErr result (LevelStays asked.now (R.shown reader.now) self.old self.new) }

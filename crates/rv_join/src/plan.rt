@@ -6,13 +6,14 @@ ghost use Rattle.rv_reader.specs.Shown.{Shown};
 ghost use Rattle.rv_retrieval.specs.Rulings.{GivesOn};
 ghost use Rattle.rv_retrieval.specs.Given.{Answers, TakesPiece};
 ghost use Rattle.rv_retrieval.specs.Shape.{RetrievalFits};
+ghost use Rattle.rv_retrieval.specs.Stepping.{piece_read};
 ghost use Rattle.rv_retrieval.specs.Telling.{CountsAll, CountsRise, SameCounts};
 ghost use Rattle.rv_jscan.specs.declared.piece.PieceId.{PieceId as Id};
 ghost use Rattle.rv_jscan.specs.declared.jscan.Given.{Given as TheGiven};
 ghost use Rattle.rv_judge.specs.Counting.{reads};
 ghost use Rattle.rv_retrieval.specs.Effort.{GiveSpends};
 ghost use Rattle.rv_retrieval.specs.Short.{OnlyLeaves, Settled, fetches_left, has_short};
-ghost use Rattle.rv_join.specs.Alone.{GatherSpends, MovedSpends, Spends, StepsOnce, TakesOnce, level_effort, plan_effort, plan_life};
+ghost use Rattle.rv_join.specs.Alone.{GatherSpends, MovedSpends, PlanAsks, Spends, StepsOnce, TakesOnce, level_effort, plan_effort, plan_life};
 ghost use Rattle.rv_join.specs.Rules.{SamePlans};
 ghost use Rattle.rv_join.specs.Asking.{Asks, CanPlan, CanRun, IsAsked, item_at};
 ghost use Rattle.rv_join.specs.Levels.{StackFits, first_of, table_rows};
@@ -97,7 +98,7 @@ impl Plan {
     /// `indexes`. It opens the retrieval of the first FROM item; each further one is opened over a row of the items
     /// before it. Where an order is asked that no index of the first item gives, all offers are gathered and sorted
     /// before the first comes.
-    #[tactic(auto, using(crate::proofs::Accounting::opened_counts, crate::proofs::Beginning::begins_with, crate::proofs::Keeping::begins_work, crate::proofs::Beginning::begins_good, crate::proofs::Running::offers_are, crate::proofs::OneItem::begins_life))]
+    #[tactic(auto, using(crate::proofs::Accounting::opened_counts, crate::proofs::Beginning::begins_with, crate::proofs::Beginning::begins_good, crate::proofs::Running::offers_are, crate::proofs::OneItem::begins_life))]
     pub fn open<R: Reader>(
         alloc: Global,
         reader: &R,
@@ -195,6 +196,8 @@ impl Plan {
         requires fits { StackFits self.old.asked (R.shown reader.now) self.old.stack }
         ensures moves { IfOk result (λ m. Moves self.old.asked (R.shown reader.now) m self.old.stack self.new.stack) }
         ensures alone { length self.old.asked.items ≡ 1 → Rises (first_of self.old.stack).here (first_of self.new.stack).here steps.old steps.new }
+        ensures stays { would judge.new ≡ would judge.old }
+        ensures asks { PlanAsks (would judge.old) (state judge.old) (state judge.new) (R.shown reader.now) steps.old self.old self.new }
         ensures once { length self.old.asked.items ≡ 1 → StepsOnce (would judge.old) (state judge.old) (state judge.new) (R.shown reader.now) steps.old steps.new self.old.stack.at self.new.stack.at }
         ensures spends { length self.old.asked.items ≡ 1 → IfOk result (λ m. MovedSpends m steps.old steps.new (level_effort (R.shown reader.now) self.old.stack.at) (level_effort (R.shown reader.now) self.new.stack.at)) }
         ensures plans { SamePlans (first_of self.old.stack).here (first_of self.new.stack).here }
@@ -216,6 +219,8 @@ impl Plan {
         requires fits { StackFits self.old.asked (R.shown reader.now) self.old.stack }
         ensures gathers { IfOk result (λ all. Gathers all self.old.asked (R.shown reader.now) self.old.stack self.old.gathered self.new.stack self.new.gathered) }
         ensures alone { length self.old.asked.items ≡ 1 → Rises (first_of self.old.stack).here (first_of self.new.stack).here steps.old steps.new }
+        ensures stays { would judge.new ≡ would judge.old }
+        ensures asks { PlanAsks (would judge.old) (state judge.old) (state judge.new) (R.shown reader.now) steps.old self.old self.new }
         ensures once { length self.old.asked.items ≡ 1 → StepsOnce (would judge.old) (state judge.old) (state judge.new) (R.shown reader.now) steps.old steps.new self.old.stack.at self.new.stack.at }
         ensures spends { length self.old.asked.items ≡ 1 → IfOk result (λ all. GatherSpends all steps.old steps.new (level_effort (R.shown reader.now) self.old.stack.at) (level_effort (R.shown reader.now) self.new.stack.at)) }
         ensures plans { SamePlans (first_of self.old.stack).here (first_of self.new.stack).here }
@@ -264,7 +269,7 @@ impl Plan {
     }
 
     /// Takes the awaited piece of the retrieval of a place, where it awaits one.
-    #[tactic(auto, using(crate::proofs::Numbers::still_waits, crate::proofs::Keeping::still_stays, crate::proofs::Accounting::rises_none, crate::proofs::OneItem::plans_stay, crate::proofs::OneItem::still_once))]
+    #[tactic(auto, using(crate::proofs::Numbers::still_waits, crate::proofs::Keeping::still_stays, crate::proofs::Accounting::rises_none, crate::proofs::OneItem::plans_stay, crate::proofs::OneItem::still_once, crate::proofs::OneItem::none_read))]
     pub(crate) fn take_at<R: Reader>(
         &mut self,
         at: usize,
@@ -274,6 +279,8 @@ impl Plan {
         requires fits { RetrievalFits (level_at self.old.stack at).here (R.shown reader.now) }
         ensures same { self.new ≡ record self.old { stack = self.new.stack } }
         ensures taken { IfOk result (TakesPiece (level_at self.new.stack at).here) }
+        ensures untaken { OnErr result ((level_at self.new.stack at).here.joint.held ≡ (level_at self.old.stack at).here.joint.held) }
+        ensures reads { steps.new ≡ piece_read (level_at self.old.stack at).here steps.old }
         ensures counts { Rises (level_at self.old.stack at).here (level_at self.new.stack at).here steps.old steps.new }
         ensures stays { StackFits self.old.asked (R.shown reader.now) self.old.stack → StackStays self.old.asked (R.shown reader.now) self.old.stack self.new.stack }
         ensures waits { StackAwaits self.old.stack self.new.stack }
@@ -299,6 +306,9 @@ impl Plan {
         ensures same { self.new ≡ record self.old { stack = self.new.stack } }
         ensures given { IfOk result (λ g. Answers (level_at self.old.stack at).here sieved g (level_at self.new.stack at).here) }
         ensures obeys { IfOk result (λ g. GivesOn (would judge.old) (state judge.old) (state judge.new) sieved g (level_at self.old.stack at).here (level_at self.new.stack at).here) }
+        ensures stays_rule { would judge.new ≡ would judge.old }
+        ensures quiet { OnErr result (state judge.new ≡ state judge.old) }
+        ensures lowers { (shown : Shown) → StackFits self.old.asked shown self.old.stack → IfOk result (λ g. GiveSpends g (plan_work shown self.old) (plan_work shown self.new)) }
         ensures stale { (asked : Id) (now : Option Id) → result ≡ Ok (TheGiven.Stale asked now) → self.new ≡ self.old }
         ensures counts { SameCounts (level_at self.old.stack at).here.trace (level_at self.new.stack at).here.trace }
         ensures stays { (shown : Shown) → StackFits self.old.asked shown self.old.stack → StackStays self.old.asked shown self.old.stack self.new.stack }

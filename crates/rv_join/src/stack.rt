@@ -4,12 +4,13 @@ ghost use Rattle.std.specs.List.{list_any, slice_index_or};
 ghost use Rattle.rv_value.specs.declared.value.Value.{Value as OneValue};
 ghost use Rattle.rv_reader.specs.Shown.{Shown};
 ghost use Rattle.rv_join.specs.declared.places.Asked.{Asked as TheAsked};
-ghost use Rattle.rv_join.specs.Alone.{LevelSpends, MovedSpends, Spends, StepsOnce, TakesOnce, level_effort};
+ghost use Rattle.rv_join.specs.Alone.{GoesOn, LevelSpends, MovedSpends, Spends, StackAsks, StepsOnce, TakesOnce, level_effort};
 ghost use Rattle.rv_join.specs.Asking.{Asks, CanRun};
 ghost use Rattle.rv_join.specs.Levels.{AllFit, LevelFits, StackFits, Stacked, bag, down, first_in, first_of, is_last, offered, still, used};
 ghost use Rattle.rv_join.specs.Moves.{Catches, Descends, Kept, LevelStays, LevelsStay, Moves, Rises, SameFirst, StackStays, Starts};
 ghost use Rattle.rv_join.specs.Rules.{SamePlans};
 ghost use Rattle.rv_join.specs.Pieces.{CountsPiece, LevelsAwait, SamePieces, StackAwaits, is_waiting, level_at, pieces_in, stack_builds, waits};
+ghost use Rattle.rv_join.specs.Work.{levels_work, loops_work};
 ghost use Rattle.rv_join.specs.declared.level.Level.{Level as TheLevel};
 ghost use Rattle.rv_jscan.specs.declared.piece.PieceId.{PieceId as Id};
 ghost use Rattle.rv_judge.specs.Counting.{reads};
@@ -19,6 +20,7 @@ ghost use Rattle.rv_retrieval.specs.Given.{Answers, TakesPiece};
 ghost use Rattle.rv_retrieval.specs.Opened.{Opened};
 ghost use Rattle.rv_retrieval.specs.Rulings.{GivesOn};
 ghost use Rattle.rv_retrieval.specs.Shape.{RetrievalFits, is_building};
+ghost use Rattle.rv_retrieval.specs.Stepping.{piece_read};
 ghost use Rattle.rv_retrieval.specs.Telling.{CountsAll, CountsRise, SameCounts};
 
 use crate::level::{Caught, Level};
@@ -116,6 +118,7 @@ impl Stack {
         ensures same { self.new ≡ record self.old { at = self.new.at } }
         ensures caught { IfOk result (λ c. Catches asked.now (R.shown reader.now) c self.old.at self.new.at) }
         ensures counts { Rises self.old.at.here self.new.at.here steps.old steps.new }
+        ensures stays { would judge.new ≡ would judge.old }
         ensures once { StepsOnce (would judge.old) (state judge.old) (state judge.new) (R.shown reader.now) steps.old steps.new self.old.at self.new.at }
         ensures spends { IfOk result (λ c. LevelSpends (R.shown reader.now) c steps.old steps.new self.old.at self.new.at) }
         ensures err { OnErr result (LevelStays asked.now (R.shown reader.now) self.old.at self.new.at) }
@@ -127,6 +130,7 @@ impl Stack {
     fn climb(&mut self) -> bool
         ensures up { result ≡ true → self.old.above ≡ self.new.above ++ self.new.at ∷ [] }
         ensures top { result ≡ false → (self.old.above ≡ []) × (self.new ≡ self.old) }
+        ensures openings { self.new.openings ≡ self.old.openings }
     {
         match self.above.pop() {
             Some(level) => {
@@ -255,6 +259,7 @@ impl Stack {
         requires inside { length self.old.at.outer + 1 < length asked.now.items }
         ensures moves { IfOk result (λ m. Moves asked.now (R.shown reader.now) m self.old self.new) }
         ensures first { (first_of self.new).here ≡ (first_of self.old).here }
+        ensures goes { GoesOn self.old self.new }
         ensures err { OnErr result (self.new ≡ self.old) }
     {
         let inner = self.inner(alloc, reader, asked, steps)?;
@@ -293,6 +298,7 @@ impl Stack {
         ensures alone { length asked.now.items ≡ 1 → ((first_of self.new).here ≡ (first_of self.old).here) × (steps.new ≡ steps.old) }
         ensures used { length asked.now.items ≡ 1 → OnOk result (self.new ≡ used self.old) }
         ensures first { (first_of self.new).here ≡ (first_of self.old).here }
+        ensures goes { GoesOn self.old self.new }
         ensures err { OnErr result (self.new ≡ self.old) }
     {
         if self.is_last(asked) {
@@ -309,6 +315,7 @@ impl Stack {
         ensures alone { self.old.above ≡ [] → self.new ≡ self.old }
         ensures first { first_of self.new ≡ first_of self.old }
         ensures done { self.old.above ≡ [] → result ≡ Moved.Done }
+        ensures goes { GoesOn self.old self.new }
     {
         if self.climb() {
             Moved::Moving
@@ -332,6 +339,8 @@ impl Stack {
         requires fits { StackFits asked.now (R.shown reader.now) self.old }
         ensures moves { IfOk result (λ m. Moves asked.now (R.shown reader.now) m self.old self.new) }
         ensures alone { length asked.now.items ≡ 1 → Rises (first_of self.old).here (first_of self.new).here steps.old steps.new }
+        ensures stays { would judge.new ≡ would judge.old }
+        ensures asks { StackAsks (would judge.old) (state judge.old) (state judge.new) (R.shown reader.now) steps.old self.old self.new }
         ensures once { length asked.now.items ≡ 1 → StepsOnce (would judge.old) (state judge.old) (state judge.new) (R.shown reader.now) steps.old steps.new self.old.at self.new.at }
         ensures spends { length asked.now.items ≡ 1 → IfOk result (λ m. MovedSpends m steps.old steps.new (level_effort (R.shown reader.now) self.old.at) (level_effort (R.shown reader.now) self.new.at)) }
         ensures plans { SamePlans (first_of self.old).here (first_of self.new).here }
@@ -354,6 +363,8 @@ fn take_level<R: Reader>(
 ) -> Result<Taken, NoMemory>
     requires fits { RetrievalFits level.old.here (R.shown reader.now) }
     ensures taken { IfOk result (TakesPiece level.new.here) }
+    ensures untaken { OnErr result (level.new.here.joint.held ≡ level.old.here.joint.held) }
+    ensures reads { steps.new ≡ piece_read level.old.here steps.old }
     ensures counts { CountsRise level.old.here.trace level.new.here.trace steps.old steps.new }
     ensures stays { (a : TheAsked) → LevelFits a (R.shown reader.now) level.old → LevelStays a (R.shown reader.now) level.old level.new }
     ensures waits { SamePieces level.old.here level.new.here }
@@ -374,6 +385,8 @@ fn take_at<R: Reader>(
     requires at { at < length levels.old.items }
     requires fits { (d : TheLevel) → RetrievalFits (slice_index_or levels.old.items at d).here (R.shown reader.now) }
     ensures taken { (d : TheLevel) → IfOk result (TakesPiece (slice_index_or levels.new.items at d).here) }
+    ensures untaken { (d : TheLevel) → OnErr result ((slice_index_or levels.new.items at d).here.joint.held ≡ (slice_index_or levels.old.items at d).here.joint.held) }
+    ensures reads { (d : TheLevel) → steps.new ≡ piece_read (slice_index_or levels.old.items at d).here steps.old }
     ensures counts { (d : TheLevel) → CountsRise (slice_index_or levels.old.items at d).here.trace (slice_index_or levels.new.items at d).here.trace steps.old steps.new }
     ensures stay { (a : TheAsked) → AllFit a (R.shown reader.now) 0 levels.old.items → LevelsStay a (R.shown reader.now) 0 levels.old.items levels.new.items }
     ensures led { (a : TheAsked) → AllFit a (R.shown reader.now) 0 levels.old.items → SameFirst a (R.shown reader.now) levels.old.items levels.new.items }
@@ -395,6 +408,9 @@ fn give_at<L: Drop>(
     requires at { at < length levels.old.items }
     ensures given { (d : TheLevel) → IfOk result (λ g. Answers (slice_index_or levels.old.items at d).here sieved g (slice_index_or levels.new.items at d).here) }
     ensures obeys { (d : TheLevel) → IfOk result (λ g. GivesOn (would judge.old) (state judge.old) (state judge.new) sieved g (slice_index_or levels.old.items at d).here (slice_index_or levels.new.items at d).here) }
+    ensures stays_rule { would judge.new ≡ would judge.old }
+    ensures quiet { OnErr result (state judge.new ≡ state judge.old) }
+    ensures lowers { (a : TheAsked) (shown : Shown) → AllFit a shown 0 levels.old.items → IfOk result (λ g. GiveSpends g (levels_work a shown levels.old.items) (levels_work a shown levels.new.items)) }
     ensures stale { (asked : Id) (now : Option Id) → result ≡ Ok (Given.Stale asked now) → levels.new.items ≡ levels.old.items }
     ensures counts { (d : TheLevel) → SameCounts (slice_index_or levels.old.items at d).here.trace (slice_index_or levels.new.items at d).here.trace }
     ensures stay { (a : TheAsked) (shown : Shown) → AllFit a shown 0 levels.old.items → LevelsStay a shown 0 levels.old.items levels.new.items }
@@ -419,6 +435,8 @@ impl Stack {
     ) -> Result<Taken, NoMemory>
         requires fits { RetrievalFits (level_at self.old at).here (R.shown reader.now) }
         ensures taken { IfOk result (TakesPiece (level_at self.new at).here) }
+        ensures untaken { OnErr result ((level_at self.new at).here.joint.held ≡ (level_at self.old at).here.joint.held) }
+        ensures reads { steps.new ≡ piece_read (level_at self.old at).here steps.old }
         ensures counts { CountsRise (level_at self.old at).here.trace (level_at self.new at).here.trace steps.old steps.new }
         ensures stays { (a : TheAsked) → StackFits a (R.shown reader.now) self.old → StackStays a (R.shown reader.now) self.old self.new }
         ensures waits { StackAwaits self.old self.new }
@@ -445,6 +463,9 @@ impl Stack {
         requires open { at ≤ length self.old.above }
         ensures given { IfOk result (λ g. Answers (level_at self.old at).here sieved g (level_at self.new at).here) }
         ensures obeys { IfOk result (λ g. GivesOn (would judge.old) (state judge.old) (state judge.new) sieved g (level_at self.old at).here (level_at self.new at).here) }
+        ensures stays_rule { would judge.new ≡ would judge.old }
+        ensures quiet { OnErr result (state judge.new ≡ state judge.old) }
+        ensures lowers { (a : TheAsked) (shown : Shown) → StackFits a shown self.old → IfOk result (λ g. GiveSpends g (loops_work a shown self.old) (loops_work a shown self.new)) }
         ensures stale { (asked : Id) (now : Option Id) → result ≡ Ok (Given.Stale asked now) → self.new ≡ self.old }
         ensures counts { SameCounts (level_at self.old at).here.trace (level_at self.new at).here.trace }
         ensures stays { (a : TheAsked) (shown : Shown) → StackFits a shown self.old → StackStays a shown self.old self.new }

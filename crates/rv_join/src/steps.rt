@@ -3,15 +3,16 @@ ghost use Rattle.std.specs.Prelude.{◌≡◌, ℕ, None, Ok, IfOk, OnErr};
 ghost use Rattle.rv_reader.specs.Shown.{Shown};
 ghost use Rattle.rv_retrieval.specs.Given.{TakesPiece};
 ghost use Rattle.rv_retrieval.specs.Rulings.{GivesOn};
+ghost use Rattle.rv_retrieval.specs.Stepping.{piece_read};
 ghost use Rattle.rv_retrieval.specs.Telling.{CountsRise, SameCounts};
 ghost use Rattle.rv_judge.specs.declared.counting.Counts.{Counts as TheCounts};
 ghost use Rattle.rv_retrieval.specs.Effort.{GiveSpends};
 ghost use Rattle.rv_retrieval.specs.Short.{Settled};
-ghost use Rattle.rv_join.specs.Alone.{IsAlone, PlanSpends, Spends, StepsOnce, TakesOnce, plan_effort};
+ghost use Rattle.rv_join.specs.Alone.{IsAlone, PlanAsks, PlanSpends, Spends, StepsOnce, TakesOnce, plan_effort};
 ghost use Rattle.rv_join.specs.Levels.{first_of};
 ghost use Rattle.rv_join.specs.Rules.{SamePlans};
 ghost use Rattle.rv_join.specs.Pieces.{CountsPiece, GivesPiece, TakesAwaited, plan_awaited, plan_pieces, waited, waiting, waits};
-ghost use Rattle.rv_join.specs.Plans.{HoldsGood, PlanFits, PlanKept, PlanMoves, PlanStays, RisesAlone, plan_trace, step_of};
+ghost use Rattle.rv_join.specs.Plans.{HoldsGood, PlanFits, PlanKept, PlanMoves, PlanStays, RisesAlone, plan_trace, plan_work, step_of};
 
 use crate::gather::Stage;
 use crate::plan::{Plan, PlanStep};
@@ -45,6 +46,8 @@ impl Plan {
         ensures step { IfOk result (λ m. PlanMoves (R.shown reader.now) m self.old self.new) }
         ensures holds { HoldsGood (R.shown reader.now) self.new }
         ensures alone { RisesAlone self.old self.new steps.old steps.new }
+        ensures stays { would judge.new ≡ would judge.old }
+        ensures asks { PlanAsks (would judge.old) (state judge.old) (state judge.new) (R.shown reader.now) steps.old self.old self.new }
         ensures once { IsAlone self.old → StepsOnce (would judge.old) (state judge.old) (state judge.new) (R.shown reader.now) steps.old steps.new self.old.stack.at self.new.stack.at }
         ensures spends { IsAlone self.old → IfOk result (λ m. PlanSpends m steps.old steps.new (plan_effort (R.shown reader.now) self.old) (plan_effort (R.shown reader.now) self.new)) }
         ensures plans { SamePlans (first_of self.old.stack).here (first_of self.new.stack).here }
@@ -68,6 +71,8 @@ impl Plan {
         ensures step { IfOk result (λ m. PlanMoves (R.shown reader.now) m self.old self.new) }
         ensures holds { HoldsGood (R.shown reader.now) self.new }
         ensures alone { RisesAlone self.old self.new steps.old steps.new }
+        ensures stays { would judge.new ≡ would judge.old }
+        ensures asks { PlanAsks (would judge.old) (state judge.old) (state judge.new) (R.shown reader.now) steps.old self.old self.new }
         ensures once { IsAlone self.old → StepsOnce (would judge.old) (state judge.old) (state judge.new) (R.shown reader.now) steps.old steps.new self.old.stack.at self.new.stack.at }
         ensures spends { IsAlone self.old → IfOk result (λ m. PlanSpends m steps.old steps.new (plan_effort (R.shown reader.now) self.old) (plan_effort (R.shown reader.now) self.new)) }
         ensures plans { SamePlans (first_of self.old.stack).here (first_of self.new.stack).here }
@@ -104,6 +109,8 @@ impl Plan {
         ensures step { IfOk result (λ m. PlanMoves (R.shown reader.now) m self.old self.new) }
         ensures holds { HoldsGood (R.shown reader.now) self.new }
         ensures alone { RisesAlone self.old self.new steps.old steps.new }
+        ensures stays { would judge.new ≡ would judge.old }
+        ensures asks { PlanAsks (would judge.old) (state judge.old) (state judge.new) (R.shown reader.now) steps.old self.old self.new }
         ensures once { IsAlone self.old → StepsOnce (would judge.old) (state judge.old) (state judge.new) (R.shown reader.now) steps.old steps.new self.old.stack.at self.new.stack.at }
         ensures spends { IsAlone self.old → IfOk result (λ m. PlanSpends m steps.old steps.new (plan_effort (R.shown reader.now) self.old) (plan_effort (R.shown reader.now) self.new)) }
         ensures plans { SamePlans (first_of self.old.stack).here (first_of self.new.stack).here }
@@ -130,6 +137,8 @@ impl Plan {
     ) -> Result<PlanStep, NoMemory>
         requires fits { PlanFits (R.shown reader.now) self.old }
         ensures counts { CountsRise (plan_trace self.old) (plan_trace self.new) steps.old steps.new }
+        ensures stays { would judge.new ≡ would judge.old }
+        ensures asks { PlanAsks (would judge.old) (state judge.old) (state judge.new) (R.shown reader.now) steps.old self.old self.new }
         ensures once { IsAlone self.old → StepsOnce (would judge.old) (state judge.old) (state judge.new) (R.shown reader.now) steps.old steps.new self.old.stack.at self.new.stack.at }
         ensures spends { IsAlone self.old → IfOk result (λ m. PlanSpends m steps.old steps.new (plan_effort (R.shown reader.now) self.old) (plan_effort (R.shown reader.now) self.new)) }
         ensures fits { PlanFits (R.shown reader.now) self.new }
@@ -153,6 +162,8 @@ impl Plan {
         requires fits { PlanFits (R.shown reader.now) self.old }
         ensures counts { CountsRise (plan_trace self.old) (plan_trace self.new) steps.old steps.new }
         ensures taken { IfOk result (TakesPiece (waited self.old self.new)) }
+        ensures untaken { OnErr result ((waited self.old self.new).joint.held ≡ (waiting self.old).joint.held) }
+        ensures reads { steps.new ≡ piece_read (waiting self.old) steps.old }
         ensures answers { IfOk result (TakesAwaited self.old) }
         ensures ready { IfOk result (TakesPiece (waiting self.new)) }
         ensures place { waits self.new.stack ≡ waits self.old.stack }
@@ -181,6 +192,9 @@ impl Plan {
     ) -> Result<Given, NoMemory>
         ensures given { IfOk result (λ g. GivesPiece self.old sieved g self.new) }
         ensures obeys { IfOk result (λ g. GivesOn (would judge.old) (state judge.old) (state judge.new) sieved g (waiting self.old) (waited self.old self.new)) }
+        ensures stays_rule { would judge.new ≡ would judge.old }
+        ensures quiet { OnErr result (state judge.new ≡ state judge.old) }
+        ensures lowers { (shown : Shown) → PlanFits shown self.old → IfOk result (λ g. GiveSpends g (plan_work shown self.old) (plan_work shown self.new)) }
         ensures counts { SameCounts (plan_trace self.old) (plan_trace self.new) }
         ensures fits { (shown : Shown) → PlanFits shown self.old → PlanFits shown self.new }
         ensures stays { (shown : Shown) → PlanFits shown self.old → PlanStays shown self.old self.new }

@@ -1,3 +1,5 @@
+use Rattle.rv_cursor.specs.Left.{seen_by}
+use Rattle.rv_cursor.proofs.Moving.{front_of}
 use Rattle.rv_cursor.proofs.Holding.{kept_stays, none_moved, row_stays}
 use Rattle.rv_cursor.proofs.cursor.fill.Goals as goal
 
@@ -16,3 +18,24 @@ pub returns-in-Ok-End-clause-stays : goal.returns-in-Ok-End-clause-stays
 returns-in-Ok-End-clause-stays g c =
     let moves = rw c.in-Ok-End.field-0-is at c.in-Ok-End.ensures.step in
     kept_stays (g.R.Reader.shown c.args.reader.now) c.args.cursor.now c.step.new.self c.requires.empty c.requires.fits c.step.ensures.fits moves.asked (none_moved _ _ moves.step.0 moves.step.1)
+
+pub returns-in-Ok-Row-clause-fills : goal.returns-in-Ok-Row-clause-fills
+returns-in-Ok-Row-clause-fills g c = (c.in-Ok-Row.offer, record { moves = rw c.in-Ok-Row.field-0-is at c.in-Ok-Row.ensures.step; held = c.replace-before.ensures.after })
+
+pub returns-in-Ok-Working-clause-fills : goal.returns-in-Ok-Working-clause-fills
+returns-in-Ok-Working-clause-fills g c = record { moves = rw c.in-Ok-Working.field-0-is at c.in-Ok-Working.ensures.step; held = c.requires.empty }
+
+pub returns-in-Ok-End-clause-fills : goal.returns-in-Ok-End-clause-fills
+returns-in-Ok-End-clause-fills g c = record { moves = rw c.in-Ok-End.field-0-is at c.in-Ok-End.ensures.step; held = c.requires.empty }
+
+pub returns-in-Ok-Row-clause-front : goal.returns-in-Ok-Row-clause-front
+returns-in-Ok-Row-clause-front g c = front_of c.step.result _ (seen_by (g.R.Reader.shown c.args.reader.now) c.args.cursor.now) _ _ _ _ c.args.cursor.now.plan c.step.new.self c.step.ensures.counts c.step.ensures.asks c.step.ensures.once c.step.ensures.step c.step.ensures.err
+
+pub returns-in-Ok-Working-clause-front : goal.returns-in-Ok-Working-clause-front
+returns-in-Ok-Working-clause-front g c = front_of c.step.result _ (seen_by (g.R.Reader.shown c.args.reader.now) c.args.cursor.now) _ _ _ _ c.args.cursor.now.plan c.step.new.self c.step.ensures.counts c.step.ensures.asks c.step.ensures.once c.step.ensures.step c.step.ensures.err
+
+pub returns-in-Ok-End-clause-front : goal.returns-in-Ok-End-clause-front
+returns-in-Ok-End-clause-front g c = front_of c.step.result _ (seen_by (g.R.Reader.shown c.args.reader.now) c.args.cursor.now) _ _ _ _ c.args.cursor.now.plan c.step.new.self c.step.ensures.counts c.step.ensures.asks c.step.ensures.once c.step.ensures.step c.step.ensures.err
+
+pub returns-in-Err-clause-front : goal.returns-in-Err-clause-front
+returns-in-Err-clause-front g c = front_of c.step.result _ (seen_by (g.R.Reader.shown c.args.reader.now) c.args.cursor.now) _ _ _ _ c.args.cursor.now.plan c.step.new.self c.step.ensures.counts c.step.ensures.asks c.step.ensures.once c.step.ensures.step c.step.ensures.err

@@ -1,7 +1,8 @@
 use Rattle.std.proofs.Common.{arith}
 use Rattle.rv_cursor.specs.Left.{seen_by}
 use Rattle.rv_cursor.proofs.Holding.{piece_stays, pieces_stay}
-use Rattle.rv_cursor.proofs.Worked.{piece_works}
+use Rattle.rv_cursor.specs.Moves.Move.{Take}
+use Rattle.rv_cursor.proofs.Moving.{back_is, back_moves, gives_back, moves_by, none_works, still_moves, takes_out}
 use Rattle.rv_cursor.proofs.cursor.work_piece.Goals as goal
 
 pub returns-in-Ok-Nothing-clause-stays : goal.returns-in-Ok-Nothing-clause-stays
@@ -29,9 +30,31 @@ returns-in-Ok-clause-work g c =
     let given = (c.give.ensures.stays seen c.take.ensures.fits).work in
     omega (arith, taken, given)
 
-pub returns-in-Ok-clause-piece : goal.returns-in-Ok-clause-piece
-returns-in-Ok-clause-piece g c =
-    let answers = rw c.in-Ok-Piece.field-0-is at c.in-Ok-Piece.ensures.answers in
+pub returns-in-Ok-Nothing-clause-worked : goal.returns-in-Ok-Nothing-clause-worked
+returns-in-Ok-Nothing-clause-worked g c =
+    let none = rw c.in-Ok-Nothing.field-0-is at c.in-Ok-Nothing.ensures.answers in
+    none_works _ c.args.cursor.now.plan c.take.new.self none (c.take.ensures.none none).1
+
+pub returns-in-Ok-Nothing-clause-moves : goal.returns-in-Ok-Nothing-clause-moves
+returns-in-Ok-Nothing-clause-moves g c = moves_by Take _ _ _ _ (takes_out (seen_by (g.R.Reader.shown c.args.reader.now) c.args.cursor.now) _ _ _ c.args.cursor.now.plan c.take.new.self c.take.ensures.reads c.take.ensures.counts c.take.ensures.once c.take.ensures.awaited c.take.ensures.pieces c.take.ensures.stays)
+
+pub returns-in-Err-clause-moves : goal.returns-in-Err-clause-moves
+returns-in-Err-clause-moves g c = moves_by Take _ _ _ _ (takes_out (seen_by (g.R.Reader.shown c.args.reader.now) c.args.cursor.now) _ _ _ c.args.cursor.now.plan c.take.new.self c.take.ensures.reads c.take.ensures.counts c.take.ensures.once c.take.ensures.awaited c.take.ensures.pieces c.take.ensures.stays)
+
+pub returns-in-Err-give-clause-moves : goal.returns-in-Err-give-clause-moves
+returns-in-Err-give-clause-moves g c = still_moves _ _ _ _ c.args.cursor.now.plan c.take.new.self c.give.new.self (takes_out (seen_by (g.R.Reader.shown c.args.reader.now) c.args.cursor.now) _ _ _ c.args.cursor.now.plan c.take.new.self c.take.ensures.reads c.take.ensures.counts c.take.ensures.once c.take.ensures.awaited c.take.ensures.pieces c.take.ensures.stays) c.in-Err-give.ensures.err c.in-Err-give.ensures.quiet
+
+pub returns-in-Ok-clause-worked : goal.returns-in-Ok-clause-worked
+returns-in-Ok-clause-worked g c =
+    let seen = seen_by (g.R.Reader.shown c.args.reader.now) c.args.cursor.now in
     let ready = rw c.in-Ok-Piece.field-0-is at c.in-Ok-Piece.ensures.ready in
-    let gives = rw c.sieve.ensures at c.in-Ok.ensures.given in
-    piece_works c.args.cursor.now c.in-Ok._given c.in-Ok-Piece.piece c.take.new.self c.give.new.self answers c.take.ensures.pieces ready gives c.in-Ok.ensures.pieces
+    let fits = c.take.ensures.fits in
+    back_is _ seen _ _ _ (takes_out (seen_by (g.R.Reader.shown c.args.reader.now) c.args.cursor.now) _ _ _ c.args.cursor.now.plan c.take.new.self c.take.ensures.reads c.take.ensures.counts c.take.ensures.once c.take.ensures.awaited c.take.ensures.pieces c.take.ensures.stays) (gives_back c.in-Ok._given _ seen _ _ c.in-Ok-Piece.piece _ c.take.new.self c.give.new.self ready c.sieve.ensures c.in-Ok.ensures.given c.in-Ok.ensures.obeys c.in-Ok.ensures.pieces c.give.ensures.counts (c.in-Ok.ensures.lowers seen fits) (c.in-Ok.ensures.less seen fits) (c.give.ensures.stays seen fits))
+
+pub returns-in-Ok-clause-moves : goal.returns-in-Ok-clause-moves
+returns-in-Ok-clause-moves g c = back_moves _ _ _ _ (
+    let seen = seen_by (g.R.Reader.shown c.args.reader.now) c.args.cursor.now in
+    let ready = rw c.in-Ok-Piece.field-0-is at c.in-Ok-Piece.ensures.ready in
+    let fits = c.take.ensures.fits in
+    back_is _ seen _ _ _ (takes_out (seen_by (g.R.Reader.shown c.args.reader.now) c.args.cursor.now) _ _ _ c.args.cursor.now.plan c.take.new.self c.take.ensures.reads c.take.ensures.counts c.take.ensures.once c.take.ensures.awaited c.take.ensures.pieces c.take.ensures.stays) (gives_back c.in-Ok._given _ seen _ _ c.in-Ok-Piece.piece _ c.take.new.self c.give.new.self ready c.sieve.ensures c.in-Ok.ensures.given c.in-Ok.ensures.obeys c.in-Ok.ensures.pieces c.give.ensures.counts (c.in-Ok.ensures.lowers seen fits) (c.in-Ok.ensures.less seen fits) (c.give.ensures.stays seen fits))
+    )

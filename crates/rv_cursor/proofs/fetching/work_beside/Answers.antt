@@ -1,5 +1,24 @@
-use Rattle.rv_cursor.proofs.Worked.{none_beside}
+use Rattle.std.proofs.Common.{rules, ◌∙◌}
+use Rattle.rv_cursor.specs.Left.{work}
+use Rattle.rv_cursor.proofs.Holding.{seen_stays, stays_on}
+use Rattle.rv_cursor.proofs.Moving.{beside_more, beside_none, less_work, moves_on}
 use Rattle.rv_cursor.proofs.fetching.work_beside.Goals as goal
 
+pub pieces-preserved : goal.pieces-preserved
+pieces-preserved g c =
+    let before = c.pieces.invariant in
+    let seen = seen_stays (g.R.Reader.shown c.args.reader.now) c.args.cursor.now c.pieces.cursor before.stays.same in
+    record {
+      stays = stays_on (g.R.Reader.shown c.args.reader.now) c.args.cursor.now c.pieces.cursor c.work_piece.new.cursor before.stays c.work_piece.ensures.stays;
+      hand = c.work_piece.ensures.hand ∙ before.hand;
+      work = less_work (work (g.R.Reader.shown c.args.reader.now) c.args.cursor.now) (work (g.R.Reader.shown c.args.reader.now) c.pieces.cursor) (work (g.R.Reader.shown c.args.reader.now) c.work_piece.new.cursor) c.pieces.invariant.work c.work_piece.ensures.work;
+      rule = c.work_piece.ensures.stays_rule ∙ before.rule;
+      steps_made = beside_more c.pieces._done _ _ _ _ _ _ _ before.rule seen before.steps_made (search rules) (rw c.in-Ok-true.field-0-test at c.in-Ok-true.ensures.worked);
+      moves = moves_on _ _ _ _ _ _ _ before.rule seen before.moves c.work_piece.ensures.moves;
+    }
+
 pub returns-in-Ok-false-clause-beside : goal.returns-in-Ok-false-clause-beside
-returns-in-Ok-false-clause-beside g c = none_beside c.args.most c.pieces._done c.in-Ok-false.field-0 c.args.cursor.now c.pieces.cursor c.work_piece.new.cursor c.in-Ok-false.field-0-test c.pieces-test.true c.pieces.invariant.works c.in-Ok-false.ensures.piece
+returns-in-Ok-false-clause-beside g c = beside_none c.args.most c.pieces._done _ _ _ _ _ c.pieces-test.true c.pieces.invariant.steps_made (rw c.in-Ok-false.field-0-test at c.in-Ok-false.ensures.worked)
+
+pub returns-in-Err-clause-moves : goal.returns-in-Err-clause-moves
+returns-in-Err-clause-moves g c = moves_on _ _ _ _ _ _ _ c.pieces.invariant.rule (seen_stays (g.R.Reader.shown c.args.reader.now) c.args.cursor.now c.pieces.cursor c.pieces.invariant.stays.same) c.pieces.invariant.moves c.work_piece.ensures.moves

@@ -1,6 +1,7 @@
 use Rattle.rv_join.proofs.OneItem.{list_plans, result_plans}
 use Rattle.rv_join.proofs.Calls.{levels_at}
 use Rattle.rv_join.proofs.Numbers.{given_counts, levels_count}
+use Rattle.rv_join.proofs.Lowering.{levels_lower}
 use Rattle.rv_join.proofs.Opening.{level_keeps}
 use Rattle.rv_join.proofs.stack.give_at.Goals as goal
 
@@ -15,3 +16,6 @@ returns-clause-pieces g c = λ d. levels_count c.give.result c.args.levels.now.i
 
 pub returns-clause-plans : goal.returns-clause-plans
 returns-clause-plans g c = list_plans c.args.levels.now.items c.args.at c.index_mut.result.now _ c.requires.at c.index_mut.ensures.value (result_plans c.give.result _ _ _ c.args.sieved _ _ c.give.ensures.obeys c.give.ensures.err)
+
+pub returns-clause-lowers : goal.returns-clause-lowers
+returns-clause-lowers g c = λ a shown all. levels_lower c.give.result a shown c.args.levels.now.items c.args.at c.index_mut.result.now c.give.new.self c.requires.at all c.index_mut.ensures.value c.give.ensures.keeps c.give.ensures.spends

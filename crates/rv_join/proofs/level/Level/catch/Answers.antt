@@ -17,7 +17,7 @@ returns-in-End-clause-caught g c = ended_moves c.args._asked.now (g.R.Reader.sho
 pub returns-in-Row-clause-once : goal.returns-in-Row-clause-once
 returns-in-Row-clause-once g c =
     let spends = c.in_ok-record.ensures.spends c.requires.fits.awaiting in
-    rw c.replace-before.ensures.after (catch_row _ _ _ (g.R.Reader.shown c.args.reader.now) c.args.steps.now c.fg_step.new.steps _ c.args.self.now c.fg_step.new.self c.in-Row.record.values c.requires.none (c.in_ok-record.ensures.does c.requires.fits.tells) c.fg_step.ensures.settled c.fg_step.ensures.unasked c.fg_step.ensures.pages c.in_ok-record.ensures.records c.fg_step.ensures.tries (rw c.in-Row.is at spends).1)
+    rw c.replace-before.ensures.after (catch_row _ _ _ (g.R.Reader.shown c.args.reader.now) c.args.steps.now c.fg_step.new.steps _ c.args.self.now c.fg_step.new.self c.in-Row.record.values c.requires.none (c.in_ok-record.ensures.does c.requires.fits.tells) (c.fg_step.ensures.may_read c.requires.fits.tells) c.fg_step.ensures.settled c.fg_step.ensures.unasked c.fg_step.ensures.pages c.in_ok-record.ensures.records c.fg_step.ensures.tries (rw c.in-Row.is at spends).1)
 
 pub returns-in-Row-clause-spends : goal.returns-in-Row-clause-spends
 returns-in-Row-clause-spends g c =
@@ -26,7 +26,7 @@ returns-in-Row-clause-spends g c =
     row_spends c.args.steps.now c.fg_step.new.steps _ _ c.args.self.now.row c.requires.none row.0 row.1
 
 pub returns-in-Working-clause-once : goal.returns-in-Working-clause-once
-returns-in-Working-clause-once g c = catch_none _ _ _ (g.R.Reader.shown c.args.reader.now) c.args.steps.now c.fg_step.new.steps _ c.args.self.now c.fg_step.new.self (c.in_ok-record.ensures.does c.requires.fits.tells) c.fg_step.ensures.settled c.fg_step.ensures.unasked c.fg_step.ensures.pages c.in_ok-record.ensures.records c.fg_step.ensures.tries
+returns-in-Working-clause-once g c = catch_none _ _ _ (g.R.Reader.shown c.args.reader.now) c.args.steps.now c.fg_step.new.steps _ c.args.self.now c.fg_step.new.self (c.in_ok-record.ensures.does c.requires.fits.tells) (c.fg_step.ensures.may_read c.requires.fits.tells) c.fg_step.ensures.settled c.fg_step.ensures.unasked c.fg_step.ensures.pages c.in_ok-record.ensures.records c.fg_step.ensures.tries
 
 pub returns-in-Working-clause-spends : goal.returns-in-Working-clause-spends
 returns-in-Working-clause-spends g c =
@@ -35,7 +35,7 @@ returns-in-Working-clause-spends g c =
     worked_spends c.args.steps.now c.fg_step.new.steps _ _ c.args.self.now.row row.0 row.1
 
 pub returns-in-End-clause-once : goal.returns-in-End-clause-once
-returns-in-End-clause-once g c = catch_none _ _ _ (g.R.Reader.shown c.args.reader.now) c.args.steps.now c.fg_step.new.steps _ c.args.self.now c.fg_step.new.self (c.in_ok-record.ensures.does c.requires.fits.tells) c.fg_step.ensures.settled c.fg_step.ensures.unasked c.fg_step.ensures.pages c.in_ok-record.ensures.records c.fg_step.ensures.tries
+returns-in-End-clause-once g c = catch_none _ _ _ (g.R.Reader.shown c.args.reader.now) c.args.steps.now c.fg_step.new.steps _ c.args.self.now c.fg_step.new.self (c.in_ok-record.ensures.does c.requires.fits.tells) (c.fg_step.ensures.may_read c.requires.fits.tells) c.fg_step.ensures.settled c.fg_step.ensures.unasked c.fg_step.ensures.pages c.in_ok-record.ensures.records c.fg_step.ensures.tries
 
 pub returns-in-End-clause-spends : goal.returns-in-End-clause-spends
 returns-in-End-clause-spends g c =
@@ -44,4 +44,4 @@ returns-in-End-clause-spends g c =
     ended_spends c.args.steps.now c.fg_step.new.steps _ _ c.args.self.now.row row.0 row.1
 
 pub returns-in_err-record-clause-once : goal.returns-in_err-record-clause-once
-returns-in_err-record-clause-once g c = catch_err _ _ _ (g.R.Reader.shown c.args.reader.now) c.args.steps.now c.fg_step.new.steps c.args.self.now c.fg_step.new.self c.in_err-record.ensures.quiet c.in_err-record.ensures.course c.fg_step.ensures.settled c.fg_step.ensures.pages c.fg_step.ensures.tries
+returns-in_err-record-clause-once g c = catch_err _ _ _ (g.R.Reader.shown c.args.reader.now) c.args.steps.now c.fg_step.new.steps c.args.self.now c.fg_step.new.self c.in_err-record.ensures.quiet c.in_err-record.ensures.course c.in_err-record.ensures.still (c.fg_step.ensures.may_read c.requires.fits.tells) c.in_err-record.ensures.fewer c.fg_step.ensures.settled c.fg_step.ensures.pages c.fg_step.ensures.tries

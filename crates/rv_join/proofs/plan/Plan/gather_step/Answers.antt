@@ -1,8 +1,9 @@
-use Rattle.std.proofs.Common.{ap, subst, sym}
+use Rattle.std.proofs.Common.{ap, subst, sym, ◌∙◌}
 use Rattle.std.specs.List.Sorted.{IsPermutation}
 use Rattle.std.proofs.lemmas.List.Sorted.{IsPermutation-refl}
 use Rattle.rv_join.specs.Plans.{Planned}
-use Rattle.rv_join.proofs.Planning.{gather_kept, given_good, sorted_good}
+use Rattle.rv_join.proofs.Planning.{all_moves, gather_kept, given_good, sort_failed, sorted_good}
+use Rattle.rv_join.proofs.Going.{asks_then, once_then}
 use Rattle.rv_join.proofs.Stacking.{kept_if_not}
 use Rattle.rv_join.proofs.plan.Plan.gather_step.Goals as goal
 
@@ -14,3 +15,21 @@ returns-in_ok-sort-clause-holds g c =
     let shown = g.R.Reader.shown c.args.reader.now in
     let good = sorted_good shown c.args.self.now c.gather.new.self c.sort.new.self c.requires.fits c.requires.stage (rw c.if-branch.true at c.in_ok-gather.ensures.gathers) c.gather.ensures.same c.in_ok-sort.ensures.ok in
     given_good shown c.give_next.result c.sort.new.self c.give_next.new.self good (ap (λ (p : Planned). p.stage) c.in_ok-sort.ensures.ok.same) c.give_next.ensures.given c.give_next.ensures.same
+
+pub returns-in_err-sort-clause-asks : goal.returns-in_err-sort-clause-asks
+returns-in_err-sort-clause-asks g c = asks_then _ _ _ _ _ c.args.self.now c.gather.new.self c.sort.new.self c.gather.ensures.asks (ap (λ (p : Planned). p.stack) c.in_err-sort.ensures.err)
+
+pub returns-in_ok-sort-clause-asks : goal.returns-in_ok-sort-clause-asks
+returns-in_ok-sort-clause-asks g c = asks_then _ _ _ _ _ c.args.self.now c.gather.new.self c.give_next.new.self c.gather.ensures.asks (ap (λ (p : Planned). p.stack) c.give_next.ensures.same ∙ ap (λ (p : Planned). p.stack) c.in_ok-sort.ensures.ok.same)
+
+pub returns-in_err-sort-clause-once : goal.returns-in_err-sort-clause-once
+returns-in_err-sort-clause-once g c = once_then _ _ _ _ _ _ c.args.self.now c.gather.new.self c.sort.new.self c.gather.ensures.once (ap (λ (p : Planned). p.stack) c.in_err-sort.ensures.err)
+
+pub returns-in_ok-sort-clause-once : goal.returns-in_ok-sort-clause-once
+returns-in_ok-sort-clause-once g c = once_then _ _ _ _ _ _ c.args.self.now c.gather.new.self c.give_next.new.self c.gather.ensures.once (ap (λ (p : Planned). p.stack) c.give_next.ensures.same ∙ ap (λ (p : Planned). p.stack) c.in_ok-sort.ensures.ok.same)
+
+pub returns-in_err-sort-clause-err : goal.returns-in_err-sort-clause-err
+returns-in_err-sort-clause-err g c = kept_if_not _ _ (sort_failed (g.R.Reader.shown c.args.reader.now) c.args.self.now c.gather.new.self c.sort.new.self c.requires.stage (rw c.if-branch.true at c.in_ok-gather.ensures.gathers) c.gather.ensures.same c.in_err-sort.ensures.same c.in_err-sort.ensures.err)
+
+pub returns-in_ok-sort-clause-step : goal.returns-in_ok-sort-clause-step
+returns-in_ok-sort-clause-step g c = all_moves (g.R.Reader.shown c.args.reader.now) c.give_next.result c.args.self.now c.gather.new.self c.sort.new.self c.give_next.new.self c.requires.fits c.requires.stage (rw c.if-branch.true at c.in_ok-gather.ensures.gathers) c.gather.ensures.same c.in_ok-sort.ensures.ok c.give_next.ensures.given c.give_next.ensures.same

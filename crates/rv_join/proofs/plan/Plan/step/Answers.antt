@@ -1,4 +1,7 @@
+use Rattle.std.proofs.Common.{ap}
+use Rattle.rv_join.specs.Plans.{Planned}
 use Rattle.rv_join.proofs.Accounting.{fits_counted}
+use Rattle.rv_join.proofs.Going.{asks_then, once_then, spends_then}
 use Rattle.rv_join.proofs.Keeping.{asked_same, counted_kept, counted_moves}
 use Rattle.rv_join.proofs.plan.Plan.step.Goals as goal
 
@@ -13,3 +16,12 @@ returns-clause-step g c = counted_moves (g.R.Reader.shown c.args.reader.now) c.s
 
 pub returns-clause-err : goal.returns-clause-err
 returns-clause-err g c = counted_kept (g.R.Reader.shown c.args.reader.now) c.stage_step-stepped.result c.args.self.now c.stage_step-stepped.new.self c.count.new.self _ c.stage_step-stepped.ensures.err c.count.ensures.same
+
+pub returns-clause-asks : goal.returns-clause-asks
+returns-clause-asks g c = asks_then _ _ _ _ _ c.args.self.now c.stage_step-stepped.new.self c.count.new.self c.stage_step-stepped.ensures.asks (ap (λ (p : Planned). p.stack) c.count.ensures.same)
+
+pub returns-clause-once : goal.returns-clause-once
+returns-clause-once g c = once_then _ _ _ _ _ _ c.args.self.now c.stage_step-stepped.new.self c.count.new.self c.stage_step-stepped.ensures.once (ap (λ (p : Planned). p.stack) c.count.ensures.same)
+
+pub returns-clause-spends : goal.returns-clause-spends
+returns-clause-spends g c = spends_then c.stage_step-stepped.result (g.R.Reader.shown c.args.reader.now) _ _ c.args.self.now c.stage_step-stepped.new.self c.count.new.self c.stage_step-stepped.ensures.spends (ap (λ (p : Planned). p.stack) c.count.ensures.same)

@@ -6,6 +6,7 @@ use Rattle.rv_join.specs.Rules.{SamePlans}
 use Rattle.rv_join.proofs.OneItem.{alone_ended, alone_none, done_spends, first_plans, once_plans, uses_once, uses_spends}
 use Rattle.rv_join.proofs.Accounting.{alone_ends, alone_rises, alone_uses}
 use Rattle.rv_join.proofs.Catching.{stays_moves}
+use Rattle.rv_join.proofs.Going.{calls_at, calls_on}
 use Rattle.rv_join.proofs.Stacking.{kept_at, kept_if_not, kept_less, kept_then, kept_then_if}
 use Rattle.rv_join.proofs.stack.Stack.advance.Goals as goal
 
@@ -82,3 +83,15 @@ returns-in-Ready-clause-once g c = λ one. uses_once c.use_row.result _ _ _ (g.R
 
 pub returns-in-Ready-clause-spends : goal.returns-in-Ready-clause-spends
 returns-in-Ready-clause-spends g c = λ one. (let spends = c.in_ok-ready.ensures.spends in uses_spends c.use_row.result (g.R.Reader.shown c.args.reader.now) c.args.steps.now c.ready.new.steps c.use_row.new.steps c.args.self.now.at c.ready.new.self c.use_row.new.self (c.use_row.ensures.used one) (c.use_row.ensures.alone one).1 (rw c.in-Ready.is at spends))
+
+pub returns-in_err-ready-clause-asks : goal.returns-in_err-ready-clause-asks
+returns-in_err-ready-clause-asks g c = calls_at _ _ _ _ _ _ c.args.self.now c.ready.new.self c.ready.ensures.same c.ready.ensures.once
+
+pub returns-in-Worked-clause-asks : goal.returns-in-Worked-clause-asks
+returns-in-Worked-clause-asks g c = calls_at _ _ _ _ _ _ c.args.self.now c.ready.new.self c.ready.ensures.same c.ready.ensures.once
+
+pub returns-in-Ended-clause-asks : goal.returns-in-Ended-clause-asks
+returns-in-Ended-clause-asks g c = calls_on _ _ _ _ _ _ c.args.self.now c.ready.new.self c.end.new.self c.ready.ensures.same c.ready.ensures.once c.end.ensures.goes
+
+pub returns-in-Ready-clause-asks : goal.returns-in-Ready-clause-asks
+returns-in-Ready-clause-asks g c = calls_on _ _ _ _ _ _ c.args.self.now c.ready.new.self c.use_row.new.self c.ready.ensures.same c.ready.ensures.once c.use_row.ensures.goes

@@ -4,6 +4,7 @@ use Rattle.rv_join.specs.Levels.{Stacked}
 use Rattle.rv_join.proofs.OneItem.{first_plans, given_less, none_above, result_plans}
 use Rattle.rv_join.proofs.Calls.{stays_above, stays_at}
 use Rattle.rv_join.proofs.Numbers.{given_counts, innermost_counts}
+use Rattle.rv_join.proofs.Lowering.{above_lowers, innermost_lowers, level_lowers}
 use Rattle.rv_join.proofs.Opening.{level_keeps}
 use Rattle.rv_join.proofs.stack.Stack.give.Goals as goal
 
@@ -33,3 +34,9 @@ returns-else-at-len-clause-less g c = rw (← c.self.view_is) (λ shown none fit
 
 pub returns-else-at-len-clause-settled : goal.returns-else-at-len-clause-settled
 returns-else-at-len-clause-settled g c = rw (← c.self.view_is) (λ none s. (let same : Stacked = record { above = c.self.inside.above.items; at = c.self.inside.at; openings = c.self.inside.openings } in (ap (λ (h : Shape). record same { at = record c.self.inside.at { here = h } }) (c.give.ensures.settled s).0, (c.give.ensures.settled s).1)))
+
+pub returns-then-at-len-clause-lowers : goal.returns-then-at-len-clause-lowers
+returns-then-at-len-clause-lowers g c = rw (← c.self.view_is) (λ a shown fits. above_lowers c.give_at.result a shown (record { above = c.self.inside.above.items; at = c.self.inside.at; openings = c.self.inside.openings }) (record { above = c.give_at.new.levels.items; at = c.self.inside.at; openings = c.self.inside.openings }) (c.give_at.ensures.lowers a shown fits.above) refl)
+
+pub returns-else-at-len-clause-lowers : goal.returns-else-at-len-clause-lowers
+returns-else-at-len-clause-lowers g c = rw (← c.self.view_is) (λ a shown fits. innermost_lowers c.give.result a shown (record { above = c.self.inside.above.items; at = c.self.inside.at; openings = c.self.inside.openings }) (record { above = c.self.inside.above.items; at = record c.self.inside.at { here = c.give.new.self }; openings = c.self.inside.openings }) (level_lowers c.give.result a shown c.self.inside.at c.give.new.self fits.at c.give.ensures.keeps c.give.ensures.spends) refl)

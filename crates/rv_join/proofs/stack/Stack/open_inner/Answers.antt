@@ -1,5 +1,15 @@
+use Rattle.rv_join.proofs.Going.{goes_down, goes_not, goes_same}
 use Rattle.rv_join.proofs.Stacking.{opens}
 use Rattle.rv_join.proofs.stack.Stack.open_inner.Goals as goal
 
 pub returns-clause-moves : goal.returns-clause-moves
 returns-clause-moves g c = opens c.args.asked.now (g.R.Reader.shown c.args.reader.now) c.args.self.now c.descend.new.self c.in_ok-inner.inner c.requires.fits c.requires.some c.in_ok-inner.ensures c.in_ok-descend.ensures.ok
+
+pub returns-in_err-inner-clause-goes : goal.returns-in_err-inner-clause-goes
+returns-in_err-inner-clause-goes g c = goes_not c.args.self.now
+
+pub returns-in_err-descend-clause-goes : goal.returns-in_err-descend-clause-goes
+returns-in_err-descend-clause-goes g c = goes_same c.args.self.now c.descend.new.self c.in_err-descend.ensures.err
+
+pub returns-clause-goes : goal.returns-clause-goes
+returns-clause-goes g c = goes_down c.args.self.now c.descend.new.self c.in_ok-inner.inner c.in_ok-descend.ensures.ok

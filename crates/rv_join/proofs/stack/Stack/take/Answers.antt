@@ -1,6 +1,8 @@
-use Rattle.std.proofs.Common.{refl, rules}
+use Rattle.std.proofs.Common.{IfOk, refl, rules, subst, sym}
+use Rattle.rv_retrieval.specs.Given.{TakesPiece}
+use Rattle.rv_join.specs.declared.level.Level.{Level}
 use Rattle.rv_join.proofs.OneItem.{first_plans, none_above}
-use Rattle.rv_join.proofs.Calls.{stays_above, stays_at}
+use Rattle.rv_join.proofs.Calls.{at_past, stays_above, stays_at}
 use Rattle.rv_join.proofs.Numbers.{at_waits}
 use Rattle.rv_join.proofs.stack.Stack.take.Goals as goal
 
@@ -33,3 +35,6 @@ returns-else-at-len-clause-once g c = rw (← c.self.view_is) (λ none. c.take_l
 
 pub returns-else-at-len-clause-spends : goal.returns-else-at-len-clause-spends
 returns-else-at-len-clause-spends g c = rw (← c.self.view_is) (λ none. c.take_level.ensures.spends)
+
+pub returns-else-at-len-clause-taken : goal.returns-else-at-len-clause-taken
+returns-else-at-len-clause-taken g c = subst (λ (l : Level). IfOk c.take_level.result (TakesPiece l.here)) (sym (at_past c.self.inside.above.items c.args.at c.take_level.new.level (search rules))) c.take_level.ensures.taken

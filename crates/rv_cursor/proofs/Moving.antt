@@ -1,0 +1,178 @@
+-- How a cursor's plan moves: one call after another.
+use Rattle.std.proofs.Common.{◌≡◌, ℕ, ◌+◌, ◌<◌, ◌≤◌, List, [], ◌∷◌, ◌++◌, Bool, true, false, Option, Some, None, IsSome, Result, Ok, Err, IfOk, OnErr, refl, ap, sym, ◌∙◌, subst, inl, inr, arith, zero, suc}
+use Rattle.rv_judge.specs.declared.counting.Counts.{Counts}
+use Rattle.rv_judge.specs.declared.judging.Facts.{Facts}
+use Rattle.rv_judge.specs.Verdicts.{Ruling}
+use Rattle.rv_judge.specs.Counting.{one_more}
+use Rattle.rv_lang.specs.declared.reply.Reply.{Reply}
+use Rattle.rv_model.specs.declared.state.Offer.{Offer}
+use Rattle.rv_reader.specs.Shown.{Shown}
+use Rattle.rv_jscan.specs.Pieces.{Pieced}
+use Rattle.rv_jscan.specs.declared.jscan.Given.{Given}
+use Rattle.rv_jscan.specs.declared.jscan.Given.TheVariants.{Accepted, Stale}
+use Rattle.rv_retrieval.specs.Effort.{GiveSpends}
+use Rattle.rv_retrieval.specs.Given.{AwaitsPiece}
+use Rattle.rv_retrieval.specs.Rulings.{GivesOn}
+use Rattle.rv_retrieval.specs.Stepping.{piece_read}
+use Rattle.rv_retrieval.specs.Telling.{CountsRise, SameCounts}
+use Rattle.rv_join.specs.Alone.{IsAlone, PlanAsks, StepsOnce, TakesOnce, plan_effort}
+use Rattle.rv_join.specs.Pieces.{CountsPiece, GivesPiece, counted_up, plan_awaited, plan_pieces, stack_builds, waited, waiting}
+use Rattle.rv_join.specs.Plans.{PlanKept, PlanMoves, PlanStays, Planned, WorkTo, plan_trace, plan_work}
+use Rattle.rv_join.specs.declared.plan.PlanStep.{PlanStep}
+use Rattle.rv_join.specs.declared.plan.PlanStep.TheVariants.{Row, End, Working}
+use Rattle.rv_cursor.specs.declared.cursor.Open.{Open}
+use Rattle.rv_cursor.specs.declared.cursor.Filled.{Filled}
+use Rattle.rv_cursor.specs.declared.cursor.Filled.TheVariants.{Brought, Nearer, Ended}
+use Rattle.rv_cursor.specs.Left.{Fills, seen_by}
+use Rattle.rv_cursor.specs.Moves.{Beside, BesideBy, FetchMoves, GivesBack, Move, Moves, MovesBy, MovesByAll, RepliesTo, Round, Rounds, Ruled, StepsBack, StepsBacks, StepsBeside, StepsFront, TakesOut, Turn, TurnMoves, TurnTo, WorksPiece, ruled}
+use Rattle.rv_cursor.specs.Moves.Move.{Front, Take, Give}
+
+-- Moves.
+
+pub moves_rest : (would : ℕ → Facts → Ruling) (shown : Shown) (s : Ruled) → Moves would shown s s
+moves_rest would shown s = record { moves = []; made = refl }
+
+pub moves_same : (would : ℕ → Facts → Ruling) (shown : Shown) (old new : Ruled) → new ≡ old → Moves would shown old new
+moves_same would shown old new same = record { moves = []; made = same }
+
+pub moves_by : (move : Move) (would : ℕ → Facts → Ruling) (shown : Shown) (old new : Ruled) → MovesBy move would shown old new → Moves would shown old new
+moves_by move would shown old new by = record { moves = move ∷ []; made = (old, refl, by) }
+
+all_on : (moves before : List Move) (would : ℕ → Facts → Ruling) (shown : Shown) (a b c : Ruled) → MovesByAll before would shown a b → MovesByAll moves would shown b c → MovesByAll (moves ++ before) would shown a c
+all_on [] before would shown a b c first then = subst (MovesByAll before would shown a) (sym then) first
+all_on (move ∷ moves) before would shown a b c first then = (then.0, all_on moves before would shown a b then.0 first then.1, then.2)
+
+-- what is said of a judge's meaning and a reader is said of the same ones
+turned : (P : (ℕ → Facts → Ruling) → Shown → Type 0) (v w : ℕ → Facts → Ruling) (s t : Shown) → v ≡ w → s ≡ t → P v s → P w t
+turned P v w s t rule seen p = subst (λ (u : ℕ → Facts → Ruling). P u t) rule (subst (P v) seen p)
+
+-- one call after another, under a judge whose meaning stays
+pub moves_on : (v w : ℕ → Facts → Ruling) (s t : Shown) (a b c : Ruled) → v ≡ w → s ≡ t → Moves w t a b → Moves v s b c → Moves w t a c
+moves_on v w s t a b c rule seen first then = by (turned (λ u x. Moves u x b c) v w s t rule seen then)
+  where
+    by : Moves w t b c → Moves w t a c
+    by more = record { moves = more.moves ++ first.moves; made = all_on more.moves first.moves w t a b c first.made more.made }
+
+-- A foreground step.
+
+work_le : (m : PlanStep) (n k : ℕ) → WorkTo m n k → k ≤ n
+work_le (Row o) n k less = less
+work_le End n k less = less
+work_le Working n k less = omega (arith, less)
+
+pub front_of : {E : Type 0} (r : Result PlanStep E) (would : ℕ → Facts → Ruling) (shown : Shown) (state after : ℕ) (c d : Counts) (old new : Planned) → CountsRise (plan_trace old) (plan_trace new) c d → PlanAsks would state after shown c old new → (IsAlone old → StepsOnce would state after shown c d old.stack.at new.stack.at) → IfOk r (λ m. PlanMoves shown m old new) → OnErr r (PlanKept shown old new) → StepsFront would shown (record { plan = old; judge = state }) (record { plan = new; judge = after })
+front_of (Ok m) would shown state after c d old new counts asks once moves kept = record { asked = moves.asked; before = c; after = d; counts = counts; asks = asks; once = once; work = work_le m (plan_work shown old) (plan_work shown new) moves.work }
+front_of (Err e) would shown state after c d old new counts asks once moves kept = record { asked = kept.asked; before = c; after = d; counts = counts; asks = asks; once = once; work = kept.work }
+
+-- A background step.
+
+pub takes_out : (shown : Shown) (state : ℕ) (c d : Counts) (old new : Planned) → d ≡ piece_read (waiting old) c → CountsRise (plan_trace old) (plan_trace new) c d → (IsAlone old → TakesOnce shown c d old.stack.at new.stack.at) → plan_awaited new ≡ plan_awaited old → plan_pieces new ≡ plan_pieces old → PlanStays shown old new → TakesOut shown (record { plan = old; judge = state }) (record { plan = new; judge = state })
+takes_out shown state c d old new reads counts once awaited pieces stays = record { judge = refl; before = c; after = d; reads = reads; counts = counts; once = once; awaited = awaited; pieces = pieces; stays = stays }
+
+-- the awaited piece, given as it was taken, is accepted
+pub gives_back : (g : Given) (would : ℕ → Facts → Ruling) (shown : Shown) (state after : ℕ) (piece sieved : Pieced) (old new : Planned) → AwaitsPiece (waiting old) piece → sieved ≡ piece → GivesPiece old sieved g new → GivesOn would state after sieved g (waiting old) (waited old new) → CountsPiece g (plan_pieces old) (plan_pieces new) → SameCounts (plan_trace old) (plan_trace new) → GiveSpends g (plan_work shown old) (plan_work shown new) → (IsAlone old → GiveSpends g (plan_effort shown old) (plan_effort shown new)) → PlanStays shown old new → GivesBack would shown (record { plan = old; judge = state }) (record { plan = new; judge = after })
+gives_back Accepted would shown state after piece sieved old new awaits same gives obeys counted counts lowers less stays = record { piece = sieved; awaits = subst (AwaitsPiece (waiting old)) (sym same) awaits; obeys = obeys; counted = counted; counts = counts; lowers = lowers; less = less; stays = stays }
+gives_back (Stale asked now) would shown state after piece sieved old new awaits same gives obeys counted counts lowers less stays = absurd (gives.0 (subst (AwaitsPiece (waiting old)) (sym same) awaits))
+
+pub back_is : (would : ℕ → Facts → Ruling) (shown : Shown) (a b c : Ruled) → TakesOut shown a b → GivesBack would shown b c → StepsBack would shown a c
+back_is would shown a b c takes gives = record { taken = b; takes = takes; gives = gives }
+
+pub back_moves : (would : ℕ → Facts → Ruling) (shown : Shown) (old new : Ruled) → StepsBack would shown old new → Moves would shown old new
+back_moves would shown old new back = record { moves = Give ∷ Take ∷ []; made = (back.taken, (old, refl, back.takes), back.gives) }
+
+-- a piece was taken, and no memory was found to give it
+pub still_moves : (would : ℕ → Facts → Ruling) (shown : Shown) (state after : ℕ) (old mid new : Planned) → TakesOut shown (record { plan = old; judge = state }) (record { plan = mid; judge = state }) → new ≡ mid → after ≡ state → Moves would shown (record { plan = old; judge = state }) (record { plan = new; judge = after })
+still_moves would shown state after old mid new takes same quiet = rw (same, quiet) (moves_by Take would shown (record { plan = old; judge = state }) (record { plan = mid; judge = state }) takes)
+
+-- none is awaited
+pub none_works : (state : ℕ) (old new : Planned) → plan_awaited old ≡ None → new ≡ old → (plan_awaited old ≡ None) × (◌≡◌ {A = Ruled} (record { plan = new; judge = state }) (record { plan = old; judge = state }))
+none_works state old new none same = (none, ap (λ (p : Planned). record { plan = p; judge = state }) same)
+
+-- Background steps, one after another.
+
+pub less_work : (n m k : ℕ) → m ≤ n → k ≤ m → k ≤ n
+less_work n m k first then = omega (arith, first, then)
+
+next_is : (n : ℕ) → n + 1 ≡ suc n
+next_is n = omega arith
+
+pub backs_more : (done : ℕ) (v w : ℕ → Facts → Ruling) (s t : Shown) (a b c : Ruled) → v ≡ w → s ≡ t → StepsBacks done w t a b → WorksPiece true v s b c → StepsBacks (done + 1) w t a c
+backs_more done v w s t a b c rule seen first back = subst (λ (n : ℕ). StepsBacks n w t a c) (sym (next_is done)) (b, first, turned (λ u x. StepsBack u x b c) v w s t rule seen back)
+
+pub backs_end : (done : ℕ) (w : ℕ → Facts → Ruling) (t : Shown) (a b c : Ruled) → StepsBacks done w t a b → (plan_awaited b.plan ≡ None) × (c ≡ b) → StepsBacks done w t a c
+backs_end done w t a b c first none = subst (StepsBacks done w t a) (sym none.1) first
+
+pub none_then : (b c : Ruled) → (plan_awaited b.plan ≡ None) × (c ≡ b) → plan_awaited c.plan ≡ None
+none_then b c none = subst (λ (s : Ruled). plan_awaited s.plan ≡ None) (sym none.1) none.0
+
+-- each of them is counted
+pub backs_counted : (done : ℕ) (would : ℕ → Facts → Ruling) (shown : Shown) (old new : Ruled) → StepsBacks done would shown old new → plan_pieces new.plan ≡ counted_up (plan_pieces old.plan) done
+backs_counted zero would shown old new steps = ap (λ (s : Ruled). plan_pieces s.plan) steps
+backs_counted (suc n) would shown old new steps = steps.2.gives.counted ∙ ap one_more (steps.2.takes.pieces ∙ backs_counted n would shown old steps.0 steps.1)
+
+pub beside_more : (done : ℕ) (v w : ℕ → Facts → Ruling) (s t : Shown) (a b c : Ruled) → v ≡ w → s ≡ t → StepsBeside done w t a b → stack_builds b.plan.stack ≡ true → WorksPiece true v s b c → StepsBeside (done + 1) w t a c
+beside_more done v w s t a b c rule seen first builds back = subst (λ (n : ℕ). StepsBeside n w t a c) (sym (next_is done)) (b, first, builds, turned (λ u x. StepsBack u x b c) v w s t rule seen back)
+
+-- they end: none is awaited, no retrieval has both sides running, or there were as many as asked
+pub beside_none : (most done : ℕ) (w : ℕ → Facts → Ruling) (t : Shown) (a b c : Ruled) → done < most → StepsBeside done w t a b → (plan_awaited b.plan ≡ None) × (c ≡ b) → Beside most w t a c
+beside_none most done w t a b c less first none = record { done = done; within = omega (arith, less); steps = subst (StepsBeside done w t a) (sym none.1) first; ends = λ l. inr (none_then b c none) }
+
+pub beside_stopped : (most done : ℕ) (w : ℕ → Facts → Ruling) (shown : Shown) (a b : Ruled) → done < most → StepsBeside done w shown a b → stack_builds b.plan.stack ≡ false → Beside most w shown a b
+beside_stopped most done w shown a b less first stopped = record { done = done; within = omega (arith, less); steps = first; ends = λ l. inl stopped }
+
+pub beside_full : (most done : ℕ) (w : ℕ → Facts → Ruling) (shown : Shown) (a b : Ruled) → most ≤ done → done ≤ most → StepsBeside done w shown a b → Beside most w shown a b
+beside_full most done w shown a b full within first = record { done = done; within = within; steps = first; ends = λ l. absurd (omega (arith, full, l)) }
+
+-- Turns of a fetch.
+
+-- a foreground step that brought no end, and the background steps beside it
+pub turn_made : (step : PlanStep) (most : ℕ) (v w : ℕ → Facts → Ruling) (s t : Shown) (a b c : Ruled) → v ≡ w → s ≡ t → StepsFront w t a b → PlanMoves t step a.plan b.plan → (Beside most w t b c → BesideBy step most w t b c) → Beside most v s b c → Turn step most w t a c
+turn_made step most v w s t a b c rule seen front answers is beside = record { stepped = b; front = front; answers = answers; beside = is (turned (λ u x. Beside most u x b c) v w s t rule seen beside) }
+
+pub turn_on : (f : Filled) (most : ℕ) (v w : ℕ → Facts → Ruling) (shown : Shown) (s t : Shown) (old mid new : Open) (state between after : ℕ) → (f ≡ Ended → ⊥) → v ≡ w → s ≡ t → seen_by shown old ≡ t → new.hand ≡ mid.hand → StepsFront w t (ruled old state) (ruled mid between) → Fills shown f old mid → Beside most v s (ruled mid between) (ruled new after) → TurnTo f new.hand most w t (ruled old state) (ruled new after)
+turn_on Brought most v w shown s t old mid new state between after more rule seen at hand front fills beside = (fills.0, hand ∙ fills.1.held, turn_made (Row fills.0) most v w s t (ruled old state) (ruled mid between) (ruled new after) rule seen front (subst (λ (x : Shown). PlanMoves x (Row fills.0) old.plan mid.plan) at fills.1.moves) (λ b. b) beside)
+turn_on Nearer most v w shown s t old mid new state between after more rule seen at hand front fills beside = (hand ∙ fills.held, turn_made Working most v w s t (ruled old state) (ruled mid between) (ruled new after) rule seen front (subst (λ (x : Shown). PlanMoves x Working old.plan mid.plan) at fills.moves) (λ b. b) beside)
+turn_on Ended most v w shown s t old mid new state between after more rule seen at hand front fills beside = absurd (more refl)
+
+pub turn_ends : (most : ℕ) (would : ℕ → Facts → Ruling) (shown : Shown) (old new : Open) (state after : ℕ) → StepsFront would (seen_by shown old) (ruled old state) (ruled new after) → Fills shown Ended old new → TurnTo Ended new.hand most would (seen_by shown old) (ruled old state) (ruled new after)
+turn_ends most would shown old new state after front fills = (fills.held, record { stepped = ruled new after; front = front; answers = fills.moves; beside = refl })
+
+-- a turn that brought a row, which is given
+pub turn_gives : (most : ℕ) (would : ℕ → Facts → Ruling) (shown : Shown) (hand : Option Offer) (replies : Reply × Reply) (state after : ℕ) (old mid new : Planned) → new ≡ mid → TurnTo Brought hand most would shown (record { plan = old; judge = state }) (record { plan = mid; judge = after }) → TurnMoves None (Some replies) most would shown (record { plan = old; judge = state }) (record { plan = new; judge = after })
+turn_gives most would shown hand replies state after old mid new same turn = rw same (Row turn.0, refl, turn.2)
+
+pub turn_nearer : (most : ℕ) (would : ℕ → Facts → Ruling) (shown : Shown) (hand : Option Offer) (a b : Ruled) → TurnTo Nearer hand most would shown a b → TurnMoves None None most would shown a b
+turn_nearer most would shown hand a b turn = (Working, refl, turn.1)
+
+pub turn_last : (most : ℕ) (would : ℕ → Facts → Ruling) (shown : Shown) (hand : Option Offer) (replies : Reply × Reply) (a b : Ruled) → TurnTo Ended hand most would shown a b → TurnMoves None (Some replies) most would shown a b
+turn_last most would shown hand replies a b turn = (End, refl, turn.1)
+
+-- a row that was in hand is given, and nothing else is done
+pub held_turn : (hand : Option Offer) (replies : Reply × Reply) (most : ℕ) (would : ℕ → Facts → Ruling) (shown : Shown) (state : ℕ) (old new : Planned) → IsSome hand → new ≡ old → TurnMoves hand (Some replies) most would shown (record { plan = old; judge = state }) (record { plan = new; judge = state })
+held_turn (Some o) replies most would shown state old new some same = (refl, ap (λ (p : Planned). record { plan = p; judge = state }) same)
+held_turn None replies most would shown state old new some same = absurd (cc)
+
+-- a turn after which the fetch goes on
+pub fetch_round : (hand : Option Offer) (most n : ℕ) (v w : ℕ → Facts → Ruling) (s t : Shown) (a b c : Ruled) → v ≡ w → s ≡ t → Rounds n most w t a b → TurnMoves hand None most v s b c → Rounds (suc n) most w t a c
+fetch_round (Some o) most n v w s t a b c rule seen made turn = absurd (cc)
+fetch_round None most n v w s t a b c rule seen made turn = by turn.0 turn.1 turn.2
+  where
+    by : (m : PlanStep) → RepliesTo m None → Turn m most v s b c → Rounds (suc n) most w t a c
+    by (Row o) replies x = absurd (cc)
+    by End replies x = absurd (cc)
+    by Working replies x = (b, made, turned (λ u y. Round most u y b c) v w s t rule seen (record { stepped = x.stepped; front = x.front; beside = x.beside }))
+
+-- the turn that makes the replies
+pub fetch_ends : (hand : Option Offer) (replies : Reply × Reply) (most n : ℕ) (v w : ℕ → Facts → Ruling) (s t : Shown) (a b c : Ruled) → v ≡ w → s ≡ t → Rounds n most w t a b → TurnMoves hand (Some replies) most v s b c → FetchMoves most w t a c
+fetch_ends (Some o) replies most n v w s t a b c rule seen made turn = record { rounds = n; mid = b; made = made; last = inl turn.1 }
+fetch_ends None replies most n v w s t a b c rule seen made turn = by turn.0 turn.1 turn.2
+  where
+    by : (m : PlanStep) → RepliesTo m (Some replies) → Turn m most v s b c → FetchMoves most w t a c
+    by (Row o) some x = record { rounds = suc n; mid = c; made = (b, made, turned (λ u y. Round most u y b c) v w s t rule seen (record { stepped = x.stepped; front = x.front; beside = x.beside })); last = inl refl }
+    by End some x = record { rounds = n; mid = b; made = made; last = inr (turned (λ u y. StepsFront u y b c) v w s t rule seen (subst (StepsFront v s b) (sym x.beside) x.front)) }
+    by Working some x = absurd (cc)
+
+-- no turn goes on where a row was in hand
+pub held_ends : {X : Type 0} (hand : Option Offer) (most : ℕ) (v : ℕ → Facts → Ruling) (s : Shown) (b c : Ruled) → IsSome hand → TurnMoves hand None most v s b c → X
+held_ends (Some o) most v s b c some turn = absurd (cc)
+held_ends None most v s b c some turn = absurd (cc)

@@ -1,0 +1,166 @@
+-- HOW A CURSOR'S PLAN MOVES: by foreground steps, and by pieces that are taken, sieved and given, upon which the judge is
+-- obeyed.
+use Rattle.std.specs.Prelude.{◌≡◌, ◌⊎◌, ℕ, ◌<◌, ◌≤◌, Bool, true, false, Option, Some, None, IsSome, List, [], ◌∷◌, zero, suc}
+use Rattle.rv_lang.specs.declared.reply.Reply.{Reply}
+use Rattle.rv_model.specs.declared.state.Offer.{Offer}
+use Rattle.rv_judge.specs.declared.judging.Facts.{Facts}
+use Rattle.rv_judge.specs.declared.counting.Counts.{Counts}
+use Rattle.rv_judge.specs.Verdicts.{Ruling}
+use Rattle.rv_judge.specs.Counting.{one_more}
+use Rattle.rv_jscan.specs.Pieces.{Pieced}
+use Rattle.rv_jscan.specs.declared.jscan.Given.TheVariants.{Accepted}
+use Rattle.rv_reader.specs.Shown.{Shown}
+use Rattle.rv_retrieval.specs.Given.{AwaitsPiece}
+use Rattle.rv_retrieval.specs.Rulings.{GivesOn}
+use Rattle.rv_retrieval.specs.Stepping.{piece_read}
+use Rattle.rv_retrieval.specs.Telling.{CountsRise, SameCounts}
+use Rattle.rv_join.specs.Alone.{IsAlone, PlanAsks, StepsOnce, TakesOnce, plan_effort}
+use Rattle.rv_join.specs.Pieces.{plan_awaited, plan_pieces, stack_builds, waited, waiting}
+use Rattle.rv_join.specs.Plans.{PlanMoves, PlanStays, Planned, plan_trace, plan_work}
+use Rattle.rv_join.specs.declared.plan.PlanStep.{PlanStep}
+use Rattle.rv_join.specs.declared.plan.PlanStep.TheVariants.{Row, End, Working}
+use Rattle.rv_cursor.specs.declared.cursor.Open.{Open}
+use Rattle.rv_cursor.specs.declared.cursor.Filled.{Filled}
+use Rattle.rv_cursor.specs.declared.cursor.Filled.TheVariants.{Brought, Nearer, Ended}
+
+-- a plan, and where the judge stands that rules on its scans
+pub record Ruled : Type 0 where
+  pub plan : Planned
+  pub judge : ℕ
+
+-- the plan of a cursor, and where the judge stands
+abbrev pub ruled : Open → ℕ → Ruled
+ruled c state = record { plan = c.plan; judge = state }
+
+-- A FOREGROUND STEP, whatever it answers: at most one step of the innermost open retrieval, which asks the judge as often as
+-- that step does, and obeys it
+pub record StepsFront (would : ℕ → Facts → Ruling) (shown : Shown) (old new : Ruled) : Type 0 where
+  pub asked : new.plan.asked ≡ old.plan.asked
+  pub before : Counts
+  pub after : Counts
+  pub counts : CountsRise (plan_trace old.plan) (plan_trace new.plan) before after
+  pub asks : PlanAsks would old.judge new.judge shown before old.plan new.plan
+  pub once : IsAlone old.plan → StepsOnce would old.judge new.judge shown before after old.plan.stack.at new.plan.stack.at
+  pub work : plan_work shown new.plan ≤ plan_work shown old.plan
+
+-- THE AWAITED PIECE IS TAKEN, or no memory was found for it: its leaf is read where it is not held; it is awaited as before,
+-- and none was counted
+pub record TakesOut (shown : Shown) (old new : Ruled) : Type 0 where
+  pub judge : new.judge ≡ old.judge
+  pub before : Counts
+  pub after : Counts
+  pub reads : after ≡ piece_read (waiting old.plan) before
+  pub counts : CountsRise (plan_trace old.plan) (plan_trace new.plan) before after
+  pub once : IsAlone old.plan → TakesOnce shown before after old.plan.stack.at new.plan.stack.at
+  pub awaited : plan_awaited new.plan ≡ plan_awaited old.plan
+  pub pieces : plan_pieces new.plan ≡ plan_pieces old.plan
+  pub stays : PlanStays shown old.plan new.plan
+
+-- THAT PIECE, SIEVED, IS GIVEN and accepted: where it is not the last of its scan the judge is asked once, and obeyed
+pub record GivesBack (would : ℕ → Facts → Ruling) (shown : Shown) (old new : Ruled) : Type 0 where
+  pub piece : Pieced
+  pub awaits : AwaitsPiece (waiting old.plan) piece
+  pub obeys : GivesOn would old.judge new.judge piece Accepted (waiting old.plan) (waited old.plan new.plan)
+  pub counted : plan_pieces new.plan ≡ one_more (plan_pieces old.plan)
+  pub counts : SameCounts (plan_trace old.plan) (plan_trace new.plan)
+  pub lowers : plan_work shown new.plan < plan_work shown old.plan
+  pub less : IsAlone old.plan → plan_effort shown new.plan < plan_effort shown old.plan
+  pub stays : PlanStays shown old.plan new.plan
+
+-- what happens to a plan
+pub data Move : Type 0 where
+  Front : Move
+  Take : Move
+  Give : Move
+
+abbrev pub MovesBy : Move → (ℕ → Facts → Ruling) → Shown → Ruled → Ruled → Type 0
+MovesBy Front would shown old new = StepsFront would shown old new
+MovesBy Take would shown old new = TakesOut shown old new
+MovesBy Give would shown old new = GivesBack would shown old new
+
+-- these one after another, the last one first in the list
+abbrev pub MovesByAll : List Move → (ℕ → Facts → Ruling) → Shown → Ruled → Ruled → Type 0
+MovesByAll [] would shown old new = new ≡ old
+MovesByAll (move ∷ moves) would shown old new = (mid : Ruled) × MovesByAll moves would shown old mid × MovesBy move would shown mid new
+
+-- A PLAN MOVED by foreground steps and pieces taken, sieved and given alone
+pub record Moves (would : ℕ → Facts → Ruling) (shown : Shown) (old new : Ruled) : Type 0 where
+  pub moves : List Move
+  pub made : MovesByAll moves would shown old new
+
+-- A BACKGROUND STEP: the awaited piece is taken, sieved and given
+pub record StepsBack (would : ℕ → Facts → Ruling) (shown : Shown) (old new : Ruled) : Type 0 where
+  pub taken : Ruled
+  pub takes : TakesOut shown old taken
+  pub gives : GivesBack would shown taken new
+
+-- a background step, or none since no piece is awaited
+abbrev pub WorksPiece : Bool → (ℕ → Facts → Ruling) → Shown → Ruled → Ruled → Type 0
+WorksPiece true would shown old new = StepsBack would shown old new
+WorksPiece false would shown old new = (plan_awaited old.plan ≡ None) × (new ≡ old)
+
+-- so many background steps
+abbrev pub StepsBacks : ℕ → (ℕ → Facts → Ruling) → Shown → Ruled → Ruled → Type 0
+StepsBacks zero would shown old new = new ≡ old
+StepsBacks (suc n) would shown old new = (mid : Ruled) × StepsBacks n would shown old mid × StepsBack would shown mid new
+
+-- so many of them, each while both sides of some retrieval run
+abbrev pub StepsBeside : ℕ → (ℕ → Facts → Ruling) → Shown → Ruled → Ruled → Type 0
+StepsBeside zero would shown old new = new ≡ old
+StepsBeside (suc n) would shown old new = (mid : Ruled) × StepsBeside n would shown old mid × (stack_builds mid.plan.stack ≡ true) × StepsBack would shown mid new
+
+-- up to so many of them; fewer only where no retrieval has both sides running, or none awaits a piece
+pub record Beside (most : ℕ) (would : ℕ → Facts → Ruling) (shown : Shown) (old new : Ruled) : Type 0 where
+  pub done : ℕ
+  pub within : done ≤ most
+  pub steps : StepsBeside done would shown old new
+  pub ends : done < most → (stack_builds new.plan.stack ≡ false) ⊎ (plan_awaited new.plan ≡ None)
+
+-- A ROUND OF A FETCH: a foreground step, and up to so many background steps behind it
+pub record Round (most : ℕ) (would : ℕ → Facts → Ruling) (shown : Shown) (old new : Ruled) : Type 0 where
+  pub stepped : Ruled
+  pub front : StepsFront would shown old stepped
+  pub beside : Beside most would shown stepped new
+
+abbrev pub Rounds : ℕ → ℕ → (ℕ → Facts → Ruling) → Shown → Ruled → Ruled → Type 0
+Rounds zero most would shown old new = new ≡ old
+Rounds (suc n) most would shown old new = (mid : Ruled) × Rounds n most would shown old mid × Round most would shown mid new
+
+-- A FETCH: rounds, and at the end of what is left one more foreground step, which finds it
+pub record FetchMoves (most : ℕ) (would : ℕ → Facts → Ruling) (shown : Shown) (old new : Ruled) : Type 0 where
+  pub rounds : ℕ
+  pub mid : Ruled
+  pub made : Rounds rounds most would shown old mid
+  pub last : (new ≡ mid) ⊎ StepsFront would shown mid new
+
+-- A TURN OF A FETCH, which is what it does before another call may come between.
+
+-- beside a step that finds the end nothing is done
+abbrev pub BesideBy : PlanStep → ℕ → (ℕ → Facts → Ruling) → Shown → Ruled → Ruled → Type 0
+BesideBy (Row o) most would shown old new = Beside most would shown old new
+BesideBy End most would shown old new = new ≡ old
+BesideBy Working most would shown old new = Beside most would shown old new
+
+-- a foreground step that answers this, and the background steps beside it
+pub record Turn (step : PlanStep) (most : ℕ) (would : ℕ → Facts → Ruling) (shown : Shown) (old new : Ruled) : Type 0 where
+  pub stepped : Ruled
+  pub front : StepsFront would shown old stepped
+  pub answers : PlanMoves shown step old.plan stepped.plan
+  pub beside : BesideBy step most would shown stepped new
+
+-- the same of a step that came to this, with what is then in hand
+abbrev pub TurnTo : Filled → Option Offer → ℕ → (ℕ → Facts → Ruling) → Shown → Ruled → Ruled → Type 0
+TurnTo Brought hand most would shown old new = (o : Offer) × (hand ≡ Some o) × Turn (Row o) most would shown old new
+TurnTo Nearer hand most would shown old new = (hand ≡ None) × Turn Working most would shown old new
+TurnTo Ended hand most would shown old new = (hand ≡ None) × Turn End most would shown old new
+
+-- a reply is made where a row was brought or the end was found, and none exactly where the step answered Working
+abbrev pub RepliesTo : PlanStep → Option (Reply × Reply) → Type 0
+RepliesTo (Row o) replies = IsSome replies
+RepliesTo End replies = IsSome replies
+RepliesTo Working replies = replies ≡ None
+
+-- where a row is in hand, it is given and nothing else is done
+abbrev pub TurnMoves : Option Offer → Option (Reply × Reply) → ℕ → (ℕ → Facts → Ruling) → Shown → Ruled → Ruled → Type 0
+TurnMoves (Some o) replies most would shown old new = IsSome replies × (new ≡ old)
+TurnMoves None replies most would shown old new = (step : PlanStep) × RepliesTo step replies × Turn step most would shown old new

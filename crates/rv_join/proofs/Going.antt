@@ -1,0 +1,50 @@
+-- How nested loops go on, and what a step of a plan asks.
+use Rattle.std.proofs.Common.{◌≡◌, ℕ, List, [], ◌∷◌, ◌++◌, Result, Ok, Err, IfOk, OnOk, OnErr, refl, ap, sym, ◌∙◌, subst, inl, inr}
+use Rattle.rv_judge.specs.declared.counting.Counts.{Counts}
+use Rattle.rv_judge.specs.declared.judging.Facts.{Facts}
+use Rattle.rv_judge.specs.Verdicts.{Ruling}
+use Rattle.rv_reader.specs.Shown.{Shown}
+use Rattle.rv_join.specs.declared.level.Level.{Level}
+use Rattle.rv_join.specs.Alone.{GoesOn, IsAlone, PlanAsks, PlanSpends, StackAsks, StepsOnce, level_effort, plan_effort}
+use Rattle.rv_join.specs.Alone.Onward.{Rests, Uses, Opens, Returns}
+use Rattle.rv_join.specs.Levels.{Stacked, down, used}
+use Rattle.rv_join.specs.Plans.{Planned}
+use Rattle.rv_join.specs.declared.plan.PlanStep.{PlanStep}
+
+pub goes_not : (v : Stacked) → GoesOn v v
+goes_not v = (Rests, refl)
+
+pub goes_same : (old new : Stacked) → new ≡ old → GoesOn old new
+goes_same old new same = (Rests, same)
+
+pub goes_down : (old new : Stacked) (inner : Level) → new ≡ down old inner → GoesOn old new
+goes_down old new inner is = (Opens inner, is)
+
+-- the row that is held was used, or no memory was found for that
+pub goes_used : {X E : Type 0} (r : Result X E) (old new : Stacked) → OnOk r (new ≡ used old) → OnErr r (new ≡ old) → GoesOn old new
+goes_used (Ok x) old new ok err = (Uses, ok)
+goes_used (Err e) old new ok err = (Rests, err)
+
+pub goes_up : (old new : Stacked) → old.above ≡ new.above ++ new.at ∷ [] → new.openings ≡ old.openings → GoesOn old new
+goes_up old new above openings = (Returns, (above, openings))
+
+-- the innermost retrieval was called, and the loops went on
+pub calls_on : (would : ℕ → Facts → Ruling) (state after : ℕ) (shown : Shown) (c d : Counts) (old mid new : Stacked) → mid ≡ record old { at = mid.at } → StepsOnce would state after shown c d old.at mid.at → GoesOn mid new → StackAsks would state after shown c old new
+calls_on would state after shown c d old mid new same once goes = inl (record { level = mid.at; counts = d; once = once; goes = subst (λ (v : Stacked). GoesOn v new) same goes })
+
+pub calls_at : (would : ℕ → Facts → Ruling) (state after : ℕ) (shown : Shown) (c d : Counts) (old mid : Stacked) → mid ≡ record old { at = mid.at } → StepsOnce would state after shown c d old.at mid.at → StackAsks would state after shown c old mid
+calls_at would state after shown c d old mid same once = calls_on would state after shown c d old mid mid same once (goes_not mid)
+
+-- nothing was called
+pub asks_none : (would : ℕ → Facts → Ruling) (state after : ℕ) (shown : Shown) (c : Counts) (old new : Stacked) → new ≡ old → after ≡ state → StackAsks would state after shown c old new
+asks_none would state after shown c old new same quiet = inr (same, quiet)
+
+-- behind the step the stack stays
+pub asks_then : (would : ℕ → Facts → Ruling) (state after : ℕ) (shown : Shown) (c : Counts) (old mid new : Planned) → PlanAsks would state after shown c old mid → new.stack ≡ mid.stack → PlanAsks would state after shown c old new
+asks_then would state after shown c old mid new asks same = subst (λ (v : Stacked). StackAsks would state after shown c old.stack v) (sym same) asks
+
+pub once_then : (would : ℕ → Facts → Ruling) (state after : ℕ) (shown : Shown) (c d : Counts) (old mid new : Planned) → (IsAlone old → StepsOnce would state after shown c d old.stack.at mid.stack.at) → new.stack ≡ mid.stack → IsAlone old → StepsOnce would state after shown c d old.stack.at new.stack.at
+once_then would state after shown c d old mid new once same one = subst (λ (v : Stacked). StepsOnce would state after shown c d old.stack.at v.at) (sym same) (once one)
+
+pub spends_then : {E : Type 0} (r : Result PlanStep E) (shown : Shown) (c d : Counts) (old mid new : Planned) → (IsAlone old → IfOk r (λ m. PlanSpends m c d (plan_effort shown old) (plan_effort shown mid))) → new.stack ≡ mid.stack → IsAlone old → IfOk r (λ m. PlanSpends m c d (plan_effort shown old) (plan_effort shown new))
+spends_then r shown c d old mid new spends same one = subst (λ (v : Stacked). IfOk r (λ m. PlanSpends m c d (plan_effort shown old) (level_effort shown v.at))) (sym same) (spends one)
