@@ -66,14 +66,17 @@ named_got opens session place name e =
     get_there opens place within
 
 rests : (would : ℕ → Facts → Ruling) (shown : Shown) (p : Plans) (place : ℕ) → (c : Open) × (slice_get p.opens place ≡ Some c) → MovesNamed (AnyOf would) shown (Some place) p p
-rests would shown p place there = (refl, record {
-  before = there.0;
-  after = there.0;
-  here = there.1;
-  set = sym (set_got p.opens place there.0 there.1);
-  same = record { session = refl; name = refl; number = refl; snap = refl; asked = refl };
-  moved = record { moves = []; made = refl };
-})
+rests would shown p place there = (
+  refl,
+  record {
+    before = there.0;
+    after = there.0;
+    here = there.1;
+    set = sym (set_got p.opens place there.0 there.1);
+    same = record { session = refl; name = refl; number = refl; snap = refl; asked = refl };
+    moved = record { moves = []; made = refl };
+  },
+)
 
 rests_named : (would : ℕ → Facts → Ruling) (shown : Shown) (p : Plans) (session : ℕ) (name : List ℕ) (o : Option ℕ) → open_named p.opens session name ≡ o → MovesNamed (AnyOf would) shown o p p
 rests_named would shown p session name None e = refl

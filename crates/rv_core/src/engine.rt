@@ -145,12 +145,18 @@ impl<S: Store + Reader<Ledger = Uncounted> + Drop> Engine<S> {
     {
         let copy = Text::read(self.alloc, text)?;
         self.history.reserve(1)?;
-        let (reply, kept) =
-            match answer_step(self.alloc, &mut self.database, session, text, judge, beside) {
-                Ok(Some(replies)) => replies,
-                Ok(None) => return Ok(PartOf::Working),
-                Err(NoMemory) => return Err(NoMemory),
-            };
+        let (reply, kept) = match answer_step(
+            self.alloc,
+            &mut self.database,
+            session,
+            text,
+            judge,
+            beside,
+        ) {
+            Ok(Some(replies)) => replies,
+            Ok(None) => return Ok(PartOf::Working),
+            Err(NoMemory) => return Err(NoMemory),
+        };
         self.database.sweep();
         self.history
             .push(Entry {
