@@ -1,6 +1,6 @@
 #!/usr/bin/env bash
-# Runs the tests of the tools, the examples by the slow model, and the check of the pages. It takes under a minute, and needs
-# Python alone. Where PROGRAM is there, the examples are run by it too.
+# Runs the tests of the tools, the examples by the slow model, the check of the pages, and that of the definitions which
+# docs/BELIEVE.md lists. It takes under a minute, and needs Python alone. Where PROGRAM is there, the examples are run by it too.
 #
 # usage: tools/check_tools.sh [PROGRAM]
 program=${1:+$(realpath -m "$1")}
@@ -12,4 +12,5 @@ if [ -x "$program" ]; then
     ./doc_examples.py "$program" || status=1
 fi
 ./check_pages.py --test && ./check_pages.py --coming docs/AUDIT.md || status=1
+./believed.py --test && ./believed.py --check || status=1
 exit $status
