@@ -6,6 +6,7 @@ use std::env::{Env, FillError};
 use std::test::Fail;
 
 /// A machine that hands these words.
+#[derive(Drop)]
 struct Handed<'a> {
     words: &'a [&'a [u8]],
 }
