@@ -1,6 +1,7 @@
 #!/usr/bin/env bash
 # Runs the tests of the tools, the examples by the slow model, the check of the pages, and that of the definitions which
-# docs/BELIEVE.md lists. It takes under a minute, and needs Python alone. Where PROGRAM is there, the examples are run by it too.
+# docs/BELIEVE.md lists. It takes under a minute, and needs Python alone. Where PROGRAM is there, the examples and the table of
+# hostile use are run by it too.
 #
 # usage: tools/check_tools.sh [PROGRAM]
 program=${1:+$(realpath -m "$1")}
@@ -10,6 +11,7 @@ python3 -m unittest discover -q -s tests -t . || status=1
 ./doc_examples.py || status=1
 if [ -x "$program" ]; then
     ./doc_examples.py "$program" || status=1
+    ./hostile_table.py "$program" || status=1
 fi
 ./check_pages.py --test && ./check_pages.py --coming docs/AUDIT.md || status=1
 ./believed.py --test && ./believed.py --check || status=1
