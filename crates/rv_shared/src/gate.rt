@@ -1,0 +1,23 @@
+//! Where threads tell how far they are, outside their turns.
+
+/// A place outside the turns.
+#[derive(Clone, Copy, PartialEq, Eq, Debug)]
+pub enum Place {
+    /// A worker has taken a piece.
+    Cut,
+    /// The session of this number has its answer.
+    Answered(u8),
+}
+
+/// What threads pass at a place. A gate may hold a thread there, which holds up no other.
+pub trait Gate {
+    fn at(&self, place: Place);
+}
+
+/// A gate that lets all threads pass.
+#[derive(Drop)]
+pub struct OpenGate;
+
+impl Gate for OpenGate {
+    fn at(&self, _place: Place) {}
+}
