@@ -1,0 +1,14 @@
+mod Chains
+mod Derivations
+mod KindsSame
+mod LegalSame
+mod LimitsSame
+mod NamesSame
+mod PlainHistories
+mod PlainLists
+mod PlainNames
+mod PlainSteps
+mod PlainTexts
+mod PlainTraces
+mod Resolution
+mod Texts
