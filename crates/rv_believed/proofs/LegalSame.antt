@@ -1,19 +1,22 @@
 -- Bridge: legal over the grammar and the believed names is legal by the working definitions, and back.
-use Rattle.std.proofs.Common.{◌≡◌, ℕ, List, [], ◌∷◌, Option, Some, None, Result, refl, sym, ap, ◌∙◌, subst}
+use Rattle.std.proofs.Common.{◌≡◌, ℕ, List, [], ◌∷◌, Option, Some, None, Result, refl, sym, ◌∙◌, subst}
 use Rattle.rv_lang.specs.declared.reply.Refusal.{Refusal}
 use Rattle.rv_lang.specs.declared.statement.Statement.{Statement}
 use Rattle.rv_parse.specs.Reading.{statement_of}
 use Rattle.rv_catalog.specs.declared.def.Resolved.{Resolved}
+use Rattle.rv_catalog.specs.Resolve.{resolved}
 use Rattle.rv_model.specs.declared.entry.Entry.{Entry}
 use Rattle.rv_model.specs.declared.state.State.{State}
 use Rattle.rv_model.specs.Database.{empty}
-use Rattle.rv_model.specs.Step.{Allows, AllowsAsked, next, next_asked}
+use Rattle.rv_model.specs.Step.{Allows, next}
 use Rattle.rv_model.specs.History as today
 use Rattle.rv_model.specs.History.{after_from, stepped}
 use Rattle.rv_believed.specs.Grammar.{Says}
 use Rattle.rv_believed.specs.History.{Answers, says, says_none, Leads, IsLegal}
+use Rattle.rv_believed.specs.Step.{DoesAsked}
 use Rattle.rv_believed.proofs.Texts.{SaysIsRead, ReadIsSaid}
 use Rattle.rv_believed.proofs.Resolution.{resolution_same}
+use Rattle.rv_believed.proofs.StepSame.{does_from, does_to}
 
 abbrev IsSomething : {X : Type 0} → Option X → Type 0
 IsSomething None = ⊥
@@ -28,10 +31,8 @@ answer_by : SaysIsRead → ReadIsSaid → (s : State) (e : Entry) (o : Option St
     → Allows s e.session o e.reply → Answers s e (next s e.session o e.reply)
 answer_by read said s e None p allowed = says_none (λ statement h. none_some (sym p ∙ read e.text statement h)) allowed refl
 answer_by read said s e (Some statement) p allowed = says statement (said e.text statement p)
-    (record {
-      reply = subst (λ (r : Result Resolved Refusal). AllowsAsked r s e.session e.reply) (sym (resolution_same s.schema statement)) allowed;
-      database = ap (λ (r : Result Resolved Refusal). next_asked r s e.session e.reply) (sym (resolution_same s.schema statement));
-    })
+  (subst (λ (r : Result Resolved Refusal). DoesAsked s e.session r e.reply (next s e.session (Some statement) e.reply)) (sym (resolution_same s.schema statement))
+    (does_to (resolved s.schema statement) s e.session e.reply (next s e.session (Some statement) e.reply) (allowed, refl)))
 
 leads_from : SaysIsRead → ReadIsSaid → (s : State) (phase : ℕ) (es : List Entry) → today.IsLegalFrom s phase es
     → Leads s phase es (after_from s es)
@@ -62,10 +63,10 @@ none_by said text none None p = refl
 none_by said text none (Some statement) p = absurd (none statement (said text statement p))
 
 answered : SaysIsRead → ReadIsSaid → (s : State) (e : Entry) (new : State) → Answers s e new → Comes s e new (statement_of e.text)
-answered read said s e new (says statement h does) = subst (Comes s e new) (sym (read e.text statement h)) (
-  subst (λ (r : Result Resolved Refusal). AllowsAsked r s e.session e.reply) (resolution_same s.schema statement) does.reply,
-  does.database ∙ ap (λ (r : Result Resolved Refusal). next_asked r s e.session e.reply) (resolution_same s.schema statement),
-)
+answered read said s e new (says statement h does) = subst (Comes s e new) (sym (read e.text statement h))
+  (let works = does_from (resolved s.schema statement) s e.session e.reply new
+      (subst (λ (r : Result Resolved Refusal). DoesAsked s e.session r e.reply new) (resolution_same s.schema statement) does) in
+  (works.0, works.1))
 answered read said s e new (says_none none refused same) = subst (Comes s e new) (sym (none_by said e.text none (statement_of e.text) refl)) (refused, same)
 
 legal_on : SaysIsRead → ReadIsSaid → (s : State) (phase : ℕ) (es : List Entry) (last : State) → Leads s phase es last

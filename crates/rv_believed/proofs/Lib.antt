@@ -11,4 +11,9 @@ mod PlainSteps
 mod PlainTexts
 mod PlainTraces
 mod Resolution
+mod RunsBack
+mod RunsSame
+mod ShowsSame
+mod StepSame
 mod Texts
+mod Told

@@ -1,6 +1,8 @@
 -- Every entry of a legal history whose text is a line is plain.
-use Rattle.std.proofs.Common.{ℕ, List, [], ◌∷◌, sym, subst}
+use Rattle.std.proofs.Common.{ℕ, List, [], ◌∷◌, Result, sym, subst}
 use Rattle.std.specs.List.{AllByRecursion}
+use Rattle.rv_lang.specs.declared.reply.Refusal.{Refusal}
+use Rattle.rv_catalog.specs.declared.def.Resolved.{Resolved}
 use Rattle.rv_model.specs.declared.entry.Entry.{Entry}
 use Rattle.rv_model.specs.declared.state.State.{State}
 use Rattle.rv_model.specs.Database.{empty}
@@ -10,12 +12,15 @@ use Rattle.rv_believed.specs.Plain.{IsLineOfText, IsPlain, IsPlainReply, LegalIs
 use Rattle.rv_believed.proofs.PlainNames.{resolution_comes}
 use Rattle.rv_believed.proofs.PlainSteps.{IsPlainState, step_keeps}
 use Rattle.rv_believed.proofs.PlainTexts.{says_plain}
+use Rattle.rv_believed.proofs.StepSame.{does_from}
 
 answer_keeps : (s : State) (e : Entry) (new : State) → IsPlainState s → Answers s e new → IsPlainReply e.reply × IsPlainState new
 answer_keeps s e new h (says statement said does) =
-    let kept = step_keeps (resolution s.schema.tables s.schema.indexes statement) s e.session e.reply h
-    (resolution_comes s.schema.tables s.schema.indexes h.tables statement (says_plain e.text statement said)) does.reply in
-    (kept.0, subst IsPlainState (sym does.database) kept.1)
+  let asks : Result Resolved Refusal = resolution s.schema.tables s.schema.indexes statement in
+  let works = does_from asks s e.session e.reply new does in
+  let kept = step_keeps asks s e.session e.reply h
+      (resolution_comes s.schema.tables s.schema.indexes h.tables statement (says_plain e.text statement said)) works.0 in
+  (kept.0, subst IsPlainState (sym works.1) kept.1)
 answer_keeps s e new h (says_none none refused same) = (subst IsPlainReply (sym refused) tt, subst IsPlainState (sym same) h)
 
 leads_plain : (s : State) (phase : ℕ) (es : List Entry) (last : State) → IsPlainState s → Leads s phase es last

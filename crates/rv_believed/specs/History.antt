@@ -6,19 +6,14 @@ use Rattle.rv_lang.specs.declared.statement.Statement.{Statement}
 use Rattle.rv_model.specs.declared.entry.Entry.{Entry}
 use Rattle.rv_model.specs.declared.state.State.{State}
 use Rattle.rv_model.specs.Database.{empty}
-use Rattle.rv_model.specs.Step.{AllowsAsked, next_asked}
 use Rattle.rv_believed.specs.Grammar.{Says}
 use Rattle.rv_believed.specs.Names.{resolution}
+use Rattle.rv_believed.specs.Step.{DoesAsked}
 
--- A statement is answered: the reply is one that may be given to what it asks, and the new database is
--- the one that comes of it.
-pub record Does (s : State) (statement : Statement) (e : Entry) (new : State) : Type 0 where
-  pub reply : AllowsAsked (resolution s.schema.tables s.schema.indexes statement) s e.session e.reply
-  pub database : new ≡ next_asked (resolution s.schema.tables s.schema.indexes statement) s e.session e.reply
-
--- ONE CALL: its text says a statement, which is answered; or it says none, which is refused.
+-- ONE CALL: its text says a statement, which does what it does; or it says none, which is refused.
 pub data Answers (s : State) (e : Entry) (new : State) : Type 0 where
-  says : (statement : Statement) → Says e.text statement → Does s statement e new
+  says : (statement : Statement) → Says e.text statement
+    → DoesAsked s e.session (resolution s.schema.tables s.schema.indexes statement) e.reply new
       → Answers s e new
   says_none : ((statement : Statement) → Says e.text statement → ⊥)
       → e.reply ≡ Refused Syntax → new ≡ s → Answers s e new

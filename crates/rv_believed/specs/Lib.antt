@@ -1,6 +1,10 @@
 pub mod Answers
+pub mod Course
 pub mod Grammar
+pub mod Held
 pub mod History
 pub mod Limits
 pub mod Names
 pub mod Plain
+pub mod Runs
+pub mod Step
