@@ -31,7 +31,7 @@ answer_by : SaysIsRead → ReadIsSaid → (s : State) (e : Entry) (o : Option St
     → Allows s e.session o e.reply → Answers s e (next s e.session o e.reply)
 answer_by read said s e None p allowed = says_none (λ statement h. none_some (sym p ∙ read e.text statement h)) allowed refl
 answer_by read said s e (Some statement) p allowed = says statement (said e.text statement p)
-  (subst (λ (r : Result Resolved Refusal). DoesAsked s e.session r e.reply (next s e.session (Some statement) e.reply)) (sym (resolution_same s.schema statement))
+    (subst (λ (r : Result Resolved Refusal). DoesAsked s e.session r e.reply (next s e.session (Some statement) e.reply)) (sym (resolution_same s.schema statement))
     (does_to (resolved s.schema statement) s e.session e.reply (next s e.session (Some statement) e.reply) (allowed, refl)))
 
 leads_from : SaysIsRead → ReadIsSaid → (s : State) (phase : ℕ) (es : List Entry) → today.IsLegalFrom s phase es
@@ -64,9 +64,9 @@ none_by said text none (Some statement) p = absurd (none statement (said text st
 
 answered : SaysIsRead → ReadIsSaid → (s : State) (e : Entry) (new : State) → Answers s e new → Comes s e new (statement_of e.text)
 answered read said s e new (says statement h does) = subst (Comes s e new) (sym (read e.text statement h))
-  (let works = does_from (resolved s.schema statement) s e.session e.reply new
-      (subst (λ (r : Result Resolved Refusal). DoesAsked s e.session r e.reply new) (resolution_same s.schema statement) does) in
-  (works.0, works.1))
+    (let works = does_from (resolved s.schema statement) s e.session e.reply new
+    (subst (λ (r : Result Resolved Refusal). DoesAsked s e.session r e.reply new) (resolution_same s.schema statement) does) in
+    (works.0, works.1))
 answered read said s e new (says_none none refused same) = subst (Comes s e new) (sym (none_by said e.text none (statement_of e.text) refl)) (refused, same)
 
 legal_on : SaysIsRead → ReadIsSaid → (s : State) (phase : ℕ) (es : List Entry) (last : State) → Leads s phase es last

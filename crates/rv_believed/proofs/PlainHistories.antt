@@ -16,11 +16,11 @@ use Rattle.rv_believed.proofs.StepSame.{does_from}
 
 answer_keeps : (s : State) (e : Entry) (new : State) → IsPlainState s → Answers s e new → IsPlainReply e.reply × IsPlainState new
 answer_keeps s e new h (says statement said does) =
-  let asks : Result Resolved Refusal = resolution s.schema.tables s.schema.indexes statement in
-  let works = does_from asks s e.session e.reply new does in
-  let kept = step_keeps asks s e.session e.reply h
-      (resolution_comes s.schema.tables s.schema.indexes h.tables statement (says_plain e.text statement said)) works.0 in
-  (kept.0, subst IsPlainState (sym works.1) kept.1)
+    let asks : Result Resolved Refusal = resolution s.schema.tables s.schema.indexes statement in
+    let works = does_from asks s e.session e.reply new does in
+    let kept = step_keeps asks s e.session e.reply h
+    (resolution_comes s.schema.tables s.schema.indexes h.tables statement (says_plain e.text statement said)) works.0 in
+    (kept.0, subst IsPlainState (sym works.1) kept.1)
 answer_keeps s e new h (says_none none refused same) = (subst IsPlainReply (sym refused) tt, subst IsPlainState (sym same) h)
 
 leads_plain : (s : State) (phase : ℕ) (es : List Entry) (last : State) → IsPlainState s → Leads s phase es last

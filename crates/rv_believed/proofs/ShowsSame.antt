@@ -41,7 +41,7 @@ other_numbers : (k i : ℕ) → i ≢ k → nat_eq k i ≡ false
 other_numbers k i h = not_equal k i h (nat_eq k i) refl
 
 contains_by : (n i : ℕ) (ns : List ℕ) → (b : Bool) → nat_eq n i ≡ b → (b || has_index i ns) ≡ true → (has_index i ns ≡ true → Contains ns i)
-  → Contains (n ∷ ns) i
+    → Contains (n ∷ ns) i
 contains_by n i ns true e h rest = (0, omega arith, equal_numbers n i e)
 contains_by n i ns false e h rest = let it = rest h in (suc it.0, (let lt = it.1 in omega (arith, lt)), it.2)
 
@@ -72,7 +72,7 @@ and_parts false b e = no_false e
 known_to : (ns planned : List ℕ) → list_all (λ i. has_index i ns) planned ≡ true → AllByRecursion (Contains ns) planned
 known_to ns [] h = tt
 known_to ns (i ∷ planned) h = let parts = and_parts (has_index i ns) (list_all (λ k. has_index k ns) planned) h in
-  (contains_of i ns parts.0, known_to ns planned parts.1)
+    (contains_of i ns parts.0, known_to ns planned parts.1)
 
 known_from : (ns planned : List ℕ) → AllByRecursion (Contains ns) planned → list_all (λ i. has_index i ns) planned ≡ true
 known_from ns [] h = refl
@@ -87,7 +87,7 @@ or_parts false b e = (refl, e)
 differs_to : (i : ℕ) (ns : List ℕ) → has_index i ns ≡ false → AllByRecursion (λ j. i ≢ j) ns
 differs_to i [] h = tt
 differs_to i (n ∷ ns) h = let parts = or_parts (nat_eq n i) (has_index i ns) h in
-  ((λ e. no_false (sym parts.0 ∙ ap (λ k. nat_eq k i) (sym e) ∙ same_number i)), differs_to i ns parts.1)
+    ((λ e. no_false (sym parts.0 ∙ ap (λ k. nat_eq k i) (sym e) ∙ same_number i)), differs_to i ns parts.1)
 
 differs_from : (i : ℕ) (ns : List ℕ) → AllByRecursion (λ j. i ≢ j) ns → has_index i ns ≡ false
 differs_from i [] h = refl
@@ -158,27 +158,38 @@ begins_same s = λ k. At s.control ∷ scan_same s.scan k
 
 pub allowed_to : (trace : Trace) (indexes : List ℕ) → today.Allowed trace indexes → Allowed trace indexes
 allowed_to trace indexes a =
-  let c : Control = today.first_control trace.strategy a.planned in
-  record { planned = a.planned; known = known_to indexes a.planned a.known; once = once_to a.planned a.once;
-    control = c; first = first_to trace.strategy a.planned a.scanned;
-    rest = today.run_events trace.strategy (today.at_control c a.planned) a.turns;
-    run = subst (λ s. Runs trace.strategy s (today.run_events trace.strategy (today.at_control c a.planned) a.turns)) (start_same c a.planned)
-      (runs trace.strategy a.turns (today.at_control c a.planned) a.run);
-    told = a.told ∙ ap (λ es. es ++ today.run_events trace.strategy (today.at_control c a.planned) a.turns)
-      (begins_same (today.at_control c a.planned) ∙ ap start_events (start_same c a.planned)) }
+    let c : Control = today.first_control trace.strategy a.planned in
+    record {
+      planned = a.planned;
+      known = known_to indexes a.planned a.known;
+      once = once_to a.planned a.once;
+      control = c;
+      first = first_to trace.strategy a.planned a.scanned;
+      rest = today.run_events trace.strategy (today.at_control c a.planned) a.turns;
+      run = subst (λ s. Runs trace.strategy s (today.run_events trace.strategy (today.at_control c a.planned) a.turns)) (start_same c a.planned)
+          (runs trace.strategy a.turns (today.at_control c a.planned) a.run);
+      told = a.told ∙ ap (λ es. es ++ today.run_events trace.strategy (today.at_control c a.planned) a.turns)
+          (begins_same (today.at_control c a.planned) ∙ ap start_events (start_same c a.planned));
+    }
 
 pub allowed_from : (trace : Trace) (indexes : List ℕ) → Allowed trace indexes → today.Allowed trace indexes
 allowed_from trace indexes a =
-  let first = first_from trace.strategy a.planned a.control a.first in
-  let same : today.start trace.strategy a.planned ≡ start a.control a.planned =
-      ap (λ c. today.at_control c a.planned) first.1 ∙ start_same a.control a.planned in
-  let back : BackRun trace.strategy (today.start trace.strategy a.planned) a.rest =
-      subst (λ s. BackRun trace.strategy s a.rest) (sym same) (runs_back trace.strategy (start a.control a.planned) a.rest a.run) in
-  record { planned = a.planned; known = known_from indexes a.planned a.known; once = once_from a.planned a.once; scanned = first.0;
-    turns = back.0; run = back.1;
-    told = a.told
-      ∙ ap (λ es. es ++ a.rest) (ap start_events (sym same) ∙ sym (begins_same (today.start trace.strategy a.planned)))
-      ∙ ap (λ es. today.start_events trace.strategy a.planned ++ es) (sym back.2) }
+    let first = first_from trace.strategy a.planned a.control a.first in
+    let same : today.start trace.strategy a.planned ≡ start a.control a.planned =
+    ap (λ c. today.at_control c a.planned) first.1 ∙ start_same a.control a.planned in
+    let back : BackRun trace.strategy (today.start trace.strategy a.planned) a.rest =
+    subst (λ s. BackRun trace.strategy s a.rest) (sym same) (runs_back trace.strategy (start a.control a.planned) a.rest a.run) in
+    record {
+      planned = a.planned;
+      known = known_from indexes a.planned a.known;
+      once = once_from a.planned a.once;
+      scanned = first.0;
+      turns = back.0;
+      run = back.1;
+      told = a.told
+          ∙ ap (λ es. es ++ a.rest) (ap start_events (sym same) ∙ sym (begins_same (today.start trace.strategy a.planned)))
+          ∙ ap (λ es. today.start_events trace.strategy a.planned ++ es) (sym back.2);
+    }
 
 pub shows_to : (indexes : List IndexDef) (table : ℕ) (shown : Shown) → ShowsTrace indexes table shown → Shows indexes table shown
 shows_to indexes table shown s = record { trace = s.trace; allowed = allowed_to s.trace (numbers_over table 0 indexes) s.allowed; names = s.names }

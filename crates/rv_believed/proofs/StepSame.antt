@@ -62,7 +62,7 @@ fetch_from (Some place) s name (Trace shown) new d = absurd d
 fetch_from (Some place) s name (Refused refusal) new d = absurd d
 
 stepped_to : (o : Option ℕ) (s : State) (name : List ℕ) (n : ℕ) (reply : Reply) (new : State) → AllowsStep o name n reply → new ≡ s
-  → OfCursor o s name (λ place. StepsBy n reply × (new ≡ s)) reply new
+    → OfCursor o s name (λ place. StepsBy n reply × (new ≡ s)) reply new
 stepped_to None s name n reply new w q = (w, q)
 stepped_to (Some place) s name n (Stepped m) new w q = (w, q)
 stepped_to (Some place) s name n Created new w q = absurd w
@@ -79,7 +79,7 @@ stepped_to (Some place) s name n (Trace shown) new w q = absurd w
 stepped_to (Some place) s name n (Refused refusal) new w q = absurd w
 
 stepped_from : (o : Option ℕ) (s : State) (name : List ℕ) (n : ℕ) (reply : Reply) (new : State)
-  → OfCursor o s name (λ place. StepsBy n reply × (new ≡ s)) reply new → AllowsStep o name n reply × (new ≡ s)
+    → OfCursor o s name (λ place. StepsBy n reply × (new ≡ s)) reply new → AllowsStep o name n reply × (new ≡ s)
 stepped_from None s name n reply new d = (d.0, d.1)
 stepped_from (Some place) s name n (Stepped m) new d = (d.0, d.1)
 stepped_from (Some place) s name n Created new d = absurd d.0

@@ -13,7 +13,7 @@ use Rattle.rv_believed.specs.Step.{DoesAsked}
 -- ONE CALL: its text says a statement, which does what it does; or it says none, which is refused.
 pub data Answers (s : State) (e : Entry) (new : State) : Type 0 where
   says : (statement : Statement) → Says e.text statement
-    → DoesAsked s e.session (resolution s.schema.tables s.schema.indexes statement) e.reply new
+      → DoesAsked s e.session (resolution s.schema.tables s.schema.indexes statement) e.reply new
       → Answers s e new
   says_none : ((statement : Statement) → Says e.text statement → ⊥)
       → e.reply ≡ Refused Syntax → new ≡ s → Answers s e new

@@ -48,39 +48,39 @@ pub data Goes (strategy : Strategy)
     : Standing → List Event → Standing → Type 0 where
   -- a scan ends, and the next one begins
   next_scan : (c next : Control) (i j : ℕ) (ahead : List ℕ) (old new : Option ℕ) (event : Event)
-    → Ends i old event new → is_more (j ∷ ahead) new ≡ true
-    → course strategy c (ScanEnded true (is_some new)) ≡ Some next
-    → Goes strategy (at c (Some i) (j ∷ ahead) old) (event ∷ Scan j ∷ [])
+      → Ends i old event new → is_more (j ∷ ahead) new ≡ true
+      → course strategy c (ScanEnded true (is_some new)) ≡ Some next
+      → Goes strategy (at c (Some i) (j ∷ ahead) old) (event ∷ Scan j ∷ [])
       (at next (Some j) ahead new)
   -- a scan ends, and there is no more
   last_scan : (c next : Control) (i : ℕ) (ahead : List ℕ) (old new : Option ℕ) (event : Event)
-    → Ends i old event new → is_more ahead new ≡ false
-    → course strategy c (ScanEnded false (is_some new)) ≡ Some next
-    → Goes strategy (at c (Some i) ahead old) (event ∷ At next ∷ []) (at next None ahead new)
+      → Ends i old event new → is_more ahead new ≡ false
+      → course strategy c (ScanEnded false (is_some new)) ≡ Some next
+      → Goes strategy (at c (Some i) ahead old) (event ∷ At next ∷ []) (at next None ahead new)
   -- the judge abandons the background
   drops_background : (c next : Control) (i : ℕ) (ahead : List ℕ) (listed : Option ℕ)
-    → course strategy c (Ruled AbandonBackground true (is_some listed)) ≡ Some next
-    → Goes strategy (at c (Some i) ahead listed) (Drop i ∷ At next ∷ []) (at next None ahead listed)
+      → course strategy c (Ruled AbandonBackground true (is_some listed)) ≡ Some next
+      → Goes strategy (at c (Some i) ahead listed) (Drop i ∷ At next ∷ []) (at next None ahead listed)
   -- the judge abandons the foreground
   drops_front : (c next : Control) (i : ℕ) (ahead : List ℕ) (listed : Option ℕ)
-    → course strategy c (Ruled AbandonForeground true true) ≡ Some next
-    → Goes strategy (at c (Some i) ahead listed) (Stop ∷ At next ∷ [])
+      → course strategy c (Ruled AbandonForeground true true) ≡ Some next
+      → Goes strategy (at c (Some i) ahead listed) (Stop ∷ At next ∷ [])
       (at next (Some i) ahead listed)
   -- the buffer of delivered rows is full
   fills : (c next : Control) (scan : Option ℕ) (ahead : List ℕ) (listed : Option ℕ)
-    → course strategy c Full ≡ Some next
-    → Goes strategy (at c scan ahead listed) (Filled ∷ At next ∷ [])
+      → course strategy c Full ≡ Some next
+      → Goes strategy (at c scan ahead listed) (Filled ∷ At next ∷ [])
       (at next (scan_at next scan) ahead listed)
   -- the foreground, or the final stage, is at its end
   finishes : (c next : Control) (scan : Option ℕ) (ahead : List ℕ) (listed : Option ℕ)
-    → (course strategy c FrontEnded ≡ Some next) ⊎ (course strategy c FinalEnded ≡ Some next)
-    → Goes strategy (at c scan ahead listed) (At next ∷ []) (at next None ahead listed)
+      → (course strategy c FrontEnded ≡ Some next) ⊎ (course strategy c FinalEnded ≡ Some next)
+      → Goes strategy (at c scan ahead listed) (At next ∷ []) (at next None ahead listed)
 
 -- a run from where it stands, and the events that it has left so far
 pub data Runs (strategy : Strategy) : Standing → List Event → Type 0 where
   rests : (s : Standing) → Runs strategy s []
   goes : (s t : Standing) (events more : List Event)
-    → Goes strategy s events t → Runs strategy t more → Runs strategy s (events ++ more)
+      → Goes strategy s events t → Runs strategy t more → Runs strategy s (events ++ more)
 
 -- The first control, over planned scans. Background-only and fast-first need a scan.
 abbrev pub first_control : Strategy → List ℕ → Option Control

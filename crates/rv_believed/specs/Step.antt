@@ -21,8 +21,10 @@ ComesTo (Err refusal) s reply new = (reply ≡ Refused refusal) × (new ≡ s)
 
 -- with other offers of the cursor in a place
 abbrev pub with_offers : State → ℕ → List Offer → State
-with_offers s place offers = record s { cursors =
-    slice_set s.cursors place (record (cursor_at s.cursors place) { offers = offers }) }
+with_offers s place offers = record s {
+  cursors =
+      slice_set s.cursors place (record (cursor_at s.cursors place) { offers = offers });
+}
 
 -- FETCH: a row is taken out of the cursor's offers, or there is none left.
 abbrev pub Fetches : State → ℕ → List Offer → Reply → State → Type 0
