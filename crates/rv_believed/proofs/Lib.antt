@@ -4,6 +4,8 @@ mod KindsSame
 mod LegalSame
 mod LimitsSame
 mod NamesSame
+mod OrderlyStates
+mod Pairs
 mod PlainHistories
 mod PlainLists
 mod PlainNames

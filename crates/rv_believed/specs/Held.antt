@@ -1,5 +1,5 @@
--- Believed (law): replies whose numbers the program's types hold, and that the transcript of a legal
--- history of such replies tells it.
+-- Believed (law): replies whose numbers the program's types hold, and that the transcript of a
+-- legal history of such replies tells it.
 use Rattle.std.specs.Prelude.{◌≡◌, ℕ, ◌<◌, ◌^◌, List}
 use Rattle.std.specs.Int.Signed.{mag}
 use Rattle.std.specs.List.{AllByRecursion}

@@ -5,6 +5,7 @@ pub mod Held
 pub mod History
 pub mod Limits
 pub mod Names
+pub mod Orderly
 pub mod Plain
 pub mod Runs
 pub mod Step

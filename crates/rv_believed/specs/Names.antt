@@ -61,8 +61,8 @@ reach_from item place n (c ∷ cs) = record {
 }
     ∷ reach_from item place (n + 1) cs
 
--- all columns of the FROM items, the first of which stands in a place; an item has its second name, or
--- its table's where it has none
+-- all columns of the FROM items, the first of which stands in a place; an item has its second name,
+-- or its table's where it has none
 abbrev pub reach_of : List TableDef → ℕ → List Item → List InReach
 reach_of tables place [] = []
 reach_of tables place (i ∷ more) =

@@ -1,7 +1,8 @@
--- Believed: plain entries, and the law that every entry of a legal history whose text is a line is one.
+-- Believed: plain entries, and the law that every entry of a legal history whose text is a line is
+-- one.
 --
--- A plain entry has bounds on no number: a legal history may have any number of entries, and SHOW may
--- count any number of reads.
+-- A plain entry has bounds on no number: a legal history may have any number of entries, and SHOW
+-- may count any number of reads.
 use Rattle.std.specs.Prelude.{◌≡◌, ℕ, ◌≤◌, List, true, nat_le, IsUtf8}
 use Rattle.std.specs.List.{list_all, AllByRecursion}
 use Rattle.rv_value.specs.declared.value.Value.{Value}

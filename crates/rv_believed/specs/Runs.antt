@@ -60,7 +60,8 @@ pub data Goes (strategy : Strategy)
   -- the judge abandons the background
   drops_background : (c next : Control) (i : ℕ) (ahead : List ℕ) (listed : Option ℕ)
       → course strategy c (Ruled AbandonBackground true (is_some listed)) ≡ Some next
-      → Goes strategy (at c (Some i) ahead listed) (Drop i ∷ At next ∷ []) (at next None ahead listed)
+      → Goes strategy (at c (Some i) ahead listed) (Drop i ∷ At next ∷ [])
+      (at next None ahead listed)
   -- the judge abandons the foreground
   drops_front : (c next : Control) (i : ℕ) (ahead : List ℕ) (listed : Option ℕ)
       → course strategy c (Ruled AbandonForeground true true) ≡ Some next

@@ -29,7 +29,8 @@ with_offers s place offers = record s {
 -- FETCH: a row is taken out of the cursor's offers, or there is none left.
 abbrev pub Fetches : State → ℕ → List Offer → Reply → State → Type 0
 Fetches s place offers (Row values) new =
-    IsSome (place_of offers values) × (new ≡ with_offers s place (without (place_of offers values) offers))
+    IsSome (place_of offers values)
+    × (new ≡ with_offers s place (without (place_of offers values) offers))
 Fetches s place offers End new = (offers ≡ []) × (new ≡ with_offers s place [])
 Fetches s place offers reply new = ⊥
 

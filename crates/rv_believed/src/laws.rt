@@ -15,6 +15,7 @@ ghost use Rattle.rv_believed.specs.Held.{TranscriptTells};
 ghost use Rattle.rv_believed.specs.History.{IsLegal};
 ghost use Rattle.rv_believed.specs.Limits.{within_limits};
 ghost use Rattle.rv_believed.specs.Names.{resolution};
+ghost use Rattle.rv_believed.specs.Orderly.{StaysOrderly};
 ghost use Rattle.rv_believed.specs.Plain.{LegalIsPlain};
 ghost use Rattle.rv_believed.specs.Runs.{Shows};
 
@@ -53,6 +54,12 @@ pub fn same_are_legal()
 {
     says_what_is_read();
 }
+
+/// A law: after every legal history a session has at most one transaction, transactions are numbered in the order in
+/// which they began, and a session's cursors differ by name.
+pub fn stays_orderly()
+    ensures { StaysOrderly }
+{}
 
 /// A law: every entry of a legal history whose text is a line is plain.
 pub fn legal_is_plain()
