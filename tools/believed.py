@@ -12,6 +12,9 @@ name. Prints them by file, with their lines and comments, or compares them with 
   tools/believed.py --update   writes today's counts into docs/BELIEVE.md, then checks
   tools/believed.py --test     the tool's own small test
 
+  tools/believed.py --top CRATE/PATH/NAME    from another top call, or from a definition of specs/
+  tools/believed.py --instead OLD=NEW        as if NEW stood wherever OLD does, each CRATE/PATH/NAME of a definition
+
 A line counts where it is no import and not blank; a definition's comment stands right above it. Of a
 record or struct only those fields are followed that something reached speaks of.
 """
@@ -48,7 +51,7 @@ class House:
 
     def __init__(self, top):
         self.top = top
-        self.specs, self.types, self.missing = {}, {}, []
+        self.specs, self.types, self.missing, self.instead = {}, {}, [], {}
 
     def read(self, *parts):
         path = os.path.join(self.top, "crates", *parts)
@@ -275,6 +278,21 @@ def target(house, source, rest):
     return found
 
 
+def named(house, place):
+    """The definition of specs/ that stands at CRATE/PATH/NAME."""
+    crate, path, name = place
+    found = house.module(crate, path[len("specs/"):-len(".antt")].replace("/", ".")) or {}
+    if name not in found:
+        raise SystemExit("no definition %s in crates/%s/%s" % (name, crate, path))
+    return found[name]
+
+
+def place_of(text):
+    crate, _, rest = text.partition("/")
+    path, _, name = rest.rpartition("/")
+    return crate, path, name
+
+
 def top_clauses(house, top):
     """The head of the top call as a definition: its type and its clauses."""
     crate, path, name = top
@@ -291,13 +309,19 @@ def reached(house, top=TOP):
     Of a record, a struct or a trait only those fields and members are followed which something that is
     reached speaks of: what no clause names says nothing.
     """
-    first = top_clauses(house, top)
+    is_definition = top[1].startswith("specs/")
+    first = named(house, top) if is_definition else top_clauses(house, top)
     order, seen, kit, because, spoken = [], {}, {}, {}, set()
+    if is_definition:
+        seen[top] = first
+        order.append(first)
     held = []
 
     def look(now, text, scope, outer=()):
         for word, inside in words_of(house, now, text, scope, outer):
             found = None if word in KEYWORDS else resolve(house, now, word, inside)
+            if isinstance(found, Definition):
+                found = house.instead.get((found.crate, found.path, found.name), found)
             if isinstance(found, tuple):
                 kit.setdefault(found[1], set()).add(found[2])
             elif found is not None and (found.crate, found.path, found.name) not in seen:
@@ -310,7 +334,7 @@ def reached(house, top=TOP):
     while waiting:
         now = waiting.pop(0)
         text = "\n".join(now.lines)
-        if now is first:
+        if now is first and not is_definition:
             spoken |= mentions(text)
             look(now, text, now.scope)
         elif now.follows:
@@ -460,6 +484,11 @@ def self_test():
         assert specs == {"crates/rv_a/specs/Top.antt": (1, 3), "crates/rv_b/specs/Low.antt": (2, 6)}, specs
         assert sources == {"crates/rv_a/src/data.rt": (1, 6), "crates/rv_b/src/lib.rt": (1, 3)}, sources
         assert kit == {"std.specs.Prelude": {"ℕ"}}, kit
+        house = House(top)
+        house.instead[("rv_b", "specs/Low.antt", "deep")] = named(house, ("rv_b", "specs/Low.antt", "hidden"))
+        order, _, _ = reached(house, ("rv_a", "specs/Top.antt", "Good"))
+        names = sorted(item.name for item in order)
+        assert names == ["Good", "hidden", "◌<+>◌"], names
         page = "\n".join(["**0 definitions in 0 files, 0 lines, and 0 data types of 0 lines**"]
                          + ["| `%s` | says | 0 | 0 |" % name for name in list(specs) + list(sources)]
                          + ["| `std.specs.Prelude` | `x` |"])
@@ -477,15 +506,17 @@ def main():
     parser.add_argument("--check", action="store_true", help="compare with %s, and fail where they differ" % PAGE)
     parser.add_argument("--update", action="store_true", help="write today's counts into %s" % PAGE)
     parser.add_argument("--test", action="store_true", help="the tool's own test")
-    parser.add_argument("--top", default="/".join(TOP), metavar="CRATE/PATH/CALL", help="another top call (%(default)s)")
+    parser.add_argument("--top", default="/".join(TOP), metavar="CRATE/PATH/NAME", help="another top call, or a definition of specs/ (%(default)s)")
+    parser.add_argument("--instead", action="append", default=[], metavar="OLD=NEW", help="as if NEW stood wherever OLD does")
     asked = parser.parse_args()
     if asked.test:
         return self_test()
     folder = os.path.dirname(os.path.dirname(os.path.abspath(__file__)))
-    crate, _, rest = asked.top.partition("/")
-    path, _, call = rest.rpartition("/")
     house = House(folder)
-    order, kit, because = reached(house, (crate, path, call))
+    for pair in asked.instead:
+        old, _, new = pair.partition("=")
+        house.instead[place_of(old)] = named(house, place_of(new))
+    order, kit, because = reached(house, place_of(asked.top))
     specs, sources = files_of(order)
     for name in sorted(set(house.missing)):
         print("not found: " + name, file=sys.stderr)

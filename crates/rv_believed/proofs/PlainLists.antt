@@ -1,0 +1,108 @@
+-- Facts of all items of a list, through what is made of lists.
+use Rattle.std.proofs.Common.{◌≡◌, ℕ, zero, suc, ◌+◌, ◌<◌, List, [], ◌∷◌, ◌++◌, Option, Some, None, Bool, true, false, not, cond, nat_lt, length, map, filter, take, drop, refl, sym, ◌∙◌, arith, if◌then◌else◌}
+use Rattle.std.proofs.lemmas.Bool.Decides.{nat_tests}
+use Rattle.std.specs.Prelude.{slice_set, remove, position, flat_map, IfSome, IsSome, is_some, find}
+use Rattle.std.specs.List.{AllByRecursion, slice_index_or, position_or_len}
+
+pub all_append : {X : Type 0} (P : X → Type 0) (xs ys : List X) → AllByRecursion P xs → AllByRecursion P ys → AllByRecursion P (xs ++ ys)
+all_append P [] ys a b = b
+all_append P (x ∷ xs) ys a b = (a.0, all_append P xs ys a.1 b)
+
+pub all_map : {X Y : Type 0} (P : X → Type 0) (Q : Y → Type 0) (f : X → Y) → ((x : X) → P x → Q (f x)) → (xs : List X) → AllByRecursion P xs → AllByRecursion Q (map f xs)
+all_map P Q f holds [] a = tt
+all_map P Q f holds (x ∷ xs) a = (holds x a.0, all_map P Q f holds xs a.1)
+
+pub all_map_any : {X Y : Type 0} (Q : Y → Type 0) (f : X → Y) → ((x : X) → Q (f x)) → (xs : List X) → AllByRecursion Q (map f xs)
+all_map_any Q f holds [] = tt
+all_map_any Q f holds (x ∷ xs) = (holds x, all_map_any Q f holds xs)
+
+kept_all : {X : Type 0} (P : X → Type 0) (x : X) (xs : List X) (b : Bool) → P x → AllByRecursion P xs → AllByRecursion P (if b then x ∷ xs else xs)
+kept_all P x xs true a rest = (a, rest)
+kept_all P x xs false a rest = rest
+
+pub all_filter : {X : Type 0} (P : X → Type 0) (p : X → Bool) (xs : List X) → AllByRecursion P xs → AllByRecursion P (filter p xs)
+all_filter P p [] a = tt
+all_filter P p (x ∷ xs) a = kept_all P x (filter p xs) (p x) a.0 (all_filter P p xs a.1)
+
+pub all_flat : {X Y : Type 0} (P : X → Type 0) (Q : Y → Type 0) (f : X → List Y) → ((x : X) → P x → AllByRecursion Q (f x)) → (xs : List X) → AllByRecursion P xs → AllByRecursion Q (flat_map f xs)
+all_flat P Q f holds [] a = tt
+all_flat P Q f holds (x ∷ xs) a = all_append Q (f x) (flat_map f xs) (holds x a.0) (all_flat P Q f holds xs a.1)
+
+pub all_take : {X : Type 0} (P : X → Type 0) (n : ℕ) (xs : List X) → AllByRecursion P xs → AllByRecursion P (take n xs)
+all_take P zero xs a = tt
+all_take P (suc n) [] a = tt
+all_take P (suc n) (x ∷ xs) a = (a.0, all_take P n xs a.1)
+
+pub all_drop : {X : Type 0} (P : X → Type 0) (n : ℕ) (xs : List X) → AllByRecursion P xs → AllByRecursion P (drop n xs)
+all_drop P zero xs a = a
+all_drop P (suc n) [] a = tt
+all_drop P (suc n) (x ∷ xs) a = all_drop P n xs a.1
+
+pub all_remove : {X : Type 0} (P : X → Type 0) (xs : List X) (n : ℕ) → AllByRecursion P xs → AllByRecursion P (remove xs n)
+all_remove P xs n a = all_append P (take n xs) (drop (suc n) xs) (all_take P n xs a) (all_drop P (suc n) xs a)
+
+pub all_set : {X : Type 0} (P : X → Type 0) (xs : List X) (n : ℕ) (x : X) → AllByRecursion P xs → P x → AllByRecursion P (slice_set xs n x)
+all_set P [] n x a p = tt
+all_set P (y ∷ xs) zero x a p = (p, a.1)
+all_set P (y ∷ xs) (suc n) x a p = (a.0, all_set P xs n x a.1 p)
+
+pub or_all : {X : Type 0} (P : X → Type 0) (xs : List X) (n : ℕ) (d : X) → AllByRecursion P xs → P d → P (slice_index_or xs n d)
+or_all P [] n d a p = p
+or_all P (x ∷ xs) zero d a p = a.0
+or_all P (x ∷ xs) (suc n) d a p = or_all P xs n d a.1 p
+
+pub below_all : {X : Type 0} (P : X → Type 0) (xs : List X) (n : ℕ) (d : X) → AllByRecursion P xs → n < length xs → P (slice_index_or xs n d)
+below_all P [] n d a lt = absurd (omega (arith, lt))
+below_all P (x ∷ xs) zero d a lt = a.0
+below_all P (x ∷ xs) (suc n) d a lt = below_all P xs n d a.1 (omega (arith, lt))
+
+is_below : (a b : ℕ) → nat_lt a b ≡ true → a < b
+is_below a b h = grind (arith, nat_tests)
+
+found_all : {X : Type 0} (P : X → Type 0) (xs : List X) (n : ℕ) (d : X) → AllByRecursion P xs → (b : Bool) → nat_lt n (length xs) ≡ b
+    → IfSome (cond b (Some n) None) (λ m. P (slice_index_or xs m d))
+found_all P xs n d a true h = below_all P xs n d a (is_below n (length xs) h)
+found_all P xs n d a false h = tt
+
+-- what is found at a place is one of them
+pub position_all : {X : Type 0} (P : X → Type 0) (p : X → Bool) (xs : List X) (d : X) → AllByRecursion P xs
+    → IfSome (position p xs) (λ n. P (slice_index_or xs n d))
+position_all P p xs d a = found_all P xs (position_or_len p xs) d a (nat_lt (position_or_len p xs) (length xs)) refl
+
+find_one : {X : Type 0} (P : X → Type 0) (x : X) (o : Option X) → P x → IfSome o P → (b : Bool) → IfSome (cond b (Some x) o) P
+find_one P x o a rest true = a
+find_one P x o a rest false = rest
+
+pub find_all : {X : Type 0} (P : X → Type 0) (p : X → Bool) (xs : List X) → AllByRecursion P xs → IfSome (find p xs) P
+find_all P p [] a = tt
+find_all P p (x ∷ xs) a = find_one P x (find p xs) a.0 (find_all P p xs a.1) (p x)
+
+-- ---- an item that passes, where a place is found
+
+some_true : (b : Bool) (n : ℕ) → is_some (cond b (Some n) None) ≡ true → b ≡ true
+some_true true n e = refl
+some_true false n e = absurd (cc e)
+
+one_less : (m n : ℕ) → nat_lt (1 + m) (suc n) ≡ true → nat_lt m n ≡ true
+one_less m n h = grind (arith, nat_tests)
+
+none_less : (n : ℕ) → nat_lt n 0 ≡ false
+none_less n = grind (arith, nat_tests)
+
+-- the first item, or what the others give
+by_first : {X : Type 0} {A : Type 0} (P : X → Type 0) (p : X → Bool) (x : X) → P x → ((y : X) → P y → p y ≡ true → A)
+    → (m n : ℕ) → (nat_lt m n ≡ true → A) → (b : Bool) → p x ≡ b → nat_lt (cond (not b) (1 + m) 0) (suc n) ≡ true → A
+by_first P p x a serves m n rest true e h = serves x a e
+by_first P p x a serves m n rest false e h = rest (one_less m n h)
+
+passing_from : {X : Type 0} {A : Type 0} (P : X → Type 0) (p : X → Bool) (xs : List X) → AllByRecursion P xs
+    → ((y : X) → P y → p y ≡ true → A) → nat_lt (position_or_len p xs) (length xs) ≡ true → A
+passing_from P p [] a serves h = absurd (cc (sym (none_less (position_or_len p [])) ∙ h))
+passing_from P p (x ∷ xs) a serves h = by_first P p x a.0 serves (position_or_len p xs) (length xs)
+    (passing_from P p xs a.1 serves) (p x) refl h
+
+-- what holds of each item that passes holds where one is found
+pub passing : {X : Type 0} {A : Type 0} (P : X → Type 0) (p : X → Bool) (xs : List X) → AllByRecursion P xs
+    → IsSome (position p xs) → ((y : X) → P y → p y ≡ true → A) → A
+passing P p xs a found serves = passing_from P p xs a serves
+    (some_true (nat_lt (position_or_len p xs) (length xs)) (position_or_len p xs) found)

@@ -1,0 +1,11 @@
+pub mod Answers
+pub mod Course
+pub mod Grammar
+pub mod Held
+pub mod History
+pub mod Limits
+pub mod Names
+pub mod Orderly
+pub mod Plain
+pub mod Runs
+pub mod Step

@@ -1,0 +1,74 @@
+//! Laws of the believed definitions, each the contract of a function that does nothing.
+ghost use Rattle.std.specs.Prelude.{◌≡◌, List, ℕ, Some};
+ghost use Rattle.rv_lang.specs.declared.statement.Statement.{Statement};
+ghost use Rattle.rv_lang.specs.declared.reply.Shown.{Shown};
+ghost use Rattle.rv_parse.specs.Reading.{statement_of};
+ghost use Rattle.rv_catalog.specs.declared.def.IndexDef.{IndexDef};
+ghost use Rattle.rv_catalog.specs.Limits.{limits};
+ghost use Rattle.rv_catalog.specs.Resolve.{resolved};
+ghost use Rattle.rv_catalog.specs.Schema.{Schema};
+ghost use Rattle.rv_model.specs.declared.entry.Entry.{Entry};
+ghost use Rattle.rv_model.specs.History as working;
+ghost use Rattle.rv_model.specs.Showing.{ShowsTrace};
+ghost use Rattle.rv_believed.specs.Grammar.{Says};
+ghost use Rattle.rv_believed.specs.Held.{TranscriptTells};
+ghost use Rattle.rv_believed.specs.History.{IsLegal};
+ghost use Rattle.rv_believed.specs.Limits.{within_limits};
+ghost use Rattle.rv_believed.specs.Names.{resolution};
+ghost use Rattle.rv_believed.specs.Orderly.{StaysOrderly};
+ghost use Rattle.rv_believed.specs.Plain.{LegalIsPlain};
+ghost use Rattle.rv_believed.specs.Runs.{Shows};
+
+use rv_model::laws::text_tells;
+use rv_parse::parser::statement_as_function;
+
+/// A law: what a text says by the grammar is the statement that the parser reads.
+pub fn says_what_is_read()
+    ensures read { (text : List ℕ) (s : Statement) → Says text s → statement_of text ≡ Some s }
+    ensures said { (text : List ℕ) (s : Statement) → statement_of text ≡ Some s → Says text s }
+{
+    statement_as_function();
+}
+
+/// A law: a statement is within its limits, or has the first refusal, as the catalog tests them.
+pub fn limits_are_same()
+    ensures { (s : Statement) → within_limits s ≡ limits s }
+{}
+
+/// A law: a statement asks what the catalog resolves it to, or has the same first refusal.
+pub fn resolution_is_same()
+    ensures { (schema : Schema) (s : Statement) → resolution schema.tables schema.indexes s ≡ resolved schema s }
+{}
+
+/// A law: SHOW may answer the traces of runs by turns, and no others.
+pub fn traces_are_same()
+    ensures works { (indexes : List IndexDef) (table : ℕ) (shown : Shown) → Shows indexes table shown → ShowsTrace indexes table shown }
+    ensures believed { (indexes : List IndexDef) (table : ℕ) (shown : Shown) → ShowsTrace indexes table shown → Shows indexes table shown }
+{}
+
+/// A law: the histories that are legal by the grammar and the believed names are those that are legal by the
+/// definitions with which the crates work.
+pub fn same_are_legal()
+    ensures works { (history : List Entry) → IsLegal history → working.IsLegal history }
+    ensures believed { (history : List Entry) → working.IsLegal history → IsLegal history }
+{
+    says_what_is_read();
+}
+
+/// A law: after every legal history a session has at most one transaction, transactions are numbered in the order in
+/// which they began, and a session's cursors differ by name.
+pub fn stays_orderly()
+    ensures { StaysOrderly }
+{}
+
+/// A law: every entry of a legal history whose text is a line is plain.
+pub fn legal_is_plain()
+    ensures { LegalIsPlain }
+{}
+
+/// A law: the transcript of a legal history of the program tells it, but for its phases.
+pub fn transcript_tells()
+    ensures { TranscriptTells }
+{
+    text_tells();
+}
