@@ -1,0 +1,129 @@
+-- What was frozen of an index and of a table fits the reader that it is laid over.
+use Rattle.std.proofs.Common.{◌≡◌, ℕ, ◌+◌, ◌*◌, ◌/◌, ◌<◌, ◌≤◌, List, [], ◌∷◌, ◌++◌, Bool, true, false, not, ◌&&◌, ◌||◌, ◌==◌, cond, Option, Some, None, is_some, inl, inr, refl, ap, sym, subst, ◌∙◌, map, filter, length, arith}
+use Rattle.std.specs.Prelude.{max}
+use Rattle.std.proofs.lemmas.Bool.{cases_Bool}
+use Rattle.std.proofs.lemmas.Bool.Decides.{nat_tests}
+use Rattle.std.specs.List.{AllByRecursion, list_all}
+use Rattle.std.specs.Ordering.{is_eq}
+use Rattle.rv_value.specs.declared.value.Value.{Value}
+use Rattle.rv_value.specs.declared.record.Record.{Record}
+use Rattle.rv_value.specs.declared.record.IndexEntry.{IndexEntry}
+use Rattle.rv_value.specs.Entries.{entry_cmp}
+use Rattle.rv_rows.specs.declared.changes.Change.{Change}
+use Rattle.rv_rows.specs.Changes.{applied}
+use Rattle.rv_rows.specs.Rows.{comes_below, with_values, without_row}
+use Rattle.rv_rows.specs.Rows as rows_by_number
+use Rattle.rv_rows.proofs.Filters.{both}
+use Rattle.rv_reader.specs.Entries.{column_of, entries_of, entry_of}
+use Rattle.rv_reader.specs.Storing.{AreKeys, pages_after, pages_with}
+use Rattle.rv_reader.specs.Tables.{row_at}
+use Rattle.rv_reader.proofs.Sorting.{entries_keys}
+use Rattle.rv_overlay.specs.Freezing.{IndexFits, KeepsIndex, KeepsTable, TableFits}
+use Rattle.rv_overlay.specs.Laying.{has}
+use Rattle.rv_overlay.specs.Overlaid.{LaysIndex}
+use Rattle.rv_overlay.specs.Rows.{change_of, changed_row}
+use Rattle.rv_overlay.specs.Views.{Freezes, adds, is_entry, takes}
+use Rattle.rv_overlay.proofs.Counted.{itself_true}
+use Rattle.rv_overlay.proofs.Moving.{adds_is, takes_is}
+use Rattle.rv_overlay.proofs.Placing.{equal_same}
+use Rattle.rv_overlay.proofs.Tabling.{applied_ascends}
+use Rattle.rv_overlay.proofs.Viewing.{has_entries}
+
+-- Members and lists.
+
+or_right : (a b : Bool) → b ≡ true → (a || b) ≡ true
+or_right true b h = refl
+or_right false b h = h
+
+has_first : (x : IndexEntry) (xs : List IndexEntry) → has (x ∷ xs) x ≡ true
+has_first x xs = rw (itself_true x) refl
+
+all_members : (P : IndexEntry → Type 0) (es : List IndexEntry) → ((e : IndexEntry) → has es e ≡ true → P e) → AllByRecursion P es
+all_members P [] h = tt
+all_members P (x ∷ xs) h = (h x (has_first x xs), all_members P xs (λ e k. h e (or_right (is_eq (entry_cmp x e)) (has xs e) k)))
+
+tests_members : (p : IndexEntry → Bool) (es : List IndexEntry) → ((e : IndexEntry) → has es e ≡ true → p e ≡ true) → list_all p es ≡ true
+tests_members p [] h = refl
+tests_members p (x ∷ xs) h = rw (h x (has_first x xs)) (tests_members p xs (λ e k. h e (or_right (is_eq (entry_cmp x e)) (has xs e) k)))
+
+-- Keys.
+
+map_count : (f : ℕ → Value) (columns : List ℕ) → length (map f columns) ≡ length columns
+map_count f [] = refl
+map_count f (c ∷ columns) = let rest = map_count f columns in omega (arith, rest)
+
+key_count : (columns : List ℕ) (found : Option Record) (e : IndexEntry) → is_entry columns found e ≡ true → length e.key ≡ length columns
+key_count columns None e h = cc
+key_count columns (Some r) e h = ap (λ (x : IndexEntry). length x.key) (sym (equal_same (entry_of columns r) e h)) ∙ map_count (column_of r.values) columns
+
+pub index_fits : IndexFits
+index_fits columns table changes rows cuts part keeps =
+    let adding : (e : IndexEntry) → has part.added e ≡ true → (is_entry columns (changed_row (change_of table e.row.0 changes) (row_at rows e.row.0)) e ≡ true) × (not (is_entry columns (row_at rows e.row.0) e) ≡ true) = λ e h.
+    both _ _ (sym (adds_is columns (change_of table e.row.0 changes) (row_at rows e.row.0) e) ∙ sym (keeps.freezes.come e) ∙ h) in
+    let taking : (e : IndexEntry) → has part.taken e ≡ true → is_entry columns (row_at rows e.row.0) e ≡ true = λ e h.
+    (both (is_entry columns (row_at rows e.row.0) e) _ (sym (takes_is columns (change_of table e.row.0 changes) (row_at rows e.row.0) e) ∙ sym (keeps.freezes.gone e) ∙ h)).0 in
+    record {
+      index = keeps.index;
+      keys = rw keeps.width (entries_keys columns rows);
+      cut_keys = rw keeps.width keeps.cut_keys;
+      added = keeps.added;
+      added_keys = rw keeps.width (all_members (λ e. length e.key ≡ length columns) part.added (λ e h. key_count columns _ e (adding e h).0));
+      taken = keeps.taken;
+      taken_there = tests_members (has (entries_of columns rows)) part.taken (λ e h. has_entries columns rows e keeps.ascend ∙ taking e h);
+      apart = tests_members (λ e. not (has (entries_of columns rows) e)) part.added (λ e h. ap (λ b. not b) (has_entries columns rows e keeps.ascend) ∙ (adding e h).1);
+      many = keeps.many;
+      few = keeps.few;
+      short = keeps.short;
+    }
+
+-- Tables.
+
+all_kept : (P : Record → Type 0) (t : Record → Bool) (rows : List Record) → AllByRecursion P rows → AllByRecursion P (filter t rows)
+all_kept P t [] all = tt
+all_kept P t (r ∷ rows) all =
+    let rest = all_kept P t rows all.1 in
+    elim (t r) as (λ b. AllByRecursion P (cond b (r ∷ filter t rows) (filter t rows))) [ true ↦ (all.0, rest) | false ↦ rest ]
+
+all_joined : (P : Record → Type 0) (xs ys : List Record) → AllByRecursion P xs → AllByRecursion P ys → AllByRecursion P (xs ++ ys)
+all_joined P [] ys h k = k
+all_joined P (x ∷ xs) ys h k = (h.0, all_joined P xs ys h.1 k)
+
+all_more : (n m : ℕ) → n ≤ m → (rows : List Record) → AllByRecursion (λ (r : Record). r.row.0 < 32 * n) rows → AllByRecursion (λ (r : Record). r.row.0 < 32 * m) rows
+all_more n m le [] all = tt
+all_more n m le (r ∷ rows) all = let first = all.0 in (omega (arith, first, le), all_more n m le rows all.1)
+
+with_within : (table pages : ℕ) (c : Change) (rows : List Record) → c.table == table ≡ true → AllByRecursion (λ (r : Record). r.row.0 < 32 * pages) rows → AllByRecursion (λ (r : Record). r.row.0 < 32 * pages_with table c pages) (with_values c.row.0 c.values rows)
+with_within table pages c rows t all = by c.values refl
+  where
+    by : (values : Option (List Value)) → c.values ≡ values → AllByRecursion (λ (r : Record). r.row.0 < 32 * pages_with table c pages) (with_values c.row.0 values rows)
+    by None e =
+        let same : pages_with table c pages ≡ pages = ap (λ b. cond (b && is_some c.values) (max pages (c.row.0 / 32 + 1)) pages) t ∙ ap (λ v. cond (true && is_some v) (max pages (c.row.0 / 32 + 1)) pages) e in
+        rw same (all_kept (λ (r : Record). r.row.0 < 32 * pages) (λ (r : Record). not (r.row.0 == c.row.0)) rows all)
+    by (Some vs) e =
+        let new : Record = record { row = record { 0 = c.row.0 }; values = vs } in
+        let next : pages_with table c pages ≡ max pages (c.row.0 / 32 + 1) = ap (λ b. cond (b && is_some c.values) (max pages (c.row.0 / 32 + 1)) pages) t ∙ ap (λ v. cond (true && is_some v) (max pages (c.row.0 / 32 + 1)) pages) e in
+        let more = all_more pages (max pages (c.row.0 / 32 + 1)) (omega arith) rows all in
+        rw next (all_joined (λ (r : Record). r.row.0 < 32 * max pages (c.row.0 / 32 + 1)) (filter (λ (r : Record). comes_below r new) rows) (new ∷ filter (λ (r : Record). comes_below new r) rows)
+        (all_kept (λ (r : Record). r.row.0 < 32 * max pages (c.row.0 / 32 + 1)) (λ (r : Record). comes_below r new) rows more)
+        (omega arith, all_kept (λ (r : Record). r.row.0 < 32 * max pages (c.row.0 / 32 + 1)) (λ (r : Record). comes_below new r) rows more))
+
+applied_within : (table pages : ℕ) (cs : List Change) (rows : List Record) → AllByRecursion (λ (r : Record). r.row.0 < 32 * pages) rows → AllByRecursion (λ (r : Record). r.row.0 < 32 * pages_after table cs pages) (applied table cs rows)
+applied_within table pages [] rows all = all
+applied_within table pages (c ∷ cs) rows all = elim (cases_Bool (c.table == table)) [
+  | inl t ↦ subst (λ b. AllByRecursion (λ (r : Record). r.row.0 < 32 * pages_after table cs (pages_with table c pages)) (applied table cs (cond b (with_values c.row.0 c.values rows) rows))) (sym t) (applied_within table (pages_with table c pages) cs (with_values c.row.0 c.values rows) (with_within table pages c rows t all))
+  | inr f ↦
+      let same : pages_with table c pages ≡ pages = ap (λ b. cond (b && is_some c.values) (max pages (c.row.0 / 32 + 1)) pages) f in
+      subst (λ b. AllByRecursion (λ (r : Record). r.row.0 < 32 * pages_after table cs (pages_with table c pages)) (applied table cs (cond b (with_values c.row.0 c.values rows) rows))) (sym f)
+      (subst (λ n. AllByRecursion (λ (r : Record). r.row.0 < 32 * pages_after table cs n) (applied table cs rows)) (sym same) (applied_within table pages cs rows all))
+]
+
+pub table_fits : TableFits
+table_fits rows pages table f keeps = record {
+  ascend = keeps.stands.ascend;
+  view = record {
+    ascend = applied_ascends table f.changes rows keeps.stands.ascend;
+    within = applied_within table pages f.changes rows keeps.stands.within;
+  };
+  rows_told = keeps.rows_told;
+  pages_told = keeps.pages_told;
+}

@@ -1,0 +1,13 @@
+pub mod Chunked
+pub mod Counted
+pub mod Following
+pub mod Freezing
+pub mod Keying
+pub mod Leaves
+pub mod Members
+pub mod Moving
+pub mod Placing
+pub mod Runs
+pub mod Sixteens
+pub mod Tabling
+pub mod Viewing

@@ -1,0 +1,237 @@
+-- Rows under changes, by number and by page.
+use Rattle.std.proofs.Common.{◌≡◌, ℕ, ◌<◌, ◌/◌, List, [], ◌∷◌, ◌++◌, Bool, true, false, not, ◌&&◌, ◌||◌, cond, Option, Some, None, inl, inr, refl, ap, sym, ◌∙◌, filter, find, nat_lt, nat_eq, arith, ◌==◌}
+use Rattle.std.proofs.lemmas.Bool.{cases_Bool, cases_lt}
+use Rattle.std.proofs.lemmas.Bool.Decides.{nat_tests}
+use Rattle.std.specs.List.{list_all}
+use Rattle.rv_value.specs.declared.value.Value.{Value}
+use Rattle.rv_value.specs.declared.record.Record.{Record}
+use Rattle.rv_rows.specs.declared.changes.Change.{Change}
+use Rattle.rv_rows.specs.Changes.{Rise, applied, is_before, is_of}
+use Rattle.rv_rows.specs.Rows.{Ascend, comes_below, with_values, without_row}
+use Rattle.rv_rows.proofs.Chains.{record_ascends, ascends_without}
+use Rattle.rv_rows.specs.Merging.{Passes}
+use Rattle.rv_rows.proofs.Filters.{all_filter, both, filter_same, filter_twice}
+use Rattle.rv_rows.proofs.Merges.{without_cut}
+use Rattle.rv_rows.proofs.Puts.{rising_filter}
+use Rattle.rv_reader.specs.Tables.{row_at}
+use Rattle.rv_overlay.specs.Fronts.{is_on}
+use Rattle.rv_overlay.specs.Rows.{PassesOn, change_of, changed_row, on_page}
+
+ascend_with : (number : ℕ) (values : Option (List Value)) (rows : List Record) → Ascend rows → Ascend (with_values number values rows)
+ascend_with number (Some vs) rows ascend = record_ascends (record { row = record { 0 = number }; values = vs }) rows ascend
+ascend_with number None rows ascend = ascends_without number rows ascend
+
+-- Pages: a test on row numbers.
+
+module _ (q : ℕ → Bool) where
+  p : Record → Bool
+  p r = q r.row.0
+
+  all_rows : (rows : List Record) → list_all (λ (r : Record). true) rows ≡ true
+  all_rows [] = refl
+  all_rows (r ∷ rows) = all_rows rows
+
+  turn : (a b : Bool) → (a && b) ≡ (b && a)
+  turn true true = refl
+  turn true false = refl
+  turn false true = refl
+  turn false false = refl
+
+  swap : (t : Record → Bool) (rows : List Record) → filter (λ (r : Record). q r.row.0) (filter t rows) ≡ filter t (filter (λ (r : Record). q r.row.0) rows)
+  swap t rows = filter_twice (λ (r : Record). q r.row.0) t rows ∙ filter_same (λ (r : Record). true) (λ r. t r && q r.row.0) (λ r. q r.row.0 && t r) rows (all_rows rows) (λ r h. turn (t r) (q r.row.0)) ∙ sym (filter_twice t (λ (r : Record). q r.row.0) rows)
+
+  joined : (xs ys : List Record) → filter (λ (r : Record). q r.row.0) (xs ++ ys) ≡ filter (λ (r : Record). q r.row.0) xs ++ filter (λ (r : Record). q r.row.0) ys
+  joined [] ys = refl
+  joined (x ∷ xs) ys = elim (q x.row.0) as (λ b. cond b (x ∷ filter (λ (r : Record). q r.row.0) (xs ++ ys)) (filter (λ (r : Record). q r.row.0) (xs ++ ys)) ≡ cond b (x ∷ filter (λ (r : Record). q r.row.0) xs) (filter (λ (r : Record). q r.row.0) xs) ++ filter (λ (r : Record). q r.row.0) ys) [ true ↦ ap (λ zs. x ∷ zs) (joined xs ys) | false ↦ joined xs ys ]
+
+  own : (rows : List Record) → list_all (λ (r : Record). q r.row.0) (filter (λ (r : Record). q r.row.0) rows) ≡ true
+  own [] = refl
+  own (r ∷ rows) = elim (cases_Bool (q r.row.0)) [ inl t ↦ rw t (rw t (own rows)) | inr f ↦ rw f (own rows) ]
+
+  all_others : (number : ℕ) (rows : List Record) → q number ≡ false → list_all (λ (r : Record). q r.row.0) rows ≡ true → without_row number rows ≡ rows
+  all_others number [] out all = refl
+  all_others number (r ∷ rows) out all =
+      let parts = both (q r.row.0) (list_all (λ (r : Record). q r.row.0) rows) all in
+      elim (cases_Bool (r.row.0 == number)) [
+        | inl t ↦ let same : r.row.0 ≡ number = grind (arith, nat_tests) in let no : true ≡ false = sym parts.0 ∙ ap q same ∙ out in cc
+        | inr f ↦ rw f (ap (λ rs. r ∷ rs) (all_others number rows out parts.1))
+      ]
+
+  kept_with : (number : ℕ) (values : Option (List Value)) (rows : List Record) → Ascend rows → filter (λ (r : Record). q r.row.0) (with_values number values rows) ≡ cond (q number) (with_values number values (filter (λ (r : Record). q r.row.0) rows)) (filter (λ (r : Record). q r.row.0) rows)
+  kept_with number None rows ascend = swap (λ (r : Record). not (r.row.0 == number)) rows ∙ elim (cases_Bool (q number)) [
+    | inl t ↦ rw t refl
+    | inr f ↦ rw f (all_others number (filter (λ (r : Record). q r.row.0) rows) f (own rows))
+  ]
+  kept_with number (Some vs) rows ascend =
+      let new : Record = record { row = record { 0 = number }; values = vs } in
+      let front = swap (λ (r : Record). comes_below r new) rows in
+      let back = swap (λ (r : Record). comes_below new r) rows in
+      joined (filter (λ (r : Record). comes_below r new) rows) (new ∷ filter (λ (r : Record). comes_below new r) rows)
+      ∙ elim (cases_Bool (q number)) [
+        | inl t ↦ rw (t, front, back) refl
+        | inr f ↦ rw (f, front, back) (sym (without_cut number (filter (λ (r : Record). q r.row.0) rows) (rising_filter comes_below (λ (r : Record). q r.row.0) rows ascend)) ∙ all_others number (filter (λ (r : Record). q r.row.0) rows) f (own rows))
+      ]
+
+  -- a change of the table, or of another one, before those that are kept
+  step_here : (table : ℕ) (c : Change) (ds : List Change) (rows : List Record) (b : Bool) → c.table == table ≡ true → applied table ds (cond b (with_values c.row.0 c.values rows) rows) ≡ applied table (cond b (c ∷ ds) ds) rows
+  step_here table c ds rows true t = ap (λ (b : Bool). applied table ds (cond b (with_values c.row.0 c.values rows) rows)) (sym t)
+  step_here table c ds rows false t = refl
+
+  pub step_other : (table : ℕ) (c : Change) (ds : List Change) (rows : List Record) (b : Bool) → c.table == table ≡ false → applied table ds rows ≡ applied table (cond b (c ∷ ds) ds) rows
+  step_other table c ds rows true f = ap (λ (b : Bool). applied table ds (cond b (with_values c.row.0 c.values rows) rows)) (sym f)
+  step_other table c ds rows false f = refl
+
+  pub kept_applied : (table : ℕ) (cs : List Change) (rows : List Record) → Ascend rows → filter (λ (r : Record). q r.row.0) (applied table cs rows) ≡ applied table (filter (λ (c : Change). q c.row.0) cs) (filter (λ (r : Record). q r.row.0) rows)
+  kept_applied table [] rows ascend = refl
+  kept_applied table (c ∷ cs) rows ascend = elim (cases_Bool (c.table == table)) [
+    | inl t ↦
+        ap (λ (b : Bool). filter (λ (r : Record). q r.row.0) (applied table cs (cond b (with_values c.row.0 c.values rows) rows))) t
+        ∙ kept_applied table cs (with_values c.row.0 c.values rows) (ascend_with c.row.0 c.values rows ascend)
+        ∙ ap (applied table (filter (λ (d : Change). q d.row.0) cs)) (kept_with c.row.0 c.values rows ascend)
+        ∙ step_here table c (filter (λ (d : Change). q d.row.0) cs) (filter (λ (r : Record). q r.row.0) rows) (q c.row.0) t
+    | inr f ↦
+        ap (λ (b : Bool). filter (λ (r : Record). q r.row.0) (applied table cs (cond b (with_values c.row.0 c.values rows) rows))) f
+        ∙ kept_applied table cs rows ascend
+        ∙ step_other table c (filter (λ (d : Change). q d.row.0) cs) (filter (λ (r : Record). q r.row.0) rows) (q c.row.0) f
+  ]
+
+pub page_applied : (table page : ℕ) (cs : List Change) (rows : List Record) → Ascend rows → filter (λ (r : Record). r.row.0 / 32 == page) (applied table cs rows) ≡ applied table (on_page page cs) (filter (λ (r : Record). r.row.0 / 32 == page) rows)
+page_applied table page cs rows ascend = kept_applied (λ n. n / 32 == page) table cs rows ascend
+
+-- the changes of the rows of a page of the table do what those of the rows of a page do
+pub on_applied : (table page : ℕ) (cs : List Change) (rows : List Record) → applied table (on_page page (filter (is_on table page) cs)) rows ≡ applied table (on_page page cs) rows
+on_applied table page [] rows = refl
+on_applied table page (c ∷ cs) rows = elim (cases_Bool (c.table == table)) [
+  | inl t ↦ elim (cases_Bool (c.row.0 / 32 == page)) [
+    | inl u ↦
+        let on : is_on table page c ≡ true = rw (t, u) refl in
+        rw (on, u) (on_applied table page cs (cond (c.table == table) (with_values c.row.0 c.values rows) rows))
+    | inr v ↦
+        let off : is_on table page c ≡ false = rw (t, v) refl in
+        rw (off, v) (on_applied table page cs rows)
+  ]
+  | inr f ↦
+      let off : is_on table page c ≡ false = rw f refl in
+      rw off (on_applied table page cs rows ∙ step_other (λ n. n / 32 == page) table c (on_page page cs) rows (c.row.0 / 32 == page) f)
+]
+
+-- Rows by number.
+
+find_kept : (t : Record → Bool) (number : ℕ) → ((r : Record) → r.row.0 == number ≡ true → t r ≡ true) → (rows : List Record) → row_at (filter t rows) number ≡ row_at rows number
+find_kept t number keeps [] = refl
+find_kept t number keeps (r ∷ rows) =
+    let rest = find_kept t number keeps rows in
+    elim (cases_Bool (r.row.0 == number)) [
+      | inl h ↦ rw (keeps r h, h) refl
+      | inr f ↦ elim (cases_Bool (t r)) [ inl k ↦ rw (k, f) rest | inr g ↦ rw (g, f) rest ]
+    ]
+
+find_left : (t : Record → Bool) (number : ℕ) → ((r : Record) → r.row.0 == number ≡ true → t r ≡ false) → (rows : List Record) → row_at (filter t rows) number ≡ None
+find_left t number leaves [] = refl
+find_left t number leaves (r ∷ rows) =
+    let rest = find_left t number leaves rows in
+    elim (cases_Bool (r.row.0 == number)) [
+      | inl h ↦ rw (leaves r h) rest
+      | inr f ↦ elim (cases_Bool (t r)) [ inl k ↦ rw (k, f) rest | inr g ↦ rw g rest ]
+    ]
+
+find_front : (xs ys : List Record) (number : ℕ) → row_at ys number ≡ None → row_at (xs ++ ys) number ≡ row_at xs number
+find_front [] ys number none = none
+find_front (x ∷ xs) ys number none =
+    let rest = find_front xs ys number none in
+    elim (x.row.0 == number) as (λ b. cond b (Some x) (row_at (xs ++ ys) number) ≡ cond b (Some x) (row_at xs number)) [ true ↦ refl | false ↦ rest ]
+
+find_back : (xs ys : List Record) (number : ℕ) → row_at xs number ≡ None → row_at (xs ++ ys) number ≡ row_at ys number
+find_back [] ys number none = refl
+find_back (x ∷ xs) ys number none = elim (cases_Bool (x.row.0 == number)) [
+  | inl t ↦ (let no = rw t at none in cc)
+  | inr f ↦ (let rest = rw f at none in rw f (find_back xs ys number rest))
+]
+
+row_with_other : (number other : ℕ) (values : Option (List Value)) (rows : List Record) → number == other ≡ false → row_at (with_values number values rows) other ≡ row_at rows other
+row_with_other number other None rows apart = find_kept (λ (r : Record). not (r.row.0 == number)) other (λ r t. grind (arith, nat_tests)) rows
+row_with_other number other (Some vs) rows apart =
+    let new : Record = record { row = record { 0 = number }; values = vs } in
+    let front = filter (λ (r : Record). comes_below r new) rows in
+    let back = filter (λ (r : Record). comes_below new r) rows in
+    elim (cases_lt other number) [
+      | inl low ↦
+          let none : row_at back other ≡ None = find_left (λ (r : Record). comes_below new r) other (λ r t. grind (arith, nat_tests)) rows in
+          find_front front (new ∷ back) other (rw apart none) ∙ find_kept (λ (r : Record). comes_below r new) other (λ r t. grind (arith, nat_tests)) rows
+      | inr high ↦
+          let none : row_at front other ≡ None = find_left (λ (r : Record). comes_below r new) other (λ r t. grind (arith, nat_tests)) rows in
+          find_back front (new ∷ back) other none ∙ rw apart (find_kept (λ (r : Record). comes_below new r) other (λ r t. grind (arith, nat_tests)) rows)
+    ]
+
+row_with_own : (c : Change) (rows : List Record) → row_at (with_values c.row.0 c.values rows) c.row.0 ≡ changed_row (Some c) None
+row_with_own c rows = by c.values
+  where
+    by : (values : Option (List Value)) → row_at (with_values c.row.0 values rows) c.row.0 ≡ changed_row (Some (record c { values = values })) None
+    by None = find_left (λ (r : Record). not (r.row.0 == c.row.0)) c.row.0 (λ r t. rw t refl) rows
+    by (Some vs) =
+        let new : Record = record { row = record { 0 = c.row.0 }; values = vs } in
+        let front = filter (λ (r : Record). comes_below r new) rows in
+        let none : row_at front c.row.0 ≡ None = find_left (λ (r : Record). comes_below r new) c.row.0 (λ r t. grind (arith, nat_tests)) rows in
+        let here : c.row.0 == c.row.0 ≡ true = grind (arith, nat_tests) in
+        find_back front (new ∷ filter (λ (r : Record). comes_below new r) rows) c.row.0 none ∙ rw here refl
+
+-- no later change is of the same row
+none_of : (table number : ℕ) (c : Change) (cs : List Change) → is_of table number c ≡ true → list_all (is_before c) cs ≡ true → change_of table number cs ≡ None
+none_of table number c [] h all = refl
+none_of table number c (d ∷ ds) h all =
+    let parts = both (is_before c d) (list_all (is_before c) ds) all in
+    let here : is_of table number d ≡ false = (let first = parts.0 in grind (arith, nat_tests)) in
+    rw here (none_of table number c ds h parts.1)
+
+found_is : (table number : ℕ) (c : Change) (cs : List Change) (found : Option Record) (b : Bool) → is_of table number c ≡ b → changed_row (cond b (Some c) (change_of table number cs)) found ≡ changed_row (change_of table number (c ∷ cs)) found
+found_is table number c cs found b e = ap (λ (x : Bool). changed_row (cond x (Some c) (change_of table number cs)) found) (sym e)
+
+pub row_applied : (table number : ℕ) (cs : List Change) (rows : List Record) → Rise cs → row_at (applied table cs rows) number ≡ changed_row (change_of table number cs) (row_at rows number)
+row_applied table number [] rows rise = refl
+row_applied table number (c ∷ cs) rows rise = elim (cases_Bool (c.table == table)) [
+  | inl t ↦
+      let rest = row_applied table number cs (with_values c.row.0 c.values rows) rise.1 in
+      let first = ap (λ (b : Bool). row_at (applied table cs (cond b (with_values c.row.0 c.values rows) rows)) number) t in
+      elim (cases_Bool (c.row.0 == number)) [
+        | inl u ↦
+            let same : c.row.0 ≡ number = grind (arith, nat_tests) in
+            let its : is_of table number c ≡ true = rw (t, u) refl in
+            let none = none_of table number c cs its rise.0 in
+            first ∙ rest ∙ ap (λ o. changed_row o (row_at (with_values c.row.0 c.values rows) number)) none
+            ∙ ap (row_at (with_values c.row.0 c.values rows)) (sym same) ∙ row_with_own c rows
+            ∙ found_is table number c cs (row_at rows number) true its
+        | inr v ↦
+            let its : is_of table number c ≡ false = rw (t, v) refl in
+            first ∙ rest ∙ ap (changed_row (change_of table number cs)) (row_with_other c.row.0 number c.values rows v) ∙ found_is table number c cs (row_at rows number) false its
+      ]
+  | inr f ↦
+      let its : is_of table number c ≡ false = rw f refl in
+      ap (λ (b : Bool). row_at (applied table cs (cond b (with_values c.row.0 c.values rows) rows)) number) f ∙ row_applied table number cs rows rise.1 ∙ found_is table number c cs (row_at rows number) false its
+]
+
+-- One change is laid over the rows that are left.
+pub laid_on : (table page : ℕ) (c : Change) (old rows new rest : List Record) → c.row.0 / 32 ≡ page → c.table ≡ table → Passes table c old rows new rest → PassesOn table page c old rows new rest
+laid_on table page c old rows new rest on here passes = record {
+  same = λ ds rise.
+      let its : c.row.0 / 32 == page ≡ true = grind (arith, nat_tests) in
+      let next : on_page page (c ∷ ds) ≡ c ∷ on_page page ds = ap (λ (b : Bool). cond b (c ∷ on_page page ds) (on_page page ds)) its in
+      let rises : Rise (c ∷ on_page page ds) = (all_filter (is_before c) (λ (d : Change). d.row.0 / 32 == page) ds rise.0, rising_filter is_before (λ (d : Change). d.row.0 / 32 == page) ds rise.1) in
+      passes.same (on_page page ds) rises ∙ ap (λ cs. old ++ applied table cs rows) (sym next);
+}
+
+pub past_page : (table page : ℕ) (c : Change) (old rows : List Record) → c.row.0 / 32 == page ≡ false → PassesOn table page c old rows old rows
+past_page table page c old rows f = record {
+  same = λ ds rise. ap (λ cs. old ++ applied table cs rows) (sym (ap (λ (b : Bool). cond b (c ∷ on_page page ds) (on_page page ds)) f));
+}
+
+pub past_table : (table page : ℕ) (c : Change) (old rows : List Record) → c.table == table ≡ false → PassesOn table page c old rows old rows
+past_table table page c old rows f = record {
+  same = λ ds rise. ap (λ rs. old ++ rs) (step_other (λ n. n / 32 == page) table c (on_page page ds) rows (c.row.0 / 32 == page) f);
+}
+
+pub applied_ascends : (table : ℕ) (cs : List Change) (rows : List Record) → Ascend rows → Ascend (applied table cs rows)
+applied_ascends table [] rows ascend = ascend
+applied_ascends table (c ∷ cs) rows ascend = elim (cases_Bool (c.table == table)) [
+  | inl t ↦ rw t (applied_ascends table cs (with_values c.row.0 c.values rows) (ascend_with c.row.0 c.values rows ascend))
+  | inr f ↦ rw f (applied_ascends table cs rows ascend)
+]

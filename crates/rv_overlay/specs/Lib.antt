@@ -1,0 +1,9 @@
+pub mod Freezing
+pub mod Fronts
+pub mod Keeping
+pub mod Laying
+pub mod Leaves
+pub mod Members
+pub mod Overlaid
+pub mod Rows
+pub mod Views
