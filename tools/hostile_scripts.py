@@ -752,7 +752,7 @@ class Night:
         for _ in range(self.asked.rooms):
             room = rng.randint(1, max(1, most))
             ran = shim.run(command, script, room=room, seconds=4 * self.asked.seconds)
-            self.limited[f"status {ran.status}"] += 1
+            self.limited[f"status {ran.status} " + ("with calls told" if ran.output else "with nothing written")] += 1
             what = wrong_end(ran, wants)
             if what is not None:
                 still = lambda less: wrong_end(shim.run(command, less, room=room), wanted(less, words)) is not None

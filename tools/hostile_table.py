@@ -17,7 +17,6 @@ import argparse
 import resource
 import signal
 import socket
-import struct
 import subprocess
 import sys
 import tempfile
@@ -94,15 +93,13 @@ class Table:
 
     def reset(self, data: bytes) -> Came:
         """A run whose source gives these bytes and then fails."""
-        listener = socket.create_server(("127.0.0.1", 0))
-        near = socket.create_connection(listener.getsockname())
-        far, _ = listener.accept()
-        near.setsockopt(socket.SOL_SOCKET, socket.SO_LINGER, struct.pack("ii", 1, 0))
+        near, far = socket.socketpair()
+        # What the near end has not read when it is closed resets the connection, behind what it sent.
+        far.sendall(b"x")
         near.sendall(data)
         near.close()
         ran = subprocess.run([self.program], stdin=far, capture_output=True, timeout=60, check=False)
         far.close()
-        listener.close()
         return ran.returncode, ran.stdout, ran.stderr
 
     def fronts(self) -> None:

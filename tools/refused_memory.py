@@ -18,7 +18,7 @@ def main():
     parser.add_argument("program", metavar="PROGRAM")
     parser.add_argument("script", type=Path, metavar="SCRIPT")
     parser.add_argument("transcript", type=Path, metavar="TRANSCRIPT", help="what the program writes of it")
-    parser.add_argument("words", nargs="*", metavar="WORD", help="words of the program, behind `--`")
+    parser.add_argument("--words", type=str.split, default=[], metavar="WORDS", help="words of the program, as '--judge 1 --steps 0'")
     parser.add_argument("--every", type=int, default=1, metavar="K", help="refuse each Kth allocation alone (default 1: each)")
     parser.add_argument("--rooms", type=int, metavar="N", help="give N rooms in bytes, and refuse what passes them")
     asked = parser.parse_args()
