@@ -346,6 +346,17 @@ def tables(runs: dict[tuple[int, int], list[Told]], steps: int) -> Iterator[str]
         cells = [f"{until(some, name, 1) / planner:.2f}" for name in names] + [f"{sum(q.soonest for q in some) / planner:.2f}"]
         yield f"| {rows:,}, {seed} | {len(some)} | {planner:,} | " + " | ".join(cells) + " |"
     yield ""
+    yield "Reads until the first row or, where there is none, the end, over all queries for the first rows, against the planner's:"
+    yield ""
+    names = ["best", *JUDGES]
+    yield "| Rows, seed | queries | planner, reads | " + " | ".join(names) + " |"
+    yield "|---|---|---|" + "---|" * len(names)
+    for (rows, seed), told in runs.items():
+        some = [query for query in told if query.soon]
+        planner = until(some, "planner", 1)
+        cells = [f"{until(some, name, 1) / planner:.2f}" for name in names]
+        yield f"| {rows:,}, {seed} | {len(some)} | {planner:,} | " + " | ".join(cells) + " |"
+    yield ""
     yield "Reads in all of the queries for the first rows, against the best path:"
     yield ""
     names = ["planner", *JUDGES]

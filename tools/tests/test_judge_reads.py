@@ -63,6 +63,27 @@ class Reads(unittest.TestCase):
                 self.assertEqual(len(reads.rows), told.rows)
                 self.assertEqual(sorted(reads.rows), reads.rows)
 
+    def test_judges_answer_as_those_of_skew_judges(self):
+        """The questions of crates/skew_judges/src/tests.rt, but for the last one: foreground, position of the scan, entries
+        scanned, keys kept, estimate, leaves read, guarantee, rows delivered; and the answers of AllRows and FirstRows."""
+        for (building, scan, scanned, kept, estimate, spent, guaranteed, delivered), *answers in [
+            ((False, 0, 20, 20, 80, 2, 61, 0), "go on", "go on"),
+            ((False, 0, 20, 20, 80, 2, 60, 0), "drop", "drop"),
+            ((False, 0, 20, 20, 80, 1, 60, 0), "go on", "go on"),
+            ((False, 1, 20, 2, 80, 2, 16, 0), "go on", "go on"),
+            ((False, 1, 20, 2, 80, 2, 15, 0), "drop", "drop"),
+            ((False, 0, 20, 20, 256, 2, 125, 0), "go on", "go on"),
+            ((False, 0, 20, 20, 256, 3, 125, 0), "drop", "drop"),
+            ((True, 0, 20, 20, 80, 1, 61, 0), "stop", "go on"),
+            ((True, 0, 20, 20, 80, 1, 60, 0), "drop", "drop"),
+            ((True, 0, 60, 49, 80, 3, 61, 0), "stop", "stop"),
+            ((True, 0, 20, 20, 80, 1, 61, 1), "stop", "stop"),
+            ((True, 1, 20, 2, 80, 1, 61, 0), "stop", "stop"),
+            ((True, 0, 20, 20, 256, 1, 125, 0), "stop", "drop"),
+        ]:
+            facts = judge_reads.Facts(building, scan, scanned, kept, estimate, spent, 0, guaranteed, delivered)
+            self.assertEqual([judge_reads.all_rows(facts), judge_reads.first_rows(facts)], answers, facts)
+
     def test_reads_until_a_row(self):
         reads = judge_reads.Reads(9, [2, 5])
         self.assertEqual([reads.until(n) for n in (1, 2, 3)], [2, 5, 9])
