@@ -22,8 +22,8 @@ TablesTaken next tables = (table : ℕ) → AreTaken (next table) (rows_at table
 abbrev pub ChangesTaken : (ℕ → ℕ) → List Change → Type 0
 ChangesTaken next = AllByRecursion (λ (c : Change). c.row.0 < next c.table)
 
--- The rows of the last commit, those of each base, and those that transactions have changed: each has
--- a number below its table's next.
+-- The rows of the last commit, those of each base, and those that transactions have changed: each
+-- has a number below its table's next.
 pub record HasTaken (s : State) : Type 0 where
   pub rows : TablesTaken (next_row s.transactions.touched) s.rows
   pub bases : AllByRecursion (TablesTaken (next_row s.transactions.touched)) s.bases
