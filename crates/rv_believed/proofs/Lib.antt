@@ -17,5 +17,6 @@ mod RunsBack
 mod RunsSame
 mod ShowsSame
 mod StepSame
+mod TakenStates
 mod Texts
 mod Told

@@ -1,14 +1,13 @@
 -- After every legal history the database is orderly.
-use Rattle.std.proofs.Common.{◌≡◌, ◌≢◌, ℕ, ◌+◌, ◌<◌, List, [], ◌∷◌, ◌++◌, Option, Some, None, Result, Ok, Err, Bool, true, false, ◌&&◌, refl, sym, ap, ◌∙◌, subst, filter, is_some, length, nat_lt, nat_eq, not, arith, bytes_eq}
+use Rattle.std.proofs.Common.{◌≡◌, ℕ, ◌+◌, ◌<◌, List, [], ◌∷◌, ◌++◌, Option, Some, None, Result, Ok, Err, Bool, true, false, ◌&&◌, refl, sym, ap, ◌∙◌, subst, is_some, length, nat_lt, nat_eq, arith, bytes_eq}
 use Rattle.std.proofs.lemmas.Bool.Decides.{nat_tests}
-use Rattle.std.specs.Prelude.{find, remove, slice_set}
-use Rattle.std.specs.List.{AllByRecursion, slice_index_or}
+use Rattle.std.specs.Prelude.{remove}
+use Rattle.std.specs.List.{AllByRecursion}
 use Rattle.rv_value.specs.declared.value.Value.{Value}
 use Rattle.rv_value.specs.declared.record.Record.{Record}
 use Rattle.rv_value.specs.declared.record.RowNo.{RowNo}
 use Rattle.rv_restrict.specs.declared.atom.Atom.{Atom}
 use Rattle.rv_rows.specs.declared.changes.Change.{Change}
-use Rattle.rv_rows.specs.Changes.{touches}
 use Rattle.rv_lang.specs.declared.reply.Refusal.{Refusal}
 use Rattle.rv_lang.specs.declared.reply.Refusal.TheVariants as refusals
 use Rattle.rv_lang.specs.declared.reply.Reply.{Reply}
@@ -40,19 +39,19 @@ use Rattle.rv_believed.proofs.StepSame.{does_from}
 
 -- ---- what an answer has, where there is one
 
-abbrev Gives : {A : Type 0} → (A → Type 0) → Result A Refusal → Type 0
+abbrev pub Gives : {A : Type 0} → (A → Type 0) → Result A Refusal → Type 0
 Gives P (Ok a) = P a
 Gives P (Err r) = Unit {0}
 
-abbrev Any : {A : Type 0} → A → Type 0
+abbrev pub Any : {A : Type 0} → A → Type 0
 Any a = Unit {0}
 
-then_gives : {A B : Type 0} (P : A → Type 0) (Q : B → Type 0) (r : Result A Refusal) (f : A → Result B Refusal)
+pub then_gives : {A B : Type 0} (P : A → Type 0) (Q : B → Type 0) (r : Result A Refusal) (f : A → Result B Refusal)
     → Gives P r → ((a : A) → P a → Gives Q (f a)) → Gives Q (r >>= f)
 then_gives P Q (Ok a) f p next = next a p
 then_gives P Q (Err e) f p next = tt
 
-any_gives : {A : Type 0} (r : Result A Refusal) → Gives Any r
+pub any_gives : {A : Type 0} (r : Result A Refusal) → Gives Any r
 any_gives (Ok a) = tt
 any_gives (Err e) = tt
 

@@ -9,3 +9,4 @@ pub mod Orderly
 pub mod Plain
 pub mod Runs
 pub mod Step
+pub mod Taken

@@ -18,6 +18,7 @@ ghost use Rattle.rv_believed.specs.Names.{resolution};
 ghost use Rattle.rv_believed.specs.Orderly.{StaysOrderly};
 ghost use Rattle.rv_believed.specs.Plain.{LegalIsPlain};
 ghost use Rattle.rv_believed.specs.Runs.{Shows};
+ghost use Rattle.rv_believed.specs.Taken.{StaysTaken};
 
 use rv_model::laws::text_tells;
 use rv_parse::parser::statement_as_function;
@@ -59,6 +60,12 @@ pub fn same_are_legal()
 /// which they began, and a session's cursors differ by name.
 pub fn stays_orderly()
     ensures { StaysOrderly }
+{}
+
+/// A law: after every legal history each row, and each row that a transaction has changed, has a number that its table
+/// gave.
+pub fn stays_taken()
+    ensures { StaysTaken }
 {}
 
 /// A law: every entry of a legal history whose text is a line is plain.
