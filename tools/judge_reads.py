@@ -85,6 +85,13 @@ def first_rows(facts: Facts) -> str:
     return "stop" if facts.delivered > 0 or facts.kept > 48 or facts.scan > 0 else "go on"
 
 
+def sentence(facts: Facts, kept: tuple[int, ...]) -> str:
+    """Scans of these positions are completed alone."""
+    if facts.scan not in kept:
+        return "drop"
+    return "stop" if facts.building else "go on"
+
+
 JUDGES: dict[str, Judge] = {"threshold": threshold, "patient": patient, "AllRows": all_rows, "FirstRows": first_rows}
 
 
@@ -196,6 +203,13 @@ class Asked:
 
     def judged(self, judge: Judge, steps: int) -> Reads:
         return Judged(self, judge, steps).reads()
+
+    def by_verdicts(self) -> int:
+        """The reads in all by the verdicts that are best in hindsight, where each scan is dropped at its first question or
+        completed, and the foreground is stopped."""
+        scans = range(len(self.indexes))
+        chosen = [kept for size in range(len(scans) + 1) for kept in combinations(scans, size)]
+        return min(self.judged(lambda facts: sentence(facts, kept), 0).whole for kept in chosen)
 
 
 class Judged(Retrieval):
@@ -368,6 +382,12 @@ def tables(runs: dict[tuple[int, int], list[Told]], steps: int) -> Iterator[str]
         yield f"| {rows:,}, {seed} | " + " | ".join(cells) + " |"
 
 
+def verdicts(seed: int, rows: int, queries: int) -> float:
+    """The reads in all by the best verdicts in hindsight, against the best path."""
+    asked = list(Table(workload(seed, rows, queries)).asked())
+    return sum(a.by_verdicts() for a in asked) / sum(a.paths[a.best].whole for a in asked)
+
+
 def differences(seed: int, rows: int, queries: int, steps: int, judge: str, transcript: str) -> list[str]:
     """Where the traces of the program's transcript of a seed are not those of the model under the same judge."""
     shown = [line[2:] for line in transcript.splitlines() if line.startswith("= trace ")]
@@ -393,6 +413,7 @@ def main() -> int:
     parser.add_argument("--rows", type=numbers, default=[4000], help="sizes of the table, as 4000,20000 (4000)")
     parser.add_argument("--queries", type=int, default=200, help="queries of a seed (200)")
     parser.add_argument("--steps", type=int, default=0, help="background steps beside each foreground step (0)")
+    parser.add_argument("--verdicts", action="store_true", help="tell the reads by the best verdicts in hindsight, and no more")
     parser.add_argument("--svg", metavar="FOLDER", help="draw the pictures of bench/judges.md into this folder")
     parser.add_argument("--check", metavar="TRANSCRIPT", help="compare with the program's transcript of the first seed and size")
     parser.add_argument("--judge", choices=JUDGES, default="threshold", help="with --check: the judge that ruled (threshold)")
@@ -402,6 +423,11 @@ def main() -> int:
             found = differences(words.seeds[0], words.rows[0], words.queries, words.steps, words.judge, file.read())
         print("\n".join(found + [f"{words.queries - len(found)} of {words.queries} traces are equal"]))
         return 1 if found else 0
+    if words.verdicts:
+        for rows in words.rows:
+            for seed in words.seeds:
+                print(f"{rows:,}, {seed}: {verdicts(seed, rows, words.queries):.2f} times the best path")
+        return 0
     runs = {(rows, seed): told_of(seed, rows, words.queries, words.steps) for rows in words.rows for seed in words.seeds}
     print("\n".join(tables(runs, words.steps)))
     if words.svg:
