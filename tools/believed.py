@@ -15,6 +15,10 @@ name. Prints them by file, with their lines and comments, or compares them with 
   tools/believed.py --top CRATE/PATH/NAME    from another top call, or from a definition of specs/
   tools/believed.py --instead OLD=NEW        as if NEW stood wherever OLD does, each CRATE/PATH/NAME of a definition
 
+The clauses of BESIDE are no part of the headline: they say under which judge each call is made, over all that a
+core's call does to plans, and so reach as much again. They are counted where --all is given, and the page has the
+total with them.
+
 A line counts where it is no import and not blank; a definition's comment stands right above it. Of a
 record or struct only those fields are followed that something reached speaks of.
 """
@@ -25,7 +29,8 @@ import re
 import sys
 import tempfile
 
-TOP = ("rv_cli", "src/run.rt", "run_plain")
+TOP = ("rv_run", "src/run.rt", "run_plain")
+BESIDE = ("ruled", "ruled_first")
 PAGE = "docs/BELIEVE.md"
 HEAD = re.compile(r"^(?:(?:pub|abbrev|unfoldable|record|data|inductive)\s+)+([^\s:(]+)")
 WORD = re.compile(r"[^\W\d][\w']*(?:\.[^\W\d][\w']*)*")
@@ -293,24 +298,25 @@ def place_of(text):
     return crate, path, name
 
 
-def top_clauses(house, top):
-    """The head of the top call as a definition: its type and its clauses."""
+def top_clauses(house, top, without=()):
+    """The head of the top call as a definition: its type and its clauses, but those of some names."""
     crate, path, name = top
     lines = house.read(crate, path)
     start = next(i for i, line in enumerate(lines) if re.match(r"pub fn " + name + r"\b", line))
     end = next(i for i in range(start, len(lines)) if lines[i].rstrip() == "{")
-    text = [line for line in lines[start:end] if not line.strip().startswith("//")]
+    left_out = re.compile(r"\s*(//|ensures (%s) )" % "|".join(without)) if without else re.compile(r"\s*//")
+    text = [line for line in lines[start:end] if not left_out.match(line)]
     return Definition(crate, path, name, text, [], imports(lines, crate), True)
 
 
-def reached(house, top=TOP):
+def reached(house, top=TOP, without=()):
     """All that the clauses reach, in the order in which it is met: (definitions, kit names, who named it).
 
     Of a record, a struct or a trait only those fields and members are followed which something that is
     reached speaks of: what no clause names says nothing.
     """
     is_definition = top[1].startswith("specs/")
-    first = named(house, top) if is_definition else top_clauses(house, top)
+    first = named(house, top) if is_definition else top_clauses(house, top, without)
     order, seen, kit, because, spoken = [], {}, {}, {}, set()
     if is_definition:
         seen[top] = first
@@ -383,16 +389,21 @@ def totals(files):
 ROW = re.compile(r"^\| `(crates/[^`]+)` \|(.*)\| *(\d+) *\| *(\d+) *\|$")
 KIT = re.compile(r"^\| `(std\.[^`]+|[a-z_]+\.specs\.[^`]+)` \|(.*)\|$")
 TOTAL = re.compile(r"\*\*(\d[\d,]*) definitions in (\d+) files, (\d[\d,]*) lines, and (\d+) data types of (\d[\d,]*) lines\*\*")
+WHOLE = re.compile(r"_\d[\d,]* definitions in \d+ files, \d[\d,]* lines, and \d+ data types of \d[\d,]* lines_")
 
 
-def total_line(specs, sources):
+def total(specs, sources):
     (count, lines), (types, type_lines) = totals(specs), totals(sources)
-    return "**{:,} definitions in {} files, {:,} lines, and {} data types of {:,} lines**".format(
+    return "{:,} definitions in {} files, {:,} lines, and {} data types of {:,} lines".format(
         count, len(specs), lines, types, type_lines)
 
 
-def compare(page, specs, sources, kit):
-    """The differences between the page and what is reached, each as one line."""
+def total_line(specs, sources):
+    return "**%s**" % total(specs, sources)
+
+
+def compare(page, specs, sources, kit, whole=None):
+    """The differences between the page and what is reached, each as one line. `whole` is the total with BESIDE."""
     said, said_kit, wrong = {}, {}, []
     for line in page.split("\n"):
         row, kit_row = ROW.match(line), KIT.match(line)
@@ -421,10 +432,12 @@ def compare(page, specs, sources, kit):
             wrong.append("of the kit's %s the page has %s, which is not reached" % (name, ", ".join(sorted(extra))))
     if total_line(specs, sources) not in page:
         wrong.append("the page does not say: " + total_line(specs, sources))
+    if whole and "_%s_" % whole not in page:
+        wrong.append("the page does not say, of all clauses: _%s_" % whole)
     return wrong
 
 
-def updated(page, specs, sources, kit):
+def updated(page, specs, sources, kit, whole=None):
     is_so = dict(specs)
     is_so.update(sources)
     lines = []
@@ -434,7 +447,8 @@ def updated(page, specs, sources, kit):
             line = "| `%s` |%s| %d | %d |" % ((row[1], row[2]) + is_so[row[1]])
         elif kit_row and kit_row[1] in kit:
             line = "| `%s` | %s |" % (kit_row[1], " ".join("`%s`" % n.replace("|", "\\|") for n in sorted(kit[kit_row[1]])))
-        lines.append(TOTAL.sub(lambda m: total_line(specs, sources), line))
+        line = TOTAL.sub(lambda m: total_line(specs, sources), line)
+        lines.append(WHOLE.sub("_%s_" % whole, line) if whole else line)
     return "\n".join(lines)
 
 
@@ -465,8 +479,9 @@ def self_test():
             with open(path, "w", encoding="utf-8") as file:
                 file.write(text)
 
-        write("rv_a/src/run.rt", "ghost use Rattle.rv_a.specs.Top.{Good};\nuse crate::data::Ran;\n"
-              "pub fn run(x: u8) -> Ran\n    ensures good { Good result.number }\n    ensures kept { result.inner ≡ One }\n{\n}\n")
+        write("rv_a/src/run.rt", "ghost use Rattle.rv_a.specs.Top.{Good, unused};\nuse crate::data::Ran;\n"
+              "pub fn run(x: u8) -> Ran\n    ensures good { Good result.number }\n    ensures kept { result.inner ≡ One }\n"
+              "    ensures aside { unused ≡ result.number }\n{\n}\n")
         write("rv_a/src/data.rt", "use rv_b::{Inner, Unsaid};\n/// What comes out.\n#[derive(Drop)]\npub struct Ran {\n    pub number: u8,\n"
               "    pub inner: Inner,\n    pub unsaid: Unsaid,\n}\n")
         write("rv_b/src/lib.rt", "pub enum Inner {\n    One,\n}\npub struct Unsaid;\n")
@@ -478,6 +493,9 @@ def self_test():
               "-- deep\n-- down\nabbrev pub deep : ℕ → ℕ\ndeep n = record { quoted = n }\n\n"
               "infixl 10 ◌<+>◌\nabbrev pub ◌<+>◌ : ℕ → ℕ → ℕ\n◌<+>◌ a b = a\n")
         order, kit, because = reached(House(top), ("rv_a", "src/run.rt", "run"))
+        assert "unused" in [item.name for item in order]
+        whole = total(*files_of(order))
+        order, kit, because = reached(House(top), ("rv_a", "src/run.rt", "run"), ("aside", "other"))
         names = sorted(item.name for item in order)
         assert names == ["Good", "Inner", "Ran", "deep", "◌<+>◌"], names
         specs, sources = files_of(order)
@@ -489,11 +507,14 @@ def self_test():
         order, _, _ = reached(house, ("rv_a", "specs/Top.antt", "Good"))
         names = sorted(item.name for item in order)
         assert names == ["Good", "hidden", "◌<+>◌"], names
-        page = "\n".join(["**0 definitions in 0 files, 0 lines, and 0 data types of 0 lines**"]
+        page = "\n".join(["**0 definitions in 0 files, 0 lines, and 0 data types of 0 lines**",
+                          "with all: _0 definitions in 0 files, 0 lines, and 0 data types of 0 lines_"]
                          + ["| `%s` | says | 0 | 0 |" % name for name in list(specs) + list(sources)]
                          + ["| `std.specs.Prelude` | `x` |"])
         assert len(compare(page, specs, sources, kit)) == 7
         assert not compare(updated(page, specs, sources, kit), specs, sources, kit)
+        assert len(compare(page, specs, sources, kit, whole)) == 8
+        assert not compare(updated(page, specs, sources, kit, whole), specs, sources, kit, whole)
         less = page.replace("| `crates/rv_b/src/lib.rt` | says | 0 | 0 |", "")
         assert any("not in the page" in line for line in compare(less, specs, sources, kit))
     print("believed.py: the test passes")
@@ -506,6 +527,7 @@ def main():
     parser.add_argument("--check", action="store_true", help="compare with %s, and fail where they differ" % PAGE)
     parser.add_argument("--update", action="store_true", help="write today's counts into %s" % PAGE)
     parser.add_argument("--test", action="store_true", help="the tool's own test")
+    parser.add_argument("--all", action="store_true", help="with the clauses %s too" % " and ".join(BESIDE))
     parser.add_argument("--top", default="/".join(TOP), metavar="CRATE/PATH/NAME", help="another top call, or a definition of specs/ (%(default)s)")
     parser.add_argument("--instead", action="append", default=[], metavar="OLD=NEW", help="as if NEW stood wherever OLD does")
     asked = parser.parse_args()
@@ -516,7 +538,9 @@ def main():
     for pair in asked.instead:
         old, _, new = pair.partition("=")
         house.instead[place_of(old)] = named(house, place_of(new))
-    order, kit, because = reached(house, place_of(asked.top))
+    top = place_of(asked.top)
+    whole = total(*files_of(reached(house, top)[0]))
+    order, kit, because = reached(house, top, () if asked.all else BESIDE)
     specs, sources = files_of(order)
     for name in sorted(set(house.missing)):
         print("not found: " + name, file=sys.stderr)
@@ -536,10 +560,10 @@ def main():
         with open(name, encoding="utf-8") as file:
             page = file.read()
         if asked.update:
-            page = updated(page, specs, sources, kit)
+            page = updated(page, specs, sources, kit, whole)
             with open(name, "w", encoding="utf-8") as file:
                 file.write(page)
-        wrong = compare(page, specs, sources, kit)
+        wrong = compare(page, specs, sources, kit, whole)
         for line in wrong:
             print("%s: %s" % (PAGE, line))
         if not wrong and not house.missing:

@@ -13,6 +13,7 @@ if [ -x "$program" ]; then
     ./doc_examples.py "$program" || status=1
     ./hostile_table.py "$program" || status=1
 fi
+./own_judge.py < ../crates/own_judge/stdin | cmp - ../crates/own_judge/stdout || status=1
 ./check_pages.py --test && ./check_pages.py --coming docs/AUDIT.md || status=1
 ./believed.py --test && ./believed.py --check || status=1
 exit $status

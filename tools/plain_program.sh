@@ -4,7 +4,7 @@
 # usage: tools/plain_program.sh FOLDER [--prove]
 #
 # Copies the repository, as it is committed, to FOLDER, with what was proved of it so far, and hands the program in the copy a
-# Plain in place of a Paged: two words of crates/rv_cli/src/main.rt. Then it builds that program, with --prove the proved one,
+# Plain in place of a Paged: two words of crates/rv_cli/src/main.rt, and one of crates.txt. Then it builds that program, with --prove the proved one,
 # as ./rvdyn does, and prints how to compare the two. Nothing in this repository is changed.
 set -e
 [ $# = 1 ] || [ "$*" = "$1 --prove" ] && [ ! -e "$1" ] || { sed -n '2,/^set/{/^set/d;s/^# \{0,1\}//;p}' "$0" >&2; exit 1; }
@@ -17,6 +17,7 @@ done
 rm -f "$copy/crates/rv_cli/out/rv_cli"
 main=$copy/crates/rv_cli/src/main.rt
 sed -i 's/^use rv_store::Paged;/use rv_plain::Plain;/; s/Paged::new(alloc)/Plain::new(alloc)/' "$main"
+sed -i '/^rv_cli:/s/ rv_store/ rv_plain/' "$copy/crates.txt"
 [ "$(grep -c Plain "$main")" = 2 ] && ! grep -q Paged "$main" || { echo "main makes its store in another way" >&2; exit 1; }
 "$copy/rvdyn" ${2:+"$2"} < /dev/null
 echo "tools/random_scripts.py ./rvdyn 500 1 --beside $copy/rvdyn"

@@ -1,27 +1,9 @@
 //! The program: a script on standard input, or a generated one; its transcript or summary on standard output.
 #![tactic(auto)]
 
-mod calls;
-mod judges;
-#[cfg(test)]
-mod piece_tests;
-mod run;
-#[cfg(test)]
-mod session_tests;
-mod status;
-#[cfg(test)]
-mod tests;
-#[cfg(test)]
-mod trace_tests;
-#[cfg(test)]
-mod word_tests;
-mod words;
-
-use crate::run::{Ran, run_plain};
-use crate::status::Status;
-use crate::words::read_words;
 use rv_io::{StdSink, StdSource};
 use rv_judge::{Contrary, Judge, Patient, Threshold};
+use rv_run::{Ran, Status, read_words, run_plain};
 use rv_store::Paged;
 use rv_value::NoMemory;
 use std::io;

@@ -1,3 +1,0 @@
-pub mod CallLists
-pub mod Ends
-pub mod Fits

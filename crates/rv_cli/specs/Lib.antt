@@ -1,5 +1,0 @@
-pub mod Judges
-pub mod Making
-pub mod Performing
-pub mod Script
-pub mod Words

@@ -1,0 +1,4 @@
+pub mod CallLists
+pub mod Ends
+pub mod Fits
+pub mod Rulings

@@ -1,0 +1,263 @@
+-- Runs under judges: one more call, one run behind another, and places.
+use Rattle.std.proofs.Common.{◌≡◌, ◌∙◌, ◌+◌, ◌<◌, ◌++◌, ◌∷◌, ◌==◌, ℕ, List, [], refl, sym, ap, subst, map, Bool, true, false, Option, Some, None, is_some, not, slice_get, slice_set, append_assoc, append-nil, arith, unwrap_or, suc, zero, length, take, drop, Result, Ok, Err, OnOk, OnErr}
+use Rattle.std.specs.List.{slice_index_or}
+use Rattle.std.proofs.lemmas.List.{map-append, take_more, take-append-drop}
+use Rattle.std.proofs.Math.Seq.{drop-cons}
+use Rattle.rv_judge.specs.declared.judging.Facts.{Facts}
+use Rattle.rv_judge.specs.Verdicts.{Ruling}
+use Rattle.rv_value.specs.declared.duplicate.NoMemory.{NoMemory}
+use Rattle.rv_lang.specs.declared.reply.Reply.{Reply}
+use Rattle.rv_reader.specs.Shown.{Shown as StoreShown}
+use Rattle.rv_script.specs.declared.scripts.Line.{Line}
+use Rattle.rv_script.specs.declared.scripts.Phase.{Phase}
+use Rattle.rv_script.specs.declared.scripts.Script.{Script}
+use Rattle.rv_model.specs.declared.entry.Entry.{Entry}
+use Rattle.rv_core.specs.Core.{Answers, Shown}
+use Rattle.rv_core.specs.Obeying.{under}
+use Rattle.rv_run.specs.Judges.{all_but, by_number, filled, ruling_after}
+use Rattle.rv_run.specs.Ruling.{AnswersAll, AnswersFirst, AnswersUnder, Between, CallsUnder, FirstCallsUnder, Judging, RuledCall, between, fresh, in_phase, judging, ruled_by, ruled_from}
+use Rattle.rv_run.specs.Making.{Anywhere}
+use Rattle.rv_run.specs.Script.{Call, call, calls_from, calls_in, calls_made}
+
+-- places
+
+pub set_got : {X : Type 0} (xs : List X) (i : ℕ) (x : X) → slice_get xs i ≡ Some x → slice_set xs i x ≡ xs
+set_got [] i x h = refl
+set_got (y ∷ ys) zero x h = let e : x ≡ y = cc in ap (λ z. z ∷ ys) e
+set_got (y ∷ ys) (suc i) x h = ap (λ zs. y ∷ zs) (set_got ys i x h)
+
+pub get_set : {X : Type 0} (xs : List X) (i : ℕ) (x y : X) → slice_get xs i ≡ Some x → slice_get (slice_set xs i y) i ≡ Some y
+get_set [] i x y h = absurd (cc)
+get_set (z ∷ zs) zero x y h = refl
+get_set (z ∷ zs) (suc i) x y h = get_set zs i x y h
+
+pub set_set : {X : Type 0} (xs : List X) (i : ℕ) (x y : X) → slice_set (slice_set xs i x) i y ≡ slice_set xs i y
+set_set [] i x y = refl
+set_set (z ∷ zs) zero x y = refl
+set_set (z ∷ zs) (suc i) x y = ap (λ ws. z ∷ ws) (set_set zs i x y)
+
+-- the judge that rules, among the judges by number
+pub seated : {J : Type 0} (f : J → Judging) (a b c : Option J) (ruling : J) (number : ℕ) → number < 3 → filled a b c ≡ all_but number → slice_get (map f (by_number a b c ruling)) number ≡ Some (f ruling)
+seated f None b c ruling zero h e = refl
+seated f (Some j) b c ruling zero h e = absurd (cc)
+seated f a None c ruling (suc zero) h e = refl
+seated f a (Some j) c ruling (suc zero) h e = absurd (cc)
+seated f a b None ruling (suc (suc zero)) h e = refl
+seated f a b (Some j) ruling (suc (suc zero)) h e = absurd (cc)
+seated f a b c ruling (suc (suc (suc n))) h e = absurd (omega arith)
+
+seat_zero : {J : Type 0} (f : J → Judging) (a b c : Option J) (ruling new : J) → filled a b c ≡ all_but 0 → slice_set (map f (by_number a b c ruling)) 0 (f new) ≡ map f (by_number a b c new)
+seat_zero f None (Some y) (Some z) ruling new e = refl
+seat_zero f None (Some y) None ruling new e = absurd (cc)
+seat_zero f None None c ruling new e = absurd (cc)
+seat_zero f (Some x) b c ruling new e = absurd (cc)
+
+seat_one : {J : Type 0} (f : J → Judging) (a b c : Option J) (ruling new : J) → filled a b c ≡ all_but 1 → slice_set (map f (by_number a b c ruling)) 1 (f new) ≡ map f (by_number a b c new)
+seat_one f (Some x) None (Some z) ruling new e = refl
+seat_one f (Some x) (Some y) c ruling new e = absurd (cc)
+seat_one f (Some x) None None ruling new e = absurd (cc)
+seat_one f None b c ruling new e = absurd (cc)
+
+seat_two : {J : Type 0} (f : J → Judging) (a b c : Option J) (ruling new : J) → filled a b c ≡ all_but 2 → slice_set (map f (by_number a b c ruling)) 2 (f new) ≡ map f (by_number a b c new)
+seat_two f (Some x) (Some y) None ruling new e = refl
+seat_two f (Some x) (Some y) (Some z) ruling new e = absurd (cc)
+seat_two f (Some x) None c ruling new e = absurd (cc)
+seat_two f None b c ruling new e = absurd (cc)
+
+pub seat_set : {J : Type 0} (f : J → Judging) (a b c : Option J) (ruling new : J) (number : ℕ) → number < 3 → filled a b c ≡ all_but number → slice_set (map f (by_number a b c ruling)) number (f new) ≡ map f (by_number a b c new)
+seat_set f a b c ruling new zero h e = seat_zero f a b c ruling new e
+seat_set f a b c ruling new (suc zero) h e = seat_one f a b c ruling new e
+seat_set f a b c ruling new (suc (suc zero)) h e = seat_two f a b c ruling new e
+seat_set f a b c ruling new (suc (suc (suc n))) h e = absurd (omega arith)
+
+-- runs
+
+-- where the next phase has begun since
+pub all_later : {S : Type 0} (shows : S → StoreShown) (beside : ℕ) (xs : List RuledCall) (old mid new : Between S) → AnswersAll shows beside xs old mid → new ≡ in_phase new.core.phase mid → AnswersAll shows beside xs old new
+all_later shows beside [] old mid new a e = e ∙ ap (in_phase new.core.phase) a
+all_later shows beside (x ∷ xs) old mid new a e = (a.0, a.1, all_later shows beside xs a.0 mid new a.2 e)
+
+-- one run behind another
+pub all_append : {S : Type 0} (shows : S → StoreShown) (beside : ℕ) (xs ys : List RuledCall) (old mid new : Between S) → AnswersAll shows beside xs old mid → AnswersAll shows beside ys mid new → AnswersAll shows beside (xs ++ ys) old new
+all_append shows beside [] ys old mid new a b = from_later shows beside ys old mid new a b
+  where
+    under_later : {S : Type 0} (shows : S → StoreShown) (beside : ℕ) (y : RuledCall) (old mid new : Between S) → mid ≡ in_phase mid.core.phase old → AnswersUnder shows beside y mid new → AnswersUnder shows beside y old new
+    under_later shows beside y old mid new e u =
+        let core : (in_phase y.call.phase mid).core ≡ (in_phase y.call.phase old).core = ap (λ (b : Between _). (in_phase y.call.phase b).core) e in
+        let store : mid.core.store ≡ old.core.store = ap (λ (b : Between _). b.core.store) e in
+        let judges : mid.judges ≡ old.judges = ap (λ (b : Between _). b.judges) e in
+        record { judge = u.judge; seated = rw (← judges) u.seated; reply = u.reply; stands = u.stands; answers = rw (← core, ← store) u.answers; others = rw (← judges) u.others }
+
+    from_later : {S : Type 0} (shows : S → StoreShown) (beside : ℕ) (ys : List RuledCall) (old mid new : Between S) → mid ≡ in_phase mid.core.phase old → AnswersAll shows beside ys mid new → AnswersAll shows beside ys old new
+    from_later shows beside [] old mid new e b = b ∙ ap (in_phase new.core.phase) e
+    from_later shows beside (y ∷ ys) old mid new e b = (b.0, under_later shows beside y old mid b.0 e b.1, b.2)
+all_append shows beside (x ∷ xs) ys old mid new a b = (a.0, a.1, all_append shows beside xs ys a.0 mid new a.2 b)
+
+-- the first calls, and with a run before them
+pub first_behind : {S : Type 0} (shows : S → StoreShown) (beside : ℕ) (xs ys all : List RuledCall) (old mid : Between S) (history : List Entry) → AnswersAll shows beside xs old mid → xs ++ ys ≡ all → AnswersFirst shows beside ys mid history → AnswersFirst shows beside all old history
+first_behind shows beside xs ys all old mid history a whole first = record {
+  made = xs ++ first.made;
+  rest = first.rest;
+  whole = sym whole ∙ ap (λ zs. xs ++ zs) first.whole ∙ sym (append_assoc xs first.made first.rest);
+  end = first.end;
+  answers = all_append shows beside xs first.made old mid first.end a first.answers;
+  told = first.told;
+}
+
+-- calls under one judge, wherever it sits
+
+pub call_ruled : {S : Type 0} (shows : S → StoreShown) (beside : ℕ) (line : Line) (old new : Shown S) (would : ℕ → Facts → Ruling) (stood stands : ℕ) (reply : Reply) → Answers (under (shows old.store) would beside) stood stands old new line.session line.text reply → Anywhere (judging would stood) (judging would stands) (λ number js ks. AnswersUnder shows beside (ruled_by number (call line.session old.phase line.text)) (between old js) (between new ks))
+call_ruled shows beside line old new would stood stands reply a = λ number js at. record { judge = judging would stood; seated = at; reply = reply; stands = stands; answers = a; others = refl }
+
+pub none_ruled : {S : Type 0} (shows : S → StoreShown) (beside : ℕ) (core : Shown S) (j : Judging) → Anywhere j j (λ number js ks. AnswersAll shows beside [] (between core js) (between core ks))
+none_ruled shows beside core j = λ number js at. ap (between core) (set_got js number j at)
+
+pub one_ruled_more : {S : Type 0} (shows : S → StoreShown) (beside : ℕ) (xs : List Call) (x : Call) (old mid new : Shown S) (a b c : Judging) → Anywhere a b (λ number js ks. AnswersAll shows beside (map (ruled_by number) xs) (between old js) (between mid ks)) → Anywhere b c (λ number js ks. AnswersUnder shows beside (ruled_by number x) (between mid js) (between new ks)) → Anywhere a c (λ number js ks. AnswersAll shows beside (map (ruled_by number) (xs ++ x ∷ [])) (between old js) (between new ks))
+one_ruled_more shows beside xs x old mid new a b c p q = λ number js at.
+    let ks = slice_set js number b in
+    let last : slice_set ks number c ≡ slice_set js number c = set_set js number b c in
+    let next : AnswersUnder shows beside (ruled_by number x) (between mid ks) (between new (slice_set js number c)) = subst (λ ls. AnswersUnder shows beside (ruled_by number x) (between mid ks) (between new ls)) last (q number ks (get_set js number a b at)) in
+    rw (map-append (ruled_by number) xs (x ∷ [])) (all_append shows beside (map (ruled_by number) xs) (ruled_by number x ∷ []) (between old js) (between mid ks) (between new (slice_set js number c)) (p number js at) (between new (slice_set js number c), next, refl))
+
+-- the lines of a phase up to one, and with that one
+pub calls_more : (phase : ℕ) (lines : List Line) (i : ℕ) (line : Line) → i < length lines → line ≡ slice_index_or lines i line → calls_in phase (take (i + 1) lines) ≡ calls_in phase (take i lines) ++ call line.session phase line.text ∷ []
+calls_more phase lines i line within is =
+    let more : take (i + 1) lines ≡ take i lines ++ line ∷ [] = take_more lines i line within ∙ ap (λ (l : Line). take i lines ++ l ∷ []) (sym is) in
+    ap (calls_in phase) more ∙ map-append (λ (l : Line). call l.session phase l.text) (take i lines) (line ∷ [])
+
+-- a phase's calls up to a line, and with the call of that line
+pub phase_more : {S : Type 0} (shows : S → StoreShown) (b0 b p0 p : ℕ) (lines : List Line) (i : ℕ) (line : Line) (old mid new : Shown S) (w0 w : ℕ → Facts → Ruling) (s0 s t : ℕ) → b ≡ b0 → p ≡ p0 → w ≡ w0 → i < length lines → line ≡ slice_index_or lines i line
+    → Anywhere (judging w0 s0) (judging w0 s) (λ number js ks. AnswersAll shows b0 (map (ruled_by number) (calls_in p0 (take i lines))) (between old js) (between mid ks))
+    → Anywhere (judging w s) (judging w t) (λ number js ks. AnswersUnder shows b (ruled_by number (call line.session p line.text)) (between mid js) (between new ks))
+    → Anywhere (judging w0 s0) (judging w0 t) (λ number js ks. AnswersAll shows b0 (map (ruled_by number) (calls_in p0 (take (i + 1) lines))) (between old js) (between new ks))
+phase_more shows b0 b p0 p lines i line old mid new w0 w s0 s t be pe we within is before next =
+    rw (calls_more p0 lines i line within is) (one_ruled_more shows b0 (calls_in p0 (take i lines)) (call line.session p0 line.text) old mid new (judging w0 s0) (judging w0 s) (judging w0 t) before (rw (be, pe, we) at next))
+
+-- a phase that ends before the line of a number
+pub stopped_at : {S : Type 0} (shows : S → StoreShown) (beside phase i : ℕ) (lines : List Line) (old mid : Shown S) (a b : Judging) (new : Shown S) (after : Judging) → new.history ≡ mid.history → Anywhere a b (λ number js ks. AnswersAll shows beside (map (ruled_by number) (calls_in phase (take i lines))) (between old js) (between mid ks)) → Anywhere a after (λ number js ks. AnswersFirst shows beside (map (ruled_by number) (calls_in phase lines)) (between old js) new.history)
+stopped_at shows beside phase i lines old mid a b new after same p = λ number js at. record {
+  made = map (ruled_by number) (calls_in phase (take i lines));
+  rest = map (ruled_by number) (calls_in phase (drop i lines));
+  whole = ap (λ (ls : List Line). map (ruled_by number) (calls_in phase ls)) (sym (take-append-drop i lines)) ∙ ap (map (ruled_by number)) (map-append (λ (l : Line). call l.session phase l.text) (take i lines) (drop i lines)) ∙ map-append (ruled_by number) (calls_in phase (take i lines)) (calls_in phase (drop i lines));
+  end = between mid (slice_set js number b);
+  answers = p number js at;
+  told = same;
+}
+
+-- phases
+
+-- of all calls these are left
+pub record AnswersTo {S : Type 0} (shows : S → StoreShown) (beside : ℕ) (all left : List RuledCall) (old new : Between S) : Type 0 where
+  pub made : List RuledCall
+  pub whole : made ++ left ≡ all
+  pub answers : AnswersAll shows beside made old new
+
+pub begins : {S : Type 0} (shows : S → StoreShown) (beside : ℕ) (all : List RuledCall) (b : Between S) → AnswersTo shows beside all all b b
+begins shows beside all b = record { made = []; whole = refl; answers = refl }
+
+pub ends : {S : Type 0} (shows : S → StoreShown) (beside : ℕ) (all left : List RuledCall) (old new : Between S) → left ≡ [] → AnswersTo shows beside all left old new → AnswersAll shows beside all old new
+ends shows beside all left old new none t =
+    let made : t.made ≡ all = sym (append-nil t.made) ∙ ap (λ xs. t.made ++ xs) (sym none) ∙ t.whole in
+    subst (λ xs. AnswersAll shows beside xs old new) made t.answers
+
+pub goes_on : {S : Type 0} (shows : S → StoreShown) (beside : ℕ) (all mine more : List RuledCall) (old mid entered new : Between S) → AnswersTo shows beside all (mine ++ more) old mid → entered ≡ in_phase entered.core.phase mid → AnswersAll shows beside mine entered new → AnswersTo shows beside all more old new
+goes_on shows beside all mine more old mid entered new t e a = record {
+  made = t.made ++ mine;
+  whole = append_assoc t.made mine more ∙ t.whole;
+  answers = all_append shows beside t.made mine old entered new (all_later shows beside t.made old mid entered t.answers e) a;
+}
+
+pub stops : {S : Type 0} (shows : S → StoreShown) (beside : ℕ) (all mine more : List RuledCall) (old mid entered : Between S) (history : List Entry) → AnswersTo shows beside all (mine ++ more) old mid → entered ≡ in_phase entered.core.phase mid → AnswersFirst shows beside mine entered history → AnswersFirst shows beside all old history
+stops shows beside all mine more old mid entered history t e first =
+    first_behind shows beside t.made (mine ++ more) all old entered history (all_later shows beside t.made old mid entered t.answers e) t.whole (record {
+      made = first.made;
+      rest = first.rest ++ more;
+      whole = ap (λ xs. xs ++ more) first.whole ∙ append_assoc first.made first.rest more;
+      end = first.end;
+      answers = first.answers;
+      told = first.told;
+    })
+
+-- the judge that rules has moved, and no other
+pub seat_moved : {J : Type 0} (w : J → ℕ → Facts → Ruling) (s : J → ℕ) (a b c : Option J) (old new : J) (number : ℕ) → number < 3 → filled a b c ≡ all_but number → w new ≡ w old → slice_set (map (λ j. judging (w j) (s j)) (by_number a b c old)) number (judging (w old) (s new)) ≡ map (λ j. judging (w j) (s j)) (by_number a b c new)
+seat_moved w s a b c old new number h e same = subst (λ v. slice_set (map (λ j. judging (w j) (s j)) (by_number a b c old)) number (judging v (s new)) ≡ map (λ j. judging (w j) (s j)) (by_number a b c new)) same (seat_set (λ j. judging (w j) (s j)) a b c old new number h e)
+
+-- the calls left before a phase
+pub left_from : (ruling n i : ℕ) (phases : List Phase) (p : Phase) (lines : List Line) (next : ℕ) → i < length phases → p ≡ slice_index_or phases i p → lines ≡ p.lines → next ≡ unwrap_or p.judge ruling → ruled_from ruling n (drop i phases) ≡ map (ruled_by next) (calls_in n lines) ++ ruled_from next (n + 1) (drop (i + 1) phases)
+left_from ruling n i phases p lines next within is same named =
+    let at : suc i ≡ i + 1 = omega arith in
+    let split : drop i phases ≡ p ∷ drop (i + 1) phases = drop-cons phases i p within ∙ ap (λ (q : Phase). q ∷ drop (suc i) phases) (sym is) ∙ ap (λ (k : ℕ). p ∷ drop k phases) at in
+    rw (same, named) (ap (ruled_from ruling n) split)
+
+-- a phase more
+pub phases_more : {S J : Type 0} (shows : S → StoreShown) (b0 b : ℕ) (w : J → ℕ → Facts → Ruling) (s : J → ℕ) (all : List RuledCall) (ruling n i : ℕ) (phases : List Phase) (p : Phase) (lines : List Line) (next : ℕ) (start : Between S) (core entered new : Shown S) (js : List Judging) (j0 j1 j2 : Option J) (before after : J)
+    → AnswersTo shows b0 all (ruled_from ruling n (drop i phases)) start (between core js) → i < length phases → p ≡ slice_index_or phases i p → lines ≡ p.lines → next ≡ unwrap_or p.judge ruling → entered ≡ record core { phase = n } → map (λ j. judging (w j) (s j)) (by_number j0 j1 j2 before) ≡ js → next < 3 → filled j0 j1 j2 ≡ all_but next → b ≡ b0 → w after ≡ w before
+    → Anywhere (judging (w before) (s before)) (judging (w before) (s after)) (λ number old later. AnswersAll shows b (map (ruled_by number) (calls_in entered.phase lines)) (between entered old) (between new later))
+    → AnswersTo shows b0 all (ruled_from next (n + 1) (drop (i + 1) phases)) start (between new (map (λ j. judging (w j) (s j)) (by_number j0 j1 j2 after)))
+phases_more {S = S} shows b0 b w s all ruling n i phases p lines next start core entered new js j0 j1 j2 before after t within is same named gone seats known apart be rules made =
+    let mine = map (ruled_by next) (calls_in n lines) in
+    let more = ruled_from next (n + 1) (drop (i + 1) phases) in
+    let left : AnswersTo shows b0 all (mine ++ more) start (between core js) = subst (λ xs. AnswersTo shows b0 all xs start (between core js)) (left_from ruling n i phases p lines next within is same named) t in
+    let at : slice_get js next ≡ Some (judging (w before) (s before)) = subst (λ ks. slice_get ks next ≡ Some (judging (w before) (s before))) seats (seated (λ j. judging (w j) (s j)) j0 j1 j2 before next known apart) in
+    let phase : entered.phase ≡ n = ap (λ (c : Shown S). c.phase) gone in
+    let set : slice_set js next (judging (w before) (s after)) ≡ map (λ j. judging (w j) (s j)) (by_number j0 j1 j2 after) = subst (λ ks. slice_set ks next (judging (w before) (s after)) ≡ map (λ j. judging (w j) (s j)) (by_number j0 j1 j2 after)) seats (seat_moved w s j0 j1 j2 before after next known apart rules) in
+    let mine_made : AnswersAll shows b0 mine (between entered js) (between new (map (λ j. judging (w j) (s j)) (by_number j0 j1 j2 after))) = subst (λ k. AnswersAll shows b0 (map (ruled_by next) (calls_in k lines)) (between entered js) (between new (map (λ j. judging (w j) (s j)) (by_number j0 j1 j2 after)))) phase (rw (set, be) at (made next js at)) in
+    let begun : between entered js ≡ in_phase entered.phase (between core js) = ap (λ (c : Shown S). between c js) gone ∙ ap (λ k. in_phase k (between core js)) (sym phase) in
+    goes_on shows b0 all mine more start (between core js) (between entered js) (between new (map (λ j. judging (w j) (s j)) (by_number j0 j1 j2 after))) left begun mine_made
+
+-- a phase that stops
+pub phases_stop : {S J : Type 0} (shows : S → StoreShown) (b0 b : ℕ) (w : J → ℕ → Facts → Ruling) (s : J → ℕ) (all : List RuledCall) (ruling n i : ℕ) (phases : List Phase) (p : Phase) (lines : List Line) (next : ℕ) (start : Between S) (core entered new : Shown S) (js : List Judging) (j0 j1 j2 : Option J) (before after : J)
+    → AnswersTo shows b0 all (ruled_from ruling n (drop i phases)) start (between core js) → i < length phases → p ≡ slice_index_or phases i p → lines ≡ p.lines → next ≡ unwrap_or p.judge ruling → entered ≡ record core { phase = n } → map (λ j. judging (w j) (s j)) (by_number j0 j1 j2 before) ≡ js → next < 3 → filled j0 j1 j2 ≡ all_but next → b ≡ b0
+    → Anywhere (judging (w before) (s before)) (judging (w before) (s after)) (λ number old later. AnswersFirst shows b (map (ruled_by number) (calls_in entered.phase lines)) (between entered old) new.history)
+    → AnswersFirst shows b0 all start new.history
+phases_stop {S = S} shows b0 b w s all ruling n i phases p lines next start core entered new js j0 j1 j2 before after t within is same named gone seats known apart be made =
+    let mine = map (ruled_by next) (calls_in n lines) in
+    let more = ruled_from next (n + 1) (drop (i + 1) phases) in
+    let left : AnswersTo shows b0 all (mine ++ more) start (between core js) = subst (λ xs. AnswersTo shows b0 all xs start (between core js)) (left_from ruling n i phases p lines next within is same named) t in
+    let at : slice_get js next ≡ Some (judging (w before) (s before)) = subst (λ ks. slice_get ks next ≡ Some (judging (w before) (s before))) seats (seated (λ j. judging (w j) (s j)) j0 j1 j2 before next known apart) in
+    let phase : entered.phase ≡ n = ap (λ (c : Shown S). c.phase) gone in
+    let mine_made : AnswersFirst shows b0 mine (between entered js) new.history = subst (λ k. AnswersFirst shows b0 (map (ruled_by next) (calls_in k lines)) (between entered js) new.history) phase (rw be at (made next js at)) in
+    let begun : between entered js ≡ in_phase entered.phase (between core js) = ap (λ (c : Shown S). between c js) gone ∙ ap (λ k. in_phase k (between core js)) (sym phase) in
+    stops shows b0 all mine more start (between core js) (between entered js) new.history left begun mine_made
+
+-- the calls that the history tells, up to a line, and up to a phase
+
+pub told_more : (h0 h m : List Entry) (p0 p : ℕ) (lines : List Line) (i : ℕ) (line : Line) → p ≡ p0 → i < length lines → line ≡ slice_index_or lines i line → calls_made h ≡ calls_made h0 ++ calls_in p0 (take i lines) → calls_made m ≡ calls_made h ++ calls_in p (line ∷ []) → calls_made m ≡ calls_made h0 ++ calls_in p0 (take (i + 1) lines)
+told_more h0 h m p0 p lines i line same within is before next =
+    next ∙ ap (λ k. calls_made h ++ calls_in k (line ∷ [])) same ∙ ap (λ cs. cs ++ calls_in p0 (line ∷ [])) before ∙ append_assoc (calls_made h0) (calls_in p0 (take i lines)) (calls_in p0 (line ∷ [])) ∙ ap (λ cs. calls_made h0 ++ cs) (sym (calls_more p0 lines i line within is))
+
+phase_here : (phases : List Phase) (i : ℕ) (p : Phase) → i < length phases → p ≡ slice_index_or phases i p → drop i phases ≡ p ∷ drop (i + 1) phases
+phase_here phases i p within is =
+    let at : suc i ≡ i + 1 = omega arith in
+    drop-cons phases i p within ∙ ap (λ (q : Phase). q ∷ drop (suc i) phases) (sym is) ∙ ap (λ (k : ℕ). p ∷ drop k phases) at
+
+pub told_phase : {S : Type 0} (core entered : Shown S) (m : List Entry) (n i : ℕ) (phases : List Phase) (p : Phase) (lines : List Line) (all : List Call) → i < length phases → p ≡ slice_index_or phases i p → lines ≡ p.lines → entered ≡ record core { phase = n } → calls_made core.history ++ calls_from n (drop i phases) ≡ all → calls_made m ≡ calls_made entered.history ++ calls_in entered.phase lines → calls_made m ++ calls_from (n + 1) (drop (i + 1) phases) ≡ all
+told_phase {S = S} core entered m n i phases p lines all within is same gone before next =
+    let history : entered.history ≡ core.history = ap (λ (c : Shown S). c.history) gone in
+    let phase : entered.phase ≡ n = ap (λ (c : Shown S). c.phase) gone in
+    let mine : calls_made m ≡ calls_made core.history ++ calls_in n p.lines = next ∙ ap (λ h. calls_made h ++ calls_in entered.phase lines) history ∙ ap (λ k. calls_made core.history ++ calls_in k lines) phase ∙ ap (λ ls. calls_made core.history ++ calls_in n ls) same in
+    ap (λ cs. cs ++ calls_from (n + 1) (drop (i + 1) phases)) mine
+    ∙ append_assoc (calls_made core.history) (calls_in n p.lines) (calls_from (n + 1) (drop (i + 1) phases))
+    ∙ ap (λ ps. calls_made core.history ++ calls_from n ps) (sym (phase_here phases i p within is))
+    ∙ before
+
+pub ruling_more : (ruling next i last : ℕ) (phases : List Phase) (p : Phase) → i < length phases → p ≡ slice_index_or phases i p → next ≡ unwrap_or p.judge ruling → ruling_after ruling (drop i phases) ≡ last → ruling_after next (drop (i + 1) phases) ≡ last
+ruling_more ruling next i last phases p within is named before =
+    ap (λ n. ruling_after n (drop (i + 1) phases)) named ∙ ap (ruling_after ruling) (sym (phase_here phases i p within is)) ∙ before
+
+pub err_so : {X E P : Type 0} (r : Result X E) → P → OnErr r P
+err_so (Ok x) p = tt
+err_so (Err e) p = p
+
+-- whole runs
+
+pub calls_under : {S : Type 0} (shows : S → StoreShown) (beside steps : ℕ) (begun : Shown S) (store : S) (js judges : List Judging) (ruling first : ℕ) (phases : List Phase) (script : Script) (core : Shown S) (stand : List Judging) → beside ≡ steps → begun ≡ fresh store → js ≡ judges → ruling ≡ first → phases ≡ script.phases → AnswersAll shows beside (ruled_from ruling 1 phases) (between begun js) (between core stand) → CallsUnder shows steps store judges first core script
+calls_under shows beside steps begun store js judges ruling first phases script core stand b s j r p a = record { stand = stand; answers = rw (b, s, j, r, p) at a }
+
+pub first_calls_under : {S : Type 0} (shows : S → StoreShown) (beside steps : ℕ) (begun : Shown S) (store : S) (js judges : List Judging) (ruling first : ℕ) (phases : List Phase) (script : Script) (core : Shown S) → beside ≡ steps → begun ≡ fresh store → js ≡ judges → ruling ≡ first → phases ≡ script.phases → AnswersFirst shows beside (ruled_from ruling 1 phases) (between begun js) core.history → FirstCallsUnder shows steps store judges first core script
+first_calls_under shows beside steps begun store js judges ruling first phases script core b s j r p a = rw (b, s, j, r, p) at a
+
+-- however the calls ended
+pub first_either : {S : Type 0} (shows : S → StoreShown) (beside : ℕ) (all : List RuledCall) (old new : Between S) (r : Result (Unit {0}) NoMemory) → OnOk r (AnswersAll shows beside all old new) → OnErr r (AnswersFirst shows beside all old new.core.history) → AnswersFirst shows beside all old new.core.history
+first_either shows beside all old new (Ok u) a f = record { made = all; rest = []; whole = sym (append-nil all); end = new; answers = a; told = refl }
+first_either shows beside all old new (Err e) a f = f

@@ -1,0 +1,65 @@
+-- What performing a script comes to, and which status a fault gives.
+use Rattle.std.specs.Prelude.{ℕ, List, Option, Bool, true, false}
+use Rattle.std.specs.Io.KnownBytes.{Appends}
+use Rattle.rv_io.specs.Pieces.{AppendsFront}
+use Rattle.rv_io.specs.declared.all.ReadFault.{ReadFault}
+use Rattle.rv_io.specs.declared.all.ReadFault.TheVariants as reading
+use Rattle.rv_script.specs.declared.scripts.Script.{Script}
+use Rattle.rv_script.specs.declared.scripts.ScriptFault.{ScriptFault}
+use Rattle.rv_script.specs.declared.scripts.ScriptFault.TheVariants as faults
+use Rattle.rv_model.specs.History.{IsLegal}
+use Rattle.rv_core.specs.Core.{Shown}
+use Rattle.rv_run.specs.declared.status.Over.TheVariants as over
+use Rattle.rv_run.specs.declared.status.Status.{Status}
+use Rattle.rv_run.specs.declared.status.Status.TheVariants as statuses
+use Rattle.rv_run.specs.Script.{FailsToRead, HasAllCalls, HasFault, HasFirstCalls, PassesLimit, calls_asked, output}
+
+-- The output of a legal history of the script's calls is written, whole.
+pub record Performs {S : Type 0} (seed : Option ℕ) (old new : Option (List ℕ)) (script : Script) (core : Shown S) : Type 0 where
+  pub legal : IsLegal core.history
+  pub calls : HasAllCalls core.history script
+  pub written : Appends old new (output seed core.history)
+
+-- The same of the script's first calls.
+pub record PerformsFirst {S : Type 0} (seed : Option ℕ) (old new : Option (List ℕ)) (script : Script) (core : Shown S) : Type 0 where
+  pub legal : IsLegal core.history
+  pub calls : HasFirstCalls core.history (calls_asked script)
+  pub written : Appends old new (output seed core.history)
+
+-- A front of such an output is written.
+pub record PerformsFront {S : Type 0} (seed : Option ℕ) (old new : Option (List ℕ)) (script : Script) (core : Shown S) : Type 0 where
+  pub legal : IsLegal core.history
+  pub calls : HasFirstCalls core.history (calls_asked script)
+  pub written : AppendsFront old new (output seed core.history)
+
+-- the statuses of a run whose script was performed
+abbrev pub IsPerformed : Status → Type 0
+IsPerformed statuses.Done = Unit {0}
+IsPerformed statuses.Memory = Unit {0}
+IsPerformed statuses.WriteFault = Unit {0}
+IsPerformed status = ⊥
+
+-- Why there is no script to run, by the status that tells it.
+abbrev pub Hinders : Option (List ℕ) → Option (List ℕ) → ℕ → ℕ → Status → Type 0
+Hinders left after before now (statuses.Script fault) = HasFault left after fault
+Hinders left after before now (statuses.Limit which) = PassesLimit left after which
+Hinders left after before now statuses.ReadFault = FailsToRead left after before now
+Hinders left after before now statuses.Memory = Unit {0}
+Hinders left after before now status = ⊥
+
+abbrev pub reading_status : ReadFault → Status
+reading_status reading.Failed = statuses.ReadFault
+reading_status reading.TooBig = statuses.Limit over.Bytes
+reading_status reading.NoMemory = statuses.Memory
+
+abbrev pub script_status : ScriptFault → Status
+script_status (faults.NoSession line) = statuses.Script (faults.NoSession line)
+script_status (faults.NotText offset) = statuses.Script (faults.NotText offset)
+script_status (faults.TooLong line) = statuses.Limit (over.Line line)
+script_status (faults.TooMany lines) = statuses.Limit over.Lines
+script_status faults.NoMemory = statuses.Memory
+
+-- all calls were made, or memory was refused
+abbrev pub calls_status : Bool → Status
+calls_status true = statuses.Done
+calls_status false = statuses.Memory

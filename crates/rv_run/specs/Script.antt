@@ -1,0 +1,139 @@
+-- What a run makes of a script.
+use Rattle.std.specs.Prelude.{◌≡◌, ℕ, ◌+◌, ◌≤◌, ◌==◌, List, [], ◌∷◌, ◌++◌, Option, Some, None, Err, length, map, filter, IfSome, IsOkAnd}
+use Rattle.std.specs.List.{slice_index_or}
+use Rattle.std.specs.Io.KnownBytes.{Appends, IsAtEnd}
+use Rattle.rv_io.specs.Causes.{Rose}
+use Rattle.rv_io.specs.Pieces.{AppendsFront, TakesTooMany, TakesUpTo}
+use Rattle.rv_script.specs.declared.scripts.Line.{Line}
+use Rattle.rv_script.specs.declared.scripts.Phase.{Phase}
+use Rattle.rv_script.specs.declared.scripts.Script.{Script}
+use Rattle.rv_script.specs.declared.scripts.ScriptFault.{ScriptFault}
+use Rattle.rv_script.specs.declared.scripts.ScriptFault.TheVariants as faults
+use Rattle.rv_script.specs.Script.{script_of}
+use Rattle.rv_gen.specs.Summary.{summary, summary_text}
+use Rattle.rv_gen.specs.Workload.{generated}
+use Rattle.rv_run.specs.declared.status.Over.{Over}
+use Rattle.rv_run.specs.declared.status.Over.TheVariants as over
+use Rattle.rv_model.specs.declared.entry.Entry.{Entry}
+use Rattle.rv_model.specs.History.{IsLegal, calls}
+use Rattle.rv_model.specs.Transcript.{text}
+use Rattle.rv_core.specs.Core.{Shown}
+
+-- a call: its session, its phase and its text
+pub record Call : Type 0 where
+  pub session : ℕ
+  pub phase : ℕ
+  pub text : List ℕ
+
+abbrev pub call : ℕ → ℕ → List ℕ → Call
+call session phase text = record { session = session; phase = phase; text = text }
+
+-- the calls of a history's entries, in order
+abbrev pub calls_made : List Entry → List Call
+calls_made entries = map (λ (e : Entry). call e.session e.phase e.text) entries
+
+-- the calls of a phase, in order
+abbrev pub calls_in : ℕ → List Line → List Call
+calls_in phase lines = map (λ (l : Line). call l.session phase l.text) lines
+
+-- the calls of phases numbered from one on, in order
+abbrev pub calls_from : ℕ → List Phase → List Call
+calls_from phase [] = []
+calls_from phase (p ∷ ps) = calls_in phase p.lines ++ calls_from (phase + 1) ps
+
+-- the calls of a script, whose first phase is 1
+abbrev pub calls_asked : Script → List Call
+calls_asked script = calls_from 1 script.phases
+
+abbrev pub no_phase : Phase
+no_phase = record { judge = None; lines = [] }
+
+-- the texts of a session in a phase of a script, in order
+abbrev pub texts_of : List Phase → ℕ → ℕ → List (List ℕ)
+texts_of phases session number = map (λ (l : Line). l.text) (filter (λ (l : Line). l.session == session) (slice_index_or phases number no_phase).lines)
+
+-- The history's calls are those of the script, each once, in the script's order; so each session's calls in each phase are
+-- its own in their order.
+pub record HasAllCalls (history : List Entry) (script : Script) : Type 0 where
+  pub order : calls_made history ≡ calls_asked script
+  pub each : (session number : ℕ) → calls history session (number + 1) ≡ texts_of script.phases session number
+
+-- The history's calls are the first ones of the script: each session's are a front of its own, whole in every phase before
+-- the last one begun.
+pub record HasFirstCalls (history : List Entry) (all : List Call) : Type 0 where
+  pub rest : List Call
+  pub whole : all ≡ calls_made history ++ rest
+
+-- The bytes, of which there are 16,777,216 at most, write a script of which this holds.
+pub record Write (bytes : List ℕ) (P : Script → Type 0) : Type 0 where
+  pub few : length bytes ≤ 16777216
+  pub script : IsOkAnd (script_of bytes) P
+
+-- a fact of the script that the source told, where it tells
+abbrev pub Told : Option (List ℕ) → (Script → Type 0) → Type 0
+Told left P = IfSome left (λ bytes. Write bytes P)
+
+-- a fact of the script that is run: the generated one of a seed, else the one that the source told, where it tells
+abbrev pub Runs : Option ℕ → Option (List ℕ) → (Script → Type 0) → Type 0
+Runs (Some seed) left P = P (generated seed)
+Runs None left P = Told left P
+
+-- what is written of a history: its transcript, or with a seed its summary
+abbrev pub output : Option ℕ → List Entry → List ℕ
+output None history = text history
+output (Some seed) history = summary_text (summary history)
+
+-- What status 0 says: the output of one legal history was written, whole, and the history has the calls of the script.
+pub record WritesAll {S : Type 0} (seed : Option ℕ) (left old new : Option (List ℕ)) (core : Shown S) : Type 0 where
+  pub legal : IsLegal core.history
+  pub written : Appends old new (output seed core.history)
+  pub calls : Runs seed left (HasAllCalls core.history)
+
+-- What status 4 says where calls were made: the output of one legal history of the script's first calls was written.
+pub record StopsShort {S : Type 0} (seed : Option ℕ) (left old new : Option (List ℕ)) (core : Shown S) : Type 0 where
+  pub legal : IsLegal core.history
+  pub written : Appends old new (output seed core.history)
+  pub calls : Runs seed left (λ script. HasFirstCalls core.history (calls_asked script))
+
+-- What status 6 says: a front of such an output was written.
+pub record WritesFront {S : Type 0} (seed : Option ℕ) (left old new : Option (List ℕ)) (core : Shown S) : Type 0 where
+  pub legal : IsLegal core.history
+  pub written : AppendsFront old new (output seed core.history)
+  pub calls : Runs seed left (λ script. HasFirstCalls core.history (calls_asked script))
+
+-- The bytes, of which there are 16,777,216 at most, have this first fault.
+pub record HasFirst (bytes : List ℕ) (fault : ScriptFault) : Type 0 where
+  pub few : length bytes ≤ 16777216
+  pub first : script_of bytes ≡ Err fault
+
+-- Their first fault is that there are too many lines.
+pub record HasTooMany (bytes : List ℕ) : Type 0 where
+  pub lines : ℕ
+  pub first : HasFirst bytes (faults.TooMany lines)
+
+-- The source was read to its end, and this holds of the bytes that it told.
+pub record ReadsAll (left after : Option (List ℕ)) (P : List ℕ → Type 0) : Type 0 where
+  pub end : IsAtEnd after
+  pub told : IfSome left P
+
+-- What status 2 says: the source's bytes have this first fault, a line without a session or a byte that is not UTF-8.
+abbrev pub IsScriptFault : ScriptFault → Type 0
+IsScriptFault (faults.NoSession line) = Unit {0}
+IsScriptFault (faults.NotText offset) = Unit {0}
+IsScriptFault fault = ⊥
+
+pub record HasFault (left after : Option (List ℕ)) (fault : ScriptFault) : Type 0 where
+  pub kind : IsScriptFault fault
+  pub whole : ReadsAll left after (λ bytes. HasFirst bytes fault)
+
+-- What status 3 says: one byte more than 16,777,216 was taken, and no further one; or the first fault of the source's bytes
+-- is another limit passed.
+abbrev pub PassesLimit : Option (List ℕ) → Option (List ℕ) → Over → Type 0
+PassesLimit left after over.Bytes = TakesTooMany left after 16777216
+PassesLimit left after over.Lines = ReadsAll left after HasTooMany
+PassesLimit left after (over.Line n) = ReadsAll left after (λ bytes. HasFirst bytes (faults.TooLong n))
+
+-- What status 5 says: a fault was counted, before more than 16,777,216 bytes were taken.
+pub record FailsToRead (left after : Option (List ℕ)) (before now : ℕ) : Type 0 where
+  pub rose : Rose before now
+  pub taken : TakesUpTo left after 16777216

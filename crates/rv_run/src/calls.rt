@@ -1,0 +1,104 @@
+//! The calls of a script, made one after another.
+ghost use Rattle.std.specs.Prelude.{◌≡◌, ◌≤◌, ◌<◌, ◌+◌, ◌++◌, ◌∷◌, [], All, IfSome, OnErr, OnOk, length, map, max, unwrap_or};
+ghost use Rattle.rv_gen.specs.Workload.{HasCalls, IsCall};
+ghost use Rattle.rv_run.specs.Judges.{by_number, ruling_after};
+ghost use Rattle.rv_run.specs.Script.{HasFirstCalls, call, calls_from, calls_in, calls_made};
+ghost use Rattle.rv_run.specs.Making.{FitsPhase, Keeps, MakesCalls, MakesUnder};
+ghost use Rattle.rv_run.specs.Ruling.{AnswersAll, AnswersFirst, AnswersUnder, between, judging, ruled_by, ruled_from};
+
+use crate::judges::Judges;
+use rv_core::Core;
+use rv_judge::{Judge, Uncounted};
+use rv_reader::{Reader, Store};
+use rv_script::{Line, Phase};
+use rv_value::NoMemory;
+
+/// Makes the calls of all phases, the first of which is 1, each under the judge that was named last.
+pub fn make_calls<S: Store + Reader<Ledger = Uncounted> + Drop>(
+    core: &mut Core<S>,
+    judges: &mut Judges,
+    phases: &[Phase],
+) -> Result<(), NoMemory>
+    requires fresh { core.old.engine.history ≡ [] }
+    requires phase { core.old.engine.phase ≡ 1 }
+    requires few { length phases.now ≤ 200001 }
+    requires fits { All FitsPhase phases.now }
+    ensures ok { OnOk result (calls_made core.new.engine.history ≡ calls_from 1 phases.now) }
+    ensures first { HasFirstCalls core.new.engine.history (calls_from 1 phases.now) }
+    ensures ruling { OnOk result (judges.new.ruling ≡ ruling_after judges.old.ruling phases.now) }
+    ensures ruled { OnOk result (AnswersAll (λ s. S.shown s) core.old.beside (ruled_from judges.old.ruling 1 phases.now) (between core.old.engine (map (λ j. judging (would j) (state j)) (by_number judges.old.places.zero judges.old.places.one judges.old.places.two core.old.judge))) (between core.new.engine (map (λ j. judging (would j) (state j)) (by_number judges.new.places.zero judges.new.places.one judges.new.places.two core.new.judge)))) }
+    ensures stopped { OnErr result (AnswersFirst (λ s. S.shown s) core.old.beside (ruled_from judges.old.ruling 1 phases.now) (between core.old.engine (map (λ j. judging (would j) (state j)) (by_number judges.old.places.zero judges.old.places.one judges.old.places.two core.old.judge))) core.new.engine.history) }
+    ensures beside { core.new.beside ≡ core.old.beside }
+{
+    let mut number = 0u32;
+    'phases: for phase in phases {
+        enter_phase(core, judges, number, phase.judge);
+        make_phase(core, judges, phase.lines.as_slice())?;
+        number += 1;
+    }
+    Ok(())
+}
+
+/// Goes on to the phase behind so many others, under the judge that it names.
+fn enter_phase<S: Store + Reader<Ledger = Uncounted> + Drop>(
+    core: &mut Core<S>,
+    judges: &mut Judges,
+    number: u32,
+    judge: Option<u8>,
+)
+    requires phase { core.old.engine.phase ≡ max 1 number }
+    requires few { number ≤ 200001 }
+    requires known { IfSome judge (λ named. named < 3) }
+    ensures engine { core.new.engine ≡ record core.old.engine { phase = number + 1 } }
+    ensures all { by_number judges.new.places.zero judges.new.places.one judges.new.places.two core.new.judge ≡ by_number judges.old.places.zero judges.old.places.one judges.old.places.two core.old.judge }
+    ensures ruling { judges.new.ruling ≡ unwrap_or judge judges.old.ruling }
+    ensures beside { core.new.beside ≡ core.old.beside }
+{
+    if number > 0 {
+        core.next_phase();
+    }
+    if let Some(named) = judge {
+        judges.seat(core, named);
+    }
+}
+
+/// Makes the calls of a phase.
+fn make_phase<S: Store + Reader<Ledger = Uncounted> + Drop>(
+    core: &mut Core<S>,
+    _beside: &Judges,
+    lines: &[Line],
+) -> Result<(), NoMemory>
+    requires { All IsCall lines.now }
+    ensures ok { OnOk result (calls_made core.new.engine.history ≡ calls_made core.old.engine.history ++ calls_in core.old.engine.phase lines.now) }
+    ensures part { MakesCalls core.old.engine.history core.new.engine.history core.old.engine.phase lines.now }
+
+    // Wherever other judges stand, and whichever number the one that rules has.
+    ensures ruled { OnOk result (MakesUnder (λ j. would j) (λ j. state j) core.old.judge core.new.judge (λ number before after. AnswersAll (λ s. S.shown s) core.old.beside (map (ruled_by number) (calls_in core.old.engine.phase lines.now)) (between core.old.engine before) (between core.new.engine after))) }
+    ensures stopped { OnErr result (MakesUnder (λ j. would j) (λ j. state j) core.old.judge core.new.judge (λ number before after. AnswersFirst (λ s. S.shown s) core.old.beside (map (ruled_by number) (calls_in core.old.engine.phase lines.now)) (between core.old.engine before) core.new.engine.history)) }
+    ensures rules { Keeps (λ j. would j) core.old.judge core.new.judge }
+    ensures phase { core.new.engine.phase ≡ core.old.engine.phase }
+    ensures beside { core.new.beside ≡ core.old.beside }
+{
+    'lines: for line in lines {
+        make_call(core, _beside, line)?;
+    }
+    Ok(())
+}
+
+/// Makes the call of a line.
+fn make_call<S: Store + Reader<Ledger = Uncounted> + Drop>(
+    core: &mut Core<S>,
+    _beside: &Judges,
+    line: &Line,
+) -> Result<(), NoMemory>
+    requires { IsCall line.now }
+    ensures ok { OnOk result (calls_made core.new.engine.history ≡ calls_made core.old.engine.history ++ calls_in core.old.engine.phase (line.now ∷ [])) }
+    ensures err { OnErr result (core.new.engine.history ≡ core.old.engine.history) }
+    ensures ruled { OnOk result (MakesUnder (λ j. would j) (λ j. state j) core.old.judge core.new.judge (λ number before after. AnswersUnder (λ s. S.shown s) core.old.beside (ruled_by number (call line.now.session core.old.engine.phase line.now.text)) (between core.old.engine before) (between core.new.engine after))) }
+    ensures rules { Keeps (λ j. would j) core.old.judge core.new.judge }
+    ensures phase { core.new.engine.phase ≡ core.old.engine.phase }
+    ensures beside { core.new.beside ≡ core.old.beside }
+{
+    let _ = core.call(line.session, line.text.as_str())?;
+    Ok(())
+}

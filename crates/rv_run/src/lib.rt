@@ -1,0 +1,13 @@
+//! The top call: a script from a source or from a seed, its transcript or its summary to a sink, over any store and under
+//! any three judges.
+#![tactic(auto)]
+
+mod calls;
+mod judges;
+pub mod run;
+pub mod status;
+pub mod words;
+
+pub use run::{Ran, run_plain};
+pub use status::{Over, Status};
+pub use words::read_words;
