@@ -1,4 +1,5 @@
 pub mod Bases
+pub mod Bounding
 pub mod Calling
 pub mod Choosing
 pub mod Databases

@@ -1,5 +1,5 @@
 -- One turn of a FETCH, as a part of it.
-use Rattle.std.proofs.Common.{◌≡◌, ℕ, suc, zero, [], ◌∷◌, List, Option, Some, None, IsSome, refl, sym, subst, inl, inr, slice_get, slice_set}
+use Rattle.std.proofs.Common.{◌≡◌, ℕ, zero, List, Option, Some, None, IsSome, refl, slice_get, slice_set}
 use Rattle.rv_judge.specs.declared.judging.Facts.{Facts}
 use Rattle.rv_judge.specs.Verdicts.{Ruling}
 use Rattle.rv_lang.specs.declared.reply.Reply.{Reply}
@@ -11,21 +11,15 @@ use Rattle.rv_join.specs.declared.plan.PlanStep.{PlanStep}
 use Rattle.rv_join.specs.declared.plan.PlanStep.TheVariants.{Row, End, Working}
 use Rattle.rv_cursor.specs.declared.cursor.Open.{Open}
 use Rattle.rv_cursor.specs.Left.{SameCursor, TakesPart, left, seen_by}
-use Rattle.rv_cursor.specs.Moves.{FetchMoves, RepliesTo, Ruled, StepsFront, Turn, TurnMoves, ruled}
+use Rattle.rv_cursor.specs.Moves.{FetchMoves, RepliesTo, Ruled, TurnMoves, ruled}
 use Rattle.rv_core.specs.Db.{seen}
 use Rattle.rv_core.specs.Doing.{PartIs, TakesAt}
 use Rattle.rv_core.specs.Obeying.{FetchOf, MovesAt, TurnOf}
 use Rattle.rv_core.proofs.Opens.{fetches_at, offers_no_refusal, same_at}
 
 -- a turn that makes a reply is a FETCH
-fetches_by : (step : PlanStep) (replies : Reply × Reply) (most : ℕ) (would : ℕ → Facts → Ruling) (shown : Shown) (old new : Ruled) → RepliesTo step (Some replies) → Turn step most would shown old new → FetchMoves most would shown old new
-fetches_by (Row o) replies most would shown old new r t = record { rounds = suc zero; mid = new; made = (old, refl, record { stepped = t.stepped; front = t.front; beside = t.beside }); last = inl refl }
-fetches_by End replies most would shown old new r t = record { rounds = zero; mid = old; made = refl; last = inr (subst (λ (x : Ruled). StepsFront would shown old x) (sym t.beside) t.front) }
-fetches_by Working replies most would shown old new r t = absurd (cc)
-
-pub turn_fetches : (hand : Option Offer) (replies : Reply × Reply) (most : ℕ) (would : ℕ → Facts → Ruling) (shown : Shown) (old new : Ruled) → TurnMoves hand (Some replies) most would shown old new → FetchMoves most would shown old new
-turn_fetches (Some o) replies most would shown old new t = record { rounds = zero; mid = old; made = refl; last = inl t.1 }
-turn_fetches None replies most would shown old new t = fetches_by t.0 replies most would shown old new t.1 t.2
+pub turn_fetches : (hand : Option Offer) (replies : Reply × Reply) (most : ℕ) (would : ℕ → Facts → Ruling) (shown : Shown) (old new : Ruled) → TurnMoves hand (Some replies) most would shown old new → FetchMoves hand most would shown old new
+turn_fetches hand replies most would shown old new t = record { turns = zero; mid = old; made = refl; replies = replies; last = t }
 
 -- which replies it makes is not said here
 replied : (step : PlanStep) (r s : Reply × Reply) → RepliesTo step (Some r) → RepliesTo step (Some s)
@@ -46,7 +40,7 @@ part_at shown cs place c new None at same takes = same_at shown cs place c new a
 
 pub part_moves : (most : ℕ) (would : ℕ → Facts → Ruling) (shown : Shown) (cs : List Open) (place judge after : ℕ) (c new : Open) (part : Option (Reply × Reply)) → slice_get cs place ≡ Some c → SameCursor c new → (IsSome c.hand → ruled new after ≡ ruled c judge) → TurnMoves c.hand part most would (seen_by shown c) (ruled c judge) (ruled new after)
     → PartIs (λ (replies : Reply × Reply). MovesAt (FetchOf most would) shown place judge after cs (slice_set cs place new)) (MovesAt (TurnOf None most would) shown place judge after cs (slice_set cs place new)) part
-part_moves most would shown cs place judge after c new (Some replies) at same held t = record { before = c; after = new; here = at; set = refl; same = same; moved = record { rounds = turn_fetches c.hand replies most would (seen_by shown c) (ruled c judge) (ruled new after) t; held = held } }
+part_moves most would shown cs place judge after c new (Some replies) at same held t = record { before = c; after = new; here = at; set = refl; same = same; moved = record { turns = turn_fetches c.hand replies most would (seen_by shown c) (ruled c judge) (ruled new after) t; held = held } }
 part_moves most would shown cs place judge after c new None at same held t = record { before = c; after = new; here = at; set = refl; same = same; moved = t }
 
 pub part_turns : (most : ℕ) (would : ℕ → Facts → Ruling) (shown : Shown) (cs : List Open) (place judge after : ℕ) (c new : Open) (part : Option (Reply × Reply)) → slice_get cs place ≡ Some c → SameCursor c new → TurnMoves c.hand part most would (seen_by shown c) (ruled c judge) (ruled new after)

@@ -1,8 +1,9 @@
 -- WHAT A CALL DOES TO THE PLANS OF THE OPEN CURSORS, and what it tells of them.
-use Rattle.std.specs.Prelude.{◌≡◌, ◌<◌, ◌+◌, ◌==◌, ℕ, Bool, true, false, List, [], ◌∷◌, ◌++◌, Option, Some, None, Result, Ok, Err, IfSome, IsSome, not, filter, remove, slice_get, slice_set}
+use Rattle.std.specs.Prelude.{◌≡◌, ◌<◌, ◌≤◌, ◌+◌, ◌==◌, ℕ, Bool, true, false, List, [], ◌∷◌, ◌++◌, Option, Some, None, Result, Ok, Err, IfSome, IsSome, not, filter, remove, slice_get, slice_set}
 use Rattle.std.specs.List.{AllByRecursion}
 use Rattle.rv_judge.specs.declared.judging.Facts.{Facts}
 use Rattle.rv_judge.specs.Verdicts.{Ruling}
+use Rattle.rv_judge.specs.Counting.{reads}
 use Rattle.rv_lang.specs.declared.statement.Statement.{Statement}
 use Rattle.rv_lang.specs.declared.reply.Refusal.{Refusal}
 use Rattle.rv_lang.specs.declared.reply.Reply.{Reply}
@@ -16,9 +17,12 @@ use Rattle.rv_model.specs.declared.state.State.{State}
 use Rattle.rv_model.specs.Showing.{trace_named}
 use Rattle.rv_model.specs.Step.{rows_seen, understood}
 use Rattle.rv_model.specs.Transactions.{transaction_of}
+use Rattle.rv_retrieval.specs.Short.{Settled, fetches_left, has_short}
+use Rattle.rv_join.specs.Alone.{plan_effort, plan_life}
 use Rattle.rv_join.specs.Asking.{IsAsked}
 use Rattle.rv_join.specs.Pieces.{counted_up, plan_awaited, plan_pieces}
-use Rattle.rv_join.specs.Plans.{LeadsWith, plan_trace}
+use Rattle.rv_join.specs.Plans.{LeadsWith, Planned, plan_trace, plan_work, stage_of}
+use Rattle.rv_join.specs.Work.{row_cost}
 use Rattle.rv_cursor.specs.declared.cursor.Open.{Open}
 use Rattle.rv_cursor.specs.Left.{CursorFits, SameCursor, seen_by}
 use Rattle.rv_cursor.specs.Moves.{FetchMoves, Moves, Ruled, StepsBacks, TurnMoves, ruled}
@@ -63,14 +67,26 @@ abbrev pub AnyOf : (ℕ → Facts → Ruling) → Open → Shown → Ruled → R
 AnyOf would c shown old new = Moves would shown old new
 
 pub record FetchOf (most : ℕ) (would : ℕ → Facts → Ruling) (c : Open) (shown : Shown) (old new : Ruled) : Type 0 where
-  pub rounds : FetchMoves most would shown old new
+  pub turns : FetchMoves c.hand most would shown old new
   pub held : IsSome c.hand → new ≡ old
 
 abbrev pub TurnOf : Option (Reply × Reply) → ℕ → (ℕ → Facts → Ruling) → Open → Shown → Ruled → Ruled → Type 0
 TurnOf part most would c shown old new = TurnMoves c.hand part most would shown old new
 
+-- THE BOUNDS WITH WHICH A PLAN BEGINS. It has read leaves alone. These reads and the effort of the first FROM item's retrieval
+-- are together at most a number of the store's pages, cuts and entries, and so is the work left of all items. Where a restricted
+-- index of the first item has an exact estimate of at most 20, the background is over, and at most 20 records are left to be
+-- fetched.
+pub record IsBounded (shown : Shown) (s : Select) (indexes : List IndexDef) (snap : ℕ) (p : Planned) : Type 0 where
+  pub work : plan_work shown p ≤ row_cost shown snap p.asked.items
+  pub life : reads p.reads + plan_effort shown p ≤ plan_life s indexes shown snap
+  pub pages : p.reads.pages ≡ 0
+  pub records : p.reads.records ≡ 0
+  pub short : has_short p.stack.at.here.query shown ≡ true → Settled p.stack.at.here × (fetches_left p.stack.at.here shown ≤ 20)
+
 -- OPEN adds a cursor last, under the next number, at the base of the session's transaction, whose plan is that of its select:
--- drawn from what the store shows, with the strategy and the scans that the five rules choose by the store's own estimates.
+-- drawn from what the store shows, with the strategy and the scans that the five rules choose by the store's own estimates,
+-- and with the bounds of such a plan.
 pub record OpensPlan (shown : Shown) (s : Select) (db : State) (session : ℕ) (name : List ℕ) (old new : Plans) : Type 0 where
   pub cursor : Open
   pub added : new ≡ record old { opens = old.opens ++ cursor ∷ []; opened = old.opened + 1 }
@@ -82,6 +98,8 @@ pub record OpensPlan (shown : Shown) (s : Select) (db : State) (session : ℕ) (
   pub rows : AllByRecursion (λ (t : ℕ). shown.rows t cursor.snap ≡ rows_seen db (transaction_of db.transactions.active session) t) s.tables
   pub fits : CursorFits shown cursor
   pub leads : LeadsWith (seen_by shown cursor) cursor.plan
+  pub stage : cursor.plan.stage ≡ stage_of s db.schema.indexes
+  pub bounds : IsBounded (seen_by shown cursor) s db.schema.indexes cursor.snap cursor.plan
 
 -- STEP: so many background steps, and fewer than asked only where no piece is awaited then
 pub record StepOf (would : ℕ → Facts → Ruling) (done most : ℕ) (c : Open) (shown : Shown) (old new : Ruled) : Type 0 where

@@ -7,9 +7,9 @@ ghost use Rattle.rv_catalog.specs.Fits.{IsQueryOf};
 ghost use Rattle.rv_catalog.specs.Schema.{Schema};
 ghost use Rattle.rv_judge.specs.Runs.{Allowed};
 ghost use Rattle.rv_join.specs.Asking.{IsAsked, indexes_from, item_at};
-ghost use Rattle.rv_join.specs.Plans.{LeadsWith, numbers_of, plan_trace};
+ghost use Rattle.rv_join.specs.Plans.{LeadsWith, numbers_of, plan_trace, stage_of};
 ghost use Rattle.rv_snapshot.specs.Alone.{alone};
-ghost use Rattle.rv_core.specs.Obeying.{AnyOf, FetchOf, MovesAt, StepOf, TurnOf};
+ghost use Rattle.rv_core.specs.Obeying.{AnyOf, FetchOf, IsBounded, MovesAt, StepOf, TurnOf};
 ghost use Rattle.rv_lang.specs.declared.reply.Refusal.{Refusal as TheRefusal};
 ghost use Rattle.rv_lang.specs.declared.reply.Reply.TheVariants.{Refused};
 ghost use Rattle.rv_model.specs.declared.transactions.Transaction.{Transaction};
@@ -152,11 +152,14 @@ pub fn plan_cursor<S: Store + Reader<Ledger = Uncounted>>(
     ensures name { IfOk result (λ c. c.name ≡ name) }
     ensures asked { IfOk result (λ c. IsAsked select.now catalog.now.indexes snap number c.plan.asked) }
     ensures leads { IfOk result (λ c. LeadsWith (alone (S.shown store.now) snap) c.plan) }
+    ensures stage { IfOk result (λ c. c.plan.stage ≡ stage_of select.now catalog.now.indexes) }
+    ensures bounds { IfOk result (λ c. IsBounded (alone (S.shown store.now) snap) select.now catalog.now.indexes snap c.plan) }
     ensures snap { IfOk result (λ c. c.snap ≡ snap) }
 {
     // What a store tells with its newest commit, and what a reader tells with a table's sizes, holds of what is read.
     let _newest = store.last();
     look_at(store, select.tables.as_slice(), snap);
+    let mut steps = Steps::new(Uncounted);
     open_cursor(
         alloc,
         store,
@@ -166,7 +169,7 @@ pub fn plan_cursor<S: Store + Reader<Ledger = Uncounted>>(
         name,
         number,
         snap,
-        &mut Steps::new(Uncounted),
+        &mut steps,
     )
 }
 

@@ -15,7 +15,7 @@ use Rattle.rv_retrieval.specs.Given.{AwaitsPiece}
 use Rattle.rv_retrieval.specs.Rulings.{GivesOn}
 use Rattle.rv_retrieval.specs.Stepping.{piece_read}
 use Rattle.rv_retrieval.specs.Telling.{CountsRise, SameCounts}
-use Rattle.rv_join.specs.Alone.{IsAlone, PlanAsks, StepsOnce, TakesOnce, plan_effort}
+use Rattle.rv_join.specs.Alone.{IsAlone, PlanAsks, PlanSpends, Spends, StepsOnce, TakesOnce, plan_effort}
 use Rattle.rv_join.specs.Pieces.{CountsPiece, GivesPiece, counted_up, plan_awaited, plan_pieces, stack_builds, waited, waiting}
 use Rattle.rv_join.specs.Plans.{PlanKept, PlanMoves, PlanStays, Planned, WorkTo, plan_trace, plan_work}
 use Rattle.rv_join.specs.declared.plan.PlanStep.{PlanStep}
@@ -23,8 +23,7 @@ use Rattle.rv_join.specs.declared.plan.PlanStep.TheVariants.{Row, End, Working}
 use Rattle.rv_cursor.specs.declared.cursor.Open.{Open}
 use Rattle.rv_cursor.specs.declared.cursor.Filled.{Filled}
 use Rattle.rv_cursor.specs.declared.cursor.Filled.TheVariants.{Brought, Nearer, Ended}
-use Rattle.rv_cursor.specs.Left.{Fills, seen_by}
-use Rattle.rv_cursor.specs.Moves.{Beside, BesideBy, FetchMoves, GivesBack, Move, Moves, MovesBy, MovesByAll, RepliesTo, Round, Rounds, Ruled, StepsBack, StepsBacks, StepsBeside, StepsFront, TakesOut, Turn, TurnMoves, TurnTo, WorksPiece, ruled}
+use Rattle.rv_cursor.specs.Moves.{Beside, BesideBy, FetchMoves, FrontTo, GivesBack, Move, Moves, MovesBy, MovesByAll, RepliesTo, Ruled, StepsBack, StepsBacks, StepsBeside, StepsFront, TakesOut, Turn, TurnMoves, TurnTo, TurnsOn, WorksPiece, ruled}
 use Rattle.rv_cursor.specs.Moves.Move.{Front, Take, Give}
 
 -- Moves.
@@ -60,9 +59,16 @@ work_le (Row o) n k less = less
 work_le End n k less = less
 work_le Working n k less = omega (arith, less)
 
-pub front_of : {E : Type 0} (r : Result PlanStep E) (would : ℕ → Facts → Ruling) (shown : Shown) (state after : ℕ) (c d : Counts) (old new : Planned) → CountsRise (plan_trace old) (plan_trace new) c d → PlanAsks would state after shown c old new → (IsAlone old → StepsOnce would state after shown c d old.stack.at new.stack.at) → IfOk r (λ m. PlanMoves shown m old new) → OnErr r (PlanKept shown old new) → StepsFront would shown (record { plan = old; judge = state }) (record { plan = new; judge = after })
-front_of (Ok m) would shown state after c d old new counts asks once moves kept = record { asked = moves.asked; before = c; after = d; counts = counts; asks = asks; once = once; work = work_le m (plan_work shown old) (plan_work shown new) moves.work }
-front_of (Err e) would shown state after c d old new counts asks once moves kept = record { asked = kept.asked; before = c; after = d; counts = counts; asks = asks; once = once; work = kept.work }
+pub front_ok : (m : PlanStep) (would : ℕ → Facts → Ruling) (shown : Shown) (state after : ℕ) (c d : Counts) (old new : Planned) → CountsRise (plan_trace old) (plan_trace new) c d → PlanAsks would state after shown c old new → (IsAlone old → StepsOnce would state after shown c d old.stack.at new.stack.at) → PlanMoves shown m old new → (IsAlone old → PlanSpends m c d (plan_effort shown old) (plan_effort shown new)) → StepsFront (Some m) would shown (record { plan = old; judge = state }) (record { plan = new; judge = after })
+front_ok m would shown state after c d old new counts asks once moves spends = record { asked = moves.asked; before = c; after = d; counts = counts; asks = asks; once = once; work = work_le m (plan_work shown old) (plan_work shown new) moves.work; answers = moves; spends = spends }
+
+pub front_err : (would : ℕ → Facts → Ruling) (shown : Shown) (state after : ℕ) (c d : Counts) (old new : Planned) → CountsRise (plan_trace old) (plan_trace new) c d → PlanAsks would state after shown c old new → (IsAlone old → StepsOnce would state after shown c d old.stack.at new.stack.at) → PlanKept shown old new → StepsFront None would shown (record { plan = old; judge = state }) (record { plan = new; judge = after })
+front_err would shown state after c d old new counts asks once kept = record { asked = kept.asked; before = c; after = d; counts = counts; asks = asks; once = once; work = kept.work; answers = tt; spends = λ alone. tt }
+
+pub front_moves : (f : Filled) (hand : Option Offer) (would : ℕ → Facts → Ruling) (shown : Shown) (old new : Ruled) → FrontTo f hand would shown old new → Moves would shown old new
+front_moves Brought hand would shown old new front = moves_by Front would shown old new (Some (Row front.0), front.2)
+front_moves Nearer hand would shown old new front = moves_by Front would shown old new (Some Working, front.1)
+front_moves Ended hand would shown old new front = moves_by Front would shown old new (Some End, front.1)
 
 -- A background step.
 
@@ -74,8 +80,13 @@ pub gives_back : (g : Given) (would : ℕ → Facts → Ruling) (shown : Shown) 
 gives_back Accepted would shown state after piece sieved old new awaits same gives obeys counted counts lowers less stays = record { piece = sieved; awaits = subst (AwaitsPiece (waiting old)) (sym same) awaits; obeys = obeys; counted = counted; counts = counts; lowers = lowers; less = less; stays = stays }
 gives_back (Stale asked now) would shown state after piece sieved old new awaits same gives obeys counted counts lowers less stays = absurd (gives.0 (subst (AwaitsPiece (waiting old)) (sym same) awaits))
 
-pub back_is : (would : ℕ → Facts → Ruling) (shown : Shown) (a b c : Ruled) → TakesOut shown a b → GivesBack would shown b c → StepsBack would shown a c
-back_is would shown a b c takes gives = record { taken = b; takes = takes; gives = gives }
+pub back_is : (would : ℕ → Facts → Ruling) (shown : Shown) (state : ℕ) (c d : Counts) (old mid : Planned) (new : Ruled) → d ≡ piece_read (waiting old) c → CountsRise (plan_trace old) (plan_trace mid) c d → (IsAlone old → TakesOnce shown c d old.stack.at mid.stack.at) → plan_awaited mid ≡ plan_awaited old → plan_pieces mid ≡ plan_pieces old → PlanStays shown old mid → (IsAlone old → Spends c d (plan_effort shown old) (plan_effort shown mid)) → GivesBack would shown (record { plan = mid; judge = state }) new → StepsBack would shown (record { plan = old; judge = state }) new
+back_is would shown state c d old mid new reads counts once awaited pieces stays spends gives = record {
+  taken = record { plan = mid; judge = state };
+  takes = record { judge = refl; before = c; after = d; reads = reads; counts = counts; once = once; awaited = awaited; pieces = pieces; stays = stays };
+  spends = spends;
+  gives = gives;
+}
 
 pub back_moves : (would : ℕ → Facts → Ruling) (shown : Shown) (old new : Ruled) → StepsBack would shown old new → Moves would shown old new
 back_moves would shown old new back = record { moves = Give ∷ Take ∷ []; made = (back.taken, (old, refl, back.takes), back.gives) }
@@ -126,16 +137,16 @@ beside_full most done w shown a b full within first = record { done = done; with
 -- Turns of a fetch.
 
 -- a foreground step that brought no end, and the background steps beside it
-pub turn_made : (step : PlanStep) (most : ℕ) (v w : ℕ → Facts → Ruling) (s t : Shown) (a b c : Ruled) → v ≡ w → s ≡ t → StepsFront w t a b → PlanMoves t step a.plan b.plan → (Beside most w t b c → BesideBy step most w t b c) → Beside most v s b c → Turn step most w t a c
-turn_made step most v w s t a b c rule seen front answers is beside = record { stepped = b; front = front; answers = answers; beside = is (turned (λ u x. Beside most u x b c) v w s t rule seen beside) }
+pub turn_made : (step : PlanStep) (most : ℕ) (v w : ℕ → Facts → Ruling) (s t : Shown) (a b c : Ruled) → v ≡ w → s ≡ t → StepsFront (Some step) w t a b → (Beside most w t b c → BesideBy step most w t b c) → Beside most v s b c → Turn step most w t a c
+turn_made step most v w s t a b c rule seen front is beside = record { stepped = b; front = front; beside = is (turned (λ u x. Beside most u x b c) v w s t rule seen beside) }
 
-pub turn_on : (f : Filled) (most : ℕ) (v w : ℕ → Facts → Ruling) (shown : Shown) (s t : Shown) (old mid new : Open) (state between after : ℕ) → (f ≡ Ended → ⊥) → v ≡ w → s ≡ t → seen_by shown old ≡ t → new.hand ≡ mid.hand → StepsFront w t (ruled old state) (ruled mid between) → Fills shown f old mid → Beside most v s (ruled mid between) (ruled new after) → TurnTo f new.hand most w t (ruled old state) (ruled new after)
-turn_on Brought most v w shown s t old mid new state between after more rule seen at hand front fills beside = (fills.0, hand ∙ fills.1.held, turn_made (Row fills.0) most v w s t (ruled old state) (ruled mid between) (ruled new after) rule seen front (subst (λ (x : Shown). PlanMoves x (Row fills.0) old.plan mid.plan) at fills.1.moves) (λ b. b) beside)
-turn_on Nearer most v w shown s t old mid new state between after more rule seen at hand front fills beside = (hand ∙ fills.held, turn_made Working most v w s t (ruled old state) (ruled mid between) (ruled new after) rule seen front (subst (λ (x : Shown). PlanMoves x Working old.plan mid.plan) at fills.moves) (λ b. b) beside)
-turn_on Ended most v w shown s t old mid new state between after more rule seen at hand front fills beside = absurd (more refl)
+pub turn_on : (f : Filled) (most : ℕ) (v w : ℕ → Facts → Ruling) (s t : Shown) (hand later : Option Offer) (a b c : Ruled) → (f ≡ Ended → ⊥) → v ≡ w → s ≡ t → later ≡ hand → FrontTo f hand w t a b → Beside most v s b c → TurnTo f later most w t a c
+turn_on Brought most v w s t hand later a b c more rule seen same front beside = (front.0, same ∙ front.1, turn_made (Row front.0) most v w s t a b c rule seen front.2 (λ x. x) beside)
+turn_on Nearer most v w s t hand later a b c more rule seen same front beside = (same ∙ front.0, turn_made Working most v w s t a b c rule seen front.1 (λ x. x) beside)
+turn_on Ended most v w s t hand later a b c more rule seen same front beside = absurd (more refl)
 
-pub turn_ends : (most : ℕ) (would : ℕ → Facts → Ruling) (shown : Shown) (old new : Open) (state after : ℕ) → StepsFront would (seen_by shown old) (ruled old state) (ruled new after) → Fills shown Ended old new → TurnTo Ended new.hand most would (seen_by shown old) (ruled old state) (ruled new after)
-turn_ends most would shown old new state after front fills = (fills.held, record { stepped = ruled new after; front = front; answers = fills.moves; beside = refl })
+pub turn_ends : (most : ℕ) (would : ℕ → Facts → Ruling) (shown : Shown) (hand : Option Offer) (a b : Ruled) → FrontTo Ended hand would shown a b → TurnTo Ended hand most would shown a b
+turn_ends most would shown hand a b front = (front.0, record { stepped = b; front = front.1; beside = refl })
 
 -- a turn that brought a row, which is given
 pub turn_gives : (most : ℕ) (would : ℕ → Facts → Ruling) (shown : Shown) (hand : Option Offer) (replies : Reply × Reply) (state after : ℕ) (old mid new : Planned) → new ≡ mid → TurnTo Brought hand most would shown (record { plan = old; judge = state }) (record { plan = mid; judge = after }) → TurnMoves None (Some replies) most would shown (record { plan = old; judge = state }) (record { plan = new; judge = after })
@@ -153,26 +164,30 @@ held_turn (Some o) replies most would shown state old new some same = (refl, ap 
 held_turn None replies most would shown state old new some same = absurd (cc)
 
 -- a turn after which the fetch goes on
-pub fetch_round : (hand : Option Offer) (most n : ℕ) (v w : ℕ → Facts → Ruling) (s t : Shown) (a b c : Ruled) → v ≡ w → s ≡ t → Rounds n most w t a b → TurnMoves hand None most v s b c → Rounds (suc n) most w t a c
-fetch_round (Some o) most n v w s t a b c rule seen made turn = absurd (cc)
-fetch_round None most n v w s t a b c rule seen made turn = by turn.0 turn.1 turn.2
+pub fetch_on : (hand : Option Offer) (most n : ℕ) (v w : ℕ → Facts → Ruling) (s t : Shown) (a b c : Ruled) → v ≡ w → s ≡ t → TurnsOn n most w t a b → TurnMoves hand None most v s b c → TurnsOn (suc n) most w t a c
+fetch_on (Some o) most n v w s t a b c rule seen made turn = absurd (cc)
+fetch_on None most n v w s t a b c rule seen made turn = by turn.0 turn.1 turn.2
   where
-    by : (m : PlanStep) → RepliesTo m None → Turn m most v s b c → Rounds (suc n) most w t a c
+    by : (m : PlanStep) → RepliesTo m None → Turn m most v s b c → TurnsOn (suc n) most w t a c
     by (Row o) replies x = absurd (cc)
     by End replies x = absurd (cc)
-    by Working replies x = (b, made, turned (λ u y. Round most u y b c) v w s t rule seen (record { stepped = x.stepped; front = x.front; beside = x.beside }))
+    by Working replies x = (b, made, turned (λ u y. Turn Working most u y b c) v w s t rule seen x)
+
+-- it had no row in hand
+pub no_hand : (hand : Option Offer) (most : ℕ) (v : ℕ → Facts → Ruling) (s : Shown) (b c : Ruled) → TurnMoves hand None most v s b c → hand ≡ None
+no_hand (Some o) most v s b c turn = absurd (cc)
+no_hand None most v s b c turn = refl
+
+pub none_held : (hand : Option Offer) → IsSome hand → hand ≡ None → ⊥
+none_held None some none = absurd (cc)
+none_held (Some o) some none = cc
 
 -- the turn that makes the replies
-pub fetch_ends : (hand : Option Offer) (replies : Reply × Reply) (most n : ℕ) (v w : ℕ → Facts → Ruling) (s t : Shown) (a b c : Ruled) → v ≡ w → s ≡ t → Rounds n most w t a b → TurnMoves hand (Some replies) most v s b c → FetchMoves most w t a c
-fetch_ends (Some o) replies most n v w s t a b c rule seen made turn = record { rounds = n; mid = b; made = made; last = inl turn.1 }
-fetch_ends None replies most n v w s t a b c rule seen made turn = by turn.0 turn.1 turn.2
-  where
-    by : (m : PlanStep) → RepliesTo m (Some replies) → Turn m most v s b c → FetchMoves most w t a c
-    by (Row o) some x = record { rounds = suc n; mid = c; made = (b, made, turned (λ u y. Round most u y b c) v w s t rule seen (record { stepped = x.stepped; front = x.front; beside = x.beside })); last = inl refl }
-    by End some x = record { rounds = n; mid = b; made = made; last = inr (turned (λ u y. StepsFront u y b c) v w s t rule seen (subst (StepsFront v s b) (sym x.beside) x.front)) }
-    by Working some x = absurd (cc)
-
--- no turn goes on where a row was in hand
-pub held_ends : {X : Type 0} (hand : Option Offer) (most : ℕ) (v : ℕ → Facts → Ruling) (s : Shown) (b c : Ruled) → IsSome hand → TurnMoves hand None most v s b c → X
-held_ends (Some o) most v s b c some turn = absurd (cc)
-held_ends None most v s b c some turn = absurd (cc)
+pub fetch_ends : (hand first : Option Offer) (replies : Reply × Reply) (most n : ℕ) (v w : ℕ → Facts → Ruling) (s t : Shown) (a b c : Ruled) → v ≡ w → s ≡ t → hand ≡ first → TurnsOn n most w t a b → TurnMoves hand (Some replies) most v s b c → FetchMoves first most w t a c
+fetch_ends hand first replies most n v w s t a b c rule seen same made turn = record {
+  turns = n;
+  mid = b;
+  made = made;
+  replies = replies;
+  last = subst (λ (h : Option Offer). TurnMoves h (Some replies) most w t b c) same (turned (λ u y. TurnMoves hand (Some replies) most u y b c) v w s t rule seen turn);
+}

@@ -1,6 +1,6 @@
 -- HOW A CURSOR'S PLAN MOVES: by foreground steps, and by pieces that are taken, sieved and given, upon which the judge is
 -- obeyed.
-use Rattle.std.specs.Prelude.{◌≡◌, ◌⊎◌, ℕ, ◌<◌, ◌≤◌, Bool, true, false, Option, Some, None, IsSome, List, [], ◌∷◌, zero, suc}
+use Rattle.std.specs.Prelude.{◌≡◌, ◌⊎◌, ℕ, ◌<◌, ◌≤◌, Bool, true, false, Option, Some, None, IfSome, IsSome, List, [], ◌∷◌, zero, suc}
 use Rattle.rv_lang.specs.declared.reply.Reply.{Reply}
 use Rattle.rv_model.specs.declared.state.Offer.{Offer}
 use Rattle.rv_judge.specs.declared.judging.Facts.{Facts}
@@ -14,7 +14,7 @@ use Rattle.rv_retrieval.specs.Given.{AwaitsPiece}
 use Rattle.rv_retrieval.specs.Rulings.{GivesOn}
 use Rattle.rv_retrieval.specs.Stepping.{piece_read}
 use Rattle.rv_retrieval.specs.Telling.{CountsRise, SameCounts}
-use Rattle.rv_join.specs.Alone.{IsAlone, PlanAsks, StepsOnce, TakesOnce, plan_effort}
+use Rattle.rv_join.specs.Alone.{IsAlone, PlanAsks, PlanSpends, Spends, StepsOnce, TakesOnce, plan_effort}
 use Rattle.rv_join.specs.Pieces.{plan_awaited, plan_pieces, stack_builds, waited, waiting}
 use Rattle.rv_join.specs.Plans.{PlanMoves, PlanStays, Planned, plan_trace, plan_work}
 use Rattle.rv_join.specs.declared.plan.PlanStep.{PlanStep}
@@ -32,9 +32,10 @@ pub record Ruled : Type 0 where
 abbrev pub ruled : Open → ℕ → Ruled
 ruled c state = record { plan = c.plan; judge = state }
 
--- A FOREGROUND STEP, whatever it answers: at most one step of the innermost open retrieval, which asks the judge as often as
--- that step does, and obeys it
-pub record StepsFront (would : ℕ → Facts → Ruling) (shown : Shown) (old new : Ruled) : Type 0 where
+-- A FOREGROUND STEP, which answers this, or for which no memory is found: at most one step of the innermost open retrieval,
+-- which asks the judge as often as that step does, and obeys it. Over one FROM item it lowers the effort by its reads, and
+-- Working by at least one.
+pub record StepsFront (answer : Option PlanStep) (would : ℕ → Facts → Ruling) (shown : Shown) (old new : Ruled) : Type 0 where
   pub asked : new.plan.asked ≡ old.plan.asked
   pub before : Counts
   pub after : Counts
@@ -42,6 +43,8 @@ pub record StepsFront (would : ℕ → Facts → Ruling) (shown : Shown) (old ne
   pub asks : PlanAsks would old.judge new.judge shown before old.plan new.plan
   pub once : IsAlone old.plan → StepsOnce would old.judge new.judge shown before after old.plan.stack.at new.plan.stack.at
   pub work : plan_work shown new.plan ≤ plan_work shown old.plan
+  pub answers : IfSome answer (λ step. PlanMoves shown step old.plan new.plan)
+  pub spends : IsAlone old.plan → IfSome answer (λ step. PlanSpends step before after (plan_effort shown old.plan) (plan_effort shown new.plan))
 
 -- THE AWAITED PIECE IS TAKEN, or no memory was found for it: its leaf is read where it is not held; it is awaited as before,
 -- and none was counted
@@ -74,7 +77,7 @@ pub data Move : Type 0 where
   Give : Move
 
 abbrev pub MovesBy : Move → (ℕ → Facts → Ruling) → Shown → Ruled → Ruled → Type 0
-MovesBy Front would shown old new = StepsFront would shown old new
+MovesBy Front would shown old new = (answer : Option PlanStep) × StepsFront answer would shown old new
 MovesBy Take would shown old new = TakesOut shown old new
 MovesBy Give would shown old new = GivesBack would shown old new
 
@@ -88,10 +91,12 @@ pub record Moves (would : ℕ → Facts → Ruling) (shown : Shown) (old new : R
   pub moves : List Move
   pub made : MovesByAll moves would shown old new
 
--- A BACKGROUND STEP: the awaited piece is taken, sieved and given
+-- A BACKGROUND STEP: the awaited piece is taken, sieved and given. Over one FROM item the effort falls by what the take reads,
+-- and by at least one more.
 pub record StepsBack (would : ℕ → Facts → Ruling) (shown : Shown) (old new : Ruled) : Type 0 where
   pub taken : Ruled
   pub takes : TakesOut shown old taken
+  pub spends : IsAlone old.plan → Spends takes.before takes.after (plan_effort shown old.plan) (plan_effort shown taken.plan)
   pub gives : GivesBack would shown taken new
 
 -- a background step, or none since no piece is awaited
@@ -116,23 +121,6 @@ pub record Beside (most : ℕ) (would : ℕ → Facts → Ruling) (shown : Shown
   pub steps : StepsBeside done would shown old new
   pub ends : done < most → (stack_builds new.plan.stack ≡ false) ⊎ (plan_awaited new.plan ≡ None)
 
--- A ROUND OF A FETCH: a foreground step, and up to so many background steps behind it
-pub record Round (most : ℕ) (would : ℕ → Facts → Ruling) (shown : Shown) (old new : Ruled) : Type 0 where
-  pub stepped : Ruled
-  pub front : StepsFront would shown old stepped
-  pub beside : Beside most would shown stepped new
-
-abbrev pub Rounds : ℕ → ℕ → (ℕ → Facts → Ruling) → Shown → Ruled → Ruled → Type 0
-Rounds zero most would shown old new = new ≡ old
-Rounds (suc n) most would shown old new = (mid : Ruled) × Rounds n most would shown old mid × Round most would shown mid new
-
--- A FETCH: rounds, and at the end of what is left one more foreground step, which finds it
-pub record FetchMoves (most : ℕ) (would : ℕ → Facts → Ruling) (shown : Shown) (old new : Ruled) : Type 0 where
-  pub rounds : ℕ
-  pub mid : Ruled
-  pub made : Rounds rounds most would shown old mid
-  pub last : (new ≡ mid) ⊎ StepsFront would shown mid new
-
 -- A TURN OF A FETCH, which is what it does before another call may come between.
 
 -- beside a step that finds the end nothing is done
@@ -141,14 +129,19 @@ BesideBy (Row o) most would shown old new = Beside most would shown old new
 BesideBy End most would shown old new = new ≡ old
 BesideBy Working most would shown old new = Beside most would shown old new
 
+-- a foreground step that came to this, with what is then in hand
+abbrev pub FrontTo : Filled → Option Offer → (ℕ → Facts → Ruling) → Shown → Ruled → Ruled → Type 0
+FrontTo Brought hand would shown old new = (o : Offer) × (hand ≡ Some o) × StepsFront (Some (Row o)) would shown old new
+FrontTo Nearer hand would shown old new = (hand ≡ None) × StepsFront (Some Working) would shown old new
+FrontTo Ended hand would shown old new = (hand ≡ None) × StepsFront (Some End) would shown old new
+
 -- a foreground step that answers this, and the background steps beside it
 pub record Turn (step : PlanStep) (most : ℕ) (would : ℕ → Facts → Ruling) (shown : Shown) (old new : Ruled) : Type 0 where
   pub stepped : Ruled
-  pub front : StepsFront would shown old stepped
-  pub answers : PlanMoves shown step old.plan stepped.plan
+  pub front : StepsFront (Some step) would shown old stepped
   pub beside : BesideBy step most would shown stepped new
 
--- the same of a step that came to this, with what is then in hand
+-- the same of a step that came to this
 abbrev pub TurnTo : Filled → Option Offer → ℕ → (ℕ → Facts → Ruling) → Shown → Ruled → Ruled → Type 0
 TurnTo Brought hand most would shown old new = (o : Offer) × (hand ≡ Some o) × Turn (Row o) most would shown old new
 TurnTo Nearer hand most would shown old new = (hand ≡ None) × Turn Working most would shown old new
@@ -164,3 +157,16 @@ RepliesTo Working replies = replies ≡ None
 abbrev pub TurnMoves : Option Offer → Option (Reply × Reply) → ℕ → (ℕ → Facts → Ruling) → Shown → Ruled → Ruled → Type 0
 TurnMoves (Some o) replies most would shown old new = IsSome replies × (new ≡ old)
 TurnMoves None replies most would shown old new = (step : PlanStep) × RepliesTo step replies × Turn step most would shown old new
+
+-- A FETCH IS TURNS: so many that work on, and a last one, which makes the replies.
+
+abbrev pub TurnsOn : ℕ → ℕ → (ℕ → Facts → Ruling) → Shown → Ruled → Ruled → Type 0
+TurnsOn zero most would shown old new = new ≡ old
+TurnsOn (suc n) most would shown old new = (mid : Ruled) × TurnsOn n most would shown old mid × Turn Working most would shown mid new
+
+pub record FetchMoves (hand : Option Offer) (most : ℕ) (would : ℕ → Facts → Ruling) (shown : Shown) (old new : Ruled) : Type 0 where
+  pub turns : ℕ
+  pub mid : Ruled
+  pub made : TurnsOn turns most would shown old mid
+  pub replies : Reply × Reply
+  pub last : TurnMoves hand (Some replies) most would shown mid new

@@ -2,16 +2,18 @@
 ghost use Rattle.std.specs.Prelude.{◌≡◌, ◌+◌, ◌≤◌, true, false, None, Ok, IfOk, OnErr};
 ghost use Rattle.rv_judge.specs.Counting.{reads};
 ghost use Rattle.rv_retrieval.specs.Short.{OnlyLeaves, Settled, fetches_left, has_short};
+ghost use Rattle.rv_retrieval.specs.Telling.{CountsAll};
 ghost use Rattle.rv_join.specs.Alone.{plan_effort, plan_life};
 ghost use Rattle.rv_join.specs.Asking.{CanPlan, IsAsked};
 ghost use Rattle.rv_join.specs.Levels.{table_rows};
-ghost use Rattle.rv_join.specs.Plans.{LeadsWith};
+ghost use Rattle.rv_join.specs.Plans.{LeadsWith, plan_trace, plan_work, stage_of};
+ghost use Rattle.rv_join.specs.Work.{row_cost};
 ghost use Rattle.rv_model.specs.Offering.{offers_over};
 ghost use Rattle.rv_model.specs.Offers.{sorted};
 ghost use Rattle.rv_snapshot.specs.Alone.{alone};
 ghost use Rattle.rv_join.specs.Pieces.{plan_awaited, plan_pieces};
 ghost use Rattle.rv_cursor.specs.Left.{CursorFits, Fills, Stays, left, seen_by, work};
-ghost use Rattle.rv_cursor.specs.Moves.{Moves, StepsFront, WorksPiece, ruled};
+ghost use Rattle.rv_cursor.specs.Moves.{FrontTo, Moves, StepsFront, WorksPiece, ruled};
 
 use rv_catalog::{IndexDef, Select};
 use rv_join::{Plan, PlanStep};
@@ -62,9 +64,12 @@ pub fn open_cursor<R: Reader>(
     ensures left { IfOk result (λ c. left (R.shown reader.now) c ≡ sorted (offers_over select.now (table_rows (alone (R.shown reader.now) snap) snap))) }
     ensures asked { IfOk result (λ c. IsAsked select.now indexes.now snap number c.plan.asked) }
     ensures leads { IfOk result (λ c. LeadsWith (alone (R.shown reader.now) snap) c.plan) }
+    ensures stage { IfOk result (λ c. c.plan.stage ≡ stage_of select.now indexes.now) }
+    ensures work { IfOk result (λ c. plan_work (alone (R.shown reader.now) snap) c.plan ≤ row_cost (alone (R.shown reader.now) snap) snap c.plan.asked.items) }
     ensures life { IfOk result (λ c. reads steps.new + plan_effort (alone (R.shown reader.now) snap) c.plan ≤ reads steps.old + plan_life select.now indexes.now (alone (R.shown reader.now) snap) snap) }
     ensures short { IfOk result (λ c. has_short c.plan.stack.at.here.query (alone (R.shown reader.now) snap) ≡ true → Settled c.plan.stack.at.here × (fetches_left c.plan.stack.at.here (alone (R.shown reader.now) snap) ≤ 20)) }
     ensures only { OnlyLeaves steps.old steps.new }
+    ensures counts { IfOk result (λ c. CountsAll (plan_trace c.plan) steps.old steps.new) }
     ensures session { IfOk result (λ c. c.session ≡ session) }
     ensures name { IfOk result (λ c. c.name ≡ name) }
     ensures number { IfOk result (λ c. c.number ≡ number) }
@@ -94,7 +99,8 @@ pub fn fill<R: Reader>(
     ensures stays { Stays (R.shown reader.now) cursor.old cursor.new }
     ensures fills { IfOk result (λ f. Fills (R.shown reader.now) f cursor.old cursor.new) }
     ensures held { OnErr result (cursor.new.hand ≡ None) }
-    ensures front { StepsFront (would judge.old) (seen_by (R.shown reader.now) cursor.old) (ruled cursor.old (state judge.old)) (ruled cursor.new (state judge.new)) }
+    ensures front { IfOk result (λ f. FrontTo f cursor.new.hand (would judge.old) (seen_by (R.shown reader.now) cursor.old) (ruled cursor.old (state judge.old)) (ruled cursor.new (state judge.new))) }
+    ensures lost { OnErr result (StepsFront None (would judge.old) (seen_by (R.shown reader.now) cursor.old) (ruled cursor.old (state judge.old)) (ruled cursor.new (state judge.new))) }
     ensures stays_rule { would judge.new ≡ would judge.old }
 {
     let seen = Snapshot {

@@ -166,7 +166,7 @@ pub fn fetch<R: Reader>(
     ensures ok { IfOk result (λ replies. TakesOffer (left (R.shown reader.now) cursor.old) replies (left (R.shown reader.now) cursor.new)) }
     ensures err { OnErr result (left (R.shown reader.now) cursor.new ≡ left (R.shown reader.now) cursor.old) }
     ensures given { OnOk result (cursor.new.hand ≡ None) }
-    ensures rounds { OnOk result (FetchMoves beside (would judge.old) (seen_by (R.shown reader.now) cursor.old) (ruled cursor.old (state judge.old)) (ruled cursor.new (state judge.new))) }
+    ensures turns { OnOk result (FetchMoves cursor.old.hand beside (would judge.old) (seen_by (R.shown reader.now) cursor.old) (ruled cursor.old (state judge.old)) (ruled cursor.new (state judge.new))) }
     ensures held { IsSome cursor.old.hand → ruled cursor.new (state judge.new) ≡ ruled cursor.old (state judge.old) }
     ensures moves { Moves (would judge.old) (seen_by (R.shown reader.now) cursor.old) (ruled cursor.old (state judge.old)) (ruled cursor.new (state judge.new)) }
     ensures stays_rule { would judge.new ≡ would judge.old }

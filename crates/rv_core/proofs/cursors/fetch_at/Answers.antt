@@ -15,7 +15,7 @@ pub returns-clause-listed : goal.returns-clause-listed
 returns-clause-listed g c n h = listed_set n c.args.cursors.now c.args.place c.at_mut.result.now c.fetch.new.cursor c.at_mut.ensures.value c.fetch.ensures.same.number c.fetch.ensures.same.session h
 
 pub returns-clause-moves : goal.returns-clause-moves
-returns-clause-moves g c = on_ok c.fetch.result _ _ (λ replies rounds. record { before = c.at_mut.result.now; after = c.fetch.new.cursor; here = c.at_mut.ensures.value; set = refl; same = c.fetch.ensures.same; moved = record { rounds = rounds; held = c.fetch.ensures.held } }) c.fetch.ensures.rounds
+returns-clause-moves g c = on_ok c.fetch.result _ _ (λ replies turns. record { before = c.at_mut.result.now; after = c.fetch.new.cursor; here = c.at_mut.ensures.value; set = refl; same = c.fetch.ensures.same; moved = record { turns = turns; held = c.fetch.ensures.held } }) c.fetch.ensures.turns
 
 pub returns-clause-lost : goal.returns-clause-lost
 returns-clause-lost g c = on_err c.fetch.result _ (record { before = c.at_mut.result.now; after = c.fetch.new.cursor; here = c.at_mut.ensures.value; set = refl; same = c.fetch.ensures.same; moved = c.fetch.ensures.moves })

@@ -1,3 +1,5 @@
+use Rattle.rv_snapshot.specs.Alone.{alone}
+use Rattle.rv_core.proofs.Bounding.{opens_bounded}
 use Rattle.rv_core.proofs.Plans.{plans, plans_seen, reads_all}
 use Rattle.rv_core.proofs.cursors.plan_cursor.Goals as goal
 
@@ -9,3 +11,6 @@ open_cursor-requires g c = plans (g.S.Reader.shown c.args.store.now) c.args.cata
 
 pub returns-clause-seen : goal.returns-clause-seen
 returns-clause-seen g c = plans_seen c.open_cursor.result (g.S.Reader.shown c.args.store.now) c.args.catalog.now c.requires.tied.0 c.args.select.now c.args.snap c.args.session c.args.number c.args.name c.indexes.result.now c.requires.tied.1 c.requires.query c.requires.some c.requires.base c.open_cursor.ensures.left c.open_cursor.ensures.asked c.open_cursor.ensures.session c.open_cursor.ensures.name
+
+pub returns-clause-bounds : goal.returns-clause-bounds
+returns-clause-bounds g c = opens_bounded c.open_cursor.result (alone (g.S.Reader.shown c.args.store.now) c.args.snap) c.args.select.now c.args.catalog.now.indexes c.args.snap _ _ c.new-steps.ensures c.open_cursor.ensures.only c.open_cursor.ensures.counts c.open_cursor.ensures.work (rw c.indexes.ensures.same at c.open_cursor.ensures.life) c.open_cursor.ensures.short

@@ -5,6 +5,7 @@ use Rattle.rv_model.specs.declared.state.Cursor.{Cursor}
 use Rattle.rv_cursor.specs.declared.cursor.Open.{Open}
 use Rattle.rv_core.specs.Db.{base_of, seen}
 use Rattle.rv_core.specs.Doing.{opening_base}
+use Rattle.rv_core.specs.Obeying.{IsBounded}
 use Rattle.rv_core.proofs.Calling.{opened_rows, opening_snapshot, opens_does, opens_refused}
 use Rattle.rv_core.proofs.Databases.{fresh_open, opened_asked, opens_standing}
 use Rattle.rv_core.proofs.Facts.{if_ok}
@@ -53,4 +54,6 @@ returns-clause-adds g c judge opened =
       rows = opened_rows shown c.self.inside.catalog c.self.inside.txns (seen shown c.self.inside.cursors) c.args.session c.in-Ok.base c.in-Ok-plan_cursor.cursor.snap c.args.name c.args.select.now.tables (rw c.as_slice.ensures at (c.in-Ok.ensures.ok shown)) at query.there;
       fits = c.in-Ok-plan_cursor.ensures.fits;
       leads = subst (λ (n : ℕ). LeadsWith (alone shown n) c.in-Ok-plan_cursor.cursor.plan) (sym at) c.in-Ok-plan_cursor.ensures.leads;
+      stage = c.in-Ok-plan_cursor.ensures.stage;
+      bounds = subst (λ (n : ℕ). IsBounded (alone shown n) c.args.select.now c.self.inside.catalog.indexes n c.in-Ok-plan_cursor.cursor.plan) (sym at) c.in-Ok-plan_cursor.ensures.bounds;
     }

@@ -1,0 +1,43 @@
+-- The bounds with which a cursor's plan begins, from what its opening makes of a counter at zero.
+use Rattle.std.proofs.Common.{◌≡◌, ℕ, ◌+◌, ◌-◌, ◌≤◌, true, List, ap, arith, Result, Ok, Err, IfOk}
+use Rattle.rv_judge.specs.Counting.{no_counts, reads}
+use Rattle.rv_judge.specs.declared.counting.Counts.{Counts}
+use Rattle.rv_catalog.specs.declared.def.IndexDef.{IndexDef}
+use Rattle.rv_catalog.specs.declared.def.Select.{Select}
+use Rattle.rv_reader.specs.Shown.{Shown}
+use Rattle.rv_jscan.specs.Steps.{raised}
+use Rattle.rv_retrieval.specs.Short.{OnlyLeaves, Settled, fetches_left, has_short}
+use Rattle.rv_retrieval.specs.Telling.{CountsAll}
+use Rattle.rv_join.specs.Alone.{plan_effort, plan_life}
+use Rattle.rv_join.specs.Plans.{Planned, plan_trace, plan_work}
+use Rattle.rv_join.specs.Work.{row_cost}
+use Rattle.rv_cursor.specs.declared.cursor.Open.{Open}
+use Rattle.rv_core.specs.Obeying.{IsBounded}
+
+-- a count that began at zero
+no_more : (before after count : ℕ) → after ≡ before → count ≡ raised 0 (after - before) → count ≡ 0
+no_more before after count same counted = omega (arith, same, counted)
+
+at_most : (before after count : ℕ) → count ≡ raised 0 (after - before) → count ≤ after
+at_most before after count counted = omega (arith, counted)
+
+bounded : (shown : Shown) (s : Select) (indexes : List IndexDef) (snap : ℕ) (before after : Counts) (p : Planned) → before ≡ no_counts → OnlyLeaves before after → CountsAll (plan_trace p) before after
+    → plan_work shown p ≤ row_cost shown snap p.asked.items
+    → reads after + plan_effort shown p ≤ reads before + plan_life s indexes shown snap
+    → (has_short p.stack.at.here.query shown ≡ true → Settled p.stack.at.here × (fetches_left p.stack.at.here shown ≤ 20))
+    → IsBounded shown s indexes snap p
+bounded shown s indexes snap before after p fresh only counted work life short =
+    let pages = no_more before.pages after.pages p.reads.pages only.pages counted.pages in
+    let records = no_more before.records after.records p.reads.records only.records counted.fetches in
+    let leaves = at_most before.leaves after.leaves p.reads.leaves counted.leaves in
+    let none : reads before ≡ 0 = ap reads fresh in
+    record { work = work; life = omega (arith, pages, records, leaves, none, life); pages = pages; records = records; short = short }
+
+pub opens_bounded : {E : Type 0} (r : Result Open E) (shown : Shown) (s : Select) (indexes : List IndexDef) (snap : ℕ) (before after : Counts) → before ≡ no_counts → OnlyLeaves before after
+    → IfOk r (λ c. CountsAll (plan_trace c.plan) before after)
+    → IfOk r (λ c. plan_work shown c.plan ≤ row_cost shown snap c.plan.asked.items)
+    → IfOk r (λ c. reads after + plan_effort shown c.plan ≤ reads before + plan_life s indexes shown snap)
+    → IfOk r (λ c. has_short c.plan.stack.at.here.query shown ≡ true → Settled c.plan.stack.at.here × (fetches_left c.plan.stack.at.here shown ≤ 20))
+    → IfOk r (λ c. IsBounded shown s indexes snap c.plan)
+opens_bounded (Err e) shown s indexes snap before after fresh only counted work life short = tt
+opens_bounded (Ok c) shown s indexes snap before after fresh only counted work life short = bounded shown s indexes snap before after c.plan fresh only counted work life short
