@@ -1,0 +1,8 @@
+use Rattle.rv_lending.proofs.Shows.{answered, kept}
+use Rattle.rv_lending.proofs.lent.LentServed.call.Goals as goal
+
+pub returns-clause-ok : goal.returns-clause-ok
+returns-clause-ok g c = answered _ _ _ _ _ _ _ _ c.call.ensures.ok
+
+pub returns-clause-err : goal.returns-clause-err
+returns-clause-err g c = kept _ _ _ _ _ _ _ _ c.call.ensures.err

@@ -1,0 +1,5 @@
+use Rattle.rv_lending.proofs.Shows.{takes_piece}
+use Rattle.rv_lending.proofs.lent.LentServed.take_piece.Goals as goal
+
+pub returns-clause-taken : goal.returns-clause-taken
+returns-clause-taken g c = takes_piece _ _ _ _ _ _ c.take_piece.new.steps c.new-steps.ensures c.take_piece.ensures.taken c.take_piece.ensures.tried c.take_piece.ensures.same

@@ -1,0 +1,8 @@
+//! A core lent to the threads of a phase, and given back.
+//!
+//! `call_phase` takes a core apart, has the calls of a phase made by threads (rv_phases), and puts it together again.
+#![tactic(auto)]
+
+mod lent;
+
+pub use lent::call_phase;
