@@ -5,7 +5,7 @@ use Rattle.rv_judge.specs.declared.judging.Facts.{Facts}
 use Rattle.rv_judge.specs.declared.judging.Verdict.{Verdict}
 use Rattle.rv_judge.specs.declared.judging.Verdict.TheVariants.{Continue, AbandonScan}
 use Rattle.rv_model.specs.declared.entry.Entry.{Entry}
-use Rattle.rv_model.specs.History.{IsLegal}
+use Rattle.rv_believed.specs.History.{IsLegal}
 use Rattle.rv_model.specs.Transcript.{text}
 
 -- a scan is dropped where its projection is 60 hundredths of the guarantee or more

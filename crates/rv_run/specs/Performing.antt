@@ -7,7 +7,7 @@ use Rattle.rv_io.specs.declared.all.ReadFault.TheVariants as reading
 use Rattle.rv_script.specs.declared.scripts.Script.{Script}
 use Rattle.rv_script.specs.declared.scripts.ScriptFault.{ScriptFault}
 use Rattle.rv_script.specs.declared.scripts.ScriptFault.TheVariants as faults
-use Rattle.rv_model.specs.History.{IsLegal}
+use Rattle.rv_believed.specs.History.{IsLegal}
 use Rattle.rv_core.specs.Core.{Shown}
 use Rattle.rv_run.specs.declared.status.Over.TheVariants as over
 use Rattle.rv_run.specs.declared.status.Status.{Status}

@@ -15,7 +15,8 @@ use Rattle.rv_gen.specs.Workload.{generated}
 use Rattle.rv_run.specs.declared.status.Over.{Over}
 use Rattle.rv_run.specs.declared.status.Over.TheVariants as over
 use Rattle.rv_model.specs.declared.entry.Entry.{Entry}
-use Rattle.rv_model.specs.History.{IsLegal, calls}
+use Rattle.rv_model.specs.History.{calls}
+use Rattle.rv_believed.specs.History.{IsLegal}
 use Rattle.rv_model.specs.Transcript.{text}
 use Rattle.rv_core.specs.Core.{Shown}
 

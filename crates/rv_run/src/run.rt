@@ -4,6 +4,7 @@ ghost use Rattle.std.specs.Io.KnownBytes.{IsAtEnd};
 ghost use Rattle.rv_io.specs.Causes.{Rose};
 ghost use Rattle.rv_io.specs.Pieces.{Goes, TakesUpTo};
 ghost use Rattle.rv_gen.specs.Workload.{generated};
+ghost use Rattle.rv_believed.specs.History.{IsLegal};
 ghost use Rattle.rv_words.specs.declared.choices.Asked.{Asked as Askings};
 ghost use Rattle.rv_words.specs.Words.{AreAccepted, Ask};
 ghost use Rattle.rv_run.specs.Judges.{by_number};
@@ -17,6 +18,7 @@ ghost use Rattle.rv_script.specs.declared.scripts.ScriptFault.{ScriptFault as Fa
 use crate::calls::make_calls;
 use crate::judges::Judges;
 use crate::status::{Over, Status};
+use rv_believed::laws::same_are_legal;
 use rv_core::Core;
 use rv_gen::{generate, summary_of, write_summary};
 use rv_io::{Failed, ReadFault, Sink, Source, read_all};
@@ -209,7 +211,7 @@ fn perform<P: Store + Reader<Ledger = Uncounted> + Drop, K: Sink>(
 {
     let (mut core, mut judges) = judged_core(alloc, store, asked, judges);
     let called = make_calls(&mut core, &mut judges, script.phases.as_slice()).is_ok();
-    if write_output(sink, asked.seed, core.history()).is_err() {
+    if write_output(sink, asked.seed, legal_history(&core)).is_err() {
         return Ran {
             status: Status::WriteFault,
             core: Some(core),
@@ -239,6 +241,15 @@ fn judged_core<P: Store + Reader<Ledger = Uncounted> + Drop>(
 {
     let (judges, first) = Judges::new(judges, asked.judge);
     (Core::new(alloc, store, first, asked.steps), judges)
+}
+
+/// The history of a core, which is legal in the words that a reader believes.
+fn legal_history<P: Store + Reader<Ledger = Uncounted> + Drop>(core: &Core<P>) -> &[Entry]
+    ensures same { result.now ≡ core.now.engine.history }
+    ensures legal { IsLegal core.now.engine.history }
+{
+    same_are_legal();
+    core.history()
 }
 
 /// Writes the transcript of a history, or of a generated run the summary.

@@ -1,0 +1,4 @@
+use Rattle.rv_run.proofs.run.legal_history.Goals as goal
+
+pub returns-clause-legal : goal.returns-clause-legal
+returns-clause-legal g c = c.same_are_legal.ensures.believed _ c.history.ensures.sound.legal
