@@ -17,9 +17,9 @@ use Rattle.rv_reader.specs.Entries.{entries_of}
 use Rattle.rv_reader.specs.Shown.{Shown}
 use Rattle.rv_reader.specs.Storing.{AreWide}
 use Rattle.rv_scan.specs.Due.{HaveColumns}
-use Rattle.rv_retrieval.specs.declared.query.Goal2.{Goal2}
-use Rattle.rv_retrieval.specs.declared.query.Query.{Query}
-use Rattle.rv_retrieval.specs.Asked.{CanAsk, IsIndexOf, begins_any}
+use Rattle.rv_choice.specs.declared.query.Goal2.{Goal2}
+use Rattle.rv_choice.specs.declared.query.Query.{Query}
+use Rattle.rv_choice.specs.Asked.{CanAsk, IsIndexOf, begins_any}
 use Rattle.retrieval_table.specs.declared.asked.Span.{Span}
 use Rattle.retrieval_table.specs.declared.asked.Asked.{Asked}
 use Rattle.retrieval_table.specs.Asking.{Chosen, IsOrder, IsOurs, is_column, needed, span_group, spans_of}

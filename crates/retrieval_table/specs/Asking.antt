@@ -6,8 +6,8 @@ use Rattle.rv_restrict.specs.declared.atom.Atom.{Atom}
 use Rattle.rv_restrict.specs.declared.atom.Atom.TheVariants.{Between}
 use Rattle.rv_restrict.specs.declared.atom.ColRef.{ColRef}
 use Rattle.rv_restrict.specs.Truth.{is_home}
-use Rattle.rv_retrieval.specs.declared.query.Query.{Query}
-use Rattle.rv_retrieval.specs.Asked.{begins_any}
+use Rattle.rv_choice.specs.declared.query.Query.{Query}
+use Rattle.rv_choice.specs.Asked.{begins_any}
 use Rattle.retrieval_table.specs.declared.asked.Span.{Span}
 use Rattle.retrieval_table.specs.declared.asked.Asked.{Asked}
 use Rattle.retrieval_table.specs.Laying.{columns_of}

@@ -5,13 +5,13 @@ ghost use Rattle.rv_reader.specs.Shown.{Shown};
 ghost use Rattle.rv_restrict.specs.Groups.{groups_of};
 ghost use Rattle.rv_restrict.specs.declared.atom.Atom.TheVariants.{Between};
 ghost use Rattle.rv_restrict.specs.Parts.{stands_among};
-ghost use Rattle.rv_retrieval.specs.Asked.{CanAsk, begins_any};
+ghost use Rattle.rv_choice.specs.Asked.{CanAsk, begins_any};
 ghost use Rattle.retrieval_table.specs.Asking.{Chosen, IsOrder, IsQuery, needed, span_group, spans_of};
 ghost use Rattle.retrieval_table.specs.Laying.{Offers};
 
 use crate::load::columns_of;
+use rv_choice::{Goal2, Query, ordered};
 use rv_restrict::{Atom, ColRef, Restriction};
-use rv_retrieval::{Goal2, Query, ordered};
 use rv_value::{Items, NoMemory, Value};
 use std::alloc::Global;
 

@@ -7,8 +7,8 @@ use crate::case::outcome;
 use crate::drive::Way;
 use crate::judges::Ruling;
 use crate::load::{Filling, Loaded, load_plain};
+use rv_choice::Goal2;
 use rv_plain::Plain;
-use rv_retrieval::Goal2;
 use rv_value::NoMemory;
 use std::alloc::Global;
 

@@ -6,9 +6,9 @@ use crate::case::outcome;
 use crate::drive::Way;
 use crate::judges::Ruling;
 use crate::load::{Filling, Loaded, load_paged, load_plain};
+use rv_choice::Goal2;
 use rv_judge::Uncounted;
 use rv_reader::Reader;
-use rv_retrieval::Goal2;
 use rv_value::NoMemory;
 use std::alloc::Global;
 

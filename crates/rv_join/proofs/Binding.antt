@@ -13,8 +13,8 @@ use Rattle.rv_restrict.specs.Truth.{names_only, row_has}
 use Rattle.rv_restrict.proofs.Tests.{and_both, and_left, and_right}
 use Rattle.rv_reader.specs.Shown.{Shown}
 use Rattle.rv_scan.specs.Told.{width}
-use Rattle.rv_retrieval.specs.declared.query.Query.{Query}
-use Rattle.rv_retrieval.specs.Asked.{CanAsk, IsIndexOf}
+use Rattle.rv_choice.specs.declared.query.Query.{Query}
+use Rattle.rv_choice.specs.Asked.{CanAsk, IsIndexOf}
 use Rattle.rv_judge.specs.Account.{life_bound}
 use Rattle.rv_retrieval.specs.Effort.{Awaiting, cuts_and_entries, effort, life_of}
 use Rattle.rv_retrieval.specs.Opened.{Opened}

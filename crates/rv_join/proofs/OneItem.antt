@@ -41,7 +41,7 @@ use Rattle.rv_join.specs.Alone.{CallsOnce, FgCalls, GatherSpends, LevelSpends, M
 use Rattle.rv_catalog.specs.declared.def.IndexDef.{IndexDef}
 use Rattle.rv_catalog.specs.declared.def.Select.{Select}
 use Rattle.rv_model.specs.declared.state.Offer.{Offer}
-use Rattle.rv_retrieval.specs.declared.query.Query.{Query}
+use Rattle.rv_choice.specs.declared.query.Query.{Query}
 use Rattle.rv_join.specs.declared.places.Asked.{Asked}
 use Rattle.rv_join.specs.Asking.{Asks, IsAsked}
 use Rattle.rv_join.specs.Levels.{StackFits, Stacked, down, first_in, first_of, used}

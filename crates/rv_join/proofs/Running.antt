@@ -11,7 +11,7 @@ use Rattle.rv_restrict.specs.Parts.{stands_among}
 use Rattle.rv_catalog.specs.declared.def.Select.{Select}
 use Rattle.rv_catalog.specs.declared.def.IndexDef.{IndexDef}
 use Rattle.rv_reader.specs.Shown.{CanRead, Shown}
-use Rattle.rv_retrieval.specs.Asked.{begins_any}
+use Rattle.rv_choice.specs.Asked.{begins_any}
 use Rattle.rv_join.specs.declared.places.Asked.{Asked}
 use Rattle.rv_join.specs.declared.places.Item.{Item}
 use Rattle.rv_restrict.specs.declared.atom.Operand.TheVariants.{Literal, Column}

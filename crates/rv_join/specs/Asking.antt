@@ -19,11 +19,11 @@ use Rattle.rv_catalog.specs.declared.def.Goal.TheVariants.{FastFirst, TotalTime}
 use Rattle.rv_reader.specs.Entries.{entries_of}
 use Rattle.rv_reader.specs.Shown.{Shown, CanRead, CanScan}
 use Rattle.rv_reader.specs.Storing.{AreKeys}
-use Rattle.rv_retrieval.specs.declared.query.Query.{Query}
-use Rattle.rv_retrieval.specs.declared.query.Goal2.{Goal2}
-use Rattle.rv_retrieval.specs.declared.query.Goal2.TheVariants.{FastFirst as Soon, TotalTime as Late}
+use Rattle.rv_choice.specs.declared.query.Query.{Query}
+use Rattle.rv_choice.specs.declared.query.Goal2.{Goal2}
+use Rattle.rv_choice.specs.declared.query.Goal2.TheVariants.{FastFirst as Soon, TotalTime as Late}
 use Rattle.rv_judge.specs.Account.{life_bound}
-use Rattle.rv_retrieval.specs.Asked.{begins_any}
+use Rattle.rv_choice.specs.Asked.{begins_any}
 use Rattle.rv_retrieval.specs.Effort.{Awaiting, cuts_and_entries, effort}
 use Rattle.rv_retrieval.specs.Runs.{Tells}
 use Rattle.rv_retrieval.specs.Shape.{Shape, RetrievalFits, rest}

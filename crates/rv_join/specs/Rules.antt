@@ -1,8 +1,8 @@
 -- The strategy and the planned scans of a retrieval are those of the five rules, from its opening on.
 use Rattle.std.specs.Prelude.{◌≡◌}
 use Rattle.rv_reader.specs.Shown.{Shown}
-use Rattle.rv_retrieval.specs.declared.choosing.Choice.{Choice}
-use Rattle.rv_retrieval.specs.Choice.{AreScans, IsChosen, candidates_of}
+use Rattle.rv_choice.specs.declared.choosing.Choice.{Choice}
+use Rattle.rv_choice.specs.Choice.{AreScans, IsChosen, candidates_of}
 use Rattle.rv_retrieval.specs.Shape.{Shape}
 
 -- strategy and planned scans stay

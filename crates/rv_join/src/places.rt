@@ -12,10 +12,11 @@ ghost use Rattle.rv_retrieval.specs.Telling.{CountsAll};
 ghost use Rattle.rv_join.specs.Asking.{Adds, AreWide, Asks, CanPlan, CanRun, IsAsked, IsItem, OpensItem, atom_names, by_index, col_at, columns_of, goal_of, group_names, indexes_from, is_first, item_at, only_names, operand_names, order_at, same_column, select_uses, table_at};
 
 use rv_catalog::{Goal, IndexDef, Select};
+use rv_choice::{Goal2, Query, ordered};
 use rv_judge::Steps;
 use rv_reader::Reader;
 use rv_restrict::{Atom, ColRef, Operand, Restriction};
-use rv_retrieval::{Goal2, Query, Retrieval, ordered};
+use rv_retrieval::Retrieval;
 use rv_value::{Duplicate, Items, NoMemory, Values};
 use std::alloc::Global;
 

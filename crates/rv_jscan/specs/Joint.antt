@@ -113,7 +113,7 @@ pub record Whole (plans : List ScanPlan) (ended : ℕ) (held : Option Chunk) (bu
   pub within : ended ≤ length plans
   pub building_open : building.finished ≡ false
   pub list_finished : IfSome list (λ l. l.finished ≡ true)
-  pub short : IfSome held (λ h. length h.entries ≤ 32)
+  pub short : IfSome held (λ h. length h.entries ≤ 48)
   pub keys : IfSome held (λ h. AreKeys (length (plan_at plans ended).part.columns) h.entries)
   pub apart : IfSome held (λ h. Apart h.entries)
   pub fresh : IfSome held (λ h. Disjoint building.keys h.entries)

@@ -265,7 +265,7 @@ impl Jscan {
     }
 
     fn hold(&mut self, held: Chunk)
-        requires short { length held.entries ≤ 32 }
+        requires short { length held.entries ≤ 48 }
         requires keys { AreKeys (length (present self.old).part.columns) held.entries }
         requires apart { Apart held.entries }
         requires fresh { Disjoint self.old.building held.entries }
@@ -306,7 +306,7 @@ impl Jscan {
     /// A copy of the piece of a leaf.
     fn piece_of(&self, leaf: &Chunk) -> Result<Piece, NoMemory>
         requires way { under_way self.now ≡ true }
-        requires short { length leaf.now.entries ≤ 32 }
+        requires short { length leaf.now.entries ≤ 48 }
         requires keys { AreKeys (length (present self.now).part.columns) leaf.now.entries }
         ensures { IfOk result (λ p. p ≡ record { id = next_id self.now; entries = leaf.now.entries; part = (present self.now).part }) }
     {

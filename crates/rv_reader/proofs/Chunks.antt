@@ -9,16 +9,12 @@ use Rattle.rv_value.specs.declared.range.Side.TheVariants.{Before, In, After}
 use Rattle.rv_value.specs.Ranges.{place, in_side}
 use Rattle.rv_reader.specs.declared.reader.Chunk.{Chunk}
 use Rattle.rv_reader.specs.Entries.{comes_before, Ascend, AreLong, is_in, reaches}
-use Rattle.rv_reader.specs.Leaves.{Leaf, IsChunk, is_from, is_wanted, before_side, after_side, from_on, up_to, leaf_from, leaf_at, leaf_entries, is_passed, within, run_from, run_after, leaves_from, leaves_after}
+use Rattle.rv_reader.specs.Leaves.{Leaf, IsChunk, is_from, is_wanted, is_below, is_taken, before_side, after_side, from_on, up_to, leaf_from, leaf_at, leaf_entries, is_passed, within, run_from, run_after, leaves_from, leaves_after}
 use Rattle.rv_reader.proofs.Filters.{both, filter_same, filter_twice, filter_none, filter_fewer, rising_cut}
 use Rattle.rv_reader.proofs.Orders.{one_way, below_through, follows, itself, key_not, order}
 use Rattle.rv_reader.proofs.Sides.{before_along, after_along}
 
 -- Tests in place of lists.
-
-abbrev is_below : Option IndexEntry → IndexEntry → Bool
-is_below None e = true
-is_below (Some cut) e = comes_before e cut
 
 abbrev pub is_long : Range → IndexEntry → Bool
 is_long range e = reaches range.low e.key && reaches range.high e.key
@@ -226,7 +222,7 @@ nearer_by range cuts start (Some n) p counts =
 
 -- What is read of a leaf, and the cut that follows, give all that a chunk says.
 pub is_chunk : (entries cuts : List IndexEntry) (range : Range) (start : Option IndexEntry) (chunk : Chunk) → Ascend entries → AreLong range entries → AreLong range cuts
-    → chunk.entries ≡ run_from (leaf_entries (leaf_at cuts start range) entries) range start → chunk.next ≡ within range (leaf_at cuts start range).next → length chunk.entries ≤ 32
+    → chunk.entries ≡ run_from (leaf_entries (leaf_at cuts start range) entries) range start → chunk.next ≡ within range (leaf_at cuts start range).next → length chunk.entries ≤ 48
     → IsChunk entries cuts range start chunk
 is_chunk entries cuts range start chunk ascend long long_cuts found following short =
     let passes = leaf_passes (is_passed start range) None cuts tt in
@@ -239,3 +235,37 @@ is_chunk entries cuts range start chunk ascend long long_cuts found following sh
       parts = rw (found, following) (parts_by entries range start leaf.low leaf.next ascend long passes.0 keeps.0 passes.1 keeps.1);
       nearer = rw following (nearer_by range cuts start leaf.next passes.1 (λ p q sharper. next_counts p q (is_passed start range) None cuts sharper));
     }
+
+-- What is read of a leaf, by one test: what is wanted and before the cut that follows, where that is given.
+
+below_within : (range : Range) (start next : Option IndexEntry) (e : IndexEntry) → is_long range e ≡ true → IfSome next (λ c. is_long range c ≡ true) → is_taken range start (within range next) e ≡ is_taken range start next e
+below_within range start None e long l = refl
+below_within range start (Some n) e long l =
+    elim (after_side (place range n.key)) as (λ b. after_side (place range n.key) ≡ b → is_taken range start (cond b None (Some n)) e ≡ is_taken range start (Some n) e) [
+      | true ↦ λ after. by_test (is_from start e) (is_in range e) (comes_before e n) (λ above. not_in_after (place range e.key) (after_along range n.key e.key (key_not n e above) l long after))
+      | false ↦ λ other. refl
+    ] refl
+  where
+    by_test : (from inside below : Bool) → (below ≡ false → inside ≡ false) → ((from && inside) && true) ≡ ((from && inside) && below)
+    by_test true true true f = refl
+    by_test true true false f = let no : true ≡ false = f refl in cc
+    by_test true false below f = refl
+    by_test false inside below f = refl
+
+pub leaf_read : (entries cuts : List IndexEntry) (range : Range) (start : Option IndexEntry) → AreLong range entries → AreLong range cuts
+    → run_from (leaf_entries (leaf_at cuts start range) entries) range start ≡ filter (is_taken range start (within range (leaf_at cuts start range).next)) entries
+leaf_read entries cuts range start long long_cuts =
+    let passes = leaf_passes (is_passed start range) None cuts tt in
+    let keeps = leaf_keeps (is_long range) (is_passed start range) None cuts tt long_cuts in
+    let leaf = leaf_at cuts start range in
+    leaf_tests entries range start leaf
+    ∙ filter_same (is_long range) (taken range start leaf) (is_taken range start (within range leaf.next)) entries long
+    (λ e h. sym (taken_below (is_from leaf.low e) (is_below leaf.next e) (is_wanted range start e) (low_wanted range start leaf.low passes.0 keeps.0 e h))
+    ∙ sym (below_within range start leaf.next e h keeps.1))
+
+-- the cut that follows a leaf has a key as long as the cuts have
+pub next_long : (cuts : List IndexEntry) (range : Range) (start : Option IndexEntry) → AreLong range cuts → IfSome (leaf_at cuts start range).next (λ c. is_long range c ≡ true)
+next_long cuts range start long = (leaf_keeps (is_long range) (is_passed start range) None cuts tt long).1
+
+pub taken_within : (range : Range) (start next : Option IndexEntry) (e : IndexEntry) → is_long range e ≡ true → IfSome next (λ c. is_long range c ≡ true) → is_taken range start (within range next) e ≡ is_taken range start next e
+taken_within = below_within

@@ -73,6 +73,15 @@ is_from (Some start) e = not (comes_before e start)
 abbrev pub is_wanted : Range → Option IndexEntry → IndexEntry → Bool
 is_wanted range start e = is_from start e && is_in range e
 
+-- before a cut, where there is one
+abbrev pub is_below : Option IndexEntry → IndexEntry → Bool
+is_below None e = true
+is_below (Some cut) e = comes_before e cut
+
+-- wanted of a leaf that ends at a cut
+abbrev pub is_taken : Range → Option IndexEntry → Option IndexEntry → IndexEntry → Bool
+is_taken range start next e = is_wanted range start e && is_below next e
+
 -- how many leaves may still be read from an entry on, or from a cut on where there is a following one
 abbrev pub leaves_from : List IndexEntry → Option IndexEntry → ℕ
 leaves_from cuts None = length cuts + 1
@@ -83,10 +92,11 @@ leaves_after cuts None = 0
 leaves_after cuts (Some cut) = leaves_from cuts (Some cut)
 
 -- one leaf's part of a range. The first two facts say what is read; from these it follows that the leaves one after
--- another give the whole run, and that their number falls.
+-- another give the whole run, and that their number falls. A store's leaf has at most 32 entries, that of a view with a
+-- transaction's changes 16 more.
 pub record IsChunk (entries cuts : List IndexEntry) (range : Range) (start : Option IndexEntry) (chunk : Chunk) : Type 0 where
   pub found : chunk.entries ≡ run_from (leaf_entries (leaf_at cuts start range) entries) range start
   pub following : chunk.next ≡ within range (leaf_at cuts start range).next
-  pub short : length chunk.entries ≤ 32
+  pub short : length chunk.entries ≤ 48
   pub parts : run_from entries range start ≡ chunk.entries ++ run_after entries range chunk.next
   pub nearer : leaves_after cuts chunk.next < leaves_from cuts start

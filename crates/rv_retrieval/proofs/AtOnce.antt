@@ -15,11 +15,11 @@ use Rattle.rv_jscan.specs.Joint.{Joint, JointFits, under_way}
 use Rattle.rv_jscan.specs.Steps.{raised}
 use Rattle.rv_scan.specs.declared.skip.Scanned.{Scanned as Stepped}
 use Rattle.rv_scan.specs.declared.skip.Scanned.TheVariants.{Found, Working, End}
-use Rattle.rv_retrieval.specs.declared.choosing.Background.{Background}
-use Rattle.rv_retrieval.specs.declared.choosing.Choice.{Choice}
-use Rattle.rv_retrieval.specs.declared.query.Query.{Query}
+use Rattle.rv_choice.specs.declared.choosing.Background.{Background}
+use Rattle.rv_choice.specs.declared.choosing.Choice.{Choice}
+use Rattle.rv_choice.specs.declared.query.Query.{Query}
 use Rattle.rv_retrieval.specs.declared.steps.Fg.{Fg}
-use Rattle.rv_retrieval.specs.Choice.{AreScans, IsChosen, candidates_of}
+use Rattle.rv_choice.specs.Choice.{AreScans, IsChosen, candidates_of}
 use Rattle.rv_retrieval.specs.Opened.{IsMade, OnlyLists, Opened, RunsOut, SameScans, Scanned, Settles, Starts, bounded_by, guarantee_of, has_scans, is_one}
 use Rattle.rv_retrieval.specs.Opens.{GivesStep, fg_of, first_of}
 use Rattle.rv_retrieval.specs.Rest.{Steps}

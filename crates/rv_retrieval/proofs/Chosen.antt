@@ -7,7 +7,6 @@ use Rattle.std.proofs.lemmas.List.{length-map}
 use Rattle.std.proofs.lemmas.List.Sorted.{All-permutation, length_permutation}
 use Rattle.std.specs.List.{All, AllByRecursion, list_any, starts_with, position, position_or_len}
 use Rattle.rv_value.specs.declared.record.IndexEntry.{IndexEntry}
-use Rattle.rv_value.specs.declared.range.Bound.{Bound}
 use Rattle.rv_value.specs.declared.range.Range.{Range}
 use Rattle.rv_value.specs.Ranges.{in_side}
 use Rattle.rv_judge.specs.declared.events.Strategy.{Strategy}
@@ -16,54 +15,39 @@ use Rattle.rv_restrict.specs.declared.atom.Atom.{Atom}
 use Rattle.rv_restrict.specs.declared.atom.ColRef.{ColRef}
 use Rattle.rv_restrict.specs.Bind.{passes_home}
 use Rattle.rv_restrict.specs.Parts.{stands_among}
-use Rattle.rv_restrict.specs.Ranges.{IsShort, AreShort, range_for}
+use Rattle.rv_restrict.specs.Ranges.{range_for}
 use Rattle.rv_restrict.specs.Truth.{is_home, truth}
 use Rattle.rv_restrict.proofs.Covers.{covers}
 use Rattle.rv_restrict.proofs.Names.{names_weaker}
-use Rattle.rv_restrict.proofs.Short.{range_short}
-use Rattle.rv_reader.specs.Entries.{AreLong, entries_of, is_in, run}
+use Rattle.rv_reader.specs.Entries.{entries_of, is_in, run}
 use Rattle.rv_reader.specs.Shown.{Shown, Suits}
 use Rattle.rv_reader.specs.Storing.{AreKeys}
 use Rattle.rv_reader.proofs.Sorting.{entries_keys}
-use Rattle.rv_reader.proofs.Suiting.{long_keys}
 use Rattle.rv_scan.specs.Alongs.{Along, Follows, left}
 use Rattle.rv_jscan.specs.declared.jscan.ScanPlan.{ScanPlan}
 use Rattle.rv_jscan.specs.Entries.{has_entry}
 use Rattle.rv_jscan.specs.Joint.{CanMake, no_plan, plan_at, under_way}
-use Rattle.rv_retrieval.specs.declared.query.Query.{Query}
-use Rattle.rv_retrieval.specs.declared.query.Goal2.{Goal2}
-use Rattle.rv_retrieval.specs.declared.query.Goal2.TheVariants.{FastFirst as Soon, TotalTime}
-use Rattle.rv_retrieval.specs.declared.choosing.Candidate.{Candidate}
-use Rattle.rv_retrieval.specs.declared.choosing.Choice.{Choice}
-use Rattle.rv_retrieval.specs.declared.choosing.Background.{Background}
-use Rattle.rv_retrieval.specs.declared.choosing.Background.TheVariants.{Nothing, One, Each, EachBut}
-use Rattle.rv_retrieval.specs.declared.choosing.Role.TheVariants.{Short, Sufficient}
-use Rattle.rv_retrieval.specs.Asked.{CanAsk, IsIndexOf, IsPlanned}
-use Rattle.rv_retrieval.specs.Choice.{AreScans, IsChosen, IsLeastOf, candidate_at, candidate_of, candidates_of, choice_of, is_scanned, leads, no_candidate, order_index, ordered_choice, plan_of, restricted_choice}
+use Rattle.rv_choice.specs.declared.query.Query.{Query}
+use Rattle.rv_choice.specs.declared.query.Goal2.{Goal2}
+use Rattle.rv_choice.specs.declared.query.Goal2.TheVariants.{FastFirst as Soon, TotalTime}
+use Rattle.rv_choice.specs.declared.choosing.Candidate.{Candidate}
+use Rattle.rv_choice.specs.declared.choosing.Choice.{Choice}
+use Rattle.rv_choice.specs.declared.choosing.Background.{Background}
+use Rattle.rv_choice.specs.declared.choosing.Background.TheVariants.{Nothing, One, Each, EachBut}
+use Rattle.rv_choice.specs.declared.choosing.Role.TheVariants.{Short, Sufficient}
+use Rattle.rv_choice.specs.Asked.{CanAsk, IsIndexOf, IsPlanned}
+use Rattle.rv_choice.specs.Choice.{AreScans, IsChosen, IsLeastOf, candidate_at, candidate_of, candidates_of, choice_of, is_scanned, leads, no_candidate, order_index, ordered_choice, plan_of, restricted_choice}
 use Rattle.rv_retrieval.specs.Fronts.{Front, front_left, walk_of}
 use Rattle.rv_retrieval.specs.Opened.{Begun, front_begun, front_candidate, has_scans, is_one, walk_begun}
 use Rattle.rv_retrieval.specs.Opens.{Opens, first_of}
 use Rattle.rv_retrieval.specs.Rest.{qualifies_at}
 use Rattle.rv_retrieval.specs.Shape.{FrontFits, Shape, is_background, is_index_only, is_led, is_sorted}
-use Rattle.rv_retrieval.proofs.Choices.{IsCandidate, all_at, are_candidates, leads_begins, stand_all}
+use Rattle.rv_choice.proofs.Suited.{range_suits}
+use Rattle.rv_choice.proofs.Choices.{IsCandidate, all_at, are_candidates, leads_begins, stand_all}
 use Rattle.rv_retrieval.proofs.Entered.{all_kept, entered}
 use Rattle.rv_retrieval.proofs.Planning.{is_true_true, planned_apart, planned_meets}
 
 -- The background's scans.
-
-if_short : (n : ℕ) (bound : Option Bound) → IsShort n bound → IfSome bound (λ b. length b.key ≤ n)
-if_short n None s = tt
-if_short n (Some b) s = s
-
-pub range_suits : (query : Query) (shown : Shown) (index : ℕ) (columns : List ℕ) (range : Range) → IsIndexOf query shown index columns → range ≡ range_for query.only columns → Suits shown index query.snap range
-range_suits query shown index columns range i e =
-    let short = subst (AreShort (length columns)) (sym e) (range_short query.only columns) in
-    let low = if_short (length columns) range.low short.low_end in
-    let high = if_short (length columns) range.high short.high_end in
-    record {
-      entries = subst (AreLong range) (sym i.entries) (long_keys (length columns) range (entries_of columns (shown.rows query.table query.snap)) low high (entries_keys columns (shown.rows query.table query.snap)));
-      cuts = long_keys (length columns) range (shown.cuts index query.snap) low high i.cuts;
-    }
 
 plan_makes : (query : Query) (shown : Shown) (plan : ScanPlan) → IsPlanned query shown plan → CanMake plan shown query.snap
 plan_makes query shown plan p = record {

@@ -21,7 +21,7 @@ use Rattle.rv_reader.specs.Tables.{row_at}
 use Rattle.rv_scan.specs.declared.skip.Scanned.{Scanned}
 use Rattle.rv_scan.specs.declared.skip.Scanned.TheVariants.{Found, Working, End}
 use Rattle.rv_scan.specs.Alongs.{Follows, looked}
-use Rattle.rv_retrieval.specs.declared.query.Query.{Query}
+use Rattle.rv_choice.specs.declared.query.Query.{Query}
 use Rattle.rv_retrieval.specs.Rest.{Agree, IsLeast, StepMarks, Steps, rest_by}
 use Rattle.rv_retrieval.specs.Fronts.{Front, SameFront, front_left, walk_of}
 use Rattle.rv_retrieval.specs.Shape.{Shape, RetrievalFits, Delivers, DoesStep, FrontFits, LeastOf, PassesKeys, keys_left, Undelivered, Ahead, Keys, rest, source, source_of, left_at, rows_of, front_entries, is_building, is_index_only, is_sorted, is_led, is_early}

@@ -8,7 +8,6 @@ pub mod Delivering
 pub mod Least
 pub mod Beginning
 pub mod Planning
-pub mod Choices
 pub mod Chosen
 pub mod AtOnce
 pub mod Accounting

@@ -23,16 +23,16 @@ use Rattle.rv_scan.specs.Alongs.{Along, leaf_work}
 use Rattle.rv_scan.specs.Places.{work as pages_work}
 use Rattle.rv_jscan.specs.declared.jscan.ScanPlan.{ScanPlan}
 use Rattle.rv_jscan.specs.Joint.{Joint, leaves_of, leaves_planned, under_way}
-use Rattle.rv_retrieval.specs.declared.query.Query.{Query}
-use Rattle.rv_retrieval.specs.declared.choosing.Background.{Background}
-use Rattle.rv_retrieval.specs.declared.choosing.Background.TheVariants.{Each, One}
-use Rattle.rv_retrieval.specs.declared.choosing.Role.TheVariants.{Restricted, Short, Sufficient}
-use Rattle.rv_retrieval.specs.declared.query.Goal2.{Goal2}
-use Rattle.rv_retrieval.specs.declared.query.Goal2.TheVariants.{FastFirst as Soon, TotalTime}
-use Rattle.rv_retrieval.specs.declared.choosing.Candidate.{Candidate}
-use Rattle.rv_retrieval.specs.declared.choosing.Choice.{Choice}
-use Rattle.rv_retrieval.specs.Asked.{CanAsk}
-use Rattle.rv_retrieval.specs.Choice.{AreScans, IsChosen, IsLeastOf, candidate_at, choice_of, leads, no_candidate, order_index, restricted_choice, candidate_of, candidates_of, is_scanned, plan_of}
+use Rattle.rv_choice.specs.declared.query.Query.{Query}
+use Rattle.rv_choice.specs.declared.choosing.Background.{Background}
+use Rattle.rv_choice.specs.declared.choosing.Background.TheVariants.{Each, One}
+use Rattle.rv_choice.specs.declared.choosing.Role.TheVariants.{Restricted, Short, Sufficient}
+use Rattle.rv_choice.specs.declared.query.Goal2.{Goal2}
+use Rattle.rv_choice.specs.declared.query.Goal2.TheVariants.{FastFirst as Soon, TotalTime}
+use Rattle.rv_choice.specs.declared.choosing.Candidate.{Candidate}
+use Rattle.rv_choice.specs.declared.choosing.Choice.{Choice}
+use Rattle.rv_choice.specs.Asked.{CanAsk}
+use Rattle.rv_choice.specs.Choice.{AreScans, IsChosen, IsLeastOf, candidate_at, choice_of, leads, no_candidate, order_index, restricted_choice, candidate_of, candidates_of, is_scanned, plan_of}
 use Rattle.rv_retrieval.specs.Effort.{Awaiting, back_work, cuts_and_entries, effort, entries_of_scans, entries_planned, front_work, keys_work, life_of, sum_of, table_work}
 use Rattle.rv_retrieval.specs.Fronts.{Front, walk_of}
 use Rattle.rv_retrieval.specs.Opened.{Begun, front_begun, front_candidate, has_scans, walk_begun}

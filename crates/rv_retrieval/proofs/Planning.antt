@@ -18,8 +18,8 @@ use Rattle.rv_reader.proofs.Filters.{filter_twice}
 use Rattle.rv_jscan.specs.declared.jscan.ScanPlan.{ScanPlan}
 use Rattle.rv_jscan.specs.Entries.{has_entry, Apart}
 use Rattle.rv_jscan.specs.Joint.{meets, passing}
-use Rattle.rv_retrieval.specs.declared.query.Query.{Query}
-use Rattle.rv_retrieval.specs.Asked.{CanAsk, IsPlanned}
+use Rattle.rv_choice.specs.declared.query.Query.{Query}
+use Rattle.rv_choice.specs.Asked.{CanAsk, IsPlanned}
 use Rattle.rv_retrieval.specs.Rest.{qualifies_at}
 use Rattle.rv_retrieval.proofs.Entered.{entered, entries_apart}
 

@@ -28,25 +28,25 @@ use Rattle.rv_jscan.specs.Joint.{Joint, JointFits, is_empty_list, present, to_si
 use Rattle.rv_jscan.specs.Pieces.{Pieced, may}
 use Rattle.rv_jscan.specs.Steps.{Accepts, Awaits, Gives, TakeLeaves, completed, going, held_next, kept_of}
 use Rattle.rv_jscan.proofs.Fits.{by_held, way_within}
-use Rattle.rv_retrieval.specs.declared.query.Query.{Query}
-use Rattle.rv_retrieval.specs.declared.choosing.Background.{Background}
-use Rattle.rv_retrieval.specs.declared.query.Goal2.{Goal2}
-use Rattle.rv_retrieval.specs.declared.query.Goal2.TheVariants.{FastFirst as Soon, TotalTime}
-use Rattle.rv_retrieval.specs.declared.choosing.Background.TheVariants.{Nothing, One, EachBut}
-use Rattle.rv_retrieval.specs.declared.choosing.Candidate.{Candidate}
-use Rattle.rv_retrieval.specs.declared.choosing.Choice.{Choice}
-use Rattle.rv_retrieval.specs.declared.choosing.Role.TheVariants.{Short}
-use Rattle.rv_retrieval.specs.Asked.{CanAsk}
-use Rattle.rv_retrieval.specs.Choice.{AreScans, IsChosen, IsLeastOf, candidate_at, candidate_of, candidates_of, choice_of, is_scanned, no_candidate, order_index, plan_of, plays}
+use Rattle.rv_choice.specs.declared.query.Query.{Query}
+use Rattle.rv_choice.specs.declared.choosing.Background.{Background}
+use Rattle.rv_choice.specs.declared.query.Goal2.{Goal2}
+use Rattle.rv_choice.specs.declared.query.Goal2.TheVariants.{FastFirst as Soon, TotalTime}
+use Rattle.rv_choice.specs.declared.choosing.Background.TheVariants.{Nothing, One, EachBut}
+use Rattle.rv_choice.specs.declared.choosing.Candidate.{Candidate}
+use Rattle.rv_choice.specs.declared.choosing.Choice.{Choice}
+use Rattle.rv_choice.specs.declared.choosing.Role.TheVariants.{Short}
+use Rattle.rv_choice.specs.Asked.{CanAsk}
+use Rattle.rv_choice.specs.Choice.{AreScans, IsChosen, IsLeastOf, IsRight, candidate_at, candidate_of, candidates_of, choice_of, is_scanned, no_candidate, order_index, plan_of, plays}
 use Rattle.rv_retrieval.specs.Effort.{Awaiting, entries_of_scans, entries_planned, keys_work}
 use Rattle.rv_retrieval.specs.Fronts.{Front, walk_of}
 use Rattle.rv_retrieval.specs.Opened.{Begun, OnlyLists, SameScans, is_one}
 use Rattle.rv_retrieval.specs.Rulings.{going_on, gone, listed, scan_over}
 use Rattle.rv_retrieval.specs.Shape.{RetrievalFits, Shape, front_entries, is_background, is_sorted}
-use Rattle.rv_retrieval.specs.Short.{IsRight, Settled, fetches_by, fetches_left, has_short, is_settled, keys_most, scan_fetches}
+use Rattle.rv_retrieval.specs.Short.{Settled, fetches_by, fetches_left, has_short, is_settled, keys_most, scan_fetches}
 use Rattle.rv_retrieval.specs.Telling.{list_len}
 use Rattle.rv_retrieval.proofs.BackWork.{entries_split, kept_few}
-use Rattle.rv_retrieval.proofs.Choices.{all_at}
+use Rattle.rv_choice.proofs.Choices.{all_at}
 use Rattle.rv_retrieval.proofs.Controls.{sorted_is_led}
 use Rattle.rv_retrieval.proofs.Courses.{HasFront, keys_few}
 use Rattle.rv_retrieval.proofs.Entered.{entries_apart, left_apart}

@@ -4,8 +4,6 @@ pub mod Shape
 pub mod Given
 pub mod Telling
 pub mod Accounts
-pub mod Choice
-pub mod Asked
 pub mod Opens
 pub mod Opened
 pub mod Rulings

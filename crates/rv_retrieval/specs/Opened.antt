@@ -12,15 +12,15 @@ use Rattle.rv_jscan.specs.Joint.{Joint, under_way}
 use Rattle.rv_jscan.specs.Steps.{begun}
 use Rattle.rv_scan.specs.Alongs.{Along}
 use Rattle.rv_scan.specs.declared.along.Ahead.TheVariants.{First}
-use Rattle.rv_retrieval.specs.declared.query.Query.{Query}
-use Rattle.rv_retrieval.specs.declared.choosing.Candidate.{Candidate}
-use Rattle.rv_retrieval.specs.declared.choosing.Choice.{Choice}
-use Rattle.rv_retrieval.specs.Choice.{AreScans, IsChosen, candidate_at, candidates_of, no_candidate}
+use Rattle.rv_choice.specs.declared.query.Query.{Query}
+use Rattle.rv_choice.specs.declared.choosing.Candidate.{Candidate}
+use Rattle.rv_choice.specs.declared.choosing.Choice.{Choice}
+use Rattle.rv_choice.specs.Choice.{AreScans, IsChosen, candidate_at, candidates_of, no_candidate}
 use Rattle.rv_retrieval.specs.Fronts.{Front}
 use Rattle.rv_retrieval.specs.Opens.{first_of}
 use Rattle.rv_retrieval.specs.Shape.{Shape, is_background}
-use Rattle.rv_retrieval.specs.declared.choosing.Background.{Background}
-use Rattle.rv_retrieval.specs.declared.choosing.Background.TheVariants.{Nothing, One, Each, EachBut}
+use Rattle.rv_choice.specs.declared.choosing.Background.{Background}
+use Rattle.rv_choice.specs.declared.choosing.Background.TheVariants.{Nothing, One, Each, EachBut}
 use Rattle.rv_retrieval.specs.Telling.{NothingCounted, events_for, index_of, list_len, noted, noted_all}
 use Rattle.rv_retrieval.specs.Rulings.{gone, listed}
 

@@ -13,7 +13,7 @@ use Rattle.rv_jscan.specs.declared.jscan.Taken.{Taken}
 use Rattle.rv_jscan.specs.declared.jscan.Taken.TheVariants.{Piece, Nothing}
 use Rattle.rv_jscan.specs.Joint.{is_empty_list, plan_at, present}
 use Rattle.rv_retrieval.specs.Accounts.{list_length}
-use Rattle.rv_retrieval.specs.declared.query.Query.{Query}
+use Rattle.rv_choice.specs.declared.query.Query.{Query}
 use Rattle.rv_retrieval.specs.Shape.{Shape, is_background, is_building}
 
 abbrev pub indexes_of : List ScanPlan → List ℕ

@@ -5,15 +5,14 @@ use Rattle.rv_value.specs.declared.record.IndexEntry.{IndexEntry}
 use Rattle.rv_judge.specs.declared.counting.Counts.{Counts}
 use Rattle.rv_judge.specs.declared.events.Control.{Control}
 use Rattle.rv_judge.specs.declared.events.Control.TheVariants.{Building, ForegroundAlone, BackgroundAlone, FinalList, FinalTable, Done}
-use Rattle.rv_reader.specs.Shown.{IsEstimate, Shown}
+use Rattle.rv_reader.specs.Shown.{Shown}
 use Rattle.rv_scan.specs.Alongs.{left, to_fetch}
 use Rattle.rv_scan.specs.Due.{Skipped}
 use Rattle.rv_jscan.specs.Joint.{Joint}
 use Rattle.rv_jscan.specs.Pieces.{may}
-use Rattle.rv_retrieval.specs.declared.query.Query.{Query}
-use Rattle.rv_retrieval.specs.declared.choosing.Candidate.{Candidate}
-use Rattle.rv_retrieval.specs.declared.choosing.Role.TheVariants.{Short}
-use Rattle.rv_retrieval.specs.Choice.{candidates_of, plays}
+use Rattle.rv_choice.specs.declared.query.Query.{Query}
+use Rattle.rv_choice.specs.declared.choosing.Role.TheVariants.{Short}
+use Rattle.rv_choice.specs.Choice.{candidates_of, plays}
 use Rattle.rv_retrieval.specs.Fronts.{Front}
 use Rattle.rv_retrieval.specs.Effort.{entries_ahead, keys_work}
 use Rattle.rv_retrieval.specs.Shape.{Shape, front_entries, is_sorted}
@@ -63,10 +62,6 @@ pub record OnlyLeaves (before after : Counts) : Type 0 where
 -- some restricted index has an exact estimate of at most 20
 abbrev pub has_short : Query → Shown → Bool
 has_short query shown = list_any (plays Short) (candidates_of query shown)
-
--- the estimate of an index as the query sees it is right where it is exact
-abbrev pub IsRight : Shown → ℕ → Candidate → Type 0
-IsRight shown snap c = IsEstimate (shown.entries c.index snap) c.range c.estimate
 
 -- how many keys the complete list and the list being built can come to have together
 abbrev pub keys_most : Joint → Shown → ℕ

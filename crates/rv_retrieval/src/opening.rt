@@ -2,8 +2,8 @@ ghost use Rattle.std.specs.Prelude.{◌≡◌, ◌<◌, ◌≤◌, length, None,
 ghost use Rattle.rv_judge.specs.Account.{first_guarantee};
 ghost use Rattle.rv_reader.specs.Shown.{CanRead, Shown};
 ghost use Rattle.rv_jscan.specs.Joint.{CanTake, JointFits, leaves_ahead, under_way};
-ghost use Rattle.rv_retrieval.specs.Asked.{CanAsk};
-ghost use Rattle.rv_retrieval.specs.Choice.{IsChosen, candidates_of, no_candidate};
+ghost use Rattle.rv_choice.specs.Asked.{CanAsk};
+ghost use Rattle.rv_choice.specs.Choice.{IsChosen, IsRight, candidates_of, no_candidate};
 ghost use Rattle.rv_retrieval.specs.Opened.{Begun, IsMade, OnlyLists, Opened, RunsOut, SameScans, Scanned, Starts, front_begun, front_candidate, guarantee_of, is_one, start_told};
 ghost use Rattle.rv_retrieval.specs.Opens.{Opens};
 ghost use Rattle.rv_retrieval.specs.Rest.{qualifying};
@@ -16,12 +16,11 @@ ghost use Rattle.rv_retrieval.specs.Effort.{Awaiting, back_work, effort, life_of
 ghost use Rattle.rv_scan.specs.Places.{work as pages_work};
 ghost use Rattle.rv_value.specs.declared.record.Record.{Record as OneRecord};
 ghost use Rattle.std.specs.List.{AllByRecursion};
-ghost use Rattle.rv_retrieval.specs.Short.{IsRight, OnlyLeaves, Settled, fetches_left, has_short, keys_most};
+ghost use Rattle.rv_retrieval.specs.Short.{OnlyLeaves, Settled, fetches_left, has_short, keys_most};
 
-use crate::choosing::{Background, Candidate, Choice, candidates, choose, scans};
 use crate::front::Front;
-use crate::query::Query;
 use crate::retrieval::Retrieval;
+use rv_choice::{Background, Candidate, Choice, Query, candidates, choose, scans};
 use rv_jscan::{ScanPlan, Taken, sieve};
 use rv_judge::{Event, Steps, Strategy};
 use rv_reader::{Estimate, Reader};

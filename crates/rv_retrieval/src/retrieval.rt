@@ -28,7 +28,7 @@ ghost use Rattle.rv_value.specs.declared.record.Record.{Record as OneRecord};
 ghost use Rattle.rv_retrieval.specs.Short.{OnlyLeaves, scan_fetches};
 
 use crate::front::Front;
-use crate::query::Query;
+use rv_choice::Query;
 use rv_delivered::Delivered;
 use rv_jscan::{Given, Jscan, PieceId, ScanPlan, Sieved, Taken};
 use rv_judge::{Control, Counts, Event, Facts, Steps, Strategy, Trace, project};

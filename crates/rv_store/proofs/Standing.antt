@@ -20,7 +20,7 @@ use Rattle.rv_records.proofs.Keeping.{below_more, same_above, value_of_above}
 use Rattle.rv_node.specs.Nodes.{Parts, empty_node}
 use Rattle.rv_node.specs.Trees.{entries_all, cuts_all}
 use Rattle.rv_index.specs.Index.{Nodes, empty_tree, nodes_at, whole_at, tree_of, entries_of, IsIndexTree}
-use Rattle.rv_index.proofs.Facts.{few_cuts}
+use Rattle.rv_index.proofs.Facts.{few_cuts, index_is, short_leaves}
 use Rattle.rv_estimate.specs.Estimates.{estimate}
 use Rattle.rv_store.specs.declared.tables.Table.{Table}
 use Rattle.rv_store.specs.declared.indexes.Index.{Index}
@@ -59,6 +59,7 @@ nodes_above nodes commit snap below h = λ i id. unwrap_or (value_of_above nodes
 pub stored_is : (k : Kept) → IsKept k → IsStored (shown_of k)
 stored_is k kept = record {
   standing = kept.standing;
+  ascend = λ table snap can. kept.tables.ascend table snap can.snapshot.kept can.snapshot.known;
   wide = λ table snap can. kept.tables.wide table snap can.snapshot.kept can.snapshot.known;
   over = λ index h. let own = kept.indexes index h in record { table = own.there; columns = own.columns };
   kept = λ index snap can.
@@ -69,7 +70,9 @@ stored_is k kept = record {
       record {
         entries = indexed.entries;
         cuts = indexed.cuts;
+        apart = (index_is (length (index_at k.indexes index).tree) (nodes_at (index_at k.indexes index).tree snap) indexed.sound own.few).apart;
         few = omega arith;
+        short = short_leaves (length (index_at k.indexes index).tree) (nodes_at (index_at k.indexes index).tree snap) indexed.sound;
       };
 }
 

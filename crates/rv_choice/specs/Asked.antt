@@ -11,7 +11,7 @@ use Rattle.rv_reader.specs.Shown.{Shown, CanRead, CanScan}
 use Rattle.rv_reader.specs.Storing.{AreKeys}
 use Rattle.rv_scan.specs.Due.{HaveColumns}
 use Rattle.rv_jscan.specs.declared.jscan.ScanPlan.{ScanPlan}
-use Rattle.rv_retrieval.specs.declared.query.Query.{Query}
+use Rattle.rv_choice.specs.declared.query.Query.{Query}
 
 -- an index of the table, with its columns: the reader shows the entries of the table's rows for it
 pub record IsIndexOf (query : Query) (shown : Shown) (index : ℕ) (columns : List ℕ) : Type 0 where

@@ -8,17 +8,17 @@ use Rattle.rv_judge.specs.declared.events.Strategy.TheVariants.{Table, Backgroun
 use Rattle.rv_restrict.specs.declared.atom.Atom.{Atom}
 use Rattle.rv_restrict.specs.Parts.{part_of, stands_among}
 use Rattle.rv_restrict.specs.Ranges.{range_for}
-use Rattle.rv_reader.specs.Shown.{Shown}
+use Rattle.rv_reader.specs.Shown.{IsEstimate, Shown}
 use Rattle.rv_jscan.specs.declared.jscan.ScanPlan.{ScanPlan}
-use Rattle.rv_retrieval.specs.declared.query.Query.{Query}
-use Rattle.rv_retrieval.specs.declared.query.Goal2.{Goal2}
-use Rattle.rv_retrieval.specs.declared.query.Goal2.TheVariants.{FastFirst as Soon, TotalTime}
-use Rattle.rv_retrieval.specs.declared.choosing.Candidate.{Candidate}
-use Rattle.rv_retrieval.specs.declared.choosing.Role.{Role}
-use Rattle.rv_retrieval.specs.declared.choosing.Role.TheVariants.{Short, Sufficient, Restricted}
-use Rattle.rv_retrieval.specs.declared.choosing.Background.{Background}
-use Rattle.rv_retrieval.specs.declared.choosing.Background.TheVariants.{Nothing, One, Each, EachBut}
-use Rattle.rv_retrieval.specs.declared.choosing.Choice.{Choice}
+use Rattle.rv_choice.specs.declared.query.Query.{Query}
+use Rattle.rv_choice.specs.declared.query.Goal2.{Goal2}
+use Rattle.rv_choice.specs.declared.query.Goal2.TheVariants.{FastFirst as Soon, TotalTime}
+use Rattle.rv_choice.specs.declared.choosing.Candidate.{Candidate}
+use Rattle.rv_choice.specs.declared.choosing.Role.{Role}
+use Rattle.rv_choice.specs.declared.choosing.Role.TheVariants.{Short, Sufficient, Restricted}
+use Rattle.rv_choice.specs.declared.choosing.Background.{Background}
+use Rattle.rv_choice.specs.declared.choosing.Background.TheVariants.{Nothing, One, Each, EachBut}
+use Rattle.rv_choice.specs.declared.choosing.Choice.{Choice}
 
 -- each column needed is one of the index's
 abbrev pub has_all : List ℕ → List ℕ → Bool
@@ -37,6 +37,10 @@ candidate_of query shown i = record {
 
 abbrev pub candidates_of : Query → Shown → List Candidate
 candidates_of query shown = map (candidate_of query shown) query.indexes
+
+-- its estimate is right where it is exact
+abbrev pub IsRight : Shown → ℕ → Candidate → Type 0
+IsRight shown snap c = IsEstimate (shown.entries c.index snap) c.range c.estimate
 
 abbrev pub no_candidate : Candidate
 no_candidate = record { index = 0; columns = []; range = record { low = None; high = None; starts = false }; estimate = record { value = 0; exact = false }; restricted = false; sufficient = false }

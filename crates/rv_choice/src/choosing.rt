@@ -1,10 +1,9 @@
 ghost use Rattle.std.specs.Prelude.{◌≡◌, ◌+◌, ◌<◌, ◌≤◌, ◌++◌, ◌∷◌, [], length, Option, IfOk, IfSome, OnOk, true};
 ghost use Rattle.rv_restrict.specs.Parts.{stands_among};
 ghost use Rattle.rv_reader.specs.Shown.{Shown};
-ghost use Rattle.rv_retrieval.specs.Asked.{CanAsk, IsIndexOf};
-ghost use Rattle.rv_retrieval.specs.Choice.{AreScans, IsChosen, IsLeastOf, LeastBelow, candidate_at, candidate_of, candidates_of, free_choice, has_all, is_scanned, leads, order_index, ordered_choice, plan_of, plans_of, plays, restricted_choice};
+ghost use Rattle.rv_choice.specs.Asked.{CanAsk, IsIndexOf};
+ghost use Rattle.rv_choice.specs.Choice.{AreScans, IsChosen, IsLeastOf, IsRight, LeastBelow, candidate_at, candidate_of, candidates_of, free_choice, has_all, is_scanned, leads, order_index, ordered_choice, plan_of, plans_of, plays, restricted_choice};
 ghost use Rattle.std.specs.List.{AllByRecursion};
-ghost use Rattle.rv_retrieval.specs.Short.{IsRight};
 
 use crate::query::{Goal2, Query};
 use rv_jscan::ScanPlan;

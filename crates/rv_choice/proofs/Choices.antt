@@ -7,13 +7,13 @@ use Rattle.std.specs.List.{AllByRecursion, starts_with, slice_index_or}
 use Rattle.rv_restrict.specs.Parts.{stands_among}
 use Rattle.rv_restrict.specs.Ranges.{range_for}
 use Rattle.rv_reader.specs.Shown.{Shown}
-use Rattle.rv_retrieval.specs.declared.query.Query.{Query}
-use Rattle.rv_retrieval.specs.declared.choosing.Candidate.{Candidate}
-use Rattle.rv_retrieval.specs.declared.choosing.Background.{Background}
-use Rattle.rv_retrieval.specs.declared.choosing.Role.{Role}
+use Rattle.rv_choice.specs.declared.query.Query.{Query}
+use Rattle.rv_choice.specs.declared.choosing.Candidate.{Candidate}
+use Rattle.rv_choice.specs.declared.choosing.Background.{Background}
+use Rattle.rv_choice.specs.declared.choosing.Role.{Role}
 use Rattle.rv_restrict.specs.declared.atom.Atom.{Atom}
-use Rattle.rv_retrieval.specs.Asked.{IsIndexOf}
-use Rattle.rv_retrieval.specs.Choice.{FirstLeast, LeastBelow, NonePlays, candidate_at, candidate_of, has_all, is_scanned, leads, plan_of, plans_of, plays}
+use Rattle.rv_choice.specs.Asked.{IsIndexOf}
+use Rattle.rv_choice.specs.Choice.{FirstLeast, LeastBelow, NonePlays, candidate_at, candidate_of, has_all, is_scanned, leads, plan_of, plans_of, plays}
 
 either_below : {X : Type 0} (i k : ℕ) → i < k + 1 → (i < k → X) → (i ≡ k → X) → X
 either_below i k l f g = elim (cases_Bool (nat_lt i k)) [

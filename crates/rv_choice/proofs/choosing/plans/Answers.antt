@@ -1,10 +1,10 @@
 use Rattle.std.proofs.Common.{◌≡◌, ◌+◌, ◌++◌, ◌∷◌, ◌∙◌, [], List, drop, ap, sym, rules, append_assoc}
 use Rattle.std.proofs.lemmas.List.{drop_more}
 use Rattle.rv_jscan.specs.declared.jscan.ScanPlan.{ScanPlan}
-use Rattle.rv_retrieval.specs.declared.choosing.Candidate.{Candidate}
-use Rattle.rv_retrieval.specs.Choice.{plans_of}
-use Rattle.rv_retrieval.proofs.Choices.{plans_more}
-use Rattle.rv_retrieval.proofs.choosing.plans.Goals as goal
+use Rattle.rv_choice.specs.declared.choosing.Candidate.{Candidate}
+use Rattle.rv_choice.specs.Choice.{plans_of}
+use Rattle.rv_choice.proofs.Choices.{plans_more}
+use Rattle.rv_choice.proofs.choosing.plans.Goals as goal
 
 pub candidates-preserved : goal.candidates-preserved
 candidates-preserved c =

@@ -1,5 +1,5 @@
 use Rattle.std.proofs.Common.{length}
-use Rattle.rv_retrieval.proofs.choosing.+stands_among.Given as goal
+use Rattle.rv_choice.proofs.choosing.+stands_among.Given as goal
 
 abbrev pub decreases-stands_among : goal.decreases-stands_among
 decreases-stands_among l = length l.columns.now

@@ -1,5 +1,5 @@
 ghost use Rattle.std.specs.Prelude.{◌≡◌};
-ghost use Rattle.rv_retrieval.specs.Asked.{begins_any};
+ghost use Rattle.rv_choice.specs.Asked.{begins_any};
 
 use rv_restrict::Restriction;
 use rv_value::Items;

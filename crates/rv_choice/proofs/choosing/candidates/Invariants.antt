@@ -1,9 +1,8 @@
 use Rattle.std.proofs.Common.{◌≡◌, ◌++◌, ℕ, List, drop, map}
 use Rattle.std.specs.List.{AllByRecursion}
-use Rattle.rv_retrieval.specs.Asked.{IsIndexOf}
-use Rattle.rv_retrieval.specs.Choice.{candidate_of, candidates_of}
-use Rattle.rv_retrieval.specs.Short.{IsRight}
-use Rattle.rv_retrieval.proofs.choosing.candidates.Given as goal
+use Rattle.rv_choice.specs.Asked.{IsIndexOf}
+use Rattle.rv_choice.specs.Choice.{IsRight, candidate_of, candidates_of}
+use Rattle.rv_choice.proofs.choosing.candidates.Given as goal
 
 abbrev pub invariant-indexes : goal.invariant-indexes
 invariant-indexes g l = record {

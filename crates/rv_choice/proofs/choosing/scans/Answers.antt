@@ -1,7 +1,7 @@
 use Rattle.std.proofs.Common.{rules, ◌≡◌}
 use Rattle.std.proofs.lemmas.Fn.{always_returns_same}
 use Rattle.std.proofs.lemmas.List.Sorted.{IsNonDecreasingBy-from_sort_by_key}
-use Rattle.rv_retrieval.proofs.choosing.scans.Goals as goal
+use Rattle.rv_choice.proofs.choosing.scans.Goals as goal
 
 pub returns : goal.returns
 returns c = record {
