@@ -148,12 +148,14 @@ class Panel:
         self.canvas.line([*ends[0], *guaranteed, *ends[1]], GREY, 1.5, "4 3")
         self.canvas.line([(self.x(at), y(r.projected)) for at, r in told], INK, 1.5)
         labelled = 0.0
-        for at, r in told:
+        for (at, r), (later, _) in zip(told, [*told[1:], (len(self.course.steps), None)]):
             words = f"{r.scan}: {r.scanned} scanned, {r.kept} kept, projected {r.projected}, guaranteed {r.guaranteed}: {r.verdict}"
             self.canvas.dot(self.x(at), y(r.projected), GREEN if r.verdict == "go on" else RED, words)
             if self.x(at) - labelled > 18:
                 labelled = self.x(at)
-                self.canvas.text(labelled + 5, y(r.projected) - 5, f"{r.projected}", 10)
+                # on the other side of the dot where the next one is near
+                near = self.x(later) - labelled <= 18
+                self.canvas.text(labelled + (-6 if near else 5), y(r.projected) + (3 if near else -5), f"{r.projected}", 10, INK, "end" if near else "start")
         last = told[-1]
         self.canvas.text(self.x(last[0]) + 14, y(last[1].guaranteed) + 4, f"guaranteed {last[1].guaranteed}", 10, GREY)
 
