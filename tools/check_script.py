@@ -100,9 +100,10 @@ def no_token(text: str, at: int) -> str:
 
 
 def instead(found: list[Token], at: int) -> str:
-    """The hint at a habit of SQL at this place or at the word before it."""
-    near = [token.value for token in found if token.at <= at][-2:]
-    hints = [INSTEAD[word] for word in reversed(near) if word in INSTEAD]
+    """The hint at a habit of SQL at this place, or at the word before it, which was taken as a name."""
+    *before, here = [token.value for token in found if token.at <= at][-2:]
+    near = [here, *(word for word in before if word not in KEYWORDS)]
+    hints = [INSTEAD[word] for word in near if word in INSTEAD]
     return f" ({hints[0]})" if hints else ""
 
 
@@ -168,6 +169,7 @@ class Checker:
     def __init__(self):
         self.names = Names()
         self.missed: set[tuple] = set()  # names of tables and cursors that were told to be unknown
+        self.unmade: dict[str, tuple[int, str]] = {}  # tables whose CREATE was refused: its line and the reply
 
     def look_at(self, call: Call) -> tuple[int, str] | None:
         """The first mistake of a call and its offset in the text, or None."""
@@ -179,6 +181,8 @@ class Checker:
             self.names.perform(call.session, said)
             return None
         except Refused as refused:
+            if said[0] == "create":
+                self.unmade[said[1]] = call.line, str(refused)
             if not str(refused).startswith(TOLD) or self.is_known_to_miss(call.session, said, refused):
                 return None
             return self.of_refusal(call.text, said, refused)
@@ -207,7 +211,8 @@ class Checker:
     def of_unknown(self, said: tuple, refused: Refused) -> str:
         tables = tables_of(said)
         if any(name not in self.names.tables for name in tables):
-            return f"there is no table {refused.name}"
+            line, reply = self.unmade.get(refused.name, (0, ""))
+            return f"there is no table {refused.name}" + (f": its CREATE TABLE in line {line} is refused ({reply})" if line else "")
         items = [(second or table, table) for table, second in said[3]] if said[0] == "open" else [(tables[0], tables[0])]
         qualifier = next((q for q, column in references_of(said) if column is refused.name), None)
         if qualifier is not None and qualifier not in [name for name, _ in items]:

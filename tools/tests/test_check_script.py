@@ -39,6 +39,12 @@ class CheckScript(unittest.TestCase):
 
     def test_keyword_as_a_name(self):
         self.told("1 CREATE TABLE STEP (A BIGINT)", 16, "`STEP` is a keyword, and no name")
+        self.told("1 OPEN C SELECT TOTAL FROM PARTS", 17, "`TOTAL` is a keyword, and no name; here could stand `*` or a name")
+
+    def test_table_whose_create_is_refused(self):
+        # the call in a wrong state may be meant; that its table is not there is told, and why
+        told = found("1 BEGIN", "2 CREATE TABLE Q (A BIGINT)", "1 INSERT INTO Q VALUES (1)", "1 INSERT INTO Q VALUES (2)")
+        self.assertEqual([(f.line, f.words) for f in told], [(4, "there is no table Q: its CREATE TABLE in line 3 is refused (busy 1)")])
 
     def test_no_token(self):
         self.told("1 OPEN C SELECT NAME FROM PARTS WHERE NAME != 'a'", 44, "`<>`")
