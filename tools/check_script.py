@@ -13,6 +13,7 @@ import sys
 from dataclasses import dataclass
 from typing import Iterator
 
+from ending import end
 from model.database import Database, Refused, references_of
 from model.language import END, KEYWORDS, Call, Syntax, Token, calls_of, fault_of, read_statement, tokens
 
@@ -264,17 +265,13 @@ def main() -> int:
     words = parser.parse_args()
     mistakes = 0
     for name in words.scripts:
-        try:
-            if name == "-":
-                mistakes += check("-", sys.stdin.buffer.read())
-            else:
-                with open(name, "rb") as file:
-                    mistakes += check(name, file.read())
-        except OSError as error:
-            print(f"check_script: {name}: {error.strerror}", file=sys.stderr)
-            return 2
+        if name == "-":
+            mistakes += check("-", sys.stdin.buffer.read())
+        else:
+            with open(name, "rb") as file:
+                mistakes += check(name, file.read())
     return 1 if mistakes else 0
 
 
 if __name__ == "__main__":
-    sys.exit(main())
+    end(main)

@@ -4,6 +4,7 @@
 # hostile use are run by it too.
 #
 # usage: tools/check_tools.sh [PROGRAM]
+case ${1:-} in --help | -h) sed -n '2,/^case/{/^case/d;s/^# \{0,1\}//;p}' "$0"; exit 0 ;; esac
 program=${1:+$(realpath -m "$1")}
 cd "$(dirname "$0")" || exit 1
 status=0
@@ -13,7 +14,7 @@ if [ -x "$program" ]; then
     ./doc_examples.py "$program" || status=1
     ./hostile_table.py "$program" || status=1
 fi
-./own_judge.py < ../crates/own_judge/stdin | cmp - ../crates/own_judge/stdout || status=1
+./gate_times check || status=1
 ./check_pages.py --test && ./check_pages.py --coming docs/AUDIT.md || status=1
 ./believed.py --test && ./believed.py --check || status=1
 exit $status

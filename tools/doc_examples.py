@@ -13,6 +13,8 @@ import sys
 from pathlib import Path
 from typing import Iterator
 
+from ending import end
+
 TOP = Path(__file__).resolve().parent.parent
 MODEL = [sys.executable, str(TOP / "tools" / "slow_program.py")]
 BLOCK = re.compile(r"^```(transcript|run|excerpt)([^\n]*)\n(.*?)^```$", re.M | re.S)
@@ -72,4 +74,4 @@ def main() -> int:
 
 
 if __name__ == "__main__":
-    sys.exit(main())
+    end(main)

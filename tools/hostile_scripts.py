@@ -28,6 +28,7 @@ from pathlib import Path
 from typing import Callable, Iterator
 
 import random_scripts
+from ending import end
 from limited_memory import Shim, wrong_end
 from model.database import shown
 from model.language import KEYWORDS, fault_of
@@ -815,4 +816,4 @@ def main() -> int:
 
 
 if __name__ == "__main__":
-    sys.exit(main())
+    end(main)

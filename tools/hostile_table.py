@@ -18,9 +18,10 @@ import resource
 import signal
 import socket
 import subprocess
-import sys
 import tempfile
 from typing import Callable
+
+from ending import end
 
 Came = tuple[int, bytes, bytes]  # status, output, standard error
 
@@ -212,4 +213,4 @@ def main() -> int:
 
 
 if __name__ == "__main__":
-    sys.exit(main())
+    end(main)

@@ -22,6 +22,7 @@ from collections import Counter
 from dataclasses import dataclass
 from typing import Callable, Iterator, Sequence
 
+from ending import end
 from model.language import Call, Mark, calls_of, fault_of
 from model.program import Session
 from slow_program import number_up_to
@@ -202,12 +203,8 @@ def main() -> int:
     parser.add_argument("--program", metavar="PROGRAM", help="run this program in place of the model")
     parser.add_argument("--expected", metavar="FILE", help="compare with this file, and tell a diff")
     words = parser.parse_args()
-    try:
-        with open(words.script, "rb") as file:
-            data = file.read()
-    except OSError as error:
-        print(f"interleave: {words.script}: {error.strerror}", file=sys.stderr)
-        return 2
+    with open(words.script, "rb") as file:
+        data = file.read()
     fault = fault_of(data)
     if fault is not None:
         print(f"interleave: {fault[1]}", file=sys.stderr)
@@ -233,4 +230,4 @@ def main() -> int:
 
 
 if __name__ == "__main__":
-    sys.exit(main())
+    end(main)

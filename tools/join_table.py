@@ -1,9 +1,8 @@
+#!/usr/bin/env python3
 """Writes what the program join_table must print, by the rules in words: all combinations of rows, filtered by the
-restriction, counted, and mixed in their whole order. It shares no code with the program.
+restriction, counted, and mixed in their whole order. It shares no code with the program."""
 
-    python3 tools/join_table.py > crates/join_table/stdout
-"""
-
+import argparse
 import itertools
 
 
@@ -154,4 +153,6 @@ def three():
     print(f"trace table final-table done pages {1 + len(x) + len(pairs)} leaves 0 fetches 0")
 
 
-main()
+if __name__ == "__main__":
+    argparse.ArgumentParser(description=__doc__, formatter_class=argparse.RawDescriptionHelpFormatter).parse_args()
+    main()

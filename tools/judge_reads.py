@@ -14,7 +14,6 @@ transcript that the program wrote of the script of one seed."""
 from __future__ import annotations
 
 import argparse
-import sys
 from bisect import bisect_left, bisect_right
 from dataclasses import dataclass
 from functools import cached_property
@@ -22,6 +21,7 @@ from itertools import combinations
 from typing import Callable, Iterator, NamedTuple
 
 import judge_pictures
+from ending import end
 from model.database import place
 from model.ranges import range_for
 from model.retrieval import LEAF, PAGE, Counts, KeyList, Retrieval, project
@@ -436,4 +436,4 @@ def main() -> int:
 
 
 if __name__ == "__main__":
-    sys.exit(main())
+    end(main)

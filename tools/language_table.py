@@ -1,7 +1,7 @@
 #!/usr/bin/env python3
 """Writes the lines of language_table (--lines), or their answers. The answers are given here by hand, from the rules
 in words: a statement is written as its type's Debug writes it, and the functions below build that text from its parts."""
-import sys
+import argparse
 
 
 def written(kind, **fields):
@@ -274,5 +274,8 @@ CASES = [
 ]
 
 if __name__ == "__main__":
+    parser = argparse.ArgumentParser(description=__doc__, formatter_class=argparse.RawDescriptionHelpFormatter)
+    parser.add_argument("--lines", action="store_true", help="the lines that the program reads")
+    asked = parser.parse_args()
     for line, answer in CASES:
-        print(line.replace("\n", "\\n").replace("\r", "\\r") if "--lines" in sys.argv else answer)
+        print(line.replace("\n", "\\n").replace("\r", "\\r") if asked.lines else answer)

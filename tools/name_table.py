@@ -2,7 +2,7 @@
 """Writes the statements and the answers of name_table. The answers are given here by hand, from the rules in
 words: limits of the statement first, then unknown names, then names that exist, then kinds; the leftmost in
 the text within each, but tables before columns."""
-import sys
+import argparse
 
 LONG = "N" * 31
 SIXTEEN = ", ".join(f"C{i} BIGINT" for i in range(1, 17))
@@ -103,5 +103,8 @@ CASES = [
 ]
 
 if __name__ == "__main__":
+    parser = argparse.ArgumentParser(description=__doc__, formatter_class=argparse.RawDescriptionHelpFormatter)
+    parser.add_argument("--statements", action="store_true", help="the statements that the program reads")
+    asked = parser.parse_args()
     for statement, answer in CASES:
-        print(statement if "--statements" in sys.argv else answer)
+        print(statement if asked.statements else answer)

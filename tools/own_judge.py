@@ -3,6 +3,7 @@
 whose projection is 60 hundredths of the guarantee or more, judge 1 is the threshold and judge 2 the patient one.
 
   tools/own_judge.py < crates/own_judge/stdin"""
+import argparse
 import sys
 
 from model.engine import Patient, Threshold
@@ -26,4 +27,5 @@ def main():
 
 
 if __name__ == "__main__":
+    argparse.ArgumentParser(description=__doc__, formatter_class=argparse.RawDescriptionHelpFormatter).parse_args()
     main()

@@ -18,6 +18,8 @@ touched. Leaves of the plain store have 32 entries each. A range is read from th
 or the first one, to the last leaf that does not begin after it. The estimate of a range goes down from the root
 while one child may hold the range; where k > 1 children may, at level l, it is (k - 1) * 16 ** l."""
 
+import argparse
+
 from model.trees import Tree
 
 
@@ -184,4 +186,6 @@ def main():
             print(f"  {low} to {high}: {'exactly' if exact else 'about'} {value}, {entries} in {read_leaves}")
 
 
-main()
+if __name__ == "__main__":
+    argparse.ArgumentParser(description=__doc__, formatter_class=argparse.RawDescriptionHelpFormatter).parse_args()
+    main()

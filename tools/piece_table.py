@@ -8,6 +8,8 @@ is accepted where it is the awaited one and was taken; else it is stale, and not
 marked entries that the list before has. After the last leaf of the range the list is complete; an empty one ends
 everything. An abandoned scan leaves no list."""
 
+import argparse
+
 BOTH = ((10, 40), (30, 70), None)
 WITHOUT = ((10, 40), (30, 70), 35)
 NONE = ((90, 95), (30, 70), None)
@@ -149,4 +151,6 @@ def main():
         print(f"  {joint.reads} leaves read; keys{keys}")
 
 
-main()
+if __name__ == "__main__":
+    argparse.ArgumentParser(description=__doc__, formatter_class=argparse.RawDescriptionHelpFormatter).parse_args()
+    main()

@@ -4,10 +4,12 @@
 # usage: tools/plain_program.sh FOLDER [--prove]
 #
 # Copies the repository, as it is committed, to FOLDER, with what was proved of it so far, and hands the program in the copy a
-# Plain in place of a Paged: two words of crates/rv_cli/src/main.rt, and one of crates.txt. Then it builds that program, with --prove the proved one,
-# as ./rvdyn does, and prints how to compare the two. Nothing in this repository is changed.
+# Plain in place of a Paged: two words of crates/rv_cli/src/main.rt, and one of crates.txt. Then it builds that program, with
+# --prove the proved one, as ./rvdyn does, and prints how to compare the two. Nothing in this repository is changed.
 set -e
-[ $# = 1 ] || [ "$*" = "$1 --prove" ] && [ ! -e "$1" ] || { sed -n '2,/^set/{/^set/d;s/^# \{0,1\}//;p}' "$0" >&2; exit 1; }
+help() { sed -n '2,/^set/{/^set/d;s/^# \{0,1\}//;p}' "$0"; }
+case ${1:-} in --help | -h) help; exit 0 ;; esac
+[ $# = 1 ] || [ "$*" = "$1 --prove" ] && [ ! -e "$1" ] || { help >&2; exit 1; }
 top=$(cd "$(dirname "$0")/.." && pwd)
 git clone -q "$top" "$1"
 copy=$(cd "$1" && pwd)

@@ -1,13 +1,13 @@
 #!/usr/bin/env python3
 """Runs a built program on command lines, among them words that are not UTF-8, and compares statuses and words on standard error.
 
-usage: tools/program_words.py PROGRAM
-
-The expected statuses are from the form of the command line as README gives it: options, each at most once and in any order,
+The expected statuses are from the form of the command line as docs/LANGUAGE.md gives it: options, each at most once and in any order,
 with a value of 1 to 10 decimal digits in its range, in the next word or behind `=`. Prints the lines that differ, and ends with
 status 1 where one did."""
+import argparse
 import subprocess
-import sys
+
+from ending import end
 
 USAGE = b"usage: rvdyn [--judge N] [--steps K] [--gen SEED]\n"
 
@@ -47,11 +47,12 @@ FAULTY = [
 
 
 def main():
-    if len(sys.argv) != 2:
-        sys.exit(__doc__)
+    parser = argparse.ArgumentParser(description=__doc__, formatter_class=argparse.RawDescriptionHelpFormatter)
+    parser.add_argument("program", metavar="PROGRAM")
+    program = parser.parse_args().program
     wrong = 0
     for words, wanted in [(w, (0, b"", b"")) for w in ACCEPTED] + [(w, (1, b"", USAGE)) for w in FAULTY]:
-        run = subprocess.run([sys.argv[1].encode(), *words], input=b"", capture_output=True)
+        run = subprocess.run([program.encode(), *words], input=b"", capture_output=True)
         if (run.returncode, run.stdout, run.stderr) != wanted:
             print(f"{words}: {run.returncode} {run.stdout!r} {run.stderr!r}")
             wrong += 1
@@ -60,4 +61,4 @@ def main():
 
 
 if __name__ == "__main__":
-    sys.exit(main())
+    end(main)

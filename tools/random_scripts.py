@@ -15,8 +15,8 @@ Prints the scripts that differ, with the first line at which they do, and ends w
 import argparse
 import random
 import subprocess
-import sys
 
+from ending import end
 from model.course import Seen
 from model.database import COMPARISONS, Database, shown
 from model.program import run
@@ -515,4 +515,4 @@ def main():
 
 
 if __name__ == "__main__":
-    sys.exit(main())
+    end(main)

@@ -7,9 +7,9 @@ number of the one refused. With --rooms N the run has a room in bytes instead, N
 it takes. Prints how many runs there were and how they ended; status 1 where one ended otherwise."""
 import argparse
 import collections
-import sys
 from pathlib import Path
 
+from ending import end
 from limited_memory import Shim, wrong_end
 
 
@@ -48,4 +48,4 @@ def main():
 
 
 if __name__ == "__main__":
-    sys.exit(main())
+    end(main)

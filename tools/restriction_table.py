@@ -1,5 +1,5 @@
 #!/usr/bin/env python3
-"""Writes the table of rv_restrict's test: restrictions and rows, with the place of the row's key in the
+"""Writes what the program `restriction_table` is to print: restrictions and rows, with the place of the row's key in the
 restriction's range, the truth on the row, and whether the index part passes the key.
 
 It is written from the rules in words, apart from the Rattle code: values are ordered NULL, integers, texts
@@ -8,6 +8,7 @@ Unknown, True; only groups of a single atom bound a range.
 
 A line: the index's columns; the restriction; the row (a, b, c); place; truth; pass.
 Groups are parted by ' & ', atoms of a group by ' / '. N is NULL, a text begins with a quote."""
+import argparse
 
 FALSE, UNKNOWN, TRUE = 0, 1, 2
 TRUTHS = ["false", "unknown", "true"]
@@ -238,5 +239,8 @@ def lines():
 
 
 if __name__ == "__main__":
+    parser = argparse.ArgumentParser(description=__doc__, formatter_class=argparse.RawDescriptionHelpFormatter)
+    parser.add_argument("--questions", action="store_true", help="the lines that the program reads: no place, truth and pass")
+    asked = parser.parse_args()
     for line in lines():
-        print(line)
+        print(line.rsplit(";", 3)[0] if asked.questions else line)

@@ -15,6 +15,7 @@ may have the range; where k > 1 children may, at level l, it is (k - 1) * 16 ** 
 A retrieval is asked for the rows whose columns lie in spans, by some of the indexes, with some columns, in the order of
 the third column or in any, the first rows soon or all rows soon. How it goes is written in model/retrieval.py."""
 
+import argparse
 import sys
 
 from model.retrieval import LEAF, PAGE, Counts, Retrieval
@@ -320,4 +321,6 @@ def main(out):
                 before = told
 
 
-main(sys.stdout)
+if __name__ == "__main__":
+    argparse.ArgumentParser(description=__doc__, formatter_class=argparse.RawDescriptionHelpFormatter).parse_args()
+    main(sys.stdout)

@@ -5,8 +5,10 @@ A table has the rows 0 to 79. The first value of row n is NULL where 11 divides 
 second is n modulo 5. Then rows 3, 40 and 79 go, and row 10 gets the values of row 12. An index has the
 second column and then the first; NULL comes before the numbers. The rows wanted have a first value of at
 least 20 and a second value of at least 2. A scan by pages gives them by number; one along the index by
-second value, first value and number. Rows 4, 30 and 62 may be counted as delivered, and a list may say
+second value, first value and number. Rows 4, 32 and 62 may be counted as delivered, and a list may say
 that only some rows are wanted."""
+
+import argparse
 
 DELIVERED = {4, 32, 62}
 LISTED = {4, 9, 17, 32, 62, 74}
@@ -54,4 +56,6 @@ def main():
         print(f"refused {number}: 1 call, the same lists")
 
 
-main()
+if __name__ == "__main__":
+    argparse.ArgumentParser(description=__doc__, formatter_class=argparse.RawDescriptionHelpFormatter).parse_args()
+    main()

@@ -22,6 +22,7 @@ import sys
 from typing import Iterable, TextIO
 
 from check_script import of_syntax
+from ending import end
 from model.language import Mark, Syntax, calls_of, fault_of, read_statement
 from model.program import Session
 from slow_program import add_run_options
@@ -185,4 +186,4 @@ def main() -> int:
 
 
 if __name__ == "__main__":
-    sys.exit(main())
+    end(main)

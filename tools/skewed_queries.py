@@ -22,6 +22,8 @@ from bisect import bisect_right
 from random import Random
 from typing import Iterator
 
+from ending import end
+
 INDEXES = {"IZ": 0, "IK": 1, "IU": 2}  # each index with its column, in the order in which they are made
 COLUMNS = "ZKU"
 VALUES, NEAR, WIDEST = 1000, 10, 500
@@ -125,4 +127,4 @@ def main() -> int:
 
 
 if __name__ == "__main__":
-    sys.exit(main())
+    end(main)

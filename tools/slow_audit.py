@@ -16,6 +16,7 @@ import re
 import subprocess
 import sys
 
+from ending import end
 from model.course import Course, Fault, parts
 from model.database import Database
 from model.language import Mark, calls_of, fault_of, statement
@@ -209,4 +210,4 @@ def main():
 
 
 if __name__ == "__main__":
-    sys.exit(main())
+    end(main)

@@ -9,6 +9,7 @@ from __future__ import annotations
 import argparse
 import sys
 
+from ending import end
 from model.language import fault_of
 from model.program import generated, run, summary, transcript
 
@@ -47,4 +48,4 @@ def main() -> int:
 
 
 if __name__ == "__main__":
-    sys.exit(main())
+    end(main)

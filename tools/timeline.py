@@ -13,6 +13,7 @@ import sys
 from dataclasses import dataclass, field
 from itertools import zip_longest
 
+from ending import end
 from model.language import Call, Mark, calls_of, fault_of, statement
 from model.program import Session
 from model.retrieval import Ruling
@@ -203,11 +204,7 @@ def main() -> int:
     words = parser.parse_args()
     if words.judge and len(words.judge) > 2:
         parser.error("at most two judges")
-    try:
-        data = read_script(words.script)
-    except OSError as error:
-        print(f"timeline: {words.script}: {error.strerror}", file=sys.stderr)
-        return 2
+    data = read_script(words.script)
     fault = fault_of(data)
     if fault is not None:
         print(fault[1], file=sys.stderr)
@@ -229,4 +226,4 @@ def main() -> int:
 
 
 if __name__ == "__main__":
-    sys.exit(main())
+    end(main)

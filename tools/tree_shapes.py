@@ -1,10 +1,12 @@
+#!/usr/bin/env python3
 """Writes what the program tree_shapes writes, by the rules of index trees in words.
 
 A leaf has up to 32 entries, a node above up to 32 children, each with a low entry. What would be 33 becomes the first
 16 and the last 17. A root that is split becomes the parent of its halves. An entry belongs to the last child that does
 not begin above it. The estimate of a range goes down from the root while one child may hold the range; where k > 1
-children may, at level l, it is (k - 1) * 16 ** l.
-"""
+children may, at level l, it is (k - 1) * 16 ** l."""
+import argparse
+
 from model.trees import Tree
 
 
@@ -36,16 +38,22 @@ def read(leaves, span):
     return len(found), last - first + 1
 
 
-for count in (40, 1100, 20000):
-    tree = Tree()
-    for row in range(count):
-        tree = tree.put((row, row))
-    print(f"{count} entries")
-    for level in range(4):
-        sizes = [len(node.lows) for node in nodes(tree.root) if node.level == level]
-        for size in sorted(set(sizes)):
-            print(f"  level {level}: {sizes.count(size)} of {size}")
-    for low, high in ((10, 29), (20, 22), (100, 200), (29, 10), (500, 15000)):
-        value, exact = tree.estimate(Span(low, high))
-        entries, leaves = read(tree.leaves(), Span(low, high))
-        print(f"  {low} to {high}: {'exactly' if exact else 'about'} {value}, {entries} in {leaves}")
+def main():
+    for count in (40, 1100, 20000):
+        tree = Tree()
+        for row in range(count):
+            tree = tree.put((row, row))
+        print(f"{count} entries")
+        for level in range(4):
+            sizes = [len(node.lows) for node in nodes(tree.root) if node.level == level]
+            for size in sorted(set(sizes)):
+                print(f"  level {level}: {sizes.count(size)} of {size}")
+        for low, high in ((10, 29), (20, 22), (100, 200), (29, 10), (500, 15000)):
+            value, exact = tree.estimate(Span(low, high))
+            entries, leaves = read(tree.leaves(), Span(low, high))
+            print(f"  {low} to {high}: {'exactly' if exact else 'about'} {value}, {entries} in {leaves}")
+
+
+if __name__ == "__main__":
+    argparse.ArgumentParser(description=__doc__, formatter_class=argparse.RawDescriptionHelpFormatter).parse_args()
+    main()
