@@ -19,6 +19,9 @@ The clauses of BESIDE are no part of the headline: they say under which judge ea
 core's call does to plans, and so reach as much again. They are counted where --all is given, and the page has the
 total with them.
 
+The chapters of CHAPTERS may be left out by a reader who does not use them: to each belongs what the clauses reach
+through its definitions alone. Their lines, and those of the rest, are told behind the total.
+
 A line counts where it is no import and not blank; a definition's comment stands right above it. Of a
 record or struct only those fields are followed that something reached speaks of.
 """
@@ -31,6 +34,11 @@ import tempfile
 
 TOP = ("rv_run", "src/run.rt", "run_plain")
 BESIDE = ("ruled", "ruled_first")
+CHAPTERS = (
+    ("SHOW", (("rv_believed", "specs/Step.antt", "ShowsTo"), ("rv_model", "specs/Transcript.antt", "trace_words"))),
+    ("`--gen`", (("rv_gen", "specs/Workload.antt", "generated"), ("rv_gen", "specs/Summary.antt", "summary"),
+                 ("rv_gen", "specs/Summary.antt", "summary_text"))),
+)
 PAGE = "docs/BELIEVE.md"
 HEAD = re.compile(r"^(?:(?:pub|abbrev|unfoldable|record|data|inductive)\s+)+([^\s:(]+)")
 WORD = re.compile(r"[^\W\d][\w']*(?:\.[^\W\d][\w']*)*")
@@ -309,11 +317,11 @@ def top_clauses(house, top, without=()):
     return Definition(crate, path, name, text, [], imports(lines, crate), True)
 
 
-def reached(house, top=TOP, without=()):
+def reached(house, top=TOP, without=(), cut=()):
     """All that the clauses reach, in the order in which it is met: (definitions, kit names, who named it).
 
     Of a record, a struct or a trait only those fields and members are followed which something that is
-    reached speaks of: what no clause names says nothing.
+    reached speaks of: what no clause names says nothing. What `cut` names is not reached.
     """
     is_definition = top[1].startswith("specs/")
     first = named(house, top) if is_definition else top_clauses(house, top, without)
@@ -330,8 +338,10 @@ def reached(house, top=TOP, without=()):
                 found = house.instead.get((found.crate, found.path, found.name), found)
             if isinstance(found, tuple):
                 kit.setdefault(found[1], set()).add(found[2])
-            elif found is not None and (found.crate, found.path, found.name) not in seen:
+            elif found is not None:
                 key = (found.crate, found.path, found.name)
+                if key in seen or key in cut:
+                    continue
                 seen[key], because[key] = found, now
                 order.append(found)
                 waiting.append(found)
@@ -389,6 +399,7 @@ def totals(files):
 ROW = re.compile(r"^\| `(crates/[^`]+)` \|(.*)\| *(\d+) *\| *(\d+) *\|$")
 KIT = re.compile(r"^\| `(std\.[^`]+|[a-z_]+\.specs\.[^`]+)` \|(.*)\|$")
 TOTAL = re.compile(r"\*\*(\d[\d,]*) definitions in (\d+) files, (\d[\d,]*) lines, and (\d+) data types of (\d[\d,]*) lines\*\*")
+CHAPTER = re.compile(r"_Of these lines [^_]* are the rest_")
 WHOLE = re.compile(r"_\d[\d,]* definitions in \d+ files, \d[\d,]* lines, and \d+ data types of \d[\d,]* lines_")
 
 
@@ -402,7 +413,16 @@ def total_line(specs, sources):
     return "**%s**" % total(specs, sources)
 
 
-def compare(page, specs, sources, kit, whole=None):
+def chapters_line(house, specs, top=TOP, without=(), chapters=CHAPTERS):
+    """How many lines of definitions each chapter has, and how many the rest."""
+    lines = totals(specs)[1]
+    sizes = [(name, lines - totals(files_of(reached(house, top, without, cut)[0])[0])[1]) for name, cut in chapters]
+    rest = totals(files_of(reached(house, top, without, sum((cut for _, cut in chapters), ()))[0])[0])[1]
+    parts = ["%d %sby %s alone" % (size, "are reached " if it == 0 else "", name) for it, (name, size) in enumerate(sizes)]
+    return "Of these lines %s, and %s are the rest" % (", ".join(parts), "{:,}".format(rest))
+
+
+def compare(page, specs, sources, kit, whole=None, chapters=None):
     """The differences between the page and what is reached, each as one line. `whole` is the total with BESIDE."""
     said, said_kit, wrong = {}, {}, []
     for line in page.split("\n"):
@@ -434,10 +454,12 @@ def compare(page, specs, sources, kit, whole=None):
         wrong.append("the page does not say: " + total_line(specs, sources))
     if whole and "_%s_" % whole not in page:
         wrong.append("the page does not say, of all clauses: _%s_" % whole)
+    if chapters and "_%s_" % chapters not in page.replace("\n", " "):
+        wrong.append("the page does not say, of its chapters: _%s_" % chapters)
     return wrong
 
 
-def updated(page, specs, sources, kit, whole=None):
+def updated(page, specs, sources, kit, whole=None, chapters=None):
     is_so = dict(specs)
     is_so.update(sources)
     lines = []
@@ -448,6 +470,7 @@ def updated(page, specs, sources, kit, whole=None):
         elif kit_row and kit_row[1] in kit:
             line = "| `%s` | %s |" % (kit_row[1], " ".join("`%s`" % n.replace("|", "\\|") for n in sorted(kit[kit_row[1]])))
         line = TOTAL.sub(lambda m: total_line(specs, sources), line)
+        line = CHAPTER.sub(lambda m: "_%s_" % chapters, line) if chapters else line
         lines.append(WHOLE.sub("_%s_" % whole, line) if whole else line)
     return "\n".join(lines)
 
@@ -456,7 +479,7 @@ def sentence(comment):
     return re.sub(r"\s+", " ", " ".join(line.lstrip("-/ ") for line in comment))
 
 
-def write_list(order, whole):
+def write_list(order, whole, chapters):
     specs, sources = files_of(order)
     for title, files, is_data in (("definitions", specs, False), ("data types", sources, True)):
         print("== " + title)
@@ -468,6 +491,8 @@ def write_list(order, whole):
                         print("    %-28s %3d  %s" % (item.name, item.size, sentence(item.comment)))
     bare = sum(1 for item in order if not item.is_data and not item.comment)
     print(total_line(specs, sources).strip("*") + "; %d definitions have no comment" % bare)
+    if chapters:
+        print(chapters)
 
 
 def self_test():
@@ -515,6 +540,12 @@ def self_test():
         assert not compare(updated(page, specs, sources, kit), specs, sources, kit)
         assert len(compare(page, specs, sources, kit, whole)) == 8
         assert not compare(updated(page, specs, sources, kit, whole), specs, sources, kit, whole)
+        chapters = chapters_line(House(top), specs, ("rv_a", "src/run.rt", "run"), ("aside", "other"),
+                                 (("LOW", (("rv_b", "specs/Low.antt", "deep"),)), ("GOOD", (("rv_a", "specs/Top.antt", "Good"),))))
+        assert chapters == "Of these lines 4 are reached by LOW alone, 9 by GOOD alone, and 0 are the rest", chapters
+        page += "\n_Of these lines 0 are reached by LOW alone, and 0 are the rest_"
+        assert len(compare(page, specs, sources, kit, whole, chapters)) == 9
+        assert not compare(updated(page, specs, sources, kit, whole, chapters), specs, sources, kit, whole, chapters)
         less = page.replace("| `crates/rv_b/src/lib.rt` | says | 0 | 0 |", "")
         assert any("not in the page" in line for line in compare(less, specs, sources, kit))
     print("believed.py: the test passes")
@@ -542,6 +573,7 @@ def main():
     whole = total(*files_of(reached(house, top)[0]))
     order, kit, because = reached(house, top, () if asked.all else BESIDE)
     specs, sources = files_of(order)
+    chapters = chapters_line(house, specs, top, () if asked.all else BESIDE) if top == TOP else None
     for name in sorted(set(house.missing)):
         print("not found: " + name, file=sys.stderr)
     if asked.why:
@@ -560,16 +592,16 @@ def main():
         with open(name, encoding="utf-8") as file:
             page = file.read()
         if asked.update:
-            page = updated(page, specs, sources, kit, whole)
+            page = updated(page, specs, sources, kit, whole, chapters)
             with open(name, "w", encoding="utf-8") as file:
                 file.write(page)
-        wrong = compare(page, specs, sources, kit, whole)
+        wrong = compare(page, specs, sources, kit, whole, chapters)
         for line in wrong:
             print("%s: %s" % (PAGE, line))
         if not wrong and not house.missing:
             print("%s agrees: %s" % (PAGE, total_line(specs, sources).strip("*")))
         return 1 if wrong or house.missing else 0
-    write_list(order, asked.list)
+    write_list(order, asked.list, chapters)
     return 0
 
 

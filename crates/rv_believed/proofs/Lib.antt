@@ -1,9 +1,13 @@
 mod Chains
+mod ChangingSame
+mod CommitsSame
+mod CursorsSame
 mod Derivations
 mod KindsSame
 mod LegalSame
 mod LimitsSame
 mod NamesSame
+mod OffersSame
 mod OrderlyStates
 mod Pairs
 mod PlainHistories
@@ -20,3 +24,4 @@ mod StepSame
 mod TakenStates
 mod Texts
 mod Told
+mod TruthSame

@@ -12,6 +12,7 @@ use Rattle.rv_lang.specs.declared.reply.Refusal.{Refusal}
 use Rattle.rv_lang.specs.declared.reply.Refusal.TheVariants as refusals
 use Rattle.rv_lang.specs.declared.reply.Reply.{Reply}
 use Rattle.rv_lang.specs.declared.reply.Which.TheVariants as which
+use Rattle.rv_parse.specs.Reading.{statement_of}
 use Rattle.rv_catalog.specs.declared.def.IndexDef.{IndexDef}
 use Rattle.rv_catalog.specs.declared.def.Resolved.{Resolved}
 use Rattle.rv_catalog.specs.declared.def.Resolved.TheVariants as asked
@@ -25,9 +26,10 @@ use Rattle.rv_model.specs.declared.state.Cursor.{Cursor}
 use Rattle.rv_model.specs.declared.transactions.Transaction.{Transaction}
 use Rattle.rv_model.specs.declared.transactions.Transactions.{Transactions}
 use Rattle.rv_model.specs.Database.{base_rows, cursor_at, cursor_named, empty, no_cursor}
+use Rattle.rv_model.specs.History.{stepped}
 use Rattle.rv_model.specs.Offering.{offers_over}
 use Rattle.rv_model.specs.Offers.{sorted}
-use Rattle.rv_model.specs.Step.{Outcome, began, changed, closed, committed, committed_with, created, ended, fetched, first_touched, indexed, inserted, next_asked, offers_after, opened, opening, own_cursors, rolled_back, rows_seen, state_of, table_name, table_of}
+use Rattle.rv_model.specs.Step.{Outcome, began, changed, closed, committed, committed_with, created, ended, fetched, first_touched, indexed, inserted, next_asked, offers_after, opened, opening, own_cursors, rolled_back, rows_seen, state_of, table_name, table_of, understood}
 use Rattle.rv_model.specs.Transactions as transactions
 use Rattle.rv_model.specs.Transactions.{no_transaction, refuse_at, transaction_at, transaction_of}
 use Rattle.rv_believed.specs.History.{Answers, says, says_none, Leads}
@@ -277,7 +279,7 @@ state_orderly : (o : Outcome) (s : State) → IsOrderly s → Gives Done o → I
 state_orderly (Ok done) s h p = p
 state_orderly (Err refusal) s h p = h
 
-next_orderly : (r : Result Resolved Refusal) (s : State) (session : ℕ) (reply : Reply) → IsOrderly s → IsOrderly (next_asked r s session reply)
+pub next_orderly : (r : Result Resolved Refusal) (s : State) (session : ℕ) (reply : Reply) → IsOrderly s → IsOrderly (next_asked r s session reply)
 next_orderly (Err refusal) s session reply h = h
 next_orderly (Ok (asked.Fetch name)) s session reply h = fetched_orderly (cursor_named s.cursors session name) s reply h
 next_orderly (Ok (asked.Step name n)) s session reply h = h
@@ -293,15 +295,21 @@ next_orderly (Ok asked.Rollback) s session reply h = state_orderly (rolled_back 
 next_orderly (Ok (asked.Open cursor q)) s session reply h = state_orderly (opened s session cursor q) s h (opened_orderly s session cursor q h)
 next_orderly (Ok (asked.Close cursor)) s session reply h = state_orderly (closed s session cursor) s h (closed_orderly s session cursor h)
 
-answer_orderly : (s : State) (e : Entry) (new : State) → IsOrderly s → Answers s e new → IsOrderly new
+pub stepped_orderly : (s : State) (e : Entry) → IsOrderly s → IsOrderly (stepped s e)
+stepped_orderly s e h = next_orderly (understood s.schema (statement_of e.text)) s e.session e.reply h
+
+pub answer_orderly : (s : State) (e : Entry) (new : State) → IsOrderly s → Answers s e new → IsOrderly new
 answer_orderly s e new h (says statement said does) =
     let asks : Result Resolved Refusal = resolution s.schema.tables s.schema.indexes statement in
-    subst IsOrderly (sym (does_from asks s e.session e.reply new does).1) (next_orderly asks s e.session e.reply h)
+    subst IsOrderly (sym (does_from asks s e.session e.reply new h does).1) (next_orderly asks s e.session e.reply h)
 answer_orderly s e new h (says_none none refused same) = subst IsOrderly (sym same) h
 
 leads_orderly : (s : State) (phase : ℕ) (es : List Entry) (last : State) → IsOrderly s → Leads s phase es last → IsOrderly last
 leads_orderly s phase [] last h leads = subst IsOrderly (sym leads) h
 leads_orderly s phase (e ∷ es) last h leads = leads_orderly leads.0 e.phase es last (answer_orderly s e leads.0 h leads.1.answer) leads.2
 
+pub empty_orderly : IsOrderly empty
+empty_orderly = record { active = tt; below = tt; bases = refl; cursors = tt }
+
 pub stays_orderly : StaysOrderly
-stays_orderly history s leads = leads_orderly empty 0 history s (record { active = tt; below = tt; bases = refl; cursors = tt }) leads
+stays_orderly history s leads = leads_orderly empty 0 history s empty_orderly leads

@@ -31,8 +31,9 @@ use Rattle.rv_model.specs.Transactions as transactions
 use Rattle.rv_model.specs.Transactions.{next_row, no_transaction, refuse_at, touch, touch_all, touched_in, transaction_at, transaction_of, untouched, with_number}
 use Rattle.rv_believed.specs.History.{Answers, says, says_none, Leads}
 use Rattle.rv_believed.specs.Names.{resolution}
+use Rattle.rv_believed.specs.Orderly.{IsOrderly}
 use Rattle.rv_believed.specs.Taken.{AreTaken, ChangesTaken, HasTaken, StaysTaken, TablesTaken}
-use Rattle.rv_believed.proofs.OrderlyStates.{Gives, Any, then_gives, any_gives}
+use Rattle.rv_believed.proofs.OrderlyStates.{Gives, Any, answer_orderly, any_gives, empty_orderly, then_gives}
 use Rattle.rv_believed.proofs.Pairs.{all_last}
 use Rattle.rv_believed.proofs.PlainLists.{all_append, all_filter, all_remove, all_set, or_all}
 use Rattle.rv_believed.proofs.StepSame.{does_from}
@@ -413,15 +414,16 @@ next_taken (Ok asked.Rollback) s session reply h = state_taken (rolled_back s se
 next_taken (Ok (asked.Open cursor q)) s session reply h = state_taken (opened s session cursor q) s h (opened_taken s session cursor q h)
 next_taken (Ok (asked.Close cursor)) s session reply h = state_taken (closed s session cursor) s h (closed_taken s session cursor h)
 
-answer_taken : (s : State) (e : Entry) (new : State) → HasTaken s → Answers s e new → HasTaken new
-answer_taken s e new h (says statement said does) =
+answer_taken : (s : State) (e : Entry) (new : State) → IsOrderly s → HasTaken s → Answers s e new → HasTaken new
+answer_taken s e new o h (says statement said does) =
     let asks : Result Resolved Refusal = resolution s.schema.tables s.schema.indexes statement in
-    subst HasTaken (sym (does_from asks s e.session e.reply new does).1) (next_taken asks s e.session e.reply h)
-answer_taken s e new h (says_none none refused same) = subst HasTaken (sym same) h
+    subst HasTaken (sym (does_from asks s e.session e.reply new o does).1) (next_taken asks s e.session e.reply h)
+answer_taken s e new o h (says_none none refused same) = subst HasTaken (sym same) h
 
-leads_taken : (s : State) (phase : ℕ) (es : List Entry) (last : State) → HasTaken s → Leads s phase es last → HasTaken last
-leads_taken s phase [] last h leads = subst HasTaken (sym leads) h
-leads_taken s phase (e ∷ es) last h leads = leads_taken leads.0 e.phase es last (answer_taken s e leads.0 h leads.1.answer) leads.2
+leads_taken : (s : State) (phase : ℕ) (es : List Entry) (last : State) → IsOrderly s → HasTaken s → Leads s phase es last → HasTaken last
+leads_taken s phase [] last o h leads = subst HasTaken (sym leads) h
+leads_taken s phase (e ∷ es) last o h leads =
+    leads_taken leads.0 e.phase es last (answer_orderly s e leads.0 o leads.1.answer) (answer_taken s e leads.0 o h leads.1.answer) leads.2
 
 pub stays_taken : StaysTaken
-stays_taken history s leads = leads_taken empty 0 history s (record { rows = λ t. tt; bases = tt; changes = tt }) leads
+stays_taken history s leads = leads_taken empty 0 history s empty_orderly (record { rows = λ t. tt; bases = tt; changes = tt }) leads

@@ -44,9 +44,11 @@ IsName name = list_any (λ (word : List ℕ). bytes_eq word name) keywords ≡ f
 abbrev pub key : String → Token
 key word = Word (codes word)
 
+-- the token `(`
 abbrev pub LPAREN : Token
 LPAREN = Symbol LeftParen
 
+-- the token `)`
 abbrev pub RPAREN : Token
 RPAREN = Symbol RightParen
 
@@ -83,6 +85,7 @@ abbrev pub qualifier : Spelling (Option (List ℕ))
 qualifier None rest = rest
 qualifier (Some table) rest = Word table ∷ Symbol Dot ∷ rest
 
+-- a reference to a column, as it is spelled
 abbrev pub column : Spelling RawCol
 column c rest = qualifier c.table (Word c.column ∷ rest)
 
@@ -91,6 +94,7 @@ abbrev pub MayBeName : Option (List ℕ) → Type 0
 MayBeName None = Unit {0}
 MayBeName (Some name) = IsName name
 
+-- a qualifier, where there is one, and a column are names
 abbrev pub IsColumn : RawCol → Type 0
 IsColumn c = MayBeName c.table × IsName c.column
 
@@ -108,6 +112,7 @@ abbrev pub operand : Spelling RawOperand
 operand (Literal value) rest = literal value rest
 operand (Column c) rest = column c rest
 
+-- a column on the right is one by its names
 abbrev pub IsOperand : RawOperand → Type 0
 IsOperand (Literal value) = Unit {0}
 IsOperand (Column c) = IsColumn c
@@ -127,6 +132,7 @@ atom (IsNull c true) rest = column c (key "IS" ∷ key "NOT" ∷ key "NULL" ∷ 
 atom (IsNull c false) rest = column c (key "IS" ∷ key "NULL" ∷ rest)
 atom (Starts c text) rest = column c (key "STARTING" ∷ key "WITH" ∷ Text text ∷ rest)
 
+-- the columns of an atom are names, and IN has a literal
 abbrev pub IsAtom : RawAtom → Type 0
 IsAtom (Compare c op right) = IsColumn c × IsOperand right
 IsAtom (Between c low high) = IsColumn c
@@ -172,6 +178,7 @@ abbrev pub kind : Spelling RawKind
 kind Big rest = key "BIGINT" ∷ rest
 kind (Chars n) rest = key "VARCHAR" ∷ LPAREN ∷ Number n ∷ RPAREN ∷ rest
 
+-- a column's name and kind, as they are spelled
 abbrev pub column_def : Spelling (List ℕ × RawKind)
 column_def d rest = Word d.0 ∷ kind d.1 rest
 
@@ -188,6 +195,7 @@ abbrev pub select_list : Spelling (Option (List RawCol))
 select_list None rest = Symbol Star ∷ rest
 select_list (Some columns) rest = list_tokens (Symbol Comma) column columns rest
 
+-- `*`, or at least one column
 abbrev pub IsSelectList : Option (List RawCol) → Type 0
 IsSelectList None = Unit {0}
 IsSelectList (Some columns) = AreSome IsColumn columns
@@ -197,9 +205,11 @@ abbrev pub second_name : Spelling (Option (List ℕ))
 second_name None rest = rest
 second_name (Some name) rest = Word name ∷ rest
 
+-- a table and its second name, as they are spelled
 abbrev pub from_item : Spelling (List ℕ × Option (List ℕ))
 from_item i rest = Word i.0 ∷ second_name i.1 rest
 
+-- a table, and its second name where there is one, are names
 abbrev pub IsItem : List ℕ × Option (List ℕ) → Type 0
 IsItem i = IsName i.0 × MayBeName i.1
 

@@ -26,6 +26,7 @@ abbrev pub IsHeldValue : Value → Type 0
 IsHeldValue (Int z) = mag z < 2 ^ 63
 IsHeldValue v = Unit {0}
 
+-- the numbers that a refusal shows
 abbrev pub IsHeldRefusal : Refusal → Type 0
 IsHeldRefusal (refusals.Active txn) = IsHeld txn
 IsHeldRefusal (refusals.Busy txn) = IsHeld txn
@@ -34,16 +35,19 @@ IsHeldRefusal (refusals.Held row txn) = IsHeld row.0 × IsHeld txn
 IsHeldRefusal (refusals.Limit which n) = IsHeld n
 IsHeldRefusal refusal = Unit {0}
 
+-- how many keys a list has
 abbrev pub IsHeldEvent : ShownEvent → Type 0
 IsHeldEvent (events.List name keys) = IsHeld keys
 IsHeldEvent event = Unit {0}
 
+-- the numbers of a trace
 pub record IsHeldTrace (shown : Shown) : Type 0 where
   pub events : AllByRecursion IsHeldEvent shown.events
   pub pages : IsHeld shown.pages
   pub leaves : IsHeld shown.leaves
   pub fetches : IsHeld shown.fetches
 
+-- the numbers of a reply
 abbrev pub IsHeldReply : Reply → Type 0
 IsHeldReply (replies.Began n) = IsHeld n
 IsHeldReply (replies.Inserted row) = IsHeld row.0

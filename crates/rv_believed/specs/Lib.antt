@@ -1,12 +1,17 @@
 pub mod Answers
+pub mod Changing
 pub mod Course
+pub mod Cursors
 pub mod Grammar
 pub mod Held
 pub mod History
 pub mod Limits
 pub mod Names
+pub mod Offers
 pub mod Orderly
 pub mod Plain
 pub mod Runs
 pub mod Step
 pub mod Taken
+pub mod Transactions
+pub mod Truth

@@ -45,6 +45,7 @@ literals atom = []
 abbrev pub column_names : RawCol → List (List ℕ)
 column_names c = option_to_list c.table ++ c.column ∷ []
 
+-- the names in an atom
 abbrev pub atom_names : RawAtom → List (List ℕ)
 atom_names a = column_names (left a) ++ flat_map column_names (option_to_list (right a))
 
@@ -56,6 +57,7 @@ names_in only = flat_map (flat_map atom_names) only
 abbrev pub values_in : List (List RawAtom) → List Value
 values_in only = flat_map (flat_map literals) only
 
+-- the names of a FROM item
 abbrev pub item_names : List ℕ × Option (List ℕ) → List (List ℕ)
 item_names i = i.0 ∷ option_to_list i.1
 
@@ -69,6 +71,7 @@ at_most n which xs = refuse_if (nat_lt n (length xs)) (Limit which n)
 abbrev pub names_fit : List (List ℕ) → Test
 names_fit = all_pass (at_most 31 limits.Name)
 
+-- a literal: no more than 255 bytes
 abbrev pub value_fits : Value → Test
 value_fits (Str text) = at_most 255 limits.Text text
 value_fits v = Ok tt
@@ -87,6 +90,7 @@ abbrev pub kind_fits : List ℕ × RawKind → Test
 kind_fits (name, Big) = Ok tt
 kind_fits (name, Chars n) = refuse_if (is_outside 1 255 n) (Limit limits.Text 255)
 
+-- IN: 32 literals
 abbrev pub list_fits : RawAtom → Test
 list_fits (Among c list) = at_most 32 limits.List list
 list_fits atom = Ok tt

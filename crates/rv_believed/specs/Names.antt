@@ -87,11 +87,13 @@ reference reach raw = only_one raw.column (filter (fits raw) reach)
 abbrev pub plain_column : List ℕ → RawCol
 plain_column name = record { table = None; column = name }
 
+-- the number of a column in its table
 abbrev pub column_number : List InReach → List ℕ → Result ℕ Refusal
 column_number reach name = do
   c ← reference reach (plain_column name)
   Ok c.at.column
 
+-- the places of some references
 abbrev pub references : List InReach → List RawCol → Result (List ColRef) Refusal
 references reach raws = do
   found ← answers (reference reach) raws
@@ -99,6 +101,7 @@ references reach raws = do
 
 -- ---- conditions
 
+-- a comparison as it is asked
 abbrev pub op_of : RawOp → Op
 op_of raw_ops.Eq = Eq
 op_of raw_ops.Ne = Ne
@@ -107,6 +110,7 @@ op_of raw_ops.Le = Le
 op_of raw_ops.Gt = Gt
 op_of raw_ops.Ge = Ge
 
+-- what stands on the right, with its column by number
 abbrev pub operand_of : List InReach → RawOperand → Result Operand Refusal
 operand_of reach (raw_operands.Literal v) = Ok (Literal v)
 operand_of reach (raw_operands.Column d) = do
@@ -126,6 +130,7 @@ abbrev pub right_of : RawAtom → RawOperand
 right_of (raw.Compare d op operand) = operand
 right_of atom = raw_operands.Literal Null
 
+-- an atom, whose left column is looked up first
 abbrev pub atom_of : List InReach → RawAtom → Result Atom Refusal
 atom_of reach a = do
   c ← reference reach (left a)
@@ -145,11 +150,13 @@ is_of_kind (Chars n) (Str text) = true
 is_of_kind kind Null = true
 is_of_kind kind v = false
 
+-- texts are of one kind, however long
 abbrev pub same_kind : Kind → Kind → Bool
 same_kind Big Big = true
 same_kind (Chars n) (Chars m) = true
 same_kind a b = false
 
+-- a text that the column has no room for
 abbrev pub is_too_long : Kind → Value → Bool
 is_too_long (Chars n) (Str text) = nat_lt n (length text)
 is_too_long kind v = false
@@ -168,6 +175,7 @@ row_kinds last (c ∷ cs) (v ∷ vs) = do
   held ← can_hold c v
   row_kinds c.name cs vs
 
+-- a column that is set can hold its value
 abbrev pub set_kind : List InReach → List ℕ × Value → Test
 set_kind reach set = do
   c ← reference reach (plain_column set.0)
@@ -182,11 +190,13 @@ atom_kinds reach a = do
   other ← answers (reference reach) (option_to_list (right a))
   refuse_if (not (list_all (λ (d : InReach). same_kind c.kind d.kind) other)) (WrongKind c.name)
 
+-- each atom of a condition is of one kind
 abbrev pub kinds : List InReach → List (List RawAtom) → Test
 kinds reach only = all_pass (all_pass (atom_kinds reach)) only
 
 -- ---- names of tables and indexes, and names that stand twice
 
+-- the number of the table of a name
 abbrev pub table_number : List TableDef → List ℕ → Result ℕ Refusal
 table_number tables name = ok_or (table_named tables name) (Unknown name)
 
@@ -208,14 +218,17 @@ abbrev pub number_of : ℤ → ℕ
 number_of (pos n) = n
 number_of (negsuc n) = 0
 
+-- what OPTIMIZE asks
 abbrev pub goal_of : RawGoal → Goal
 goal_of raw_goals.FastFirst = goals.FastFirst
 goal_of raw_goals.TotalTime = goals.TotalTime
 
+-- a column of a table, as it is asked
 abbrev pub column_def : List ℕ × RawKind → List ℕ × Kind
 column_def (name, raw_kinds.Big) = (name, Big)
 column_def (name, raw_kinds.Chars n) = (name, Chars (number_of n))
 
+-- a FROM item with its table by number
 abbrev pub item_of : List TableDef → List ℕ × Option (List ℕ) → Result Item Refusal
 item_of tables i = do
   table ← table_number tables i.0
@@ -226,6 +239,7 @@ abbrev pub columns_returned : List InReach → Option (List RawCol) → Result (
 columns_returned reach None = Ok (map (λ (c : InReach). c.at) reach)
 columns_returned reach (Some raws) = references reach raws
 
+-- a column that is set, by its number
 abbrev pub set_of : List InReach → List ℕ × Value → Result (ℕ × Value) Refusal
 set_of reach set = do
   column ← column_number reach set.0

@@ -32,12 +32,14 @@ IsPlainRefusal (refusals.CursorOpen name) = IsPlainName name
 IsPlainRefusal (refusals.Pending name) = IsPlainName name
 IsPlainRefusal refusal = Unit {0}
 
+-- so are the names of indexes
 abbrev pub IsPlainEvent : ShownEvent → Type 0
 IsPlainEvent (events.Scan name) = IsPlainName name
 IsPlainEvent (events.List name keys) = IsPlainName name
 IsPlainEvent (events.Drop name) = IsPlainName name
 IsPlainEvent event = Unit {0}
 
+-- what a reply shows of texts and names is plain
 abbrev pub IsPlainReply : Reply → Type 0
 IsPlainReply (replies.Row values) = AllByRecursion IsPlainValue values
 IsPlainReply (replies.Trace shown) = AllByRecursion IsPlainEvent shown.events

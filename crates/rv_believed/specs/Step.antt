@@ -1,5 +1,5 @@
 -- Believed: what a statement does: the reply that is given to a session, and the database after it.
-use Rattle.std.specs.Prelude.{◌≡◌, ◌≤◌, ℕ, List, [], Option, Some, None, Result, Ok, Err, IsSome, slice_set}
+use Rattle.std.specs.Prelude.{◌≡◌, ◌≤◌, ℕ, List, [], Option, Some, None, Result, Ok, Err, remove, slice_set}
 use Rattle.rv_lang.specs.declared.reply.Refusal.{Refusal}
 use Rattle.rv_lang.specs.declared.reply.Refusal.TheVariants.{NoCursor}
 use Rattle.rv_lang.specs.declared.reply.Reply.{Reply}
@@ -10,9 +10,12 @@ use Rattle.rv_model.specs.declared.state.State.{State}
 use Rattle.rv_model.specs.declared.state.Cursor.{Cursor}
 use Rattle.rv_model.specs.declared.state.Offer.{Offer}
 use Rattle.rv_model.specs.Database.{cursor_at, cursor_named}
-use Rattle.rv_model.specs.Offers.{place_of, without}
-use Rattle.rv_model.specs.Step.{Outcome, created, indexed, began, inserted, changed, committed, rolled_back, opened, closed}
+use Rattle.rv_model.specs.Offers.{place_of}
+use Rattle.rv_model.specs.Step.{Outcome}
+use Rattle.rv_believed.specs.Changing.{change, insert}
+use Rattle.rv_believed.specs.Cursors.{close_cursor, open_cursor}
 use Rattle.rv_believed.specs.Runs.{Shows}
+use Rattle.rv_believed.specs.Transactions.{begin, commit, create_index, create_table, rollback}
 
 -- the outcome comes to this reply and this database; after a refusal the database is as it was
 abbrev pub ComesTo : Outcome → State → Reply → State → Type 0
@@ -21,16 +24,13 @@ ComesTo (Err refusal) s reply new = (reply ≡ Refused refusal) × (new ≡ s)
 
 -- with other offers of the cursor in a place
 abbrev pub with_offers : State → ℕ → List Offer → State
-with_offers s place offers = record s {
-  cursors =
-      slice_set s.cursors place (record (cursor_at s.cursors place) { offers = offers });
-}
+with_offers s n left =
+    record s { cursors = slice_set s.cursors n (record (cursor_at s.cursors n) { offers = left }) }
 
 -- FETCH: a row is taken out of the cursor's offers, or there is none left.
 abbrev pub Fetches : State → ℕ → List Offer → Reply → State → Type 0
 Fetches s place offers (Row values) new =
-    IsSome (place_of offers values)
-    × (new ≡ with_offers s place (without (place_of offers values) offers))
+    (n : ℕ) × (place_of offers values ≡ Some n) × (new ≡ with_offers s place (remove offers n))
 Fetches s place offers End new = (offers ≡ []) × (new ≡ with_offers s place [])
 Fetches s place offers reply new = ⊥
 
@@ -51,17 +51,17 @@ OfCursor (Some place) s name P reply new = P place
 
 -- WHAT A STATEMENT DOES
 abbrev pub Does : State → ℕ → Resolved → Reply → State → Type 0
-Does s session (asked.CreateTable def) reply new = ComesTo (created s def) s reply new
-Does s session (asked.CreateIndex def) reply new = ComesTo (indexed s def) s reply new
-Does s session (asked.Begin read_only) reply new = ComesTo (began s session read_only) s reply new
-Does s session (asked.Insert t values) reply new = ComesTo (inserted s session t values) s reply new
+Does s session (asked.CreateTable def) reply new = ComesTo (create_table s def) s reply new
+Does s session (asked.CreateIndex def) reply new = ComesTo (create_index s def) s reply new
+Does s session (asked.Begin read_only) reply new = ComesTo (begin s session read_only) s reply new
+Does s session (asked.Insert t values) reply new = ComesTo (insert s session t values) s reply new
 Does s session (asked.Update t sets only) reply new =
-    ComesTo (changed s session t (Some sets) only) s reply new
-Does s session (asked.Delete t only) reply new = ComesTo (changed s session t None only) s reply new
-Does s session asked.Commit reply new = ComesTo (committed s session) s reply new
-Does s session asked.Rollback reply new = ComesTo (rolled_back s session) s reply new
-Does s session (asked.Open name q) reply new = ComesTo (opened s session name q) s reply new
-Does s session (asked.Close name) reply new = ComesTo (closed s session name) s reply new
+    ComesTo (change s session t (Some sets) only) s reply new
+Does s session (asked.Delete t only) reply new = ComesTo (change s session t None only) s reply new
+Does s session asked.Commit reply new = ComesTo (commit s session) s reply new
+Does s session asked.Rollback reply new = ComesTo (rollback s session) s reply new
+Does s session (asked.Open name q) reply new = ComesTo (open_cursor s session name q) s reply new
+Does s session (asked.Close name) reply new = ComesTo (close_cursor s session name) s reply new
 Does s session (asked.Fetch name) reply new = OfCursor (cursor_named s.cursors session name) s name
     (λ place. Fetches s place (cursor_at s.cursors place).offers reply new) reply new
 Does s session (asked.Step name n) reply new = OfCursor (cursor_named s.cursors session name) s name

@@ -1,24 +1,36 @@
 //! Laws of the believed definitions, each the contract of a function that does nothing.
-ghost use Rattle.std.specs.Prelude.{◌≡◌, List, ℕ, Some};
+ghost use Rattle.std.specs.Prelude.{◌≡◌, Bool, List, Option, ℕ, Some};
+ghost use Rattle.rv_value.specs.declared.record.Record.{Record};
+ghost use Rattle.rv_value.specs.declared.value.Value.{Value};
+ghost use Rattle.rv_restrict.specs.declared.atom.Atom.{Atom};
 ghost use Rattle.rv_lang.specs.declared.statement.Statement.{Statement};
 ghost use Rattle.rv_lang.specs.declared.reply.Shown.{Shown};
 ghost use Rattle.rv_parse.specs.Reading.{statement_of};
 ghost use Rattle.rv_catalog.specs.declared.def.IndexDef.{IndexDef};
+ghost use Rattle.rv_catalog.specs.declared.def.TableDef.{TableDef};
+ghost use Rattle.rv_catalog.specs.declared.def.Select.{Select};
 ghost use Rattle.rv_catalog.specs.Limits.{limits};
 ghost use Rattle.rv_catalog.specs.Resolve.{resolved};
 ghost use Rattle.rv_catalog.specs.Schema.{Schema};
 ghost use Rattle.rv_model.specs.declared.entry.Entry.{Entry};
+ghost use Rattle.rv_model.specs.declared.state.State.{State};
 ghost use Rattle.rv_model.specs.History as working;
+ghost use Rattle.rv_model.specs.Offering.{offers_over};
 ghost use Rattle.rv_model.specs.Showing.{ShowsTrace};
+ghost use Rattle.rv_model.specs.Step.{began, changed, closed, committed, created, indexed, inserted, opened, rolled_back};
+ghost use Rattle.rv_believed.specs.Changing.{change, insert};
+ghost use Rattle.rv_believed.specs.Cursors.{close_cursor, open_cursor};
 ghost use Rattle.rv_believed.specs.Grammar.{Says};
 ghost use Rattle.rv_believed.specs.Held.{TranscriptTells};
 ghost use Rattle.rv_believed.specs.History.{IsLegal};
 ghost use Rattle.rv_believed.specs.Limits.{within_limits};
 ghost use Rattle.rv_believed.specs.Names.{resolution};
-ghost use Rattle.rv_believed.specs.Orderly.{StaysOrderly};
+ghost use Rattle.rv_believed.specs.Offers.{offers_of};
+ghost use Rattle.rv_believed.specs.Orderly.{IsOrderly, StaysOrderly};
 ghost use Rattle.rv_believed.specs.Plain.{LegalIsPlain};
 ghost use Rattle.rv_believed.specs.Runs.{Shows};
 ghost use Rattle.rv_believed.specs.Taken.{StaysTaken};
+ghost use Rattle.rv_believed.specs.Transactions.{begin, commit, create_index, create_table, rollback};
 
 use rv_model::laws::text_tells;
 use rv_parse::parser::statement_as_function;
@@ -39,6 +51,24 @@ pub fn limits_are_same()
 /// A law: a statement asks what the catalog resolves it to, or has the same first refusal.
 pub fn resolution_is_same()
     ensures { (schema : Schema) (s : Statement) → resolution schema.tables schema.indexes s ≡ resolved schema s }
+{}
+
+/// A law: a select offers what the working definition gathers.
+pub fn offers_are_same()
+    ensures { (q : Select) (rows : ℕ → List Record) → offers_of q rows ≡ offers_over q rows }
+{}
+
+/// A law: these statements come to what the working definitions say.
+pub fn statements_are_same()
+    ensures inserts { (s : State) (session table : ℕ) (values : List Value) → insert s session table values ≡ inserted s session table values }
+    ensures changes { (s : State) (session table : ℕ) (sets : Option (List (ℕ × Value))) (only : List (List Atom)) → change s session table sets only ≡ changed s session table sets only }
+    ensures begins { (s : State) (session : ℕ) (read_only : Bool) → begin s session read_only ≡ began s session read_only }
+    ensures closes { (s : State) (session : ℕ) (name : List ℕ) → close_cursor s session name ≡ closed s session name }
+    ensures opens { (s : State) (session : ℕ) (name : List ℕ) (q : Select) → open_cursor s session name q ≡ opened s session name q }
+    ensures tables { (s : State) (def : TableDef) → IsOrderly s → create_table s def ≡ created s def }
+    ensures indexes { (s : State) (def : IndexDef) → IsOrderly s → create_index s def ≡ indexed s def }
+    ensures commits { (s : State) (session : ℕ) → commit s session ≡ committed s session }
+    ensures rolls_back { (s : State) (session : ℕ) → rollback s session ≡ rolled_back s session }
 {}
 
 /// A law: SHOW may answer the traces of runs by turns, and no others.

@@ -12,12 +12,11 @@ use Rattle.rv_rows.proofs.Puts.{rising_filter}
 use Rattle.rv_reader.specs.declared.reader.Chunk.{Chunk}
 use Rattle.rv_reader.specs.Entries.{comes_before, is_in, reaches, Ascend, AreLong}
 use Rattle.rv_reader.specs.Leaves.{is_passed, is_wanted, within, Leaf, leaf_at, leaf_entries, leaf_from, from_on, up_to, run_from, IsChunk}
-use Rattle.rv_overlay.specs.Leaves.{is_below, is_taken}
+use Rattle.rv_reader.specs.Leaves.{is_below, is_taken}
 use Rattle.rv_reader.specs.Storing.{AreKeys}
 use Rattle.rv_reader.proofs.Filters.{both, filter_same, filter_twice, filter_fewer, all_filter}
 use Rattle.rv_reader.proofs.Chunks.{is_long}
-use Rattle.rv_overlay.specs.Leaves.{IsViewChunk}
-use Rattle.rv_overlay.proofs.Leaves.{is_view_chunk, leaf_read, taken_within}
+use Rattle.rv_reader.proofs.Chunks.{is_chunk, leaf_read, taken_within}
 use Rattle.rv_reader.proofs.Orders.{one_way, follows, below_through}
 use Rattle.rv_overlay.specs.declared.frozen.Part.{Part}
 use Rattle.rv_overlay.specs.Laying.{first_not, has, laid, lesser, marks, sixteenths, with_all, without}
@@ -162,7 +161,7 @@ pub laid_leaf : (entries cuts : List IndexEntry) (part : Part) (range : Range) (
     → LaysIndex entries cuts part → fits part.width range ≡ true → IsChunk entries cuts range start leaf
     → next ≡ lesser leaf.next (within range (first_not (is_passed start range) (sixteenths part.added)))
     → all ≡ with_all (filter (is_taken range start next) part.added) (filter (λ e. is_below next e && not (has part.taken e)) leaf.entries)
-    → (chunk : Chunk) → chunk.entries ≡ all → chunk.next ≡ next → IsViewChunk (laid part.taken part.added entries) (with_all (sixteenths part.added) cuts) range start chunk
+    → (chunk : Chunk) → chunk.entries ≡ all → chunk.next ≡ next → IsChunk (laid part.taken part.added entries) (with_all (sixteenths part.added) cuts) range start chunk
 laid_leaf entries cuts part range start leaf all next lays fit is next_is all_is chunk here following =
     let passes = is_passed start range in
     let long = all_long part.width range entries fit lays.keys in
@@ -200,7 +199,7 @@ laid_leaf entries cuts part range start leaf all next lays fit is next_is all_is
     (λ e l h. own_taken range start leaf.next own e l own_long (subst (λ n. is_taken range start n e ≡ true) near h)) in
     let most = with_count (filter (is_taken range start next) part.added) (filter (λ e. is_below next e && not (has part.taken e)) leaf.entries) in
     let short : length chunk.entries ≤ 48 = rw (here, all_is) (let size = ap length is.found in omega (arith, store_few, left_few, added_few, sharper, most, size)) in
-    is_view_chunk view view_cuts range start chunk view_ascends view_long cuts_long found (following ∙ next_so) short
+    is_chunk view view_cuts range start chunk view_ascends view_long cuts_long found (following ∙ next_so) short
 
 -- Where a bound is longer than the keys there is no entry.
 
@@ -222,13 +221,13 @@ keys_test width (e ∷ entries) keys = let here : nat_eq (length e.key) width �
 
 pub no_leaf : (entries cuts : List IndexEntry) (part : Part) (range : Range) (start : Option IndexEntry) (chunk : Chunk)
     → LaysIndex entries cuts part → fits part.width range ≡ false → AreLong range (laid part.taken part.added entries) → AreLong range (with_all (sixteenths part.added) cuts)
-    → chunk.entries ≡ [] → chunk.next ≡ None → IsViewChunk (laid part.taken part.added entries) (with_all (sixteenths part.added) cuts) range start chunk
+    → chunk.entries ≡ [] → chunk.next ≡ None → IsChunk (laid part.taken part.added entries) (with_all (sixteenths part.added) cuts) range start chunk
 no_leaf entries cuts part range start chunk lays fit long long_cuts none last =
     let test : IndexEntry → Bool = λ e. nat_eq (length e.key) part.width in
     let rest = without part.taken entries in
     let view_none = none_long part.width range (laid part.taken part.added entries) fit (all_with test part.added rest (keys_test part.width part.added lays.added_keys) (all_filter test (λ e. not (has part.taken e)) entries (keys_test part.width entries lays.keys))) long in
     let cuts_none = none_long part.width range (with_all (sixteenths part.added) cuts) fit (all_with test (sixteenths part.added) cuts (marks_all test 0 part.added (keys_test part.width part.added lays.added_keys)) (keys_test part.width cuts lays.cut_keys)) long_cuts in
-    rw (view_none, cuts_none) (is_view_chunk [] [] range start chunk tt refl refl (none ∙ sym (leaf_read [] [] range start refl refl)) last (rw none (omega arith)))
+    rw (view_none, cuts_none) (is_chunk [] [] range start chunk tt refl refl (none ∙ sym (leaf_read [] [] range start refl refl)) last (rw none (omega arith)))
 
 -- what was read of a leaf ascends
 pub leaf_ascends : (entries cuts : List IndexEntry) (part : Part) (range : Range) (start : Option IndexEntry) (leaf : Chunk) → LaysIndex entries cuts part → fits part.width range ≡ true → IsChunk entries cuts range start leaf → Ascend leaf.entries

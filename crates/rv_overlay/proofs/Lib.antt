@@ -3,7 +3,6 @@ pub mod Counted
 pub mod Following
 pub mod Freezing
 pub mod Keying
-pub mod Leaves
 pub mod Members
 pub mod Moving
 pub mod Placing

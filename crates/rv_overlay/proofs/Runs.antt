@@ -35,7 +35,7 @@ use Rattle.rv_reader.proofs.Sorting.{same}
 use Rattle.rv_overlay.specs.declared.frozen.TableSize.{TableSize}
 use Rattle.rv_overlay.specs.Fronts.{is_before_page, is_early, is_on, is_until, is_until_page}
 use Rattle.rv_overlay.specs.Laying.{first_not, has, marks, sixteenths}
-use Rattle.rv_overlay.specs.Leaves.{is_below, is_taken}
+use Rattle.rv_reader.specs.Leaves.{is_below, is_taken}
 use Rattle.rv_overlay.specs.Overlaid.{size_of}
 use Rattle.rv_overlay.specs.Rows.{change_of}
 use Rattle.rv_overlay.proofs.Following.{passes_down}

@@ -9,7 +9,7 @@ use Rattle.rv_value.specs.declared.range.Side.TheVariants.{Before, In, After}
 use Rattle.rv_value.specs.Ranges.{in_side, place}
 use Rattle.rv_reader.specs.Entries.{comes_before, is_in, Ascend, AreLong}
 use Rattle.rv_reader.specs.Leaves.{before_side, is_passed, is_wanted}
-use Rattle.rv_overlay.specs.Leaves.{is_below}
+use Rattle.rv_reader.specs.Leaves.{is_below}
 use Rattle.rv_reader.proofs.Chunks.{is_long}
 use Rattle.rv_reader.proofs.Sorting.{same}
 use Rattle.rv_reader.proofs.Filters.{both, filter_none}

@@ -5,7 +5,7 @@ use Rattle.rv_value.specs.declared.range.Range.{Range}
 use Rattle.rv_value.specs.Ranges.{place}
 use Rattle.rv_rows.specs.declared.changes.Change.{Change}
 use Rattle.rv_reader.specs.Leaves.{after_side, before_side, is_from}
-use Rattle.rv_overlay.specs.Leaves.{is_below}
+use Rattle.rv_reader.specs.Leaves.{is_below}
 
 -- before the entry from which on is read, where there is one, or before the range
 abbrev pub is_early : Option IndexEntry → Range → IndexEntry → Bool

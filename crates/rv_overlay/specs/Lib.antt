@@ -2,7 +2,6 @@ pub mod Freezing
 pub mod Fronts
 pub mod Keeping
 pub mod Laying
-pub mod Leaves
 pub mod Members
 pub mod Overlaid
 pub mod Rows

@@ -6,7 +6,7 @@ ghost use Rattle.rv_reader.specs.Entries.{Ascend, AreLong, run};
 ghost use Rattle.rv_reader.specs.Leaves.{is_passed};
 ghost use Rattle.rv_overlay.specs.Fronts.{is_before_page, is_early, is_on, is_until, is_until_page};
 ghost use Rattle.rv_overlay.specs.Laying.{first_not, has, sixteenths};
-ghost use Rattle.rv_overlay.specs.Leaves.{is_taken};
+ghost use Rattle.rv_reader.specs.Leaves.{is_taken};
 
 use rv_blocks::{Blocks, Front};
 use rv_rows::Change;

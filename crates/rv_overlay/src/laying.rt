@@ -7,7 +7,7 @@ ghost use Rattle.rv_blocks.specs.Taking.{is_level};
 ghost use Rattle.rv_reader.specs.Entries.{Ascend, AreLong, comes_before};
 ghost use Rattle.rv_reader.specs.Leaves.{is_passed, within};
 ghost use Rattle.rv_overlay.specs.Laying.{first_not, has, lesser, sixteenths, with_all};
-ghost use Rattle.rv_overlay.specs.Leaves.{is_below, is_taken};
+ghost use Rattle.rv_reader.specs.Leaves.{is_below, is_taken};
 
 use crate::fronts::{first_behind, has, span_of};
 use rv_blocks::{Before, Blocks, turn_in};

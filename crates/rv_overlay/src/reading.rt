@@ -5,7 +5,7 @@ ghost use Rattle.rv_judge.specs.Counting.{leaf_read};
 ghost use Rattle.rv_reader.specs.Entries.{Ascend, AreLong, run};
 ghost use Rattle.rv_reader.specs.Shown.{CanScan, IsEstimate, IsIndex, Suits};
 ghost use Rattle.rv_overlay.specs.Laying.{laid, sixteenths, with_all};
-ghost use Rattle.rv_overlay.specs.Leaves.{IsViewChunk};
+ghost use Rattle.rv_reader.specs.Leaves.{IsChunk};
 ghost use Rattle.rv_overlay.specs.Overlaid.{LaysIndex, counted, estimated, fits, is_short, part_at};
 
 use crate::fronts::count_in;
@@ -56,7 +56,7 @@ pub fn chunk_over<R: Reader>(
     requires lays { LaysIndex ((R.shown reader.now).entries index snap) ((R.shown reader.now).cuts index snap) part.now }
     requires entries { AreLong range.now (laid part.now.taken part.now.added ((R.shown reader.now).entries index snap)) }
     requires cuts { AreLong range.now (with_all (sixteenths part.now.added) ((R.shown reader.now).cuts index snap)) }
-    ensures chunk { IfOk result (IsViewChunk (laid part.now.taken part.now.added ((R.shown reader.now).entries index snap)) (with_all (sixteenths part.now.added) ((R.shown reader.now).cuts index snap)) range.now (option_copied from.entry)) }
+    ensures chunk { IfOk result (IsChunk (laid part.now.taken part.now.added ((R.shown reader.now).entries index snap)) (with_all (sixteenths part.now.added) ((R.shown reader.now).cuts index snap)) range.now (option_copied from.entry)) }
     ensures counted { steps.new ≡ leaf_read steps.old }
 {
     if !fits(part.width, range) {

@@ -19,7 +19,7 @@ use rv_value::{Duplicate, NoMemory, Record, RowNo};
 use std::alloc::Global;
 
 /// The change of a row, where there is one.
-fn change_of(changes: &Blocks<Change>, table: u32, row: RowNo) -> Option<&Change>
+pub fn change_of(changes: &Blocks<Change>, table: u32, row: RowNo) -> Option<&Change>
     ensures { option_copied result ≡ change_of table row.0 changes.now }
 {
     let like = Change {
@@ -138,7 +138,7 @@ pub fn page_over<R: Reader>(
 }
 
 /// What is kept of how large a table is, where it is changed.
-fn size_of(sizes: &Blocks<TableSize>, table: u32) -> Option<&TableSize>
+pub fn size_of(sizes: &Blocks<TableSize>, table: u32) -> Option<&TableSize>
     ensures { option_copied result ≡ size_of table sizes.now }
 {
     sizes.find(&TableSize {

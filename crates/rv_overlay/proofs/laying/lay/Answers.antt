@@ -3,7 +3,7 @@ use Rattle.std.specs.Option.{option_copied}
 use Rattle.rv_reader.specs.Entries.{comes_before}
 use Rattle.rv_rows.proofs.Puts.{rising_filter}
 use Rattle.rv_overlay.specs.Laying.{has}
-use Rattle.rv_overlay.specs.Leaves.{is_below}
+use Rattle.rv_reader.specs.Leaves.{is_below}
 use Rattle.rv_overlay.proofs.laying.lay.Goals as goal
 
 pub put_all-requires : goal.put_all-requires

@@ -1,0 +1,9 @@
+pub mod Cutting
+pub mod Finding
+pub mod Leaves
+pub mod Passing
+pub mod Replying
+pub mod Rowing
+pub mod Stepping
+pub mod Tracing
+pub mod Transcribing

@@ -1,0 +1,9 @@
+pub mod Lines
+pub mod Pairs
+pub mod Parts
+pub mod Reading
+pub mod Replies
+pub mod Steps
+pub mod Texts
+pub mod Traces
+pub mod Values

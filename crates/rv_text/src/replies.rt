@@ -1,0 +1,281 @@
+//! Replies, read.
+ghost use Rattle.std.specs.Prelude.{◌≡◌, Some, None, IfOk, bytes_eq, codes, find, option_map};
+ghost use Rattle.std.specs.Option.{option_copied};
+ghost use Rattle.rv_model.specs.Transcript.{limit_word};
+ghost use Rattle.rv_text.specs.Pairs.{limit_by, pair_by};
+ghost use Rattle.rv_text.specs.Replies.{after, limit_at, lone_at, named_at, name_behind, numbered_at, number_behind, paired_at, pair_at, read_behind, reply_at, row_at, shown_at};
+
+use crate::cuts::{after, cut_at};
+use crate::traces::{name, trace};
+use crate::values::{number, values};
+use crate::words::limit_word;
+use rv_model::{Refusal, Reply, Which};
+use rv_value::{NoMemory, RowNo, Text};
+use std::alloc::Global;
+
+const LIMITS: [Which; 16] = [
+    Which::Name,
+    Which::Text,
+    Which::Columns,
+    Which::Key,
+    Which::List,
+    Which::Atoms,
+    Which::Groups,
+    Which::Joined,
+    Which::Returned,
+    Which::Order,
+    Which::Steps,
+    Which::Tables,
+    Which::Indexes,
+    Which::Cursors,
+    Which::Rows,
+    Which::Pending,
+];
+
+/// The first of these limits that is written so.
+fn limit_among(limits: &[Which], word: &[u8]) -> Option<Which>
+    ensures { result ≡ find (λ w. bytes_eq (limit_word w) word.now) limits.now }
+{
+    let mut rest = limits;
+    'limits: while let [which, more @ ..] = rest {
+        if limit_word(*which) == word {
+            return Some(*which);
+        }
+        rest = more;
+    }
+    None
+}
+
+/// The number that stands behind a word.
+fn number_behind(word: &[u8], text: &[u8]) -> Option<u64>
+    ensures { result ≡ number_behind word.now text.now }
+{
+    match after(word, text) {
+        Some(digits) => number(digits),
+        None => None,
+    }
+}
+
+/// The name that stands behind a word.
+fn name_behind<'a>(word: &[u8], text: &'a [u8]) -> Option<&'a str>
+    ensures { option_copied result ≡ name_behind word.now text.now }
+{
+    match after(word, text) {
+        Some(rest) => name(rest),
+        None => None,
+    }
+}
+
+/// A reply that is always the same words.
+fn lone(text: &[u8]) -> Option<Reply>
+    ensures { result ≡ lone_at text.now }
+{
+    if text == b"created".as_slice() {
+        return Some(Reply::Created);
+    }
+    if text == b"rolled back".as_slice() {
+        return Some(Reply::RolledBack);
+    }
+    if text == b"opened".as_slice() {
+        return Some(Reply::Opened);
+    }
+    if text == b"end".as_slice() {
+        return Some(Reply::End);
+    }
+    if text == b"closed".as_slice() {
+        return Some(Reply::Closed);
+    }
+    if text == b"syntax".as_slice() {
+        return Some(Reply::Refused(Refusal::Syntax));
+    }
+    if text == b"no transaction".as_slice() {
+        return Some(Reply::Refused(Refusal::NoTransaction));
+    }
+    if text == b"read only".as_slice() {
+        return Some(Reply::Refused(Refusal::ReadOnly));
+    }
+    None
+}
+
+/// A reply of a word and a number.
+fn numbered(text: &[u8]) -> Option<Reply>
+    ensures { result ≡ numbered_at text.now }
+{
+    if let Some(number) = number_behind(b"began ", text) {
+        return Some(Reply::Began(number));
+    }
+    if let Some(row) = number_behind(b"inserted ", text) {
+        return Some(Reply::Inserted(RowNo(row)));
+    }
+    if let Some(count) = number_behind(b"touched ", text) {
+        return Some(Reply::Touched(count));
+    }
+    if let Some(number) = number_behind(b"committed ", text) {
+        return Some(Reply::Committed(number));
+    }
+    if let Some(count) = number_behind(b"stepped ", text) {
+        return Some(Reply::Stepped(count));
+    }
+    if let Some(txn) = number_behind(b"active ", text) {
+        return Some(Reply::Refused(Refusal::Active(txn)));
+    }
+    if let Some(txn) = number_behind(b"busy ", text) {
+        return Some(Reply::Refused(Refusal::Busy(txn)));
+    }
+    None
+}
+
+/// A refusal of words and a name.
+fn named(alloc: Global, text: &[u8]) -> Result<Option<Reply>, NoMemory>
+    ensures { IfOk result (λ o. o ≡ named_at text.now) }
+{
+    if let Some(name) = name_behind(b"unknown ", text) {
+        let name = Text::read(alloc, name)?;
+        return Ok(Some(Reply::Refused(Refusal::Unknown(name))));
+    }
+    if let Some(name) = name_behind(b"exists ", text) {
+        let name = Text::read(alloc, name)?;
+        return Ok(Some(Reply::Refused(Refusal::Exists(name))));
+    }
+    if let Some(name) = name_behind(b"kind ", text) {
+        let name = Text::read(alloc, name)?;
+        return Ok(Some(Reply::Refused(Refusal::Kind(name))));
+    }
+    if let Some(name) = name_behind(b"no cursor ", text) {
+        let name = Text::read(alloc, name)?;
+        return Ok(Some(Reply::Refused(Refusal::NoCursor(name))));
+    }
+    if let Some(name) = name_behind(b"cursor open ", text) {
+        let name = Text::read(alloc, name)?;
+        return Ok(Some(Reply::Refused(Refusal::CursorOpen(name))));
+    }
+    if let Some(name) = name_behind(b"pending ", text) {
+        let name = Text::read(alloc, name)?;
+        return Ok(Some(Reply::Refused(Refusal::Pending(name))));
+    }
+    Ok(None)
+}
+
+/// A number, ` by ` and a number.
+fn pair(text: &[u8]) -> Option<(u64, u64)>
+    ensures { option_map pair_by result ≡ pair_at text.now }
+{
+    let (first, more) = cut_at(b' ', text);
+    match number(first) {
+        Some(first) => match more {
+            Some(behind) => match number_behind(b"by ", behind) {
+                Some(second) => Some((first, second)),
+                None => None,
+            },
+            None => None,
+        },
+        None => None,
+    }
+}
+
+/// The word of a limit, a space and a number.
+fn limit(text: &[u8]) -> Option<(Which, u64)>
+    ensures { option_map limit_by result ≡ limit_at text.now }
+{
+    let (word, more) = cut_at(b' ', text);
+    match limit_among(&LIMITS, word) {
+        Some(which) => match more {
+            Some(behind) => match number(behind) {
+                Some(number) => Some((which, number)),
+                None => None,
+            },
+            None => None,
+        },
+        None => None,
+    }
+}
+
+/// The pair that stands behind a word.
+fn pair_behind(word: &[u8], text: &[u8]) -> Option<(u64, u64)>
+    ensures { option_map pair_by result ≡ read_behind (after word.now text.now) (λ rest. pair_at rest) }
+{
+    match after(word, text) {
+        Some(rest) => pair(rest),
+        None => None,
+    }
+}
+
+/// The limit that stands behind its word.
+fn limit_behind(text: &[u8]) -> Option<(Which, u64)>
+    ensures { option_map limit_by result ≡ read_behind (after (codes "limit ") text.now) (λ rest. limit_at rest) }
+{
+    match after(b"limit ", text) {
+        Some(rest) => limit(rest),
+        None => None,
+    }
+}
+
+/// A refusal of a word and two things.
+fn paired(text: &[u8]) -> Option<Reply>
+    ensures { result ≡ paired_at text.now }
+{
+    if let Some((row, commit)) = pair_behind(b"changed ", text) {
+        return Some(Reply::Refused(Refusal::Changed {
+            row: RowNo(row),
+            commit,
+        }));
+    }
+    if let Some((row, txn)) = pair_behind(b"held ", text) {
+        return Some(Reply::Refused(Refusal::Held {
+            row: RowNo(row),
+            txn,
+        }));
+    }
+    if let Some((which, number)) = limit_behind(text) {
+        return Some(Reply::Refused(Refusal::Limit { which, number }));
+    }
+    None
+}
+
+/// A row.
+fn row(alloc: Global, text: &[u8]) -> Result<Option<Reply>, NoMemory>
+    ensures { IfOk result (λ o. o ≡ row_at text.now) }
+{
+    match after(b"row ", text) {
+        Some(rest) => match values(alloc, rest)? {
+            Some(values) => Ok(Some(Reply::Row(values))),
+            None => Ok(None),
+        },
+        None => Ok(None),
+    }
+}
+
+/// A trace.
+fn shown(alloc: Global, text: &[u8]) -> Result<Option<Reply>, NoMemory>
+    ensures { IfOk result (λ o. o ≡ shown_at text.now) }
+{
+    match after(b"trace ", text) {
+        Some(rest) => match trace(alloc, rest)? {
+            Some(shown) => Ok(Some(Reply::Trace(shown))),
+            None => Ok(None),
+        },
+        None => Ok(None),
+    }
+}
+
+/// The reply of which a text is the words; None where it is of none.
+pub fn reply(alloc: Global, text: &[u8]) -> Result<Option<Reply>, NoMemory>
+    ensures { IfOk result (λ o. o ≡ reply_at text.now) }
+{
+    if let Some(reply) = lone(text) {
+        return Ok(Some(reply));
+    }
+    if let Some(reply) = numbered(text) {
+        return Ok(Some(reply));
+    }
+    if let Some(reply) = row(alloc, text)? {
+        return Ok(Some(reply));
+    }
+    if let Some(reply) = named(alloc, text)? {
+        return Ok(Some(reply));
+    }
+    if let Some(reply) = paired(text) {
+        return Ok(Some(reply));
+    }
+    shown(alloc, text)
+}
