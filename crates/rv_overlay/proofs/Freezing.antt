@@ -1,5 +1,5 @@
 -- What was frozen of an index and of a table fits the reader that it is laid over.
-use Rattle.std.proofs.Common.{◌≡◌, ℕ, ◌+◌, ◌*◌, ◌/◌, ◌<◌, ◌≤◌, List, [], ◌∷◌, ◌++◌, Bool, true, false, not, ◌&&◌, ◌||◌, ◌==◌, cond, Option, Some, None, is_some, inl, inr, refl, ap, sym, subst, ◌∙◌, map, filter, length, arith}
+use Rattle.std.proofs.Common.{◌≡◌, ℕ, ◌+◌, ◌*◌, ◌/◌, ◌<◌, ◌≤◌, List, [], ◌∷◌, ◌++◌, Bool, true, false, not, ◌&&◌, ◌||◌, ◌==◌, cond, Option, Some, None, IfSome, is_some, inl, inr, refl, ap, sym, subst, ◌∙◌, map, filter, length, arith}
 use Rattle.std.specs.Prelude.{max}
 use Rattle.std.proofs.lemmas.Bool.{cases_Bool}
 use Rattle.std.proofs.lemmas.Bool.Decides.{nat_tests}
@@ -16,11 +16,12 @@ use Rattle.rv_rows.specs.Rows as rows_by_number
 use Rattle.rv_rows.proofs.Filters.{both}
 use Rattle.rv_reader.specs.Entries.{column_of, entries_of, entry_of}
 use Rattle.rv_reader.specs.Storing.{AreKeys, pages_after, pages_with}
-use Rattle.rv_reader.specs.Tables.{row_at}
+use Rattle.rv_reader.specs.Tables.{IsTable, row_at}
 use Rattle.rv_reader.proofs.Sorting.{entries_keys}
-use Rattle.rv_overlay.specs.Freezing.{IndexFits, KeepsIndex, KeepsTable, TableFits}
+use Rattle.rv_overlay.specs.declared.frozen.TableSize.{TableSize}
+use Rattle.rv_overlay.specs.Freezing.{IndexFits, KeepsIndex, KeepsSize, KeepsTable, TableFits}
 use Rattle.rv_overlay.specs.Laying.{has}
-use Rattle.rv_overlay.specs.Overlaid.{LaysIndex}
+use Rattle.rv_overlay.specs.Overlaid.{IsSizeOf, LaysIndex, size_of}
 use Rattle.rv_overlay.specs.Rows.{change_of, changed_row}
 use Rattle.rv_overlay.specs.Views.{Freezes, adds, is_entry, takes}
 use Rattle.rv_overlay.proofs.Counted.{itself_true}
@@ -117,13 +118,24 @@ applied_within table pages (c ∷ cs) rows all = elim (cases_Bool (c.table == ta
       (subst (λ n. AllByRecursion (λ (r : Record). r.row.0 < 32 * pages_after table cs n) (applied table cs rows)) (sym same) (applied_within table pages cs rows all))
 ]
 
-pub table_fits : TableFits
-table_fits rows pages table f keeps = record {
-  ascend = keeps.stands.ascend;
-  view = record {
-    ascend = applied_ascends table f.changes rows keeps.stands.ascend;
-    within = applied_within table pages f.changes rows keeps.stands.within;
-  };
+pub applied_fits : (table pages : ℕ) (changes : List Change) (rows : List Record) → IsTable rows pages → IsTable (applied table changes rows) (pages_after table changes pages)
+applied_fits table pages changes rows stands = record {
+  ascend = applied_ascends table changes rows stands.ascend;
+  within = applied_within table pages changes rows stands.within;
+}
+
+size_fits : (rows : List Record) (pages table : ℕ) (changes : List Change) (size : Option TableSize)
+    → IfSome size (KeepsSize rows pages table changes) → IfSome size (IsSizeOf (applied table changes rows) (pages_after table changes pages))
+size_fits rows pages table changes None keeps = tt
+size_fits rows pages table changes (Some s) keeps = record {
   rows_told = keeps.rows_told;
   pages_told = keeps.pages_told;
+  stands = applied_fits table pages changes rows keeps.stands;
+}
+
+pub table_fits : TableFits
+table_fits rows pages table f keeps = record {
+  ascend = keeps.ascend;
+  sized = size_fits rows pages table f.changes (size_of table f.sizes) keeps.sized;
+  other = keeps.other;
 }

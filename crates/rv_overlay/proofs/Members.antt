@@ -14,7 +14,7 @@ use Rattle.rv_overlay.specs.Members.{LaidHas, MembersTell}
 use Rattle.rv_overlay.proofs.Placing.{before_found, equal_same}
 use Rattle.rv_overlay.proofs.Counted.{itself_true, not_there}
 
-has_self : (x : IndexEntry) (xs : List IndexEntry) → has (x ∷ xs) x ≡ true
+pub has_self : (x : IndexEntry) (xs : List IndexEntry) → has (x ∷ xs) x ≡ true
 has_self x xs = rw (itself_true x) refl
 
 tail_same : (x e : IndexEntry) (xs ys : List IndexEntry) → Ascend (x ∷ xs) → Ascend (x ∷ ys) → has (x ∷ xs) e ≡ has (x ∷ ys) e → has xs e ≡ has ys e

@@ -26,7 +26,7 @@ use Rattle.rv_overlay.proofs.Viewing.{row_other}
 
 -- The change of a row, once another one is put in.
 
-find_kept : {X : Type 0} (p t : X → Bool) → ((x : X) → p x ≡ true → t x ≡ true) → (xs : List X) → find p (filter t xs) ≡ find p xs
+pub find_kept : {X : Type 0} (p t : X → Bool) → ((x : X) → p x ≡ true → t x ≡ true) → (xs : List X) → find p (filter t xs) ≡ find p xs
 find_kept p t keeps [] = refl
 find_kept p t keeps (x ∷ xs) =
     let rest = find_kept p t keeps xs in
@@ -35,7 +35,7 @@ find_kept p t keeps (x ∷ xs) =
       | inr f ↦ elim (cases_Bool (t x)) [ inl k ↦ rw (k, f) rest | inr g ↦ rw (g, f) rest ]
     ]
 
-find_left : {X : Type 0} (p t : X → Bool) → ((x : X) → p x ≡ true → t x ≡ false) → (xs : List X) → find p (filter t xs) ≡ None
+pub find_left : {X : Type 0} (p t : X → Bool) → ((x : X) → p x ≡ true → t x ≡ false) → (xs : List X) → find p (filter t xs) ≡ None
 find_left p t leaves [] = refl
 find_left p t leaves (x ∷ xs) =
     let rest = find_left p t leaves xs in
@@ -44,25 +44,25 @@ find_left p t leaves (x ∷ xs) =
       | inr f ↦ elim (cases_Bool (t x)) [ inl k ↦ rw (k, f) rest | inr g ↦ rw g rest ]
     ]
 
-find_front : {X : Type 0} (p : X → Bool) (xs ys : List X) → find p ys ≡ None → find p (xs ++ ys) ≡ find p xs
+pub find_front : {X : Type 0} (p : X → Bool) (xs ys : List X) → find p ys ≡ None → find p (xs ++ ys) ≡ find p xs
 find_front p [] ys none = none
 find_front p (x ∷ xs) ys none =
     let rest = find_front p xs ys none in
     elim (p x) as (λ b. cond b (Some x) (find p (xs ++ ys)) ≡ cond b (Some x) (find p xs)) [ true ↦ refl | false ↦ rest ]
 
-find_back : {X : Type 0} (p : X → Bool) (xs ys : List X) → find p xs ≡ None → find p (xs ++ ys) ≡ find p ys
+pub find_back : {X : Type 0} (p : X → Bool) (xs ys : List X) → find p xs ≡ None → find p (xs ++ ys) ≡ find p ys
 find_back p [] ys none = refl
 find_back p (x ∷ xs) ys none = elim (cases_Bool (p x)) [
   | inl t ↦ (let no = rw t at none in cc)
   | inr f ↦ (let rest = rw f at none in rw f (find_back p xs ys rest))
 ]
 
-put_own : (table number : ℕ) (c : Change) (cs : List Change) → is_of table number c ≡ true → change_of table number (with_change c cs) ≡ Some c
+pub put_own : (table number : ℕ) (c : Change) (cs : List Change) → is_of table number c ≡ true → change_of table number (with_change c cs) ≡ Some c
 put_own table number c cs its =
     let none : find (is_of table number) (filter (λ x. is_before x c) cs) ≡ None = find_left (is_of table number) (λ x. is_before x c) (λ x h. grind (arith, nat_tests)) cs in
     find_back (is_of table number) (filter (λ x. is_before x c) cs) (c ∷ filter (λ x. is_before c x) cs) none ∙ rw its refl
 
-put_other : (table number : ℕ) (c : Change) (cs : List Change) → is_of table number c ≡ false → change_of table number (with_change c cs) ≡ change_of table number cs
+pub put_other : (table number : ℕ) (c : Change) (cs : List Change) → is_of table number c ≡ false → change_of table number (with_change c cs) ≡ change_of table number cs
 put_other table number c cs other =
     let front = filter (λ x. is_before x c) cs in
     let back = filter (λ x. is_before c x) cs in

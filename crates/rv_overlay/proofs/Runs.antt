@@ -253,8 +253,12 @@ lt_pair t r u s = elim (cases_Bool (nat_lt t u)) [
 not_apart : (t r u s : ℕ) → (not (nat_lt t u || ((t == u) && nat_lt r s)) && not (nat_lt u t || ((u == t) && nat_lt s r))) ≡ ((t == u) && (r == s))
 not_apart t r u s = grind (arith, nat_tests)
 
-abbrev change_before : Change → Change → Bool
+abbrev pub change_before : Change → Change → Bool
 change_before a b = is_lt (change_cmp a b)
+
+-- the order by which changes stand in blocks is that by which they rise
+pub change_first : change_before ≡ is_before
+change_first = λ i a b. lt_pair a.table a.row.0 b.table b.row.0 i
 
 of_row : (table row : ℕ) (like c : Change) → like.table ≡ table → like.row.0 ≡ row → (not (change_before c like) && not (change_before like c)) ≡ is_of table row c
 of_row table row like c t r =

@@ -1,23 +1,27 @@
 -- Rows under changes, by number and by page.
-use Rattle.std.proofs.Common.{◌≡◌, ℕ, ◌<◌, ◌/◌, List, [], ◌∷◌, ◌++◌, Bool, true, false, not, ◌&&◌, ◌||◌, cond, Option, Some, None, inl, inr, refl, ap, sym, ◌∙◌, filter, find, nat_lt, nat_eq, arith, ◌==◌}
+use Rattle.std.proofs.Common.{◌≡◌, ℕ, ◌<◌, ◌/◌, List, [], ◌∷◌, ◌++◌, Bool, true, false, not, ◌&&◌, ◌||◌, cond, Option, Some, None, IfSome, length, inl, inr, refl, ap, sym, subst, ◌∙◌, filter, find, nat_lt, nat_eq, arith, ◌==◌}
 use Rattle.std.proofs.lemmas.Bool.{cases_Bool, cases_lt}
 use Rattle.std.proofs.lemmas.Bool.Decides.{nat_tests}
 use Rattle.std.specs.List.{list_all}
 use Rattle.rv_value.specs.declared.value.Value.{Value}
 use Rattle.rv_value.specs.declared.record.Record.{Record}
 use Rattle.rv_rows.specs.declared.changes.Change.{Change}
-use Rattle.rv_rows.specs.Changes.{Rise, applied, is_before, is_of}
+use Rattle.rv_rows.specs.Changes.{Rise, applied, is_before, is_of, touches}
 use Rattle.rv_rows.specs.Rows.{Ascend, comes_below, with_values, without_row}
 use Rattle.rv_rows.proofs.Chains.{record_ascends, ascends_without}
 use Rattle.rv_rows.specs.Merging.{Passes}
 use Rattle.rv_rows.proofs.Filters.{all_filter, both, filter_same, filter_twice}
 use Rattle.rv_rows.proofs.Merges.{without_cut}
 use Rattle.rv_rows.proofs.Puts.{rising_filter}
-use Rattle.rv_reader.specs.Tables.{row_at}
+use Rattle.rv_reader.specs.Storing.{pages_after}
+use Rattle.rv_reader.specs.Tables.{IsTable, row_at}
+use Rattle.rv_overlay.specs.declared.frozen.Frozen.{Frozen}
+use Rattle.rv_overlay.specs.declared.frozen.TableSize.{TableSize}
+use Rattle.rv_overlay.specs.Overlaid.{IsSizeOf, LaysTable, size_of}
 use Rattle.rv_overlay.specs.Fronts.{is_on}
 use Rattle.rv_overlay.specs.Rows.{PassesOn, change_of, changed_row, on_page}
 
-ascend_with : (number : ℕ) (values : Option (List Value)) (rows : List Record) → Ascend rows → Ascend (with_values number values rows)
+pub ascend_with : (number : ℕ) (values : Option (List Value)) (rows : List Record) → Ascend rows → Ascend (with_values number values rows)
 ascend_with number (Some vs) rows ascend = record_ascends (record { row = record { 0 = number }; values = vs }) rows ascend
 ascend_with number None rows ascend = ascends_without number rows ascend
 
@@ -148,7 +152,7 @@ find_back (x ∷ xs) ys number none = elim (cases_Bool (x.row.0 == number)) [
   | inr f ↦ (let rest = rw f at none in rw f (find_back xs ys number rest))
 ]
 
-row_with_other : (number other : ℕ) (values : Option (List Value)) (rows : List Record) → number == other ≡ false → row_at (with_values number values rows) other ≡ row_at rows other
+pub row_with_other : (number other : ℕ) (values : Option (List Value)) (rows : List Record) → number == other ≡ false → row_at (with_values number values rows) other ≡ row_at rows other
 row_with_other number other None rows apart = find_kept (λ (r : Record). not (r.row.0 == number)) other (λ r t. grind (arith, nat_tests)) rows
 row_with_other number other (Some vs) rows apart =
     let new : Record = record { row = record { 0 = number }; values = vs } in
@@ -163,7 +167,7 @@ row_with_other number other (Some vs) rows apart =
           find_back front (new ∷ back) other none ∙ rw apart (find_kept (λ (r : Record). comes_below new r) other (λ r t. grind (arith, nat_tests)) rows)
     ]
 
-row_with_own : (c : Change) (rows : List Record) → row_at (with_values c.row.0 c.values rows) c.row.0 ≡ changed_row (Some c) None
+pub row_with_own : (c : Change) (rows : List Record) → row_at (with_values c.row.0 c.values rows) c.row.0 ≡ changed_row (Some c) None
 row_with_own c rows = by c.values
   where
     by : (values : Option (List Value)) → row_at (with_values c.row.0 values rows) c.row.0 ≡ changed_row (Some (record c { values = values })) None
@@ -235,3 +239,41 @@ applied_ascends table (c ∷ cs) rows ascend = elim (cases_Bool (c.table == tabl
   | inl t ↦ rw t (applied_ascends table cs (with_values c.row.0 c.values rows) (ascend_with c.row.0 c.values rows ascend))
   | inr f ↦ rw f (applied_ascends table cs rows ascend)
 ]
+
+-- No change, and a table that no change touches.
+
+pub none_laid : (table n : ℕ) (cs : List Change) (rows : List Record) → length cs == 0 ≡ true → rows ≡ applied table (on_page n cs) rows
+none_laid table n [] rows h = refl
+none_laid table n (c ∷ cs) rows h = let none : length (c ∷ cs) ≡ 0 = grind (arith, nat_tests) in absurd (omega (arith, none))
+
+pub rows_untouched : (table : ℕ) (cs : List Change) (rows : List Record) → touches table cs ≡ false → applied table cs rows ≡ rows
+rows_untouched table [] rows none = refl
+rows_untouched table (c ∷ cs) rows none = elim (cases_Bool (c.table == table)) [
+  | inl t ↦ (let no = rw t at none in cc)
+  | inr f ↦ (let rest = rw f at none in rw f (rows_untouched table cs rows rest))
+]
+
+pub pages_untouched : (table : ℕ) (cs : List Change) (pages : ℕ) → touches table cs ≡ false → pages_after table cs pages ≡ pages
+pages_untouched table [] pages none = refl
+pages_untouched table (c ∷ cs) pages none = elim (cases_Bool (c.table == table)) [
+  | inl t ↦ (let no = rw t at none in cc)
+  | inr f ↦ (let rest = rw f at none in rw f (pages_untouched table cs pages rest))
+]
+
+-- the size of a table in the view, by what is kept of it
+pub record SizeIs (rows : List Record) (pages table : ℕ) (changes : List Change) (told_pages told_rows : ℕ) : Type 0 where
+  pub pages_are : told_pages ≡ pages_after table changes pages
+  pub rows_are : told_rows ≡ length (applied table changes rows)
+  pub stands : IsTable (applied table changes rows) (pages_after table changes pages)
+
+pub size_other : (rows : List Record) (pages table : ℕ) (f : Frozen) (told_pages told_rows : ℕ) → LaysTable rows pages table f → size_of table f.sizes ≡ None
+    → told_pages ≡ pages → told_rows ≡ length rows → IsTable rows pages → SizeIs rows pages table f.changes told_pages told_rows
+size_other rows pages table f told_pages told_rows lays is pages_are rows_are stands =
+    let none = lays.other is in
+    let same = rows_untouched table f.changes rows none in
+    let up = pages_untouched table f.changes pages none in
+    record {
+      pages_are = pages_are ∙ sym up;
+      rows_are = rows_are ∙ ap length (sym same);
+      stands = subst (λ rs. IsTable rs (pages_after table f.changes pages)) (sym same) (subst (IsTable rows) (sym up) stands);
+    }

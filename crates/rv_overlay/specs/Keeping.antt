@@ -31,33 +31,43 @@ without_some (Some e) entries = take_from comes_before e entries
 
 -- a row's entry at the base is taken, unless it is the row's new one
 abbrev pub taken_after : Option IndexEntry → Option IndexEntry → List IndexEntry → List IndexEntry
-taken_after base new taken = if are_same base new then without_some base taken else with_some base taken
+taken_after base new taken =
+    if are_same base new then without_some base taken else with_some base taken
 
 -- a row's old entry is no longer added, and its new one is, unless it is that at the base
 abbrev pub added_after : Option IndexEntry → Option IndexEntry → Option IndexEntry → List IndexEntry → List IndexEntry
-added_after base old new added = if are_same base new then without_some old added else with_some new (without_some old added)
+added_after base old new added =
+    if are_same base new then without_some old added else with_some new (without_some old added)
 
--- A ROW CHANGES: its entry at the base, the one before the change and the one after it, each none where there was no row
+-- A ROW CHANGES: its entry at the base, the one before the change and the one after it, each none where there was no
+-- row
 abbrev pub moved : Option IndexEntry → Option IndexEntry → Option IndexEntry → Part → Part
-moved base old new part = record part { taken = taken_after base new part.taken; added = added_after base old new part.added }
+moved base old new part = record part {
+  taken = taken_after base new part.taken;
+  added = added_after base old new part.added;
+}
 
 -- the entry of a row, where there is one
 abbrev pub entry_at : List ℕ → Option Record → Option IndexEntry
 entry_at columns None = None
 entry_at columns (Some r) = Some (entry_of columns r)
 
--- A further change of a table is kept up with: the lists are again what the changes take away and add. (On the side of an
--- index of another table nothing is done.)
+-- A further change of a table is kept up with: the lists are again what the changes take away and add. (On the side of
+-- an index of another table nothing is done.)
 abbrev pub KeepsUp : Type 0
 KeepsUp = (columns : List ℕ) (c : Change) (changes : List Change) (rows : List Record) (part : Part)
     → Freezes columns c.table changes rows part.taken part.added
     → let base = row_at rows c.row.0 in
-    let next = moved (entry_at columns base) (entry_at columns (changed_row (change_of c.table c.row.0 changes) base)) (entry_at columns (changed_row (Some c) None)) part in
+    let old = changed_row (change_of c.table c.row.0 changes) base in
+    let new = changed_row (Some c) None in
+    let next = moved (entry_at columns base) (entry_at columns old) (entry_at columns new) part in
     Freezes columns c.table (with_change c changes) rows next.taken next.added
 
 abbrev pub OthersKeepUp : Type 0
-OthersKeepUp = (columns : List ℕ) (table : ℕ) (c : Change) (changes : List Change) (rows : List Record) (taken added : List IndexEntry)
-    → c.table == table ≡ false → Freezes columns table changes rows taken added → Freezes columns table (with_change c changes) rows taken added
+OthersKeepUp = (columns : List ℕ) (table : ℕ) (c : Change) (changes : List Change) (rows : List Record)
+    (taken added : List IndexEntry)
+    → c.table == table ≡ false → Freezes columns table changes rows taken added
+    → Freezes columns table (with_change c changes) rows taken added
 
 -- without changes nothing is taken and nothing added
 abbrev pub NothingKept : Type 0

@@ -1,11 +1,12 @@
 -- What a reader shows under the changes of a transaction.
-use Rattle.std.specs.Prelude.{◌≡◌, ℕ, ◌+◌, ◌-◌, ◌*◌, ◌==◌, ◌≤◌, ◌<◌, ◌&&◌, List, [], ◌∷◌, Bool, true, false, not, Option, Some, None, nat_eq, nat_le, find, min, length, if◌then◌else◌, ◌^◌}
+use Rattle.std.specs.Prelude.{◌≡◌, ℕ, ◌+◌, ◌-◌, ◌*◌, ◌==◌, ◌≤◌, ◌<◌, ◌&&◌, List, [], ◌∷◌, Bool, true, false, not}
+use Rattle.std.specs.Prelude.{Option, Some, None, IfSome, nat_eq, nat_le, find, min, length, if◌then◌else◌, ◌^◌}
 use Rattle.std.specs.List.{slice_index_or, list_all, AllByRecursion-prop}
 use Rattle.std.specs.Coded.{×_prop, Π_prop, →_prop, Unit-prop, le_prop, Coded-set, coded_ℕ, coded_bool}
 use Rattle.rv_value.specs.declared.record.IndexEntry.{IndexEntry}
 use Rattle.rv_value.specs.declared.record.Record.{Record}
 use Rattle.rv_rows.specs.declared.changes.Change.{Change}
-use Rattle.rv_rows.specs.Changes.{Rise, applied}
+use Rattle.rv_rows.specs.Changes.{Rise, applied, touches}
 use Rattle.rv_rows.specs.Rows as rows_by_number
 use Rattle.rv_reader.specs.Tables.{IsTable}
 use Rattle.rv_overlay.specs.declared.frozen.TableSize.{TableSize}
@@ -38,33 +39,34 @@ fits width range = is_short width range.low && is_short width range.high
 -- an exact count is that less the taken and plus the added, another one that plus the added, held at the greatest u64
 abbrev pub counted : Part → Range → Estimate → Estimate
 counted part range e =
-    if e.exact then record { value = e.value - length (run part.taken range) + length (run part.added range); exact = true }
+    if e.exact then record {
+      value = e.value - length (run part.taken range) + length (run part.added range);
+      exact = true;
+    }
     else record { value = min (e.value + length (run part.added range)) (2 ^ 64 - 1); exact = false }
 
 -- no key reaches a bound that is longer than the keys, so that there is no entry
 abbrev pub estimated : Part → Range → Estimate → Estimate
-estimated part range e = if fits part.width range then counted part range e else record { value = 0; exact = true }
+estimated part range e =
+    if fits part.width range then counted part range e else record { value = 0; exact = true }
 
 -- what is kept of how large a table is, where it is changed
 abbrev pub size_of : ℕ → List TableSize → Option TableSize
 size_of table sizes = find (λ (s : TableSize). s.table == table) sizes
-
-abbrev pub rows_or : ℕ → Option TableSize → ℕ
-rows_or rows None = rows
-rows_or rows (Some s) = s.rows
-
-abbrev pub pages_or : ℕ → Option TableSize → ℕ
-pages_or pages None = pages
-pages_or pages (Some s) = s.pages
 
 -- WHAT IS SHOWN: the view's lists at the base, the reader's at every other snapshot
 abbrev pub overlaid : Shown → Frozen → Shown
 overlaid shown f = record shown {
   rows = λ t s. if nat_eq s f.base then applied t f.changes (shown.rows t s) else shown.rows t s;
   pages = λ t s. if nat_eq s f.base then pages_after t f.changes (shown.pages t s) else shown.pages t s;
-  entries = λ i s. if nat_eq s f.base then laid (part_at f.parts i).taken (part_at f.parts i).added (shown.entries i s) else shown.entries i s;
-  cuts = λ i s. if nat_eq s f.base then with_all (sixteenths (part_at f.parts i).added) (shown.cuts i s) else shown.cuts i s;
-  estimates = λ i s range. if nat_eq s f.base then estimated (part_at f.parts i) range (shown.estimates i s range) else shown.estimates i s range;
+  entries = λ i s.
+      if nat_eq s f.base then laid (part_at f.parts i).taken (part_at f.parts i).added (shown.entries i s)
+      else shown.entries i s;
+  cuts = λ i s.
+      if nat_eq s f.base then with_all (sixteenths (part_at f.parts i).added) (shown.cuts i s) else shown.cuts i s;
+  estimates = λ i s range.
+      if nat_eq s f.base then estimated (part_at f.parts i) range (shown.estimates i s range)
+      else shown.estimates i s range;
 }
 
 -- what was frozen of an index fits the entries and the cuts that a reader tells
@@ -77,23 +79,32 @@ pub record LaysIndex (entries cuts : List IndexEntry) (part : Part) : Type 0 whe
   pub taken : Ascend part.taken
   pub taken_there : list_all (has entries) part.taken ≡ true
   pub apart : list_all (λ (e : IndexEntry). not (has entries e)) part.added ≡ true
-  pub many : length entries + length part.added < 2 ^ 64
+  pub many : 0 < length part.added → length entries + length part.added < 2 ^ 64
   pub few : length cuts + length part.added ≤ 1099511627776
   pub short : (passes : IndexEntry → Bool) → length (leaf_entries (leaf_from passes None cuts) entries) ≤ 32
 
--- what was frozen of a table fits the rows and the number of pages that a reader tells
+-- the size is that of a table with these rows in so many pages
+pub record IsSizeOf (rows : List Record) (pages : ℕ) (s : TableSize) : Type 0 where
+  pub rows_told : s.rows ≡ length rows
+  pub pages_told : s.pages ≡ pages
+  pub stands : IsTable rows pages
+
+-- what was frozen of a table fits the rows and the number of pages that a reader tells: where a size is kept it is the
+-- view's, and a table without a kept size is not changed
 pub record LaysTable (rows : List Record) (pages table : ℕ) (f : Frozen) : Type 0 where
   pub ascend : rows_by_number.Ascend rows
-  pub view : IsTable (applied table f.changes rows) (pages_after table f.changes pages)
-  pub rows_told : rows_or (length rows) (size_of table f.sizes) ≡ length (applied table f.changes rows)
-  pub pages_told : pages_or pages (size_of table f.sizes) ≡ pages_after table f.changes pages
+  pub sized : IfSome (size_of table f.sizes)
+      (IsSizeOf (applied table f.changes rows) (pages_after table f.changes pages))
+  pub other : size_of table f.sizes ≡ None → touches table f.changes ≡ false
 
 -- what was frozen fits the reader at the base
 pub record Lays (shown : Shown) (f : Frozen) : Type 0 where
   pub rise : Rise f.changes
-  pub tables : (table : ℕ) → CanRead shown table f.base → LaysTable (shown.rows table f.base) (shown.pages table f.base) table f
+  pub tables : (table : ℕ) → CanRead shown table f.base
+      → LaysTable (shown.rows table f.base) (shown.pages table f.base) table f
   pub parts : length f.parts ≡ shown.indexes
-  pub each : (index : ℕ) → CanScan shown index f.base → LaysIndex (shown.entries index f.base) (shown.cuts index f.base) (part_at f.parts index)
+  pub each : (index : ℕ) → CanScan shown index f.base
+      → LaysIndex (shown.entries index f.base) (shown.cuts index f.base) (part_at f.parts index)
 
 -- Each of these facts holds in one way, so that a struct may keep it.
 
@@ -105,7 +116,11 @@ keys-prop : (n : ℕ) (es : List IndexEntry) → IsProp (AreKeys n es)
 keys-prop n es = AllByRecursion-prop (λ (e : IndexEntry). length e.key ≡ n) (λ e. Coded-set coded_ℕ _ _) es
 
 index-prop : (entries cuts : List IndexEntry) → IsProp (IsIndex entries cuts)
-index-prop entries cuts a b = λ i. record { ascend = ascend-prop entries a.ascend b.ascend i; apart = ascend-prop cuts a.apart b.apart i; few = le_prop a.few b.few i }
+index-prop entries cuts a b = λ i. record {
+  ascend = ascend-prop entries a.ascend b.ascend i;
+  apart = ascend-prop cuts a.apart b.apart i;
+  few = le_prop a.few b.few i;
+}
 
 lays_index-prop : (entries cuts : List IndexEntry) (part : Part) → IsProp (LaysIndex entries cuts part)
 lays_index-prop entries cuts part a b = λ i. record {
@@ -117,7 +132,7 @@ lays_index-prop entries cuts part a b = λ i. record {
   taken = ascend-prop part.taken a.taken b.taken i;
   taken_there = Coded-set coded_bool _ _ a.taken_there b.taken_there i;
   apart = Coded-set coded_bool _ _ a.apart b.apart i;
-  many = le_prop a.many b.many i;
+  many = →_prop le_prop a.many b.many i;
   few = le_prop a.few b.few i;
   short = Π_prop (λ passes. le_prop) a.short b.short i;
 }
@@ -136,18 +151,32 @@ table-prop rows pages a b = λ i. record {
   within = AllByRecursion-prop (λ (r : Record). r.row.0 < 32 * pages) (λ r. le_prop) rows a.within b.within i;
 }
 
+size-prop : (rows : List Record) (pages : ℕ) (s : TableSize) → IsProp (IsSizeOf rows pages s)
+size-prop rows pages s a b = λ i. record {
+  rows_told = Coded-set coded_ℕ s.rows (length rows) a.rows_told b.rows_told i;
+  pages_told = Coded-set coded_ℕ s.pages pages a.pages_told b.pages_told i;
+  stands = table-prop rows pages a.stands b.stands i;
+}
+
+sized-prop : (rows : List Record) (pages : ℕ) (size : Option TableSize) → IsProp (IfSome size (IsSizeOf rows pages))
+sized-prop rows pages None = Unit-prop
+sized-prop rows pages (Some s) = size-prop rows pages s
+
 lays_table-prop : (rows : List Record) (pages table : ℕ) (f : Frozen) → IsProp (LaysTable rows pages table f)
 lays_table-prop rows pages table f a b = λ i. record {
   ascend = rows-prop rows a.ascend b.ascend i;
-  view = table-prop (applied table f.changes rows) (pages_after table f.changes pages) a.view b.view i;
-  rows_told = Coded-set coded_ℕ _ _ a.rows_told b.rows_told i;
-  pages_told = Coded-set coded_ℕ _ _ a.pages_told b.pages_told i;
+  sized = sized-prop (applied table f.changes rows) (pages_after table f.changes pages) (size_of table f.sizes)
+      a.sized b.sized i;
+  other = →_prop (Coded-set coded_bool (touches table f.changes) false) a.other b.other i;
 }
 
 pub lays-prop : (shown : Shown) (f : Frozen) → IsProp (Lays shown f)
 lays-prop shown f a b = λ i. record {
   rise = rise-prop f.changes a.rise b.rise i;
-  tables = Π_prop (λ table. →_prop (lays_table-prop (shown.rows table f.base) (shown.pages table f.base) table f)) a.tables b.tables i;
+  tables = Π_prop (λ table. →_prop (lays_table-prop (shown.rows table f.base) (shown.pages table f.base) table f))
+      a.tables b.tables i;
   parts = Coded-set coded_ℕ (length f.parts) shown.indexes a.parts b.parts i;
-  each = Π_prop (λ index. →_prop (lays_index-prop (shown.entries index f.base) (shown.cuts index f.base) (part_at f.parts index))) a.each b.each i;
+  each = Π_prop
+      (λ index. →_prop (lays_index-prop (shown.entries index f.base) (shown.cuts index f.base) (part_at f.parts index)))
+      a.each b.each i;
 }

@@ -12,3 +12,4 @@ mod rows;
 
 pub use frozen::{Frozen, Part, TableSize};
 pub use overlay::Overlay;
+pub use rows::{change_of, size_of};

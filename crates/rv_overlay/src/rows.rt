@@ -5,8 +5,9 @@ ghost use Rattle.rv_judge.specs.Counting.{page_read, record_read};
 ghost use Rattle.rv_rows.specs.Changes.{Rise, applied};
 ghost use Rattle.rv_rows.specs.Rows.{Ascend};
 ghost use Rattle.rv_reader.specs.Shown.{CanRead};
-ghost use Rattle.rv_reader.specs.Tables.{page_of, row_at};
-ghost use Rattle.rv_overlay.specs.Overlaid.{pages_or, rows_or, size_of};
+ghost use Rattle.rv_reader.specs.Storing.{pages_after};
+ghost use Rattle.rv_reader.specs.Tables.{IsTable, page_of, row_at};
+ghost use Rattle.rv_overlay.specs.Overlaid.{LaysTable, size_of};
 ghost use Rattle.rv_overlay.specs.Rows.{PassesOn, change_of, changed_row, on_page};
 
 use crate::fronts::page_changes;
@@ -115,6 +116,26 @@ fn lay_page(
     Ok(all)
 }
 
+/// The rows of a page of the view, as they were read where no row of the page is changed.
+#[tactic(auto, using(crate::proofs::Tabling::none_laid))]
+fn lay_changes(
+    alloc: Global,
+    page: Vec<Record>,
+    changes: &[Change],
+    table: u32,
+    n: u32,
+) -> Result<Vec<Record>, NoMemory>
+    requires ascend { Ascend page.items }
+    requires rise { Rise changes.now }
+    ensures { IfOk result (λ all. all.items ≡ applied table (on_page n changes.now) page.items) }
+{
+    if changes.is_empty() {
+        return Ok(page);
+    }
+    let rows = lay_page(alloc, page.as_slice(), changes, table, n)?;
+    Ok(rows)
+}
+
 /// The rows of a page in the view.
 pub fn page_over<R: Reader>(
     reader: &R,
@@ -133,7 +154,7 @@ pub fn page_over<R: Reader>(
 {
     let page = reader.page(alloc, table, snap, n, steps)?;
     let changes = page_changes(&frozen.changes, table, n)?;
-    let rows = lay_page(alloc, page.as_slice(), changes.as_slice(), table, n)?;
+    let rows = lay_changes(alloc, page, changes.as_slice(), table, n)?;
     Ok(rows)
 }
 
@@ -148,11 +169,13 @@ pub fn size_of(sizes: &Blocks<TableSize>, table: u32) -> Option<&TableSize>
     })
 }
 
-/// How large a table is in the view.
+/// How large a table is in the view: what was kept where it is changed, else what the reader tells.
 pub fn sizes_over<R: Reader>(reader: &R, frozen: &Frozen, table: u32, snap: u64) -> Sizes
     requires can { CanRead (R.shown reader.now) table snap }
-    ensures pages { result.pages ≡ pages_or ((R.shown reader.now).pages table snap) (size_of table frozen.now.sizes) }
-    ensures rows { result.rows ≡ rows_or (length ((R.shown reader.now).rows table snap)) (size_of table frozen.now.sizes) }
+    requires lays { LaysTable ((R.shown reader.now).rows table snap) ((R.shown reader.now).pages table snap) table frozen.now }
+    ensures pages { result.pages ≡ pages_after table frozen.now.changes ((R.shown reader.now).pages table snap) }
+    ensures rows { result.rows ≡ length (applied table frozen.now.changes ((R.shown reader.now).rows table snap)) }
+    ensures table { IsTable (applied table frozen.now.changes ((R.shown reader.now).rows table snap)) (pages_after table frozen.now.changes ((R.shown reader.now).pages table snap)) }
 {
     match size_of(&frozen.sizes, table) {
         None => reader.sizes(table, snap),

@@ -1,4 +1,5 @@
-use Rattle.std.proofs.Common.{sym, ap, ◌∙◌, refl, not, arith}
+use Rattle.std.proofs.Common.{sym, ap, ◌∙◌, refl, not, arith, length, inl, inr}
+use Rattle.std.proofs.lemmas.Bool.{cases_lt}
 use Rattle.rv_reader.specs.Entries.{is_in}
 use Rattle.rv_reader.specs.Shown.{IsEstimate}
 use Rattle.rv_overlay.proofs.Chunked.{all_long, filter_count}
@@ -28,8 +29,10 @@ counted-requires-clause-fits g c h =
     let whole = c.estimate-estimate.ensures.exact.exact h in
     let few = filter_count (is_in c.args.range.now) c.args.part.now.added in
     let fewer = filter_count (is_in c.args.range.now) ((g.R.Reader.shown c.args.reader.now).entries c.args.index c.args.snap) in
-    let many = c.requires.lays.many in
-    omega (arith, whole, few, fewer, many)
+    elim (cases_lt 0 (length c.args.part.now.added)) [
+      | inl some ↦ (let many = c.requires.lays.many some in omega (arith, whole, few, fewer, many))
+      | inr none ↦ omega (arith, few, none)
+    ]
 
 pub counted-requires-clause-long_taken : goal.counted-requires-clause-long_taken
 counted-requires-clause-long_taken g c = all_long c.args.part.now.width c.args.range.now c.args.part.now.taken (sym c.fits.ensures ∙ c.if-not-fits.false) (taken_keys c.args.part.now.width _ c.args.part.now.taken c.requires.lays.keys c.requires.lays.taken_there)
