@@ -22,6 +22,9 @@ total with them.
 The chapters of CHAPTERS may be left out by a reader who does not use them: to each belongs what the clauses reach
 through its definitions alone. Their lines, and those of the rest, are told behind the total.
 
+In the crate OWN, which holds nothing but what is believed, --check also wants a comment at each definition and no line
+of more than COLUMNS columns.
+
 A line counts where it is no import and not blank; a definition's comment stands right above it. Of a
 record or struct only those fields are followed that something reached speaks of.
 """
@@ -40,6 +43,8 @@ CHAPTERS = (
                  ("rv_gen", "specs/Summary.antt", "summary_text"))),
 )
 PAGE = "docs/BELIEVE.md"
+OWN = "rv_believed"
+COLUMNS = 100
 HEAD = re.compile(r"^(?:(?:pub|abbrev|unfoldable|record|data|inductive)\s+)+([^\s:(]+)")
 WORD = re.compile(r"[^\W\d][\w']*(?:\.[^\W\d][\w']*)*")
 USE = re.compile(r"^\s*(?:pub\s+)?(?:ghost\s+)?use\s+(Rattle\.[\w.]+?)(?:\.\{([^}]*)\}|\s+as\s+(\w+))?;?\s*$")
@@ -479,6 +484,16 @@ def sentence(comment):
     return re.sub(r"\s+", " ", " ".join(line.lstrip("-/ ") for line in comment))
 
 
+def badly_written(order, own=OWN, columns=COLUMNS):
+    """Which definitions of the own crate have no comment or a line that is too long."""
+    for item in order:
+        if item.crate == own and not item.is_data:
+            if not item.comment:
+                yield "%s of %s has no comment" % (item.name, item.path)
+            if any(len(line) > columns for line in item.comment + item.lines):
+                yield "%s of %s has a line of more than %d columns" % (item.name, item.path, columns)
+
+
 def write_list(order, whole, chapters):
     specs, sources = files_of(order)
     for title, files, is_data in (("definitions", specs, False), ("data types", sources, True)):
@@ -523,6 +538,7 @@ def self_test():
         order, kit, because = reached(House(top), ("rv_a", "src/run.rt", "run"), ("aside", "other"))
         names = sorted(item.name for item in order)
         assert names == ["Good", "Inner", "Ran", "deep", "◌<+>◌"], names
+        assert len(list(badly_written(order, "rv_b", 100))) == 1 and len(list(badly_written(order, "rv_a", 30))) == 1
         specs, sources = files_of(order)
         assert specs == {"crates/rv_a/specs/Top.antt": (1, 3), "crates/rv_b/specs/Low.antt": (2, 6)}, specs
         assert sources == {"crates/rv_a/src/data.rt": (1, 6), "crates/rv_b/src/lib.rt": (1, 3)}, sources
@@ -595,7 +611,7 @@ def main():
             page = updated(page, specs, sources, kit, whole, chapters)
             with open(name, "w", encoding="utf-8") as file:
                 file.write(page)
-        wrong = compare(page, specs, sources, kit, whole, chapters)
+        wrong = compare(page, specs, sources, kit, whole, chapters) + list(badly_written(order))
         for line in wrong:
             print("%s: %s" % (PAGE, line))
         if not wrong and not house.missing:
