@@ -4,5 +4,5 @@ use Rattle.tree_shapes.proofs.shape.read.Given as goal
 abbrev pub invariant-leaves : goal.invariant-leaves
 invariant-leaves l = record {
   leaves : l.leaves ≤ l.place;
-  entries : l.entries ≤ 32 * l.leaves;
+  entries : l.entries ≤ 48 * l.leaves;
 }
