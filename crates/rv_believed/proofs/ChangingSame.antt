@@ -24,11 +24,12 @@ use Rattle.rv_believed.specs.Answers.{Test}
 use Rattle.rv_believed.specs.Truth.{keeps}
 use Rattle.rv_believed.proofs.Chains.{filter_same, map_same}
 use Rattle.rv_believed.proofs.TruthSame.{keeps_same}
-use Rattle.rv_believed.specs.Changing.{change, change_of, changes_by, few_changes, insert, no_holder, no_later_commit, view}
+use Rattle.rv_believed.specs.Changing.{change_of, few_changes}
+use Rattle.rv_believed.proofs.ChangingOfState.{change, changes_by, insert, no_holder, no_later_commit, view}
 
 -- ---- the place of the first that passes
 
-abbrev found : Bool → Option ℕ → Option ℕ
+abbrev pub found : Bool → Option ℕ → Option ℕ
 found true o = Some zero
 found false o = option_map suc o
 
@@ -57,10 +58,10 @@ step_by : (m n : ℕ) (b : Bool) → cond (nat_lt (cond (not b) (1 + m) 0) (suc 
 step_by m n true = ap (λ b. cond b (Some 0) None) (at_first n)
 step_by m n false = one_on m n (nat_lt m n) refl
 
-position_step : {X : Type 0} (p : X → Bool) (x : X) (xs : List X) → position p (x ∷ xs) ≡ found (p x) (position p xs)
+pub position_step : {X : Type 0} (p : X → Bool) (x : X) (xs : List X) → position p (x ∷ xs) ≡ found (p x) (position p xs)
 position_step p x xs = step_by (position_or_len p xs) (length xs) (p x)
 
-position_none : {X : Type 0} (p : X → Bool) → position p [] ≡ None
+pub position_none : {X : Type 0} (p : X → Bool) → position p [] ≡ None
 position_none p = ap (λ b. cond b (Some (position_or_len p [])) None) (none_less (position_or_len p []))
 
 -- ---- a test of each, and the first that fails
@@ -69,7 +70,7 @@ pass_map : {X Y : Type 0} (f : Y → Test) (g : X → Y) (xs : List X) → all_p
 pass_map f g [] = refl
 pass_map f g (x ∷ xs) = ap (λ (rest : Test). f (g x) >>= (λ u. rest)) (pass_map f g xs)
 
-pass_same : {X : Type 0} (f g : X → Test) → ((x : X) → f x ≡ g x) → (xs : List X) → all_pass f xs ≡ all_pass g xs
+pub pass_same : {X : Type 0} (f g : X → Test) → ((x : X) → f x ≡ g x) → (xs : List X) → all_pass f xs ≡ all_pass g xs
 pass_same f g same [] = refl
 pass_same f g same (x ∷ xs) = λ k. same x k >>= (λ u. pass_same f g same xs k)
 

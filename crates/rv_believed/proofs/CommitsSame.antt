@@ -19,7 +19,7 @@ use Rattle.rv_model.specs.Transactions.{lower_of, lowest, refuse_at, touch_all, 
 use Rattle.rv_model.specs.declared.transactions.Transactions.{Transactions}
 use Rattle.rv_believed.specs.Answers.{Test}
 use Rattle.rv_believed.specs.Orderly.{BeginsBefore, EachTwo, IsOrderly}
-use Rattle.rv_believed.specs.Transactions.{begin, commit, commit_of, create_index, create_table, rollback}
+use Rattle.rv_believed.proofs.TransactionsOfState.{begin, commit, commit_of, create_index, create_table, rollback}
 
 below_min : (n a b : ℕ) → n < a → n < b → n < min a b
 below_min n a b p q = omega (arith, p, q)

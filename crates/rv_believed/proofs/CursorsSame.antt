@@ -16,7 +16,7 @@ use Rattle.rv_model.specs.Offers.{sorted}
 use Rattle.rv_model.specs.Step.{Outcome, closed, opened, table_name}
 use Rattle.rv_model.specs.Transactions.{refuse_at, transaction_at, transaction_of}
 use Rattle.rv_believed.specs.Answers.{Test}
-use Rattle.rv_believed.specs.Cursors.{close_cursor, open_cursor}
+use Rattle.rv_believed.proofs.CursorsOfState.{close_cursor, open_cursor}
 use Rattle.rv_believed.specs.Offers.{offers_of}
 use Rattle.rv_believed.proofs.OffersSame.{offers_same}
 

@@ -21,7 +21,7 @@ use Rattle.rv_lang.specs.declared.statement.Statement.{Statement}
 use Rattle.rv_lang.specs.declared.statement.Statement.TheVariants.{CreateTable, CreateIndex, Begin, Insert, Update, Delete, Commit, Rollback, Open, Fetch, Show, Close, Step}
 use Rattle.rv_lang.specs.Words as words
 use Rattle.rv_lang.specs.Grammar as today
-use Rattle.rv_believed.specs.Grammar.{IsName, key, LPAREN, RPAREN, more_tokens, list_tokens, AreSome, literal, qualifier, column, MayBeName, IsColumn, compare, operand, IsOperand, atom, IsAtom, IsGroup, bare, closed, AreGroups, one, more, IsCond, lone, groups, IsWhere, no_where, where_cond, name, kind, column_def, set, IsNamed, select_list, IsSelectList, second_name, from_item, IsItem, order_by, IsGoal, no_goal, total_time, fast_first, IsBody, Derives}
+use Rattle.rv_believed.specs.Grammar.{IsName, key, LPAREN, RPAREN, more_tokens, list_tokens, AreSome, literal, qualifier, column, MayBeName, IsColumn, compare, operand, IsOperand, atom, IsAtom, IsGroup, bare, in_parens, AreGroups, one, more, IsCond, lone, groups, IsWhere, no_where, where_cond, name, kind, column_def, set, IsNamed, select_list, IsSelectList, second_name, from_item, IsItem, order_by, IsGoal, no_goal, total_time, fast_first, IsBody, Derives}
 
 -- ---- names, and lists of parts
 
@@ -153,7 +153,7 @@ atoms_same atoms rest = list_same words.OR atom today.atom atom_same atoms rest
 
 group_to : (g : List RawAtom) (tokens rest : List Token) → IsGroup g tokens rest → today.IsGroup g tokens rest
 group_to g tokens rest (bare a after h) = inl (atom_to a h, atom_same a after)
-group_to g tokens rest (closed atoms after h) = inr (some_to IsAtom today.IsAtom atom_to atoms h, λ i. LPAREN ∷ atoms_same atoms (RPAREN ∷ after) i)
+group_to g tokens rest (in_parens atoms after h) = inr (some_to IsAtom today.IsAtom atom_to atoms h, λ i. LPAREN ∷ atoms_same atoms (RPAREN ∷ after) i)
 
 bare_from : (g : List RawAtom) (tokens rest : List Token) → today.IsBare g tokens rest → IsGroup g tokens rest
 bare_from [] tokens rest h = absurd h
@@ -163,7 +163,7 @@ bare_from (a ∷ b ∷ atoms) tokens rest h = absurd h
 group_from : (g : List RawAtom) (tokens rest : List Token) → today.IsGroup g tokens rest → IsGroup g tokens rest
 group_from g tokens rest (inl h) = bare_from g tokens rest h
 group_from g tokens rest (inr h) = subst (λ (ts : List Token). IsGroup g ts rest)
-    ((λ i. LPAREN ∷ atoms_same g (RPAREN ∷ rest) i) ∙ sym h.1) (closed g rest (some_from IsAtom today.IsAtom atom_from g h.0))
+    ((λ i. LPAREN ∷ atoms_same g (RPAREN ∷ rest) i) ∙ sym h.1) (in_parens g rest (some_from IsAtom today.IsAtom atom_from g h.0))
 
 -- a group in front of others
 more_groups : (g : List RawAtom) (gs : List (List RawAtom)) (tokens after rest : List Token)

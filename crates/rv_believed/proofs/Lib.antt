@@ -1,8 +1,11 @@
 mod Chains
+mod ChangingOfState
 mod ChangingSame
 mod CommitsSame
+mod CursorsOfState
 mod CursorsSame
 mod Derivations
+mod Growing
 mod KindsSame
 mod LegalSame
 mod LimitsSame
@@ -20,8 +23,12 @@ mod Resolution
 mod RunsBack
 mod RunsSame
 mod ShowsSame
+mod StandingSame
+mod StatementsStand
 mod StepSame
+mod TablesThere
 mod TakenStates
 mod Texts
 mod Told
+mod TransactionsOfState
 mod TruthSame

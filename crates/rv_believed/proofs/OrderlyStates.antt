@@ -26,18 +26,15 @@ use Rattle.rv_model.specs.declared.state.Cursor.{Cursor}
 use Rattle.rv_model.specs.declared.transactions.Transaction.{Transaction}
 use Rattle.rv_model.specs.declared.transactions.Transactions.{Transactions}
 use Rattle.rv_model.specs.Database.{base_rows, cursor_at, cursor_named, empty, no_cursor}
-use Rattle.rv_model.specs.History.{stepped}
+use Rattle.rv_model.specs.History.{after_from, stepped}
 use Rattle.rv_model.specs.Offering.{offers_over}
 use Rattle.rv_model.specs.Offers.{sorted}
 use Rattle.rv_model.specs.Step.{Outcome, began, changed, closed, committed, committed_with, created, ended, fetched, first_touched, indexed, inserted, next_asked, offers_after, opened, opening, own_cursors, rolled_back, rows_seen, state_of, table_name, table_of, understood}
 use Rattle.rv_model.specs.Transactions as transactions
 use Rattle.rv_model.specs.Transactions.{no_transaction, refuse_at, transaction_at, transaction_of}
-use Rattle.rv_believed.specs.History.{Answers, says, says_none, Leads}
-use Rattle.rv_believed.specs.Names.{resolution}
 use Rattle.rv_believed.specs.Orderly.{BeginsBefore, EachTwo, IsOrderly, IsOther, StaysOrderly}
 use Rattle.rv_believed.proofs.Pairs.{all_last, all_put, last_same, none_passes, put_length, two_filter, two_last, two_put, two_without, without_same}
 use Rattle.rv_believed.proofs.PlainLists.{all_remove}
-use Rattle.rv_believed.proofs.StepSame.{does_from}
 
 -- ---- what an answer has, where there is one
 
@@ -298,18 +295,12 @@ next_orderly (Ok (asked.Close cursor)) s session reply h = state_orderly (closed
 pub stepped_orderly : (s : State) (e : Entry) → IsOrderly s → IsOrderly (stepped s e)
 stepped_orderly s e h = next_orderly (understood s.schema (statement_of e.text)) s e.session e.reply h
 
-pub answer_orderly : (s : State) (e : Entry) (new : State) → IsOrderly s → Answers s e new → IsOrderly new
-answer_orderly s e new h (says statement said does) =
-    let asks : Result Resolved Refusal = resolution s.schema.tables s.schema.indexes statement in
-    subst IsOrderly (sym (does_from asks s e.session e.reply new h does).1) (next_orderly asks s e.session e.reply h)
-answer_orderly s e new h (says_none none refused same) = subst IsOrderly (sym same) h
-
-leads_orderly : (s : State) (phase : ℕ) (es : List Entry) (last : State) → IsOrderly s → Leads s phase es last → IsOrderly last
-leads_orderly s phase [] last h leads = subst IsOrderly (sym leads) h
-leads_orderly s phase (e ∷ es) last h leads = leads_orderly leads.0 e.phase es last (answer_orderly s e leads.0 h leads.1.answer) leads.2
+after_orderly : (s : State) (es : List Entry) → IsOrderly s → IsOrderly (after_from s es)
+after_orderly s [] h = h
+after_orderly s (e ∷ es) h = after_orderly (stepped s e) es (stepped_orderly s e h)
 
 pub empty_orderly : IsOrderly empty
 empty_orderly = record { active = tt; below = tt; bases = refl; cursors = tt }
 
 pub stays_orderly : StaysOrderly
-stays_orderly history s leads = leads_orderly empty 0 history s empty_orderly leads
+stays_orderly history = after_orderly empty history empty_orderly

@@ -21,7 +21,7 @@ use Rattle.rv_lang.specs.Tokens.{Cuts, IsToken, IsWord, is_text_byte, is_word_by
 use Rattle.rv_model.specs.Transcript.{IsName as IsPlainName, is_capital, is_name_byte}
 use Rattle.rv_model.proofs.Cuts.{and_parts}
 use Rattle.rv_model.proofs.Values.{passes_more}
-use Rattle.rv_believed.specs.Grammar.{Says, Derives, key, LPAREN, RPAREN, more_tokens, list_tokens, literal, qualifier, column, compare, operand, atom, IsGroup, bare, closed, AreGroups, one, more, IsCond, lone, groups, IsWhere, no_where, where_cond, name, kind, column_def, set, select_list, second_name, from_item, order_by, IsBody}
+use Rattle.rv_believed.specs.Grammar.{Says, Derives, key, LPAREN, RPAREN, more_tokens, list_tokens, literal, qualifier, column, compare, operand, atom, IsGroup, bare, in_parens, AreGroups, one, more, IsCond, lone, groups, IsWhere, no_where, where_cond, name, kind, column_def, set, select_list, second_name, from_item, order_by, IsBody}
 use Rattle.rv_believed.specs.Plain.{IsPlainValue}
 
 -- ---- tokens
@@ -171,7 +171,7 @@ atom_plain (Starts c text) rest h = let left = column_plain c (key "STARTING" �
 
 group_plain : (g : List RawAtom) (tokens rest : List Token) → IsGroup g tokens rest → ArePlain tokens → AllByRecursion IsPlainAtom g × ArePlain rest
 group_plain g tokens rest (bare a r is) h = let it = atom_plain a r h in ((it.0, tt), it.1)
-group_plain g tokens rest (closed atoms r are) h =
+group_plain g tokens rest (in_parens atoms r are) h =
     let them = list_plain atom IsPlainAtom atom_plain (key "OR") atoms (RPAREN ∷ r) h.1 in (them.0, them.1.1)
 
 groups_plain : (gs : List (List RawAtom)) (tokens rest : List Token) → AreGroups gs tokens rest → ArePlain tokens → ArePlainAtoms gs × ArePlain rest

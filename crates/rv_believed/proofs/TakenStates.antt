@@ -14,6 +14,7 @@ use Rattle.rv_lang.specs.declared.reply.Refusal.{Refusal}
 use Rattle.rv_lang.specs.declared.reply.Refusal.TheVariants as refusals
 use Rattle.rv_lang.specs.declared.reply.Reply.{Reply}
 use Rattle.rv_lang.specs.declared.reply.Which.TheVariants as which
+use Rattle.rv_parse.specs.Reading.{statement_of}
 use Rattle.rv_catalog.specs.declared.def.IndexDef.{IndexDef}
 use Rattle.rv_catalog.specs.declared.def.Resolved.{Resolved}
 use Rattle.rv_catalog.specs.declared.def.Resolved.TheVariants as asked
@@ -26,25 +27,22 @@ use Rattle.rv_model.specs.declared.state.State.{State}
 use Rattle.rv_model.specs.declared.transactions.Transaction.{Transaction}
 use Rattle.rv_model.specs.declared.transactions.Transactions.{Transactions}
 use Rattle.rv_model.specs.Database.{cursor_named, empty, rows_at}
-use Rattle.rv_model.specs.Step.{Outcome, began, changed, closed, committed, committed_with, created, ended, fetched, indexed, inserted, next_asked, opened, opening, rolled_back, rows_seen, state_of, tables_changed}
+use Rattle.rv_model.specs.History.{after_from, stepped}
+use Rattle.rv_model.specs.Step.{Outcome, began, changed, closed, committed, committed_with, created, ended, fetched, indexed, inserted, next_asked, opened, opening, rolled_back, rows_seen, state_of, tables_changed, understood}
 use Rattle.rv_model.specs.Transactions as transactions
 use Rattle.rv_model.specs.Transactions.{next_row, no_transaction, refuse_at, touch, touch_all, touched_in, transaction_at, transaction_of, untouched, with_number}
-use Rattle.rv_believed.specs.History.{Answers, says, says_none, Leads}
-use Rattle.rv_believed.specs.Names.{resolution}
-use Rattle.rv_believed.specs.Orderly.{IsOrderly}
 use Rattle.rv_believed.specs.Taken.{AreTaken, ChangesTaken, HasTaken, StaysTaken, TablesTaken}
-use Rattle.rv_believed.proofs.OrderlyStates.{Gives, Any, answer_orderly, any_gives, empty_orderly, then_gives}
+use Rattle.rv_believed.proofs.OrderlyStates.{Gives, Any, then_gives, any_gives}
 use Rattle.rv_believed.proofs.Pairs.{all_last}
 use Rattle.rv_believed.proofs.PlainLists.{all_append, all_filter, all_remove, all_set, or_all}
-use Rattle.rv_believed.proofs.StepSame.{does_from}
 
 -- ---- the next row numbers
 
-abbrev Next : Type 0
+abbrev pub Next : Type 0
 Next = ℕ → ℕ
 
 -- no number falls
-abbrev Rises : Next → Next → Type 0
+abbrev pub Rises : Next → Next → Type 0
 Rises old new = (table : ℕ) → old table ≤ new table
 
 set_length : (xs : List (List ℕ)) (n t : ℕ) (y : List ℕ) → length y ≡ length (slice_index_or xs n [])
@@ -63,7 +61,7 @@ item_length (n ∷ ns) (suc k) c = let rest : length (slice_set ns k c) ≡ leng
 touch_same : (commit : ℕ) (c : Change) (touched : List (List ℕ)) (t : ℕ) → next_row (touch commit c touched) t ≡ next_row touched t
 touch_same commit c touched t = set_length touched c.table t (slice_set (touched_in touched c.table) c.row.0 commit) (item_length (touched_in touched c.table) c.row.0 commit)
 
-touch_all_same : (commit : ℕ) (cs : List Change) (touched : List (List ℕ)) (t : ℕ) → next_row (touch_all commit cs touched) t ≡ next_row touched t
+pub touch_all_same : (commit : ℕ) (cs : List Change) (touched : List (List ℕ)) (t : ℕ) → next_row (touch_all commit cs touched) t ≡ next_row touched t
 touch_all_same commit [] touched t = refl
 touch_all_same commit (c ∷ cs) touched t = touch_all_same commit cs (touch commit c touched) t ∙ touch_same commit c touched t
 
@@ -151,11 +149,11 @@ bases_more : (old new : Next) (bases : List (List (List Record))) → Rises old 
 bases_more old new [] rises h = tt
 bases_more old new (b ∷ bs) rises h = (tables_more old new b rises h.0, bases_more old new bs rises h.1)
 
-changes_more : (old new : Next) (cs : List Change) → Rises old new → ChangesTaken old cs → ChangesTaken new cs
+pub changes_more : (old new : Next) (cs : List Change) → Rises old new → ChangesTaken old cs → ChangesTaken new cs
 changes_more old new [] rises h = tt
 changes_more old new (c ∷ cs) rises h = ((let lt = h.0 in let le = rises c.table in omega (arith, lt, le)), changes_more old new cs rises h.1)
 
-abbrev Takes : Next → Transaction → Type 0
+abbrev pub Takes : Next → Transaction → Type 0
 Takes next t = ChangesTaken next t.changes
 
 active_more : (old new : Next) (ts : List Transaction) → Rises old new → AllByRecursion (Takes old) ts → AllByRecursion (Takes new) ts
@@ -189,7 +187,7 @@ with_changes_taken : (next : Next) (new cs : List Change) → ChangesTaken next 
 with_changes_taken next [] cs p h = h
 with_changes_taken next (c ∷ new) cs p h = with_changes_taken next new (with_change c cs) p.1 (with_change_taken next c cs p.0 h)
 
-own_taken : (next : Next) (ts : List Transaction) (own : ℕ) → AllByRecursion (Takes next) ts → ChangesTaken next (transaction_at ts own).changes
+pub own_taken : (next : Next) (ts : List Transaction) (own : ℕ) → AllByRecursion (Takes next) ts → ChangesTaken next (transaction_at ts own).changes
 own_taken next ts own h = or_all (Takes next) ts own no_transaction h tt
 
 rows_at_taken : (next : Next) (bases : List (List (List Record))) (own table : ℕ) → AllByRecursion (TablesTaken next) bases
@@ -351,7 +349,7 @@ ended_taken s own session left rows last h e rises r = record {
       (active_more (next_row s.transactions.touched) (next_row left.touched) s.transactions.active rises h.changes));
 }
 
-touched_rises : (commit : ℕ) (cs : List Change) (touched : List (List ℕ)) → Rises (next_row touched) (next_row (touch_all commit cs touched))
+pub touched_rises : (commit : ℕ) (cs : List Change) (touched : List (List ℕ)) → Rises (next_row touched) (next_row (touch_all commit cs touched))
 touched_rises commit cs touched t = let e = touch_all_same commit cs touched t in omega (arith, e)
 
 committed_with_taken : (cs : List Change) (s : State) (session own : ℕ) → HasTaken s → ChangesTaken (next_row s.transactions.touched) cs → Done (committed_with cs s session own)
@@ -398,7 +396,7 @@ state_taken : (o : Outcome) (s : State) → HasTaken s → Gives Done o → HasT
 state_taken (Ok done) s h p = p
 state_taken (Err refusal) s h p = h
 
-next_taken : (r : Result Resolved Refusal) (s : State) (session : ℕ) (reply : Reply) → HasTaken s → HasTaken (next_asked r s session reply)
+pub next_taken : (r : Result Resolved Refusal) (s : State) (session : ℕ) (reply : Reply) → HasTaken s → HasTaken (next_asked r s session reply)
 next_taken (Err refusal) s session reply h = h
 next_taken (Ok (asked.Fetch name)) s session reply h = fetched_taken (cursor_named s.cursors session name) s reply h
 next_taken (Ok (asked.Step name n)) s session reply h = h
@@ -414,16 +412,15 @@ next_taken (Ok asked.Rollback) s session reply h = state_taken (rolled_back s se
 next_taken (Ok (asked.Open cursor q)) s session reply h = state_taken (opened s session cursor q) s h (opened_taken s session cursor q h)
 next_taken (Ok (asked.Close cursor)) s session reply h = state_taken (closed s session cursor) s h (closed_taken s session cursor h)
 
-answer_taken : (s : State) (e : Entry) (new : State) → IsOrderly s → HasTaken s → Answers s e new → HasTaken new
-answer_taken s e new o h (says statement said does) =
-    let asks : Result Resolved Refusal = resolution s.schema.tables s.schema.indexes statement in
-    subst HasTaken (sym (does_from asks s e.session e.reply new o does).1) (next_taken asks s e.session e.reply h)
-answer_taken s e new o h (says_none none refused same) = subst HasTaken (sym same) h
+pub stepped_taken : (s : State) (e : Entry) → HasTaken s → HasTaken (stepped s e)
+stepped_taken s e h = next_taken (understood s.schema (statement_of e.text)) s e.session e.reply h
 
-leads_taken : (s : State) (phase : ℕ) (es : List Entry) (last : State) → IsOrderly s → HasTaken s → Leads s phase es last → HasTaken last
-leads_taken s phase [] last o h leads = subst HasTaken (sym leads) h
-leads_taken s phase (e ∷ es) last o h leads =
-    leads_taken leads.0 e.phase es last (answer_orderly s e leads.0 o leads.1.answer) (answer_taken s e leads.0 o h leads.1.answer) leads.2
+after_taken : (s : State) (es : List Entry) → HasTaken s → HasTaken (after_from s es)
+after_taken s [] h = h
+after_taken s (e ∷ es) h = after_taken (stepped s e) es (stepped_taken s e h)
+
+pub empty_taken : HasTaken empty
+empty_taken = record { rows = λ t. tt; bases = tt; changes = tt }
 
 pub stays_taken : StaysTaken
-stays_taken history s leads = leads_taken empty 0 history s empty_orderly (record { rows = λ t. tt; bases = tt; changes = tt }) leads
+stays_taken history = after_taken empty history empty_taken

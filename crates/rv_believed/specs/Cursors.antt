@@ -8,36 +8,34 @@ use Rattle.rv_lang.specs.declared.reply.Reply.TheVariants.{Closed, Opened}
 use Rattle.rv_catalog.specs.declared.def.Select.{Select}
 use Rattle.rv_catalog.specs.Schema.{no_table}
 use Rattle.rv_catalog.specs.Answers.{◌>>=◌, ok_or, refuse_if}
-use Rattle.rv_model.specs.declared.state.State.{State}
 use Rattle.rv_model.specs.declared.state.Cursor.{Cursor}
 use Rattle.rv_model.specs.Database.{cursor_named}
 use Rattle.rv_model.specs.Offers.{sorted}
-use Rattle.rv_model.specs.Step.{Outcome}
-use Rattle.rv_model.specs.Transactions.{refuse_at, transaction_at, transaction_of}
-use Rattle.rv_believed.specs.Changing.{base_rows}
+use Rattle.rv_model.specs.Transactions.{refuse_at}
+use Rattle.rv_believed.specs.Database.{Database, Transaction, transaction_of}
 use Rattle.rv_believed.specs.Offers.{offers_of}
+use Rattle.rv_believed.specs.Transactions.{Outcome}
 
--- a cursor over the rows at the base of the transaction in a place, with its offers in their order
-abbrev pub new_cursor : State → ℕ → ℕ → List ℕ → Select → Cursor
-new_cursor s own session name q =
-    let offers = sorted (offers_of q (base_rows s own)) in
+-- a cursor over the rows on which a transaction began, with its offers in their order
+abbrev pub new_cursor : Transaction → ℕ → List ℕ → Select → Cursor
+new_cursor t session name q =
+    let offers = sorted (offers_of q t.rows) in
     record { session = session; name = name; table = slice_index_or q.tables 0 0; offers = offers }
 
 -- OPEN: not a name that is open in the session, not over a table that the transaction has changed,
 -- and at most 16 cursors in a session
-abbrev pub open_cursor : State → ℕ → List ℕ → Select → Outcome
-open_cursor s session name q = do
-  own ← ok_or (transaction_of s.transactions.active session) NoTransaction
-  free ← refuse_if (is_some (cursor_named s.cursors session name)) (CursorOpen name)
-  let changes = (transaction_at s.transactions.active own).changes
-  clean ← refuse_at (find (λ table. touches table changes) q.tables)
-      (λ table. Pending (slice_index_or s.schema.tables table no_table).name)
-  room ← refuse_if (nat_lt 15 (length (filter (λ (c : Cursor). c.session == session) s.cursors)))
+abbrev pub open_cursor : Database → ℕ → List ℕ → Select → Outcome
+open_cursor d session name q = do
+  t ← ok_or (transaction_of d session) NoTransaction
+  free ← refuse_if (is_some (cursor_named d.cursors session name)) (CursorOpen name)
+  clean ← refuse_at (find (λ table. touches table t.changes) q.tables)
+      (λ table. Pending (slice_index_or d.tables table no_table).name)
+  room ← refuse_if (nat_lt 15 (length (filter (λ (c : Cursor). c.session == session) d.cursors)))
       (Limit limits.Cursors 16)
-  Ok (Opened, record s { cursors = s.cursors ++ new_cursor s own session name q ∷ [] })
+  Ok (Opened, record d { cursors = d.cursors ++ new_cursor t session name q ∷ [] })
 
 -- CLOSE
-abbrev pub close_cursor : State → ℕ → List ℕ → Outcome
-close_cursor s session name = do
-  place ← ok_or (cursor_named s.cursors session name) (NoCursor name)
-  Ok (Closed, record s { cursors = remove s.cursors place })
+abbrev pub close_cursor : Database → ℕ → List ℕ → Outcome
+close_cursor d session name = do
+  place ← ok_or (cursor_named d.cursors session name) (NoCursor name)
+  Ok (Closed, record d { cursors = remove d.cursors place })

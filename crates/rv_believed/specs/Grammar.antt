@@ -143,7 +143,7 @@ IsAtom (Starts c text) = IsColumn c
 -- group = atom | ( atom {OR atom} )
 pub data IsGroup : List RawAtom → List Token → List Token → Type 0 where
   bare : (a : RawAtom) (rest : List Token) → IsAtom a → IsGroup (a ∷ []) (atom a rest) rest
-  closed : (atoms : List RawAtom) (rest : List Token) → AreSome IsAtom atoms
+  in_parens : (atoms : List RawAtom) (rest : List Token) → AreSome IsAtom atoms
       → IsGroup atoms (LPAREN ∷ list_tokens (key "OR") atom atoms (RPAREN ∷ rest)) rest
 
 -- group {AND group}

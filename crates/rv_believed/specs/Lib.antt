@@ -2,6 +2,7 @@ pub mod Answers
 pub mod Changing
 pub mod Course
 pub mod Cursors
+pub mod Database
 pub mod Grammar
 pub mod Held
 pub mod History
@@ -11,6 +12,7 @@ pub mod Offers
 pub mod Orderly
 pub mod Plain
 pub mod Runs
+pub mod Standing
 pub mod Step
 pub mod Taken
 pub mod Transactions

@@ -1,12 +1,11 @@
--- Believed (law): what holds of the database after every legal history.
+-- Believed (law): what holds of the database after every history.
 use Rattle.std.specs.Prelude.{◌≡◌, ◌≢◌, ◌<◌, List, [], ◌∷◌, length}
 use Rattle.std.specs.List.{AllByRecursion}
 use Rattle.rv_model.specs.declared.entry.Entry.{Entry}
 use Rattle.rv_model.specs.declared.state.State.{State}
 use Rattle.rv_model.specs.declared.state.Cursor.{Cursor}
 use Rattle.rv_model.specs.declared.transactions.Transaction.{Transaction}
-use Rattle.rv_model.specs.Database.{empty}
-use Rattle.rv_believed.specs.History.{Leads}
+use Rattle.rv_model.specs.History.{after}
 
 -- so of each two, the one in front first
 abbrev pub EachTwo : {X : Type 0} → (X → X → Type 0) → List X → Type 0
@@ -31,6 +30,6 @@ pub record IsOrderly (s : State) : Type 0 where
   pub bases : length s.bases ≡ length s.transactions.active
   pub cursors : EachTwo IsOther s.cursors
 
--- LAW
+-- LAW: be the replies as they may
 abbrev pub StaysOrderly : Type 0
-StaysOrderly = (history : List Entry) (s : State) → Leads empty 0 history s → IsOrderly s
+StaysOrderly = (history : List Entry) → IsOrderly (after history)

@@ -1,4 +1,4 @@
--- Believed (law): after every legal history each row has a number that its table gave.
+-- Believed (law): after every history each row has a number that its table gave.
 use Rattle.std.specs.Prelude.{ℕ, ◌<◌, List}
 use Rattle.std.specs.List.{AllByRecursion}
 use Rattle.rv_value.specs.declared.record.Record.{Record}
@@ -6,9 +6,9 @@ use Rattle.rv_rows.specs.declared.changes.Change.{Change}
 use Rattle.rv_model.specs.declared.entry.Entry.{Entry}
 use Rattle.rv_model.specs.declared.state.State.{State}
 use Rattle.rv_model.specs.declared.transactions.Transaction.{Transaction}
-use Rattle.rv_model.specs.Database.{empty, rows_at}
+use Rattle.rv_model.specs.Database.{rows_at}
+use Rattle.rv_model.specs.History.{after}
 use Rattle.rv_model.specs.Transactions.{next_row}
-use Rattle.rv_believed.specs.History.{Leads}
 
 -- the numbers of rows are below this one
 abbrev pub AreTaken : ℕ → List Record → Type 0
@@ -30,6 +30,6 @@ pub record HasTaken (s : State) : Type 0 where
   pub changes : AllByRecursion (λ (t : Transaction).
       ChangesTaken (next_row s.transactions.touched) t.changes) s.transactions.active
 
--- LAW
+-- LAW: be the replies as they may
 abbrev pub StaysTaken : Type 0
-StaysTaken = (history : List Entry) (s : State) → Leads empty 0 history s → HasTaken s
+StaysTaken = (history : List Entry) → HasTaken (after history)

@@ -1,8 +1,8 @@
 -- Believed: CREATE, BEGIN, COMMIT and ROLLBACK.
-use Rattle.std.specs.Prelude.{ℕ, ◌+◌, List, [], ◌∷◌, ◌++◌, Ok, Bool, not, ◌==◌, nat_lt, length, filter, map, remove, slice_get}
-use Rattle.std.specs.List.{range_with_len, slice_index_or}
+use Rattle.std.specs.Prelude.{ℕ, ◌+◌, List, [], ◌∷◌, ◌++◌, Result, Ok, Bool, ◌==◌, nat_lt, length, filter, slice_get, if◌then◌else◌}
 use Rattle.rv_rows.specs.declared.changes.Change.{Change}
-use Rattle.rv_rows.specs.Changes.{applied}
+use Rattle.rv_rows.specs.Changes.{applied, has_change}
+use Rattle.rv_lang.specs.declared.reply.Refusal.{Refusal}
 use Rattle.rv_lang.specs.declared.reply.Refusal.TheVariants.{Active, Busy, Limit, NoTransaction}
 use Rattle.rv_lang.specs.declared.reply.Which.TheVariants.{Indexes, Tables}
 use Rattle.rv_lang.specs.declared.reply.Reply.{Reply}
@@ -10,70 +10,67 @@ use Rattle.rv_lang.specs.declared.reply.Reply.TheVariants.{Began, Committed, Cre
 use Rattle.rv_catalog.specs.declared.def.IndexDef.{IndexDef}
 use Rattle.rv_catalog.specs.declared.def.TableDef.{TableDef}
 use Rattle.rv_catalog.specs.Answers.{◌>>=◌, ok_or, refuse_if}
-use Rattle.rv_model.specs.declared.state.State.{State}
-use Rattle.rv_model.specs.declared.state.Cursor.{Cursor}
-use Rattle.rv_model.specs.Step.{Outcome}
-use Rattle.rv_model.specs.declared.transactions.Transaction.{Transaction}
-use Rattle.rv_model.specs.Transactions.{refuse_at, touch_all, transaction_at, transaction_of}
+use Rattle.rv_model.specs.Transactions.{refuse_at}
+use Rattle.rv_believed.specs.Database.{Database, Transaction, transaction_of, without_session}
+
+-- the reply and the database after it, or why the statement is refused
+abbrev pub Outcome : Type 0
+Outcome = Result (Reply × Database) Refusal
 
 -- CREATE TABLE: not while a transaction is active (the first is shown), and at most 64 tables
-abbrev pub create_table : State → TableDef → Outcome
-create_table s def = do
-  idle ← refuse_at (slice_get s.transactions.active 0) (λ (t : Transaction). Busy t.number)
-  room ← refuse_if (nat_lt 63 (length s.schema.tables)) (Limit Tables 64)
-  let tables = s.schema.tables ++ def ∷ []
-  Ok (Created, record s { schema = record s.schema { tables = tables }; rows = s.rows ++ [] ∷ [] })
+abbrev pub create_table : Database → TableDef → Outcome
+create_table d def = do
+  idle ← refuse_at (slice_get d.active 0) (λ (t : Transaction). Busy t.number)
+  room ← refuse_if (nat_lt 63 (length d.tables)) (Limit Tables 64)
+  Ok (Created, record d { tables = d.tables ++ def ∷ [] })
 
 -- CREATE INDEX: not while a transaction is active, and at most 8 indexes over a table
-abbrev pub create_index : State → IndexDef → Outcome
-create_index s def = do
-  idle ← refuse_at (slice_get s.transactions.active 0) (λ (t : Transaction). Busy t.number)
-  let others = filter (λ (i : IndexDef). i.table == def.table) s.schema.indexes
-  room ← refuse_if (nat_lt 7 (length others)) (Limit Indexes 8)
-  Ok (Created, record s { schema = record s.schema { indexes = s.schema.indexes ++ def ∷ [] } })
+abbrev pub create_index : Database → IndexDef → Outcome
+create_index d def = do
+  idle ← refuse_at (slice_get d.active 0) (λ (t : Transaction). Busy t.number)
+  let over = filter (λ (i : IndexDef). i.table == def.table) d.indexes
+  room ← refuse_if (nat_lt 7 (length over)) (Limit Indexes 8)
+  Ok (Created, record d { indexes = d.indexes ++ def ∷ [] })
 
--- BEGIN: not while the session has a transaction; one of the next number, on the last commit
-abbrev pub begin : State → ℕ → Bool → Outcome
-begin s session reads = do
-  let old = s.transactions.active
-  free ← refuse_at (transaction_of old session) (λ own. Active (transaction_at old own).number)
-  let n = s.transactions.next
-  let new : Transaction =
-      record { number = n; session = session; read_only = reads; base = s.last; changes = [] }
-  let now = record s.transactions { active = old ++ new ∷ []; next = n + 1 }
-  Ok (Began n, record s { transactions = now; bases = s.bases ++ s.rows ∷ [] })
+-- a transaction of the next number, on the last commit and its rows
+abbrev pub new_transaction : Database → ℕ → Bool → Transaction
+new_transaction d session read_only = record {
+  number = d.next;
+  session = session;
+  read_only = read_only;
+  base = d.last;
+  rows = d.rows;
+  changes = [];
+}
 
--- without the transaction in a place and the cursors of its session
-abbrev pub without : State → ℕ → ℕ → State
-without s own session =
-    let left = record s.transactions { active = remove s.transactions.active own } in
-    let cursors = filter (λ (c : Cursor). not (c.session == session)) s.cursors in
-    record s { transactions = left; bases = remove s.bases own; cursors = cursors }
+-- BEGIN: not while the session has a transaction
+abbrev pub begin : Database → ℕ → Bool → Outcome
+begin d session read_only = do
+  free ← refuse_at (transaction_of d session) (λ (t : Transaction). Active t.number)
+  let active = d.active ++ new_transaction d session read_only ∷ []
+  Ok (Began d.next, record d { next = d.next + 1; active = active })
 
--- with changes as the next commit: of each table the rows, and of rows who last wrote them
-abbrev pub with_commit : State → List Change → State
-with_commit s changes =
-    let rows_of = λ (table : ℕ). applied table changes (slice_index_or s.rows table []) in
-    let rows = map rows_of (range_with_len 0 (length s.rows)) in
-    let by = touch_all (s.last + 1) changes s.transactions.touched in
-    let now = record s.transactions { touched = by } in
-    record s { last = s.last + 1; rows = rows; transactions = now }
+-- with changes as the next commit
+abbrev pub with_commit : Database → List Change → Database
+with_commit d changes =
+    let n = d.last + 1 in
+    let by = λ (t r : ℕ). if has_change t r changes then n else d.written_by t r in
+    record d { last = n; rows = λ t. applied t changes (d.rows t); written_by = by }
 
 -- without a change there is no commit, and the base is answered
-abbrev pub commit_of : State → ℕ → ℕ → List Change → Reply × State
-commit_of s own session [] =
-    (Committed (transaction_at s.transactions.active own).base, without s own session)
-commit_of s own session (c ∷ cs) =
-    (Committed (s.last + 1), without (with_commit s (c ∷ cs)) own session)
+abbrev pub commit_of : Database → ℕ → ℕ → List Change → Reply × Database
+commit_of d session base [] = (Committed base, without_session d session)
+commit_of d session base (c ∷ cs) =
+    (Committed (d.last + 1), without_session (with_commit d (c ∷ cs)) session)
 
 -- COMMIT
-abbrev pub commit : State → ℕ → Outcome
-commit s session = do
-  own ← ok_or (transaction_of s.transactions.active session) NoTransaction
-  Ok (commit_of s own session (transaction_at s.transactions.active own).changes)
+abbrev pub commit : Database → ℕ → Outcome
+commit d session = do
+  t ← ok_or (transaction_of d session) NoTransaction
+  Ok (commit_of d session t.base t.changes)
 
 -- ROLLBACK
-abbrev pub rollback : State → ℕ → Outcome
-rollback s session = do
-  own ← ok_or (transaction_of s.transactions.active session) NoTransaction
-  Ok (RolledBack, without s own session)
+abbrev pub rollback : Database → ℕ → Outcome
+rollback d session = do
+  t ← ok_or (transaction_of d session) NoTransaction
+  Ok (RolledBack, without_session d session)

@@ -26,9 +26,10 @@ ghost use Rattle.rv_believed.specs.History.{IsLegal};
 ghost use Rattle.rv_believed.specs.Limits.{within_limits};
 ghost use Rattle.rv_believed.specs.Names.{resolution};
 ghost use Rattle.rv_believed.specs.Offers.{offers_of};
-ghost use Rattle.rv_believed.specs.Orderly.{IsOrderly, StaysOrderly};
+ghost use Rattle.rv_believed.specs.Orderly.{StaysOrderly};
 ghost use Rattle.rv_believed.specs.Plain.{LegalIsPlain};
 ghost use Rattle.rv_believed.specs.Runs.{Shows};
+ghost use Rattle.rv_believed.specs.Standing.{IsSound, StaysSound, database, outcome_of};
 ghost use Rattle.rv_believed.specs.Taken.{StaysTaken};
 ghost use Rattle.rv_believed.specs.Transactions.{begin, commit, create_index, create_table, rollback};
 
@@ -58,17 +59,23 @@ pub fn offers_are_same()
     ensures { (q : Select) (rows : ℕ → List Record) → offers_of q rows ≡ offers_over q rows }
 {}
 
-/// A law: these statements come to what the working definitions say.
+/// A law: on the database for which a sound state stands, a statement comes to that of what the working definitions say.
 pub fn statements_are_same()
-    ensures inserts { (s : State) (session table : ℕ) (values : List Value) → insert s session table values ≡ inserted s session table values }
-    ensures changes { (s : State) (session table : ℕ) (sets : Option (List (ℕ × Value))) (only : List (List Atom)) → change s session table sets only ≡ changed s session table sets only }
-    ensures begins { (s : State) (session : ℕ) (read_only : Bool) → begin s session read_only ≡ began s session read_only }
-    ensures closes { (s : State) (session : ℕ) (name : List ℕ) → close_cursor s session name ≡ closed s session name }
-    ensures opens { (s : State) (session : ℕ) (name : List ℕ) (q : Select) → open_cursor s session name q ≡ opened s session name q }
-    ensures tables { (s : State) (def : TableDef) → IsOrderly s → create_table s def ≡ created s def }
-    ensures indexes { (s : State) (def : IndexDef) → IsOrderly s → create_index s def ≡ indexed s def }
-    ensures commits { (s : State) (session : ℕ) → commit s session ≡ committed s session }
-    ensures rolls_back { (s : State) (session : ℕ) → rollback s session ≡ rolled_back s session }
+    ensures tables { (s : State) (def : TableDef) → IsSound s → create_table (database s) def ≡ outcome_of (created s def) }
+    ensures indexes { (s : State) (def : IndexDef) → IsSound s → create_index (database s) def ≡ outcome_of (indexed s def) }
+    ensures begins { (s : State) (session : ℕ) (read_only : Bool) → IsSound s → begin (database s) session read_only ≡ outcome_of (began s session read_only) }
+    ensures inserts { (s : State) (session table : ℕ) (values : List Value) → IsSound s → insert (database s) session table values ≡ outcome_of (inserted s session table values) }
+    ensures changes { (s : State) (session table : ℕ) (sets : Option (List (ℕ × Value))) (only : List (List Atom)) → IsSound s → change (database s) session table sets only ≡ outcome_of (changed s session table sets only) }
+    ensures commits { (s : State) (session : ℕ) → IsSound s → commit (database s) session ≡ outcome_of (committed s session) }
+    ensures rolls_back { (s : State) (session : ℕ) → IsSound s → rollback (database s) session ≡ outcome_of (rolled_back s session) }
+    ensures opens { (s : State) (session : ℕ) (name : List ℕ) (q : Select) → open_cursor (database s) session name q ≡ outcome_of (opened s session name q) }
+    ensures closes { (s : State) (session : ℕ) (name : List ℕ) → close_cursor (database s) session name ≡ outcome_of (closed s session name) }
+{}
+
+/// A law: after every history the state is sound: it is orderly, its rows have numbers that their tables gave, and each
+/// table has its rows.
+pub fn stays_sound()
+    ensures { StaysSound }
 {}
 
 /// A law: SHOW may answer the traces of runs by turns, and no others.
@@ -86,13 +93,13 @@ pub fn same_are_legal()
     says_what_is_read();
 }
 
-/// A law: after every legal history a session has at most one transaction, transactions are numbered in the order in
+/// A law: after every history a session has at most one transaction, transactions are numbered in the order in
 /// which they began, and a session's cursors differ by name.
 pub fn stays_orderly()
     ensures { StaysOrderly }
 {}
 
-/// A law: after every legal history each row, and each row that a transaction has changed, has a number that its table
+/// A law: after every history each row, and each row that a transaction has changed, has a number that its table
 /// gave.
 pub fn stays_taken()
     ensures { StaysTaken }

@@ -38,7 +38,12 @@ keys_of None = None
 keys_of (Some l) = Some l.keys
 
 abbrev pub no_plan : ScanPlan
-no_plan = record { index = 0; range = record { low = None; high = None; starts = false }; part = record { columns = []; groups = [] }; estimate = 0 }
+no_plan = record {
+  index = 0;
+  range = record { low = None; high = None; starts = false };
+  part = record { columns = []; groups = [] };
+  estimate = 0;
+}
 
 abbrev pub no_counts : ScanCounts
 no_counts = record { scanned = 0; kept = 0; leaves = 0; listed = false }
@@ -71,7 +76,8 @@ meets plan shown snap n = has_entry n (passing plan.part (run (shown.entries pla
 
 -- a row has such an entry in the index of each scan that completed so far
 abbrev pub InCompleted : Joint → Shown → ℕ → Type 0
-InCompleted j shown n = (i : ℕ) → i < j.ended → (counts_at j.counts i).listed ≡ true → meets (plan_at j.plans i) shown j.snap n ≡ true
+InCompleted j shown n =
+    (i : ℕ) → i < j.ended → (counts_at j.counts i).listed ≡ true → meets (plan_at j.plans i) shown j.snap n ≡ true
 
 -- the keys have every such row
 abbrev pub Covers : Joint → Shown → List ℕ → Type 0
@@ -83,7 +89,9 @@ to_sieve j shown = run_from (shown.entries (present j).index j.snap) (present j)
 
 -- the chunk is the leaf at the place of the present scan
 abbrev pub IsNextLeaf : Joint → Shown → Chunk → Type 0
-IsNextLeaf j shown chunk = IsChunk (shown.entries (present j).index j.snap) (shown.cuts (present j).index j.snap) (present j).range j.place chunk
+IsNextLeaf j shown chunk =
+    IsChunk (shown.entries (present j).index j.snap) (shown.cuts (present j).index j.snap)
+    (present j).range j.place chunk
 
 -- What it holds was drawn from the entries that a reader shows: the complete list covers, each row that the list being
 -- built has to have is in it or still to be sieved, no row of it is sieved again, and the leaf held is the awaited one.
@@ -92,7 +100,8 @@ pub record JointFits (j : Joint) (shown : Shown) : Type 0 where
   pub within : j.ended ≤ length j.plans
   pub apart : (i : ℕ) → i < length j.plans → Apart (shown.entries (plan_at j.plans i).index j.snap)
   pub covers : IfSome j.list (Covers j shown)
-  pub builds : (n : ℕ) → InCompleted j shown n → meets (present j) shown j.snap n ≡ true → (has_key n j.building || has_entry n (passing (present j).part (to_sieve j shown))) ≡ true
+  pub builds : (n : ℕ) → InCompleted j shown n → meets (present j) shown j.snap n ≡ true
+      → (has_key n j.building || has_entry n (passing (present j).part (to_sieve j shown))) ≡ true
   pub fresh : Disjoint j.building (to_sieve j shown)
   pub drawn : IfSome j.held (IsNextLeaf j shown)
 
@@ -108,7 +117,8 @@ pub record CanTake (j : Joint) (shown : Shown) : Type 0 where
   pub each : (i : ℕ) → i < length j.plans → CanMake (plan_at j.plans i) shown j.snap
 
 -- what holds of the parts alone
-pub record Whole (plans : List ScanPlan) (ended : ℕ) (held : Option Chunk) (building : Listed) (list : Option Listed) : Type 0 where
+pub record Whole (plans : List ScanPlan) (ended : ℕ) (held : Option Chunk) (building : Listed) (list : Option Listed)
+    : Type 0 where
   pub few : length plans ≤ 8
   pub within : ended ≤ length plans
   pub building_open : building.finished ≡ false
@@ -121,11 +131,13 @@ pub record Whole (plans : List ScanPlan) (ended : ℕ) (held : Option Chunk) (bu
 -- the leaves of whole scans
 abbrev pub leaves_planned : List ScanPlan → Shown → ℕ → ℕ
 leaves_planned [] shown snap = 0
-leaves_planned (plan ∷ plans) shown snap = leaves_from (shown.cuts plan.index snap) None + leaves_planned plans shown snap
+leaves_planned (plan ∷ plans) shown snap =
+    leaves_from (shown.cuts plan.index snap) None + leaves_planned plans shown snap
 
 abbrev pub leaves_of : List ScanPlan → Option IndexEntry → Shown → ℕ → ℕ
 leaves_of [] place shown snap = 0
-leaves_of (plan ∷ plans) place shown snap = leaves_from (shown.cuts plan.index snap) place + leaves_planned plans shown snap
+leaves_of (plan ∷ plans) place shown snap =
+    leaves_from (shown.cuts plan.index snap) place + leaves_planned plans shown snap
 
 -- the leaves that the scans which have not ended may still have to read
 abbrev pub leaves_ahead : Joint → Shown → ℕ

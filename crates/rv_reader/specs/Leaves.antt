@@ -37,7 +37,8 @@ pub record Leaf : Type 0 where
 -- the last leaf that begins at a cut which passes a test
 abbrev pub leaf_from : (IndexEntry → Bool) → Option IndexEntry → List IndexEntry → Leaf
 leaf_from passes low [] = record { low = low; next = None }
-leaf_from passes low (cut ∷ cuts) = if passes cut then leaf_from passes (Some cut) cuts else record { low = low; next = Some cut }
+leaf_from passes low (cut ∷ cuts) =
+    if passes cut then leaf_from passes (Some cut) cuts else record { low = low; next = Some cut }
 
 -- the cut is not behind the leaf in which a reading begins: its key is before the range, or it is not above the
 -- entry from which on is read
@@ -94,7 +95,8 @@ leaves_after cuts (Some cut) = leaves_from cuts (Some cut)
 -- one leaf's part of a range. The first two facts say what is read; from these it follows that the leaves one after
 -- another give the whole run, and that their number falls. A store's leaf has at most 32 entries, that of a view with a
 -- transaction's changes 16 more.
-pub record IsChunk (entries cuts : List IndexEntry) (range : Range) (start : Option IndexEntry) (chunk : Chunk) : Type 0 where
+pub record IsChunk (entries cuts : List IndexEntry) (range : Range) (start : Option IndexEntry) (chunk : Chunk)
+    : Type 0 where
   pub found : chunk.entries ≡ run_from (leaf_entries (leaf_at cuts start range) entries) range start
   pub following : chunk.next ≡ within range (leaf_at cuts start range).next
   pub short : length chunk.entries ≤ 48
