@@ -9,13 +9,14 @@ which a script may well mean to show."""
 from __future__ import annotations
 
 import argparse
+import re
 import sys
 from dataclasses import dataclass
 from typing import Iterator
 
 from ending import end
 from model.database import Database, Refused, references_of
-from model.language import END, KEYWORDS, Call, Syntax, Token, calls_of, fault_of, read_statement, tokens
+from model.language import END, INTEGER, KEYWORDS, NAME, Call, Syntax, Token, calls_of, fault_of, read_statement, tokens
 
 TOLD = ("unknown", "exists", "kind", "no cursor", "cursor open", "limit")
 
@@ -43,6 +44,13 @@ INSTEAD = {
     "DECLARE": "OPEN C SELECT .. opens a cursor",
     "START": "BEGIN begins a transaction",
     "ABORT": "ROLLBACK ends a transaction without its changes",
+    "END": "COMMIT ends a transaction with its changes",
+    "WORK": "BEGIN, COMMIT and ROLLBACK stand without a further word",
+    "TRANSACTION": "BEGIN, COMMIT and ROLLBACK stand without a further word",
+    "ISOLATION": "each transaction sees the snapshot of its BEGIN; BEGIN READ ONLY may not write",
+    "STARTS": "STARTING WITH 'front' finds the texts that begin so",
+    "NEXT": "FETCH C gives one row, the next one",
+    "ALL": "FETCH C gives one row, the next one; CLOSE C closes one cursor",
     "NOT": "there is no NOT before a condition: IS NOT NULL and <> are there",
     "NULL": "NULL is tested by IS NULL and IS NOT NULL",
 }
@@ -96,6 +104,8 @@ def no_token(text: str, at: int) -> str:
         return "no integer of 64 bits, which ends before a letter, a digit or `_`"
     if rest[0] in "+-/%|":
         return f"`{rest[0]}` is no token: there is no arithmetic"
+    if rest[0] == "#":
+        return "a statement has no comment behind it: a line that begins with # is one"
     return f"`{rest[0]}` begins no token"
 
 
@@ -117,6 +127,8 @@ def of_syntax(text: str, fault: Syntax) -> tuple[int, str]:
         return fault.at, f"the statement ends here, and {listed(fault.wanted)} should follow"
     shown = text[token.at : token.end]
     hint = instead(found, fault.at)
+    if token.kind == "value" and NAME in fault.wanted and INTEGER not in fault.wanted and is_in_condition(found, fault.at):
+        hint = hint or " (a literal stands on the right: `1 = A` is written `A = 1`)"
     if token.value in KEYWORDS and "a name" in fault.wanted and not hint:
         return fault.at, f"`{shown}` is a keyword, and no name; here could stand {listed(fault.wanted)}"
     if fault.wanted == [END]:
@@ -126,12 +138,24 @@ def of_syntax(text: str, fault: Syntax) -> tuple[int, str]:
     return fault.at, f"`{shown}` does not fit; here could stand {listed(fault.wanted)}{hint}"
 
 
+def is_in_condition(found: list[Token], at: int) -> bool:
+    return any(token.value == "WHERE" for token in found if token.at < at)
+
+
+def why_not(value: int | str | None, width: int | None) -> str:
+    """Why a column cannot hold a value."""
+    if isinstance(value, str) and width is not None:
+        return f"this text has {counted(len(value.encode()), 'byte')}, and"
+    return "a text does not fit:" if isinstance(value, str) else "an integer does not fit:"
+
+
 def of_insert(table_columns: list, values: list, found: list[Token], refused: Refused) -> tuple[int, str]:
     """A value of the wrong kind, or a wrong count of values."""
     literals = found[found.index(next(t for t in found if t.value == "(")) + 1 :: 2]
     at = literals[min(refused.at, len(values) - 1)].at
     if refused.at < min(len(values), len(table_columns)):
-        return at, f"no value for column {refused.name}, which is {kind_words(table_columns[refused.at][1])}"
+        width = table_columns[refused.at][1]
+        return at, f"{why_not(values[refused.at], width)} column {refused.name} is {kind_words(width)}"
     names = ", ".join(name for name, _ in table_columns)
     return at, f"{counted(len(values), 'value')} for {counted(len(table_columns), 'column')}: {names}"
 
@@ -251,11 +275,37 @@ def findings(script: str) -> Iterator[Finding]:
                 yield Finding(call.line, at + 3, words)
 
 
+def why_no_line(line: str) -> str:
+    """Why a line is none of a script, or what a line may be."""
+    if line.startswith("--"):
+        return "behind `--` may stand a judge, 0, 1 or 2, and nothing else: a comment begins with #"
+    if line[0].isdigit() and line[1:2] in ("", " "):
+        return "a session is 1 to 8, and a space and a statement follow"
+    if line[0] in "12345678" and line[1:2] == "\t":
+        return "a space, and no tab, stands behind the session"
+    if not line.strip():
+        return "an empty line has no spaces"
+    if line.lstrip().startswith("#"):
+        return "the # of a comment is the first character of its line"
+    if line[0].isspace():
+        return "a line begins with its session"
+    return "a line is `S statement` with a session S from 1 to 8, all of the statement on it; `# a comment`; `--`, `-- 0`, `-- 1` or `-- 2`; or empty"
+
+
+def of_fault(fault: tuple[int, str], data: bytes) -> str:
+    """What is wrong with an input that is no script."""
+    found = re.fullmatch(r"script: line (\d+) has no session", fault[1])
+    if found is None:
+        return fault[1]
+    line = data.decode().removeprefix("\ufeff").split("\n")[int(found[1]) - 1].removesuffix("\r")
+    return f"{fault[1]} ({why_no_line(line)})"
+
+
 def check(name: str, data: bytes) -> int:
     """Prints the mistakes of a script, and gives their number."""
     fault = fault_of(data)
     if fault is not None:
-        print(f"{name}: {fault[1]}" + (" (a line is `S statement` with a session S from 1 to 8, `# comment`, or `--`)" if fault[0] == 2 else ""))
+        print(f"{name}: {of_fault(fault, data)}")
         return 1
     found = list(findings(data.decode()))
     for finding in found:

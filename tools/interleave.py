@@ -212,7 +212,7 @@ def main() -> int:
     of = phases(data.decode(), words.phase)
     counts = Counter(call.session for call in of.inside)
     if not counts:
-        print(f"interleave: phase {words.phase} has no calls", file=sys.stderr)
+        print(f"interleave: phase {words.phase} has no calls (a line `--` in the script begins the next phase)", file=sys.stderr)
         return 2
     if words.random is None and how_many(counts) > words.most:
         print(f"interleave: there are {how_many(counts)} orders: give --random N, or --most", file=sys.stderr)

@@ -75,6 +75,8 @@ class Shell:
         except Syntax as fault:
             at, words = of_syntax(text, fault)
             self.tell(f"# at column {at + 1}: {words}")
+            if text.strip().lower() in ("help", "quit", "exit"):
+                self.tell("# \\help tells what can be typed, \\quit ends")
 
     # Commands.
 

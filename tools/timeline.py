@@ -12,6 +12,7 @@ import argparse
 import sys
 from dataclasses import dataclass, field
 from itertools import zip_longest
+from typing import Iterable
 
 from ending import end
 from model.language import Call, Mark, calls_of, fault_of, statement
@@ -52,7 +53,10 @@ class Course:
 
 
 class NotThere(Exception):
-    """The script has no such cursor."""
+    """The script has no such cursor; these are opened."""
+
+    def __init__(self, opened: Iterable[tuple[int, str]]):
+        super().__init__(", ".join(f"{name} of session {session}" for session, name in opened) or "none")
 
 
 @dataclass
@@ -75,6 +79,7 @@ def course_of(script: str, sought: Sought, judge: int | None, steps: int) -> Cou
     run = Session(judge or 0, steps, log=log)
     found: Course | None = None
     key = None
+    opened: dict[tuple[int, str], None] = {}  # sessions and names, in their order
     for call in calls_of(script):
         if isinstance(call, Mark):
             run.mark(call.judge if judge is None else None)
@@ -82,6 +87,8 @@ def course_of(script: str, sought: Sought, judge: int | None, steps: int) -> Cou
         log.clear()
         said = statement(call.text)
         reply = run.call(call.session, call.text)
+        if reply == "opened":
+            opened[call.session, said[1]] = None
         if found is None:
             if sought.is_found(call, said, reply):
                 found, key = Course(JUDGES[run.engine.judge], call), (call.session, said[1])
@@ -93,7 +100,7 @@ def course_of(script: str, sought: Sought, judge: int | None, steps: int) -> Cou
                 break
             found.trace = run.engine.cursors[key].trace()
     if found is None:
-        raise NotThere
+        raise NotThere(opened)
     return found
 
 
@@ -215,8 +222,8 @@ def main() -> int:
             course_of(script, Sought(words.session, words.cursor, words.opening), judge, words.steps)
             for judge in words.judge or [None]
         ]
-    except NotThere:
-        print("timeline: no such cursor is opened in this script", file=sys.stderr)
+    except NotThere as fault:
+        print(f"timeline: no such cursor is opened in this script; opened are: {fault}", file=sys.stderr)
         return 1
     sys.stdout.write(text(told, words.width))
     if words.svg:

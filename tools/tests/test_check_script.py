@@ -4,7 +4,8 @@ import sys
 import unittest
 from pathlib import Path
 
-from check_script import Finding, findings
+from check_script import Finding, findings, of_fault
+from model.language import fault_of
 
 TOP = Path(__file__).resolve().parents[2]
 TABLE = "1 CREATE TABLE PARTS (NAME VARCHAR(4), WEIGHT BIGINT)\n"
@@ -59,6 +60,13 @@ class CheckScript(unittest.TestCase):
             ("1 OPEN C SELECT P.NAME FROM PARTS P JOIN PARTS Q", "commas"),
             ("1 SELECT NAME FROM PARTS", "OPEN C SELECT"),
             ("1 OPEN C SELECT NAME FROM PARTS WHERE NOT NAME = 'a'", "no NOT before a condition"),
+            ("1 OPEN C SELECT NAME FROM PARTS WHERE 2 = WEIGHT", "a literal stands on the right"),
+            ("1 OPEN C SELECT NAME FROM PARTS WHERE NAME STARTS WITH 'a'", "STARTING WITH"),
+            ("1 END", "COMMIT"),
+            ("1 COMMIT WORK", "without a further word"),
+            ("1 BEGIN TRANSACTION", "without a further word"),
+            ("1 FETCH NEXT FROM C", "the next one"),
+            ("1 COMMIT # of all", "no comment behind it"),
             ("1 OPEN C SELECT NAME FROM PARTS WHERE NAME = 'a' OR NAME = 'b' AND WEIGHT = 1", "parentheses"),
         ):
             (finding,) = found(line)
@@ -81,12 +89,31 @@ class CheckScript(unittest.TestCase):
     def test_values(self):
         self.told("1 INSERT INTO PARTS VALUES ('nut')", 29, "1 value for 2 columns", "NAME, WEIGHT")
         self.told("1 INSERT INTO PARTS VALUES ('nut', 1, 2)", 39, "3 values for 2 columns")
-        self.told("1 INSERT INTO PARTS VALUES (5, 1)", 29, "NAME", "VARCHAR(4)")
-        self.told("1 INSERT INTO PARTS VALUES ('long one', 1)", 29, "VARCHAR(4)")
+        self.told("1 INSERT INTO PARTS VALUES (5, 1)", 29, "an integer does not fit", "NAME is VARCHAR(4)")
+        self.told("1 INSERT INTO PARTS VALUES ('a', 'b')", 34, "a text does not fit", "WEIGHT is BIGINT")
+        self.told("1 INSERT INTO PARTS VALUES ('äöü', 1)", 29, "6 bytes", "NAME is VARCHAR(4)")
         self.told("1 OPEN C SELECT NAME FROM PARTS WHERE WEIGHT = 1 AND WEIGHT = 'x'", 54, "WEIGHT")
 
     def test_limits(self):
         self.told("1 STEP C 10001", 3, "limit steps 10000")
+
+    def test_line_that_is_none_of_a_script(self):
+        for line, words in (
+            ("9 BEGIN", "a session is 1 to 8"),
+            ("10 BEGIN", "a line is `S statement`"),
+            ("1\tBEGIN", "no tab"),
+            ("-- 3", "0, 1 or 2"),
+            ("-- a comment", "a comment begins with #"),
+            ("  # a comment", "first character"),
+            ("  ", "no spaces"),
+            ("   WHERE A = 1", "begins with its session"),
+            ("BEGIN", "all of the statement on it"),
+        ):
+            data = f"# first\n{line}\n".encode()
+            told = of_fault(fault_of(data), data)
+            self.assertTrue(told.startswith("script: line 2 has no session ("), told)
+            self.assertIn(words, told)
+        self.assertEqual(of_fault(fault_of(b"\xff"), b"\xff"), "script: byte 0 is not UTF-8")
 
     def test_program(self):
         command = [sys.executable, TOP / "tools/check_script.py"]
@@ -94,7 +121,7 @@ class CheckScript(unittest.TestCase):
         self.assertEqual(ran.returncode, 1)
         self.assertTrue(ran.stdout.startswith(b"-:1:3: `COMIT` does not fit"), ran.stdout)
         ran = subprocess.run(command, input=b"9 COMMIT\n", capture_output=True, check=False)
-        self.assertEqual((ran.returncode, ran.stdout[:40]), (1, b"-: script: line 1 has no session (a line"))
+        self.assertEqual((ran.returncode, ran.stdout[:46]), (1, b"-: script: line 1 has no session (a session is"))
         self.assertEqual(subprocess.run([*command, "no such file"], capture_output=True, check=False).returncode, 2)
 
 

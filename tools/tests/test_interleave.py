@@ -56,6 +56,11 @@ class Interleave(unittest.TestCase):
         self.assertEqual(ran.returncode, 1)
         self.assertIn(b"+++ this run", ran.stdout)
 
+    def test_phase_without_calls(self):
+        ran = subprocess.run([*PROGRAM, FOLDER / "write-skew.script", "--phase", "99"], capture_output=True, check=False)
+        self.assertEqual(ran.returncode, 2)
+        self.assertIn(b"begins the next phase", ran.stderr)
+
     def test_too_many_orders_are_refused(self):
         ran = subprocess.run([*PROGRAM, FOLDER / "write-skew.script", "--most", "5"], capture_output=True, check=False)
         self.assertEqual(ran.returncode, 2)

@@ -34,6 +34,8 @@ class Shells(unittest.TestCase):
     def test_syntax_has_its_place(self):
         self.assertEqual(self.typed("COMIT")[0], "= syntax")
         self.assertIn("column 1: `COMIT`", self.out.getvalue())
+        self.typed("quit")
+        self.assertIn("\\quit ends", self.out.getvalue())
 
     def test_undo_makes_the_calls_anew(self):
         self.typed("CREATE TABLE T (A BIGINT)", "BEGIN", "INSERT INTO T VALUES (7)")

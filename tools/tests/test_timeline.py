@@ -63,7 +63,10 @@ class Timeline(unittest.TestCase):
 
     def test_program(self):
         command = [sys.executable, TOP / "tools/timeline.py", TOP / "examples/first-steps", "--cursor", "NONE"]
-        self.assertEqual(subprocess.run(command, capture_output=True, check=False).returncode, 1)
+        ran = subprocess.run(command, capture_output=True, check=False)
+        self.assertEqual(ran.returncode, 1)
+        self.assertIn(b"opened are: ", ran.stderr)
+        self.assertIn(b" of session ", ran.stderr)
 
 
 if __name__ == "__main__":
