@@ -1,0 +1,185 @@
+#!/usr/bin/env python3
+"""Runs a built program on worked scripts, and tells where status, output or standard error are others than the rules in words say.
+
+  transcripts  each file of tools/runs is a transcript: its script is its lines but the replies
+  lines        which lines are calls, marks or nothing; ends of lines, a byte order mark, a last line without an end
+  faults       the first fault of a script with its place, and the limits of lines, each from both sides
+  words        words that are not accepted, with which nothing is read or written
+  workload     a generated workload writes its summary, and reads nothing
+  traces       what SHOW tells under each judge, by the words of the command line and by marks, with background steps and without
+
+The answers were found by hand."""
+from __future__ import annotations
+
+import argparse
+import os
+import subprocess
+import sys
+import tempfile
+from pathlib import Path
+from typing import Iterator
+
+from ending import end
+
+Came = tuple[int, bytes, bytes]  # status, output, standard error
+
+TRANSCRIPTS = Path(__file__).resolve().parent / "runs"
+USAGE = b"usage: rvdyn [--judge N] [--steps K] [--gen SEED]\n"
+MARK = b"\xef\xbb\xbf"
+
+
+def calls(*lines: str) -> bytes:
+    """The transcript of calls that are all no statement."""
+    return "".join(f"{line}\n= syntax\n" for line in lines).encode()
+
+
+def transcripts() -> Iterator[tuple[str, bytes, Came]]:
+    for path in sorted(TRANSCRIPTS.glob("*.transcript")):
+        whole = path.read_bytes()
+        script = b"".join(line + b"\n" for line in whole.split(b"\n") if line and not line.startswith(b"= "))
+        yield path.stem, script, (0, whole, b"")
+
+
+def lines() -> Iterator[tuple[str, bytes, Came]]:
+    for script, output in [
+        (b"", b""),
+        (b"1 BEGIN", b"1 BEGIN\n= began 1\n"),
+        (b"2 BEGIN\n", b"2 BEGIN\n= began 1\n"),
+        (MARK + b"1 A\r\n\r\n# no call\n8  b ", calls("1 A", "8  b ")),
+        (b"1 A\n--\n2 B\n-- 0\n-- 2\n3 C\n", calls("1 A", "2 B", "3 C")),
+        (b"2 ", calls("2 ")),
+        (b"1 A\r", calls("1 A\r")),
+        (b"1 A\r\r\n", calls("1 A\r")),
+        (b"#", b""),
+        (b"1 " + MARK, calls("1 \ufeff")),
+    ]:  # fmt: skip
+        yield repr(script), script, (0, output, b"")
+
+
+def faults() -> Iterator[tuple[str, bytes, Came]]:
+    for line, scripts in [
+        (1, [b"9 COMMIT\n", b"0 A", b"1A", b"1", b" ", b"-- 3", b"--  1", b"-- ", b"--1", b"\r", b"1\tA", b" # a"]),
+        (2, [b"1 BEGIN\n9 COMMIT", b"1 BEGIN\n9 COMMIT\n", b"1 A\n---\n", b"# " + MARK + b"\n" + MARK + b"1 A"]),
+        (3, [b"# a\n\n\t"]),
+    ]:  # fmt: skip
+        for script in scripts:
+            yield repr(script), script, (2, b"", b"script: line %d has no session\n" % line)
+    for byte, script in [(2, b"1 \xff"), (5, MARK + b"9\n\xe2\x98")]:
+        yield repr(script), script, (2, b"", b"script: byte %d is not UTF-8\n" % byte)
+    longest = MARK + b"1 " + b"x" * 4094 + b"\r\n"
+    yield "a line of 4,096 bytes", longest, (0, b"1 " + b"x" * 4094 + b"\n= syntax\n", b"")
+    yield "a line of 4,097 bytes", b"1 " + b"x" * 4095, (3, b"", b"limit: line 1 over 4096 bytes\n")
+    yield "a comment of 4,097 bytes", longest + b"#" * 4097, (3, b"", b"limit: line 2 over 4096 bytes\n")
+    yield "200,000 lines", b"\n" * 200_000, (0, b"", b"")
+    yield "200,001 lines", b"\n" * 200_001, (3, b"", b"limit: script over 200000 lines\n")
+
+
+# Traces.
+
+
+def loaded(rows: int) -> list[str]:
+    inserts = [f"1 INSERT INTO T VALUES ({row}, 0)" for row in range(rows)]
+    return ["1 CREATE TABLE T (A BIGINT, B BIGINT)", "1 CREATE INDEX IA ON T (A)", "1 BEGIN", *inserts, "1 COMMIT"]
+
+
+def reading(only: str, before: int, steps: int, after: int) -> list[str]:
+    """FETCH, then STEP, then FETCH again, then SHOW."""
+    opened = f"2 OPEN C SELECT * FROM T WHERE {only} OPTIMIZE FOR FAST FIRST"
+    fetches = ["2 FETCH C"] * before + [f"2 STEP C {steps}"] + ["2 FETCH C"] * after
+    return ["2 BEGIN READ ONLY", opened, *fetches, "2 SHOW C", "2 COMMIT"]
+
+
+HALF = reading("A BETWEEN 10 AND 29", 4, 5, 17)
+THIRD = reading("A BETWEEN 10 AND 40", 4, 5, 28)
+ALL = reading("A >= 0", 1101, 0, 0)
+
+LIST = "fast-first building scan IA list IA 20 final-list done pages 0 leaves 2 fetches 20"
+DROP = "fast-first building scan IA drop IA final-table done pages 2 leaves 1 fetches 0"
+STOP = "fast-first building scan IA stop background list IA 20 final-list done pages 0 leaves 2 fetches 20"
+FULL = "fast-first building scan IA full background list IA 1100 final-list done pages 0 leaves {} fetches 1100"
+DROP_OF_MORE = "fast-first building scan IA drop IA final-table done pages 3 leaves 1 fetches 0"
+LIST_OF_MORE = "fast-first building scan IA list IA 31 final-list done pages 0 leaves 2 fetches 31"
+
+
+def traces(plain: bool = False) -> Iterator[tuple[list[str], list[str], list[str]]]:
+    """Words, a script and its traces: over the paged store, whose trees have leaves of 16 to 32 entries, or over the plain one,
+    whose leaves have 32."""
+    if not plain:
+        for words, marks, trace in [
+            (["--steps", "0"], [], DROP), (["--judge", "1", "--steps", "0"], [], LIST), (["--steps=1", "--judge=1"], [], LIST),
+            (["--judge", "2", "--steps", "0"], [], STOP), (["--steps", "0"], ["-- 2"], STOP),
+        ]:  # fmt: skip
+            yield words, loaded(40) + marks + HALF, [trace]
+        # Contrary is asked once in a reading of the half. Its second verdict, which lets the scan go on, comes when it is back, and
+        # its third one drops the scan.
+        marked = [line for mark in ("-- 2", "-- 0", "-- 2", "--") for line in [mark, *HALF]]
+        yield ["--judge", "1", "--steps", "0"], loaded(40) + marked, [STOP, DROP, LIST, DROP]
+    else:
+        yield ["--steps", "0"], loaded(80) + THIRD, [DROP_OF_MORE]
+        yield ["--judge", "1", "--steps", "0"], loaded(80) + THIRD, [LIST_OF_MORE]
+    yield ["--judge", "1", "--steps", "0"], loaded(1100) + ALL, [FULL.format(35 if plain else 68)]
+
+
+class Runs:
+    def __init__(self, command: list[str]):
+        self.command, self.cases, self.wrong = command, 0, 0
+
+    def run(self, script: bytes, *words: str) -> Came:
+        ran = subprocess.run([*self.command, *words], input=script, capture_output=True, timeout=120, check=False)
+        return ran.returncode, ran.stdout, ran.stderr
+
+    def unread(self, *words: str) -> tuple[Came, int]:
+        """A run over a file, and how many bytes of it were read."""
+        with tempfile.TemporaryFile() as source:
+            source.write(b"1 BEGIN\n")
+            source.flush()
+            os.lseek(source.fileno(), 0, os.SEEK_SET)
+            ran = subprocess.run([*self.command, *words], stdin=source, capture_output=True, timeout=120, check=False)
+            return (ran.returncode, ran.stdout, ran.stderr), os.lseek(source.fileno(), 0, os.SEEK_CUR)
+
+    def expect(self, name: str, came: object, wants: object) -> None:
+        self.cases += 1
+        if came != wants:
+            self.wrong += 1
+            print(f"{name}: {came!r:.300} for {wants!r:.300}")
+
+    def try_scripts(self) -> None:
+        for cases in (transcripts, lines, faults):
+            for name, script, wants in cases():
+                self.expect(f"{cases.__name__}, {name}", self.run(script), wants)
+
+    def try_words(self) -> None:
+        for words in ["x", "--judge", "--judge 3", "--threads", "--workers 2", "--help"]:
+            self.expect(f"words {words}", self.unread(*words.split()), ((1, b"", USAGE), 0))
+
+    def try_workload(self) -> None:
+        (status, output, words), read = self.unread("--gen", "1")
+        good = output.startswith(b"calls 3763\nrows ") and output.endswith(b"\ncommits 251\nrefused 0\n")
+        self.expect("workload", (status, good, words, read), (0, True, b"", 0))
+
+    def try_traces(self, plain: bool) -> None:
+        for words, script, wants in traces(plain):
+            status, output, said = self.run("".join(line + "\n" for line in script).encode(), *words)
+            found = [line[8:] for line in output.decode().splitlines() if line.startswith("= trace ")]
+            self.expect(f"traces, {' '.join(words)}", (status, found, said), (0, wants, b""))
+
+
+def main() -> int:
+    parser = argparse.ArgumentParser(description=__doc__, formatter_class=argparse.RawDescriptionHelpFormatter)
+    parser.add_argument("program", nargs="?", metavar="PROGRAM", help="without it the slow model")
+    parser.add_argument("--plain", action="store_true", help="over the plain store: what its traces are (tools/plain_program.sh)")
+    asked = parser.parse_args()
+    model = [sys.executable, str(Path(__file__).with_name("slow_program.py")), *["--plain"] * asked.plain]
+    runs = Runs([asked.program] if asked.program else model)
+    runs.try_scripts()
+    if asked.program:
+        # (the model has words of its own, and needs a minute for a workload)
+        runs.try_words()
+        runs.try_workload()
+    runs.try_traces(asked.plain)
+    print(f"{runs.cases} worked runs, {runs.wrong} end otherwise")
+    return 1 if runs.wrong else 0
+
+
+if __name__ == "__main__":
+    end(main)
