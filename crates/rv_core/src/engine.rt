@@ -3,7 +3,7 @@ ghost use Rattle.std.specs.Prelude.{◌≡◌, ◌+◌, ◌-◌, ◌<◌, ◌≤
 ghost use Rattle.rv_model.specs.Database.{empty};
 ghost use Rattle.rv_model.specs.History.{after};
 ghost use Rattle.rv_core.specs.Core.{Answers, AnswersPart, IsSound, Unanswered, horizon_of};
-ghost use Rattle.rv_core.specs.Obeying.{under};
+ghost use Rattle.rv_core.specs.Obeying.{SeesSame, under};
 ghost use Rattle.rv_core.specs.Pieces.{GivesTo, TakesNext, TriesNext, next_waiting, numbered};
 
 use crate::database::Database;
@@ -96,6 +96,7 @@ impl<S: Store + Reader<Ledger = Uncounted> + Drop> Engine<S> {
     /// Makes a session's call under a judge, with up to `beside` background steps beside each foreground step of a
     /// FETCH: the reply is given and written to the history with the text. On `NoMemory` nothing is changed but how far
     /// the plans of cursors have come.
+    #[tactic(auto, using(crate::proofs::Keeping::sees_same))]
     pub fn call(
         &mut self,
         session: u8,
@@ -109,6 +110,7 @@ impl<S: Store + Reader<Ledger = Uncounted> + Drop> Engine<S> {
         ensures ok { IfOk result (λ reply. Answers (under (S.shown self.old.store) (would judge.old) beside) (state judge.old) (state judge.new) self.old self.new session text.now reply) }
         ensures err { OnErr result (Unanswered (under (S.shown self.old.store) (would judge.old) beside) (state judge.old) (state judge.new) self.old self.new session text.now) }
         ensures rules { would judge.new ≡ would judge.old }
+        ensures sees { SeesSame (S.shown self.old.store) (S.shown self.new.store) self.new.opens }
         ensures sound { IsSound self.new }
     {
         let copy = Text::read(self.alloc, text)?;
@@ -128,6 +130,7 @@ impl<S: Store + Reader<Ledger = Uncounted> + Drop> Engine<S> {
 
     /// One turn's part of a call: as `call`, but that a FETCH makes one foreground step at most, with the background steps
     /// behind it, and answers `Working` where that step only worked on.
+    #[tactic(auto, using(crate::proofs::Keeping::sees_same))]
     pub fn call_step(
         &mut self,
         session: u8,
@@ -141,6 +144,7 @@ impl<S: Store + Reader<Ledger = Uncounted> + Drop> Engine<S> {
         ensures ok { IfOk result (λ part. AnswersPart (under (S.shown self.old.store) (would judge.old) beside) (state judge.old) (state judge.new) self.old self.new session text.now part) }
         ensures err { OnErr result (Unanswered (under (S.shown self.old.store) (would judge.old) beside) (state judge.old) (state judge.new) self.old self.new session text.now) }
         ensures rules { would judge.new ≡ would judge.old }
+        ensures sees { SeesSame (S.shown self.old.store) (S.shown self.new.store) self.new.opens }
         ensures sound { IsSound self.new }
     {
         let copy = Text::read(self.alloc, text)?;
@@ -202,7 +206,8 @@ impl<S: Store + Reader<Ledger = Uncounted> + Drop> Engine<S> {
 
     /// Takes away what no transaction needs of the store, a part at a time, as each answered call does too.
     pub fn sweep_step(&mut self)
-        ensures { self.new ≡ record self.old { store = self.new.store; horizon = horizon_of self.old.db } }
+        ensures same { self.new ≡ record self.old { store = self.new.store; horizon = horizon_of self.old.db } }
+        ensures sees { SeesSame (S.shown self.old.store) (S.shown self.new.store) self.new.opens }
     {
         self.database.sweep();
     }
