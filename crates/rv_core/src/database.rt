@@ -10,7 +10,7 @@ ghost use Rattle.rv_core.specs.Core.{horizon_of};
 ghost use Rattle.rv_core.specs.Db.{open_named};
 ghost use Rattle.rv_core.specs.Doing.{Does, Fetches, PartIs, Shows, StepsOn};
 ghost use Rattle.rv_core.specs.Obeying.{AnyOf, FetchOf, MovesNamed, OpensPlan, SeesSame, StepsTold, TellsPlan, TurnOf, closed_in, ended_by, plans_of, under};
-ghost use Rattle.rv_core.specs.Pieces.{GivesTo, TakesNext, TriesNext, next_waiting, numbered};
+ghost use Rattle.rv_core.specs.Pieces.{GivesTo, KeepsSettled, TakesNext, TriesNext, next_waiting, numbered};
 ghost use Rattle.rv_lang.specs.declared.reply.Refusal.{Refusal as TheRefusal};
 ghost use Rattle.rv_lang.specs.declared.reply.Reply.TheVariants.{Opened, Refused};
 
@@ -455,6 +455,7 @@ impl<S: Store + Reader<Ledger = Uncounted> + Drop> Database<S> {
     }
 
     /// Gives a sieved piece to the open cursor from which it was taken. It is stale where that is closed.
+    #[tactic(auto, using(crate::proofs::Shorts::keeps_itself))]
     pub fn give_piece<L: Drop>(
         &mut self,
         sieved: Sieved,
@@ -462,6 +463,7 @@ impl<S: Store + Reader<Ledger = Uncounted> + Drop> Database<S> {
         steps: &mut Steps<L>,
     ) -> Result<Given, NoMemory>
         ensures given { IfOk result (λ g. GivesTo (numbered sieved.id.cursor self.old.opens) (would judge.old) (state judge.old) (state judge.new) self.old.opens sieved g self.new.opens) }
+        ensures settled { KeepsSettled self.old.opens self.new.opens }
         ensures same { self.new ≡ record self.old { opens = self.new.opens } }
         ensures err { OnErr result ((self.new.opens ≡ self.old.opens) × (state judge.new ≡ state judge.old)) }
         ensures rules { would judge.new ≡ would judge.old }

@@ -4,7 +4,7 @@ ghost use Rattle.rv_model.specs.Database.{empty};
 ghost use Rattle.rv_model.specs.History.{after};
 ghost use Rattle.rv_core.specs.Core.{Answers, AnswersPart, IsSound, Unanswered, horizon_of};
 ghost use Rattle.rv_core.specs.Obeying.{SeesSame, under};
-ghost use Rattle.rv_core.specs.Pieces.{GivesTo, TakesNext, TriesNext, next_waiting, numbered};
+ghost use Rattle.rv_core.specs.Pieces.{GivesTo, KeepsSettled, TakesNext, TriesNext, next_waiting, numbered};
 
 use crate::database::Database;
 use crate::statements::{answer, answer_step};
@@ -196,6 +196,7 @@ impl<S: Store + Reader<Ledger = Uncounted> + Drop> Engine<S> {
         steps: &mut Steps<L>,
     ) -> Result<Given, NoMemory>
         ensures given { IfOk result (λ g. GivesTo (numbered sieved.id.cursor self.old.opens) (would judge.old) (state judge.old) (state judge.new) self.old.opens sieved g self.new.opens) }
+        ensures settled { KeepsSettled self.old.opens self.new.opens }
         ensures same { self.new ≡ record self.old { opens = self.new.opens } }
         ensures err { OnErr result ((self.new.opens ≡ self.old.opens) × (state judge.new ≡ state judge.old)) }
         ensures rules { would judge.new ≡ would judge.old }

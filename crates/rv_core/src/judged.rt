@@ -4,7 +4,7 @@ ghost use Rattle.rv_model.specs.Database.{empty};
 ghost use Rattle.rv_model.specs.History.{after};
 ghost use Rattle.rv_core.specs.Core.{Answers, AnswersPart, IsSound, Unanswered, horizon_of};
 ghost use Rattle.rv_core.specs.Obeying.{SeesSame, under};
-ghost use Rattle.rv_core.specs.Pieces.{GivesTo, TakesNext, TriesNext, next_waiting, numbered};
+ghost use Rattle.rv_core.specs.Pieces.{GivesTo, KeepsSettled, TakesNext, TriesNext, next_waiting, numbered};
 
 use crate::engine::{Engine, PartOf};
 use rv_jscan::{Given, Sieved, Taken};
@@ -170,6 +170,7 @@ impl<S: Store + Reader<Ledger = Uncounted> + Drop> Core<S> {
         steps: &mut Steps<L>,
     ) -> Result<Given, NoMemory>
         ensures given { IfOk result (λ g. GivesTo (numbered sieved.id.cursor self.old.engine.opens) (would self.old.judge) (state self.old.judge) (state self.new.judge) self.old.engine.opens sieved g self.new.engine.opens) }
+        ensures settled { KeepsSettled self.old.engine.opens self.new.engine.opens }
         ensures same { self.new.engine ≡ record self.old.engine { opens = self.new.engine.opens } }
         ensures err { OnErr result ((self.new.engine.opens ≡ self.old.engine.opens) × (state self.new.judge ≡ state self.old.judge)) }
         ensures rules { would self.new.judge ≡ would self.old.judge }
