@@ -1,5 +1,5 @@
 -- What the calls below a database's methods leave of all that it keeps.
-use Rattle.std.proofs.Common.{◌≡◌, ℕ, ◌+◌, ◌<◌, List, [], ◌∷◌, ◌++◌, ◌==◌, refl, ap, sym, ◌∙◌, subst, arith, Bool, true, false, not, filter, length, remove, Ok, IfSome, Option, Some, None, nat_lt, slice_get}
+use Rattle.std.proofs.Common.{◌≡◌, ℕ, ◌+◌, ◌<◌, List, [], ◌∷◌, ◌++◌, ◌==◌, refl, ap, sym, ◌∙◌, subst, Bool, true, false, not, filter, length, remove, Ok, IfSome, Option, Some, None, nat_lt, slice_get}
 use Rattle.std.specs.List.{AllByRecursion}
 use Rattle.std.proofs.lemmas.List.Quantifiers.{position-Some}
 use Rattle.rv_value.specs.declared.value.Value.{Value}
@@ -29,20 +29,20 @@ use Rattle.rv_model.specs.declared.state.Cursor.{Cursor}
 use Rattle.rv_model.specs.declared.transactions.Transaction.{Transaction}
 use Rattle.rv_model.specs.declared.transactions.Transactions.{Transactions}
 use Rattle.rv_model.specs.Transactions as calls
-use Rattle.rv_model.specs.Transactions.{done, horizon, lowest, no_transaction, no_transactions, transaction_at, transaction_of, with_own, without}
+use Rattle.rv_model.specs.Transactions.{done, horizon, lowest, no_transaction, no_transactions, transaction_at, transaction_of, with_own}
 use Rattle.rv_model.specs.Step.{committed, created, indexed, rolled_back, rows_seen}
 use Rattle.rv_txn.specs.Calls.{finished, rolled_back as undone}
 use Rattle.rv_cursor.specs.declared.cursor.Open.{Open}
 use Rattle.rv_core.specs.Db.{base_of, own_opens, AreListed, IsOpen, IsStanding, IsTied, db_of, seen, stand_of, whole_of}
 use Rattle.rv_core.specs.Doing.{Does, Shows, opening_base}
-use Rattle.rv_core.specs.Obeying.{TellsPlan}
+use Rattle.rv_core.specs.Obeying.{SeesSame, TellsPlan}
 use Rattle.rv_core.proofs.Bases.{base_found}
 use Rattle.rv_core.specs.Storing.{CommitsTo, changed_over}
 use Rattle.rv_restrict.specs.declared.atom.Atom.{Atom}
 use Rattle.rv_core.proofs.Calling.{at_own, commits_does, commits_tied, creates, creates_tied, opening_is, rolls_does, rolls_tied, same_stand}
 use Rattle.rv_core.proofs.Facts.{all_append, all_filter, all_more, all_remove, get_there}
 use Rattle.rv_core.proofs.Indexing.{indexes_does, indexes_tied}
-use Rattle.rv_core.proofs.Keeping.{Kept, SameBases, all_seen, begun_bases, kept_committed, kept_same, kept_swept, none_open, opens_over, opens_stay, others_bases, same_bases, with_bases}
+use Rattle.rv_core.proofs.Keeping.{Kept, SameBases, all_seen, begun_bases, kept_committed, kept_same, kept_swept, none_open, opens_over, opens_stay, others_bases, same_bases, sees_kept, sees_none, with_bases}
 use Rattle.rv_core.proofs.Numbering.{listed_filter, listed_push, listed_remove, none_listed}
 use Rattle.rv_core.proofs.Opens.{all_get, at_seen, others_seen}
 use Rattle.rv_core.proofs.Standing.{begun_is, finished_is, inserted_is, rolled_is, stand_swept, tied_began, tied_inserted, calls_made, changed_is, fresh_tied}
@@ -72,7 +72,13 @@ stand_again old new schema left txns cs n is same h =
     let again = all_seen old new schema txns txns cs (kept_same old new same) h.tied after (same_bases txns.active cs) h.opens in
     rw again (same_stand old new schema left txns (seen old cs) is same h.tied)
 
+pub sees_again : (old new : Shown) (schema : Schema) (txns : Transactions) (cs : List Open) (n : ℕ) → IsSame old new → IsStanding old schema txns cs n → SeesSame old new cs
+sees_again old new schema txns cs n same h = sees_kept old new schema schema txns txns cs (kept_same old new same) h.tied (tied_same old new schema txns same h.tied) (same_bases txns.active cs) h.opens
+
 -- Where no transaction is active no cursor is open.
+
+pub idle_sees : (old new : Shown) (schema : Schema) (txns : Transactions) (cs : List Open) (n : ℕ) → lowest txns.active ≡ None → IsStanding old schema txns cs n → SeesSame old new cs
+idle_sees old new schema txns cs n idle h = sees_none old new cs (none_open old schema txns.active cs (none_lowest txns.active idle) h.opens)
 
 idle_opens : (old new : Shown) (schema left : Schema) (active : List Transaction) (cs : List Open) → lowest active ≡ None → AllByRecursion (IsOpen old schema active) cs → AllByRecursion (IsOpen new left active) cs
 idle_opens old new schema left active cs idle h =
@@ -176,6 +182,13 @@ commits_standing old new schema txns left cs kept n session k base c changes did
       listed = listed_filter (λ (c : Open). not (c.session == session)) n cs h.listed;
     }
 
+pub commits_sees : (old new : Shown) (schema : Schema) (txns left : Transactions) (cs kept : List Open) (n session k base c : ℕ) (changes : List Change) → finished txns session ≡ Ok (k, base, changes) → CommitsTo old new base changes c → IfSome (transaction_of txns.active session) (λ own. left ≡ done txns own c) → kept ≡ filter (λ (c : Open). not (c.session == session)) cs → IsStanding old schema txns cs n → SeesSame old new kept
+commits_sees old new schema txns left cs kept n session k base c changes did told is same h =
+    let after = commits_tied old new schema txns left session k base c changes h.tied did told is in
+    let own = commit_own txns left session k base c changes did is in
+    let bases = gone_bases txns left own.0 session cs own.2 own.1 in
+    rw same (sees_kept old new schema schema txns left (others cs session) (commits_kept old new base c changes told) h.tied after bases (all_filter (IsOpen old schema txns.active) (λ (c : Open). not (c.session == session)) cs h.opens))
+
 pub commits_all : (old new : Shown) (schema : Schema) (txns left : Transactions) (cs kept : List Open) (n session k base c : ℕ) (changes : List Change) → finished txns session ≡ Ok (k, base, changes) → CommitsTo old new base changes c → IfSome (transaction_of txns.active session) (λ own. left ≡ done txns own c) → kept ≡ filter (λ (c : Open). not (c.session == session)) cs → IsStanding old schema txns cs n
     → Does (committed (db_of old schema txns (seen old cs)) session) (stand_of old schema txns (seen old cs)) (Committed c, Committed c) (stand_of new schema left (seen new kept))
 commits_all old new schema txns left cs kept n session k base c changes did told is same h =
@@ -235,6 +248,9 @@ sweeps_all old new schema txns cs n newest low is at swept h =
     let after = tied_swept old new schema txns newest low is at swept h.tied in
     let again = all_seen old new schema txns txns cs (kept_swept old new low swept) h.tied after (same_bases txns.active cs) h.opens in
     rw again (stand_swept old new schema txns (seen old cs) newest low is at h.tied swept)
+
+pub sweeps_sees : (old new : Shown) (schema : Schema) (txns : Transactions) (cs : List Open) (n newest low : ℕ) → newest ≡ old.newest → low ≡ horizon txns.active newest → Swept old new low → IsStanding old schema txns cs n → SeesSame old new cs
+sweeps_sees old new schema txns cs n newest low is at swept h = sees_kept old new schema schema txns txns cs (kept_swept old new low swept) h.tied (tied_swept old new schema txns newest low is at swept h.tied) (same_bases txns.active cs) h.opens
 
 -- Calls on the plan of one cursor.
 

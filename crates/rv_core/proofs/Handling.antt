@@ -1,5 +1,5 @@
 -- What calls do to the plans of open cursors, by what they ask.
-use Rattle.std.proofs.Common.{◌≡◌, ℕ, zero, suc, ◌+◌, ◌==◌, ◌&&◌, ◌<◌, [], ◌∷◌, List, Bool, true, false, Option, Some, None, IsSome, Result, Ok, Err, IfOk, OnOk, OnErr, refl, ap, sym, ◌∙◌, subst, arith, length, position, bytes_eq, slice_get, slice_set}
+use Rattle.std.proofs.Common.{◌≡◌, ℕ, zero, suc, ◌==◌, ◌&&◌, ◌<◌, [], ◌∷◌, List, Bool, false, Option, Some, None, Result, Ok, Err, IfOk, OnErr, refl, ap, sym, ◌∙◌, subst, length, position, bytes_eq, slice_get, slice_set}
 use Rattle.std.proofs.lemmas.List.Quantifiers.{position-Some}
 use Rattle.rv_judge.specs.declared.judging.Facts.{Facts}
 use Rattle.rv_judge.specs.Verdicts.{Ruling}
@@ -15,12 +15,10 @@ use Rattle.rv_model.specs.declared.state.State.{State}
 use Rattle.rv_model.specs.Database.{cursor_named}
 use Rattle.rv_model.specs.Step.{understood}
 use Rattle.rv_cursor.specs.declared.cursor.Open.{Open}
-use Rattle.rv_cursor.specs.Left.{SameCursor, seen_by}
-use Rattle.rv_cursor.specs.Moves.{Moves, Ruled, ruled}
 use Rattle.rv_join.specs.Plans.{Planned}
-use Rattle.rv_core.specs.Db.{Stand, Whole, open_named, whole_of}
+use Rattle.rv_core.specs.Db.{Stand, Whole, open_named}
 use Rattle.rv_core.specs.Doing.{DoesAsked, Executes, Fetches, PartIs, parted}
-use Rattle.rv_core.specs.Obeying.{AnyOf, FetchOf, Handles, HandlesText, Leaves, LeavesText, MovesAt, MovesNamed, Plans, TurnOf, Turns, TurnsText, Under, Works, WorksText, is_fetch, plans_of}
+use Rattle.rv_core.specs.Obeying.{AnyOf, Handles, HandlesText, Leaves, LeavesText, MovesNamed, Plans, Turns, TurnsText, Under, Works, WorksText, is_fetch, plans_of}
 use Rattle.rv_core.proofs.Facts.{get_there}
 
 -- Results.

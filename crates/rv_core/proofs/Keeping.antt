@@ -17,8 +17,9 @@ use Rattle.rv_join.specs.Asking.{item_at}
 use Rattle.rv_join.specs.Order.{IsLeastOf}
 use Rattle.rv_join.specs.Plans.{PlanFits, plan_rest}
 use Rattle.rv_cursor.specs.declared.cursor.Open.{Open}
-use Rattle.rv_cursor.specs.Left.{CursorFits, in_hand}
+use Rattle.rv_cursor.specs.Left.{CursorFits, in_hand, seen_by}
 use Rattle.rv_core.specs.Db.{IsOpen, IsTied, base_of, seen, seen_of}
+use Rattle.rv_core.specs.Obeying.{SeesSame}
 use Rattle.rv_core.proofs.Bases.{base_known, base_pushed, base_with, base_without}
 
 fits_stay : (old new : Shown) (c : Open) → alone new c.snap ≡ alone old c.snap → CursorFits old c → CursorFits new c
@@ -122,3 +123,36 @@ others_bases active own session (c ∷ cs) here =
       ]
       | inr k ↦ k.0
     ]
+
+-- What the open cursors see.
+
+pub sees_itself : (shown : Shown) (cs : List Open) → SeesSame shown shown cs
+sees_itself shown cs = record { each = each cs }
+  where
+    each : (ds : List Open) → AllByRecursion (λ (c : Open). seen_by shown c ≡ seen_by shown c) ds
+    each [] = tt
+    each (d ∷ ds) = (refl, each ds)
+
+pub sees_same : (old new : Shown) (cs : List Open) → new ≡ old → SeesSame old new cs
+sees_same old new cs same = rw same (sees_itself old cs)
+
+pub sees_on : (a b c : Shown) (cs : List Open) → SeesSame a b cs → SeesSame b c cs → SeesSame a c cs
+sees_on a b c cs first then = record { each = each cs first.each then.each }
+  where
+    each : (ds : List Open) → AllByRecursion (λ (d : Open). seen_by b d ≡ seen_by a d) ds → AllByRecursion (λ (d : Open). seen_by c d ≡ seen_by b d) ds → AllByRecursion (λ (d : Open). seen_by c d ≡ seen_by a d) ds
+    each [] f t = tt
+    each (d ∷ ds) f t = (t.0 ∙ f.0, each ds f.1 t.1)
+
+-- one call after another, the second of which leaves the cursors
+pub sees_then : (a b c : Shown) (cs ds : List Open) → SeesSame a b cs → SeesSame b c ds → ds ≡ cs → SeesSame a c ds
+sees_then a b c cs ds first then same = sees_on a b c ds (subst (SeesSame a b) (sym same) first) then
+
+pub sees_none : (old new : Shown) (cs : List Open) → cs ≡ [] → SeesSame old new cs
+sees_none old new cs none = rw none (record { each = tt })
+
+pub sees_kept : (old new : Shown) (schema later : Schema) (was is : Transactions) (cs : List Open) → Kept old new → IsTied old schema was → IsTied new later is → SameBases was.active is.active cs → AllByRecursion (IsOpen old schema was.active) cs → SeesSame old new cs
+sees_kept old new schema later was is cs kept before after same h = record { each = each cs same h }
+  where
+    each : (ds : List Open) → SameBases was.active is.active ds → AllByRecursion (IsOpen old schema was.active) ds → AllByRecursion (λ (d : Open). seen_by new d ≡ seen_by old d) ds
+    each [] s o = tt
+    each (d ∷ ds) s o = (snapshot_same old new schema later was is d kept before after s.0 o.0, each ds s.1 o.1)

@@ -15,6 +15,7 @@ pub mod Keeping
 pub mod Numbering
 pub mod Numbers
 pub mod Offering
+pub mod Shorts
 pub mod Showing
 pub mod Soundness
 pub mod Standing

@@ -30,6 +30,10 @@ IsSound-Answers u judge ruled old new session text reply sound a =
       numbers = let n = length-append old.history (e ∷ []) in rw a.gained (omega (arith, n, a.numbers, sound.numbers));
     }
 
+-- a sweep leaves the cursors
+pub opens_swept : {S : Type 0} (d e : Whole S) → e ≡ record d { store = e.store; stand = record d.stand { horizon = horizon_of d.stand.db } } → e.opens ≡ d.opens
+opens_swept d e swept = rw swept refl
+
 -- what a call owes, from what is done below it
 pub answered : {S : Type 0} (u : Under) (judge ruled : ℕ) (w d e : Whole S) (history more : List Entry) (phase session : ℕ) (text copy : List ℕ) (reply kept : Reply) → 1 ≤ session → session ≤ 8 → more ≡ history ++ entry session phase copy kept ∷ [] → copy ≡ text → Executes w.stand session (statement_of text) (reply, kept) d.stand → HandlesText u (statement_of text) w.stand.db session reply (plans_of w judge) (plans_of d ruled) → d.opened ≤ w.opened + 1 → e ≡ record d { store = e.store; stand = record d.stand { horizon = horizon_of d.stand.db } }
     → Answers u judge ruled (shown_of history phase w) (shown_of more phase e) session text reply

@@ -4,3 +4,4 @@ pub mod Doing
 pub mod Obeying
 pub mod Pieces
 pub mod Storing
+pub mod Short

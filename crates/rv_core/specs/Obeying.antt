@@ -47,6 +47,11 @@ pub record Plans : Type 0 where
 abbrev pub plans_of : {S : Type 0} → Whole S → ℕ → Plans
 plans_of w judge = record { opens = w.opens; opened = w.opened; judge = judge }
 
+-- WHAT THE OPEN CURSORS SEE STAYS: at the snapshot of each the store shows the rows, pages, entries, cuts and estimates that it
+-- showed before
+pub record SeesSame (old new : Shown) (opens : List Open) : Type 0 where
+  pub each : AllByRecursion (λ (c : Open). seen_by new c ≡ seen_by old c) opens
+
 -- the plan of the cursor in a place moved in some way, and no other
 pub record MovesAt (way : Open → Shown → Ruled → Ruled → Type 0) (shown : Shown) (place judge ruled_to : ℕ) (old new : List Open) : Type 0 where
   pub before : Open

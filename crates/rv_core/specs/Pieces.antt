@@ -11,7 +11,10 @@ use Rattle.rv_jscan.specs.declared.jscan.Taken.TheVariants.{Nothing}
 use Rattle.rv_jscan.specs.Pieces.{Pieced}
 use Rattle.rv_retrieval.specs.Given.{TakesPiece}
 use Rattle.rv_retrieval.specs.Rulings.{GivesOn}
+use Rattle.rv_retrieval.specs.Short.{Settled}
+use Rattle.rv_retrieval.specs.Stepping.{piece_read}
 use Rattle.rv_retrieval.specs.Telling.{CountsRise, SameCounts}
+use Rattle.rv_join.specs.Alone.{IsAlone, TakesOnce}
 use Rattle.rv_join.specs.Pieces.{CountsPiece, GivesPiece, TakesAwaited, plan_awaited, plan_pieces, waited, waiting}
 use Rattle.rv_join.specs.Plans.{PlanStays, plan_trace}
 use Rattle.rv_cursor.specs.declared.cursor.Open.{Open}
@@ -35,15 +38,17 @@ pub record CallsOne (place : ℕ) (old new : List Open) (c d : Open) : Type 0 wh
   pub called : new ≡ slice_set old place d
   pub same : d ≡ record c { plan = d.plan }
 
--- A TAKE from the cursor in a place, whatever it answers: the same piece is awaited, none is counted, and what was read is
--- counted in the trace
+-- A TAKE from the cursor in a place, whatever it answers: the same piece is awaited, none is counted, and its leaf, which is read
+-- where it is not held, is counted in the trace. Over one FROM item nothing is read where the background is over.
 pub record TriesAt (shown : Shown) (place : ℕ) (before after : Counts) (old new : List Open) : Type 0 where
   pub cursor : Open
   pub left : Open
   pub calls : CallsOne place old new cursor left
   pub awaited : plan_awaited left.plan ≡ plan_awaited cursor.plan
   pub pieces : plan_pieces left.plan ≡ plan_pieces cursor.plan
+  pub reads : after ≡ piece_read (waiting cursor.plan) before
   pub counts : CountsRise (plan_trace cursor.plan) (plan_trace left.plan) before after
+  pub once : IsAlone cursor.plan → TakesOnce (seen_by shown cursor) before after cursor.plan.stack.at left.plan.stack.at
   pub stays : PlanStays (seen_by shown cursor) cursor.plan left.plan
 
 -- the piece that it answers is the one that was awaited before the call, and that may now be given
@@ -80,3 +85,7 @@ pub record GivesAt (would : ℕ → Facts → Ruling) (state after : ℕ) (place
 abbrev pub GivesTo : Option ℕ → (ℕ → Facts → Ruling) → ℕ → ℕ → List Open → Pieced → Given → List Open → Type 0
 GivesTo None would state after old piece given new = (given ≡ Stale piece.id None) × (new ≡ old) × (after ≡ state)
 GivesTo (Some place) would state after old piece given new = GivesAt would state after place old piece given new
+
+-- Over one FROM item a plan whose background is over awaits no piece: whatever is given, its cursor is left as it is.
+pub record KeepsSettled (old new : List Open) : Type 0 where
+  pub each : (place : ℕ) (c d : Open) → slice_get old place ≡ Some c → slice_get new place ≡ Some d → IsAlone c.plan → Settled c.plan.stack.at.here → d ≡ c

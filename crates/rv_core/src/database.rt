@@ -9,8 +9,8 @@ ghost use Rattle.rv_model.specs.Transactions.{transaction_of};
 ghost use Rattle.rv_core.specs.Core.{horizon_of};
 ghost use Rattle.rv_core.specs.Db.{open_named};
 ghost use Rattle.rv_core.specs.Doing.{Does, Fetches, PartIs, Shows, StepsOn};
-ghost use Rattle.rv_core.specs.Obeying.{AnyOf, FetchOf, MovesNamed, OpensPlan, StepsTold, TellsPlan, TurnOf, closed_in, ended_by, plans_of, under};
-ghost use Rattle.rv_core.specs.Pieces.{GivesTo, TakesNext, TriesNext, next_waiting, numbered};
+ghost use Rattle.rv_core.specs.Obeying.{AnyOf, FetchOf, MovesNamed, OpensPlan, SeesSame, StepsTold, TellsPlan, TurnOf, closed_in, ended_by, plans_of, under};
+ghost use Rattle.rv_core.specs.Pieces.{GivesTo, KeepsSettled, TakesNext, TriesNext, next_waiting, numbered};
 ghost use Rattle.rv_lang.specs.declared.reply.Refusal.{Refusal as TheRefusal};
 ghost use Rattle.rv_lang.specs.declared.reply.Reply.TheVariants.{Opened, Refused};
 
@@ -108,8 +108,10 @@ impl<S: Store + Reader<Ledger = Uncounted> + Drop> Database<S> {
     }
 
     /// CREATE TABLE.
+    #[tactic(auto, using(crate::proofs::Keeping::sees_same))]
     pub fn create(&mut self, def: TableDef) -> Result<(Reply, Reply), NoMemory>
         requires { IsNewTable self.old.stand.db.schema def }
+        ensures sees { SeesSame (S.shown self.old.store) (S.shown self.new.store) self.new.opens }
         ensures ok { IfOk result (λ replies. Does (created self.old.stand.db def) self.old.stand replies self.new.stand) }
         ensures err { OnErr result (self.new.stand ≡ self.old.stand) }
         ensures opened { self.new.opened ≡ self.old.opened }
@@ -129,10 +131,12 @@ impl<S: Store + Reader<Ledger = Uncounted> + Drop> Database<S> {
     }
 
     /// CREATE INDEX.
+    #[tactic(auto, using(crate::proofs::Keeping::sees_same))]
     pub fn create_index(&mut self, def: IndexDef) -> Result<(Reply, Reply), NoMemory>
         requires new { IsNewIndex self.old.stand.db.schema def }
         requires some { 1 ≤ length def.columns }
         requires swept { self.old.stand.horizon ≡ horizon_of self.old.stand.db }
+        ensures sees { SeesSame (S.shown self.old.store) (S.shown self.new.store) self.new.opens }
         ensures ok { IfOk result (λ replies. Does (indexed self.old.stand.db def) self.old.stand replies self.new.stand) }
         ensures err { OnErr result (self.new.stand ≡ self.old.stand) }
         ensures opened { self.new.opened ≡ self.old.opened }
@@ -152,8 +156,10 @@ impl<S: Store + Reader<Ledger = Uncounted> + Drop> Database<S> {
     }
 
     /// BEGIN.
+    #[tactic(auto, using(crate::proofs::Keeping::sees_same))]
     pub fn begin(&mut self, session: u8, read_only: bool) -> Result<(Reply, Reply), NoMemory>
         requires { HasRoom self.old.stand.db }
+        ensures sees { SeesSame (S.shown self.old.store) (S.shown self.new.store) self.new.opens }
         ensures ok { IfOk result (λ replies. Does (began self.old.stand.db session read_only) self.old.stand replies self.new.stand) }
         ensures err { OnErr result (self.new.stand ≡ self.old.stand) }
         ensures opened { self.new.opened ≡ self.old.opened }
@@ -169,6 +175,7 @@ impl<S: Store + Reader<Ledger = Uncounted> + Drop> Database<S> {
     }
 
     /// INSERT.
+    #[tactic(auto, using(crate::proofs::Keeping::sees_same))]
     pub fn insert(
         &mut self,
         session: u8,
@@ -176,6 +183,7 @@ impl<S: Store + Reader<Ledger = Uncounted> + Drop> Database<S> {
         values: Values,
     ) -> Result<(Reply, Reply), NoMemory>
         requires { IsRowOf self.old.stand.db.schema table values }
+        ensures sees { SeesSame (S.shown self.old.store) (S.shown self.new.store) self.new.opens }
         ensures ok { IfOk result (λ replies. Does (inserted self.old.stand.db session table values) self.old.stand replies self.new.stand) }
         ensures err { OnErr result (self.new.stand ≡ self.old.stand) }
         ensures opened { self.new.opened ≡ self.old.opened }
@@ -190,6 +198,7 @@ impl<S: Store + Reader<Ledger = Uncounted> + Drop> Database<S> {
     }
 
     /// UPDATE, which sets columns, and DELETE, which sets none.
+    #[tactic(auto, using(crate::proofs::Keeping::sees_same))]
     pub fn change(
         &mut self,
         session: u8,
@@ -199,6 +208,7 @@ impl<S: Store + Reader<Ledger = Uncounted> + Drop> Database<S> {
     ) -> Result<(Reply, Reply), NoMemory>
         requires there { table < length self.old.stand.db.schema.tables }
         requires over { is_over_table self.old.stand.db.schema.tables table only.now ≡ true }
+        ensures sees { SeesSame (S.shown self.old.store) (S.shown self.new.store) self.new.opens }
         ensures ok { IfOk result (λ replies. Does (changed self.old.stand.db session table (option_copied sets.entry) only.now) self.old.stand replies self.new.stand) }
         ensures err { OnErr result (self.new.stand ≡ self.old.stand) }
         ensures opened { self.new.opened ≡ self.old.opened }
@@ -221,8 +231,10 @@ impl<S: Store + Reader<Ledger = Uncounted> + Drop> Database<S> {
     }
 
     /// COMMIT.
+    #[tactic(auto, using(crate::proofs::Keeping::sees_same))]
     pub fn commit(&mut self, session: u8) -> Result<(Reply, Reply), NoMemory>
         requires { HasRoom self.old.stand.db }
+        ensures sees { SeesSame (S.shown self.old.store) (S.shown self.new.store) self.new.opens }
         ensures ok { IfOk result (λ replies. Does (committed self.old.stand.db session) self.old.stand replies self.new.stand) }
         ensures err { OnErr result (self.new.stand ≡ self.old.stand) }
         ensures opened { self.new.opened ≡ self.old.opened }
@@ -244,7 +256,9 @@ impl<S: Store + Reader<Ledger = Uncounted> + Drop> Database<S> {
     }
 
     /// ROLLBACK.
+    #[tactic(auto, using(crate::proofs::Keeping::sees_same))]
     pub fn rollback(&mut self, session: u8) -> Result<(Reply, Reply), NoMemory>
+        ensures sees { SeesSame (S.shown self.old.store) (S.shown self.new.store) self.new.opens }
         ensures ok { IfOk result (λ replies. Does (rolled_back self.old.stand.db session) self.old.stand replies self.new.stand) }
         ensures err { OnErr result (self.new.stand ≡ self.old.stand) }
         ensures opened { self.new.opened ≡ self.old.opened }
@@ -259,7 +273,7 @@ impl<S: Store + Reader<Ledger = Uncounted> + Drop> Database<S> {
     }
 
     /// OPEN.
-    #[tactic(auto, using(crate::proofs::Calling::opens_err))]
+    #[tactic(auto, using(crate::proofs::Calling::opens_err, crate::proofs::Keeping::sees_same))]
     pub fn open(
         &mut self,
         session: u8,
@@ -269,6 +283,7 @@ impl<S: Store + Reader<Ledger = Uncounted> + Drop> Database<S> {
         requires some { 1 ≤ length select.now.tables }
         requires query { IsQueryOf self.old.stand.db.schema select.now }
         requires numbers { self.old.opened < 2 ^ 64 - 1 }
+        ensures sees { SeesSame (S.shown self.old.store) (S.shown self.new.store) self.new.opens }
         ensures ok { IfOk result (λ replies. Does (opened self.old.stand.db session name select.now) self.old.stand replies self.new.stand) }
         ensures err { OnErr result (self.new.stand ≡ self.old.stand) }
         ensures adds { (judge : ℕ) → IfOk result (λ replies. replies.0 ≡ Opened → OpensPlan (S.shown self.old.store) select.now self.old.stand.db session name (plans_of self.old judge) (plans_of self.new judge)) }
@@ -312,6 +327,7 @@ impl<S: Store + Reader<Ledger = Uncounted> + Drop> Database<S> {
     }
 
     /// FETCH. Each step of the cursor's plan is followed by up to `beside` background steps.
+    #[tactic(auto, using(crate::proofs::Keeping::sees_same))]
     pub fn fetch(
         &mut self,
         session: u8,
@@ -319,6 +335,7 @@ impl<S: Store + Reader<Ledger = Uncounted> + Drop> Database<S> {
         judge: &mut Box<dyn Judge>,
         beside: u8,
     ) -> Result<(Reply, Reply), NoMemory>
+        ensures sees { SeesSame (S.shown self.old.store) (S.shown self.new.store) self.new.opens }
         ensures ok { IfOk result (λ replies. Fetches self.old.stand session name replies self.new.stand) }
         ensures err { OnErr result (self.new.stand ≡ self.old.stand) }
         ensures opened { self.new.opened ≡ self.old.opened }
@@ -345,6 +362,7 @@ impl<S: Store + Reader<Ledger = Uncounted> + Drop> Database<S> {
     }
 
     /// One turn's part of a FETCH: one step of the cursor's plan at most, with the background steps behind it.
+    #[tactic(auto, using(crate::proofs::Keeping::sees_same))]
     pub fn fetch_step(
         &mut self,
         session: u8,
@@ -352,6 +370,7 @@ impl<S: Store + Reader<Ledger = Uncounted> + Drop> Database<S> {
         judge: &mut Box<dyn Judge>,
         beside: u8,
     ) -> Result<Option<(Reply, Reply)>, NoMemory>
+        ensures sees { SeesSame (S.shown self.old.store) (S.shown self.new.store) self.new.opens }
         ensures ok { IfOk result (PartIs (λ replies. Fetches self.old.stand session name replies self.new.stand) (self.new ≡ record self.old { opens = self.new.opens })) }
         ensures err { OnErr result (self.new.stand ≡ self.old.stand) }
         ensures opened { self.new.opened ≡ self.old.opened }
@@ -378,6 +397,7 @@ impl<S: Store + Reader<Ledger = Uncounted> + Drop> Database<S> {
     }
 
     /// STEP: so many background steps at most.
+    #[tactic(auto, using(crate::proofs::Keeping::sees_same))]
     pub fn step(
         &mut self,
         session: u8,
@@ -385,6 +405,7 @@ impl<S: Store + Reader<Ledger = Uncounted> + Drop> Database<S> {
         most: u64,
         judge: &mut Box<dyn Judge>,
     ) -> Result<(Reply, Reply), NoMemory>
+        ensures sees { SeesSame (S.shown self.old.store) (S.shown self.new.store) self.new.opens }
         ensures ok { IfOk result (λ replies. StepsOn self.old.stand session name most replies self.new.stand) }
         ensures err { OnErr result (self.new.stand ≡ self.old.stand) }
         ensures opened { self.new.opened ≡ self.old.opened }
@@ -434,6 +455,7 @@ impl<S: Store + Reader<Ledger = Uncounted> + Drop> Database<S> {
     }
 
     /// Gives a sieved piece to the open cursor from which it was taken. It is stale where that is closed.
+    #[tactic(auto, using(crate::proofs::Shorts::keeps_itself))]
     pub fn give_piece<L: Drop>(
         &mut self,
         sieved: Sieved,
@@ -441,6 +463,7 @@ impl<S: Store + Reader<Ledger = Uncounted> + Drop> Database<S> {
         steps: &mut Steps<L>,
     ) -> Result<Given, NoMemory>
         ensures given { IfOk result (λ g. GivesTo (numbered sieved.id.cursor self.old.opens) (would judge.old) (state judge.old) (state judge.new) self.old.opens sieved g self.new.opens) }
+        ensures settled { KeepsSettled self.old.opens self.new.opens }
         ensures same { self.new ≡ record self.old { opens = self.new.opens } }
         ensures err { OnErr result ((self.new.opens ≡ self.old.opens) × (state judge.new ≡ state judge.old)) }
         ensures rules { would judge.new ≡ would judge.old }
@@ -457,8 +480,9 @@ impl<S: Store + Reader<Ledger = Uncounted> + Drop> Database<S> {
     }
 
     /// CLOSE.
-    #[tactic(auto, using(crate::proofs::Opens::removed_seen))]
+    #[tactic(auto, using(crate::proofs::Opens::removed_seen, crate::proofs::Keeping::sees_same))]
     pub fn close(&mut self, session: u8, name: Text) -> Result<(Reply, Reply), NoMemory>
+        ensures sees { SeesSame (S.shown self.old.store) (S.shown self.new.store) self.new.opens }
         ensures ok { IfOk result (λ replies. Does (closed self.old.stand.db session name) self.old.stand replies self.new.stand) }
         ensures err { OnErr result (self.new.stand ≡ self.old.stand) }
         ensures opened { self.new.opened ≡ self.old.opened }
@@ -475,7 +499,8 @@ impl<S: Store + Reader<Ledger = Uncounted> + Drop> Database<S> {
 
     /// Takes away what no transaction needs of the store, a part at a time. It takes no memory.
     pub fn sweep(&mut self)
-        ensures { self.new ≡ record self.old { store = self.new.store; stand = record self.old.stand { horizon = horizon_of self.old.stand.db } } }
+        ensures same { self.new ≡ record self.old { store = self.new.store; stand = record self.old.stand { horizon = horizon_of self.old.stand.db } } }
+        ensures sees { SeesSame (S.shown self.old.store) (S.shown self.new.store) self.new.opens }
     {
         let last = self.store.last();
         let horizon = self.txns.horizon(last);

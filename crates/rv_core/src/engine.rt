@@ -3,8 +3,8 @@ ghost use Rattle.std.specs.Prelude.{◌≡◌, ◌+◌, ◌-◌, ◌<◌, ◌≤
 ghost use Rattle.rv_model.specs.Database.{empty};
 ghost use Rattle.rv_model.specs.History.{after};
 ghost use Rattle.rv_core.specs.Core.{Answers, AnswersPart, IsSound, Unanswered, horizon_of};
-ghost use Rattle.rv_core.specs.Obeying.{under};
-ghost use Rattle.rv_core.specs.Pieces.{GivesTo, TakesNext, TriesNext, next_waiting, numbered};
+ghost use Rattle.rv_core.specs.Obeying.{SeesSame, under};
+ghost use Rattle.rv_core.specs.Pieces.{GivesTo, KeepsSettled, TakesNext, TriesNext, next_waiting, numbered};
 
 use crate::database::Database;
 use crate::statements::{answer, answer_step};
@@ -96,6 +96,7 @@ impl<S: Store + Reader<Ledger = Uncounted> + Drop> Engine<S> {
     /// Makes a session's call under a judge, with up to `beside` background steps beside each foreground step of a
     /// FETCH: the reply is given and written to the history with the text. On `NoMemory` nothing is changed but how far
     /// the plans of cursors have come.
+    #[tactic(auto, using(crate::proofs::Keeping::sees_same))]
     pub fn call(
         &mut self,
         session: u8,
@@ -109,6 +110,7 @@ impl<S: Store + Reader<Ledger = Uncounted> + Drop> Engine<S> {
         ensures ok { IfOk result (λ reply. Answers (under (S.shown self.old.store) (would judge.old) beside) (state judge.old) (state judge.new) self.old self.new session text.now reply) }
         ensures err { OnErr result (Unanswered (under (S.shown self.old.store) (would judge.old) beside) (state judge.old) (state judge.new) self.old self.new session text.now) }
         ensures rules { would judge.new ≡ would judge.old }
+        ensures sees { SeesSame (S.shown self.old.store) (S.shown self.new.store) self.new.opens }
         ensures sound { IsSound self.new }
     {
         let copy = Text::read(self.alloc, text)?;
@@ -128,6 +130,7 @@ impl<S: Store + Reader<Ledger = Uncounted> + Drop> Engine<S> {
 
     /// One turn's part of a call: as `call`, but that a FETCH makes one foreground step at most, with the background steps
     /// behind it, and answers `Working` where that step only worked on.
+    #[tactic(auto, using(crate::proofs::Keeping::sees_same))]
     pub fn call_step(
         &mut self,
         session: u8,
@@ -141,6 +144,7 @@ impl<S: Store + Reader<Ledger = Uncounted> + Drop> Engine<S> {
         ensures ok { IfOk result (λ part. AnswersPart (under (S.shown self.old.store) (would judge.old) beside) (state judge.old) (state judge.new) self.old self.new session text.now part) }
         ensures err { OnErr result (Unanswered (under (S.shown self.old.store) (would judge.old) beside) (state judge.old) (state judge.new) self.old self.new session text.now) }
         ensures rules { would judge.new ≡ would judge.old }
+        ensures sees { SeesSame (S.shown self.old.store) (S.shown self.new.store) self.new.opens }
         ensures sound { IsSound self.new }
     {
         let copy = Text::read(self.alloc, text)?;
@@ -192,6 +196,7 @@ impl<S: Store + Reader<Ledger = Uncounted> + Drop> Engine<S> {
         steps: &mut Steps<L>,
     ) -> Result<Given, NoMemory>
         ensures given { IfOk result (λ g. GivesTo (numbered sieved.id.cursor self.old.opens) (would judge.old) (state judge.old) (state judge.new) self.old.opens sieved g self.new.opens) }
+        ensures settled { KeepsSettled self.old.opens self.new.opens }
         ensures same { self.new ≡ record self.old { opens = self.new.opens } }
         ensures err { OnErr result ((self.new.opens ≡ self.old.opens) × (state judge.new ≡ state judge.old)) }
         ensures rules { would judge.new ≡ would judge.old }
@@ -202,7 +207,8 @@ impl<S: Store + Reader<Ledger = Uncounted> + Drop> Engine<S> {
 
     /// Takes away what no transaction needs of the store, a part at a time, as each answered call does too.
     pub fn sweep_step(&mut self)
-        ensures { self.new ≡ record self.old { store = self.new.store; horizon = horizon_of self.old.db } }
+        ensures same { self.new ≡ record self.old { store = self.new.store; horizon = horizon_of self.old.db } }
+        ensures sees { SeesSame (S.shown self.old.store) (S.shown self.new.store) self.new.opens }
     {
         self.database.sweep();
     }

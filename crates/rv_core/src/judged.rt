@@ -3,8 +3,8 @@ ghost use Rattle.std.specs.Prelude.{◌≡◌, ◌+◌, ◌-◌, ◌<◌, ◌≤
 ghost use Rattle.rv_model.specs.Database.{empty};
 ghost use Rattle.rv_model.specs.History.{after};
 ghost use Rattle.rv_core.specs.Core.{Answers, AnswersPart, IsSound, Unanswered, horizon_of};
-ghost use Rattle.rv_core.specs.Obeying.{under};
-ghost use Rattle.rv_core.specs.Pieces.{GivesTo, TakesNext, TriesNext, next_waiting, numbered};
+ghost use Rattle.rv_core.specs.Obeying.{SeesSame, under};
+ghost use Rattle.rv_core.specs.Pieces.{GivesTo, KeepsSettled, TakesNext, TriesNext, next_waiting, numbered};
 
 use crate::engine::{Engine, PartOf};
 use rv_jscan::{Given, Sieved, Taken};
@@ -121,6 +121,7 @@ impl<S: Store + Reader<Ledger = Uncounted> + Drop> Core<S> {
         ensures ok { IfOk result (λ reply. Answers (under (S.shown self.old.engine.store) (would self.old.judge) self.old.beside) (state self.old.judge) (state self.new.judge) self.old.engine self.new.engine session text.now reply) }
         ensures err { OnErr result (Unanswered (under (S.shown self.old.engine.store) (would self.old.judge) self.old.beside) (state self.old.judge) (state self.new.judge) self.old.engine self.new.engine session text.now) }
         ensures rules { would self.new.judge ≡ would self.old.judge }
+        ensures sees { SeesSame (S.shown self.old.engine.store) (S.shown self.new.engine.store) self.new.engine.opens }
         ensures sound { IsSound self.new.engine }
         ensures beside { self.new.beside ≡ self.old.beside }
     {
@@ -137,6 +138,7 @@ impl<S: Store + Reader<Ledger = Uncounted> + Drop> Core<S> {
         ensures ok { IfOk result (λ part. AnswersPart (under (S.shown self.old.engine.store) (would self.old.judge) self.old.beside) (state self.old.judge) (state self.new.judge) self.old.engine self.new.engine session text.now part) }
         ensures err { OnErr result (Unanswered (under (S.shown self.old.engine.store) (would self.old.judge) self.old.beside) (state self.old.judge) (state self.new.judge) self.old.engine self.new.engine session text.now) }
         ensures rules { would self.new.judge ≡ would self.old.judge }
+        ensures sees { SeesSame (S.shown self.old.engine.store) (S.shown self.new.engine.store) self.new.engine.opens }
         ensures sound { IsSound self.new.engine }
         ensures beside { self.new.beside ≡ self.old.beside }
     {
@@ -168,6 +170,7 @@ impl<S: Store + Reader<Ledger = Uncounted> + Drop> Core<S> {
         steps: &mut Steps<L>,
     ) -> Result<Given, NoMemory>
         ensures given { IfOk result (λ g. GivesTo (numbered sieved.id.cursor self.old.engine.opens) (would self.old.judge) (state self.old.judge) (state self.new.judge) self.old.engine.opens sieved g self.new.engine.opens) }
+        ensures settled { KeepsSettled self.old.engine.opens self.new.engine.opens }
         ensures same { self.new.engine ≡ record self.old.engine { opens = self.new.engine.opens } }
         ensures err { OnErr result ((self.new.engine.opens ≡ self.old.engine.opens) × (state self.new.judge ≡ state self.old.judge)) }
         ensures rules { would self.new.judge ≡ would self.old.judge }
@@ -180,6 +183,7 @@ impl<S: Store + Reader<Ledger = Uncounted> + Drop> Core<S> {
     /// Takes away what no transaction needs of the store, a part at a time, as each answered call does too.
     pub fn sweep_step(&mut self)
         ensures engine { self.new.engine ≡ record self.old.engine { store = self.new.engine.store; horizon = horizon_of self.old.engine.db } }
+        ensures sees { SeesSame (S.shown self.old.engine.store) (S.shown self.new.engine.store) self.new.engine.opens }
         ensures judge { self.new.judge ≡ self.old.judge }
         ensures beside { self.new.beside ≡ self.old.beside }
     {

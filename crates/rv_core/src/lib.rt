@@ -5,6 +5,7 @@ pub mod cursors;
 pub mod database;
 pub mod engine;
 pub mod judged;
+pub mod laws;
 pub mod pieces;
 pub mod replies;
 pub mod statements;

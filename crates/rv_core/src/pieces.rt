@@ -4,13 +4,15 @@ ghost use Rattle.std.specs.List.{AllByRecursion};
 ghost use Rattle.rv_catalog.specs.Schema.{Schema};
 ghost use Rattle.rv_reader.specs.Shown.{Shown};
 ghost use Rattle.rv_retrieval.specs.Given.{TakesPiece};
+ghost use Rattle.rv_retrieval.specs.Stepping.{piece_read};
 ghost use Rattle.rv_retrieval.specs.Telling.{CountsRise};
+ghost use Rattle.rv_join.specs.Alone.{IsAlone, TakesOnce};
 ghost use Rattle.rv_join.specs.Pieces.{TakesAwaited, plan_awaited, plan_pieces, waiting};
 ghost use Rattle.rv_join.specs.Plans.{PlanStays, plan_trace};
 ghost use Rattle.rv_model.specs.declared.transactions.Transaction.{Transaction};
 ghost use Rattle.rv_cursor.specs.Left.{CursorFits, Stays, seen_by};
 ghost use Rattle.rv_core.specs.Db.{AreListed, IsOpen, seen};
-ghost use Rattle.rv_core.specs.Pieces.{GivesTo, TakesNext, TriesNext, is_waiting, next_waiting, numbered};
+ghost use Rattle.rv_core.specs.Pieces.{GivesTo, KeepsSettled, TakesNext, TriesNext, is_waiting, next_waiting, numbered};
 
 use rv_cursor::Open;
 use rv_jscan::{Given, PieceId, Sieved, Taken};
@@ -74,7 +76,9 @@ fn take<R: Reader>(
     ensures ready { IfOk result (TakesPiece (waiting cursor.new.plan)) }
     ensures awaited { plan_awaited cursor.new.plan ≡ plan_awaited cursor.old.plan }
     ensures pieces { plan_pieces cursor.new.plan ≡ plan_pieces cursor.old.plan }
+    ensures reads { steps.new ≡ piece_read (waiting cursor.old.plan) steps.old }
     ensures counts { CountsRise (plan_trace cursor.old.plan) (plan_trace cursor.new.plan) steps.old steps.new }
+    ensures once { IsAlone cursor.old.plan → TakesOnce (seen_by (R.shown reader.now) cursor.old) steps.old steps.new cursor.old.plan.stack.at cursor.new.plan.stack.at }
     ensures kept { PlanStays (seen_by (R.shown reader.now) cursor.old) cursor.old.plan cursor.new.plan }
     ensures same { cursor.new ≡ record cursor.old { plan = cursor.new.plan } }
     ensures stays { Stays (R.shown reader.now) cursor.old cursor.new }
@@ -115,6 +119,7 @@ pub fn give_at<L: Drop>(
 ) -> Result<Given, NoMemory>
     requires place { place < length cursors.old }
     ensures given { IfOk result (λ g. GivesTo (Some place) (would judge.old) (state judge.old) (state judge.new) cursors.old sieved g cursors.new) }
+    ensures settled { (shown : Shown) → AllByRecursion (CursorFits shown) cursors.old → KeepsSettled cursors.old cursors.new }
     ensures err { OnErr result ((cursors.new ≡ cursors.old) × (state judge.new ≡ state judge.old)) }
     ensures rules { would judge.new ≡ would judge.old }
     ensures reads { steps.new ≡ steps.old }

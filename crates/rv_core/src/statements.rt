@@ -8,7 +8,7 @@ ghost use Rattle.rv_model.specs.Standing.{HasRoom};
 ghost use Rattle.rv_model.specs.Step.{understood};
 ghost use Rattle.rv_core.specs.Core.{horizon_of};
 ghost use Rattle.rv_core.specs.Doing.{DoesAsked, Executes, IsWhole, PartIs};
-ghost use Rattle.rv_core.specs.Obeying.{Handles, HandlesText, Leaves, LeavesText, Turns, TurnsText, Works, WorksText, is_fetch, plans_of, under};
+ghost use Rattle.rv_core.specs.Obeying.{Handles, HandlesText, Leaves, LeavesText, SeesSame, Turns, TurnsText, Works, WorksText, is_fetch, plans_of, under};
 ghost use Rattle.rv_catalog.specs.declared.def.Resolved.TheVariants.{Fetch};
 ghost use Rattle.rv_lang.specs.declared.reply.Refusal.{Refusal as TheRefusal};
 ghost use Rattle.rv_lang.specs.declared.reply.Reply.TheVariants.{Refused};
@@ -24,6 +24,7 @@ use rv_value::{NoMemory, Text};
 use std::alloc::Global;
 
 /// The reply to a text, twice, with the step that it makes.
+#[tactic(auto, using(crate::proofs::Keeping::sees_same))]
 pub fn answer<S: Store + Reader<Ledger = Uncounted> + Drop>(
     alloc: Global,
     database: &mut Database<S>,
@@ -36,6 +37,7 @@ pub fn answer<S: Store + Reader<Ledger = Uncounted> + Drop>(
     requires room { HasRoom database.old.stand.db }
     requires numbers { database.old.opened < 2 ^ 64 - 1 }
     requires swept { database.old.stand.horizon ≡ horizon_of database.old.stand.db }
+    ensures sees { SeesSame (S.shown database.old.store) (S.shown database.new.store) database.new.opens }
     ensures ok { IfOk result (λ replies. Executes database.old.stand session (statement_of text.now) replies database.new.stand) }
     ensures handles { IfOk result (λ replies. HandlesText (under (S.shown database.old.store) (would judge.old) beside) (statement_of text.now) database.old.stand.db session replies.0 (plans_of database.old (state judge.old)) (plans_of database.new (state judge.new))) }
     ensures lost { OnErr result (LeavesText (under (S.shown database.old.store) (would judge.old) beside) (statement_of text.now) database.old.stand.db session (plans_of database.old (state judge.old)) (plans_of database.new (state judge.new))) }
@@ -50,6 +52,7 @@ pub fn answer<S: Store + Reader<Ledger = Uncounted> + Drop>(
 
 /// One turn's part of a call: the reply to a text, twice, with the step that it makes, or none where it is a FETCH whose
 /// cursor has worked on.
+#[tactic(auto, using(crate::proofs::Keeping::sees_same))]
 pub fn answer_step<S: Store + Reader<Ledger = Uncounted> + Drop>(
     alloc: Global,
     database: &mut Database<S>,
@@ -62,6 +65,7 @@ pub fn answer_step<S: Store + Reader<Ledger = Uncounted> + Drop>(
     requires room { HasRoom database.old.stand.db }
     requires numbers { database.old.opened < 2 ^ 64 - 1 }
     requires swept { database.old.stand.horizon ≡ horizon_of database.old.stand.db }
+    ensures sees { SeesSame (S.shown database.old.store) (S.shown database.new.store) database.new.opens }
     ensures ok { IfOk result (PartIs (λ replies. Executes database.old.stand session (statement_of text.now) replies database.new.stand) (database.new ≡ record database.old { opens = database.new.opens })) }
     ensures handles { IfOk result (PartIs (λ replies. HandlesText (under (S.shown database.old.store) (would judge.old) beside) (statement_of text.now) database.old.stand.db session replies.0 (plans_of database.old (state judge.old)) (plans_of database.new (state judge.new))) (WorksText (under (S.shown database.old.store) (would judge.old) beside) (statement_of text.now) database.old.stand.db session (plans_of database.old (state judge.old)) (plans_of database.new (state judge.new)))) }
     ensures turn { IfOk result (PartIs (λ replies. TurnsText (under (S.shown database.old.store) (would judge.old) beside) (statement_of text.now) database.old.stand.db session replies.0 (plans_of database.old (state judge.old)) (plans_of database.new (state judge.new))) (Unit {0})) }
@@ -91,6 +95,7 @@ fn fetch_name(asked: Resolved) -> Result<Text, Resolved>
 }
 
 /// One turn's part of what is asked.
+#[tactic(auto, using(crate::proofs::Keeping::sees_same))]
 fn turn<S: Store + Reader<Ledger = Uncounted> + Drop>(
     database: &mut Database<S>,
     session: u8,
@@ -103,6 +108,7 @@ fn turn<S: Store + Reader<Ledger = Uncounted> + Drop>(
     requires swept { database.old.stand.horizon ≡ horizon_of database.old.stand.db }
     requires fits { FitsSchema database.old.stand.db.schema asked }
     requires whole { IsWhole asked }
+    ensures sees { SeesSame (S.shown database.old.store) (S.shown database.new.store) database.new.opens }
     ensures ok { IfOk result (PartIs (λ replies. DoesAsked (Ok asked) database.old.stand session replies database.new.stand) (database.new ≡ record database.old { opens = database.new.opens })) }
     ensures handles { IfOk result (PartIs (λ replies. Handles (under (S.shown database.old.store) (would judge.old) beside) (Ok asked) database.old.stand.db session replies.0 (plans_of database.old (state judge.old)) (plans_of database.new (state judge.new))) (Works (under (S.shown database.old.store) (would judge.old) beside) (Ok asked) session (plans_of database.old (state judge.old)) (plans_of database.new (state judge.new)))) }
     ensures refuses { (refusal : TheRefusal) → IfOk result (PartIs (λ replies. replies.0 ≡ Refused refusal → plans_of database.new (state judge.new) ≡ plans_of database.old (state judge.old)) (Unit {0})) }
@@ -120,6 +126,7 @@ fn turn<S: Store + Reader<Ledger = Uncounted> + Drop>(
 }
 
 /// The reply to a statement, or to a text that is none.
+#[tactic(auto, using(crate::proofs::Keeping::sees_same))]
 fn execute<S: Store + Reader<Ledger = Uncounted> + Drop>(
     alloc: Global,
     database: &mut Database<S>,
@@ -132,6 +139,7 @@ fn execute<S: Store + Reader<Ledger = Uncounted> + Drop>(
     requires room { HasRoom database.old.stand.db }
     requires numbers { database.old.opened < 2 ^ 64 - 1 }
     requires swept { database.old.stand.horizon ≡ horizon_of database.old.stand.db }
+    ensures sees { SeesSame (S.shown database.old.store) (S.shown database.new.store) database.new.opens }
     ensures ok { IfOk result (λ replies. Executes database.old.stand session statement.now replies database.new.stand) }
     ensures handles { IfOk result (λ replies. HandlesText (under (S.shown database.old.store) (would judge.old) beside) (statement.now) database.old.stand.db session replies.0 (plans_of database.old (state judge.old)) (plans_of database.new (state judge.new))) }
     ensures lost { OnErr result (LeavesText (under (S.shown database.old.store) (would judge.old) beside) (statement.now) database.old.stand.db session (plans_of database.old (state judge.old)) (plans_of database.new (state judge.new))) }
@@ -161,6 +169,7 @@ pub fn understand(catalog: &Catalog, statement: &Option<Statement>) -> Result<Re
 }
 
 /// Does what is asked.
+#[tactic(auto, using(crate::proofs::Keeping::sees_same))]
 fn perform<S: Store + Reader<Ledger = Uncounted> + Drop>(
     database: &mut Database<S>,
     session: u8,
@@ -173,6 +182,7 @@ fn perform<S: Store + Reader<Ledger = Uncounted> + Drop>(
     requires swept { database.old.stand.horizon ≡ horizon_of database.old.stand.db }
     requires fits { FitsSchema database.old.stand.db.schema asked }
     requires whole { IsWhole asked }
+    ensures sees { SeesSame (S.shown database.old.store) (S.shown database.new.store) database.new.opens }
     ensures ok { IfOk result (λ replies. DoesAsked (Ok asked) database.old.stand session replies database.new.stand) }
     ensures handles { IfOk result (λ replies. Handles (under (S.shown database.old.store) (would judge.old) beside) (Ok asked) database.old.stand.db session replies.0 (plans_of database.old (state judge.old)) (plans_of database.new (state judge.new))) }
     ensures refuses { (refusal : TheRefusal) → IfOk result (λ replies. replies.0 ≡ Refused refusal → plans_of database.new (state judge.new) ≡ plans_of database.old (state judge.old)) }

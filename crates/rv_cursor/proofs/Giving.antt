@@ -1,5 +1,5 @@
 -- The offer in hand is one that may be given, and taken out it leaves the others.
-use Rattle.std.proofs.Common.{◌≡◌, ℕ, ◌+◌, ◌<◌, List, [], ◌∷◌, Bool, true, false, cond, not, ◌&&◌, refl, ap, sym, ◌∙◌, subst, inl, inr, arith, length, suc, Option, Some, None, position, remove, nat_lt}
+use Rattle.std.proofs.Common.{◌≡◌, ℕ, ◌+◌, ◌<◌, List, [], ◌∷◌, Bool, true, false, cond, not, ◌&&◌, refl, ap, sym, ◌∙◌, inl, inr, arith, length, suc, Option, Some, position, remove, nat_lt}
 use Rattle.std.proofs.lemmas.Bool.{cases_Bool}
 use Rattle.std.proofs.lemmas.Bool.Decides.{nat_tests}
 use Rattle.std.specs.List.{Contains, list_all, position_or_len}

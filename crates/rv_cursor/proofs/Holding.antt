@@ -1,5 +1,5 @@
 -- What becomes of a cursor's offers when its plan is called.
-use Rattle.std.proofs.Common.{◌≡◌, ℕ, ◌<◌, ◌≤◌, List, [], ◌∷◌, ◌++◌, refl, ap, sym, ◌∙◌, subst, arith, Option, Some, None, IfSome, IsSome, Result, Ok, Err}
+use Rattle.std.proofs.Common.{◌≡◌, ℕ, ◌<◌, ◌≤◌, List, [], ◌∷◌, ◌++◌, refl, ap, sym, ◌∙◌, subst, arith, Option, Some, None, IfSome, Result, Ok, Err}
 use Rattle.std.specs.List.Sorted.{IsPermutation}
 use Rattle.std.proofs.lemmas.List.Sorted.{IsPermutation-refl}
 use Rattle.rv_value.specs.declared.value.Value.{Value}
@@ -11,8 +11,8 @@ use Rattle.rv_model.specs.declared.state.Offer.{Offer}
 use Rattle.rv_model.specs.Offers.{sorted}
 use Rattle.rv_cursor.proofs.Sorted.{sorted_moved}
 use Rattle.rv_join.specs.Order.{IsLeastOf}
-use Rattle.rv_join.specs.Plans.{GivesOne, PlanFits, PlanKept, PlanMoves, PlanStays, Planned, plan_rest, plan_work}
-use Rattle.rv_join.specs.declared.plan.PlanStep.TheVariants.{Row as PlanRow, End as PlanEnd, Working as PlanWorking}
+use Rattle.rv_join.specs.Plans.{PlanFits, PlanMoves, PlanStays, Planned, plan_rest, plan_work}
+use Rattle.rv_join.specs.declared.plan.PlanStep.TheVariants.{Row as PlanRow}
 use Rattle.rv_cursor.specs.declared.cursor.Open.{Open}
 use Rattle.rv_cursor.specs.declared.cursor.Filled.{Filled}
 use Rattle.rv_cursor.specs.declared.cursor.Filled.TheVariants.{Brought, Nearer, Ended}

@@ -1,5 +1,5 @@
 -- How a cursor's plan moves: one call after another.
-use Rattle.std.proofs.Common.{◌≡◌, ℕ, ◌+◌, ◌<◌, ◌≤◌, List, [], ◌∷◌, ◌++◌, Bool, true, false, Option, Some, None, IsSome, Result, Ok, Err, IfOk, OnErr, refl, ap, sym, ◌∙◌, subst, inl, inr, arith, zero, suc}
+use Rattle.std.proofs.Common.{◌≡◌, ℕ, ◌+◌, ◌<◌, ◌≤◌, List, [], ◌∷◌, ◌++◌, true, false, Option, Some, None, IsSome, refl, ap, sym, ◌∙◌, subst, inl, inr, arith, zero, suc}
 use Rattle.rv_judge.specs.declared.counting.Counts.{Counts}
 use Rattle.rv_judge.specs.declared.judging.Facts.{Facts}
 use Rattle.rv_judge.specs.Verdicts.{Ruling}
@@ -13,17 +13,17 @@ use Rattle.rv_jscan.specs.declared.jscan.Given.TheVariants.{Accepted, Stale}
 use Rattle.rv_retrieval.specs.Effort.{GiveSpends}
 use Rattle.rv_retrieval.specs.Given.{AwaitsPiece}
 use Rattle.rv_retrieval.specs.Rulings.{GivesOn}
+use Rattle.rv_retrieval.specs.Short.{Settled}
 use Rattle.rv_retrieval.specs.Stepping.{piece_read}
 use Rattle.rv_retrieval.specs.Telling.{CountsRise, SameCounts}
-use Rattle.rv_join.specs.Alone.{IsAlone, PlanAsks, PlanSpends, Spends, StepsOnce, TakesOnce, plan_effort}
+use Rattle.rv_join.specs.Alone.{FewFetches, IsAlone, PlanAsks, PlanSpends, Spends, StepsOnce, TakesOnce, plan_effort}
 use Rattle.rv_join.specs.Pieces.{CountsPiece, GivesPiece, counted_up, plan_awaited, plan_pieces, stack_builds, waited, waiting}
 use Rattle.rv_join.specs.Plans.{PlanKept, PlanMoves, PlanStays, Planned, WorkTo, plan_trace, plan_work}
 use Rattle.rv_join.specs.declared.plan.PlanStep.{PlanStep}
 use Rattle.rv_join.specs.declared.plan.PlanStep.TheVariants.{Row, End, Working}
-use Rattle.rv_cursor.specs.declared.cursor.Open.{Open}
 use Rattle.rv_cursor.specs.declared.cursor.Filled.{Filled}
 use Rattle.rv_cursor.specs.declared.cursor.Filled.TheVariants.{Brought, Nearer, Ended}
-use Rattle.rv_cursor.specs.Moves.{Beside, BesideBy, FetchMoves, FrontTo, GivesBack, Move, Moves, MovesBy, MovesByAll, RepliesTo, Ruled, StepsBack, StepsBacks, StepsBeside, StepsFront, TakesOut, Turn, TurnMoves, TurnTo, TurnsOn, WorksPiece, ruled}
+use Rattle.rv_cursor.specs.Moves.{Beside, BesideBy, FetchMoves, FrontTo, GivesBack, Move, Moves, MovesBy, MovesByAll, RepliesTo, Ruled, StepsBack, StepsBacks, StepsBeside, StepsFront, TakesOut, Turn, TurnMoves, TurnTo, TurnsOn, WorksPiece}
 use Rattle.rv_cursor.specs.Moves.Move.{Front, Take, Give}
 
 -- Moves.
@@ -37,7 +37,7 @@ moves_same would shown old new same = record { moves = []; made = same }
 pub moves_by : (move : Move) (would : ℕ → Facts → Ruling) (shown : Shown) (old new : Ruled) → MovesBy move would shown old new → Moves would shown old new
 moves_by move would shown old new by = record { moves = move ∷ []; made = (old, refl, by) }
 
-all_on : (moves before : List Move) (would : ℕ → Facts → Ruling) (shown : Shown) (a b c : Ruled) → MovesByAll before would shown a b → MovesByAll moves would shown b c → MovesByAll (moves ++ before) would shown a c
+pub all_on : (moves before : List Move) (would : ℕ → Facts → Ruling) (shown : Shown) (a b c : Ruled) → MovesByAll before would shown a b → MovesByAll moves would shown b c → MovesByAll (moves ++ before) would shown a c
 all_on [] before would shown a b c first then = subst (MovesByAll before would shown a) (sym then) first
 all_on (move ∷ moves) before would shown a b c first then = (then.0, all_on moves before would shown a b then.0 first then.1, then.2)
 
@@ -59,26 +59,29 @@ work_le (Row o) n k less = less
 work_le End n k less = less
 work_le Working n k less = omega (arith, less)
 
-pub front_ok : (m : PlanStep) (would : ℕ → Facts → Ruling) (shown : Shown) (state after : ℕ) (c d : Counts) (old new : Planned) → CountsRise (plan_trace old) (plan_trace new) c d → PlanAsks would state after shown c old new → (IsAlone old → StepsOnce would state after shown c d old.stack.at new.stack.at) → PlanMoves shown m old new → (IsAlone old → PlanSpends m c d (plan_effort shown old) (plan_effort shown new)) → StepsFront (Some m) would shown (record { plan = old; judge = state }) (record { plan = new; judge = after })
-front_ok m would shown state after c d old new counts asks once moves spends = record { asked = moves.asked; before = c; after = d; counts = counts; asks = asks; once = once; work = work_le m (plan_work shown old) (plan_work shown new) moves.work; answers = moves; spends = spends }
+pub front_ok : (m : PlanStep) (would : ℕ → Facts → Ruling) (shown : Shown) (state after : ℕ) (c d : Counts) (old new : Planned) → CountsRise (plan_trace old) (plan_trace new) c d → PlanAsks would state after shown c old new → (IsAlone old → StepsOnce would state after shown c d old.stack.at new.stack.at) → PlanMoves shown m old new → (IsAlone old → PlanSpends m c d (plan_effort shown old) (plan_effort shown new)) → (IsAlone old → FewFetches 0 shown old new) → StepsFront (Some m) would shown (record { plan = old; judge = state }) (record { plan = new; judge = after })
+front_ok m would shown state after c d old new counts asks once moves spends few = record { asked = moves.asked; before = c; after = d; counts = counts; asks = asks; once = once; work = work_le m (plan_work shown old) (plan_work shown new) moves.work; answers = moves; spends = spends; few = few }
 
-pub front_err : (would : ℕ → Facts → Ruling) (shown : Shown) (state after : ℕ) (c d : Counts) (old new : Planned) → CountsRise (plan_trace old) (plan_trace new) c d → PlanAsks would state after shown c old new → (IsAlone old → StepsOnce would state after shown c d old.stack.at new.stack.at) → PlanKept shown old new → StepsFront None would shown (record { plan = old; judge = state }) (record { plan = new; judge = after })
-front_err would shown state after c d old new counts asks once kept = record { asked = kept.asked; before = c; after = d; counts = counts; asks = asks; once = once; work = kept.work; answers = tt; spends = λ alone. tt }
+pub front_err : (would : ℕ → Facts → Ruling) (shown : Shown) (state after : ℕ) (c d : Counts) (old new : Planned) → CountsRise (plan_trace old) (plan_trace new) c d → PlanAsks would state after shown c old new → (IsAlone old → StepsOnce would state after shown c d old.stack.at new.stack.at) → PlanKept shown old new → (IsAlone old → FewFetches 1 shown old new) → StepsFront None would shown (record { plan = old; judge = state }) (record { plan = new; judge = after })
+front_err would shown state after c d old new counts asks once kept few = record { asked = kept.asked; before = c; after = d; counts = counts; asks = asks; once = once; work = kept.work; answers = tt; spends = λ alone. tt; few = few }
 
 pub front_moves : (f : Filled) (hand : Option Offer) (would : ℕ → Facts → Ruling) (shown : Shown) (old new : Ruled) → FrontTo f hand would shown old new → Moves would shown old new
-front_moves Brought hand would shown old new front = moves_by Front would shown old new (Some (Row front.0), front.2)
-front_moves Nearer hand would shown old new front = moves_by Front would shown old new (Some Working, front.1)
-front_moves Ended hand would shown old new front = moves_by Front would shown old new (Some End, front.1)
+front_moves Brought hand would shown old new front = moves_by Front would shown old new (Row front.0, front.2)
+front_moves Nearer hand would shown old new front = moves_by Front would shown old new (Working, front.1)
+front_moves Ended hand would shown old new front = moves_by Front would shown old new (End, front.1)
 
 -- A background step.
 
 pub takes_out : (shown : Shown) (state : ℕ) (c d : Counts) (old new : Planned) → d ≡ piece_read (waiting old) c → CountsRise (plan_trace old) (plan_trace new) c d → (IsAlone old → TakesOnce shown c d old.stack.at new.stack.at) → plan_awaited new ≡ plan_awaited old → plan_pieces new ≡ plan_pieces old → PlanStays shown old new → TakesOut shown (record { plan = old; judge = state }) (record { plan = new; judge = state })
 takes_out shown state c d old new reads counts once awaited pieces stays = record { judge = refl; before = c; after = d; reads = reads; counts = counts; once = once; awaited = awaited; pieces = pieces; stays = stays }
 
+ruled_same : (old new : Planned) (state after : ℕ) → (new ≡ old) × (after ≡ state) → ◌≡◌ {A = Ruled} (record { plan = new; judge = after }) (record { plan = old; judge = state })
+ruled_same old new state after same = rw (same.0, same.1) refl
+
 -- the awaited piece, given as it was taken, is accepted
-pub gives_back : (g : Given) (would : ℕ → Facts → Ruling) (shown : Shown) (state after : ℕ) (piece sieved : Pieced) (old new : Planned) → AwaitsPiece (waiting old) piece → sieved ≡ piece → GivesPiece old sieved g new → GivesOn would state after sieved g (waiting old) (waited old new) → CountsPiece g (plan_pieces old) (plan_pieces new) → SameCounts (plan_trace old) (plan_trace new) → GiveSpends g (plan_work shown old) (plan_work shown new) → (IsAlone old → GiveSpends g (plan_effort shown old) (plan_effort shown new)) → PlanStays shown old new → GivesBack would shown (record { plan = old; judge = state }) (record { plan = new; judge = after })
-gives_back Accepted would shown state after piece sieved old new awaits same gives obeys counted counts lowers less stays = record { piece = sieved; awaits = subst (AwaitsPiece (waiting old)) (sym same) awaits; obeys = obeys; counted = counted; counts = counts; lowers = lowers; less = less; stays = stays }
-gives_back (Stale asked now) would shown state after piece sieved old new awaits same gives obeys counted counts lowers less stays = absurd (gives.0 (subst (AwaitsPiece (waiting old)) (sym same) awaits))
+pub gives_back : (g : Given) (would : ℕ → Facts → Ruling) (shown : Shown) (state after : ℕ) (piece sieved : Pieced) (old new : Planned) → AwaitsPiece (waiting old) piece → sieved ≡ piece → GivesPiece old sieved g new → GivesOn would state after sieved g (waiting old) (waited old new) → CountsPiece g (plan_pieces old) (plan_pieces new) → SameCounts (plan_trace old) (plan_trace new) → GiveSpends g (plan_work shown old) (plan_work shown new) → (IsAlone old → GiveSpends g (plan_effort shown old) (plan_effort shown new)) → (IsAlone old → Settled old.stack.at.here → (new ≡ old) × (after ≡ state)) → PlanStays shown old new → GivesBack would shown (record { plan = old; judge = state }) (record { plan = new; judge = after })
+gives_back Accepted would shown state after piece sieved old new awaits same gives obeys counted counts lowers less settled stays = record { piece = sieved; awaits = subst (AwaitsPiece (waiting old)) (sym same) awaits; obeys = obeys; counted = counted; counts = counts; lowers = lowers; less = less; settled = λ one s. ruled_same old new state after (settled one s); stays = stays }
+gives_back (Stale asked now) would shown state after piece sieved old new awaits same gives obeys counted counts lowers less settled stays = absurd (gives.0 (subst (AwaitsPiece (waiting old)) (sym same) awaits))
 
 pub back_is : (would : ℕ → Facts → Ruling) (shown : Shown) (state : ℕ) (c d : Counts) (old mid : Planned) (new : Ruled) → d ≡ piece_read (waiting old) c → CountsRise (plan_trace old) (plan_trace mid) c d → (IsAlone old → TakesOnce shown c d old.stack.at mid.stack.at) → plan_awaited mid ≡ plan_awaited old → plan_pieces mid ≡ plan_pieces old → PlanStays shown old mid → (IsAlone old → Spends c d (plan_effort shown old) (plan_effort shown mid)) → GivesBack would shown (record { plan = mid; judge = state }) new → StepsBack would shown (record { plan = old; judge = state }) new
 back_is would shown state c d old mid new reads counts once awaited pieces stays spends gives = record {

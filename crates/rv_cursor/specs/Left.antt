@@ -1,5 +1,5 @@
 -- What a cursor has left to offer.
-use Rattle.std.specs.Prelude.{◌≡◌, ℕ, ◌+◌, ◌<◌, ◌≤◌, List, [], ◌∷◌, ◌++◌, Option, Some, None, IfSome}
+use Rattle.std.specs.Prelude.{◌≡◌, ℕ, ◌+◌, List, [], ◌∷◌, ◌++◌, Option, Some, None, IfSome}
 use Rattle.rv_lang.specs.declared.reply.Reply.{Reply}
 use Rattle.rv_model.specs.declared.state.Offer.{Offer}
 use Rattle.rv_model.specs.Offers.{sorted}

@@ -12,9 +12,10 @@ use Rattle.rv_jscan.specs.declared.jscan.Given.TheVariants.{Accepted}
 use Rattle.rv_reader.specs.Shown.{Shown}
 use Rattle.rv_retrieval.specs.Given.{AwaitsPiece}
 use Rattle.rv_retrieval.specs.Rulings.{GivesOn}
+use Rattle.rv_retrieval.specs.Short.{Settled}
 use Rattle.rv_retrieval.specs.Stepping.{piece_read}
 use Rattle.rv_retrieval.specs.Telling.{CountsRise, SameCounts}
-use Rattle.rv_join.specs.Alone.{IsAlone, PlanAsks, PlanSpends, Spends, StepsOnce, TakesOnce, plan_effort}
+use Rattle.rv_join.specs.Alone.{FewFetches, IsAlone, PlanAsks, PlanSpends, Spends, StepsOnce, TakesOnce, plan_effort}
 use Rattle.rv_join.specs.Pieces.{plan_awaited, plan_pieces, stack_builds, waited, waiting}
 use Rattle.rv_join.specs.Plans.{PlanMoves, PlanStays, Planned, plan_trace, plan_work}
 use Rattle.rv_join.specs.declared.plan.PlanStep.{PlanStep}
@@ -32,9 +33,14 @@ pub record Ruled : Type 0 where
 abbrev pub ruled : Open → ℕ → Ruled
 ruled c state = record { plan = c.plan; judge = state }
 
+-- where no memory is found for a foreground step, one record may be read in vain
+abbrev pub wanting : Option PlanStep → ℕ
+wanting (Some step) = 0
+wanting None = 1
+
 -- A FOREGROUND STEP, which answers this, or for which no memory is found: at most one step of the innermost open retrieval,
 -- which asks the judge as often as that step does, and obeys it. Over one FROM item it lowers the effort by its reads, and
--- Working by at least one.
+-- Working by at least one; and where the background is over, the records fetched and those left come to no more than before.
 pub record StepsFront (answer : Option PlanStep) (would : ℕ → Facts → Ruling) (shown : Shown) (old new : Ruled) : Type 0 where
   pub asked : new.plan.asked ≡ old.plan.asked
   pub before : Counts
@@ -45,6 +51,7 @@ pub record StepsFront (answer : Option PlanStep) (would : ℕ → Facts → Ruli
   pub work : plan_work shown new.plan ≤ plan_work shown old.plan
   pub answers : IfSome answer (λ step. PlanMoves shown step old.plan new.plan)
   pub spends : IsAlone old.plan → IfSome answer (λ step. PlanSpends step before after (plan_effort shown old.plan) (plan_effort shown new.plan))
+  pub few : IsAlone old.plan → FewFetches (wanting answer) shown old.plan new.plan
 
 -- THE AWAITED PIECE IS TAKEN, or no memory was found for it: its leaf is read where it is not held; it is awaited as before,
 -- and none was counted
@@ -59,7 +66,8 @@ pub record TakesOut (shown : Shown) (old new : Ruled) : Type 0 where
   pub pieces : plan_pieces new.plan ≡ plan_pieces old.plan
   pub stays : PlanStays shown old.plan new.plan
 
--- THAT PIECE, SIEVED, IS GIVEN and accepted: where it is not the last of its scan the judge is asked once, and obeyed
+-- THAT PIECE, SIEVED, IS GIVEN and accepted: where it is not the last of its scan the judge is asked once, and obeyed. Over one
+-- FROM item there is none where the background is over.
 pub record GivesBack (would : ℕ → Facts → Ruling) (shown : Shown) (old new : Ruled) : Type 0 where
   pub piece : Pieced
   pub awaits : AwaitsPiece (waiting old.plan) piece
@@ -68,16 +76,19 @@ pub record GivesBack (would : ℕ → Facts → Ruling) (shown : Shown) (old new
   pub counts : SameCounts (plan_trace old.plan) (plan_trace new.plan)
   pub lowers : plan_work shown new.plan < plan_work shown old.plan
   pub less : IsAlone old.plan → plan_effort shown new.plan < plan_effort shown old.plan
+  pub settled : IsAlone old.plan → Settled old.plan.stack.at.here → new ≡ old
   pub stays : PlanStays shown old.plan new.plan
 
--- what happens to a plan
+-- what happens to a plan: a foreground step, one for which no memory is found, and a piece that is taken or given
 pub data Move : Type 0 where
   Front : Move
+  Lost : Move
   Take : Move
   Give : Move
 
 abbrev pub MovesBy : Move → (ℕ → Facts → Ruling) → Shown → Ruled → Ruled → Type 0
-MovesBy Front would shown old new = (answer : Option PlanStep) × StepsFront answer would shown old new
+MovesBy Front would shown old new = (step : PlanStep) × StepsFront (Some step) would shown old new
+MovesBy Lost would shown old new = StepsFront None would shown old new
 MovesBy Take would shown old new = TakesOut shown old new
 MovesBy Give would shown old new = GivesBack would shown old new
 

@@ -3,6 +3,7 @@
 
 pub mod cursor;
 pub mod fetching;
+pub mod laws;
 pub mod replies;
 
 pub use cursor::{Open, open_cursor};

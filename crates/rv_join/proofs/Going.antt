@@ -1,11 +1,11 @@
 -- How nested loops go on, and what a step of a plan asks.
-use Rattle.std.proofs.Common.{◌≡◌, ℕ, List, [], ◌∷◌, ◌++◌, Result, Ok, Err, IfOk, OnOk, OnErr, refl, ap, sym, ◌∙◌, subst, inl, inr}
+use Rattle.std.proofs.Common.{◌≡◌, ℕ, [], ◌∷◌, ◌++◌, Result, Ok, Err, IfOk, OnOk, OnErr, refl, sym, subst, inl, inr}
 use Rattle.rv_judge.specs.declared.counting.Counts.{Counts}
 use Rattle.rv_judge.specs.declared.judging.Facts.{Facts}
 use Rattle.rv_judge.specs.Verdicts.{Ruling}
 use Rattle.rv_reader.specs.Shown.{Shown}
 use Rattle.rv_join.specs.declared.level.Level.{Level}
-use Rattle.rv_join.specs.Alone.{GoesOn, IsAlone, PlanAsks, PlanSpends, StackAsks, StepsOnce, level_effort, plan_effort}
+use Rattle.rv_join.specs.Alone.{Fetches, GoesOn, IsAlone, PlanAsks, PlanSpends, StackAsks, StepsOnce, level_effort, plan_effort}
 use Rattle.rv_join.specs.Alone.Onward.{Rests, Uses, Opens, Returns}
 use Rattle.rv_join.specs.Levels.{Stacked, down, used}
 use Rattle.rv_join.specs.Plans.{Planned}
@@ -48,3 +48,6 @@ once_then would state after shown c d old mid new once same one = subst (λ (v :
 
 pub spends_then : {E : Type 0} (r : Result PlanStep E) (shown : Shown) (c d : Counts) (old mid new : Planned) → (IsAlone old → IfOk r (λ m. PlanSpends m c d (plan_effort shown old) (plan_effort shown mid))) → new.stack ≡ mid.stack → IsAlone old → IfOk r (λ m. PlanSpends m c d (plan_effort shown old) (plan_effort shown new))
 spends_then r shown c d old mid new spends same one = subst (λ (v : Stacked). IfOk r (λ m. PlanSpends m c d (plan_effort shown old) (level_effort shown v.at))) (sym same) (spends one)
+
+pub fetches_then : (shown : Shown) (c d : Counts) (old mid new : Planned) → (IsAlone old → Fetches shown c d old.stack.at.here mid.stack.at.here) → new.stack ≡ mid.stack → IsAlone old → Fetches shown c d old.stack.at.here new.stack.at.here
+fetches_then shown c d old mid new fetches same one = subst (λ (v : Stacked). Fetches shown c d old.stack.at.here v.at.here) (sym same) (fetches one)

@@ -1,10 +1,10 @@
 -- What a plan keeps at each call: what its levels keep, and over one FROM item the counts.
-use Rattle.std.proofs.Common.{◌≡◌, ℕ, ◌+◌, ◌≤◌, List, [], ◌∷◌, length, Result, Ok, Err, IfOk, OnErr, refl, ap, sym, ◌∙◌, subst, inl, zero, suc, slice_index_or}
+use Rattle.std.proofs.Common.{◌≡◌, ℕ, ◌+◌, List, [], ◌∷◌, length, Result, Ok, Err, IfOk, OnErr, refl, ap, sym, ◌∙◌, subst, zero, suc, slice_index_or}
 use Rattle.rv_judge.specs.declared.counting.Counts.{Counts}
 use Rattle.rv_judge.specs.declared.events.Trace.{Trace}
 use Rattle.rv_reader.specs.Shown.{Shown}
 use Rattle.rv_judge.specs.Runs.{Allowed}
-use Rattle.rv_retrieval.specs.Runs.{Tells, indexes_asked}
+use Rattle.rv_retrieval.specs.Runs.{indexes_asked}
 use Rattle.rv_retrieval.specs.Shape.{RetrievalFits}
 use Rattle.rv_retrieval.proofs.Tellings.{allowed}
 use Rattle.rv_retrieval.specs.Telling.{SameCounts}

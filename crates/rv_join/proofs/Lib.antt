@@ -14,6 +14,7 @@ pub mod Beginning
 pub mod Accounting
 pub mod Keeping
 pub mod Numbers
+pub mod Counting
 pub mod OneItem
 pub mod Going
 pub mod Lowering

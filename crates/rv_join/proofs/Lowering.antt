@@ -1,5 +1,5 @@
 -- An accepted piece lowers the work of a plan, and a stale one leaves it.
-use Rattle.std.proofs.Common.{◌≡◌, ℕ, ◌+◌, ◌*◌, ◌<◌, ◌≤◌, List, [], ◌∷◌, length, Result, Ok, Err, IfOk, refl, ap, sym, ◌∙◌, arith, subst, zero, suc, slice_index_or, slice_set}
+use Rattle.std.proofs.Common.{◌≡◌, ℕ, ◌+◌, ◌*◌, ◌<◌, List, [], ◌∷◌, length, Result, Ok, Err, IfOk, ap, sym, ◌∙◌, arith, subst, zero, suc, slice_index_or, slice_set}
 use Rattle.rv_value.specs.declared.record.Record.{Record}
 use Rattle.rv_reader.specs.Shown.{Shown}
 use Rattle.rv_jscan.specs.declared.jscan.Given.{Given}
@@ -8,7 +8,7 @@ use Rattle.rv_retrieval.specs.Effort.{GiveSpends, effort}
 use Rattle.rv_retrieval.specs.Shape.{Keeps, RetrievalFits, Shape, rest}
 use Rattle.rv_join.specs.declared.places.Asked.{Asked}
 use Rattle.rv_join.specs.declared.level.Level.{Level}
-use Rattle.rv_join.specs.Levels.{AllFit, LevelFits, StackFits, Stacked}
+use Rattle.rv_join.specs.Levels.{AllFit, LevelFits, Stacked}
 use Rattle.rv_join.specs.Work.{held_rows, items_below, level_work, levels_work, loops_work, row_cost}
 use Rattle.rv_join.proofs.Calls.{fit_at}
 use Rattle.rv_join.proofs.Working.{works_less}

@@ -1,9 +1,8 @@
 -- A plan over one FROM item: what its one retrieval does, and what the first item's retrieval keeps.
-use Rattle.std.proofs.Common.{◌≡◌, ℕ, ◌+◌, ◌<◌, ◌≤◌, List, [], ◌∷◌, ◌++◌, length, Bool, true, false, ◌==◌, Option, Some, None, IfSome, is_some, refl, ap, sym, ◌∙◌, arith, subst, inl, inr, zero, suc, slice_index_or, slice_set, Result, Ok, Err, IfOk, OnOk, OnErr}
+use Rattle.std.proofs.Common.{◌≡◌, ℕ, ◌+◌, ◌-◌, ◌^◌, ◌<◌, ◌≤◌, List, [], ◌∷◌, ◌++◌, length, Bool, true, false, ◌==◌, Option, Some, None, is_some, refl, ap, sym, ◌∙◌, arith, subst, inl, inr, zero, suc, slice_index_or, slice_set, Result, Ok, Err, IfOk, OnOk, OnErr}
 use Rattle.rv_value.specs.declared.value.Value.{Value}
 use Rattle.rv_judge.specs.Counting.{reads}
 use Rattle.rv_judge.specs.declared.counting.Counts.{Counts}
-use Rattle.rv_judge.specs.declared.events.Event.TheVariants.{Full as FullEvent}
 use Rattle.rv_judge.specs.declared.events.Happening.{Happening}
 use Rattle.rv_judge.specs.declared.events.Happening.TheVariants.{FrontEnded, FinalEnded}
 use Rattle.rv_judge.specs.declared.judging.Facts.{Facts}
@@ -16,28 +15,27 @@ use Rattle.rv_jscan.specs.Pieces.{Pieced}
 use Rattle.rv_jscan.specs.declared.jscan.Given.{Given}
 use Rattle.rv_jscan.specs.declared.jscan.Given.TheVariants.{Accepted, Stale}
 use Rattle.rv_value.specs.declared.record.IndexEntry.{IndexEntry}
-use Rattle.rv_jscan.specs.Steps.{Accepts, TakeLeaves, held_next}
+use Rattle.rv_jscan.specs.Steps.{Accepts, held_next, raised}
 use Rattle.rv_retrieval.specs.declared.steps.Fg.{Fg}
-use Rattle.rv_retrieval.specs.declared.steps.Fg.TheVariants.{Row as FgRow, Working as FgWorking, End as FgEnd}
 use Rattle.rv_retrieval.specs.Effort.{GiveSpends, Tries, effort, life_of}
 use Rattle.rv_retrieval.specs.Given.{TakesLeaf, TakesLeafBy, awaited}
 use Rattle.rv_retrieval.specs.Opened.{Opened}
-use Rattle.rv_retrieval.specs.Rulings.{GivesOn, gone}
+use Rattle.rv_retrieval.specs.Rulings.{GivesOn}
 use Rattle.rv_retrieval.specs.Runs.{SameCourse}
 use Rattle.rv_retrieval.specs.Shape.{Shape, is_background}
 use Rattle.rv_retrieval.specs.Short.{Settled, fetches_left, has_short, is_settled}
 use Rattle.rv_judge.specs.declared.events.Control.{Control}
 use Rattle.rv_judge.specs.declared.events.Control.TheVariants.{Building, ForegroundAlone, BackgroundAlone, FinalList, FinalTable, Done as ControlDone}
-use Rattle.rv_retrieval.specs.Stepping.{DoesAs, Kind, MayReadIts, OnePiece, OnlyTakes, Remembered, RemembersBy, StepsAs, StepsBehind, ended_by, filled, is_awaiting, kind_of, piece_read}
+use Rattle.rv_retrieval.specs.Stepping.{DoesAs, Kind, MayReadIts, OnlyTakes, RemembersBy, StepsAs, StepsBehind, ended_by, filled, is_awaiting, kind_of, piece_read}
 use Rattle.rv_retrieval.specs.Stepping.Kind.{Borrow, Piece, Walk, WalkBoth, NextKey, NextPage, Over}
 use Rattle.rv_retrieval.specs.Accounts.{fresh_of}
-use Rattle.rv_join.specs.declared.level.Caught.TheVariants.{Ready, Ended, Worked}
+use Rattle.rv_join.specs.declared.level.Caught.TheVariants.{Ready}
 use Rattle.rv_join.specs.declared.level.Level.{Level}
 use Rattle.rv_join.specs.declared.plan.PlanStep.{PlanStep}
 use Rattle.rv_join.specs.declared.plan.PlanStep.TheVariants.{Row, End as PlanEnd, Working as PlanWorking}
 use Rattle.rv_join.specs.declared.stack.Moved.{Moved}
 use Rattle.rv_join.specs.declared.stack.Moved.TheVariants.{Gave, Done, Moving}
-use Rattle.rv_join.specs.Alone.{CallsOnce, FgCalls, GatherSpends, LevelSpends, MovedSpends, PlanSpends, Spends, StepsOnce, TakesOnce, level_effort, plan_effort, plan_life}
+use Rattle.rv_join.specs.Alone.{CallsOnce, Fetches, FewFetches, FgCalls, IsAlone, LevelSpends, MovedSpends, PlanSpends, Spends, StepsOnce, TakesOnce, level_effort, plan_life}
 use Rattle.rv_catalog.specs.declared.def.IndexDef.{IndexDef}
 use Rattle.rv_catalog.specs.declared.def.Select.{Select}
 use Rattle.rv_model.specs.declared.state.Offer.{Offer}
@@ -45,10 +43,11 @@ use Rattle.rv_choice.specs.declared.query.Query.{Query}
 use Rattle.rv_join.specs.declared.places.Asked.{Asked}
 use Rattle.rv_join.specs.Asking.{Asks, IsAsked}
 use Rattle.rv_join.specs.Levels.{StackFits, Stacked, down, first_in, first_of, used}
-use Rattle.rv_join.specs.Plans.{Gives, step_of}
+use Rattle.rv_join.specs.Plans.{Gives, Planned, reads_with, step_of}
 use Rattle.rv_join.specs.Rules.{IsByRules, SamePlans}
 use Rattle.rv_join.specs.Work.{held_rows}
 use Rattle.rv_join.proofs.Accounting.{alone_above}
+use Rattle.rv_join.proofs.Counting.{OneUp, may_up, same_up}
 use Rattle.rv_join.proofs.Numbers.{Turns, accepted_turns}
 
 -- Strategy and planned scans.
@@ -261,6 +260,82 @@ list_plans (l ∷ ls) (suc i) old new le is plans d = plans_stay l.here
 pub result_plans : {E : Type 0} (r : Result Given E) (would : ℕ → Facts → Ruling) (state after : ℕ) (piece : Pieced) (old new : Shape) → IfOk r (λ g. GivesOn would state after piece g old new) → OnErr r (new ≡ old) → SamePlans old new
 result_plans (Ok g) would state after piece old new gives err = given_plans would state after piece g old new gives
 result_plans (Err e) would state after piece old new gives err = subst (SamePlans old) (sym err) (plans_stay old)
+
+-- What a step may fetch where the background is over.
+
+no_less : (n : ℕ) → n ≤ n
+no_less n = omega arith
+
+-- nothing was fetched
+pub no_fetch : (shown : Shown) (c : Counts) (v : Shape) → Fetches shown c c v v
+no_fetch shown c v = record { records = λ s. no_less (c.records + fetches_left v shown) }
+
+pub fetches_same : (shown : Shown) (c : Counts) (old new : Planned) → new ≡ record old { gathered = new.gathered } → Fetches shown c c old.stack.at.here new.stack.at.here
+fetches_same shown c old new same = subst (λ (v : Stacked). Fetches shown c c old.stack.at.here v.at.here) (sym (ap (λ (p : Planned). p.stack) same)) (no_fetch shown c old.stack.at.here)
+
+-- the row that was found is used
+pub uses_fetches : {E : Type 0} (r : Result Moved E) (shown : Shown) (c d end : Counts) (old : Shape) (mid new : Stacked) → OnOk r (new ≡ used mid) → end ≡ d → Fetches shown c d old mid.at.here → OnOk r (Fetches shown c end old new.at.here)
+uses_fetches (Ok m) shown c d end old mid new uses same fetches = rw (uses, same) fetches
+uses_fetches (Err e) shown c d end old mid new uses same fetches = tt
+
+calls_up : (would : ℕ → Facts → Ruling) (state after : ℕ) (shown : Shown) (c d : Counts) (old new : Shape) → c.records < 2 ^ 64 → CallsOnce would state after shown c d old new → OneUp c d
+calls_up would state after shown c d old new within calls = elim calls [
+  | inl call ↦ may_up (kind_of old.control old.strategy (fresh_of old)) old c d within call.1.may_read
+  | inr still ↦ same_up c d (ap (λ (k : Counts). k.records) still.1)
+]
+
+calls_settled : (would : ℕ → Facts → Ruling) (state after : ℕ) (shown : Shown) (c d : Counts) (old new : Shape) → CallsOnce would state after shown c d old new → Settled old → Settled new
+calls_settled would state after shown c d old new calls s = elim calls [
+  | inl call ↦ (call.1.settled s).0
+  | inr still ↦ subst Settled (sym still.0) s
+]
+
+fewer_kept : (c d left were : ℕ) → d + left ≤ c + were → d + left ≤ c + were + 1
+fewer_kept c d left were kept = omega (arith, kept)
+
+fewer_read : (c d left were : ℕ) → d ≤ c + 1 → left ≤ were → d + left ≤ c + were + 1
+fewer_read c d left were most fewer = omega (arith, most, fewer)
+
+fg_fewer : (fg : Option Fg) (would : ℕ → Facts → Ruling) (state after : ℕ) (shown : Shown) (c d : Counts) (old new : Shape) → d.records ≤ c.records + 1 → FgCalls fg would state after shown c d old new → Settled old → d.records + fetches_left new shown ≤ c.records + fetches_left old shown + 1
+fg_fewer (Some fg) would state after shown c d old new most calls s = fewer_kept c.records d.records (fetches_left new shown) (fetches_left old shown) (calls.records s)
+fg_fewer None would state after shown c d old new most calls s = fewer_read c.records d.records (fetches_left new shown) (fetches_left old shown) most (calls.fewer refl)
+
+calls_fewer : (would : ℕ → Facts → Ruling) (state after : ℕ) (shown : Shown) (c d : Counts) (old new : Shape) → d.records ≤ c.records + 1 → CallsOnce would state after shown c d old new → Settled old → d.records + fetches_left new shown ≤ c.records + fetches_left old shown + 1
+calls_fewer would state after shown c d old new most calls s = elim calls [
+  | inl call ↦ fg_fewer call.0 would state after shown c d old new most call.1 s
+  | inr still ↦ rw still.0 (fewer_read c.records d.records (fetches_left old shown) (fetches_left old shown) most (no_less (fetches_left old shown)))
+]
+
+-- the plan counts what was read
+sum_few : (c d had has left were n : ℕ) → has ≡ had → c ≤ d → d + left ≤ c + were + n → raised has (d - c) + left ≤ had + were + n
+sum_few c d had has left were n same up few = omega (arith, same, up, few)
+
+counted_few : (n : ℕ) (shown : Shown) (c d : Counts) (old mid new : Planned) → mid.reads ≡ old.reads → new ≡ record mid { reads = reads_with mid.reads c d } → c.records ≤ d.records → (Settled old.stack.at.here → Settled mid.stack.at.here) → (Settled old.stack.at.here → d.records + fetches_left mid.stack.at.here shown ≤ c.records + fetches_left old.stack.at.here shown + n) → FewFetches n shown old new
+counted_few n shown c d old mid new reads same up settled few = rw same (record {
+  settled = settled;
+  few = λ s. sum_few c.records d.records old.reads.records mid.reads.records (fetches_left mid.stack.at.here shown) (fetches_left old.stack.at.here shown) n (ap (λ (k : Counts). k.records) reads) up (few s);
+})
+
+counted_as : (mid new : Planned) (c d before after : Counts) → before ≡ c → after ≡ d → new ≡ record mid { reads = reads_with mid.reads before after } → new ≡ record mid { reads = reads_with mid.reads c d }
+counted_as mid new c d before after b a same = rw (b, a) at same
+
+no_wanting : (n m : ℕ) → n ≤ m → n ≤ m + 0
+no_wanting n m le = omega (arith, le)
+
+-- an answered step
+pub few_ok : {E : Type 0} (r : Result PlanStep E) (would : ℕ → Facts → Ruling) (state after : ℕ) (shown : Shown) (c d before behind : Counts) (old mid new : Planned) → before ≡ c → behind ≡ d → before.records < 2 ^ 64 → mid.reads ≡ old.reads → new ≡ record mid { reads = reads_with mid.reads before behind } → (IsAlone old → StepsOnce would state after shown c d old.stack.at mid.stack.at) → (IsAlone old → OnOk r (Fetches shown c d old.stack.at.here mid.stack.at.here)) → IsAlone old → OnOk r (FewFetches 0 shown old new)
+few_ok (Ok m) would state after shown c d before behind old mid new b e within reads same once fetches one =
+    let calls = (once one).calls in
+    let up = calls_up would state after shown c d old.stack.at.here mid.stack.at.here (subst (λ (k : Counts). k.records < 2 ^ 64) b within) calls in
+    counted_few 0 shown c d old mid new reads (counted_as mid new c d before behind b e same) up.0 (calls_settled would state after shown c d old.stack.at.here mid.stack.at.here calls) (λ s. no_wanting _ _ ((fetches one).records s))
+few_ok (Err x) would state after shown c d before behind old mid new b e within reads same once fetches one = tt
+
+-- a step, whatever it answers
+pub few_lost : (would : ℕ → Facts → Ruling) (state after : ℕ) (shown : Shown) (c d before behind : Counts) (old mid new : Planned) → before ≡ c → behind ≡ d → before.records < 2 ^ 64 → mid.reads ≡ old.reads → new ≡ record mid { reads = reads_with mid.reads before behind } → (IsAlone old → StepsOnce would state after shown c d old.stack.at mid.stack.at) → IsAlone old → FewFetches 1 shown old new
+few_lost would state after shown c d before behind old mid new b e within reads same once one =
+    let calls = (once one).calls in
+    let up = calls_up would state after shown c d old.stack.at.here mid.stack.at.here (subst (λ (k : Counts). k.records < 2 ^ 64) b within) calls in
+    counted_few 1 shown c d old mid new reads (counted_as mid new c d before behind b e same) up.0 (calls_settled would state after shown c d old.stack.at.here mid.stack.at.here calls) (calls_fewer would state after shown c d old.stack.at.here mid.stack.at.here up.1 calls)
 
 -- Takes and gives over one FROM item.
 

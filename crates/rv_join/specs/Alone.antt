@@ -1,5 +1,5 @@
 -- WHAT A STEP OF A PLAN DOES TO ITS OPEN RETRIEVALS; a plan over one FROM item, whose calls are those of its one retrieval.
-use Rattle.std.specs.Prelude.{◌≡◌, ◌⊎◌, ℕ, ◌+◌, ◌<◌, ◌≤◌, ◌++◌, ◌∷◌, [], Bool, true, false, List, length, Option, Some, None, IfSome}
+use Rattle.std.specs.Prelude.{◌≡◌, ◌⊎◌, ℕ, ◌+◌, ◌<◌, ◌≤◌, ◌++◌, ◌∷◌, [], Bool, true, false, List, length, Option, None, IfSome}
 use Rattle.rv_judge.specs.Account.{life_bound}
 use Rattle.rv_judge.specs.Counting.{reads}
 use Rattle.rv_judge.specs.declared.counting.Counts.{Counts}
@@ -39,6 +39,11 @@ pub record FgCalls (fg : Option Fg) (would : ℕ → Facts → Ruling) (state af
   pub settled : Settled old → Settled new × (after ≡ state) × (d.pages ≡ c.pages)
   pub records : Settled old → IfSome fg (λ s. d.records + fetches_left new shown ≤ c.records + fetches_left old shown)
   pub fewer : fg ≡ None → fetches_left new shown ≤ fetches_left old shown
+
+-- WHAT AN ANSWERED STEP MAY FETCH where a short index was scanned at opening: the records fetched and those that may still be
+-- fetched are together no more than before
+pub record Fetches (shown : Shown) (c d : Counts) (old new : Shape) : Type 0 where
+  pub records : Settled old → d.records + fetches_left new shown ≤ c.records + fetches_left old shown
 
 -- a step was made, or nothing was done
 abbrev pub CallsOnce : (ℕ → Facts → Ruling) → ℕ → ℕ → Shown → Counts → Counts → Shape → Shape → Type 0
@@ -116,6 +121,15 @@ MovedSpends Moving c d old new = Spends c d old new × (new < old)
 abbrev pub GatherSpends : Bool → Counts → Counts → ℕ → ℕ → Type 0
 GatherSpends true c d old new = Spends c d old new × (new ≤ old)
 GatherSpends false c d old new = Spends c d old new × (new < old)
+
+-- THE RECORDS THAT A PLAN OVER ONE FROM ITEM HAS FETCHED and may still fetch, where the background is over
+abbrev pub plan_fetches : Shown → Planned → ℕ
+plan_fetches shown p = p.reads.records + fetches_left p.stack.at.here shown
+
+-- where it is over, it stays so, and they come to no more than before; but for so many more where memory is wanting
+pub record FewFetches (wanting : ℕ) (shown : Shown) (old new : Planned) : Type 0 where
+  pub settled : Settled old.stack.at.here → Settled new.stack.at.here
+  pub few : Settled old.stack.at.here → plan_fetches shown new ≤ plan_fetches shown old + wanting
 
 -- WHAT A TAKE DOES TO THE ONE RETRIEVAL
 pub record TakesOnce (shown : Shown) (c d : Counts) (old new : Level) : Type 0 where

@@ -2,7 +2,7 @@
 ghost use Rattle.std.specs.Prelude.{◌≡◌, ◌<◌, List, [], ◌∷◌, ◌++◌, length, reverse, IfOk, OnOk, OnErr};
 ghost use Rattle.std.specs.List.Sorted.{IsPermutation, IsSortedBy};
 ghost use Rattle.rv_value.specs.Order.{values_cmp};
-ghost use Rattle.rv_join.specs.Alone.{GatherSpends, StackAsks, StepsOnce, level_effort};
+ghost use Rattle.rv_join.specs.Alone.{Fetches, GatherSpends, StackAsks, StepsOnce, level_effort};
 ghost use Rattle.rv_join.specs.Asking.{CanRun};
 ghost use Rattle.rv_join.specs.Rules.{SamePlans};
 ghost use Rattle.rv_join.specs.Levels.{StackFits, first_of};
@@ -98,6 +98,7 @@ impl Gathered {
         ensures asks { StackAsks (would judge.old) (state judge.old) (state judge.new) (R.shown reader.now) steps.old stack.old stack.new }
         ensures once { length asked.now.items ≡ 1 → StepsOnce (would judge.old) (state judge.old) (state judge.new) (R.shown reader.now) steps.old steps.new stack.old.at stack.new.at }
         ensures spends { length asked.now.items ≡ 1 → IfOk result (λ all. GatherSpends all steps.old steps.new (level_effort (R.shown reader.now) stack.old.at) (level_effort (R.shown reader.now) stack.new.at)) }
+        ensures fetches { length asked.now.items ≡ 1 → OnOk result (Fetches (R.shown reader.now) steps.old steps.new stack.old.at.here stack.new.at.here) }
         ensures plans { SamePlans (first_of stack.old).here (first_of stack.new).here }
         ensures kept { OnErr result (Kept asked.now (R.shown reader.now) stack.old stack.new) }
         ensures same { OnErr result (self.new ≡ self.old) }

@@ -5,7 +5,7 @@ ghost use Rattle.rv_restrict.specs.Bind.{rows_reads};
 ghost use Rattle.rv_reader.specs.Shown.{Shown};
 ghost use Rattle.rv_scan.specs.Told.{width};
 ghost use Rattle.rv_retrieval.specs.Shape.{is_building};
-ghost use Rattle.rv_join.specs.Alone.{LevelSpends, StepsOnce};
+ghost use Rattle.rv_join.specs.Alone.{Fetches, LevelSpends, StepsOnce};
 ghost use Rattle.rv_join.specs.Asking.{CanRun, item_at};
 ghost use Rattle.rv_join.specs.Levels.{LevelFits, offered, widened};
 ghost use Rattle.rv_join.specs.Moves.{Catches, Descends, LevelStays, Rises};
@@ -151,6 +151,7 @@ impl Level {
         ensures stays { would judge.new ≡ would judge.old }
         ensures once { StepsOnce (would judge.old) (state judge.old) (state judge.new) (R.shown reader.now) steps.old steps.new self.old self.new }
         ensures spends { IfOk result (λ c. LevelSpends (R.shown reader.now) c steps.old steps.new self.old self.new) }
+        ensures fetches { OnOk result (Fetches (R.shown reader.now) steps.old steps.new self.old.here self.new.here) }
         ensures err { OnErr result (LevelStays _asked.now (R.shown reader.now) self.old self.new) }
     {
         match self.here.fg_step(reader, judge, steps)? {
@@ -165,7 +166,7 @@ impl Level {
     }
 
     /// Holds a row, or tells why there is none. A row that is held already, since its use found no memory, stays.
-    #[tactic(auto, using(crate::proofs::Catching::same_moves, crate::proofs::Opening::level_same, crate::proofs::OneItem::no_call, crate::proofs::OneItem::held_spends))]
+    #[tactic(auto, using(crate::proofs::Catching::same_moves, crate::proofs::Opening::level_same, crate::proofs::OneItem::no_call, crate::proofs::OneItem::no_fetch, crate::proofs::OneItem::held_spends))]
     pub fn ready<R: Reader>(
         &mut self,
         asked: &Asked,
@@ -180,6 +181,7 @@ impl Level {
         ensures stays { would judge.new ≡ would judge.old }
         ensures once { StepsOnce (would judge.old) (state judge.old) (state judge.new) (R.shown reader.now) steps.old steps.new self.old self.new }
         ensures spends { IfOk result (λ c. LevelSpends (R.shown reader.now) c steps.old steps.new self.old self.new) }
+        ensures fetches { OnOk result (Fetches (R.shown reader.now) steps.old steps.new self.old.here self.new.here) }
         ensures err { OnErr result (LevelStays asked.now (R.shown reader.now) self.old self.new) }
     {
         if self.row.is_some() {

@@ -13,7 +13,7 @@ ghost use Rattle.rv_jscan.specs.declared.jscan.Given.{Given as TheGiven};
 ghost use Rattle.rv_judge.specs.Counting.{reads};
 ghost use Rattle.rv_retrieval.specs.Effort.{GiveSpends};
 ghost use Rattle.rv_retrieval.specs.Short.{OnlyLeaves, Settled, fetches_left, has_short};
-ghost use Rattle.rv_join.specs.Alone.{GatherSpends, MovedSpends, PlanAsks, Spends, StepsOnce, TakesOnce, level_effort, plan_effort, plan_life};
+ghost use Rattle.rv_join.specs.Alone.{Fetches, GatherSpends, MovedSpends, PlanAsks, Spends, StepsOnce, TakesOnce, level_effort, plan_effort, plan_life};
 ghost use Rattle.rv_join.specs.Rules.{SamePlans};
 ghost use Rattle.rv_join.specs.Asking.{Asks, CanPlan, CanRun, IsAsked, item_at};
 ghost use Rattle.rv_join.specs.Levels.{StackFits, first_of, table_rows};
@@ -176,6 +176,7 @@ impl Plan {
     pub(crate) fn count(&mut self, before: Counts, after: Counts)
         ensures same { self.new ≡ record self.old { reads = reads_with self.old.reads before after } }
         ensures none { after ≡ before → self.new ≡ self.old }
+        ensures within { before.records < 2 ^ 64 }
     {
         let pages = after.pages.saturating_sub(before.pages);
         let leaves = after.leaves.saturating_sub(before.leaves);
@@ -200,6 +201,7 @@ impl Plan {
         ensures asks { PlanAsks (would judge.old) (state judge.old) (state judge.new) (R.shown reader.now) steps.old self.old self.new }
         ensures once { length self.old.asked.items ≡ 1 → StepsOnce (would judge.old) (state judge.old) (state judge.new) (R.shown reader.now) steps.old steps.new self.old.stack.at self.new.stack.at }
         ensures spends { length self.old.asked.items ≡ 1 → IfOk result (λ m. MovedSpends m steps.old steps.new (level_effort (R.shown reader.now) self.old.stack.at) (level_effort (R.shown reader.now) self.new.stack.at)) }
+        ensures fetches { length self.old.asked.items ≡ 1 → OnOk result (Fetches (R.shown reader.now) steps.old steps.new self.old.stack.at.here self.new.stack.at.here) }
         ensures plans { SamePlans (first_of self.old.stack).here (first_of self.new.stack).here }
         ensures same { self.new ≡ record self.old { stack = self.new.stack } }
         ensures err { OnErr result (Kept self.old.asked (R.shown reader.now) self.old.stack self.new.stack) }
@@ -223,6 +225,7 @@ impl Plan {
         ensures asks { PlanAsks (would judge.old) (state judge.old) (state judge.new) (R.shown reader.now) steps.old self.old self.new }
         ensures once { length self.old.asked.items ≡ 1 → StepsOnce (would judge.old) (state judge.old) (state judge.new) (R.shown reader.now) steps.old steps.new self.old.stack.at self.new.stack.at }
         ensures spends { length self.old.asked.items ≡ 1 → IfOk result (λ all. GatherSpends all steps.old steps.new (level_effort (R.shown reader.now) self.old.stack.at) (level_effort (R.shown reader.now) self.new.stack.at)) }
+        ensures fetches { length self.old.asked.items ≡ 1 → OnOk result (Fetches (R.shown reader.now) steps.old steps.new self.old.stack.at.here self.new.stack.at.here) }
         ensures plans { SamePlans (first_of self.old.stack).here (first_of self.new.stack).here }
         ensures same { self.new ≡ record self.old { stack = self.new.stack; gathered = self.new.gathered } }
         ensures kept { OnErr result (Kept self.old.asked (R.shown reader.now) self.old.stack self.new.stack) }

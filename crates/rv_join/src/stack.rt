@@ -4,7 +4,7 @@ ghost use Rattle.std.specs.List.{list_any, slice_index_or};
 ghost use Rattle.rv_value.specs.declared.value.Value.{Value as OneValue};
 ghost use Rattle.rv_reader.specs.Shown.{Shown};
 ghost use Rattle.rv_join.specs.declared.places.Asked.{Asked as TheAsked};
-ghost use Rattle.rv_join.specs.Alone.{GoesOn, LevelSpends, MovedSpends, Spends, StackAsks, StepsOnce, TakesOnce, level_effort};
+ghost use Rattle.rv_join.specs.Alone.{Fetches, GoesOn, LevelSpends, MovedSpends, Spends, StackAsks, StepsOnce, TakesOnce, level_effort};
 ghost use Rattle.rv_join.specs.Asking.{Asks, CanRun};
 ghost use Rattle.rv_join.specs.Levels.{AllFit, LevelFits, StackFits, Stacked, bag, down, first_in, first_of, is_last, offered, still, used};
 ghost use Rattle.rv_join.specs.Moves.{Catches, Descends, Kept, LevelStays, LevelsStay, Moves, Rises, SameFirst, StackStays, Starts};
@@ -121,6 +121,7 @@ impl Stack {
         ensures stays { would judge.new ≡ would judge.old }
         ensures once { StepsOnce (would judge.old) (state judge.old) (state judge.new) (R.shown reader.now) steps.old steps.new self.old.at self.new.at }
         ensures spends { IfOk result (λ c. LevelSpends (R.shown reader.now) c steps.old steps.new self.old.at self.new.at) }
+        ensures fetches { OnOk result (Fetches (R.shown reader.now) steps.old steps.new self.old.at.here self.new.at.here) }
         ensures err { OnErr result (LevelStays asked.now (R.shown reader.now) self.old.at self.new.at) }
     {
         self.at.ready(asked, reader, judge, steps)
@@ -343,6 +344,7 @@ impl Stack {
         ensures asks { StackAsks (would judge.old) (state judge.old) (state judge.new) (R.shown reader.now) steps.old self.old self.new }
         ensures once { length asked.now.items ≡ 1 → StepsOnce (would judge.old) (state judge.old) (state judge.new) (R.shown reader.now) steps.old steps.new self.old.at self.new.at }
         ensures spends { length asked.now.items ≡ 1 → IfOk result (λ m. MovedSpends m steps.old steps.new (level_effort (R.shown reader.now) self.old.at) (level_effort (R.shown reader.now) self.new.at)) }
+        ensures fetches { length asked.now.items ≡ 1 → OnOk result (Fetches (R.shown reader.now) steps.old steps.new self.old.at.here self.new.at.here) }
         ensures plans { SamePlans (first_of self.old).here (first_of self.new).here }
         ensures err { OnErr result (Kept asked.now (R.shown reader.now) self.old self.new) }
     {

@@ -1,5 +1,5 @@
 //! The calls on a plan: steps, and the pieces of its retrievals.
-ghost use Rattle.std.specs.Prelude.{◌≡◌, ℕ, None, Ok, IfOk, OnErr};
+ghost use Rattle.std.specs.Prelude.{◌≡◌, ℕ, None, Ok, IfOk, OnErr, OnOk};
 ghost use Rattle.rv_reader.specs.Shown.{Shown};
 ghost use Rattle.rv_retrieval.specs.Given.{TakesPiece};
 ghost use Rattle.rv_retrieval.specs.Rulings.{GivesOn};
@@ -8,7 +8,7 @@ ghost use Rattle.rv_retrieval.specs.Telling.{CountsRise, SameCounts};
 ghost use Rattle.rv_judge.specs.declared.counting.Counts.{Counts as TheCounts};
 ghost use Rattle.rv_retrieval.specs.Effort.{GiveSpends};
 ghost use Rattle.rv_retrieval.specs.Short.{Settled};
-ghost use Rattle.rv_join.specs.Alone.{IsAlone, PlanAsks, PlanSpends, Spends, StepsOnce, TakesOnce, plan_effort};
+ghost use Rattle.rv_join.specs.Alone.{Fetches, FewFetches, IsAlone, PlanAsks, PlanSpends, Spends, StepsOnce, TakesOnce, plan_effort};
 ghost use Rattle.rv_join.specs.Levels.{first_of};
 ghost use Rattle.rv_join.specs.Rules.{SamePlans};
 ghost use Rattle.rv_join.specs.Pieces.{CountsPiece, GivesPiece, TakesAwaited, plan_awaited, plan_pieces, waited, waiting, waits};
@@ -50,6 +50,7 @@ impl Plan {
         ensures asks { PlanAsks (would judge.old) (state judge.old) (state judge.new) (R.shown reader.now) steps.old self.old self.new }
         ensures once { IsAlone self.old → StepsOnce (would judge.old) (state judge.old) (state judge.new) (R.shown reader.now) steps.old steps.new self.old.stack.at self.new.stack.at }
         ensures spends { IsAlone self.old → IfOk result (λ m. PlanSpends m steps.old steps.new (plan_effort (R.shown reader.now) self.old) (plan_effort (R.shown reader.now) self.new)) }
+        ensures fetches { IsAlone self.old → OnOk result (Fetches (R.shown reader.now) steps.old steps.new self.old.stack.at.here self.new.stack.at.here) }
         ensures plans { SamePlans (first_of self.old.stack).here (first_of self.new.stack).here }
         ensures reads { self.new.reads ≡ self.old.reads }
         ensures err { OnErr result (PlanKept (R.shown reader.now) self.old self.new) }
@@ -75,6 +76,7 @@ impl Plan {
         ensures asks { PlanAsks (would judge.old) (state judge.old) (state judge.new) (R.shown reader.now) steps.old self.old self.new }
         ensures once { IsAlone self.old → StepsOnce (would judge.old) (state judge.old) (state judge.new) (R.shown reader.now) steps.old steps.new self.old.stack.at self.new.stack.at }
         ensures spends { IsAlone self.old → IfOk result (λ m. PlanSpends m steps.old steps.new (plan_effort (R.shown reader.now) self.old) (plan_effort (R.shown reader.now) self.new)) }
+        ensures fetches { IsAlone self.old → OnOk result (Fetches (R.shown reader.now) steps.old steps.new self.old.stack.at.here self.new.stack.at.here) }
         ensures plans { SamePlans (first_of self.old.stack).here (first_of self.new.stack).here }
         ensures reads { self.new.reads ≡ self.old.reads }
         ensures err { OnErr result (PlanKept (R.shown reader.now) self.old self.new) }
@@ -113,6 +115,7 @@ impl Plan {
         ensures asks { PlanAsks (would judge.old) (state judge.old) (state judge.new) (R.shown reader.now) steps.old self.old self.new }
         ensures once { IsAlone self.old → StepsOnce (would judge.old) (state judge.old) (state judge.new) (R.shown reader.now) steps.old steps.new self.old.stack.at self.new.stack.at }
         ensures spends { IsAlone self.old → IfOk result (λ m. PlanSpends m steps.old steps.new (plan_effort (R.shown reader.now) self.old) (plan_effort (R.shown reader.now) self.new)) }
+        ensures fetches { IsAlone self.old → OnOk result (Fetches (R.shown reader.now) steps.old steps.new self.old.stack.at.here self.new.stack.at.here) }
         ensures plans { SamePlans (first_of self.old.stack).here (first_of self.new.stack).here }
         ensures reads { self.new.reads ≡ self.old.reads }
         ensures err { OnErr result (PlanKept (R.shown reader.now) self.old self.new) }
@@ -141,6 +144,8 @@ impl Plan {
         ensures asks { PlanAsks (would judge.old) (state judge.old) (state judge.new) (R.shown reader.now) steps.old self.old self.new }
         ensures once { IsAlone self.old → StepsOnce (would judge.old) (state judge.old) (state judge.new) (R.shown reader.now) steps.old steps.new self.old.stack.at self.new.stack.at }
         ensures spends { IsAlone self.old → IfOk result (λ m. PlanSpends m steps.old steps.new (plan_effort (R.shown reader.now) self.old) (plan_effort (R.shown reader.now) self.new)) }
+        ensures few { IsAlone self.old → OnOk result (FewFetches 0 (R.shown reader.now) self.old self.new) }
+        ensures lost { IsAlone self.old → FewFetches 1 (R.shown reader.now) self.old self.new }
         ensures fits { PlanFits (R.shown reader.now) self.new }
         ensures step { IfOk result (λ m. PlanMoves (R.shown reader.now) m self.old self.new) }
         ensures err { OnErr result (PlanKept (R.shown reader.now) self.old self.new) }

@@ -1,10 +1,11 @@
 use Rattle.std.proofs.Common.{refl}
-use Rattle.rv_cursor.specs.Left.{CursorFits}
+use Rattle.rv_cursor.specs.Left.{CursorFits, seen_by}
 use Rattle.rv_core.specs.Db.{IsOpen}
 use Rattle.rv_core.proofs.Databases.{given_stays}
 use Rattle.rv_core.proofs.Handling.{err_both, given_back}
 use Rattle.rv_core.proofs.Numbering.{listed_set}
 use Rattle.rv_core.proofs.Opens.{all_get, opens_at, same_at}
+use Rattle.rv_core.proofs.Shorts.{keeps_set}
 use Rattle.rv_core.proofs.pieces.give_at.Goals as goal
 
 pub returns-clause-seen : goal.returns-clause-seen
@@ -28,3 +29,9 @@ returns-clause-listed g c n h =
 
 pub returns-clause-err : goal.returns-clause-err
 returns-clause-err g c = err_both c.give.result _ _ _ (λ same quiet. (given_back c.args.cursors.now c.args.place c.at_mut-cursor.result.now c.give.new.self c.at_mut-cursor.ensures.value same, quiet)) c.give.ensures.err c.give.ensures.quiet
+
+pub returns-clause-settled : goal.returns-clause-settled
+returns-clause-settled g c shown all =
+    let cursor = c.at_mut-cursor.result.now in
+    let here = all_get (CursorFits shown) c.args.cursors.now c.args.place cursor c.at_mut-cursor.ensures.value all in
+    keeps_set c.args.cursors.now c.args.place cursor c.give.new.self c.at_mut-cursor.ensures.value (λ one s. (c.give.ensures.settled (seen_by shown cursor) here.plan one s).0)

@@ -13,6 +13,7 @@ returns-in-Err g c =
       turn = rw c.answered.ensures (parted_ok c.perform.result _ _ (any_ok c.perform.result _ (λ replies. turns_other _ c.args.asked _ replies.0 _ _ none)));
       lost = rw c.answered.ensures (parted_err c.perform.result _ (rw is at c.perform.ensures.lost));
       rules = c.perform.ensures.rules;
+      sees = c.perform.ensures.sees;
       err = rw c.answered.ensures (parted_err c.perform.result _ c.perform.ensures.err);
       opened = c.perform.ensures.opened;
       unopened = rw c.answered.ensures (parted_err c.perform.result _ c.perform.ensures.unopened);

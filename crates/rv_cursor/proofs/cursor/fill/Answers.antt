@@ -30,13 +30,13 @@ pub returns-in-Ok-End-clause-fills : goal.returns-in-Ok-End-clause-fills
 returns-in-Ok-End-clause-fills g c = record { moves = rw c.in-Ok-End.field-0-is at c.in-Ok-End.ensures.step; held = c.requires.empty }
 
 pub returns-in-Ok-Row-clause-front : goal.returns-in-Ok-Row-clause-front
-returns-in-Ok-Row-clause-front g c = (c.in-Ok-Row.offer, c.replace-before.ensures.after, front_ok (Row c.in-Ok-Row.offer) _ (seen_by (g.R.Reader.shown c.args.reader.now) c.args.cursor.now) _ _ _ _ c.args.cursor.now.plan c.step.new.self c.step.ensures.counts c.step.ensures.asks c.step.ensures.once (rw c.in-Ok-Row.field-0-is at c.in-Ok-Row.ensures.step) (rw c.in-Ok-Row.field-0-is at c.in-Ok-Row.ensures.spends))
+returns-in-Ok-Row-clause-front g c = (c.in-Ok-Row.offer, c.replace-before.ensures.after, front_ok (Row c.in-Ok-Row.offer) _ (seen_by (g.R.Reader.shown c.args.reader.now) c.args.cursor.now) _ _ _ _ c.args.cursor.now.plan c.step.new.self c.step.ensures.counts c.step.ensures.asks c.step.ensures.once (rw c.in-Ok-Row.field-0-is at c.in-Ok-Row.ensures.step) (rw c.in-Ok-Row.field-0-is at c.in-Ok-Row.ensures.spends) c.in-Ok-Row.ensures.few)
 
 pub returns-in-Ok-Working-clause-front : goal.returns-in-Ok-Working-clause-front
-returns-in-Ok-Working-clause-front g c = (c.requires.empty, front_ok Working _ (seen_by (g.R.Reader.shown c.args.reader.now) c.args.cursor.now) _ _ _ _ c.args.cursor.now.plan c.step.new.self c.step.ensures.counts c.step.ensures.asks c.step.ensures.once (rw c.in-Ok-Working.field-0-is at c.in-Ok-Working.ensures.step) (rw c.in-Ok-Working.field-0-is at c.in-Ok-Working.ensures.spends))
+returns-in-Ok-Working-clause-front g c = (c.requires.empty, front_ok Working _ (seen_by (g.R.Reader.shown c.args.reader.now) c.args.cursor.now) _ _ _ _ c.args.cursor.now.plan c.step.new.self c.step.ensures.counts c.step.ensures.asks c.step.ensures.once (rw c.in-Ok-Working.field-0-is at c.in-Ok-Working.ensures.step) (rw c.in-Ok-Working.field-0-is at c.in-Ok-Working.ensures.spends) c.in-Ok-Working.ensures.few)
 
 pub returns-in-Ok-End-clause-front : goal.returns-in-Ok-End-clause-front
-returns-in-Ok-End-clause-front g c = (c.requires.empty, front_ok End _ (seen_by (g.R.Reader.shown c.args.reader.now) c.args.cursor.now) _ _ _ _ c.args.cursor.now.plan c.step.new.self c.step.ensures.counts c.step.ensures.asks c.step.ensures.once (rw c.in-Ok-End.field-0-is at c.in-Ok-End.ensures.step) (rw c.in-Ok-End.field-0-is at c.in-Ok-End.ensures.spends))
+returns-in-Ok-End-clause-front g c = (c.requires.empty, front_ok End _ (seen_by (g.R.Reader.shown c.args.reader.now) c.args.cursor.now) _ _ _ _ c.args.cursor.now.plan c.step.new.self c.step.ensures.counts c.step.ensures.asks c.step.ensures.once (rw c.in-Ok-End.field-0-is at c.in-Ok-End.ensures.step) (rw c.in-Ok-End.field-0-is at c.in-Ok-End.ensures.spends) c.in-Ok-End.ensures.few)
 
 pub returns-in-Err-clause-lost : goal.returns-in-Err-clause-lost
-returns-in-Err-clause-lost g c = front_err _ (seen_by (g.R.Reader.shown c.args.reader.now) c.args.cursor.now) _ _ _ _ c.args.cursor.now.plan c.step.new.self c.step.ensures.counts c.step.ensures.asks c.step.ensures.once c.in-Err.ensures.err
+returns-in-Err-clause-lost g c = front_err _ (seen_by (g.R.Reader.shown c.args.reader.now) c.args.cursor.now) _ _ _ _ c.args.cursor.now.plan c.step.new.self c.step.ensures.counts c.step.ensures.asks c.step.ensures.once c.in-Err.ensures.err c.step.ensures.lost

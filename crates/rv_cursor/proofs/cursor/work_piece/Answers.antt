@@ -49,12 +49,12 @@ returns-in-Ok-clause-worked g c =
     let seen = seen_by (g.R.Reader.shown c.args.reader.now) c.args.cursor.now in
     let ready = rw c.in-Ok-Piece.field-0-is at c.in-Ok-Piece.ensures.ready in
     let fits = c.take.ensures.fits in
-    back_is _ seen _ _ _ c.args.cursor.now.plan c.take.new.self _ c.take.ensures.reads c.take.ensures.counts c.take.ensures.once c.take.ensures.awaited c.take.ensures.pieces c.take.ensures.stays c.in-Ok-Piece.ensures.spends (gives_back c.in-Ok._given _ seen _ _ c.in-Ok-Piece.piece _ c.take.new.self c.give.new.self ready c.sieve.ensures c.in-Ok.ensures.given c.in-Ok.ensures.obeys c.in-Ok.ensures.pieces c.give.ensures.counts (c.in-Ok.ensures.lowers seen fits) (c.in-Ok.ensures.less seen fits) (c.give.ensures.stays seen fits))
+    back_is _ seen _ _ _ c.args.cursor.now.plan c.take.new.self _ c.take.ensures.reads c.take.ensures.counts c.take.ensures.once c.take.ensures.awaited c.take.ensures.pieces c.take.ensures.stays c.in-Ok-Piece.ensures.spends (gives_back c.in-Ok._given _ seen _ _ c.in-Ok-Piece.piece _ c.take.new.self c.give.new.self ready c.sieve.ensures c.in-Ok.ensures.given c.in-Ok.ensures.obeys c.in-Ok.ensures.pieces c.give.ensures.counts (c.in-Ok.ensures.lowers seen fits) (c.in-Ok.ensures.less seen fits) (c.give.ensures.settled seen fits) (c.give.ensures.stays seen fits))
 
 pub returns-in-Ok-clause-moves : goal.returns-in-Ok-clause-moves
 returns-in-Ok-clause-moves g c = back_moves _ _ _ _ (
     let seen = seen_by (g.R.Reader.shown c.args.reader.now) c.args.cursor.now in
     let ready = rw c.in-Ok-Piece.field-0-is at c.in-Ok-Piece.ensures.ready in
     let fits = c.take.ensures.fits in
-    back_is _ seen _ _ _ c.args.cursor.now.plan c.take.new.self _ c.take.ensures.reads c.take.ensures.counts c.take.ensures.once c.take.ensures.awaited c.take.ensures.pieces c.take.ensures.stays c.in-Ok-Piece.ensures.spends (gives_back c.in-Ok._given _ seen _ _ c.in-Ok-Piece.piece _ c.take.new.self c.give.new.self ready c.sieve.ensures c.in-Ok.ensures.given c.in-Ok.ensures.obeys c.in-Ok.ensures.pieces c.give.ensures.counts (c.in-Ok.ensures.lowers seen fits) (c.in-Ok.ensures.less seen fits) (c.give.ensures.stays seen fits))
+    back_is _ seen _ _ _ c.args.cursor.now.plan c.take.new.self _ c.take.ensures.reads c.take.ensures.counts c.take.ensures.once c.take.ensures.awaited c.take.ensures.pieces c.take.ensures.stays c.in-Ok-Piece.ensures.spends (gives_back c.in-Ok._given _ seen _ _ c.in-Ok-Piece.piece _ c.take.new.self c.give.new.self ready c.sieve.ensures c.in-Ok.ensures.given c.in-Ok.ensures.obeys c.in-Ok.ensures.pieces c.give.ensures.counts (c.in-Ok.ensures.lowers seen fits) (c.in-Ok.ensures.less seen fits) (c.give.ensures.settled seen fits) (c.give.ensures.stays seen fits))
     )

@@ -1,5 +1,5 @@
-use Rattle.std.proofs.Common.{None, ◌∙◌}
-use Rattle.rv_cursor.specs.Moves.Move.{Front}
+use Rattle.std.proofs.Common.{◌∙◌}
+use Rattle.rv_cursor.specs.Moves.Move.{Lost}
 use Rattle.rv_cursor.proofs.Holding.{nearer_if, nearer_none, seen_stays, stays_on}
 use Rattle.rv_cursor.proofs.Moving.{front_moves, moves_by, moves_on, turn_ends, turn_on}
 use Rattle.rv_cursor.proofs.fetching.turn.Goals as goal
@@ -11,7 +11,7 @@ pub returns-in-Ended-clause-turn : goal.returns-in-Ended-clause-turn
 returns-in-Ended-clause-turn g c = turn_ends _ _ _ _ _ _ (rw c.in-Ended.is at c.in-Ok.ensures.front)
 
 pub returns-in-Err-clause-moves : goal.returns-in-Err-clause-moves
-returns-in-Err-clause-moves g c = moves_by Front _ _ _ _ (None, c.in-Err.ensures.lost)
+returns-in-Err-clause-moves g c = moves_by Lost _ _ _ _ c.in-Err.ensures.lost
 
 pub returns-in-Ok-work_beside : goal.returns-in-Ok-work_beside
 returns-in-Ok-work_beside g c =

@@ -1,4 +1,4 @@
-use Rattle.rv_core.proofs.Databases.{commits_all, commits_standing, stand_again, standing_same}
+use Rattle.rv_core.proofs.Databases.{commits_all, commits_sees, commits_standing, sees_again, stand_again, standing_same}
 use Rattle.std.proofs.Common.{refl}
 use Rattle.rv_core.proofs.database.Database.commit.Goals as goal
 
@@ -13,3 +13,9 @@ invariant_of-self-2 g c = commits_standing (g.S.Reader.shown c.self.inside.store
 
 pub returns-clause-ok : goal.returns-clause-ok
 returns-clause-ok g c = rw (← c.self.view_is) (commits_all (g.S.Reader.shown c.self.inside.store) (g.S.Reader.shown c.commit_some.new.store) c.self.inside.catalog c.self.inside.txns c.commit_done.new.self c.self.inside.cursors c.close_all.new.cursors c.self.inside.opened c.args.session c.in-Ok.finished.txn c.in-Ok.finished.base c.in-Ok-commit_some.number c.in-Ok.finished.changes.items c.in-Ok.ensures.ok c.in-Ok-commit_some.ensures.ok c.commit_done.ensures c.close_all.ensures c.self.invariant)
+
+pub returns-in-Err-clause-sees : goal.returns-in-Err-clause-sees
+returns-in-Err-clause-sees g c = rw (← c.self.view_is) (sees_again (g.S.Reader.shown c.self.inside.store) (g.S.Reader.shown c.commit_some.new.store) c.self.inside.catalog c.self.inside.txns c.self.inside.cursors c.self.inside.opened c.in-Err.ensures.err c.self.invariant)
+
+pub returns-clause-sees : goal.returns-clause-sees
+returns-clause-sees g c = rw (← c.self.view_is) (commits_sees (g.S.Reader.shown c.self.inside.store) (g.S.Reader.shown c.commit_some.new.store) c.self.inside.catalog c.self.inside.txns c.commit_done.new.self c.self.inside.cursors c.close_all.new.cursors c.self.inside.opened c.args.session c.in-Ok.finished.txn c.in-Ok.finished.base c.in-Ok-commit_some.number c.in-Ok.finished.changes.items c.in-Ok.ensures.ok c.in-Ok-commit_some.ensures.ok c.commit_done.ensures c.close_all.ensures c.self.invariant)

@@ -1,6 +1,6 @@
 use Rattle.std.proofs.Common.{◌∙◌, sym}
 use Rattle.rv_catalog.specs.Fits.{IsNewIndex}
-use Rattle.rv_core.proofs.Databases.{indexes_all, indexes_standing, stand_again, standing_same}
+use Rattle.rv_core.proofs.Databases.{idle_sees, indexes_all, indexes_standing, sees_again, stand_again, standing_same}
 use Rattle.rv_core.proofs.Indexing.{few_room, index_alone, index_columns}
 use Rattle.rv_core.proofs.database.Database.create_index.Goals as goal
 
@@ -26,3 +26,9 @@ pub returns-clause-ok : goal.returns-clause-ok
 returns-clause-ok g c =
     let room = few_room _ c.count_indexes.result c.count_indexes.ensures c.if-count_indexes-gt7.false in
     rw (← c.self.view_is) (indexes_all (g.S.Reader.shown c.self.inside.store) (g.S.Reader.shown c.add_index.new.store) c.self.inside.catalog c.add_index.new.catalog c.args.def c.self.inside.txns c.self.inside.cursors c.self.inside.opened (sym c.active.ensures ∙ c.in_default.is) room c.in-Ok.ensures.catalog c.in-Ok.ensures.store c.self.invariant)
+
+pub returns-in-Err-clause-sees : goal.returns-in-Err-clause-sees
+returns-in-Err-clause-sees g c = rw (← c.self.view_is) (sees_again (g.S.Reader.shown c.self.inside.store) (g.S.Reader.shown c.add_index.new.store) c.self.inside.catalog c.self.inside.txns c.self.inside.cursors c.self.inside.opened c.in-Err.ensures.err_store c.self.invariant)
+
+pub returns-clause-sees : goal.returns-clause-sees
+returns-clause-sees g c = rw (← c.self.view_is) (idle_sees (g.S.Reader.shown c.self.inside.store) (g.S.Reader.shown c.add_index.new.store) c.self.inside.catalog c.self.inside.txns c.self.inside.cursors c.self.inside.opened (sym c.active.ensures ∙ c.in_default.is) c.self.invariant)

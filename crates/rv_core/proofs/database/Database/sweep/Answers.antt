@@ -1,6 +1,6 @@
 use Rattle.std.proofs.Common.{refl}
 use Rattle.rv_core.proofs.Tied.{horizon_kept, horizon_last}
-use Rattle.rv_core.proofs.Databases.{sweeps_all, sweeps_standing}
+use Rattle.rv_core.proofs.Databases.{sweeps_all, sweeps_sees, sweeps_standing}
 use Rattle.rv_core.proofs.database.Database.sweep.Goals as goal
 
 pub sweep-requires-clause-low : goal.sweep-requires-clause-low
@@ -12,7 +12,10 @@ sweep-requires-clause-high g c = rw (c.horizon-horizon.ensures, c.last-last.ensu
 pub invariant_of-self : goal.invariant_of-self
 invariant_of-self g c = sweeps_standing (g.S.Reader.shown c.self.inside.store) (g.S.Reader.shown c.sweep.new.self) c.self.inside.catalog c.self.inside.txns c.self.inside.cursors c.self.inside.opened c.last-last.result c.horizon-horizon.result c.last-last.ensures.newest c.horizon-horizon.ensures c.sweep.ensures c.self.invariant
 
-pub returns : goal.returns
-returns g c =
+pub returns-clause-same : goal.returns-clause-same
+returns-clause-same g c =
     let e = sweeps_all (g.S.Reader.shown c.self.inside.store) (g.S.Reader.shown c.sweep.new.self) c.self.inside.catalog c.self.inside.txns c.self.inside.cursors c.self.inside.opened c.last-last.result c.horizon-horizon.result c.last-last.ensures.newest c.horizon-horizon.ensures c.sweep.ensures c.self.invariant in
     rw (← c.self.view_is, e) refl
+
+pub returns-clause-sees : goal.returns-clause-sees
+returns-clause-sees g c = rw (← c.self.view_is) (sweeps_sees (g.S.Reader.shown c.self.inside.store) (g.S.Reader.shown c.sweep.new.self) c.self.inside.catalog c.self.inside.txns c.self.inside.cursors c.self.inside.opened c.last-last.result c.horizon-horizon.result c.last-last.ensures.newest c.horizon-horizon.ensures c.sweep.ensures c.self.invariant)

@@ -16,3 +16,12 @@ returns-in-Moving-clause-spends g c = λ one. (let spends = c.in_ok-offer.ensure
 
 pub returns-in-Done-clause-spends : goal.returns-in-Done-clause-spends
 returns-in-Done-clause-spends g c = λ one. (let spends = c.in_ok-offer.ensures.spends one in rw c.in-Done.is at spends)
+
+pub returns-in-Gave-clause-fetches : goal.returns-in-Gave-clause-fetches
+returns-in-Gave-clause-fetches g c = c.in_ok-offer.ensures.fetches
+
+pub returns-in-Moving-clause-fetches : goal.returns-in-Moving-clause-fetches
+returns-in-Moving-clause-fetches g c = c.in_ok-offer.ensures.fetches
+
+pub returns-in-Done-clause-fetches : goal.returns-in-Done-clause-fetches
+returns-in-Done-clause-fetches g c = c.in_ok-offer.ensures.fetches

@@ -45,3 +45,12 @@ returns-in-End-clause-spends g c =
 
 pub returns-in_err-record-clause-once : goal.returns-in_err-record-clause-once
 returns-in_err-record-clause-once g c = catch_err _ _ _ (g.R.Reader.shown c.args.reader.now) c.args.steps.now c.fg_step.new.steps c.args.self.now c.fg_step.new.self c.in_err-record.ensures.quiet c.in_err-record.ensures.course c.in_err-record.ensures.still (c.fg_step.ensures.may_read c.requires.fits.tells) c.in_err-record.ensures.fewer c.fg_step.ensures.settled c.fg_step.ensures.pages c.fg_step.ensures.tries
+
+pub returns-in-Row-clause-fetches : goal.returns-in-Row-clause-fetches
+returns-in-Row-clause-fetches g c = record { records = c.in_ok-record.ensures.records }
+
+pub returns-in-Working-clause-fetches : goal.returns-in-Working-clause-fetches
+returns-in-Working-clause-fetches g c = record { records = c.in_ok-record.ensures.records }
+
+pub returns-in-End-clause-fetches : goal.returns-in-End-clause-fetches
+returns-in-End-clause-fetches g c = record { records = c.in_ok-record.ensures.records }

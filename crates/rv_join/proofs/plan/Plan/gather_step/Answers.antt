@@ -3,7 +3,7 @@ use Rattle.std.specs.List.Sorted.{IsPermutation}
 use Rattle.std.proofs.lemmas.List.Sorted.{IsPermutation-refl}
 use Rattle.rv_join.specs.Plans.{Planned}
 use Rattle.rv_join.proofs.Planning.{all_moves, gather_kept, given_good, sort_failed, sorted_good}
-use Rattle.rv_join.proofs.Going.{asks_then, once_then}
+use Rattle.rv_join.proofs.Going.{asks_then, fetches_then, once_then}
 use Rattle.rv_join.proofs.Stacking.{kept_if_not}
 use Rattle.rv_join.proofs.plan.Plan.gather_step.Goals as goal
 
@@ -33,3 +33,6 @@ returns-in_err-sort-clause-err g c = kept_if_not _ _ (sort_failed (g.R.Reader.sh
 
 pub returns-in_ok-sort-clause-step : goal.returns-in_ok-sort-clause-step
 returns-in_ok-sort-clause-step g c = all_moves (g.R.Reader.shown c.args.reader.now) c.give_next.result c.args.self.now c.gather.new.self c.sort.new.self c.give_next.new.self c.requires.fits c.requires.stage (rw c.if-branch.true at c.in_ok-gather.ensures.gathers) c.gather.ensures.same c.in_ok-sort.ensures.ok c.give_next.ensures.given c.give_next.ensures.same
+
+pub returns-in_ok-sort-clause-fetches : goal.returns-in_ok-sort-clause-fetches
+returns-in_ok-sort-clause-fetches g c = fetches_then (g.R.Reader.shown c.args.reader.now) c.args.steps.now c.gather.new.steps c.args.self.now c.gather.new.self c.give_next.new.self c.in_ok-gather.ensures.fetches (ap (λ (p : Planned). p.stack) c.give_next.ensures.same ∙ ap (λ (p : Planned). p.stack) c.in_ok-sort.ensures.ok.same)

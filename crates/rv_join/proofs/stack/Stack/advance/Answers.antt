@@ -3,7 +3,7 @@ use Rattle.rv_retrieval.specs.Shape.{Shape}
 use Rattle.rv_join.specs.declared.level.Level.{Level}
 use Rattle.rv_join.specs.Levels.{first_of}
 use Rattle.rv_join.specs.Rules.{SamePlans}
-use Rattle.rv_join.proofs.OneItem.{alone_ended, alone_none, done_spends, first_plans, once_plans, uses_once, uses_spends}
+use Rattle.rv_join.proofs.OneItem.{alone_ended, alone_none, done_spends, first_plans, once_plans, uses_fetches, uses_once, uses_spends}
 use Rattle.rv_join.proofs.Accounting.{alone_ends, alone_rises, alone_uses}
 use Rattle.rv_join.proofs.Catching.{stays_moves}
 use Rattle.rv_join.proofs.Going.{calls_at, calls_on}
@@ -95,3 +95,12 @@ returns-in-Ended-clause-asks g c = calls_on _ _ _ _ _ _ c.args.self.now c.ready.
 
 pub returns-in-Ready-clause-asks : goal.returns-in-Ready-clause-asks
 returns-in-Ready-clause-asks g c = calls_on _ _ _ _ _ _ c.args.self.now c.ready.new.self c.use_row.new.self c.ready.ensures.same c.ready.ensures.once c.use_row.ensures.goes
+
+pub returns-in-Worked-clause-fetches : goal.returns-in-Worked-clause-fetches
+returns-in-Worked-clause-fetches g c = λ one. c.in_ok-ready.ensures.fetches
+
+pub returns-in-Ended-clause-fetches : goal.returns-in-Ended-clause-fetches
+returns-in-Ended-clause-fetches g c = λ one. (let same = alone_ended c.args.asked.now (g.R.Reader.shown c.args.reader.now) c.args.self.now c.ready.new.self c.end.new.self c.requires.fits c.ready.ensures.same c.end.ensures.alone one in rw same c.in_ok-ready.ensures.fetches)
+
+pub returns-in-Ready-clause-fetches : goal.returns-in-Ready-clause-fetches
+returns-in-Ready-clause-fetches g c = λ one. uses_fetches c.use_row.result (g.R.Reader.shown c.args.reader.now) c.args.steps.now c.ready.new.steps c.use_row.new.steps c.args.self.now.at.here c.ready.new.self c.use_row.new.self (c.use_row.ensures.used one) (c.use_row.ensures.alone one).1 c.in_ok-ready.ensures.fetches
