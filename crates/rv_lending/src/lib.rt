@@ -4,5 +4,7 @@
 #![tactic(auto)]
 
 mod lent;
+#[cfg(test)]
+mod tests;
 
 pub use lent::call_phase;

@@ -1,5 +1,5 @@
 -- What a run makes of a script.
-use Rattle.std.specs.Prelude.{◌≡◌, ℕ, ◌+◌, ◌≤◌, ◌==◌, List, [], ◌∷◌, ◌++◌, Option, Some, None, Err, length, map, filter, IfSome, IsOkAnd}
+use Rattle.std.specs.Prelude.{◌≡◌, ℕ, ◌+◌, ◌≤◌, ◌==◌, List, [], ◌∷◌, ◌++◌, Option, Some, None, Err, length, map, filter, take, IfSome, IsOkAnd}
 use Rattle.std.specs.List.{slice_index_or}
 use Rattle.std.specs.Io.KnownBytes.{Appends, IsAtEnd}
 use Rattle.rv_io.specs.Causes.{Rose}
@@ -10,6 +10,7 @@ use Rattle.rv_script.specs.declared.scripts.Script.{Script}
 use Rattle.rv_script.specs.declared.scripts.ScriptFault.{ScriptFault}
 use Rattle.rv_script.specs.declared.scripts.ScriptFault.TheVariants as faults
 use Rattle.rv_script.specs.Script.{script_of}
+use Rattle.rv_phases.specs.Phase.{Call as OwnCall, asked, own}
 use Rattle.rv_gen.specs.Summary.{summary, summary_text}
 use Rattle.rv_gen.specs.Workload.{generated}
 use Rattle.rv_run.specs.declared.status.Over.{Over}
@@ -53,17 +54,37 @@ no_phase = record { judge = None; lines = [] }
 abbrev pub texts_of : List Phase → ℕ → ℕ → List (List ℕ)
 texts_of phases session number = map (λ (l : Line). l.text) (filter (λ (l : Line). l.session == session) (slice_index_or phases number no_phase).lines)
 
--- The history's calls are those of the script, each once, in the script's order; so each session's calls in each phase are
--- its own in their order.
+-- a session's calls that phases numbered from this one on ask, in order
+abbrev pub asked_from : ℕ → ℕ → List Phase → List OwnCall
+asked_from session phase [] = []
+asked_from session phase (p ∷ ps) = asked session phase p.lines ++ asked_from session (phase + 1) ps
+
+-- EACH SESSION'S CALLS in the history are those that the script asks of it, each once, in their order and phase; so are
+-- those of each phase. Each entry is some session's, so there is no other.
 pub record HasAllCalls (history : List Entry) (script : Script) : Type 0 where
-  pub order : calls_made history ≡ calls_asked script
+  pub whole : (session : ℕ) → own session history ≡ asked_from session 1 script.phases
   pub each : (session number : ℕ) → calls history session (number + 1) ≡ texts_of script.phases session number
 
--- The history's calls are the first ones of the script: each session's are a front of its own, whole in every phase before
--- the last one begun.
-pub record HasFirstCalls (history : List Entry) (all : List Call) : Type 0 where
+-- A session's calls in the history are all that so many phases ask of it, and the first ones that the next phase asks.
+pub record HasFront (session phases : ℕ) (history : List Entry) (script : Script) : Type 0 where
+  pub made : List OwnCall
+  pub rest : List OwnCall
+  pub front : asked session (phases + 1) (slice_index_or script.phases phases no_phase).lines ≡ made ++ rest
+  pub whole : own session history ≡ asked_from session 1 (take phases script.phases) ++ made
+
+-- THE FIRST CALLS of each session: the history has its calls of the first phases, whole, and a front of those of the next.
+pub record HasFirstCalls (history : List Entry) (script : Script) : Type 0 where
+  pub phases : ℕ
+  pub each : (session : ℕ) → HasFront session phases history script
+
+-- WITHOUT THREADS the history's calls are those of the script, in the script's order;
+abbrev pub IsInOrder : List Entry → Script → Type 0
+IsInOrder history script = calls_made history ≡ calls_asked script
+
+-- or the first ones of these.
+pub record IsFrontInOrder (history : List Entry) (script : Script) : Type 0 where
   pub rest : List Call
-  pub whole : all ≡ calls_made history ++ rest
+  pub whole : calls_asked script ≡ calls_made history ++ rest
 
 -- The bytes, of which there are 16,777,216 at most, write a script of which this holds.
 pub record Write (bytes : List ℕ) (P : Script → Type 0) : Type 0 where
@@ -94,13 +115,13 @@ pub record WritesAll {S : Type 0} (seed : Option ℕ) (left old new : Option (Li
 pub record StopsShort {S : Type 0} (seed : Option ℕ) (left old new : Option (List ℕ)) (core : Shown S) : Type 0 where
   pub legal : IsLegal core.history
   pub written : Appends old new (output seed core.history)
-  pub calls : Runs seed left (λ script. HasFirstCalls core.history (calls_asked script))
+  pub calls : Runs seed left (HasFirstCalls core.history)
 
 -- What status 6 says: a front of such an output was written.
 pub record WritesFront {S : Type 0} (seed : Option ℕ) (left old new : Option (List ℕ)) (core : Shown S) : Type 0 where
   pub legal : IsLegal core.history
   pub written : AppendsFront old new (output seed core.history)
-  pub calls : Runs seed left (λ script. HasFirstCalls core.history (calls_asked script))
+  pub calls : Runs seed left (HasFirstCalls core.history)
 
 -- The bytes, of which there are 16,777,216 at most, have this first fault.
 pub record HasFirst (bytes : List ℕ) (fault : ScriptFault) : Type 0 where

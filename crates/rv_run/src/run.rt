@@ -1,21 +1,22 @@
 //! The top call: a script from a source or from a seed, its transcript or its summary to a sink.
-ghost use Rattle.std.specs.Prelude.{◌≡◌, ◌≤◌, ◌<◌, ◌↔◌, Err, IfErr, IfOk, IfSome, IsOk, IsSome, IsSomeAnd, None, Ok, length, map};
-ghost use Rattle.std.specs.Io.KnownBytes.{IsAtEnd};
+ghost use Rattle.std.specs.Prelude.{◌≡◌, ◌≢◌, ◌≤◌, ◌<◌, ◌↔◌, Err, IfErr, IfOk, IfSome, IsOk, IsSome, IsSomeAnd, None, Ok, Some, length, map, true};
+ghost use Rattle.std.specs.Io.KnownBytes.{Appends, IsAtEnd};
 ghost use Rattle.rv_io.specs.Causes.{Rose};
-ghost use Rattle.rv_io.specs.Pieces.{Goes, TakesUpTo};
+ghost use Rattle.rv_io.specs.Pieces.{AppendsFront, Goes, TakesUpTo};
 ghost use Rattle.rv_gen.specs.Workload.{generated};
 ghost use Rattle.rv_believed.specs.History.{IsLegal};
 ghost use Rattle.rv_words.specs.declared.choices.Asked.{Asked as Askings};
-ghost use Rattle.rv_words.specs.Words.{AreAccepted, Ask};
+ghost use Rattle.rv_words.specs.Words.{AreAccepted, AreWithin, Ask};
 ghost use Rattle.rv_run.specs.Judges.{by_number};
-ghost use Rattle.rv_run.specs.Script.{FailsToRead, HasFault, PassesLimit, Runs, StopsShort, Told, WritesAll, WritesFront, output};
+ghost use Rattle.rv_run.specs.Script.{FailsToRead, HasFault, IsFrontInOrder, IsInOrder, PassesLimit, Runs, StopsShort, Told, WritesAll, WritesFront, output};
 ghost use Rattle.rv_run.specs.Making.{FitsScript};
-ghost use Rattle.rv_run.specs.Performing.{Hinders, IsPerformed, Performs, PerformsFirst, PerformsFront, calls_status, reading_status, script_status};
+ghost use Rattle.rv_run.specs.Performing.{Hinders, IsPerformed, Performs, PerformsFirst, PerformsFront, Stops, calls_status, reading_status, script_status};
 ghost use Rattle.rv_run.specs.Ruling.{CallsUnder, FirstCallsUnder, fresh, judging};
 ghost use Rattle.rv_run.specs.declared.status.Over.{Over as Limits};
 ghost use Rattle.rv_script.specs.declared.scripts.ScriptFault.{ScriptFault as Faults};
 
 use crate::calls::make_calls;
+use crate::calls_by_threads::make_calls_by_threads;
 use crate::judges::Judges;
 use crate::status::{Over, Status};
 use rv_believed::laws::same_are_legal;
@@ -24,11 +25,15 @@ use rv_gen::{generate, summary_of, write_summary};
 use rv_io::{Failed, ReadFault, Sink, Source, read_all};
 use rv_judge::{Judge, Uncounted};
 use rv_model::Entry;
+use rv_phases::Phased;
 use rv_reader::{Reader, Store};
 use rv_script::{Script, ScriptFault, read_script, write_text};
+use rv_shared::Gate;
 use rv_value::{NoMemory, Text};
 use rv_words::{Asked, accepted, asked};
 use std::alloc::Global;
+use std::sync::Wait;
+use std::thread::Threads;
 
 /// The end of a run, with the core that it made.
 #[derive(Drop)]
@@ -42,7 +47,87 @@ const LIMIT: u32 = 16_777_216;
 
 /// All that the program does: it reads a script, or generates one, makes its calls over the store, and writes the
 /// transcript, or of a generated script the summary. `words` are those of the command line behind the program's name, and
-/// `judges` those of the numbers 0 to 2, of which the words ask one to rule first. The status says how it ended.
+/// `judges` those of the numbers 0 to 2, of which the words ask one to rule first. Where the words ask threads, each phase has
+/// a thread for each session that has calls in it, and workers beside them, all of which end before the next phase begins;
+/// `gate` is told how far they are. The status says how it ended.
+pub fn run<
+    R: Threads + Wait + Sync,
+    P: Store + Reader<Ledger = Uncounted> + Send + Drop,
+    S: Source,
+    K: Sink,
+    G: Gate + Sync,
+>(
+    rt: &R,
+    alloc: Global,
+    store: P,
+    words: &[Text],
+    source: &mut S,
+    sink: &mut K,
+    judges: Vec<Box<dyn Judge>>,
+    gate: &G,
+) -> Ran<P>
+    requires tables { (P.shown store).tables ≡ 0 }
+    requires newest { (P.shown store).newest ≡ 0 }
+    requires judges { length judges.items ≡ 3 }
+
+    // The output of one legal history of a one-thread database was written, which holds each session's calls, each
+    // once, in its order and phase: the transcript, or of a generated script the summary.
+    ensures done { (asked : Askings) → Ask words.now asked → result.status ≡ Status.Done → IsSomeAnd result.core (λ core. WritesAll asked.seed (S.left source.old) (K.written sink.old) (K.written sink.new) core.engine) }
+
+    // Nothing was written, or the output of a legal history of each session's first calls.
+    ensures memory { (asked : Askings) → Ask words.now asked → result.status ≡ Status.Memory → IfSome result.core (λ core. StopsShort asked.seed (S.left source.old) (K.written sink.old) (K.written sink.new) core.engine) }
+
+    // Exactly where the words are not accepted, and then nothing is read.
+    ensures usage { (result.status ≡ Status.Usage) ↔ ¬ (AreAccepted words.now) }
+    ensures unasked { result.status ≡ Status.Usage → source.new ≡ source.old }
+    ensures script { (fault : Faults) → result.status ≡ Status.Script fault → HasFault (S.left source.old) (S.left source.new) fault }
+    ensures limit { (over : Limits) → result.status ≡ Status.Limit over → PassesLimit (S.left source.old) (S.left source.new) over }
+    ensures read { result.status ≡ Status.ReadFault → FailsToRead (S.left source.old) (S.left source.new) (S.faults source.old) (S.faults source.new) }
+    ensures write { result.status ≡ Status.WriteFault → Rose (K.faults sink.old) (K.faults sink.new) }
+    ensures front { (asked : Askings) → Ask words.now asked → result.status ≡ Status.WriteFault → IsSomeAnd result.core (λ core. WritesFront asked.seed (S.left source.old) (K.written sink.old) (K.written sink.new) core.engine) }
+
+    // However it ends, at most one byte more than the limit is taken; and all is read before the first call.
+    ensures taken { TakesUpTo (S.left source.old) (S.left source.new) 16777217 }
+    ensures all_read { (asked : Askings) → Ask words.now asked → asked.seed ≡ None → IsSome result.core → IsAtEnd (S.left source.new) }
+
+    // A generated script has no fault, and nothing is read for it.
+    ensures generated { (asked : Askings) → Ask words.now asked → IsSome asked.seed → IsPerformed result.status }
+    ensures unread { (asked : Askings) → Ask words.now asked → IsSome asked.seed → source.new ≡ source.old }
+
+    // A run that ended before the calls has no core, and wrote nothing.
+    ensures called { IsSome result.core → IsPerformed result.status }
+    ensures early { result.core ≡ None → sink.new ≡ sink.old }
+
+    // Without threads the calls stand in the script's order, and each was made under the judge of its phase, over the store
+    // that was handed in: under the judge that the phase names, else under the one before, and first under the one that the
+    // words ask.
+    ensures order { (asked : Askings) → Ask words.now asked → asked.threads ≡ false → result.status ≡ Status.Done → IsSomeAnd result.core (λ core. Runs asked.seed (S.left source.old) (IsInOrder core.engine.history)) }
+    ensures order_first { (asked : Askings) → Ask words.now asked → asked.threads ≡ false → IfSome result.core (λ core. Runs asked.seed (S.left source.old) (IsFrontInOrder core.engine.history)) }
+    ensures ruled { (asked : Askings) → Ask words.now asked → asked.threads ≡ false → result.status ≡ Status.Done → IsSomeAnd result.core (λ core. Runs asked.seed (S.left source.old) (CallsUnder (λ s. P.shown s) asked.steps store (map (λ j. judging (would j) (state j)) judges.items) asked.judge core.engine)) }
+    ensures ruled_first { (asked : Askings) → Ask words.now asked → asked.threads ≡ false → IfSome result.core (λ core. Runs asked.seed (S.left source.old) (FirstCallsUnder (λ s. P.shown s) asked.steps store (map (λ j. judging (would j) (state j)) judges.items) asked.judge core.engine)) }
+
+    // So many background steps may follow each foreground step as the words ask.
+    ensures steps { (asked : Askings) → Ask words.now asked → IfSome result.core (λ core. core.beside ≡ asked.steps) }
+{
+    match begin(alloc, words, source) {
+        Ok(begun) => perform_asked(
+            rt,
+            alloc,
+            store,
+            begun.asked,
+            &begun.script,
+            sink,
+            judges,
+            gate,
+        ),
+        Err(status) => ended(status),
+    }
+}
+
+/// All that the program does: it reads a script, or generates one, makes its calls over the store, and writes the
+/// transcript, or of a generated script the summary. `words` are those of the command line behind the program's name, and
+/// `judges` those of the numbers 0 to 2, of which the words ask one to rule first. It starts no threads, though the words ask
+/// them; `run` does. The status says how it ended.
 pub fn run_plain<P: Store + Reader<Ledger = Uncounted> + Drop, S: Source, K: Sink>(
     alloc: Global,
     store: P,
@@ -56,11 +141,13 @@ pub fn run_plain<P: Store + Reader<Ledger = Uncounted> + Drop, S: Source, K: Sin
     requires judges { length judges.items ≡ 3 }
 
     // The output of one legal history of a one-thread database was written, which holds each session's calls, each
-    // once, in its order and phase: the transcript, or of a generated script the summary.
+    // once, in its order and phase: the transcript, or of a generated script the summary. They stand in the script's order.
     ensures done { (asked : Askings) → Ask words.now asked → result.status ≡ Status.Done → IsSomeAnd result.core (λ core. WritesAll asked.seed (S.left source.old) (K.written sink.old) (K.written sink.new) core.engine) }
+    ensures order { (asked : Askings) → Ask words.now asked → result.status ≡ Status.Done → IsSomeAnd result.core (λ core. Runs asked.seed (S.left source.old) (IsInOrder core.engine.history)) }
 
-    // Nothing was written, or the output of a legal history of the first calls.
+    // Nothing was written, or the output of a legal history of the first calls, in the script's order.
     ensures memory { (asked : Askings) → Ask words.now asked → result.status ≡ Status.Memory → IfSome result.core (λ core. StopsShort asked.seed (S.left source.old) (K.written sink.old) (K.written sink.new) core.engine) }
+    ensures order_first { (asked : Askings) → Ask words.now asked → IfSome result.core (λ core. Runs asked.seed (S.left source.old) (IsFrontInOrder core.engine.history)) }
 
     // Exactly where the words are not accepted, and then nothing is read.
     ensures usage { (result.status ≡ Status.Usage) ↔ ¬ (AreAccepted words.now) }
@@ -91,15 +178,43 @@ pub fn run_plain<P: Store + Reader<Ledger = Uncounted> + Drop, S: Source, K: Sin
     // So many background steps may follow each foreground step as the words ask.
     ensures steps { (asked : Askings) → Ask words.now asked → IfSome result.core (λ core. core.beside ≡ asked.steps) }
 {
+    match begin(alloc, words, source) {
+        Ok(begun) => perform(alloc, store, begun.asked, &begun.script, sink, judges),
+        Err(status) => ended(status),
+    }
+}
+
+/// What a run begins with: what its words ask, and the script.
+#[derive(Drop)]
+struct Begun {
+    asked: Asked,
+    script: Script,
+}
+
+/// Reads the words and then the script, or makes it; or tells how a run ends that has none.
+fn begin<S: Source>(alloc: Global, words: &[Text], source: &mut S) -> Result<Begun, Status>
+    ensures only { IfOk result (λ b. (asked : Askings) → Ask words.now asked → asked ≡ b.asked) }
+    ensures within { IfOk result (λ b. AreWithin b.asked) }
+    ensures script { IfOk result (λ b. Runs b.asked.seed (S.left source.old) (λ told. told ≡ b.script)) }
+    ensures fits { IfOk result (λ b. FitsScript b.script) }
+    ensures all_read { IfOk result (λ b. b.asked.seed ≡ None → IsAtEnd (S.left source.new)) }
+    ensures taken { TakesUpTo (S.left source.old) (S.left source.new) 16777217 }
+    ensures accepted { IsOk result → AreAccepted words.now }
+    ensures usage { ¬ (AreAccepted words.now) → result ≡ Err Status.Usage }
+    ensures unasked { result ≡ Err Status.Usage → source.new ≡ source.old }
+    ensures fault { IfErr result (Stops words.now (S.left source.old) (S.left source.new) (S.faults source.old) (S.faults source.new)) }
+    ensures generated { (asked : Askings) → Ask words.now asked → IsSome asked.seed → IfErr result (λ status. status ≡ Status.Memory) }
+    ensures unread { (asked : Askings) → Ask words.now asked → IsSome asked.seed → source.new ≡ source.old }
+{
     if !accepted(words) {
-        return ended(Status::Usage);
+        return Err(Status::Usage);
     }
     let Ok(asked) = asked(alloc, words) else {
-        return ended(Status::Memory);
+        return Err(Status::Memory);
     };
     match script_to_run(alloc, asked.seed, source) {
-        Ok(script) => perform(alloc, store, asked, &script, sink, judges),
-        Err(status) => ended(status),
+        Ok(script) => Ok(Begun { asked, script }),
+        Err(status) => Err(status),
     }
 }
 
@@ -186,7 +301,7 @@ fn ended<P: Store + Reader<Ledger = Uncounted> + Drop>(status: Status) -> Ran<P>
     Ran { status, core: None }
 }
 
-/// Makes the calls of a script under the judges, and writes what is to be written of them.
+/// Makes the calls of a script under the judges, one after another, and writes what is to be written of them.
 fn perform<P: Store + Reader<Ledger = Uncounted> + Drop, K: Sink>(
     alloc: Global,
     store: P,
@@ -201,7 +316,9 @@ fn perform<P: Store + Reader<Ledger = Uncounted> + Drop, K: Sink>(
     requires known { asked.judge < 3 }
     requires fits { FitsScript script.now }
     ensures done { result.status ≡ Status.Done → IsSomeAnd result.core (λ core. Performs asked.seed (K.written sink.old) (K.written sink.new) script.now core.engine) }
+    ensures order { result.status ≡ Status.Done → IsSomeAnd result.core (λ core. IsInOrder core.engine.history script.now) }
     ensures memory { result.status ≡ Status.Memory → IsSomeAnd result.core (λ core. PerformsFirst asked.seed (K.written sink.old) (K.written sink.new) script.now core.engine) }
+    ensures order_first { IsSomeAnd result.core (λ core. IsFrontInOrder core.engine.history script.now) }
     ensures front { result.status ≡ Status.WriteFault → IsSomeAnd result.core (λ core. PerformsFront asked.seed (K.written sink.old) (K.written sink.new) script.now core.engine) }
     ensures write { result.status ≡ Status.WriteFault → Rose (K.faults sink.old) (K.faults sink.new) }
     ensures ruled { result.status ≡ Status.Done → IsSomeAnd result.core (λ core. CallsUnder (λ s. P.shown s) asked.steps store (map (λ j. judging (would j) (state j)) judges.items) asked.judge core.engine script.now) }
@@ -211,16 +328,89 @@ fn perform<P: Store + Reader<Ledger = Uncounted> + Drop, K: Sink>(
 {
     let (mut core, mut judges) = judged_core(alloc, store, asked, judges);
     let called = make_calls(&mut core, &mut judges, script.phases.as_slice()).is_ok();
-    if write_output(sink, asked.seed, legal_history(&core)).is_err() {
-        return Ran {
-            status: Status::WriteFault,
-            core: Some(core),
-        };
+    written(sink, asked.seed, core, called)
+}
+
+/// Makes the calls of a script under the judges, by threads where they are asked, and writes what is to be written of them.
+fn perform_asked<
+    R: Threads + Wait + Sync,
+    P: Store + Reader<Ledger = Uncounted> + Send + Drop,
+    K: Sink,
+    G: Gate + Sync,
+>(
+    rt: &R,
+    alloc: Global,
+    store: P,
+    asked: Asked,
+    script: &Script,
+    sink: &mut K,
+    judges: Vec<Box<dyn Judge>>,
+    gate: &G,
+) -> Ran<P>
+    requires tables { (P.shown store).tables ≡ 0 }
+    requires newest { (P.shown store).newest ≡ 0 }
+    requires judges { length judges.items ≡ 3 }
+    requires known { asked.judge < 3 }
+    requires workers { asked.workers ≤ 8 }
+    requires fits { FitsScript script.now }
+    ensures done { result.status ≡ Status.Done → IsSomeAnd result.core (λ core. Performs asked.seed (K.written sink.old) (K.written sink.new) script.now core.engine) }
+    ensures memory { result.status ≡ Status.Memory → IsSomeAnd result.core (λ core. PerformsFirst asked.seed (K.written sink.old) (K.written sink.new) script.now core.engine) }
+    ensures front { result.status ≡ Status.WriteFault → IsSomeAnd result.core (λ core. PerformsFront asked.seed (K.written sink.old) (K.written sink.new) script.now core.engine) }
+    ensures write { result.status ≡ Status.WriteFault → Rose (K.faults sink.old) (K.faults sink.new) }
+    ensures order { asked.threads ≡ false → result.status ≡ Status.Done → IsSomeAnd result.core (λ core. IsInOrder core.engine.history script.now) }
+    ensures order_first { asked.threads ≡ false → IsSomeAnd result.core (λ core. IsFrontInOrder core.engine.history script.now) }
+    ensures ruled { asked.threads ≡ false → result.status ≡ Status.Done → IsSomeAnd result.core (λ core. CallsUnder (λ s. P.shown s) asked.steps store (map (λ j. judging (would j) (state j)) judges.items) asked.judge core.engine script.now) }
+    ensures ruled_first { asked.threads ≡ false → IsSomeAnd result.core (λ core. FirstCallsUnder (λ s. P.shown s) asked.steps store (map (λ j. judging (would j) (state j)) judges.items) asked.judge core.engine script.now) }
+    ensures kinds { IsPerformed result.status }
+    ensures core { IsSomeAnd result.core (λ core. core.beside ≡ asked.steps) }
+{
+    if asked.threads {
+        perform_by_threads(rt, alloc, store, asked, script, sink, judges, gate)
+    } else {
+        perform(alloc, store, asked, script, sink, judges)
     }
-    Ran {
-        status: after_calls(called),
-        core: Some(core),
-    }
+}
+
+/// Makes the calls of a script under the judges, those of each phase by threads, and writes what is to be written of them.
+fn perform_by_threads<
+    R: Threads + Wait + Sync,
+    P: Store + Reader<Ledger = Uncounted> + Send + Drop,
+    K: Sink,
+    G: Gate + Sync,
+>(
+    rt: &R,
+    alloc: Global,
+    store: P,
+    asked: Asked,
+    script: &Script,
+    sink: &mut K,
+    judges: Vec<Box<dyn Judge>>,
+    gate: &G,
+) -> Ran<P>
+    requires tables { (P.shown store).tables ≡ 0 }
+    requires newest { (P.shown store).newest ≡ 0 }
+    requires judges { length judges.items ≡ 3 }
+    requires known { asked.judge < 3 }
+    requires workers { asked.workers ≤ 8 }
+    requires fits { FitsScript script.now }
+    ensures done { result.status ≡ Status.Done → IsSomeAnd result.core (λ core. Performs asked.seed (K.written sink.old) (K.written sink.new) script.now core.engine) }
+    ensures memory { result.status ≡ Status.Memory → IsSomeAnd result.core (λ core. PerformsFirst asked.seed (K.written sink.old) (K.written sink.new) script.now core.engine) }
+    ensures front { result.status ≡ Status.WriteFault → IsSomeAnd result.core (λ core. PerformsFront asked.seed (K.written sink.old) (K.written sink.new) script.now core.engine) }
+    ensures write { result.status ≡ Status.WriteFault → Rose (K.faults sink.old) (K.faults sink.new) }
+    ensures kinds { IsPerformed result.status }
+    ensures core { IsSomeAnd result.core (λ core. core.beside ≡ asked.steps) }
+{
+    let (core, mut judges) = judged_core(alloc, store, asked, judges);
+    let Phased { core, short } = make_calls_by_threads(
+        rt,
+        alloc,
+        core,
+        &mut judges,
+        script.phases.as_slice(),
+        u32::from(asked.workers),
+        gate,
+    );
+    written(sink, asked.seed, core, !short)
 }
 
 /// A core over the store under the judge that the words ask, and the judges beside it.
@@ -241,6 +431,32 @@ fn judged_core<P: Store + Reader<Ledger = Uncounted> + Drop>(
 {
     let (judges, first) = Judges::new(judges, asked.judge);
     (Core::new(alloc, store, first, asked.steps), judges)
+}
+
+/// Writes what is to be written of a core's history; how a run ends that called all, or that wanted memory.
+fn written<P: Store + Reader<Ledger = Uncounted> + Drop, K: Sink>(
+    sink: &mut K,
+    seed: Option<u32>,
+    core: Core<P>,
+    called: bool,
+) -> Ran<P>
+    requires { 0 ≤ core.engine.phase }
+    ensures core { result.core ≡ Some core }
+    ensures legal { IsLegal core.engine.history }
+    ensures kinds { IsPerformed result.status }
+    ensures done { result.status ≡ Status.Done → called ≡ true }
+    ensures whole { result.status ≢ Status.WriteFault → Appends (K.written sink.old) (K.written sink.new) (output seed core.engine.history) }
+    ensures front { result.status ≡ Status.WriteFault → AppendsFront (K.written sink.old) (K.written sink.new) (output seed core.engine.history) }
+    ensures write { result.status ≡ Status.WriteFault → Rose (K.faults sink.old) (K.faults sink.new) }
+{
+    let status = match write_output(sink, seed, legal_history(&core)) {
+        Ok(()) => after_calls(called),
+        Err(_failed) => Status::WriteFault,
+    };
+    Ran {
+        status,
+        core: Some(core),
+    }
 }
 
 /// The history of a core, which is legal in the words that a reader believes.
