@@ -12,8 +12,9 @@ use Rattle.rv_script.specs.Script.{script_of}
 use Rattle.rv_run.specs.declared.status.Status.{Status}
 use Rattle.rv_run.specs.declared.status.Status.TheVariants as statuses
 use Rattle.rv_core.specs.Core.{Shown}
-use Rattle.rv_run.specs.Script.{HasAllCalls, HasFirst, HasFirstCalls, HasTooMany, ReadsAll, Runs, StopsShort, Told, Write, WritesAll, WritesFront}
-use Rattle.rv_run.specs.Performing.{Hinders, Performs, PerformsFirst, PerformsFront, Stops, script_status}
+use Rattle.rv_model.specs.declared.entry.Entry.{Entry}
+use Rattle.rv_run.specs.Script.{HasFirst, HasTooMany, ReadsAll, Runs, Told, Write, Writes}
+use Rattle.rv_run.specs.Performing.{Hinders, Performs, Stops, script_status}
 
 -- where nothing was taken
 pub takes_none : (left : Option (List ℕ)) (most : ℕ) → TakesUpTo left left most
@@ -71,17 +72,10 @@ runs_of (Some seed) left script P is p = subst P (sym is) p
 
 -- what a performed script wrote, by the script that is run
 
-pub done_writes : {X S : Type 0} (core : Option X) (shown : X → Shown S) (seed : Option ℕ) (left old new : Option (List ℕ)) (script : Script) → Runs seed left (λ told. told ≡ script) → IsSomeAnd core (λ c. Performs seed old new script (shown c)) → IsSomeAnd core (λ c. WritesAll seed left old new (shown c))
-done_writes None shown seed left old new script is p = p
-done_writes (Some c) shown seed left old new script is p = record { legal = p.legal; written = p.written; calls = runs_of seed left script (HasAllCalls (shown c).history) is p.calls }
-
-pub memory_writes : {X S : Type 0} (core : Option X) (shown : X → Shown S) (seed : Option ℕ) (left old new : Option (List ℕ)) (script : Script) → Runs seed left (λ told. told ≡ script) → IsSomeAnd core (λ c. PerformsFirst seed old new script (shown c)) → IfSome core (λ c. StopsShort seed left old new (shown c))
-memory_writes None shown seed left old new script is p = tt
-memory_writes (Some c) shown seed left old new script is p = record { legal = p.legal; written = p.written; calls = runs_of seed left script (HasFirstCalls (shown c).history) is p.calls }
-
-pub fault_writes : {X S : Type 0} (core : Option X) (shown : X → Shown S) (seed : Option ℕ) (left old new : Option (List ℕ)) (script : Script) → Runs seed left (λ told. told ≡ script) → IsSomeAnd core (λ c. PerformsFront seed old new script (shown c)) → IsSomeAnd core (λ c. WritesFront seed left old new (shown c))
-fault_writes None shown seed left old new script is p = p
-fault_writes (Some c) shown seed left old new script is p = record { legal = p.legal; written = p.written; calls = runs_of seed left script (HasFirstCalls (shown c).history) is p.calls }
+pub performs_writes : {X : Type 0} (core : Option X) (history : X → List Entry) (seed : Option ℕ) (left : Option (List ℕ)) (Written : List ℕ → Type 0) (Has : List Entry → Script → Type 0) (script : Script) → Runs seed left (λ told. told ≡ script)
+    → IsSomeAnd core (λ c. Performs seed Written Has script (history c)) → IsSomeAnd core (λ c. Writes seed left Written Has (history c))
+performs_writes None history seed left Written Has script is p = p
+performs_writes (Some c) history seed left Written Has script is p = record { legal = p.legal; written = p.written; calls = runs_of seed left script (Has (history c)) is p.calls }
 
 pub some_if : {X : Type 0} (o : Option X) (P : X → Type 0) → IsSomeAnd o P → IfSome o P
 some_if None P p = tt

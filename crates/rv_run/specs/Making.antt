@@ -1,5 +1,4 @@
 -- What makes calls of a script's lines.
-use Rattle.std.specs.List.{slice_index_or}
 use Rattle.std.specs.Prelude.{◌≡◌, ◌<◌, ℕ, ◌+◌, ◌≤◌, List, ◌++◌, Some, All, IfSome, length, slice_get, slice_set, take}
 use Rattle.rv_script.specs.declared.scripts.Line.{Line}
 use Rattle.rv_script.specs.declared.scripts.Phase.{Phase}
@@ -9,8 +8,7 @@ use Rattle.rv_judge.specs.declared.judging.Facts.{Facts}
 use Rattle.rv_judge.specs.Verdicts.{Ruling}
 use Rattle.rv_gen.specs.Workload.{HasCalls}
 use Rattle.rv_run.specs.Ruling.{Judging, judging}
-use Rattle.rv_phases.specs.Phase.{asked, own}
-use Rattle.rv_run.specs.Script.{Call, asked_from, calls_made, calls_in, no_phase}
+use Rattle.rv_run.specs.Script.{Call, calls_made, calls_in, first_calls, of_session}
 
 -- a phase whose calls can be counted and may be made, and which names a judge that there is, or none
 pub record FitsPhase (phase : Phase) : Type 0 where
@@ -34,15 +32,10 @@ pub record MakesFirst (history : List Entry) (all : List Call) : Type 0 where
   pub rest : List Call
   pub whole : all ≡ calls_made history ++ rest
 
--- A session's calls are those of so many phases, and those that the first lines of the next phase ask.
-pub record MadeUpTo (session phases : ℕ) (history : List Entry) (all : List Phase) : Type 0 where
-  pub lines : ℕ
-  pub made : own session history ≡ asked_from session 1 (take phases all) ++ asked session (phases + 1) (take lines (slice_index_or all phases no_phase).lines)
-
--- so it is for each of the eight sessions
+-- The calls of each of the eight sessions are those of so many phases, and of its first lines of the next one.
 pub record MadeFirst (history : List Entry) (all : List Phase) : Type 0 where
   pub phases : ℕ
-  pub each : (session : ℕ) → 1 ≤ session → session ≤ 8 → MadeUpTo session phases history all
+  pub each : (session : ℕ) → 1 ≤ session → session ≤ 8 → (lines : ℕ) × (of_session session (calls_made history) ≡ of_session session (first_calls phases lines all))
 
 -- what calls under one judge do, which stood and now stands so: whatever its number is among judges, and whoever the others are
 abbrev pub Anywhere : Judging → Judging → (ℕ → List Judging → List Judging → Type 0) → Type 0

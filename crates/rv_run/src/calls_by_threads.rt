@@ -1,7 +1,6 @@
 //! The calls of a script, those of each phase by threads.
 ghost use Rattle.std.specs.Prelude.{◌≡◌, ℕ, ◌≤◌, [], All, length};
-ghost use Rattle.rv_phases.specs.Phase.{own};
-ghost use Rattle.rv_run.specs.Script.{asked_from};
+ghost use Rattle.rv_run.specs.Script.{calls_from, calls_made, of_session};
 ghost use Rattle.rv_run.specs.Making.{FitsPhase, MadeFirst};
 
 use crate::calls::enter_phase;
@@ -39,7 +38,7 @@ pub fn make_calls_by_threads<
     requires few { length phases.now ≤ 200001 }
     requires fits { All FitsPhase phases.now }
     requires workers { workers ≤ 8 }
-    ensures whole { result.short ≡ false → (session : ℕ) → 1 ≤ session → session ≤ 8 → own session result.core.engine.history ≡ asked_from session 1 phases.now }
+    ensures whole { result.short ≡ false → (session : ℕ) → 1 ≤ session → session ≤ 8 → of_session session (calls_made result.core.engine.history) ≡ of_session session (calls_from 1 phases.now) }
     ensures first { MadeFirst result.core.engine.history phases.now }
     ensures beside { result.core.beside ≡ core.beside }
 {

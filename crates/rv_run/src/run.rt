@@ -8,9 +8,9 @@ ghost use Rattle.rv_believed.specs.History.{IsLegal};
 ghost use Rattle.rv_words.specs.declared.choices.Asked.{Asked as Askings};
 ghost use Rattle.rv_words.specs.Words.{AreAccepted, AreWithin, Ask};
 ghost use Rattle.rv_run.specs.Judges.{by_number};
-ghost use Rattle.rv_run.specs.Script.{FailsToRead, HasFault, IsFrontInOrder, IsInOrder, PassesLimit, Runs, StopsShort, Told, WritesAll, WritesFront, output};
+ghost use Rattle.rv_run.specs.Script.{FailsToRead, HasAllCalls, HasFault, HasFirstCalls, IsFrontInOrder, IsInOrder, PassesLimit, Runs, Told, Writes, output};
 ghost use Rattle.rv_run.specs.Making.{FitsScript};
-ghost use Rattle.rv_run.specs.Performing.{Hinders, IsPerformed, Performs, PerformsFirst, PerformsFront, Stops, calls_status, reading_status, script_status};
+ghost use Rattle.rv_run.specs.Performing.{Hinders, IsPerformed, Performs, Stops, calls_status, reading_status, script_status};
 ghost use Rattle.rv_run.specs.Ruling.{CallsUnder, FirstCallsUnder, fresh, judging};
 ghost use Rattle.rv_run.specs.declared.status.Over.{Over as Limits};
 ghost use Rattle.rv_script.specs.declared.scripts.ScriptFault.{ScriptFault as Faults};
@@ -72,10 +72,10 @@ pub fn run<
 
     // The output of one legal history of a one-thread database was written, which holds each session's calls, each
     // once, in its order and phase: the transcript, or of a generated script the summary.
-    ensures done { (asked : Askings) → Ask words.now asked → result.status ≡ Status.Done → IsSomeAnd result.core (λ core. WritesAll asked.seed (S.left source.old) (K.written sink.old) (K.written sink.new) core.engine) }
+    ensures done { (asked : Askings) → Ask words.now asked → result.status ≡ Status.Done → IsSomeAnd result.core (λ core. Writes asked.seed (S.left source.old) (Appends (K.written sink.old) (K.written sink.new)) HasAllCalls core.engine.history) }
 
     // Nothing was written, or the output of a legal history of each session's first calls.
-    ensures memory { (asked : Askings) → Ask words.now asked → result.status ≡ Status.Memory → IfSome result.core (λ core. StopsShort asked.seed (S.left source.old) (K.written sink.old) (K.written sink.new) core.engine) }
+    ensures memory { (asked : Askings) → Ask words.now asked → result.status ≡ Status.Memory → IfSome result.core (λ core. Writes asked.seed (S.left source.old) (Appends (K.written sink.old) (K.written sink.new)) HasFirstCalls core.engine.history) }
 
     // Exactly where the words are not accepted, and then nothing is read.
     ensures usage { (result.status ≡ Status.Usage) ↔ ¬ (AreAccepted words.now) }
@@ -84,7 +84,7 @@ pub fn run<
     ensures limit { (over : Limits) → result.status ≡ Status.Limit over → PassesLimit (S.left source.old) (S.left source.new) over }
     ensures read { result.status ≡ Status.ReadFault → FailsToRead (S.left source.old) (S.left source.new) (S.faults source.old) (S.faults source.new) }
     ensures write { result.status ≡ Status.WriteFault → Rose (K.faults sink.old) (K.faults sink.new) }
-    ensures front { (asked : Askings) → Ask words.now asked → result.status ≡ Status.WriteFault → IsSomeAnd result.core (λ core. WritesFront asked.seed (S.left source.old) (K.written sink.old) (K.written sink.new) core.engine) }
+    ensures front { (asked : Askings) → Ask words.now asked → result.status ≡ Status.WriteFault → IsSomeAnd result.core (λ core. Writes asked.seed (S.left source.old) (AppendsFront (K.written sink.old) (K.written sink.new)) HasFirstCalls core.engine.history) }
 
     // However it ends, at most one byte more than the limit is taken; and all is read before the first call.
     ensures taken { TakesUpTo (S.left source.old) (S.left source.new) 16777217 }
@@ -142,11 +142,11 @@ pub fn run_plain<P: Store + Reader<Ledger = Uncounted> + Drop, S: Source, K: Sin
 
     // The output of one legal history of a one-thread database was written, which holds each session's calls, each
     // once, in its order and phase: the transcript, or of a generated script the summary. They stand in the script's order.
-    ensures done { (asked : Askings) → Ask words.now asked → result.status ≡ Status.Done → IsSomeAnd result.core (λ core. WritesAll asked.seed (S.left source.old) (K.written sink.old) (K.written sink.new) core.engine) }
+    ensures done { (asked : Askings) → Ask words.now asked → result.status ≡ Status.Done → IsSomeAnd result.core (λ core. Writes asked.seed (S.left source.old) (Appends (K.written sink.old) (K.written sink.new)) HasAllCalls core.engine.history) }
     ensures order { (asked : Askings) → Ask words.now asked → result.status ≡ Status.Done → IsSomeAnd result.core (λ core. Runs asked.seed (S.left source.old) (IsInOrder core.engine.history)) }
 
     // Nothing was written, or the output of a legal history of the first calls, in the script's order.
-    ensures memory { (asked : Askings) → Ask words.now asked → result.status ≡ Status.Memory → IfSome result.core (λ core. StopsShort asked.seed (S.left source.old) (K.written sink.old) (K.written sink.new) core.engine) }
+    ensures memory { (asked : Askings) → Ask words.now asked → result.status ≡ Status.Memory → IfSome result.core (λ core. Writes asked.seed (S.left source.old) (Appends (K.written sink.old) (K.written sink.new)) HasFirstCalls core.engine.history) }
     ensures order_first { (asked : Askings) → Ask words.now asked → IfSome result.core (λ core. Runs asked.seed (S.left source.old) (IsFrontInOrder core.engine.history)) }
 
     // Exactly where the words are not accepted, and then nothing is read.
@@ -156,7 +156,7 @@ pub fn run_plain<P: Store + Reader<Ledger = Uncounted> + Drop, S: Source, K: Sin
     ensures limit { (over : Limits) → result.status ≡ Status.Limit over → PassesLimit (S.left source.old) (S.left source.new) over }
     ensures read { result.status ≡ Status.ReadFault → FailsToRead (S.left source.old) (S.left source.new) (S.faults source.old) (S.faults source.new) }
     ensures write { result.status ≡ Status.WriteFault → Rose (K.faults sink.old) (K.faults sink.new) }
-    ensures front { (asked : Askings) → Ask words.now asked → result.status ≡ Status.WriteFault → IsSomeAnd result.core (λ core. WritesFront asked.seed (S.left source.old) (K.written sink.old) (K.written sink.new) core.engine) }
+    ensures front { (asked : Askings) → Ask words.now asked → result.status ≡ Status.WriteFault → IsSomeAnd result.core (λ core. Writes asked.seed (S.left source.old) (AppendsFront (K.written sink.old) (K.written sink.new)) HasFirstCalls core.engine.history) }
 
     // However it ends, at most one byte more than the limit is taken; and all is read before the first call.
     ensures taken { TakesUpTo (S.left source.old) (S.left source.new) 16777217 }
@@ -315,11 +315,11 @@ fn perform<P: Store + Reader<Ledger = Uncounted> + Drop, K: Sink>(
     requires judges { length judges.items ≡ 3 }
     requires known { asked.judge < 3 }
     requires fits { FitsScript script.now }
-    ensures done { result.status ≡ Status.Done → IsSomeAnd result.core (λ core. Performs asked.seed (K.written sink.old) (K.written sink.new) script.now core.engine) }
+    ensures done { result.status ≡ Status.Done → IsSomeAnd result.core (λ core. Performs asked.seed (Appends (K.written sink.old) (K.written sink.new)) HasAllCalls script.now core.engine.history) }
     ensures order { result.status ≡ Status.Done → IsSomeAnd result.core (λ core. IsInOrder core.engine.history script.now) }
-    ensures memory { result.status ≡ Status.Memory → IsSomeAnd result.core (λ core. PerformsFirst asked.seed (K.written sink.old) (K.written sink.new) script.now core.engine) }
+    ensures memory { result.status ≡ Status.Memory → IsSomeAnd result.core (λ core. Performs asked.seed (Appends (K.written sink.old) (K.written sink.new)) HasFirstCalls script.now core.engine.history) }
     ensures order_first { IsSomeAnd result.core (λ core. IsFrontInOrder core.engine.history script.now) }
-    ensures front { result.status ≡ Status.WriteFault → IsSomeAnd result.core (λ core. PerformsFront asked.seed (K.written sink.old) (K.written sink.new) script.now core.engine) }
+    ensures front { result.status ≡ Status.WriteFault → IsSomeAnd result.core (λ core. Performs asked.seed (AppendsFront (K.written sink.old) (K.written sink.new)) HasFirstCalls script.now core.engine.history) }
     ensures write { result.status ≡ Status.WriteFault → Rose (K.faults sink.old) (K.faults sink.new) }
     ensures ruled { result.status ≡ Status.Done → IsSomeAnd result.core (λ core. CallsUnder (λ s. P.shown s) asked.steps store (map (λ j. judging (would j) (state j)) judges.items) asked.judge core.engine script.now) }
     ensures ruled_first { IsSomeAnd result.core (λ core. FirstCallsUnder (λ s. P.shown s) asked.steps store (map (λ j. judging (would j) (state j)) judges.items) asked.judge core.engine script.now) }
@@ -353,9 +353,9 @@ fn perform_asked<
     requires known { asked.judge < 3 }
     requires workers { asked.workers ≤ 8 }
     requires fits { FitsScript script.now }
-    ensures done { result.status ≡ Status.Done → IsSomeAnd result.core (λ core. Performs asked.seed (K.written sink.old) (K.written sink.new) script.now core.engine) }
-    ensures memory { result.status ≡ Status.Memory → IsSomeAnd result.core (λ core. PerformsFirst asked.seed (K.written sink.old) (K.written sink.new) script.now core.engine) }
-    ensures front { result.status ≡ Status.WriteFault → IsSomeAnd result.core (λ core. PerformsFront asked.seed (K.written sink.old) (K.written sink.new) script.now core.engine) }
+    ensures done { result.status ≡ Status.Done → IsSomeAnd result.core (λ core. Performs asked.seed (Appends (K.written sink.old) (K.written sink.new)) HasAllCalls script.now core.engine.history) }
+    ensures memory { result.status ≡ Status.Memory → IsSomeAnd result.core (λ core. Performs asked.seed (Appends (K.written sink.old) (K.written sink.new)) HasFirstCalls script.now core.engine.history) }
+    ensures front { result.status ≡ Status.WriteFault → IsSomeAnd result.core (λ core. Performs asked.seed (AppendsFront (K.written sink.old) (K.written sink.new)) HasFirstCalls script.now core.engine.history) }
     ensures write { result.status ≡ Status.WriteFault → Rose (K.faults sink.old) (K.faults sink.new) }
     ensures order { asked.threads ≡ false → result.status ≡ Status.Done → IsSomeAnd result.core (λ core. IsInOrder core.engine.history script.now) }
     ensures order_first { asked.threads ≡ false → IsSomeAnd result.core (λ core. IsFrontInOrder core.engine.history script.now) }
@@ -393,9 +393,9 @@ fn perform_by_threads<
     requires known { asked.judge < 3 }
     requires workers { asked.workers ≤ 8 }
     requires fits { FitsScript script.now }
-    ensures done { result.status ≡ Status.Done → IsSomeAnd result.core (λ core. Performs asked.seed (K.written sink.old) (K.written sink.new) script.now core.engine) }
-    ensures memory { result.status ≡ Status.Memory → IsSomeAnd result.core (λ core. PerformsFirst asked.seed (K.written sink.old) (K.written sink.new) script.now core.engine) }
-    ensures front { result.status ≡ Status.WriteFault → IsSomeAnd result.core (λ core. PerformsFront asked.seed (K.written sink.old) (K.written sink.new) script.now core.engine) }
+    ensures done { result.status ≡ Status.Done → IsSomeAnd result.core (λ core. Performs asked.seed (Appends (K.written sink.old) (K.written sink.new)) HasAllCalls script.now core.engine.history) }
+    ensures memory { result.status ≡ Status.Memory → IsSomeAnd result.core (λ core. Performs asked.seed (Appends (K.written sink.old) (K.written sink.new)) HasFirstCalls script.now core.engine.history) }
+    ensures front { result.status ≡ Status.WriteFault → IsSomeAnd result.core (λ core. Performs asked.seed (AppendsFront (K.written sink.old) (K.written sink.new)) HasFirstCalls script.now core.engine.history) }
     ensures write { result.status ≡ Status.WriteFault → Rose (K.faults sink.old) (K.faults sink.new) }
     ensures kinds { IsPerformed result.status }
     ensures core { IsSomeAnd result.core (λ core. core.beside ≡ asked.steps) }

@@ -6,12 +6,18 @@ use Rattle.std.proofs.lemmas.Bool.{cases_Bool}
 use Rattle.rv_words.specs.declared.choices.Choice.{Choice}
 use Rattle.rv_words.specs.declared.choices.Choice.TheVariants.{Threads, Workers, Judge, Steps, Gen}
 use Rattle.rv_words.specs.declared.reading.Sofar.{Sofar}
-use Rattle.rv_words.specs.Words.{Item, IsItem, IsValue, Lacks, Once, is_flag, is_option, name_of, value_words, words_of}
+use Rattle.rv_words.specs.Words.{Item, IsItem, IsValue, Lacks, Once, is_flag, is_option, name_of, words_of}
 use Rattle.rv_words.specs.Reading.{Form, Named, Joined, Other, fit_from, fit_more, form, given, marked, value, with_form, with_new, with_word}
 use Rattle.rv_words.proofs.Values.{has_value, is_value}
 use Rattle.rv_words.proofs.Forms.{is_joined, is_named, joined_word, named_word}
 
 -- ---- options
+
+-- the words of an option that takes a value
+abbrev pub value_words : Choice → Bool → List ℕ → List (List ℕ)
+value_words option behind digits = if behind
+    then (name_of option ++ (codes "=" ++ digits)) ∷ []
+    else name_of option ∷ digits ∷ []
 
 pub option_cases : (a b : Choice) → ((a ≡ b) × (is_option a b ≡ true)) ⊎ ((a ≢ b) × (is_option a b ≡ false))
 option_cases Threads Threads = inl (refl, refl)

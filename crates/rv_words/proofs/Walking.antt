@@ -18,9 +18,13 @@ use Rattle.rv_words.specs.declared.choices.Choice.{Choice}
 use Rattle.rv_words.specs.declared.choices.Choice.TheVariants.{Threads, Workers, Judge, Steps, Gen}
 use Rattle.rv_words.specs.Command.{app, asked_in, flag_in, found_in, id_of, rule_for, valued_rule}
 use Rattle.rv_words.specs.Reading.{value}
-use Rattle.rv_words.specs.Words.{AreAccepted, Ask, IsItem, IsValue, Item, Lacks, Once, asked_of, has_option, is_digit, is_flag, is_option, name_of, value_of, value_words, words_of}
-use Rattle.rv_words.proofs.Accepts.{option_cases}
+use Rattle.rv_words.specs.Words.{AreAccepted, Ask, IsItem, IsValue, Item, Lacks, Once, asked_of, is_digit, is_flag, is_option, name_of, value_of, words_of}
+use Rattle.rv_words.proofs.Accepts.{option_cases, value_words}
 use Rattle.rv_words.proofs.Values.{and_parts, is_value}
+
+-- whether there is an item of this option
+abbrev has_option : Choice → List Item → Bool
+has_option option items = list_any (λ (item : Item). is_option option item.option) items
 
 -- the options as clap builds them
 abbrev rules : List Rule

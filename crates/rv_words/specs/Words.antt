@@ -1,5 +1,5 @@
 -- The words that the program accepts, and what they ask.
-use Rattle.std.specs.Prelude.{◌≡◌, ℕ, ◌+◌, ◌-◌, ◌*◌, ◌≤◌, ◌&&◌, ◌≢◌, List, [], ◌∷◌, ◌++◌, Bool, true, false, Option, Some, None, codes, flat_map, if◌then◌else◌, length, nat_le, unwrap_or}
+use Rattle.std.specs.Prelude.{◌≡◌, ℕ, ◌+◌, ◌-◌, ◌*◌, ◌≤◌, ◌&&◌, ◌≢◌, List, [], ◌∷◌, ◌++◌, Bool, true, false, Option, Some, None, bytes_eq, codes, flat_map, if◌then◌else◌, length, nat_le, unwrap_or}
 use Rattle.std.specs.List.{AllByRecursion, list_all, list_any}
 use Rattle.rv_words.specs.declared.choices.Choice.{Choice}
 use Rattle.rv_words.specs.declared.choices.Choice.TheVariants.{Threads, Workers, Judge, Steps, Gen}
@@ -17,10 +17,7 @@ name_of Gen = codes "--gen"
 -- an option that takes no value
 abbrev pub is_flag : Choice → Bool
 is_flag Threads = true
-is_flag Workers = false
-is_flag Judge = false
-is_flag Steps = false
-is_flag Gen = false
+is_flag option = false
 
 -- the greatest value of an option
 abbrev pub greatest : Choice → ℕ
@@ -58,15 +55,10 @@ pub record Item : Type 0 where
   pub digits : List ℕ
   pub behind : Bool
 
-abbrev pub value_words : Choice → Bool → List ℕ → List (List ℕ)
-value_words option behind digits = if behind
-    then (name_of option ++ (codes "=" ++ digits)) ∷ []
-    else name_of option ∷ digits ∷ []
-
 abbrev pub words_of : Item → List (List ℕ)
-words_of item = if is_flag item.option
-    then name_of item.option ∷ []
-    else value_words item.option item.behind item.digits
+words_of item = if is_flag item.option then name_of item.option ∷ []
+    else (if item.behind then (name_of item.option ++ (codes "=" ++ item.digits)) ∷ []
+    else name_of item.option ∷ item.digits ∷ [])
 
 abbrev pub IsItem : Item → Type 0
 IsItem item = is_flag item.option ≡ false → IsValue item.option item.digits
@@ -93,26 +85,17 @@ pub record AreAccepted (words : List (List ℕ)) : Type 0 where
 -- ---- what they ask
 
 abbrev pub is_option : Choice → Choice → Bool
-is_option Threads Threads = true
-is_option Workers Workers = true
-is_option Judge Judge = true
-is_option Steps Steps = true
-is_option Gen Gen = true
-is_option a b = false
+is_option a b = bytes_eq (name_of a) (name_of b)
 
 -- the value of the option's item, if any
 abbrev pub value_of : Choice → List Item → Option ℕ
 value_of option [] = None
 value_of option (item ∷ items) = if is_option option item.option then Some (number item.digits) else value_of option items
 
--- whether there is an item of this option
-abbrev pub has_option : Choice → List Item → Bool
-has_option option items = list_any (λ (item : Item). is_option option item.option) items
-
 -- no threads, two workers, judge 0 and one step where nothing else is asked, and the script that is read
 abbrev pub asked_of : List Item → Asked
 asked_of items = record {
-  threads = has_option Threads items;
+  threads = list_any (λ (item : Item). is_option Threads item.option) items;
   workers = unwrap_or (value_of Workers items) 2;
   judge = unwrap_or (value_of Judge items) 0;
   steps = unwrap_or (value_of Steps items) 1;

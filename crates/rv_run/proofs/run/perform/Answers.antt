@@ -2,7 +2,7 @@ use Rattle.std.proofs.Common.{◌≡◌, ap, inl, inr, map, rules}
 use Rattle.rv_run.specs.Judges.{by_number}
 use Rattle.rv_run.specs.Ruling.{between, judging}
 use Rattle.rv_run.specs.Script.{calls_asked, calls_made}
-use Rattle.rv_run.proofs.CallLists.{all_calls, front_calls, whole_of}
+use Rattle.rv_run.proofs.CallLists.{all_calls, front_calls}
 use Rattle.rv_run.proofs.Ends.{called_performs, not_write}
 use Rattle.rv_run.proofs.Rulings.{calls_under, first_calls_under, first_either}
 use Rattle.rv_run.proofs.run.perform.Goals as goal
@@ -12,7 +12,7 @@ returns-clause-done g c = λ e.
     let made : calls_made c.make_calls.new.core.engine.history ≡ calls_asked c.args.script.now = called_performs c.make_calls.result c.is_ok-called.result _ (rw c.as_slice.ensures at c.make_calls.ensures.ok) c.is_ok-called.ensures.value (c.written.ensures.done e) in
     rw c.written.ensures.core (record {
       legal = c.written.ensures.legal;
-      calls = all_calls c.make_calls.new.core.engine.history c.args.script.now (whole_of c.make_calls.new.core.engine.history c.args.script.now made);
+      calls = all_calls c.make_calls.new.core.engine.history c.args.script.now made;
       written = c.written.ensures.whole (not_write c.written.result.status (inl e));
     })
 

@@ -1,5 +1,4 @@
 use Rattle.std.proofs.Common.{◌≡◌, inl, inr}
-use Rattle.rv_run.proofs.CallLists.{all_calls}
 use Rattle.rv_run.proofs.Ends.{not_short, not_write}
 use Rattle.rv_run.proofs.Threads.{calls_fit, first_all, whole_all}
 use Rattle.rv_run.proofs.run.perform_by_threads.Goals as goal
@@ -7,11 +6,10 @@ use Rattle.rv_run.proofs.run.perform_by_threads.Goals as goal
 pub returns-clause-done : goal.returns-clause-done
 returns-clause-done g c = λ e.
     let history = c.make_calls_by_threads.result.core.engine.history in
-    let phases = c.args.script.now.phases in
     let made = rw c.as_slice.ensures at c.make_calls_by_threads.ensures.whole (not_short c.make_calls_by_threads.result.short (c.written.ensures.done e)) in
     rw c.written.ensures.core (record {
       legal = c.written.ensures.legal;
-      calls = all_calls history c.args.script.now (whole_all history phases c.written.ensures.legal (calls_fit c.args.script.now c.requires.fits) made);
+      calls = whole_all history c.args.script.now c.written.ensures.legal (calls_fit c.args.script.now c.requires.fits) made;
       written = c.written.ensures.whole (not_write c.written.result.status (inl e));
     })
 

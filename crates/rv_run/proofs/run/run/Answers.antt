@@ -5,20 +5,20 @@ use Rattle.rv_run.specs.declared.status.Status.TheVariants as statuses
 use Rattle.rv_run.specs.Ruling.{CallsUnder, FirstCallsUnder, judging}
 use Rattle.rv_run.specs.Script.{IsFrontInOrder, IsInOrder}
 use Rattle.rv_words.specs.declared.choices.Asked.{Asked}
-use Rattle.rv_run.proofs.Ends.{done_writes, memory_writes, fault_writes, runs_so, some_if}
+use Rattle.rv_run.proofs.Ends.{performs_writes, runs_so, some_if}
 use Rattle.rv_run.proofs.run.run.Goals as goal
 
 pub returns-in-Ok-clause-done : goal.returns-in-Ok-clause-done
-returns-in-Ok-clause-done g c = λ asked ask done. rw (c.in-Ok.ensures.only asked ask) (done_writes c.perform_asked.result.core (λ core. core.engine) _ _ _ _ c.in-Ok.begun.script c.in-Ok.ensures.script (c.perform_asked.ensures.done done))
+returns-in-Ok-clause-done g c = λ asked ask done. rw (c.in-Ok.ensures.only asked ask) (performs_writes c.perform_asked.result.core (λ core. core.engine.history) _ _ _ _ c.in-Ok.begun.script c.in-Ok.ensures.script (c.perform_asked.ensures.done done))
 
 pub returns-in-Ok-clause-all_read : goal.returns-in-Ok-clause-all_read
 returns-in-Ok-clause-all_read g c = λ asked ask none some. c.in-Ok.ensures.all_read (ap (λ (a : Asked). a.seed) (sym (c.in-Ok.ensures.only asked ask)) ∙ none)
 
 pub returns-in-Ok-clause-memory : goal.returns-in-Ok-clause-memory
-returns-in-Ok-clause-memory g c = λ asked ask memory. rw (c.in-Ok.ensures.only asked ask) (memory_writes c.perform_asked.result.core (λ core. core.engine) _ _ _ _ c.in-Ok.begun.script c.in-Ok.ensures.script (c.perform_asked.ensures.memory memory))
+returns-in-Ok-clause-memory g c = λ asked ask memory. rw (c.in-Ok.ensures.only asked ask) (some_if c.perform_asked.result.core _ (performs_writes c.perform_asked.result.core (λ core. core.engine.history) _ _ _ _ c.in-Ok.begun.script c.in-Ok.ensures.script (c.perform_asked.ensures.memory memory)))
 
 pub returns-in-Ok-clause-front : goal.returns-in-Ok-clause-front
-returns-in-Ok-clause-front g c = λ asked ask fault. rw (c.in-Ok.ensures.only asked ask) (fault_writes c.perform_asked.result.core (λ core. core.engine) _ _ _ _ c.in-Ok.begun.script c.in-Ok.ensures.script (c.perform_asked.ensures.front fault))
+returns-in-Ok-clause-front g c = λ asked ask fault. rw (c.in-Ok.ensures.only asked ask) (performs_writes c.perform_asked.result.core (λ core. core.engine.history) _ _ _ _ c.in-Ok.begun.script c.in-Ok.ensures.script (c.perform_asked.ensures.front fault))
 
 pub returns-in-Ok-clause-unread : goal.returns-in-Ok-clause-unread
 returns-in-Ok-clause-unread g c = c.begin.ensures.unread
