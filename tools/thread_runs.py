@@ -18,7 +18,6 @@ from random_scripts import Maker
 from slow_audit import verdict
 
 
-
 def parted(rng, script):
     """The script with more lines at which a phase begins."""
     share = rng.choice([0, 0.01, 0.05, 0.2])

@@ -57,6 +57,7 @@ fn open<C: Served + Send + Drop, R: Wait + Abort>(
     call(rt, shared, pass, "BEGIN", 1);
     'rows: for row in 0..40u32 {
         let text = format!(in alloc; "INSERT INTO T VALUES ({row}, 0)")?;
+        assert!(rt; text.len() <= 4096);
         call(rt, shared, pass, &text, 1);
     }
     call(rt, shared, pass, "COMMIT", 1);

@@ -94,12 +94,13 @@ phase_stops : (i : ℕ) (ps : List Phase) (lines : List Line) (short : Bool) (ol
 phase_stops i ps lines short old new same up done = record {
   phases = i;
   each = λ session low high.
-      let made = done.each session low high in
-      (made.count,
+      let made = done.each session low high in (
+        made.count,
         gained session (i + 1) (take made.count lines) old new made.calls
-        ∙ ap (λ (cs : List Call). cs ++ of_session session (calls_in (i + 1) (take made.count lines))) (up session low high)
-        ∙ ap (λ (ls : List Line). of_session session (calls_from 1 (take i ps)) ++ of_session session (calls_in (i + 1) (take made.count ls))) same
-        ∙ sym (both session (calls_from 1 (take i ps)) (calls_in (i + 1) (take made.count (slice_index_or ps i no_phase).lines))));
+            ∙ ap (λ (cs : List Call). cs ++ of_session session (calls_in (i + 1) (take made.count lines))) (up session low high)
+            ∙ ap (λ (ls : List Line). of_session session (calls_from 1 (take i ps)) ++ of_session session (calls_in (i + 1) (take made.count ls))) same
+            ∙ sym (both session (calls_from 1 (take i ps)) (calls_in (i + 1) (take made.count (slice_index_or ps i no_phase).lines))),
+      );
 }
 
 -- whole phases are the first ones
@@ -183,9 +184,11 @@ first_all h script legal fits f = record {
   phases = f.phases;
   each = λ session. elim (cases_Bool (nat_le 1 session && nat_le session 8)) [
     | inl t ↦ f.each session (inside_low session t) (inside_high session t)
-    | inr out ↦ (0,
+    | inr out ↦ (
+      0,
       made_none session out empty legal.0 0 h legal.1
-      ∙ sym (ap (of_session session) (append-nil (calls_from 1 (take f.phases script.phases))) ∙ from_none session 1 out (take f.phases script.phases) (first_fit script.phases f.phases fits)))
+          ∙ sym (ap (of_session session) (append-nil (calls_from 1 (take f.phases script.phases))) ∙ from_none session 1 out (take f.phases script.phases) (first_fit script.phases f.phases fits)),
+    )
   ];
 }
 
