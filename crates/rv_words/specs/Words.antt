@@ -84,6 +84,7 @@ pub record AreAccepted (words : List (List ℕ)) : Type 0 where
 
 -- ---- what they ask
 
+-- whether two options are the same: each has a name of its own
 abbrev pub is_option : Choice → Choice → Bool
 is_option a b = bytes_eq (name_of a) (name_of b)
 
