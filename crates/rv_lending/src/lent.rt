@@ -19,7 +19,7 @@ use std::thread::Threads;
 
 /// The parts of a core. The judge's box is a field of this type, so that its meaning can be named.
 #[derive(Drop)]
-pub(crate) struct Lent<S: Store + Reader<Ledger = Uncounted> + Drop> {
+struct Lent<S: Store + Reader<Ledger = Uncounted> + Drop> {
     engine: Engine<S>,
     judge: Box<dyn Judge>,
     beside: u8,
@@ -76,7 +76,7 @@ impl<S: Store + Reader<Ledger = Uncounted> + Drop> Served for Lent<S> {
 }
 
 /// Takes a core apart for threads.
-pub(crate) fn lend<S: Store + Reader<Ledger = Uncounted> + Drop>(core: Core<S>) -> Lent<S>
+fn lend<S: Store + Reader<Ledger = Uncounted> + Drop>(core: Core<S>) -> Lent<S>
     requires { 0 ≤ core.engine.phase }
     ensures engine { result.engine ≡ core.engine }
     ensures beside { result.beside ≡ core.beside }
@@ -90,10 +90,7 @@ pub(crate) fn lend<S: Store + Reader<Ledger = Uncounted> + Drop>(core: Core<S>) 
 }
 
 /// The core again, with the number of background steps that it had.
-pub(crate) fn give_back<S: Store + Reader<Ledger = Uncounted> + Drop>(
-    lent: Lent<S>,
-    beside: u8,
-) -> Core<S>
+fn give_back<S: Store + Reader<Ledger = Uncounted> + Drop>(lent: Lent<S>, beside: u8) -> Core<S>
     requires { 0 ≤ lent.engine.phase }
     ensures engine { result.engine ≡ lent.engine }
     ensures beside { result.beside ≡ beside }

@@ -4,7 +4,5 @@
 #![tactic(auto)]
 
 mod lent;
-#[cfg(test)]
-mod tests;
 
 pub use lent::call_phase;
