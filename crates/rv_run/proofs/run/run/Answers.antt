@@ -27,7 +27,7 @@ pub returns-in-Ok-clause-steps : goal.returns-in-Ok-clause-steps
 returns-in-Ok-clause-steps g c = λ asked ask. rw (c.in-Ok.ensures.only asked ask) (some_if c.perform_asked.result.core (λ core. core.beside ≡ c.in-Ok.begun.asked.steps) c.perform_asked.ensures.core)
 
 pub returns-in-Err-clause-generated : goal.returns-in-Err-clause-generated
-returns-in-Err-clause-generated g c = λ asked ask some. rw (c.ended-in-Err.ensures.status, c.begin.ensures.generated asked ask some) tt
+returns-in-Err-clause-generated g c = λ asked ask some. rw (c.ended.ensures.status, c.begin.ensures.generated asked ask some) tt
 
 pub returns-in-Err-clause-unread : goal.returns-in-Err-clause-unread
 returns-in-Err-clause-unread g c = c.begin.ensures.unread
@@ -48,7 +48,7 @@ pub returns-in-Ok-clause-usage : goal.returns-in-Ok-clause-usage
 returns-in-Ok-clause-usage g c = (λ e. absurd (subst IsPerformed e c.perform_asked.ensures.kinds), λ refused. absurd (refused (c.in-Ok.ensures.accepted refl)))
 
 pub returns-in-Err-clause-usage : goal.returns-in-Err-clause-usage
-returns-in-Err-clause-usage g c = (λ e. subst (Stops _ _ _ _ _) (sym c.ended-in-Err.ensures.status ∙ e) c.in-Err.ensures.fault, λ refused. let said = c.in-Err.ensures.usage refused in let is : c.in-Err.status ≡ statuses.Usage = cc in c.ended-in-Err.ensures.status ∙ is)
+returns-in-Err-clause-usage g c = (λ e. subst (Stops _ _ _ _ _) (sym c.ended.ensures.status ∙ e) c.in-Err.ensures.fault, λ refused. let said = c.in-Err.ensures.usage refused in let is : c.in-Err.status ≡ statuses.Usage = cc in c.ended.ensures.status ∙ is)
 
 pub returns-in-Err-clause-unasked : goal.returns-in-Err-clause-unasked
-returns-in-Err-clause-unasked g c = λ e. c.in-Err.ensures.unasked (ap (λ (s : Status). Err s) (sym c.ended-in-Err.ensures.status ∙ e))
+returns-in-Err-clause-unasked g c = λ e. c.in-Err.ensures.unasked (ap (λ (s : Status). Err s) (sym c.ended.ensures.status ∙ e))
