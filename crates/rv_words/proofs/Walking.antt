@@ -24,7 +24,7 @@ use Rattle.rv_words.proofs.Values.{and_parts, is_value}
 
 -- whether there is an item of this option
 abbrev has_option : Choice → List Item → Bool
-has_option option items = list_any (λ (item : Item). is_option option item.option) items
+has_option o items = list_any (λ (item : Item). is_option o item.option) items
 
 -- the options as clap builds them
 abbrev rules : List Rule
