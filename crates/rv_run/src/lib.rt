@@ -5,10 +5,10 @@
 mod calls;
 mod calls_by_threads;
 mod judges;
-pub mod run;
 pub mod status;
+pub mod top;
 pub mod words;
 
-pub use run::{Ran, run, run_plain};
 pub use status::{Over, Status};
+pub use top::{Ran, run, run_plain};
 pub use words::read_words;

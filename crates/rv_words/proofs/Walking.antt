@@ -347,7 +347,9 @@ flagged (item ∷ items) e = elim (option_cases Threads item.option) [
 ]
   where
     here : Threads ≡ item.option → is_option Threads item.option ≡ true → flag_in (rows_from (item ∷ items)) ≡ true
-    here same is = rw (ids_apart item.option Threads, is) refl
+    here same is =
+        let flag : is_flag item.option ≡ true = ap is_flag (sym same) in
+        rw (ids_apart item.option Threads, is, flag) refl
 
 last_row : (rows : List Row) → Apart (id_of Threads) rows → flag_in (rows ++ unflagged ∷ []) ≡ false
 last_row [] apart = refl

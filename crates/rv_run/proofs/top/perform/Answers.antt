@@ -5,7 +5,7 @@ use Rattle.rv_run.specs.Script.{calls_asked, calls_made}
 use Rattle.rv_run.proofs.CallLists.{all_calls, front_calls}
 use Rattle.rv_run.proofs.Ends.{called_performs, not_write}
 use Rattle.rv_run.proofs.Rulings.{calls_under, first_calls_under, first_either}
-use Rattle.rv_run.proofs.run.perform.Goals as goal
+use Rattle.rv_run.proofs.top.perform.Goals as goal
 
 pub returns-clause-done : goal.returns-clause-done
 returns-clause-done g c = λ e.

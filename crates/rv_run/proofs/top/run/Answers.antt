@@ -6,7 +6,7 @@ use Rattle.rv_run.specs.Ruling.{CallsUnder, FirstCallsUnder, judging}
 use Rattle.rv_run.specs.Script.{IsFrontInOrder, IsInOrder}
 use Rattle.rv_words.specs.declared.choices.Asked.{Asked}
 use Rattle.rv_run.proofs.Ends.{performs_writes, runs_so, some_if}
-use Rattle.rv_run.proofs.run.run.Goals as goal
+use Rattle.rv_run.proofs.top.run.Goals as goal
 
 pub returns-in-Ok-clause-done : goal.returns-in-Ok-clause-done
 returns-in-Ok-clause-done g c = λ asked ask done. rw (c.in-Ok.ensures.only asked ask) (performs_writes c.perform_asked.result.core (λ core. core.engine.history) _ _ _ _ c.in-Ok.begun.script c.in-Ok.ensures.script (c.perform_asked.ensures.done done))

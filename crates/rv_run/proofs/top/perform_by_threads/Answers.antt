@@ -1,7 +1,7 @@
 use Rattle.std.proofs.Common.{◌≡◌, inl, inr}
 use Rattle.rv_run.proofs.Ends.{not_short, not_write}
 use Rattle.rv_run.proofs.Threads.{calls_fit, first_all, whole_all}
-use Rattle.rv_run.proofs.run.perform_by_threads.Goals as goal
+use Rattle.rv_run.proofs.top.perform_by_threads.Goals as goal
 
 pub returns-clause-done : goal.returns-clause-done
 returns-clause-done g c = λ e.

@@ -1,6 +1,6 @@
 use Rattle.std.proofs.Common.{◌≡◌, refl, sym, ap}
 use Rattle.rv_run.proofs.Ends.{stops_of}
-use Rattle.rv_run.proofs.run.begin.Goals as goal
+use Rattle.rv_run.proofs.top.begin.Goals as goal
 
 pub returns-in-Ok-script_to_run-clause-all_read : goal.returns-in-Ok-script_to_run-clause-all_read
 returns-in-Ok-script_to_run-clause-all_read c = λ none. c.in-Ok-script_to_run.ensures.all_read none refl
