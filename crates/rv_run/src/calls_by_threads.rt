@@ -1,5 +1,5 @@
 //! The calls of a script, those of each phase by threads.
-ghost use Rattle.std.specs.Prelude.{◌≡◌, ℕ, ◌≤◌, [], All, length};
+ghost use Rattle.std.specs.Prelude.{◌≡◌, ℕ, ◌≤◌, [], All, false, length};
 ghost use Rattle.rv_run.specs.Script.{calls_from, calls_made, of_session};
 ghost use Rattle.rv_run.specs.Making.{FitsPhase, MadeFirst};
 

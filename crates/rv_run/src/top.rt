@@ -1,5 +1,5 @@
 //! The top call: a script from a source or from a seed, its transcript or its summary to a sink.
-ghost use Rattle.std.specs.Prelude.{◌≡◌, ◌≢◌, ◌≤◌, ◌<◌, ◌↔◌, Err, IfErr, IfOk, IfSome, IsOk, IsSome, IsSomeAnd, None, Ok, Some, length, map, true};
+ghost use Rattle.std.specs.Prelude.{◌≡◌, ◌≢◌, ◌≤◌, ◌<◌, ◌↔◌, Err, IfErr, IfOk, IfSome, IsOk, IsSome, IsSomeAnd, None, Ok, Some, false, length, map, true};
 ghost use Rattle.std.specs.Io.KnownBytes.{Appends, IsAtEnd};
 ghost use Rattle.rv_io.specs.Causes.{Rose};
 ghost use Rattle.rv_io.specs.Pieces.{AppendsFront, Goes, TakesUpTo};
