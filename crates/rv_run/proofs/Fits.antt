@@ -148,15 +148,15 @@ few_more : (most more : ℕ) (phases : List Phase) → most ≤ more → FewLine
 few_more most more [] le few = tt
 few_more most more (p ∷ ps) le few = (let here = few.0 in omega (arith, le, here), few_more most more ps le few.1)
 
-few_before : (line : Line) (most : ℕ) (phases : List Phase) → FewLines most phases → FewLines (1 + most) (calls_before (line ∷ []) phases)
-few_before line most [] few = tt
-few_before line most (p ∷ ps) few = (let here = few.0 in omega (arith, here), few_more most (1 + most) ps (omega arith) few.1)
+few_before : (line : Line) (most more : ℕ) (phases : List Phase) → most < more → FewLines most phases → FewLines more (calls_before (line ∷ []) phases)
+few_before line most more [] less few = tt
+few_before line most more (p ∷ ps) less few = (let here = few.0 in omega (arith, less, here), few_more most more ps (omega (arith, less)) few.1)
 
 few_lines : (judge : Option ℕ) (all : List Saying) → FewLines (length all) (phases_of judge all)
 few_lines judge [] = (omega arith, tt)
-few_lines judge (Nothing ∷ more) = few_more (length more) (1 + length more) (phases_of judge more) (omega arith) (few_lines judge more)
-few_lines judge ((Call line) ∷ more) = few_before line (length more) (phases_of judge more) (few_lines judge more)
-few_lines judge ((Next next) ∷ more) = (omega arith, few_more (length more) (1 + length more) (phases_of next more) (omega arith) (few_lines next more))
+few_lines judge (Nothing ∷ more) = few_more (length more) (length (Nothing ∷ more)) (phases_of judge more) (omega arith) (few_lines judge more)
+few_lines judge ((Call line) ∷ more) = few_before line (length more) (length (Call line ∷ more)) (phases_of judge more) (omega arith) (few_lines judge more)
+few_lines judge ((Next next) ∷ more) = (omega arith, few_more (length more) (length (Next next ∷ more)) (phases_of next more) (omega arith) (few_lines next more))
 
 by_index : (phases : List Phase) → FewLines 200000 phases → AllByRecursion FitsParts phases → AllByRecursion FitsPhase phases
 by_index [] few a = tt

@@ -27,7 +27,7 @@ pub returns-in-Ok-clause-steps : goal.returns-in-Ok-clause-steps
 returns-in-Ok-clause-steps g c = λ asked ask. rw (c.in-Ok.ensures.only asked ask) (some_if c.perform_asked.result.core (λ core. core.beside ≡ c.in-Ok.begun.asked.steps) c.perform_asked.ensures.core)
 
 pub returns-in-Err-clause-generated : goal.returns-in-Err-clause-generated
-returns-in-Err-clause-generated g c = λ asked ask some. rw (c.ended.ensures.status, c.begin.ensures.generated asked ask some) tt
+returns-in-Err-clause-generated g c = λ asked ask some. rw (c.ended.ensures.status, c.in-Err.ensures.generated asked ask some) tt
 
 pub returns-in-Err-clause-unread : goal.returns-in-Err-clause-unread
 returns-in-Err-clause-unread g c = c.begin.ensures.unread
