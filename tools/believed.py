@@ -35,7 +35,7 @@ import re
 import sys
 import tempfile
 
-TOP = ("rv_run", "src/run.rt", "run_plain")
+TOP = ("rv_run", "src/top.rt", "run")
 BESIDE = ("ruled", "ruled_first")
 CHAPTERS = (
     ("SHOW", (("rv_believed", "specs/Step.antt", "ShowsTo"), ("rv_model", "specs/Transcript.antt", "trace_words"))),

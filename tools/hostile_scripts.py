@@ -35,8 +35,8 @@ from model.language import KEYWORDS, fault_of
 from model.program import run, transcript
 
 TOP = Path(__file__).resolve().parent.parent
-USAGE = b"usage: rvdyn [--judge N] [--steps K] [--gen SEED]\n"
-MOST = {"judge": 2, "steps": 64, "gen": 4294967295}
+USAGE = b"usage: rvdyn [--threads] [--workers W] [--judge N] [--steps K] [--gen SEED]\n"
+MOST = {"workers": 8, "judge": 2, "steps": 64, "gen": 4294967295}
 INTEGERS = [0, 1, -1, 7, 31, 32, 33, 2**31, 2**63 - 1, -(2**63), 2**63, -(2**63) - 1, 10**40]
 NO_TEXT = [b"\xff", b"\xc3", b"\xc0\xaf", b"\xed\xa0\x80", b"\xf4\x90\x80\x80", b"\xe2\x80", b"\x80"]
 ODD_TEXT = ["\0", "\t", "\r", "\x0b", "\x1f", "\x7f", "\x80", "\u2028", "\ufeff", "é", "Ａ", "１", "\U0001f98a", "\u0130", "\xa0"]
@@ -50,6 +50,9 @@ def accepted(words: list[bytes]) -> dict[str, int] | None:
     found: dict[str, int] = {}
     rest = iter(words)
     for word in rest:
+        if word == b"--threads" and "threads" not in found:
+            found["threads"] = 1
+            continue
         name, equals, value = word.partition(b"=")
         value = value if equals else next(rest, b"")
         option = name.removeprefix(b"--").decode(errors="replace")
@@ -586,7 +589,7 @@ class Damager:
             at = rng.randrange(len(words)) if words else 0
             kind = rng.randrange(4)
             if kind == 0:
-                words.insert(at, rng.choice([b"", b"--", b"-h", b"--help", b"x", b"--judge", b"--steps=65", b"--gen=4294967296", b"\xff", b"--judge=\xd9\xa1", b"--Steps=1", b"-judge=1"]))
+                words.insert(at, rng.choice([b"", b"--", b"-h", b"--help", b"x", b"--judge", b"--steps=65", b"--gen=4294967296", b"\xff", b"--judge=\xd9\xa1", b"--Steps=1", b"-judge=1", b"--threads=1", b"--workers=9"]))
             elif kind == 1 and words:
                 del words[at]
             elif kind == 2 and words:

@@ -9,10 +9,14 @@ import subprocess
 
 from ending import end
 
-USAGE = b"usage: rvdyn [--judge N] [--steps K] [--gen SEED]\n"
+USAGE = b"usage: rvdyn [--threads] [--workers W] [--judge N] [--steps K] [--gen SEED]\n"
 
 ACCEPTED = [
     [],
+    [b"--threads"],
+    [b"--threads", b"--workers", b"0"],
+    [b"--workers=8", b"--threads", b"--judge=1"],
+    [b"--workers", b"3"],
     [b"--judge", b"2"],
     [b"--judge=0", b"--steps=64"],
     [b"--steps", b"0", b"--judge", b"1"],
@@ -32,6 +36,11 @@ FAULTY = [
     [b"-h"],
     [b"--help"],
     [b"--version"],
+    [b"--threads", b"--threads"],
+    [b"--threads=1"],
+    [b"--threads", b"2"],
+    [b"--workers", b"9"],
+    [b"--workers"],
     [b"--judge"],
     [b"--judge="],
     [b"--judge", b"3"],

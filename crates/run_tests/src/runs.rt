@@ -178,8 +178,9 @@ fn other_words_are_a_faulty_command_line(rt: HostRuntime) -> Result<(), Fail> {
         "x",
         "--judge",
         "--judge 3",
-        "--threads",
-        "--workers 2",
+        "--threads --threads",
+        "--threads=1",
+        "--workers 9",
         "--help",
     ] {
         let mut source = MemSource::new(bytes_of(alloc, TWO_COLUMNS)?, Vec::new(alloc));
@@ -187,7 +188,7 @@ fn other_words_are_a_faulty_command_line(rt: HostRuntime) -> Result<(), Fail> {
         let status = run_over(alloc, Plain::new(alloc)?, line, &mut source, &mut sink)?;
         assert_eq!(rt;
             status.words().as_str(),
-            "usage: rvdyn [--judge N] [--steps K] [--gen SEED]"
+            "usage: rvdyn [--threads] [--workers W] [--judge N] [--steps K] [--gen SEED]"
         );
         assert_eq!(rt; status.code(), 1);
         assert!(rt; sink.written().is_empty());

@@ -3,16 +3,19 @@
 
 use rv_io::{StdSink, StdSource};
 use rv_judge::{Contrary, Judge, Patient, Threshold};
-use rv_run::{Ran, Status, read_words, run_plain};
+use rv_run::{Ran, Status, read_words, run};
+use rv_shared::OpenGate;
 use rv_store::Paged;
 use rv_value::NoMemory;
 use std::io;
 use std::io::BufWriter;
 use std::process::ExitCode;
+use std::sync::Wait;
+use std::thread::Threads;
 
 /// Runs as the words ask, says on standard error how that ended, and exits with the status's code.
 fn main(rt: HostRuntime) -> ExitCode {
-    let status = whole(&rt).unwrap_or(Status::Memory);
+    let status = whole(&rt, &rt).unwrap_or(Status::Memory);
     if status != Status::Done {
         let words = status.words();
         let _ = rt.eprintln(words.as_str());
@@ -20,8 +23,8 @@ fn main(rt: HostRuntime) -> ExitCode {
     ExitCode::from(status.code())
 }
 
-/// The run over the standard streams, under the supplied judges.
-fn whole(rt: &HostRuntime) -> Result<Status, NoMemory> {
+/// The run over the standard streams, under the supplied judges. `threads` is the leave to start threads.
+fn whole<R: Threads + Wait + Sync>(rt: &HostRuntime, threads: &R) -> Result<Status, NoMemory> {
     let alloc = rt.alloc();
     let words = match read_words(rt) {
         Ok(words) => words,
@@ -39,13 +42,15 @@ fn whole(rt: &HostRuntime) -> Result<Status, NoMemory> {
     let Ran {
         status,
         core: _core,
-    } = run_plain(
+    } = run(
+        threads,
         alloc,
         Paged::new(alloc)?,
         words.as_slice(),
         &mut source,
         &mut sink,
         judges,
+        &OpenGate,
     );
     Ok(match sink.finish() {
         Ok(()) => status,

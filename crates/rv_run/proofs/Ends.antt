@@ -1,5 +1,5 @@
 -- How runs end.
-use Rattle.std.proofs.Common.{◌≡◌, ◌≤◌, arith, ℕ, length, List, [], ◌++◌, refl, sym, ap, ◌∙◌, subst, append-nil, Bool, Option, Some, None, Result, Ok, Err, IfSome, IsOkAnd, IsSomeAnd, OnOk}
+use Rattle.std.proofs.Common.{◌≡◌, ◌≢◌, ◌⊎◌, inl, inr, true, false, ◌≤◌, arith, ℕ, length, List, [], ◌++◌, refl, sym, ap, ◌∙◌, subst, append-nil, Bool, not, Option, Some, None, Result, Ok, Err, IfSome, IsOkAnd, IsSomeAnd, OnOk}
 use Rattle.std.specs.Prelude.{is_ok}
 use Rattle.rv_io.proofs.Streams.{consumes_none}
 use Rattle.rv_io.specs.Pieces.{TakesAll, TakesUpTo}
@@ -12,8 +12,9 @@ use Rattle.rv_script.specs.Script.{script_of}
 use Rattle.rv_run.specs.declared.status.Status.{Status}
 use Rattle.rv_run.specs.declared.status.Status.TheVariants as statuses
 use Rattle.rv_core.specs.Core.{Shown}
-use Rattle.rv_run.specs.Script.{HasAllCalls, HasFirst, HasFirstCalls, HasTooMany, ReadsAll, Runs, StopsShort, Told, Write, WritesAll, WritesFront, calls_asked}
-use Rattle.rv_run.specs.Performing.{Hinders, Performs, PerformsFirst, PerformsFront, calls_status, script_status}
+use Rattle.rv_model.specs.declared.entry.Entry.{Entry}
+use Rattle.rv_run.specs.Script.{HasFirst, HasTooMany, ReadsAll, Runs, Told, Write, Writes}
+use Rattle.rv_run.specs.Performing.{Hinders, Performs, Stops, script_status}
 
 -- where nothing was taken
 pub takes_none : (left : Option (List ℕ)) (most : ℕ) → TakesUpTo left left most
@@ -42,6 +43,16 @@ hinders (faults.TooLong line) left after bytes before now few said taken = all_o
 hinders (faults.TooMany lines) left after bytes before now few said taken = all_of left after bytes HasTooMany taken (record { lines = lines; first = record { few = few; first = said } })
 hinders faults.NoMemory left after bytes before now few said taken = tt
 
+-- what hinders a run stops it
+pub stops_of : (words : List (List ℕ)) (left after : Option (List ℕ)) (before now : ℕ) (status : Status) → Hinders left after before now status → Stops words left after before now status
+stops_of words left after before now statuses.Done h = h
+stops_of words left after before now statuses.Usage h = absurd h
+stops_of words left after before now (statuses.Script fault) h = h
+stops_of words left after before now (statuses.Limit which) h = h
+stops_of words left after before now statuses.Memory h = h
+stops_of words left after before now statuses.ReadFault h = h
+stops_of words left after before now statuses.WriteFault h = h
+
 -- the script that the bytes taken write is the one that the source told
 pub told_script : (left after : Option (List ℕ)) (bytes : List ℕ) (script : Script) → length bytes ≤ 16777216 → TakesAll left after bytes → script_of bytes ≡ Ok script → Told left (λ told. told ≡ script)
 told_script left after bytes script few taken is = of_told left bytes (λ xs. Write xs (λ told. told ≡ script)) (told left after bytes taken) (record { few = few; script = rw is refl })
@@ -61,27 +72,27 @@ runs_of (Some seed) left script P is p = subst P (sym is) p
 
 -- what a performed script wrote, by the script that is run
 
-pub done_writes : {X S : Type 0} (core : Option X) (shown : X → Shown S) (seed : Option ℕ) (left old new : Option (List ℕ)) (script : Script) → Runs seed left (λ told. told ≡ script) → IsSomeAnd core (λ c. Performs seed old new script (shown c)) → IsSomeAnd core (λ c. WritesAll seed left old new (shown c))
-done_writes None shown seed left old new script is p = p
-done_writes (Some c) shown seed left old new script is p = record { legal = p.legal; written = p.written; calls = runs_of seed left script (HasAllCalls (shown c).history) is p.calls }
-
-pub memory_writes : {X S : Type 0} (core : Option X) (shown : X → Shown S) (seed : Option ℕ) (left old new : Option (List ℕ)) (script : Script) → Runs seed left (λ told. told ≡ script) → IsSomeAnd core (λ c. PerformsFirst seed old new script (shown c)) → IfSome core (λ c. StopsShort seed left old new (shown c))
-memory_writes None shown seed left old new script is p = tt
-memory_writes (Some c) shown seed left old new script is p = record { legal = p.legal; written = p.written; calls = runs_of seed left script (λ s. HasFirstCalls (shown c).history (calls_asked s)) is p.calls }
-
-pub fault_writes : {X S : Type 0} (core : Option X) (shown : X → Shown S) (seed : Option ℕ) (left old new : Option (List ℕ)) (script : Script) → Runs seed left (λ told. told ≡ script) → IsSomeAnd core (λ c. PerformsFront seed old new script (shown c)) → IsSomeAnd core (λ c. WritesFront seed left old new (shown c))
-fault_writes None shown seed left old new script is p = p
-fault_writes (Some c) shown seed left old new script is p = record { legal = p.legal; written = p.written; calls = runs_of seed left script (λ s. HasFirstCalls (shown c).history (calls_asked s)) is p.calls }
+pub performs_writes : {X : Type 0} (core : Option X) (history : X → List Entry) (seed : Option ℕ) (left : Option (List ℕ)) (Written : List ℕ → Type 0) (Has : List Entry → Script → Type 0) (script : Script) → Runs seed left (λ told. told ≡ script)
+    → IsSomeAnd core (λ c. Performs seed Written Has script (history c)) → IsSomeAnd core (λ c. Writes seed left Written Has (history c))
+performs_writes None history seed left Written Has script is p = p
+performs_writes (Some c) history seed left Written Has script is p = record { legal = p.legal; written = p.written; calls = runs_of seed left script (Has (history c)) is p.calls }
 
 pub some_if : {X : Type 0} (o : Option X) (P : X → Type 0) → IsSomeAnd o P → IfSome o P
 some_if None P p = tt
 some_if (Some x) P p = p
 
--- what holds where all calls were made holds in status Done
-pub done_performs : (r : Result (Unit {0}) NoMemory) (called : Bool) (status : Status) (P : Type 0) → OnOk r P → called ≡ is_ok r → status ≡ calls_status called → status ≡ statuses.Done → P
-done_performs (Ok u) called status P p c s e = p
-done_performs (Err fault) called status P p c s e =
-    let wrong : statuses.Done ≡ statuses.Memory = sym e ∙ s ∙ ap calls_status c in cc
+-- what holds where all calls were made
+pub called_performs : (r : Result (Unit {0}) NoMemory) (called : Bool) (P : Type 0) → OnOk r P → called ≡ is_ok r → called ≡ true → P
+called_performs (Ok u) called P p c t = p
+called_performs (Err fault) called P p c t = let wrong : true ≡ false = sym t ∙ c in cc
+
+pub not_short : (short : Bool) → not short ≡ true → short ≡ false
+not_short true e = cc
+not_short false e = refl
+
+pub not_write : (status : Status) → (status ≡ statuses.Done) ⊎ (status ≡ statuses.Memory) → status ≢ statuses.WriteFault
+not_write status (inl d) = λ w. let wrong : statuses.Done ≡ statuses.WriteFault = sym d ∙ w in cc
+not_write status (inr m) = λ w. let wrong : statuses.Memory ≡ statuses.WriteFault = sym m ∙ w in cc
 
 -- what holds of the script that was performed holds of the one that is run
 pub runs_so : {X S : Type 0} (core : Option X) (shown : X → Shown S) (P : Shown S → Script → Type 0) (seed : Option ℕ) (left : Option (List ℕ)) (script : Script) → Runs seed left (λ told. told ≡ script) → IsSomeAnd core (λ c. P (shown c) script) → IsSomeAnd core (λ c. Runs seed left (P (shown c)))

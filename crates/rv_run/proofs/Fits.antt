@@ -1,5 +1,5 @@
 -- A script that was read has few phases, and lines that calls may have.
-use Rattle.std.proofs.Common.{◌≡◌, ℕ, ◌+◌, ◌-◌, ◌<◌, ◌≤◌, ◌==◌, ◌&&◌, List, [], ◌∷◌, refl, sym, subst, arith, Bool, true, false, inl, inr, length, nat_lt, nat_le, nat_eq, Option, Some, None, Result, Ok, Err, IfSome}
+use Rattle.std.proofs.Common.{◌≡◌, ℕ, ◌+◌, ◌-◌, ◌*◌, ◌++◌, ap, ◌∙◌, suc, codes, flat_map, length-append, ◌<◌, ◌≤◌, ◌==◌, ◌&&◌, List, [], ◌∷◌, refl, sym, subst, arith, Bool, true, false, inl, inr, length, nat_lt, nat_le, nat_eq, Option, Some, None, Result, Ok, Err, IfSome}
 use Rattle.std.proofs.lemmas.Bool.{cases_Bool}
 use Rattle.std.proofs.lemmas.Bool.Decides.{nat_tests}
 use Rattle.std.specs.List.{AllByRecursion}
@@ -11,7 +11,10 @@ use Rattle.rv_script.specs.declared.scripts.Phase.{Phase}
 use Rattle.rv_script.specs.declared.scripts.Script.{Script}
 use Rattle.rv_script.specs.declared.scripts.ScriptFault.{ScriptFault}
 use Rattle.rv_script.specs.Script.{Saying, Nothing, Call, Next, mark_of, call_of, mark_or_call, says, listed, says_at, before, sayings_from, calls_before, phases_of, unmarked, script_said, script_of}
-use Rattle.rv_gen.specs.Workload.{HasCalls, IsCall, IsRunnable, generated, workload}
+use Rattle.std.specs.List.{range_with_len}
+use Rattle.std.proofs.lemmas.List.FromFn.{length-map-range_with_len, length-range_with_len}
+use Rattle.rv_gen.specs.Draws.{state_after}
+use Rattle.rv_gen.specs.Workload.{HasCalls, IsCall, IsRunnable, generated, inserts, line as line_of, openings_of, readers, round, rounds, tables, workload}
 use Rattle.rv_run.specs.Making.{FitsPhase, FitsScript}
 
 -- a saying whose call, where it is one, may be made
@@ -136,9 +139,28 @@ few_phases judge (Nothing ∷ more) = omega (arith, few_phases judge more)
 few_phases judge ((Call line) ∷ more) = omega (arith, few_phases judge more, as_many line (phases_of judge more))
 few_phases judge ((Next next) ∷ more) = omega (arith, few_phases next more)
 
-by_index : (phases : List Phase) → AllByRecursion FitsParts phases → AllByRecursion FitsPhase phases
-by_index [] a = tt
-by_index (p ∷ ps) a = (record { calls = All-from_recursion IsCall p.lines a.0.calls; judge = a.0.judge }, by_index ps a.1)
+-- a phase has no more lines than the script has sayings
+
+abbrev FewLines : ℕ → List Phase → Type 0
+FewLines most phases = AllByRecursion (λ (p : Phase). length p.lines ≤ most) phases
+
+few_more : (most more : ℕ) (phases : List Phase) → most ≤ more → FewLines most phases → FewLines more phases
+few_more most more [] le few = tt
+few_more most more (p ∷ ps) le few = (let here = few.0 in omega (arith, le, here), few_more most more ps le few.1)
+
+few_before : (line : Line) (most more : ℕ) (phases : List Phase) → most < more → FewLines most phases → FewLines more (calls_before (line ∷ []) phases)
+few_before line most more [] less few = tt
+few_before line most more (p ∷ ps) less few = (let here = few.0 in omega (arith, less, here), few_more most more ps (omega (arith, less)) few.1)
+
+few_lines : (judge : Option ℕ) (all : List Saying) → FewLines (length all) (phases_of judge all)
+few_lines judge [] = (omega arith, tt)
+few_lines judge (Nothing ∷ more) = few_more (length more) (length (Nothing ∷ more)) (phases_of judge more) (omega arith) (few_lines judge more)
+few_lines judge ((Call line) ∷ more) = few_before line (length more) (length (Call line ∷ more)) (phases_of judge more) (omega arith) (few_lines judge more)
+few_lines judge ((Next next) ∷ more) = (omega arith, few_more (length more) (length (Next next ∷ more)) (phases_of next more) (omega arith) (few_lines next more))
+
+by_index : (phases : List Phase) → FewLines 200000 phases → AllByRecursion FitsParts phases → AllByRecursion FitsPhase phases
+by_index [] few a = tt
+by_index (p ∷ ps) few a = (record { few = few.0; calls = All-from_recursion IsCall p.lines a.0.calls; judge = a.0.judge }, by_index ps few.1 a.1)
 
 said_fits : (said : Result (List Saying) ScriptFault) (script : Script) → ((all : List Saying) → said ≡ Ok all → FitSayings 1 all) → script_said said ≡ Ok script → FitsScript script
 said_fits (Err f) script fit e = cc
@@ -146,7 +168,7 @@ said_fits (Ok all) script fit e =
     let good = fit all refl in
     let is : record { phases = phases_of None all } ≡ script = cc in
     let counted : length (phases_of None all) ≤ 200001 = omega (arith, few_phases None all, good.few) in
-    subst FitsScript is (record { few = counted; fits = All-from_recursion FitsPhase (phases_of None all) (by_index (phases_of None all) (phases_fit None all tt good.fits)) })
+    subst FitsScript is (record { few = counted; fits = All-from_recursion FitsPhase (phases_of None all) (by_index (phases_of None all) (few_more (length all) 200000 (phases_of None all) (let few = good.few in omega (arith, few)) (few_lines None all)) (phases_fit None all tt good.fits)) })
 
 pub script_fits : (bytes : List ℕ) (script : Script) → script_of bytes ≡ Ok script → FitsScript script
 unfolding script_of
@@ -162,12 +184,37 @@ unnamed : (seed rows count : ℕ) → AllByRecursion (λ (p : Phase). p.judge �
 unfolding workload
 unnamed seed rows count = (refl, (refl, tt))
 
-unnamed_fit : (phases : List Phase) → AllByRecursion (λ (p : Phase). p.judge ≡ None) phases → AllByRecursion HasCalls phases → AllByRecursion FitsPhase phases
-unnamed_fit [] none calls = tt
-unnamed_fit (p ∷ ps) none calls = (record { calls = calls.0; judge = rw none.0 tt }, unnamed_fit ps none.1 calls.1)
+-- its phases are short
+
+length_rounds : (f : ℕ → List Line) → ((x : ℕ) → length (f x) ≡ 7) → (xs : List ℕ) → length (flat_map f xs) ≤ 7 * length xs
+length_rounds f seven [] = omega arith
+length_rounds f seven (x ∷ xs) =
+    let here = seven x in
+    let more = length_rounds f seven xs in
+    let both = length-append (f x) (flat_map f xs) in
+    omega (arith, here, more, both)
+
+few_of_workload : (seed rows count : ℕ) → rows ≤ 2000 → count ≤ 250 → FewLines 200000 (workload seed rows count).phases
+unfolding workload tables
+few_of_workload seed rows count few low =
+    let filled : length (inserts seed rows) ≡ rows = length-map-range_with_len _ 0 rows in
+    let end = line_of 1 (codes "COMMIT") ∷ [] in
+    let closed : length (inserts seed rows ++ end) ≡ rows + 1 = length-append (inserts seed rows) end ∙ ap (λ (n : ℕ). n + 1) filled in
+    let first : length (tables ++ (inserts seed rows ++ end)) ≡ 4 + (rows + 1) = length-append tables (inserts seed rows ++ end) ∙ ap (λ (n : ℕ). 4 + n) closed in
+    let begun = openings_of readers (state_after seed (3 * rows)) in
+    let there = state_after seed (3 * rows + 8) in
+    let made : length (rounds there count) ≤ 7 * count = subst (λ (n : ℕ). length (rounds there count) ≤ 7 * n) (length-range_with_len 0 count) (length_rounds (λ (number : ℕ). round (state_after there (2 * number))) (λ number. refl) (range_with_len 0 count)) in
+    let second : length (begun ++ rounds there count) ≡ 8 + length (rounds there count) = length-append begun (rounds there count) in
+    let one : length (tables ++ (inserts seed rows ++ end)) ≤ 200000 = omega (arith, first, few) in
+    let two : length (begun ++ rounds there count) ≤ 200000 = omega (arith, second, made, low) in
+    (one, (two, tt))
+
+unnamed_fit : (phases : List Phase) → FewLines 200000 phases → AllByRecursion (λ (p : Phase). p.judge ≡ None) phases → AllByRecursion HasCalls phases → AllByRecursion FitsPhase phases
+unnamed_fit [] few none calls = tt
+unnamed_fit (p ∷ ps) few none calls = (record { few = few.0; calls = calls.0; judge = rw none.0 tt }, unnamed_fit ps few.1 none.1 calls.1)
 
 pub generated_fits : (script : Script) (seed : ℕ) → script ≡ generated seed → IsRunnable script → FitsScript script
 generated_fits script seed is runs = record {
   few = omega (arith, runs.phases);
-  fits = All-from_recursion FitsPhase script.phases (unnamed_fit script.phases (subst (λ (s : Script). AllByRecursion (λ (p : Phase). p.judge ≡ None) s.phases) (sym is) (unnamed seed 2000 250)) (recursion_from_All HasCalls script.phases runs.calls));
+  fits = All-from_recursion FitsPhase script.phases (unnamed_fit script.phases (subst (λ (s : Script). FewLines 200000 s.phases) (sym is) (few_of_workload seed 2000 250 (omega arith) (omega arith))) (subst (λ (s : Script). AllByRecursion (λ (p : Phase). p.judge ≡ None) s.phases) (sym is) (unnamed seed 2000 250)) (recursion_from_All HasCalls script.phases runs.calls));
 }

@@ -1,5 +1,5 @@
 -- What makes calls of a script's lines.
-use Rattle.std.specs.Prelude.{◌≡◌, ◌<◌, ℕ, ◌≤◌, List, ◌++◌, Some, All, IfSome, length, slice_get, slice_set, take}
+use Rattle.std.specs.Prelude.{◌≡◌, ◌<◌, ℕ, ◌+◌, ◌≤◌, List, ◌++◌, Some, All, IfSome, length, slice_get, slice_set, take}
 use Rattle.rv_script.specs.declared.scripts.Line.{Line}
 use Rattle.rv_script.specs.declared.scripts.Phase.{Phase}
 use Rattle.rv_script.specs.declared.scripts.Script.{Script}
@@ -8,10 +8,11 @@ use Rattle.rv_judge.specs.declared.judging.Facts.{Facts}
 use Rattle.rv_judge.specs.Verdicts.{Ruling}
 use Rattle.rv_gen.specs.Workload.{HasCalls}
 use Rattle.rv_run.specs.Ruling.{Judging, judging}
-use Rattle.rv_run.specs.Script.{calls_made, calls_in}
+use Rattle.rv_run.specs.Script.{Call, calls_made, calls_in, first_calls, of_session}
 
--- a phase whose calls may be made, and which names a judge that there is, or none
+-- a phase whose calls can be counted and may be made, and which names a judge that there is, or none
 pub record FitsPhase (phase : Phase) : Type 0 where
+  pub few : length phase.lines ≤ 200000
   pub calls : HasCalls phase
   pub judge : IfSome phase.judge (λ number. number < 3)
 
@@ -25,6 +26,16 @@ pub record MakesCalls (old new : List Entry) (phase : ℕ) (lines : List Line) :
   pub count : ℕ
   pub within : count ≤ length lines
   pub gained : calls_made new ≡ calls_made old ++ calls_in phase (take count lines)
+
+-- The history's calls are the first ones of all.
+pub record MakesFirst (history : List Entry) (all : List Call) : Type 0 where
+  pub rest : List Call
+  pub whole : all ≡ calls_made history ++ rest
+
+-- The calls of each of the eight sessions are those of so many phases, and of its first lines of the next one.
+pub record MadeFirst (history : List Entry) (all : List Phase) : Type 0 where
+  pub phases : ℕ
+  pub each : (session : ℕ) → 1 ≤ session → session ≤ 8 → (lines : ℕ) × (of_session session (calls_made history) ≡ of_session session (first_calls phases lines all))
 
 -- what calls under one judge do, which stood and now stands so: whatever its number is among judges, and whoever the others are
 abbrev pub Anywhere : Judging → Judging → (ℕ → List Judging → List Judging → Type 0) → Type 0

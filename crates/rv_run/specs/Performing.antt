@@ -1,36 +1,23 @@
 -- What performing a script comes to, and which status a fault gives.
 use Rattle.std.specs.Prelude.{ℕ, List, Option, Bool, true, false}
-use Rattle.std.specs.Io.KnownBytes.{Appends}
-use Rattle.rv_io.specs.Pieces.{AppendsFront}
 use Rattle.rv_io.specs.declared.all.ReadFault.{ReadFault}
 use Rattle.rv_io.specs.declared.all.ReadFault.TheVariants as reading
+use Rattle.rv_words.specs.Words.{AreAccepted}
 use Rattle.rv_script.specs.declared.scripts.Script.{Script}
 use Rattle.rv_script.specs.declared.scripts.ScriptFault.{ScriptFault}
 use Rattle.rv_script.specs.declared.scripts.ScriptFault.TheVariants as faults
+use Rattle.rv_model.specs.declared.entry.Entry.{Entry}
 use Rattle.rv_believed.specs.History.{IsLegal}
-use Rattle.rv_core.specs.Core.{Shown}
 use Rattle.rv_run.specs.declared.status.Over.TheVariants as over
 use Rattle.rv_run.specs.declared.status.Status.{Status}
 use Rattle.rv_run.specs.declared.status.Status.TheVariants as statuses
-use Rattle.rv_run.specs.Script.{FailsToRead, HasAllCalls, HasFault, HasFirstCalls, PassesLimit, calls_asked, output}
+use Rattle.rv_run.specs.Script.{FailsToRead, HasFault, PassesLimit, output}
 
--- The output of a legal history of the script's calls is written, whole.
-pub record Performs {S : Type 0} (seed : Option ℕ) (old new : Option (List ℕ)) (script : Script) (core : Shown S) : Type 0 where
-  pub legal : IsLegal core.history
-  pub calls : HasAllCalls core.history script
-  pub written : Appends old new (output seed core.history)
-
--- The same of the script's first calls.
-pub record PerformsFirst {S : Type 0} (seed : Option ℕ) (old new : Option (List ℕ)) (script : Script) (core : Shown S) : Type 0 where
-  pub legal : IsLegal core.history
-  pub calls : HasFirstCalls core.history (calls_asked script)
-  pub written : Appends old new (output seed core.history)
-
--- A front of such an output is written.
-pub record PerformsFront {S : Type 0} (seed : Option ℕ) (old new : Option (List ℕ)) (script : Script) (core : Shown S) : Type 0 where
-  pub legal : IsLegal core.history
-  pub calls : HasFirstCalls core.history (calls_asked script)
-  pub written : AppendsFront old new (output seed core.history)
+-- This was written of the output of a legal history, which has such calls of the script.
+pub record Performs (seed : Option ℕ) (Written : List ℕ → Type 0) (Has : List Entry → Script → Type 0) (script : Script) (history : List Entry) : Type 0 where
+  pub legal : IsLegal history
+  pub written : Written (output seed history)
+  pub calls : Has history script
 
 -- the statuses of a run whose script was performed
 abbrev pub IsPerformed : Status → Type 0
@@ -46,6 +33,11 @@ Hinders left after before now (statuses.Limit which) = PassesLimit left after wh
 Hinders left after before now statuses.ReadFault = FailsToRead left after before now
 Hinders left after before now statuses.Memory = Unit {0}
 Hinders left after before now status = ⊥
+
+-- Why a run ends before it calls, by the status that tells it.
+abbrev pub Stops : List (List ℕ) → Option (List ℕ) → Option (List ℕ) → ℕ → ℕ → Status → Type 0
+Stops words left after before now statuses.Usage = AreAccepted words → ⊥
+Stops words left after before now status = Hinders left after before now status
 
 abbrev pub reading_status : ReadFault → Status
 reading_status reading.Failed = statuses.ReadFault

@@ -1,9 +1,9 @@
 -- What a run makes of a script.
-use Rattle.std.specs.Prelude.{◌≡◌, ℕ, ◌+◌, ◌≤◌, ◌==◌, List, [], ◌∷◌, ◌++◌, Option, Some, None, Err, length, map, filter, IfSome, IsOkAnd}
+use Rattle.std.specs.Prelude.{◌≡◌, ℕ, ◌+◌, ◌≤◌, ◌==◌, List, [], ◌∷◌, ◌++◌, Option, Some, None, Err, length, map, filter, take, IfSome, IsOkAnd}
 use Rattle.std.specs.List.{slice_index_or}
-use Rattle.std.specs.Io.KnownBytes.{Appends, IsAtEnd}
+use Rattle.std.specs.Io.KnownBytes.{IsAtEnd}
 use Rattle.rv_io.specs.Causes.{Rose}
-use Rattle.rv_io.specs.Pieces.{AppendsFront, TakesTooMany, TakesUpTo}
+use Rattle.rv_io.specs.Pieces.{TakesTooMany, TakesUpTo}
 use Rattle.rv_script.specs.declared.scripts.Line.{Line}
 use Rattle.rv_script.specs.declared.scripts.Phase.{Phase}
 use Rattle.rv_script.specs.declared.scripts.Script.{Script}
@@ -15,10 +15,8 @@ use Rattle.rv_gen.specs.Workload.{generated}
 use Rattle.rv_run.specs.declared.status.Over.{Over}
 use Rattle.rv_run.specs.declared.status.Over.TheVariants as over
 use Rattle.rv_model.specs.declared.entry.Entry.{Entry}
-use Rattle.rv_model.specs.History.{calls}
 use Rattle.rv_believed.specs.History.{IsLegal}
 use Rattle.rv_model.specs.Transcript.{text}
-use Rattle.rv_core.specs.Core.{Shown}
 
 -- a call: its session, its phase and its text
 pub record Call : Type 0 where
@@ -49,21 +47,32 @@ calls_asked script = calls_from 1 script.phases
 abbrev pub no_phase : Phase
 no_phase = record { judge = None; lines = [] }
 
--- the texts of a session in a phase of a script, in order
-abbrev pub texts_of : List Phase → ℕ → ℕ → List (List ℕ)
-texts_of phases session number = map (λ (l : Line). l.text) (filter (λ (l : Line). l.session == session) (slice_index_or phases number no_phase).lines)
+-- a session's calls among calls, in order
+abbrev pub of_session : ℕ → List Call → List Call
+of_session session all = filter (λ (c : Call). c.session == session) all
 
--- The history's calls are those of the script, each once, in the script's order; so each session's calls in each phase are
--- its own in their order.
-pub record HasAllCalls (history : List Entry) (script : Script) : Type 0 where
-  pub order : calls_made history ≡ calls_asked script
-  pub each : (session number : ℕ) → calls history session (number + 1) ≡ texts_of script.phases session number
+-- EACH SESSION'S CALLS in the history are those that the script asks of it, each once, in their order and phase.
+-- Each entry is some session's, so there is no other.
+abbrev pub HasAllCalls : List Entry → Script → Type 0
+HasAllCalls history script = (session : ℕ) → of_session session (calls_made history) ≡ of_session session (calls_asked script)
 
--- The history's calls are the first ones of the script: each session's are a front of its own, whole in every phase before
--- the last one begun.
-pub record HasFirstCalls (history : List Entry) (all : List Call) : Type 0 where
+-- the calls of so many phases, and of so many lines of the next one
+abbrev pub first_calls : ℕ → ℕ → List Phase → List Call
+first_calls count lines phases = calls_from 1 (take count phases) ++ calls_in (count + 1) (take lines (slice_index_or phases count no_phase).lines)
+
+-- THE FIRST CALLS: of each session those of so many phases, and of its first lines of the next one.
+pub record HasFirstCalls (history : List Entry) (script : Script) : Type 0 where
+  pub phases : ℕ
+  pub each : (session : ℕ) → (lines : ℕ) × (of_session session (calls_made history) ≡ of_session session (first_calls phases lines script.phases))
+
+-- WITHOUT THREADS the history's calls are those of the script, in the script's order;
+abbrev pub IsInOrder : List Entry → Script → Type 0
+IsInOrder history script = calls_made history ≡ calls_asked script
+
+-- or the first ones of these.
+pub record IsFrontInOrder (history : List Entry) (script : Script) : Type 0 where
   pub rest : List Call
-  pub whole : all ≡ calls_made history ++ rest
+  pub whole : calls_asked script ≡ calls_made history ++ rest
 
 -- The bytes, of which there are 16,777,216 at most, write a script of which this holds.
 pub record Write (bytes : List ℕ) (P : Script → Type 0) : Type 0 where
@@ -84,23 +93,11 @@ abbrev pub output : Option ℕ → List Entry → List ℕ
 output None history = text history
 output (Some seed) history = summary_text (summary history)
 
--- What status 0 says: the output of one legal history was written, whole, and the history has the calls of the script.
-pub record WritesAll {S : Type 0} (seed : Option ℕ) (left old new : Option (List ℕ)) (core : Shown S) : Type 0 where
-  pub legal : IsLegal core.history
-  pub written : Appends old new (output seed core.history)
-  pub calls : Runs seed left (HasAllCalls core.history)
-
--- What status 4 says where calls were made: the output of one legal history of the script's first calls was written.
-pub record StopsShort {S : Type 0} (seed : Option ℕ) (left old new : Option (List ℕ)) (core : Shown S) : Type 0 where
-  pub legal : IsLegal core.history
-  pub written : Appends old new (output seed core.history)
-  pub calls : Runs seed left (λ script. HasFirstCalls core.history (calls_asked script))
-
--- What status 6 says: a front of such an output was written.
-pub record WritesFront {S : Type 0} (seed : Option ℕ) (left old new : Option (List ℕ)) (core : Shown S) : Type 0 where
-  pub legal : IsLegal core.history
-  pub written : AppendsFront old new (output seed core.history)
-  pub calls : Runs seed left (λ script. HasFirstCalls core.history (calls_asked script))
+-- What statuses 0, 4 and 6 say: this was written of the output of a legal history, which has such calls of the script.
+pub record Writes (seed : Option ℕ) (left : Option (List ℕ)) (Written : List ℕ → Type 0) (Has : List Entry → Script → Type 0) (history : List Entry) : Type 0 where
+  pub legal : IsLegal history
+  pub written : Written (output seed history)
+  pub calls : Runs seed left (Has history)
 
 -- The bytes, of which there are 16,777,216 at most, have this first fault.
 pub record HasFirst (bytes : List ℕ) (fault : ScriptFault) : Type 0 where

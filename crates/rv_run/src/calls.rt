@@ -2,8 +2,8 @@
 ghost use Rattle.std.specs.Prelude.{◌≡◌, ◌≤◌, ◌<◌, ◌+◌, ◌++◌, ◌∷◌, [], All, IfSome, OnErr, OnOk, length, map, max, unwrap_or};
 ghost use Rattle.rv_gen.specs.Workload.{HasCalls, IsCall};
 ghost use Rattle.rv_run.specs.Judges.{by_number, ruling_after};
-ghost use Rattle.rv_run.specs.Script.{HasFirstCalls, call, calls_from, calls_in, calls_made};
-ghost use Rattle.rv_run.specs.Making.{FitsPhase, Keeps, MakesCalls, MakesUnder};
+ghost use Rattle.rv_run.specs.Script.{call, calls_from, calls_in, calls_made};
+ghost use Rattle.rv_run.specs.Making.{FitsPhase, Keeps, MakesCalls, MakesFirst, MakesUnder};
 ghost use Rattle.rv_run.specs.Ruling.{AnswersAll, AnswersFirst, AnswersUnder, between, judging, ruled_by, ruled_from};
 
 use crate::judges::Judges;
@@ -24,7 +24,7 @@ pub fn make_calls<S: Store + Reader<Ledger = Uncounted> + Drop>(
     requires few { length phases.now ≤ 200001 }
     requires fits { All FitsPhase phases.now }
     ensures ok { OnOk result (calls_made core.new.engine.history ≡ calls_from 1 phases.now) }
-    ensures first { HasFirstCalls core.new.engine.history (calls_from 1 phases.now) }
+    ensures first { MakesFirst core.new.engine.history (calls_from 1 phases.now) }
     ensures ruling { OnOk result (judges.new.ruling ≡ ruling_after judges.old.ruling phases.now) }
     ensures ruled { OnOk result (AnswersAll (λ s. S.shown s) core.old.beside (ruled_from judges.old.ruling 1 phases.now) (between core.old.engine (map (λ j. judging (would j) (state j)) (by_number judges.old.places.zero judges.old.places.one judges.old.places.two core.old.judge))) (between core.new.engine (map (λ j. judging (would j) (state j)) (by_number judges.new.places.zero judges.new.places.one judges.new.places.two core.new.judge)))) }
     ensures stopped { OnErr result (AnswersFirst (λ s. S.shown s) core.old.beside (ruled_from judges.old.ruling 1 phases.now) (between core.old.engine (map (λ j. judging (would j) (state j)) (by_number judges.old.places.zero judges.old.places.one judges.old.places.two core.old.judge))) core.new.engine.history) }
@@ -40,7 +40,7 @@ pub fn make_calls<S: Store + Reader<Ledger = Uncounted> + Drop>(
 }
 
 /// Goes on to the phase behind so many others, under the judge that it names.
-fn enter_phase<S: Store + Reader<Ledger = Uncounted> + Drop>(
+pub(crate) fn enter_phase<S: Store + Reader<Ledger = Uncounted> + Drop>(
     core: &mut Core<S>,
     judges: &mut Judges,
     number: u32,

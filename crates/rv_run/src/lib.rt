@@ -3,11 +3,12 @@
 #![tactic(auto)]
 
 mod calls;
+mod calls_by_threads;
 mod judges;
-pub mod run;
 pub mod status;
+pub mod top;
 pub mod words;
 
-pub use run::{Ran, run_plain};
 pub use status::{Over, Status};
+pub use top::{Ran, run, run_plain};
 pub use words::read_words;

@@ -50,13 +50,13 @@ impl Status {
     }
 
     /// What the program says on standard error; nothing where it is done.
-    pub fn words(&self) -> ArrayString<96>
+    pub fn words(&self) -> ArrayString<128>
         ensures { result.bytes ≡ status_words self.now }
     {
         match self {
             Status::Done => said("", None, ""),
             Status::Usage => said(
-                "usage: rvdyn [--judge N] [--steps K] [--gen SEED]",
+                "usage: rvdyn [--threads] [--workers W] [--judge N] [--steps K] [--gen SEED]",
                 None,
                 "",
             ),
@@ -69,7 +69,7 @@ impl Status {
     }
 }
 
-fn script_words(fault: &ScriptFault) -> ArrayString<96>
+fn script_words(fault: &ScriptFault) -> ArrayString<128>
     ensures { result.bytes ≡ Rattle.rv_run.specs.Words.script_words fault.now }
 {
     match fault {
@@ -81,7 +81,7 @@ fn script_words(fault: &ScriptFault) -> ArrayString<96>
     }
 }
 
-fn limit_words(over: Over) -> ArrayString<96>
+fn limit_words(over: Over) -> ArrayString<128>
     ensures { result.bytes ≡ Rattle.rv_run.specs.Words.limit_words over }
 {
     match over {
@@ -92,8 +92,8 @@ fn limit_words(over: Over) -> ArrayString<96>
 }
 
 /// Words, a number where there is one, and more words.
-fn said(before: &str, number: Option<u32>, behind: &str) -> ArrayString<96>
-    requires room { length before.now + length behind.now ≤ 56 }
+fn said(before: &str, number: Option<u32>, behind: &str) -> ArrayString<128>
+    requires room { length before.now + length behind.now ≤ 80 }
     ensures { result.bytes ≡ before.now ++ Rattle.rv_run.specs.Words.number_text number ++ behind.now }
 {
     let mut words = ArrayString::new();
@@ -103,8 +103,8 @@ fn said(before: &str, number: Option<u32>, behind: &str) -> ArrayString<96>
     words
 }
 
-fn push_number(words: &mut ArrayString<96>, number: Option<u32>)
-    requires { length words.old.bytes ≤ 56 }
+fn push_number(words: &mut ArrayString<128>, number: Option<u32>)
+    requires { length words.old.bytes ≤ 88 }
     ensures bytes { words.new.bytes ≡ words.old.bytes ++ Rattle.rv_run.specs.Words.number_text number }
     ensures short { length words.new.bytes ≤ length words.old.bytes + 40 }
 {

@@ -2,39 +2,80 @@
 use Rattle.std.proofs.Common.{◌≡◌, ◌≢◌, ℕ, List, [], ◌∷◌, ◌++◌, refl, sym, ap, ◌∙◌, Bool, true, false, Option, Some, None, inl, inr, ◌⊎◌, codes, flat_map, if◌then◌else◌}
 use Rattle.std.specs.Prelude.{is_some}
 use Rattle.std.specs.List.{AllByRecursion}
+use Rattle.std.proofs.lemmas.Bool.{cases_Bool}
 use Rattle.rv_words.specs.declared.choices.Choice.{Choice}
-use Rattle.rv_words.specs.declared.choices.Choice.TheVariants.{Judge, Steps, Gen}
+use Rattle.rv_words.specs.declared.choices.Choice.TheVariants.{Threads, Workers, Judge, Steps, Gen}
 use Rattle.rv_words.specs.declared.reading.Sofar.{Sofar}
-use Rattle.rv_words.specs.Words.{Item, IsItem, IsValue, Lacks, Once, is_option, name_of, words_of}
+use Rattle.rv_words.specs.Words.{Item, IsItem, IsValue, Lacks, Once, is_flag, is_option, name_of, words_of}
 use Rattle.rv_words.specs.Reading.{Form, Named, Joined, Other, fit_from, fit_more, form, given, marked, value, with_form, with_new, with_word}
 use Rattle.rv_words.proofs.Values.{has_value, is_value}
 use Rattle.rv_words.proofs.Forms.{is_joined, is_named, joined_word, named_word}
 
 -- ---- options
 
+-- the words of an option that takes a value
+abbrev pub value_words : Choice → Bool → List ℕ → List (List ℕ)
+value_words option behind digits = if behind
+    then (name_of option ++ (codes "=" ++ digits)) ∷ []
+    else name_of option ∷ digits ∷ []
+
 pub option_cases : (a b : Choice) → ((a ≡ b) × (is_option a b ≡ true)) ⊎ ((a ≢ b) × (is_option a b ≡ false))
+option_cases Threads Threads = inl (refl, refl)
+option_cases Threads Workers = inr (λ e. cc, refl)
+option_cases Threads Judge = inr (λ e. cc, refl)
+option_cases Threads Steps = inr (λ e. cc, refl)
+option_cases Threads Gen = inr (λ e. cc, refl)
+option_cases Workers Threads = inr (λ e. cc, refl)
+option_cases Workers Workers = inl (refl, refl)
+option_cases Workers Judge = inr (λ e. cc, refl)
+option_cases Workers Steps = inr (λ e. cc, refl)
+option_cases Workers Gen = inr (λ e. cc, refl)
+option_cases Judge Threads = inr (λ e. cc, refl)
+option_cases Judge Workers = inr (λ e. cc, refl)
 option_cases Judge Judge = inl (refl, refl)
 option_cases Judge Steps = inr (λ e. cc, refl)
 option_cases Judge Gen = inr (λ e. cc, refl)
+option_cases Steps Threads = inr (λ e. cc, refl)
+option_cases Steps Workers = inr (λ e. cc, refl)
 option_cases Steps Judge = inr (λ e. cc, refl)
 option_cases Steps Steps = inl (refl, refl)
 option_cases Steps Gen = inr (λ e. cc, refl)
+option_cases Gen Threads = inr (λ e. cc, refl)
+option_cases Gen Workers = inr (λ e. cc, refl)
 option_cases Gen Judge = inr (λ e. cc, refl)
 option_cases Gen Steps = inr (λ e. cc, refl)
 option_cases Gen Gen = inl (refl, refl)
 
 pub given_same : (s : Sofar) (option : Choice) → given option (marked s option) ≡ true
+given_same s Threads = refl
+given_same s Workers = refl
 given_same s Judge = refl
 given_same s Steps = refl
 given_same s Gen = refl
 
 pub given_other : (s : Sofar) (a b : Choice) → a ≢ b → given a (marked s b) ≡ given a s
+given_other s Threads Threads other = absurd (other refl)
+given_other s Threads Workers other = refl
+given_other s Threads Judge other = refl
+given_other s Threads Steps other = refl
+given_other s Threads Gen other = refl
+given_other s Workers Threads other = refl
+given_other s Workers Workers other = absurd (other refl)
+given_other s Workers Judge other = refl
+given_other s Workers Steps other = refl
+given_other s Workers Gen other = refl
+given_other s Judge Threads other = refl
+given_other s Judge Workers other = refl
 given_other s Judge Judge other = absurd (other refl)
 given_other s Judge Steps other = refl
 given_other s Judge Gen other = refl
+given_other s Steps Threads other = refl
+given_other s Steps Workers other = refl
 given_other s Steps Judge other = refl
 given_other s Steps Steps other = absurd (other refl)
 given_other s Steps Gen other = refl
+given_other s Gen Threads other = refl
+given_other s Gen Workers other = refl
 given_other s Gen Judge other = refl
 given_other s Gen Steps other = refl
 given_other s Gen Gen other = absurd (other refl)
@@ -48,11 +89,15 @@ abbrev pub awaiting : Sofar → Choice → Sofar
 awaiting s option = record s { waiting = Some option }
 
 given_idle : (s : Sofar) (option : Choice) → given option (idle s) ≡ given option s
+given_idle s Threads = refl
+given_idle s Workers = refl
 given_idle s Judge = refl
 given_idle s Steps = refl
 given_idle s Gen = refl
 
 marked_idle : (s : Sofar) (option : Choice) → marked (idle s) option ≡ idle (marked s option)
+marked_idle s Threads = refl
+marked_idle s Workers = refl
 marked_idle s Judge = refl
 marked_idle s Steps = refl
 marked_idle s Gen = refl
@@ -66,11 +111,14 @@ has_value_of option digits is = ap (λ (o : Option ℕ). is_some o) (is_value op
 takes_value : (s : Sofar) (option : Choice) (digits : List ℕ) → IsValue option digits → given option s ≡ false → with_new (idle s) option (is_some (value option digits)) ≡ Some (idle (marked s option))
 takes_value s option digits is free = ap (with_new (idle s) option) (has_value_of option digits is) ∙ new_idle s option free
 
-takes_joined : (s : Sofar) (option : Choice) (digits : List ℕ) → IsValue option digits → given option s ≡ false → with_word (idle s) (name_of option ++ (codes "=" ++ digits)) ≡ Some (idle (marked s option))
-takes_joined s option digits is free = ap (with_form (idle s)) (is_joined option digits) ∙ takes_value s option digits is free
+takes_joined : (s : Sofar) (option : Choice) (digits : List ℕ) → is_flag option ≡ false → IsValue option digits → given option s ≡ false → with_word (idle s) (name_of option ++ (codes "=" ++ digits)) ≡ Some (idle (marked s option))
+takes_joined s option digits valued is free = ap (with_form (idle s)) (is_joined option digits) ∙ rw valued (takes_value s option digits is free)
 
-takes_name : (s : Sofar) (option : Choice) → with_word (idle s) (name_of option) ≡ Some (awaiting s option)
-takes_name s option = ap (with_form (idle s)) (is_named option)
+takes_name : (s : Sofar) (option : Choice) → is_flag option ≡ false → with_word (idle s) (name_of option) ≡ Some (awaiting s option)
+takes_name s option valued = ap (with_form (idle s)) (is_named option) ∙ rw valued refl
+
+takes_flag : (s : Sofar) (option : Choice) → is_flag option ≡ true → given option s ≡ false → with_word (idle s) (name_of option) ≡ Some (idle (marked s option))
+takes_flag s option flag free = ap (with_form (idle s)) (is_named option) ∙ rw flag (new_idle s option free)
 
 -- ---- every list of items is read
 
@@ -91,12 +139,15 @@ read_items s (item ∷ items) all once free =
     let more = marked s item.option in
     let rest = flat_map words_of items in
     let on = read_items more items all.1 once.1 (free_more s item.option items once.0 free.1) in
-    elim (item.behind) as (λ b. fit_from (idle s) ((if b then (name_of item.option ++ (codes "=" ++ item.digits)) ∷ [] else name_of item.option ∷ item.digits ∷ []) ++ rest) ≡ true) [
-      | true ↦ ap (fit_with rest) (takes_joined s item.option item.digits all.0 free.0) ∙ on
-      | false ↦
-          ap (fit_with (item.digits ∷ rest)) (takes_name s item.option)
-          ∙ ap (fit_with rest) (takes_value s item.option item.digits all.0 free.0)
-          ∙ on
+    elim (cases_Bool (is_flag item.option)) [
+      | inl flag ↦ rw flag (ap (fit_with rest) (takes_flag s item.option flag free.0) ∙ on)
+      | inr valued ↦ rw valued (elim (item.behind) as (λ b. fit_from (idle s) (value_words item.option b item.digits ++ rest) ≡ true) [
+        | true ↦ ap (fit_with rest) (takes_joined s item.option item.digits valued (all.0 valued) free.0) ∙ on
+        | false ↦
+            ap (fit_with (item.digits ∷ rest)) (takes_name s item.option valued)
+            ∙ ap (fit_with rest) (takes_value s item.option item.digits (all.0 valued) free.0)
+            ∙ on
+      ])
     ]
 
 -- ---- words that are read are items
@@ -160,24 +211,68 @@ with_item s item words rest is free e read =
 abbrev item_of : Choice → List ℕ → Bool → Item
 item_of option digits behind = record { option = option; digits = digits; behind = behind }
 
--- one word is an option alone, or an option with its value
+abbrev bare : Choice → Item
+bare option = record { option = option; digits = []; behind = false }
+
+-- an option that takes no value was read, and what follows it
+record TakesFlag (s : Sofar) (option : Choice) (rest : List (List ℕ)) : Type 0 where
+  free : given option s ≡ false
+  more : fit_from (idle (marked s option)) rest ≡ true
+
+taken_flag : (s : Sofar) (option : Choice) (rest : List (List ℕ)) → fit_with rest (with_new (idle s) option true) ≡ true → TakesFlag s option rest
+taken_flag s option rest told = elim (cases_Bool (given option s)) [
+  | inl e ↦
+      let there : given option (idle s) ≡ true = given_idle s option ∙ e in
+      let wrong = rw there at told in cc
+  | inr e ↦ record { free = e; more = sym (ap (fit_with rest) (new_idle s option e)) ∙ told }
+]
+
+flag_item : (s : Sofar) (option : Choice) (word : List ℕ) (rest : List (List ℕ)) → is_flag option ≡ true → given option s ≡ false → word ≡ name_of option → Read (marked s option) rest → Read s (word ∷ rest)
+flag_item s option word rest flag free e read =
+    let words : word ∷ rest ≡ words_of (bare option) ++ rest = rw flag (ap (λ (w : List ℕ). w ∷ rest) e) in
+    with_item s (bare option) (word ∷ rest) rest (λ valued. let wrong : true ≡ false = sym flag ∙ valued in cc) free words read
+
+value_item : (s : Sofar) (option : Choice) (digits : List ℕ) (behind : Bool) (words rest : List (List ℕ)) → is_flag option ≡ false → IsValue option digits → given option s ≡ false → words ≡ value_words option behind digits ++ rest → Read (marked s option) rest → Read s words
+value_item s option digits behind words rest valued is free e read =
+    let same : words ≡ words_of (item_of option digits behind) ++ rest = rw valued e in
+    with_item s (item_of option digits behind) words rest (λ not_flag. is) free same read
+
+abbrev none_read : (s : Sofar) → Read s []
+none_read s = record { items = []; whole = refl; all = tt; once = tt; free = tt }
+
+-- one word is an option that takes no value, or an option with its value
 read_one : (s : Sofar) (word : List ℕ) (f : Form) → form word ≡ f → fit_with [] (with_form (idle s) f) ≡ true → Read s (word ∷ [])
 read_one s word Other e told = cc
-read_one s word (Named option) e told = cc
-read_one s word (Joined option digits) e told =
-    let t = taken s option digits [] told in
-    with_item s (item_of option digits true) (word ∷ []) [] t.is t.free (ap (λ (w : List ℕ). w ∷ []) (joined_word word option digits e))
-    (record { items = []; whole = refl; all = tt; once = tt; free = tt })
+read_one s word (Named option) e told = elim (cases_Bool (is_flag option)) [
+  | inl flag ↦
+      let t = taken_flag s option [] (rw flag at told) in
+      flag_item s option word [] flag t.free (named_word word option e) (none_read (marked s option))
+  | inr valued ↦ let wrong = rw valued at told in cc
+]
+read_one s word (Joined option digits) e told = elim (cases_Bool (is_flag option)) [
+  | inl flag ↦ let wrong = rw flag at told in cc
+  | inr valued ↦
+      let t = taken s option digits [] (rw valued at told) in
+      value_item s option digits true (word ∷ []) [] valued t.is t.free (ap (λ (w : List ℕ). w ∷ []) (joined_word word option digits e)) (none_read (marked s option))
+]
 
 read_two : (s : Sofar) (word next : List ℕ) (rest : List (List ℕ)) (f : Form) → form word ≡ f → fit_with (next ∷ rest) (with_form (idle s) f) ≡ true
     → ((t : Sofar) → fit_from (idle t) (next ∷ rest) ≡ true → Read t (next ∷ rest)) → ((t : Sofar) → fit_from (idle t) rest ≡ true → Read t rest) → Read s (word ∷ next ∷ rest)
 read_two s word next rest Other e told more on = cc
-read_two s word next rest (Named option) e told more on =
-    let t = taken s option next rest told in
-    with_item s (item_of option next false) (word ∷ next ∷ rest) rest t.is t.free (ap (λ (w : List ℕ). w ∷ next ∷ rest) (named_word word option e)) (on (marked s option) t.more)
-read_two s word next rest (Joined option digits) e told more on =
-    let t = taken s option digits (next ∷ rest) told in
-    with_item s (item_of option digits true) (word ∷ next ∷ rest) (next ∷ rest) t.is t.free (ap (λ (w : List ℕ). w ∷ next ∷ rest) (joined_word word option digits e)) (more (marked s option) t.more)
+read_two s word next rest (Named option) e told more on = elim (cases_Bool (is_flag option)) [
+  | inl flag ↦
+      let t = taken_flag s option (next ∷ rest) (rw flag at told) in
+      flag_item s option word (next ∷ rest) flag t.free (named_word word option e) (more (marked s option) t.more)
+  | inr valued ↦
+      let t = taken s option next rest (rw valued at told) in
+      value_item s option next false (word ∷ next ∷ rest) rest valued t.is t.free (ap (λ (w : List ℕ). w ∷ next ∷ rest) (named_word word option e)) (on (marked s option) t.more)
+]
+read_two s word next rest (Joined option digits) e told more on = elim (cases_Bool (is_flag option)) [
+  | inl flag ↦ let wrong = rw flag at told in cc
+  | inr valued ↦
+      let t = taken s option digits (next ∷ rest) (rw valued at told) in
+      value_item s option digits true (word ∷ next ∷ rest) (next ∷ rest) valued t.is t.free (ap (λ (w : List ℕ). w ∷ next ∷ rest) (joined_word word option digits e)) (more (marked s option) t.more)
+]
 
 pub read_words : (s : Sofar) (words : List (List ℕ)) → fit_from (idle s) words ≡ true → Read s words
 read_words s [] told = record { items = []; whole = refl; all = tt; once = tt; free = tt }

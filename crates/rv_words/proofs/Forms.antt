@@ -7,11 +7,13 @@ use Rattle.std.proofs.lemmas.List.{drop_more, take-append-drop}
 use Rattle.std.proofs.lemmas.List.Quantifiers.{position-Some}
 use Rattle.std.proofs.lemmas.Slice.Eq.{bytes_eq-Decides}
 use Rattle.rv_words.specs.declared.choices.Choice.{Choice}
-use Rattle.rv_words.specs.declared.choices.Choice.TheVariants.{Judge, Steps, Gen}
+use Rattle.rv_words.specs.declared.choices.Choice.TheVariants.{Threads, Workers, Judge, Steps, Gen}
 use Rattle.rv_words.specs.Words.{name_of}
 use Rattle.rv_words.specs.Reading.{Named, Joined, choice_of, form, form_at, joined, named}
 
 pub is_named : (option : Choice) → form (name_of option) ≡ Named option
+is_named Threads = refl
+is_named Workers = refl
 is_named Judge = refl
 is_named Steps = refl
 is_named Gen = refl
@@ -23,18 +25,26 @@ sign_at : (word : List ℕ) (n : ℕ) → position_or_len (λ c. c == 61) word �
 sign_at word n e there = rw (e, below n (length word) there) refl
 
 pub is_joined : (option : Choice) (digits : List ℕ) → form (name_of option ++ (codes "=" ++ digits)) ≡ Joined option digits
+is_joined Threads digits = let word = name_of Threads ++ (codes "=" ++ digits) in ap (λ (o : Option ℕ). form_at o word) (sign_at word 9 refl (omega arith))
+is_joined Workers digits = let word = name_of Workers ++ (codes "=" ++ digits) in ap (λ (o : Option ℕ). form_at o word) (sign_at word 9 refl (omega arith))
 is_joined Judge digits = let word = name_of Judge ++ (codes "=" ++ digits) in ap (λ (o : Option ℕ). form_at o word) (sign_at word 7 refl (omega arith))
 is_joined Steps digits = let word = name_of Steps ++ (codes "=" ++ digits) in ap (λ (o : Option ℕ). form_at o word) (sign_at word 7 refl (omega arith))
 is_joined Gen digits = let word = name_of Gen ++ (codes "=" ++ digits) in ap (λ (o : Option ℕ). form_at o word) (sign_at word 5 refl (omega arith))
 
 choice_name : (name : List ℕ) (option : Choice) → choice_of name ≡ Some option → name ≡ name_of option
-choice_name name option e = elim (cases_Bool (bytes_eq name (name_of Judge))) [
-  | inl t ↦ let said = rw t at e in let same : Judge ≡ option = cc in (bytes_eq-Decides name (name_of Judge)).0 t ∙ ap name_of same
-  | inr f ↦ elim (cases_Bool (bytes_eq name (name_of Steps))) [
-    | inl t ↦ let said = rw (f, t) at e in let same : Steps ≡ option = cc in (bytes_eq-Decides name (name_of Steps)).0 t ∙ ap name_of same
-    | inr g ↦ elim (cases_Bool (bytes_eq name (name_of Gen))) [
-      | inl t ↦ let said = rw (f, g, t) at e in let same : Gen ≡ option = cc in (bytes_eq-Decides name (name_of Gen)).0 t ∙ ap name_of same
-      | inr h ↦ let wrong = rw (f, g, h) at e in cc
+choice_name name option e = elim (cases_Bool (bytes_eq name (name_of Threads))) [
+  | inl t ↦ let said = rw t at e in let same : Threads ≡ option = cc in (bytes_eq-Decides name (name_of Threads)).0 t ∙ ap name_of same
+  | inr f ↦ elim (cases_Bool (bytes_eq name (name_of Workers))) [
+    | inl t ↦ let said = rw (f, t) at e in let same : Workers ≡ option = cc in (bytes_eq-Decides name (name_of Workers)).0 t ∙ ap name_of same
+    | inr g ↦ elim (cases_Bool (bytes_eq name (name_of Judge))) [
+      | inl t ↦ let said = rw (f, g, t) at e in let same : Judge ≡ option = cc in (bytes_eq-Decides name (name_of Judge)).0 t ∙ ap name_of same
+      | inr h ↦ elim (cases_Bool (bytes_eq name (name_of Steps))) [
+        | inl t ↦ let said = rw (f, g, h, t) at e in let same : Steps ≡ option = cc in (bytes_eq-Decides name (name_of Steps)).0 t ∙ ap name_of same
+        | inr k ↦ elim (cases_Bool (bytes_eq name (name_of Gen))) [
+          | inl t ↦ let said = rw (f, g, h, k, t) at e in let same : Gen ≡ option = cc in (bytes_eq-Decides name (name_of Gen)).0 t ∙ ap name_of same
+          | inr m ↦ let wrong = rw (f, g, h, k, m) at e in cc
+        ]
+      ]
     ]
   ]
 ]

@@ -73,6 +73,8 @@ has_value option digits n e = elim (cases_Bool (nat_le 1 (length digits) && nat_
 ]
 
 small_of : (option : Choice) → greatest option ≤ 4294967295
+small_of Choice.Threads = omega arith
+small_of Choice.Workers = omega arith
 small_of Choice.Judge = omega arith
 small_of Choice.Steps = omega arith
 small_of Choice.Gen = omega arith

@@ -1,50 +1,73 @@
 -- What clap's walk makes of the words of items: one row for each, which holds the item's value.
-use Rattle.std.proofs.Common.{◌≡◌, ◌≢◌, ℕ, ◌==◌, List, [], ◌∷◌, ◌++◌, refl, sym, ap, ◌∙◌, arith, Bool, true, false, Option, Some, None, inl, inr, append_assoc, append-nil, bytes_eq, codes, flat_map, map, if◌then◌else◌}
-use Rattle.std.specs.Prelude.{fold, option_and_then, unwrap_or}
-use Rattle.std.specs.List.{AllByRecursion, list_all}
+use Rattle.std.proofs.Common.{◌≡◌, ◌≢◌, ℕ, ◌==◌, ◌||◌, List, [], ◌∷◌, ◌++◌, refl, sym, ap, ◌∙◌, arith, Bool, true, false, Option, Some, None, inl, inr, append_assoc, append-nil, bytes_eq, codes, flat_map, map, if◌then◌else◌}
+use Rattle.std.specs.Prelude.{find, fold, option_and_then, unwrap_or}
+use Rattle.std.specs.List.{AllByRecursion, list_all, list_any}
+use Rattle.std.proofs.lemmas.Bool.{cases_Bool}
 use Rattle.std.proofs.lemmas.Bool.Decides.{nat_tests}
+use Rattle.std.specs.Option.{option_map_or}
 use Rattle.clap.specs.Lexer.{long_of, short_of}
 use Rattle.clap.specs.Simple.{built, filled, matches_of, with_index}
 use Rattle.clap.specs.Walk.{Held, Row, Rule, Step, Text, Walk, after_step, at_row, first_of, has_row, long_or_other, more_values, nothing_held, option, reacted, reading_by, rows_of, settled, short_or_plain, trailing, used, walk, walk_from, walked, with_default}
 use Rattle.clap.specs.Matches.{first_value}
 use Rattle.clap.specs.declared.parser.matches.Found.{Found}
-use Rattle.clap.specs.declared.parser.matches.ValueSource.TheVariants.{CommandLine}
+use Rattle.clap.specs.declared.parser.matches.ValueSource.TheVariants.{CommandLine, DefaultValue}
 use Rattle.clap.proofs.WalkLemmas.{first_value-rows}
 use Rattle.clap.proofs.OnLiterals.{clap_on_literals}
 use Rattle.rv_words.specs.declared.choices.Asked.{Asked}
 use Rattle.rv_words.specs.declared.choices.Choice.{Choice}
-use Rattle.rv_words.specs.declared.choices.Choice.TheVariants.{Judge, Steps, Gen}
-use Rattle.rv_words.specs.Command.{app, asked_in, found_in, id_of, option_rule}
+use Rattle.rv_words.specs.declared.choices.Choice.TheVariants.{Threads, Workers, Judge, Steps, Gen}
+use Rattle.rv_words.specs.Command.{app, asked_in, flag_in, found_in, id_of, rule_for, valued_rule}
 use Rattle.rv_words.specs.Reading.{value}
-use Rattle.rv_words.specs.Words.{AreAccepted, Ask, IsItem, IsValue, Item, Lacks, Once, asked_of, is_digit, is_option, name_of, value_of, words_of}
-use Rattle.rv_words.proofs.Accepts.{option_cases}
+use Rattle.rv_words.specs.Words.{AreAccepted, Ask, IsItem, IsValue, Item, Lacks, Once, asked_of, is_digit, is_flag, is_option, name_of, value_of, words_of}
+use Rattle.rv_words.proofs.Accepts.{option_cases, value_words}
 use Rattle.rv_words.proofs.Values.{and_parts, is_value}
+
+-- whether there is an item of this option
+abbrev has_option : Choice → List Item → Bool
+has_option o items = list_any (λ (item : Item). is_option o item.option) items
 
 -- the options as clap builds them
 abbrev rules : List Rule
 rules = (built app).top.rules
 
 abbrev rule : Choice → Rule
-rule Judge = filled (option_rule Judge)
-rule Steps = filled (option_rule Steps)
-rule Gen = filled (option_rule Gen)
+rule Threads = filled (rule_for Threads)
+rule Workers = filled (rule_for Workers)
+rule Judge = filled (rule_for Judge)
+rule Steps = filled (rule_for Steps)
+rule Gen = filled (rule_for Gen)
 
 abbrev awaiting : Choice → Walk → Walk
 awaiting o w = record w { waiting = option (id_of o) }
 
 -- ---- one item
 
-step_joined : (o : Choice) (digits : List ℕ) (h : Held) → walked rules [] (walk_from h) (name_of o ++ (codes "=" ++ digits)) ≡ walk_from (reacted rules (rule o) (digits ∷ []) h)
-unfolding clap_on_literals
-step_joined Judge digits h = refl
-step_joined Steps digits h = refl
-step_joined Gen digits h = refl
+-- the values of a use, and those of its row
+abbrev use_of : Choice → List ℕ → List (List ℕ)
+use_of o digits = if is_flag o then [] else digits ∷ []
 
-step_named : (o : Choice) (h : Held) → walked rules [] (walk_from h) (name_of o) ≡ awaiting o (walk_from (record (settled rules h) { pending = Some (id_of o, []) }))
+abbrev values_of : Choice → List ℕ → List (List ℕ)
+values_of o digits = if is_flag o then codes "true" ∷ [] else digits ∷ []
+
+step_flag : (h : Held) → walked rules [] (walk_from h) (name_of Threads) ≡ walk_from (reacted rules (rule Threads) [] h)
 unfolding clap_on_literals
-step_named Judge h = refl
-step_named Steps h = refl
-step_named Gen h = refl
+step_flag h = refl
+
+step_joined : (o : Choice) (digits : List ℕ) (h : Held) → is_flag o ≡ false → walked rules [] (walk_from h) (name_of o ++ (codes "=" ++ digits)) ≡ walk_from (reacted rules (rule o) (digits ∷ []) h)
+unfolding clap_on_literals
+step_joined Threads digits h valued = cc
+step_joined Workers digits h valued = refl
+step_joined Judge digits h valued = refl
+step_joined Steps digits h valued = refl
+step_joined Gen digits h valued = refl
+
+step_named : (o : Choice) (h : Held) → is_flag o ≡ false → walked rules [] (walk_from h) (name_of o) ≡ awaiting o (walk_from (record (settled rules h) { pending = Some (id_of o, []) }))
+unfolding clap_on_literals
+step_named Threads h valued = cc
+step_named Workers h valued = refl
+step_named Judge h valued = refl
+step_named Steps h valued = refl
+step_named Gen h valued = refl
 
 -- a word that begins with a digit is no option
 record IsPlain (word : List ℕ) : Type 0 where
@@ -64,56 +87,86 @@ digits_plain o (d ∷ ds) v =
 abbrev stepped : Walk → List ℕ → Held × Step → Walk
 stepped w word met = after_step rules word w met.0 met.1
 
-step_value : (o : Choice) (digits : List ℕ) (h : Held) → IsPlain digits → walked rules [] (awaiting o (walk_from (record h { pending = Some (id_of o, []) }))) digits ≡ walk_from (record h { pending = Some (id_of o, digits ∷ []) })
+step_value : (o : Choice) (digits : List ℕ) (h : Held) → is_flag o ≡ false → IsPlain digits → walked rules [] (awaiting o (walk_from (record h { pending = Some (id_of o, []) }))) digits ≡ walk_from (record h { pending = Some (id_of o, digits ∷ []) })
 unfolding clap_on_literals
-step_value o digits h plain =
+step_value o digits h valued plain =
     let held = record h { pending = Some (id_of o, []) } in
     let w = awaiting o (walk_from held) in
     ap (λ (b : Bool). stepped w digits (if b then (held, trailing 1) else long_or_other rules (option (id_of o)) digits (long_of digits) held)) plain.dashes
     ∙ ap (λ (l : Option (Text × Option Text)). stepped w digits (long_or_other rules (option (id_of o)) digits l held)) plain.long
     ∙ ap (λ (s : Option Text). stepped w digits (short_or_plain rules (option (id_of o)) digits s held)) plain.short
-    ∙ takes o
+    ∙ takes o valued
   where
-    takes : (o : Choice) → stepped (awaiting o (walk_from (record h { pending = Some (id_of o, []) }))) digits (short_or_plain rules (option (id_of o)) digits None (record h { pending = Some (id_of o, []) })) ≡ walk_from (record h { pending = Some (id_of o, digits ∷ []) })
-    takes Judge = refl
-    takes Steps = refl
-    takes Gen = refl
+    takes : (o : Choice) → is_flag o ≡ false → stepped (awaiting o (walk_from (record h { pending = Some (id_of o, []) }))) digits (short_or_plain rules (option (id_of o)) digits None (record h { pending = Some (id_of o, []) })) ≡ walk_from (record h { pending = Some (id_of o, digits ∷ []) })
+    takes Threads valued = cc
+    takes Workers valued = refl
+    takes Judge valued = refl
+    takes Steps valued = refl
+    takes Gen valued = refl
 
-settled_named : (o : Choice) (digits : List ℕ) (h : Held) → (settled rules (record (settled rules h) { pending = Some (id_of o, digits ∷ []) })).rows ≡ used (rule o) (digits ∷ []) (settled rules h).rows
-settled_named Judge digits h = refl
-settled_named Steps digits h = refl
-settled_named Gen digits h = refl
+settled_named : (o : Choice) (digits : List ℕ) (h : Held) → is_flag o ≡ false → (settled rules (record (settled rules h) { pending = Some (id_of o, digits ∷ []) })).rows ≡ used (rule o) (digits ∷ []) (settled rules h).rows
+settled_named Threads digits h valued = cc
+settled_named Workers digits h valued = refl
+settled_named Judge digits h valued = refl
+settled_named Steps digits h valued = refl
+settled_named Gen digits h valued = refl
 
 settled_joined : (o : Choice) (digits : List ℕ) (h : Held) → (settled rules (reacted rules (rule o) (digits ∷ []) h)).rows ≡ used (rule o) (digits ∷ []) (settled rules h).rows
 settled_joined o digits h = refl
+
+-- the walk over an item's words: what is held behind them, and its rows
+record Steps_over (o : Choice) (digits : List ℕ) (words rest : List (List ℕ)) (h : Held) : Type 0 where
+  held : Held
+  is : fold (walked rules []) (walk_from h) (words ++ rest) ≡ fold (walked rules []) (walk_from held) rest
+  rows : (settled rules held).rows ≡ used (rule o) (use_of o digits) (settled rules h).rows
+
+flag_item : (digits : List ℕ) (h : Held) (rest : List (List ℕ)) → Steps_over Threads digits (name_of Threads ∷ []) rest h
+flag_item digits h rest = record {
+  held = reacted rules (rule Threads) [] h;
+  is = ap (λ (w : Walk). fold (walked rules []) w rest) (step_flag h);
+  rows = refl;
+}
+
+value_item : (o : Choice) (behind : Bool) (digits : List ℕ) (h : Held) (rest : List (List ℕ)) → is_flag o ≡ false → IsValue o digits → Steps_over o digits (value_words o behind digits) rest h
+value_item o true digits h rest valued is = record {
+  held = reacted rules (rule o) (digits ∷ []) h;
+  is = ap (λ (w : Walk). fold (walked rules []) w rest) (step_joined o digits h valued);
+  rows = rw valued refl;
+}
+value_item o false digits h rest valued is = record {
+  held = record (settled rules h) { pending = Some (id_of o, digits ∷ []) };
+  is =
+      ap (λ (w : Walk). fold (walked rules []) w (digits ∷ rest)) (step_named o h valued)
+      ∙ ap (λ (w : Walk). fold (walked rules []) w rest) (step_value o digits (settled rules h) valued (digits_plain o digits is));
+  rows = rw valued (settled_named o digits h valued);
+}
+
+one_item : (o : Choice) (behind : Bool) (digits : List ℕ) (h : Held) (rest : List (List ℕ)) → (is_flag o ≡ false → IsValue o digits) → Steps_over o digits (if is_flag o then name_of o ∷ [] else value_words o behind digits) rest h
+one_item Threads behind digits h rest is = flag_item digits h rest
+one_item Workers behind digits h rest is = value_item Workers behind digits h rest refl (is refl)
+one_item Judge behind digits h rest is = value_item Judge behind digits h rest refl (is refl)
+one_item Steps behind digits h rest is = value_item Steps behind digits h rest refl (is refl)
+one_item Gen behind digits h rest is = value_item Gen behind digits h rest refl (is refl)
 
 -- ---- all items
 
 -- the rows after the items' uses
 abbrev with_items : List Row → List Item → List Row
 with_items rows [] = rows
-with_items rows (item ∷ items) = with_items (used (rule item.option) (item.digits ∷ []) rows) items
+with_items rows (item ∷ items) = with_items (used (rule item.option) (use_of item.option item.digits) rows) items
 
 walk_items : (items : List Item) (h : Held) → AllByRecursion IsItem items → (settled rules (fold (walked rules []) (walk_from h) (flat_map words_of items)).held).rows ≡ with_items (settled rules h).rows items
 walk_items [] h all = refl
 walk_items (item ∷ items) h all =
-    let rest = flat_map words_of items in
-    let digits = item.digits in
-    elim (item.behind) as (λ b. (settled rules (fold (walked rules []) (walk_from h) ((if b then (name_of item.option ++ (codes "=" ++ digits)) ∷ [] else name_of item.option ∷ digits ∷ []) ++ rest)).held).rows ≡ with_items (used (rule item.option) (digits ∷ []) (settled rules h).rows) items) [
-      | true ↦
-          ap (λ (w : Walk). (settled rules (fold (walked rules []) w rest).held).rows) (step_joined item.option digits h)
-          ∙ walk_items items (reacted rules (rule item.option) (digits ∷ []) h) all.1
-      | false ↦
-          ap (λ (w : Walk). (settled rules (fold (walked rules []) w (digits ∷ rest)).held).rows) (step_named item.option h)
-          ∙ ap (λ (w : Walk). (settled rules (fold (walked rules []) w rest).held).rows) (step_value item.option digits (settled rules h) (digits_plain item.option digits all.0))
-          ∙ walk_items items (record (settled rules h) { pending = Some (id_of item.option, digits ∷ []) }) all.1
-          ∙ ap (λ (rows : List Row). with_items rows items) (settled_named item.option digits h)
-    ]
+    let one = one_item item.option item.behind item.digits h (flat_map words_of items) all.0 in
+    ap (λ (w : Walk). (settled rules w.held).rows) one.is
+    ∙ walk_items items one.held all.1
+    ∙ ap (λ (rows : List Row). with_items rows items) one.rows
 
 -- ---- the rows are those of the items
 
 abbrev row_of : Choice → List ℕ → Row
-row_of o digits = record { id = id_of o; values = digits ∷ []; count = None; source = Some CommandLine; reading = reading_by (rule o) }
+row_of o digits = record { id = id_of o; values = values_of o digits; count = None; source = Some CommandLine; reading = reading_by (rule o) }
 
 abbrev rows_from : List Item → List Row
 rows_from items = map (λ (item : Item). row_of item.option item.digits) items
@@ -133,18 +186,36 @@ apart_more id (r ∷ rs) row apart other = (apart.0, apart_more id rs row apart.
 twice : (id : List ℕ) (change : Row → List Row) (missing rows : List Row) → Apart id rows → at_row id change missing (at_row id (λ _. []) [] rows) ≡ rows ++ missing
 twice id change missing rows apart = ap (at_row id change missing) (at_end id (λ _. []) [] rows apart ∙ append-nil rows) ∙ at_end id change missing rows apart
 
-used_last : (o : Choice) (digits : List ℕ) (rows : List Row) → Apart (id_of o) rows → used (rule o) (digits ∷ []) rows ≡ rows ++ row_of o digits ∷ []
+used_last : (o : Choice) (digits : List ℕ) (rows : List Row) → Apart (id_of o) rows → used (rule o) (use_of o digits) rows ≡ rows ++ row_of o digits ∷ []
+used_last Threads digits rows apart = twice (id_of Threads) (more_values CommandLine (codes "true" ∷ [])) (row_of Threads digits ∷ []) rows apart
+used_last Workers digits rows apart = twice (id_of Workers) (more_values CommandLine (digits ∷ [])) (row_of Workers digits ∷ []) rows apart
 used_last Judge digits rows apart = twice (id_of Judge) (more_values CommandLine (digits ∷ [])) (row_of Judge digits ∷ []) rows apart
 used_last Steps digits rows apart = twice (id_of Steps) (more_values CommandLine (digits ∷ [])) (row_of Steps digits ∷ []) rows apart
 used_last Gen digits rows apart = twice (id_of Gen) (more_values CommandLine (digits ∷ [])) (row_of Gen digits ∷ []) rows apart
 
 ids_apart : (a b : Choice) → bytes_eq (id_of a) (id_of b) ≡ is_option b a
+ids_apart Threads Threads = refl
+ids_apart Threads Workers = refl
+ids_apart Threads Judge = refl
+ids_apart Threads Steps = refl
+ids_apart Threads Gen = refl
+ids_apart Workers Threads = refl
+ids_apart Workers Workers = refl
+ids_apart Workers Judge = refl
+ids_apart Workers Steps = refl
+ids_apart Workers Gen = refl
+ids_apart Judge Threads = refl
+ids_apart Judge Workers = refl
 ids_apart Judge Judge = refl
 ids_apart Judge Steps = refl
 ids_apart Judge Gen = refl
+ids_apart Steps Threads = refl
+ids_apart Steps Workers = refl
 ids_apart Steps Judge = refl
 ids_apart Steps Steps = refl
 ids_apart Steps Gen = refl
+ids_apart Gen Threads = refl
+ids_apart Gen Workers = refl
 ids_apart Gen Judge = refl
 ids_apart Gen Steps = refl
 ids_apart Gen Gen = refl
@@ -178,48 +249,130 @@ either : {X : Type 0} (b : Bool) (x : X) → (if b then x else x) ≡ x
 either true x = refl
 either false x = refl
 
--- no option has a default
+-- no option with a value has a default
 abbrev listed : Choice → Rule
-listed o = with_index 1 (filled (option_rule o))
+listed o = with_index 1 (filled (valued_rule (id_of o)))
+
+abbrev listed_flag : Rule
+listed_flag = with_index 1 (rule Threads)
 
 default_none : (o : Choice) (rows : List Row) → with_default rows (listed o) ≡ rows
+default_none Threads rows = either (has_row (id_of Threads) rows) rows
+default_none Workers rows = either (has_row (id_of Workers) rows) rows
 default_none Judge rows = either (has_row (id_of Judge) rows) rows
 default_none Steps rows = either (has_row (id_of Steps) rows) rows
 default_none Gen rows = either (has_row (id_of Gen) rows) rows
 
--- no option has a default
-no_default : (rows : List Row) → fold with_default rows rules ≡ rows
-no_default rows =
-    default_none Gen (with_default (with_default rows (listed Judge)) (listed Steps))
-    ∙ default_none Steps (with_default rows (listed Judge))
-    ∙ default_none Judge rows
+-- the flag has one
+flag_default : (rows : List Row) → fold with_default rows rules ≡ with_default rows listed_flag
+flag_default rows =
+    let begun = with_default rows listed_flag in
+    default_none Gen (with_default (with_default (with_default begun (listed Workers)) (listed Judge)) (listed Steps))
+    ∙ default_none Steps (with_default (with_default begun (listed Workers)) (listed Judge))
+    ∙ default_none Judge (with_default begun (listed Workers))
+    ∙ default_none Workers begun
 
-pub matched : (items : List Item) → AllByRecursion IsItem items → Once items → matches_of app (flat_map words_of items) ≡ rows_from items
+pub matched : (items : List Item) → AllByRecursion IsItem items → Once items → matches_of app (flat_map words_of items) ≡ with_default (rows_from items) listed_flag
 matched items all once =
-    no_default (settled rules (walk rules [] nothing_held (flat_map words_of items)).held).rows
-    ∙ walk_items items nothing_held all
-    ∙ all_rows [] items once (new_none items)
+    flag_default (settled rules (walk rules [] nothing_held (flat_map words_of items)).held).rows
+    ∙ ap (λ (rows : List Row). with_default rows listed_flag) (walk_items items nothing_held all ∙ all_rows [] items once (new_none items))
+
+-- ---- the flag's row
+
+abbrev unflagged : Row
+unflagged = record { id = id_of Threads; values = codes "false" ∷ []; count = None; source = Some DefaultValue; reading = reading_by (rule Threads) }
+
+has_flag : (items : List Item) → has_row (id_of Threads) (rows_from items) ≡ has_option Threads items
+has_flag [] = refl
+has_flag (item ∷ items) =
+    ap (λ (b : Bool). b || has_row (id_of Threads) (rows_from items)) (ids_apart item.option Threads)
+    ∙ ap (λ (b : Bool). is_option Threads item.option || b) (has_flag items)
+
+neither : (a b : Bool) → (a || b) ≡ false → (a ≡ false) × (b ≡ false)
+neither true b e = cc
+neither false b e = (refl, e)
+
+apart_of : (id : List ℕ) (rows : List Row) → has_row id rows ≡ false → Apart id rows
+apart_of id [] e = tt
+apart_of id (r ∷ rs) e = let parts = neither (bytes_eq r.id id) (has_row id rs) e in (parts.0, apart_of id rs parts.1)
+
+with_flag : (items : List Item) → has_option Threads items ≡ true → with_default (rows_from items) listed_flag ≡ rows_from items
+with_flag items e = rw (has_flag items ∙ e) refl
+
+without_flag : (items : List Item) → has_option Threads items ≡ false → with_default (rows_from items) listed_flag ≡ rows_from items ++ unflagged ∷ []
+without_flag items e =
+    let none = has_flag items ∙ e in
+    rw none (at_end (id_of Threads) (more_values DefaultValue (codes "false" ∷ [])) (unflagged ∷ []) (rows_from items) (apart_of (id_of Threads) (rows_from items) none))
 
 -- ---- what the rows ask
 
-found : (o : Choice) (items : List Item) → AllByRecursion IsItem items → found_in (rows_from items) o ≡ value_of o items
-found o [] all = refl
-found o (item ∷ items) all = elim (option_cases o item.option) [
+found : (o : Choice) (items : List Item) → is_flag o ≡ false → AllByRecursion IsItem items → found_in (rows_from items) o ≡ value_of o items
+found o [] valued all = refl
+found o (item ∷ items) valued all = elim (option_cases o item.option) [
   | inl same ↦ here same.0 same.1
-  | inr other ↦ rw (ids_apart item.option o, other.1) (found o items all.1)
+  | inr other ↦ rw (ids_apart item.option o, other.1) (found o items valued all.1)
 ]
   where
     here : o ≡ item.option → is_option o item.option ≡ true → found_in (rows_from (item ∷ items)) o ≡ value_of o (item ∷ items)
-    here same is = rw (ids_apart item.option o, is, same) (is_value item.option item.digits all.0)
+    here same is =
+        let takes : is_flag item.option ≡ false = ap is_flag (sym same) ∙ valued in
+        rw (ids_apart item.option o, is, same, takes) (is_value item.option item.digits (all.0 takes))
 
-asks : (items : List Item) → AllByRecursion IsItem items → asked_in (rows_from items) ≡ asked_of items
+-- behind the default too
+found_behind : (o : Choice) (rows : List Row) → is_flag o ≡ false → found_in (rows ++ unflagged ∷ []) o ≡ found_in rows o
+found_behind o [] valued = none o valued
+  where
+    none : (o : Choice) → is_flag o ≡ false → found_in (unflagged ∷ []) o ≡ None
+    none Threads valued = cc
+    none Workers valued = refl
+    none Judge valued = refl
+    none Steps valued = refl
+    none Gen valued = refl
+found_behind o (r ∷ rs) valued = elim (cases_Bool (bytes_eq r.id (id_of o))) [
+  | inl t ↦ rw t refl
+  | inr f ↦ rw f (found_behind o rs valued)
+]
+
+found_all : (o : Choice) (items : List Item) → is_flag o ≡ false → AllByRecursion IsItem items → found_in (with_default (rows_from items) listed_flag) o ≡ value_of o items
+found_all o items valued all = elim (cases_Bool (has_option Threads items)) [
+  | inl t ↦ ap (λ (rows : List Row). found_in rows o) (with_flag items t) ∙ found o items valued all
+  | inr f ↦ ap (λ (rows : List Row). found_in rows o) (without_flag items f) ∙ found_behind o (rows_from items) valued ∙ found o items valued all
+]
+
+flagged : (items : List Item) → has_option Threads items ≡ true → flag_in (rows_from items) ≡ true
+flagged [] e = cc
+flagged (item ∷ items) e = elim (option_cases Threads item.option) [
+  | inl same ↦ here same.0 same.1
+  | inr other ↦ rw (ids_apart item.option Threads, other.1) (flagged items (rw other.1 at e))
+]
+  where
+    here : Threads ≡ item.option → is_option Threads item.option ≡ true → flag_in (rows_from (item ∷ items)) ≡ true
+    here same is =
+        let flag : is_flag item.option ≡ true = ap is_flag (sym same) in
+        rw (ids_apart item.option Threads, is, flag) refl
+
+last_row : (rows : List Row) → Apart (id_of Threads) rows → flag_in (rows ++ unflagged ∷ []) ≡ false
+last_row [] apart = refl
+last_row (r ∷ rs) apart = rw apart.0 (last_row rs apart.1)
+
+flag_all : (items : List Item) → flag_in (with_default (rows_from items) listed_flag) ≡ has_option Threads items
+flag_all items = elim (cases_Bool (has_option Threads items)) [
+  | inl t ↦ ap flag_in (with_flag items t) ∙ flagged items t ∙ sym t
+  | inr f ↦ ap flag_in (without_flag items f) ∙ last_row (rows_from items) (apart_of (id_of Threads) (rows_from items) (has_flag items ∙ f)) ∙ sym f
+]
+
+-- what is asked, by its parts
+abbrev asking : Bool → Option ℕ → Option ℕ → Option ℕ → Option ℕ → Asked
+asking threads workers judge steps seed = record { threads = threads; workers = unwrap_or workers 2; judge = unwrap_or judge 0; steps = unwrap_or steps 1; seed = seed }
+
+asks : (items : List Item) → AllByRecursion IsItem items → asked_in (with_default (rows_from items) listed_flag) ≡ asked_of items
 asks items all =
-    let judge = found Judge items all in
-    let steps = found Steps items all in
-    let seed = found Gen items all in
-    ap (λ (o : Option ℕ). record { judge = unwrap_or o 0; steps = unwrap_or (found_in (rows_from items) Steps) 1; seed = found_in (rows_from items) Gen }) judge
-    ∙ ap (λ (o : Option ℕ). record { judge = unwrap_or (value_of Judge items) 0; steps = unwrap_or o 1; seed = found_in (rows_from items) Gen }) steps
-    ∙ ap (λ (o : Option ℕ). record { judge = unwrap_or (value_of Judge items) 0; steps = unwrap_or (value_of Steps items) 1; seed = o }) seed
+    let rows = with_default (rows_from items) listed_flag in
+    ap (λ (b : Bool). asking b (found_in rows Workers) (found_in rows Judge) (found_in rows Steps) (found_in rows Gen)) (flag_all items)
+    ∙ ap (λ (o : Option ℕ). asking (has_option Threads items) o (found_in rows Judge) (found_in rows Steps) (found_in rows Gen)) (found_all Workers items refl all)
+    ∙ ap (λ (o : Option ℕ). asking (has_option Threads items) (value_of Workers items) o (found_in rows Steps) (found_in rows Gen)) (found_all Judge items refl all)
+    ∙ ap (λ (o : Option ℕ). asking (has_option Threads items) (value_of Workers items) (value_of Judge items) o (found_in rows Gen)) (found_all Steps items refl all)
+    ∙ ap (λ (o : Option ℕ). asking (has_option Threads items) (value_of Workers items) (value_of Judge items) (value_of Steps items) o) (found_all Gen items refl all)
 
 -- words ask what clap's matches of them ask
 pub asked_so : (words : List (List ℕ)) (asked : Asked) → Ask words asked → asked ≡ asked_in (matches_of app words)
@@ -240,3 +393,6 @@ asked_all words asked accepted e =
 
 pub found_by : (f : Found) (o : Choice) (id : List ℕ) (text : Option (List ℕ)) → id ≡ id_of o → text ≡ first_value f id → found_in (rows_of f) o ≡ option_and_then (value o) text
 found_by f o id text is e = ap (option_and_then (value o)) (sym (e ∙ first_value-rows f id ∙ ap (λ (i : List ℕ). first_of i (rows_of f)) is))
+
+pub flag_by : (f : Found) (id : List ℕ) (text : Option (List ℕ)) → id ≡ id_of Threads → text ≡ first_value f id → flag_in (rows_of f) ≡ option_map_or (λ (t : List ℕ). bytes_eq t (codes "true")) text false
+flag_by f id text is e = ap (λ (o : Option (List ℕ)). option_map_or (λ (t : List ℕ). bytes_eq t (codes "true")) o false) (sym (e ∙ first_value-rows f id ∙ ap (λ (i : List ℕ). first_of i (rows_of f)) is))

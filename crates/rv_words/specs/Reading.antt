@@ -1,13 +1,13 @@
 -- Words read one after another, as the code reads them. `specs/Words.antt` says which words are accepted.
 use Rattle.std.specs.Prelude.{ℕ, ◌+◌, ◌-◌, ◌*◌, ◌&&◌, ◌==◌, Bool, true, false, List, [], ◌∷◌, Option, Some, None, bytes_eq, drop, take, if◌then◌else◌, is_some, length, nat_le, position, option_and_then}
 use Rattle.rv_words.specs.declared.choices.Choice.{Choice}
-use Rattle.rv_words.specs.declared.choices.Choice.TheVariants.{Judge, Steps, Gen}
+use Rattle.rv_words.specs.declared.choices.Choice.TheVariants.{Threads, Workers, Judge, Steps, Gen}
 use Rattle.rv_words.specs.declared.reading.Sofar.{Sofar}
-use Rattle.rv_words.specs.Words.{greatest, is_digit, name_of}
+use Rattle.rv_words.specs.Words.{greatest, is_digit, is_flag, name_of}
 
 -- ---- a word where an item begins
 
--- an option whose value is the next word, an option with its value, or neither
+-- an option alone, whose value, if it takes one, is the next word; an option with its value; or neither
 pub data Form : Type 0 where
   Named : Choice → Form
   Joined : Choice → List ℕ → Form
@@ -15,10 +15,12 @@ pub data Form : Type 0 where
 
 abbrev pub choice_of : List ℕ → Option Choice
 choice_of name =
-    if bytes_eq name (name_of Judge) then Some Judge
+    if bytes_eq name (name_of Threads) then Some Threads
+    else (if bytes_eq name (name_of Workers) then Some Workers
+    else (if bytes_eq name (name_of Judge) then Some Judge
     else (if bytes_eq name (name_of Steps) then Some Steps
     else (if bytes_eq name (name_of Gen) then Some Gen
-    else None))
+    else None))))
 
 abbrev pub named : Option Choice → Form
 named None = Other
@@ -57,26 +59,30 @@ value option digits = if nat_le 1 (length digits) && nat_le (length digits) 10 t
 -- ---- what was read so far
 
 abbrev pub start : Sofar
-start = record { judge = false; steps = false; seed = false; waiting = None }
+start = record { threads = false; workers = false; judge = false; steps = false; seed = false; waiting = None }
 
 abbrev pub given : Choice → Sofar → Bool
+given Threads s = s.threads
+given Workers s = s.workers
 given Judge s = s.judge
 given Steps s = s.steps
 given Gen s = s.seed
 
 abbrev pub marked : Sofar → Choice → Sofar
+marked s Threads = record s { threads = true }
+marked s Workers = record s { workers = true }
 marked s Judge = record s { judge = true }
 marked s Steps = record s { steps = true }
 marked s Gen = record s { seed = true }
 
--- with an option that has a value, which was not given yet
+-- with an option that has what it takes, which was not given yet
 abbrev pub with_new : Sofar → Choice → Bool → Option Sofar
 with_new s option false = None
 with_new s option true = if given option s then None else Some (marked s option)
 
 abbrev pub with_form : Sofar → Form → Option Sofar
-with_form s (Named option) = Some (record s { waiting = Some option })
-with_form s (Joined option digits) = with_new s option (is_some (value option digits))
+with_form s (Named option) = if is_flag option then with_new s option true else Some (record s { waiting = Some option })
+with_form s (Joined option digits) = if is_flag option then None else with_new s option (is_some (value option digits))
 with_form s Other = None
 
 abbrev pub with_word_at : Option Choice → Sofar → List ℕ → Option Sofar

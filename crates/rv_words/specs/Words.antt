@@ -1,19 +1,28 @@
 -- The words that the program accepts, and what they ask.
-use Rattle.std.specs.Prelude.{◌≡◌, ℕ, ◌+◌, ◌-◌, ◌*◌, ◌≤◌, ◌&&◌, ◌≢◌, List, [], ◌∷◌, ◌++◌, Bool, true, false, Option, Some, None, codes, flat_map, if◌then◌else◌, length, nat_le, unwrap_or}
-use Rattle.std.specs.List.{AllByRecursion, list_all}
+use Rattle.std.specs.Prelude.{◌≡◌, ℕ, ◌+◌, ◌-◌, ◌*◌, ◌≤◌, ◌&&◌, ◌≢◌, List, [], ◌∷◌, ◌++◌, Bool, true, false, Option, Some, None, bytes_eq, codes, flat_map, if◌then◌else◌, length, nat_le, unwrap_or}
+use Rattle.std.specs.List.{AllByRecursion, list_all, list_any}
 use Rattle.rv_words.specs.declared.choices.Choice.{Choice}
-use Rattle.rv_words.specs.declared.choices.Choice.TheVariants.{Judge, Steps, Gen}
+use Rattle.rv_words.specs.declared.choices.Choice.TheVariants.{Threads, Workers, Judge, Steps, Gen}
 use Rattle.rv_words.specs.declared.choices.Asked.{Asked}
 
 -- ---- the options
 
 abbrev pub name_of : Choice → List ℕ
+name_of Threads = codes "--threads"
+name_of Workers = codes "--workers"
 name_of Judge = codes "--judge"
 name_of Steps = codes "--steps"
 name_of Gen = codes "--gen"
 
+-- an option that takes no value
+abbrev pub is_flag : Choice → Bool
+is_flag Threads = true
+is_flag option = false
+
 -- the greatest value of an option
 abbrev pub greatest : Choice → ℕ
+greatest Threads = 0
+greatest Workers = 8
 greatest Judge = 2
 greatest Steps = 64
 greatest Gen = 4294967295
@@ -40,19 +49,19 @@ pub record IsValue (option : Choice) (digits : List ℕ) : Type 0 where
 
 -- ---- items
 
--- an option with its value, which is behind `=` or is the next word
+-- an option with its value, which is behind `=` or is the next word; or one that takes no value
 pub record Item : Type 0 where
   pub option : Choice
   pub digits : List ℕ
   pub behind : Bool
 
 abbrev pub words_of : Item → List (List ℕ)
-words_of item = if item.behind
-    then (name_of item.option ++ (codes "=" ++ item.digits)) ∷ []
-    else name_of item.option ∷ item.digits ∷ []
+words_of item = if is_flag item.option then name_of item.option ∷ []
+    else (if item.behind then (name_of item.option ++ (codes "=" ++ item.digits)) ∷ []
+    else name_of item.option ∷ item.digits ∷ [])
 
 abbrev pub IsItem : Item → Type 0
-IsItem item = IsValue item.option item.digits
+IsItem item = is_flag item.option ≡ false → IsValue item.option item.digits
 
 -- No item is of this option.
 abbrev pub Lacks : Choice → List Item → Type 0
@@ -75,20 +84,20 @@ pub record AreAccepted (words : List (List ℕ)) : Type 0 where
 
 -- ---- what they ask
 
+-- whether two options are the same: each has a name of its own
 abbrev pub is_option : Choice → Choice → Bool
-is_option Judge Judge = true
-is_option Steps Steps = true
-is_option Gen Gen = true
-is_option a b = false
+is_option a b = bytes_eq (name_of a) (name_of b)
 
 -- the value of the option's item, if any
 abbrev pub value_of : Choice → List Item → Option ℕ
 value_of option [] = None
 value_of option (item ∷ items) = if is_option option item.option then Some (number item.digits) else value_of option items
 
--- judge 0 and one step where nothing else is asked, and the script that is read
+-- no threads, two workers, judge 0 and one step where nothing else is asked, and the script that is read
 abbrev pub asked_of : List Item → Asked
 asked_of items = record {
+  threads = list_any (λ (item : Item). is_option Threads item.option) items;
+  workers = unwrap_or (value_of Workers items) 2;
   judge = unwrap_or (value_of Judge items) 0;
   steps = unwrap_or (value_of Steps items) 1;
   seed = value_of Gen items;
@@ -102,5 +111,6 @@ pub record Ask (words : List (List ℕ)) (asked : Asked) : Type 0 where
 
 -- The values are in their ranges.
 pub record AreWithin (asked : Asked) : Type 0 where
+  pub workers : asked.workers ≤ greatest Workers
   pub judge : asked.judge ≤ greatest Judge
   pub steps : asked.steps ≤ greatest Steps

@@ -1,6 +1,10 @@
-/// An option of the program, each of which takes a value.
+/// An option of the program. Each but `--threads` takes a value.
 #[derive(Clone, Copy, Debug, PartialEq, Eq)]
 pub enum Choice {
+    /// `--threads`: the sessions of a phase are threads, and workers beside them.
+    Threads,
+    /// `--workers`: how many workers there are where there are threads, 0 to 8.
+    Workers,
     /// `--judge`: the judge of costs, 0 to 2.
     Judge,
     /// `--steps`: how many background steps follow a foreground step, 0 to 64.
@@ -12,6 +16,10 @@ pub enum Choice {
 /// What accepted words ask.
 #[derive(Clone, Copy, Debug, PartialEq, Eq)]
 pub struct Asked {
+    /// Whether the sessions of a phase are threads.
+    pub threads: bool,
+    /// How many workers there are beside the sessions, where these are threads.
+    pub workers: u8,
     pub judge: u8,
     pub steps: u8,
     /// The seed of the generated script; None where a script is to be read.

@@ -1,15 +1,15 @@
 //! Accepted words, parsed by clap.
-ghost use Rattle.std.specs.Prelude.{◌≡◌, ◌≤◌, IfOk, IfSome, codes, map, option_and_then};
+ghost use Rattle.std.specs.Prelude.{◌≡◌, ◌≤◌, IfOk, IfSome, codes, false, map, option_and_then};
 ghost use Rattle.clap.specs.Matches.{found_of};
 ghost use Rattle.clap.specs.Simple.{app_of, matches_of};
-ghost use Rattle.clap.specs.Walk.{rows_of};
-ghost use Rattle.rv_words.specs.Command.{app, asked_in, found_in, id_of};
+ghost use Rattle.clap.specs.Walk.{rows_of, rule_of};
+ghost use Rattle.rv_words.specs.Command.{app, asked_in, flag_in, flag_rule, found_in, id_of, valued_rule};
 ghost use Rattle.rv_words.specs.Words.{AreAccepted, AreWithin, Ask, greatest};
 ghost use Rattle.rv_words.specs.declared.choices.Asked.{Asked as AskedOnce};
 
 use crate::choices::{Asked, Choice};
 use crate::digits::value;
-use clap::{Arg, ArgMatches, Command};
+use clap::{Arg, ArgAction, ArgMatches, Command};
 use rv_value::{NoMemory, Text};
 use std::alloc::{AllocError, Global};
 
@@ -52,14 +52,36 @@ fn parsed<'a>(alloc: Global, words: &'a [&'a str]) -> Result<ArgMatches<'a>, NoM
 fn command<'a>(alloc: Global) -> Result<Command<'a>, AllocError>
     ensures { IfOk result (λ command. app_of command ≡ app) }
 {
-    let judge = Arg::new(alloc, "judge").long("judge");
-    let steps = Arg::new(alloc, "steps").long("steps");
-    let seed = Arg::new(alloc, "gen").long("gen");
+    let threads = flag(alloc, "threads");
+    let workers = valued(alloc, "workers");
+    let judge = valued(alloc, "judge");
+    let steps = valued(alloc, "steps");
+    let seed = valued(alloc, "gen");
     let bare = Command::new(alloc, "rvdyn")
         .no_binary_name(true)
         .disable_help_flag(true)
         .disable_version_flag(true);
-    bare.arg(judge)?.arg(steps)?.arg(seed)
+    bare.arg(threads)?
+        .arg(workers)?
+        .arg(judge)?
+        .arg(steps)?
+        .arg(seed)
+}
+
+/// An option with a value, known by its name.
+fn valued<'a>(alloc: Global, name: &'a str) -> Arg<'a>
+    ensures rule { rule_of result ≡ valued_rule name.entry.now }
+    ensures local { result.global ≡ false }
+{
+    Arg::new(alloc, name).long(name)
+}
+
+/// An option that takes no value, known by its name.
+fn flag<'a>(alloc: Global, name: &'a str) -> Arg<'a>
+    ensures rule { rule_of result ≡ flag_rule name.entry.now }
+    ensures local { result.global ≡ false }
+{
+    valued(alloc, name).action(ArgAction::SetTrue)
 }
 
 /// The values that were found.
@@ -68,9 +90,21 @@ fn values_of(matches: &ArgMatches<'_>) -> Asked
     ensures within { AreWithin result }
 {
     Asked {
+        threads: is_flagged(matches),
+        workers: found(matches, Choice::Workers).unwrap_or(2) as u8,
         judge: found(matches, Choice::Judge).unwrap_or(0) as u8,
         steps: found(matches, Choice::Steps).unwrap_or(1) as u8,
         seed: found(matches, Choice::Gen),
+    }
+}
+
+/// Whether threads were asked: clap gives a flag as a text.
+fn is_flagged(matches: &ArgMatches<'_>) -> bool
+    ensures { result ≡ flag_in (rows_of (found_of matches.now)) }
+{
+    match matches.get_str(id(Choice::Threads)) {
+        Some(text) => text == "true",
+        None => false,
     }
 }
 
@@ -90,6 +124,8 @@ fn id(option: Choice) -> &'static str
     ensures { result.now ≡ id_of option }
 {
     match option {
+        Choice::Threads => "threads",
+        Choice::Workers => "workers",
         Choice::Judge => "judge",
         Choice::Steps => "steps",
         Choice::Gen => "gen",

@@ -8,7 +8,7 @@ use crate::choices::Choice;
 /// What a word is where an item begins.
 #[derive(Clone, Copy)]
 pub enum Form<'a> {
-    /// An option, whose value is the next word.
+    /// An option. Its value, if it takes one, is the next word.
     Named(Choice),
     /// An option and its value.
     Joined(Choice, &'a [u8]),
@@ -54,6 +54,12 @@ fn joined(option: Option<Choice>, digits: &[u8]) -> Form<'_>
 fn choice(name: &[u8]) -> Option<Choice>
     ensures { result ≡ choice_of name.now }
 {
+    if name == b"--threads".as_slice() {
+        return Some(Choice::Threads);
+    }
+    if name == b"--workers".as_slice() {
+        return Some(Choice::Workers);
+    }
     if name == b"--judge".as_slice() {
         return Some(Choice::Judge);
     }

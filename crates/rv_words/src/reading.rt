@@ -12,14 +12,16 @@ use rv_value::Text;
 /// Which options were read so far, and the one whose value is the next word.
 #[derive(Clone, Copy)]
 struct Sofar {
+    threads: bool,
+    workers: bool,
     judge: bool,
     steps: bool,
     seed: bool,
     waiting: Option<Choice>,
 }
 
-/// Whether the words are accepted: options, each at most once and in any order, with a value of 1 to 10 decimal digits
-/// in its range, in the next word or behind `=`.
+/// Whether the words are accepted: options, each at most once and in any order. All but `--threads` have a value of 1 to 10
+/// decimal digits in its range, in the next word or behind `=`.
 pub fn accepted(words: &[Text]) -> bool
     ensures { IsTrue result ↔ AreAccepted words.now }
 {
@@ -30,6 +32,8 @@ fn fit(words: &[Text]) -> bool
     ensures { result ≡ fit_from start words.now }
 {
     let mut sofar = Sofar {
+        threads: false,
+        workers: false,
         judge: false,
         steps: false,
         seed: false,
@@ -67,16 +71,36 @@ fn with_form(sofar: Sofar, form: Form<'_>) -> Option<Sofar>
     ensures { result ≡ with_form sofar (form_of form.entry) }
 {
     match form {
-        Form::Named(option) => Some(Sofar {
-            waiting: Some(option),
-            ..sofar
-        }),
-        Form::Joined(option, digits) => with_new(sofar, option, is_value(option, digits)),
+        Form::Named(option) => {
+            if is_flag(option) {
+                return with_new(sofar, option, true);
+            }
+            Some(Sofar {
+                waiting: Some(option),
+                ..sofar
+            })
+        }
+        Form::Joined(option, digits) => {
+            if is_flag(option) {
+                return None;
+            }
+            with_new(sofar, option, is_value(option, digits))
+        }
         Form::Other => None,
     }
 }
 
-/// What was read, with an option that has a value, where it was not given yet.
+/// Whether an option takes no value.
+fn is_flag(option: Choice) -> bool
+    ensures { result ≡ Rattle.rv_words.specs.Words.is_flag option }
+{
+    match option {
+        Choice::Threads => true,
+        _ => false,
+    }
+}
+
+/// What was read, with an option that has what it takes, where it was not given yet.
 fn with_new(sofar: Sofar, option: Choice, has_value: bool) -> Option<Sofar>
     ensures { result ≡ with_new sofar option has_value }
 {
@@ -84,6 +108,14 @@ fn with_new(sofar: Sofar, option: Choice, has_value: bool) -> Option<Sofar>
         return None;
     }
     match option {
+        Choice::Threads if !sofar.threads => Some(Sofar {
+            threads: true,
+            ..sofar
+        }),
+        Choice::Workers if !sofar.workers => Some(Sofar {
+            workers: true,
+            ..sofar
+        }),
         Choice::Judge if !sofar.judge => Some(Sofar {
             judge: true,
             ..sofar

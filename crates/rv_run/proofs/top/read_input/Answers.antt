@@ -1,7 +1,7 @@
 use Rattle.std.proofs.Common.{◌≤◌, length, rules}
 use Rattle.rv_run.proofs.Ends.{hinders, told_script}
 use Rattle.rv_run.proofs.Fits.{script_fits}
-use Rattle.rv_run.proofs.run.read_input.Goals as goal
+use Rattle.rv_run.proofs.top.read_input.Goals as goal
 
 pub returns-in-Ok-read_script-clause-fits : goal.returns-in-Ok-read_script-clause-fits
 returns-in-Ok-read_script-clause-fits g c = script_fits c.deref.result.now c.in-Ok-read_script.script c.in-Ok-read_script.ensures

@@ -1,0 +1,11 @@
+use Rattle.std.proofs.Common.{◌≡◌, max}
+use Rattle.rv_run.proofs.Threads.{UpTo}
+use Rattle.rv_run.proofs.calls_by_threads.make_calls_by_threads.Given as goal
+
+abbrev pub invariant-phases : goal.invariant-phases
+invariant-phases g l = record {
+  number : l.number ≡ l.phase-index;
+  phase : l.held.engine.phase ≡ max 1 l.number;
+  each : UpTo l.phase-index l.held.engine.history l.phases;
+  beside : l.held.beside ≡ l.fn.core.beside;
+}

@@ -1,0 +1,70 @@
+//! The calls of a script, those of each phase by threads.
+ghost use Rattle.std.specs.Prelude.{◌≡◌, ℕ, ◌≤◌, [], All, false, length};
+ghost use Rattle.rv_run.specs.Script.{calls_from, calls_made, of_session};
+ghost use Rattle.rv_run.specs.Making.{FitsPhase, MadeFirst};
+
+use crate::calls::enter_phase;
+use crate::judges::Judges;
+use rv_core::Core;
+use rv_judge::Uncounted;
+use rv_lending::call_phase;
+use rv_phases::Phased;
+use rv_reader::{Reader, Store};
+use rv_script::Phase;
+use rv_shared::Gate;
+use std::alloc::Global;
+use std::sync::Wait;
+use std::thread::Threads;
+
+/// Makes the calls of all phases, the first of which is 1, each under the judge that was named last: those of a phase by a
+/// thread for each session that has any, with so many workers beside them. The next phase begins when all have ended.
+/// `short` tells that memory was wanting, for a session's call or for the phase to begin; then no further phase begins.
+#[tactic(auto, using(crate::proofs::Threads::texts_short))]
+pub fn make_calls_by_threads<
+    S: Store + Reader<Ledger = Uncounted> + Send + Drop,
+    R: Threads + Wait + Sync,
+    G: Gate + Sync,
+>(
+    rt: &R,
+    alloc: Global,
+    core: Core<S>,
+    judges: &mut Judges,
+    phases: &[Phase],
+    workers: u32,
+    gate: &G,
+) -> Phased<Core<S>>
+    requires fresh { core.engine.history ≡ [] }
+    requires phase { core.engine.phase ≡ 1 }
+    requires few { length phases.now ≤ 200001 }
+    requires fits { All FitsPhase phases.now }
+    requires workers { workers ≤ 8 }
+    ensures whole { result.short ≡ false → (session : ℕ) → 1 ≤ session → session ≤ 8 → of_session session (calls_made result.core.engine.history) ≡ of_session session (calls_from 1 phases.now) }
+    ensures first { MadeFirst result.core.engine.history phases.now }
+    ensures beside { result.core.beside ≡ core.beside }
+{
+    let mut held = core;
+    let mut number = 0u32;
+    'phases: for phase in phases {
+        enter_phase(&mut held, judges, number, phase.judge);
+        let Phased { core: back, short } = call_phase(
+            rt,
+            alloc,
+            held,
+            phase.lines.as_slice(),
+            workers,
+            gate,
+        );
+        held = back;
+        if short {
+            return Phased {
+                core: held,
+                short: true,
+            };
+        }
+        number += 1;
+    }
+    Phased {
+        core: held,
+        short: false,
+    }
+}
