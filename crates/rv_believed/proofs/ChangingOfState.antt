@@ -6,7 +6,7 @@ use Rattle.rv_value.specs.declared.record.Record.{Record}
 use Rattle.rv_restrict.specs.declared.atom.Atom.{Atom}
 use Rattle.rv_restrict.specs.Truth.{row_reads}
 use Rattle.rv_rows.specs.declared.changes.Change.{Change}
-use Rattle.rv_rows.specs.Changes.{applied, has_change, with_change, with_changes}
+use Rattle.rv_rows.specs.Changes.{has_change, rows_with_changes, with_change, with_changes}
 use Rattle.rv_lang.specs.declared.reply.Refusal.TheVariants.{Changed, Held, Limit}
 use Rattle.rv_lang.specs.declared.reply.Which.TheVariants.{Rows, Pending}
 use Rattle.rv_lang.specs.declared.reply.Reply.TheVariants.{Inserted, Touched}
@@ -46,7 +46,7 @@ base_rows s own table = slice_index_or (slice_index_or s.bases own []) table []
 -- WHAT A TRANSACTION SEES of a table: the rows at its base, with its own changes
 abbrev pub view : State → ℕ → ℕ → List Record
 view s own table =
-    applied table (transaction_at s.transactions.active own).changes (base_rows s own table)
+    rows_with_changes table (transaction_at s.transactions.active own).changes (base_rows s own table)
 
 -- the changes of the rows in a transaction's view that WHERE keeps
 abbrev pub changes_by : State → ℕ → ℕ → Option (List (ℕ × Value)) → List (List Atom) → List Change

@@ -11,7 +11,7 @@ use Rattle.rv_catalog.specs.Answers.{◌>>=◌, ok_or, refuse_if}
 use Rattle.rv_model.specs.declared.state.State.{State}
 use Rattle.rv_model.specs.declared.state.Cursor.{Cursor}
 use Rattle.rv_model.specs.Database.{cursor_named}
-use Rattle.rv_model.specs.Offers.{sorted}
+use Rattle.rv_model.specs.Offers.{offers_in_order}
 use Rattle.rv_model.specs.Step.{Outcome}
 use Rattle.rv_model.specs.Transactions.{refuse_at, transaction_at, transaction_of}
 use Rattle.rv_believed.proofs.ChangingOfState.{base_rows}
@@ -20,7 +20,7 @@ use Rattle.rv_believed.specs.Offers.{offers_of}
 -- a cursor over the rows at the base of the transaction in a place, with its offers in their order
 abbrev pub new_cursor : State → ℕ → ℕ → List ℕ → Select → Cursor
 new_cursor s own session name q =
-    let offers = sorted (offers_of q (base_rows s own)) in
+    let offers = offers_in_order (offers_of q (base_rows s own)) in
     record { session = session; name = name; table = slice_index_or q.tables 0 0; offers = offers }
 
 -- OPEN: not a name that is open in the session, not over a table that the transaction has changed,

@@ -12,7 +12,7 @@ use Rattle.rv_model.specs.declared.state.Cursor.{Cursor}
 use Rattle.rv_model.specs.declared.state.Offer.{Offer}
 use Rattle.rv_model.specs.Database.{base_rows, cursor_named}
 use Rattle.rv_model.specs.Offering.{offers_over}
-use Rattle.rv_model.specs.Offers.{sorted}
+use Rattle.rv_model.specs.Offers.{offers_in_order}
 use Rattle.rv_model.specs.Step.{Outcome, closed, opened, table_name}
 use Rattle.rv_model.specs.Transactions.{refuse_at, transaction_at, transaction_of}
 use Rattle.rv_believed.specs.Answers.{Test}
@@ -33,7 +33,7 @@ abbrev opened_with : State → ℕ → List ℕ → Select → List Offer → Ou
 opened_with s session name q offers = Ok (
   Opened,
   record s {
-    cursors = s.cursors ++ record { session = session; name = name; table = slice_index_or q.tables 0 0; offers = sorted offers } ∷ [];
+    cursors = s.cursors ++ record { session = session; name = name; table = slice_index_or q.tables 0 0; offers = offers_in_order offers } ∷ [];
   },
 )
 

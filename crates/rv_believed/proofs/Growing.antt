@@ -3,7 +3,7 @@ use Rattle.std.proofs.Common.{◌≡◌, ℕ, zero, suc, ◌+◌, ◌-◌, ◌<�
 use Rattle.std.proofs.lemmas.Bool.Decides.{nat_tests}
 use Rattle.rv_rows.specs.declared.changes.Change.{Change}
 use Rattle.rv_rows.specs.Changes.{has_change, is_of}
-use Rattle.rv_model.specs.Transactions.{next_row, touch, touch_all, touched_by, touched_in, untouched, with_number}
+use Rattle.rv_model.specs.Transactions.{empty_lists, next_row, touch, touch_all, touched_by, touched_in, with_number}
 use Rattle.rv_believed.specs.Taken.{ChangesTaken}
 use Rattle.rv_believed.proofs.TakenStates.{changes_more, touched_rises}
 
@@ -63,7 +63,7 @@ none_there [] n le = refl
 none_there (x ∷ xs) zero le = absurd (omega (arith, le))
 none_there (x ∷ xs) (suc n) le = none_there xs n (omega (arith, le))
 
-past_empty : (k t : ℕ) → slice_index_or (untouched k ++ (0 ∷ []) ∷ []) t [] ≡ cond (nat_eq t k) (0 ∷ []) []
+past_empty : (k t : ℕ) → slice_index_or (empty_lists k ++ (0 ∷ []) ∷ []) t [] ≡ cond (nat_eq t k) (0 ∷ []) []
 past_empty zero zero = ap (λ b. cond b (0 ∷ []) []) (sym (same_number zero))
 past_empty zero (suc t) = ap (λ b. cond b (0 ∷ []) []) (sym (suc_zero t))
 past_empty (suc k) zero = ap (λ b. cond b (0 ∷ []) []) (sym (zero_suc k))
@@ -73,7 +73,7 @@ zero_and : (k : ℕ) → k ≡ 0 + k
 zero_and k = omega arith
 
 past_at : (xs : List (List ℕ)) (k t : ℕ)
-    → slice_index_or (xs ++ untouched k ++ (0 ∷ []) ∷ []) t [] ≡ cond (nat_eq t (length xs + k)) (0 ∷ []) (slice_index_or xs t [])
+    → slice_index_or (xs ++ empty_lists k ++ (0 ∷ []) ∷ []) t [] ≡ cond (nat_eq t (length xs + k)) (0 ∷ []) (slice_index_or xs t [])
 past_at [] k t = past_empty k t ∙ ap (λ n. cond (nat_eq t n) (0 ∷ []) []) (zero_and k)
 past_at (x ∷ xs) k zero = ap (λ b. cond b (0 ∷ []) x) (sym (zero_plus (length xs) k))
 past_at (x ∷ xs) k (suc t) = past_at xs k t
@@ -83,7 +83,7 @@ plus_rest : (n m : ℕ) → n ≤ m → n + (m - n) ≡ m
 plus_rest n m le = omega (arith, le)
 
 number_by : (touched : List (List ℕ)) (table t : ℕ) (b : Bool) → nat_lt table (length touched) ≡ b
-    → touched_in (if b then slice_set touched table (touched_in touched table ++ 0 ∷ []) else touched ++ untouched (table - length touched) ++ (0 ∷ []) ∷ []) t
+    → touched_in (if b then slice_set touched table (touched_in touched table ++ 0 ∷ []) else touched ++ empty_lists (table - length touched) ++ (0 ∷ []) ∷ []) t
     ≡ cond (nat_eq t table) (touched_in touched table ++ 0 ∷ []) (touched_in touched t)
 number_by touched table t true e = set_at touched table t (touched_in touched table ++ 0 ∷ []) [] (is_below table (length touched) e)
 number_by touched table t false e =

@@ -28,7 +28,7 @@ use Rattle.rv_model.specs.declared.transactions.Transactions.{Transactions}
 use Rattle.rv_model.specs.Database.{base_rows, cursor_at, cursor_named, empty, no_cursor}
 use Rattle.rv_model.specs.History.{after_from, stepped}
 use Rattle.rv_model.specs.Offering.{offers_over}
-use Rattle.rv_model.specs.Offers.{sorted}
+use Rattle.rv_model.specs.Offers.{offers_in_order}
 use Rattle.rv_model.specs.Step.{Outcome, began, changed, closed, committed, committed_with, created, ended, fetched, first_touched, indexed, inserted, next_asked, offers_after, opened, opening, own_cursors, rolled_back, rows_seen, state_of, table_name, table_of, understood}
 use Rattle.rv_model.specs.Transactions as transactions
 use Rattle.rv_model.specs.Transactions.{no_transaction, refuse_at, transaction_at, transaction_of}
@@ -245,7 +245,7 @@ opened_orderly : (s : State) (session : ℕ) (name : List ℕ) (q : Select) → 
 opened_orderly s session name q h = then_gives (λ own. is_some (cursor_named s.cursors session name) ≡ false) Done
     (opening s.schema.tables s.transactions.active s.cursors session name q.tables) _
     (opening_free s.schema.tables s.transactions.active s.cursors session name q.tables)
-    (λ own free. let new : Cursor = record { session = session; name = name; table = table_of q; offers = sorted (offers_over q (base_rows s own)) } in
+    (λ own free. let new : Cursor = record { session = session; name = name; table = table_of q; offers = offers_in_order (offers_over q (base_rows s own)) } in
     record {
       active = h.active;
       below = h.below;

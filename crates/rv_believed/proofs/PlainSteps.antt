@@ -13,7 +13,7 @@ use Rattle.rv_value.specs.Order.{values_cmp}
 use Rattle.rv_restrict.specs.declared.atom.Atom.{Atom}
 use Rattle.rv_restrict.specs.declared.atom.ColRef.{ColRef}
 use Rattle.rv_rows.specs.declared.changes.Change.{Change}
-use Rattle.rv_rows.specs.Changes.{applied, with_change, with_changes, is_before, touches}
+use Rattle.rv_rows.specs.Changes.{rows_with_changes, with_change, with_changes, is_before, touches}
 use Rattle.rv_rows.specs.Rows.{with_values, comes_below}
 use Rattle.rv_lang.specs.declared.reply.Refusal.{Refusal}
 use Rattle.rv_lang.specs.declared.reply.Refusal.TheVariants as refusals
@@ -35,7 +35,7 @@ use Rattle.rv_model.specs.declared.transactions.Transactions.{Transactions}
 use Rattle.rv_model.specs.Transactions as transactions
 use Rattle.rv_model.specs.Transactions.{refuse_at, no_transaction, transaction_at, transaction_of}
 use Rattle.rv_model.specs.Database.{base_rows, cursor_at, cursor_named, no_cursor, rows_at}
-use Rattle.rv_model.specs.Offers.{offer_cmp, place_of, same_values, sorted, sorted_in, without}
+use Rattle.rv_model.specs.Offers.{offer_cmp, offers_in_order, place_of, same_values, with_offer, without}
 use Rattle.rv_model.specs.Offering.{choices, is_kept, offer_over, offers_over, picked_over}
 use Rattle.rv_model.specs.Step.{Outcome, AllowsFetch, AllowsShow, AllowsStep, Offers, AllowsAsked, next_asked, began, closed, changed, committed, committed_with, created, ended, fetched, first_touched, indexed, inserted, offers_after, opened, opening, own_cursors, reply_of, rolled_back, rows_seen, state_of, table_name, tables_changed}
 use Rattle.rv_model.specs.Transcript.{IsName as IsPlainName}
@@ -112,7 +112,7 @@ applied_one : (b : Bool) (xs ys : List Record) → ArePlainRows xs → ArePlainR
 applied_one true xs ys p q = p
 applied_one false xs ys p q = q
 
-applied_plain : (table : ℕ) (changes : List Change) (rows : List Record) → ArePlainChanges changes → ArePlainRows rows → ArePlainRows (applied table changes rows)
+applied_plain : (table : ℕ) (changes : List Change) (rows : List Record) → ArePlainChanges changes → ArePlainRows rows → ArePlainRows (rows_with_changes table changes rows)
 applied_plain table [] rows p h = h
 applied_plain table (c ∷ cs) rows p h = applied_plain table cs _ p.1
     (applied_one (nat_eq c.table table) (with_values c.row.0 c.values rows) rows (with_values_plain c.row.0 c.values rows p.0 h) h)
@@ -284,7 +284,7 @@ changed_plain s session table sets only h p = then_comes NewChanges IsPlainDone
 
 tables_changed_plain : (changes : List Change) (rows : List (List Record)) → ArePlainChanges changes → AllByRecursion ArePlainRows rows
     → AllByRecursion ArePlainRows (tables_changed changes rows)
-tables_changed_plain changes rows p h = all_map_any ArePlainRows (λ table. applied table changes (rows_at rows table))
+tables_changed_plain changes rows p h = all_map_any ArePlainRows (λ table. rows_with_changes table changes (rows_at rows table))
     (λ table. applied_plain table changes (rows_at rows table) p (rows_at_plain rows table h)) (range_with_len 0 (length rows))
 
 -- the transaction in a place and the cursors of its session are gone
@@ -342,13 +342,13 @@ sorted_one : (b : Bool) (x o : Offer) (xs ys : List Offer) → IsPlainOffer x �
 sorted_one true x o xs ys p q h k = (p, k)
 sorted_one false x o xs ys p q h k = (q, (p, h))
 
-sorted_in_plain : (o : Offer) (xs : List Offer) → IsPlainOffer o → AllByRecursion IsPlainOffer xs → AllByRecursion IsPlainOffer (sorted_in o xs)
+sorted_in_plain : (o : Offer) (xs : List Offer) → IsPlainOffer o → AllByRecursion IsPlainOffer xs → AllByRecursion IsPlainOffer (with_offer o xs)
 sorted_in_plain o [] p h = (p, tt)
-sorted_in_plain o (x ∷ xs) p h = sorted_one (is_lt (offer_cmp x o)) x o xs (sorted_in o xs) h.0 p h.1 (sorted_in_plain o xs p h.1)
+sorted_in_plain o (x ∷ xs) p h = sorted_one (is_lt (offer_cmp x o)) x o xs (with_offer o xs) h.0 p h.1 (sorted_in_plain o xs p h.1)
 
-sorted_plain : (xs : List Offer) → AllByRecursion IsPlainOffer xs → AllByRecursion IsPlainOffer (sorted xs)
+sorted_plain : (xs : List Offer) → AllByRecursion IsPlainOffer xs → AllByRecursion IsPlainOffer (offers_in_order xs)
 sorted_plain [] h = tt
-sorted_plain (x ∷ xs) h = sorted_in_plain x (sorted xs) h.0 (sorted_plain xs h.1)
+sorted_plain (x ∷ xs) h = sorted_in_plain x (offers_in_order xs) h.0 (sorted_plain xs h.1)
 
 -- the name of a table of which a row is changed
 refuse_found : (defs : List TableDef) (o : Option ℕ) → IfSome o (λ (t : ℕ). IsPlainName (table_name defs t))

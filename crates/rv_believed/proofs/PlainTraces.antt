@@ -16,7 +16,7 @@ use Rattle.rv_judge.specs.Runs.{Standing, Turn, after, begun, events_of, first_c
 use Rattle.rv_lang.specs.declared.reply.Shown.{Shown}
 use Rattle.rv_catalog.specs.declared.def.IndexDef.{IndexDef}
 use Rattle.rv_model.specs.Database.{index_at, no_index}
-use Rattle.rv_model.specs.Showing.{ShowsTrace, named, numbers_over}
+use Rattle.rv_model.specs.Showing.{ShowsTrace, numbers_over, shown_event}
 use Rattle.rv_model.specs.Transcript.{IsName as IsPlainName}
 use Rattle.rv_believed.specs.Plain.{IsPlainEvent}
 use Rattle.rv_believed.proofs.Chains.{append_assoc}
@@ -142,7 +142,7 @@ known_all P ns [] h e = tt
 known_all P ns (i ∷ planned) h e = let parts = known_parts (has_index i ns) (list_all (λ k. has_index k ns) planned) e in
     (known_one P i ns h parts.0, known_all P ns planned h parts.1)
 
-named_plain : (indexes : List IndexDef) (e : Event) → OfEvent (IsPlainNumber indexes) e → IsPlainEvent (named indexes e)
+named_plain : (indexes : List IndexDef) (e : Event) → OfEvent (IsPlainNumber indexes) e → IsPlainEvent (shown_event indexes e)
 named_plain indexes (events.At control) p = tt
 named_plain indexes (events.Scan i) p = p
 named_plain indexes (events.List i keys) p = p
@@ -161,5 +161,5 @@ shown_plain indexes table shown h shows =
     (tt, scan_of P (start shows.trace.strategy shows.allowed.planned).scan begins.0)
     (run_of P shows.trace.strategy (start shows.trace.strategy shows.allowed.planned) shows.allowed.turns begins) in
     subst (λ (t : Shown). AllByRecursion IsPlainEvent t.events) (sym shows.names)
-    (all_map (OfEvent P) IsPlainEvent (named indexes) (named_plain indexes) shows.trace.events.items
+    (all_map (OfEvent P) IsPlainEvent (shown_event indexes) (named_plain indexes) shows.trace.events.items
     (subst (AllByRecursion (OfEvent P)) (sym shows.allowed.told) all))

@@ -6,7 +6,7 @@ use Rattle.rv_value.specs.declared.value.Value.{Value}
 use Rattle.rv_value.specs.declared.record.Record.{Record}
 use Rattle.rv_restrict.specs.declared.atom.Atom.{Atom}
 use Rattle.rv_rows.specs.declared.changes.Change.{Change}
-use Rattle.rv_rows.specs.Changes.{applied, has_change, touches, with_change, with_changes}
+use Rattle.rv_rows.specs.Changes.{has_change, rows_with_changes, touches, with_change, with_changes}
 use Rattle.rv_rows.specs.Rows.{with_values}
 use Rattle.rv_lang.specs.declared.reply.Refusal.TheVariants.{Active, Busy, CursorOpen, Held, Limit, NoCursor, Pending}
 use Rattle.rv_lang.specs.declared.reply.Which.TheVariants as which
@@ -220,10 +220,10 @@ not_there : (t m n : ℕ) → n < m → m ≤ t → (b : Bool) → nat_eq n t �
 not_there t m n lt le true e = grind (arith, nat_tests)
 not_there t m n lt le false e = refl
 
-nothing_applied : (t m : ℕ) (cs : List Change) → AreOf m cs → m ≤ t → applied t cs [] ≡ []
+nothing_applied : (t m : ℕ) (cs : List Change) → AreOf m cs → m ≤ t → rows_with_changes t cs [] ≡ []
 nothing_applied t m [] p le = refl
 nothing_applied t m (c ∷ cs) p le =
-    ap (λ b. applied t cs (cond b (with_values c.row.0 c.values []) [])) (not_there t m c.table p.0 le (nat_eq c.table t) refl) ∙ nothing_applied t m cs p.1 le
+    ap (λ b. rows_with_changes t cs (cond b (with_values c.row.0 c.values []) [])) (not_there t m c.table p.0 le (nat_eq c.table t) refl) ∙ nothing_applied t m cs p.1 le
 
 changed_by : (f : ℕ → List Record) (n a t m : ℕ) → m ≡ a + t → (n ≤ t → f m ≡ [])
     → slice_index_or (map f (range_with_len a n)) t [] ≡ f m
@@ -237,12 +237,12 @@ none_past (r ∷ rows) zero le = absurd (omega (arith, le))
 none_past (r ∷ rows) (suc t) le = none_past rows t (omega (arith, le))
 
 abbrev rows_of : List Change → List (List Record) → ℕ → List Record
-rows_of cs rows table = applied table cs (rows_at rows table)
+rows_of cs rows table = rows_with_changes table cs (rows_at rows table)
 
 rows_after : (cs : List Change) (rows : List (List Record)) (t : ℕ) → AreOf (length rows) cs
     → rows_at (map (rows_of cs rows) (range_with_len 0 (length rows))) t ≡ rows_of cs rows t
 rows_after cs rows t p = changed_by (rows_of cs rows) (length rows) 0 t t (omega arith)
-    (λ le. ap (λ rs. applied t cs rs) (none_past rows t le) ∙ nothing_applied t (length rows) cs p le)
+    (λ le. ap (λ rs. rows_with_changes t cs rs) (none_past rows t le) ∙ nothing_applied t (length rows) cs p le)
 
 are_there : (touched : List (List ℕ)) (n : ℕ) (cs : List Change) → ChangesTaken (next_row touched) cs → length touched ≤ n → AreOf n cs
 are_there touched n [] p le = tt

@@ -30,7 +30,7 @@ use Rattle.rv_model.specs.Database.{cursor_named, empty}
 use Rattle.rv_model.specs.History.{after_from, stepped}
 use Rattle.rv_model.specs.Step.{Outcome, began, changed, closed, committed, committed_with, created, fetched, indexed, inserted, next_asked, opened, opening, rolled_back, state_of, understood}
 use Rattle.rv_model.specs.Transactions as transactions
-use Rattle.rv_model.specs.Transactions.{next_row, refuse_at, touch_all, touch, touched_in, transaction_at, transaction_of, untouched, with_number, writer}
+use Rattle.rv_model.specs.Transactions.{next_row, refuse_at, touch_all, touch, touched_in, transaction_at, transaction_of, empty_lists, with_number, writer}
 use Rattle.rv_believed.specs.Answers.{answers}
 use Rattle.rv_believed.specs.Changing.{few_changes}
 use Rattle.rv_believed.specs.Limits.{within_limits}
@@ -128,28 +128,28 @@ resolved_gives schema s = subst (Gives (Among (length schema.tables))) (resoluti
 
 -- ---- lengths
 
-untouched_length : (n : ℕ) → length (untouched n) ≡ n
+untouched_length : (n : ℕ) → length (empty_lists n) ≡ n
 untouched_length zero = refl
-untouched_length (suc n) = let e : length (untouched n) ≡ n = untouched_length n in omega (arith, e)
+untouched_length (suc n) = let e : length (empty_lists n) ≡ n = untouched_length n in omega (arith, e)
 
 joined_length : {X : Type 0} (xs ys : List X) → length (xs ++ ys) ≡ length xs + length ys
 joined_length [] ys = omega arith
 joined_length (x ∷ xs) ys = let e : length (xs ++ ys) ≡ length xs + length ys = joined_length xs ys in omega (arith, e)
 
 number_length : (touched : List (List ℕ)) (table n : ℕ) (b : Bool) → nat_lt table (length touched) ≡ b → length touched ≤ n → table < n
-    → length (if b then slice_set touched table (touched_in touched table ++ 0 ∷ []) else touched ++ untouched (table - length touched) ++ (0 ∷ []) ∷ []) ≤ n
+    → length (if b then slice_set touched table (touched_in touched table ++ 0 ∷ []) else touched ++ empty_lists (table - length touched) ++ (0 ∷ []) ∷ []) ≤ n
 number_length touched table n true e le lt =
     let p : length (slice_set touched table (touched_in touched table ++ 0 ∷ [])) ≡ length touched = put_length touched table (touched_in touched table ++ 0 ∷ []) in
     let all : length (slice_set touched table (touched_in touched table ++ 0 ∷ [])) ≤ n = omega (arith, p, le) in
     all
 number_length touched table n false e le lt =
     let past : length touched ≤ table = is_past table (length touched) e in
-    let p : length (touched ++ untouched (table - length touched)) ≡ length touched + length (untouched (table - length touched)) =
-    joined_length touched (untouched (table - length touched)) in
-    let q : length (untouched (table - length touched)) ≡ table - length touched = untouched_length (table - length touched) in
-    let r : length (touched ++ untouched (table - length touched) ++ (0 ∷ []) ∷ []) ≡ length (touched ++ untouched (table - length touched)) + 1 =
-    joined_length (touched ++ untouched (table - length touched)) ((0 ∷ []) ∷ []) in
-    let all : length (touched ++ untouched (table - length touched) ++ (0 ∷ []) ∷ []) ≤ n = omega (arith, past, p, q, r, le, lt) in
+    let p : length (touched ++ empty_lists (table - length touched)) ≡ length touched + length (empty_lists (table - length touched)) =
+    joined_length touched (empty_lists (table - length touched)) in
+    let q : length (empty_lists (table - length touched)) ≡ table - length touched = untouched_length (table - length touched) in
+    let r : length (touched ++ empty_lists (table - length touched) ++ (0 ∷ []) ∷ []) ≡ length (touched ++ empty_lists (table - length touched)) + 1 =
+    joined_length (touched ++ empty_lists (table - length touched)) ((0 ∷ []) ∷ []) in
+    let all : length (touched ++ empty_lists (table - length touched) ++ (0 ∷ []) ∷ []) ≤ n = omega (arith, past, p, q, r, le, lt) in
     all
 
 touch_length : (commit : ℕ) (cs : List Change) (touched : List (List ℕ)) → length (touch_all commit cs touched) ≡ length touched

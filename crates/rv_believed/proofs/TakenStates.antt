@@ -8,7 +8,7 @@ use Rattle.rv_value.specs.declared.record.Record.{Record}
 use Rattle.rv_value.specs.declared.record.RowNo.{RowNo}
 use Rattle.rv_restrict.specs.declared.atom.Atom.{Atom}
 use Rattle.rv_rows.specs.declared.changes.Change.{Change}
-use Rattle.rv_rows.specs.Changes.{applied, is_before, with_change, with_changes}
+use Rattle.rv_rows.specs.Changes.{is_before, rows_with_changes, with_change, with_changes}
 use Rattle.rv_rows.specs.Rows.{comes_below, with_values}
 use Rattle.rv_lang.specs.declared.reply.Refusal.{Refusal}
 use Rattle.rv_lang.specs.declared.reply.Refusal.TheVariants as refusals
@@ -30,7 +30,7 @@ use Rattle.rv_model.specs.Database.{cursor_named, empty, rows_at}
 use Rattle.rv_model.specs.History.{after_from, stepped}
 use Rattle.rv_model.specs.Step.{Outcome, began, changed, closed, committed, committed_with, created, ended, fetched, indexed, inserted, next_asked, opened, opening, rolled_back, rows_seen, state_of, tables_changed, understood}
 use Rattle.rv_model.specs.Transactions as transactions
-use Rattle.rv_model.specs.Transactions.{next_row, no_transaction, refuse_at, touch, touch_all, touched_in, transaction_at, transaction_of, untouched, with_number}
+use Rattle.rv_model.specs.Transactions.{empty_lists, next_row, no_transaction, refuse_at, touch, touch_all, touched_in, transaction_at, transaction_of, with_number}
 use Rattle.rv_believed.specs.Taken.{AreTaken, ChangesTaken, HasTaken, StaysTaken, TablesTaken}
 use Rattle.rv_believed.proofs.OrderlyStates.{Gives, Any, then_gives, any_gives}
 use Rattle.rv_believed.proofs.Pairs.{all_last}
@@ -87,7 +87,7 @@ behind_rises (x ∷ xs) more zero = omega arith
 behind_rises (x ∷ xs) more (suc t) = behind_rises xs more t
 
 -- past so many empty ones
-past_empty : (k : ℕ) → slice_index_or (untouched k ++ (0 ∷ []) ∷ []) k [] ≡ 0 ∷ []
+past_empty : (k : ℕ) → slice_index_or (empty_lists k ++ (0 ∷ []) ∷ []) k [] ≡ 0 ∷ []
 past_empty zero = refl
 past_empty (suc k) = past_empty k
 
@@ -99,8 +99,8 @@ none_there (x ∷ xs) (suc n) le = none_there xs n (omega (arith, le))
 past_by : (n m k : ℕ) (us : List (List ℕ)) → n ≡ m → slice_index_or us m [] ≡ 0 ∷ [] → slice_index_or us n [] ≡ 0 ∷ []
 past_by n m k us e h = subst (λ j. slice_index_or us j [] ≡ 0 ∷ []) (sym e) h
 
-past_end : (xs : List (List ℕ)) (n k : ℕ) → n ≡ length xs + k → slice_index_or (xs ++ untouched k ++ (0 ∷ []) ∷ []) n [] ≡ 0 ∷ []
-past_end [] n k e = past_by n k k (untouched k ++ (0 ∷ []) ∷ []) (omega (arith, e)) (past_empty k)
+past_end : (xs : List (List ℕ)) (n k : ℕ) → n ≡ length xs + k → slice_index_or (xs ++ empty_lists k ++ (0 ∷ []) ∷ []) n [] ≡ 0 ∷ []
+past_end [] n k e = past_by n k k (empty_lists k ++ (0 ∷ []) ∷ []) (omega (arith, e)) (past_empty k)
 past_end (x ∷ xs) zero k e = absurd (omega (arith, e))
 past_end (x ∷ xs) (suc n) k e = past_end xs n k (omega (arith, e))
 
@@ -110,9 +110,9 @@ end_rises (x ∷ xs) us vs zero = omega arith
 end_rises (x ∷ xs) us vs (suc t) = end_rises xs us vs t
 
 number_by : (touched : List (List ℕ)) (table t : ℕ) (b : Bool) → next_row touched t
-    ≤ next_row (if b then slice_set touched table (touched_in touched table ++ 0 ∷ []) else touched ++ untouched (table - length touched) ++ (0 ∷ []) ∷ []) t
+    ≤ next_row (if b then slice_set touched table (touched_in touched table ++ 0 ∷ []) else touched ++ empty_lists (table - length touched) ++ (0 ∷ []) ∷ []) t
 number_by touched table t true = set_rises touched table t
-number_by touched table t false = end_rises touched (untouched (table - length touched)) ((0 ∷ []) ∷ []) t
+number_by touched table t false = end_rises touched (empty_lists (table - length touched)) ((0 ∷ []) ∷ []) t
 
 number_rises : (touched : List (List ℕ)) (table : ℕ) → Rises (next_row touched) (next_row (with_number touched table))
 number_rises touched table t = number_by touched table t (nat_lt table (length touched))
@@ -124,12 +124,12 @@ is_not_below : (a b : ℕ) → nat_lt a b ≡ false → b ≤ a
 is_not_below a b h = grind (arith, nat_tests)
 
 given_by : (touched : List (List ℕ)) (table : ℕ) (b : Bool) → nat_lt table (length touched) ≡ b → next_row touched table
-    < next_row (if b then slice_set touched table (touched_in touched table ++ 0 ∷ []) else touched ++ untouched (table - length touched) ++ (0 ∷ []) ∷ []) table
+    < next_row (if b then slice_set touched table (touched_in touched table ++ 0 ∷ []) else touched ++ empty_lists (table - length touched) ++ (0 ∷ []) ∷ []) table
 given_by touched table true e = set_gives touched table (is_below table (length touched) e)
 given_by touched table false e =
     let le : length touched ≤ table = is_not_below table (length touched) e in
     let before : length (slice_index_or touched table []) ≡ 0 = ap (λ (ns : List ℕ). length ns) (none_there touched table le) in
-    let now : length (slice_index_or (touched ++ untouched (table - length touched) ++ (0 ∷ []) ∷ []) table []) ≡ 1 =
+    let now : length (slice_index_or (touched ++ empty_lists (table - length touched) ++ (0 ∷ []) ∷ []) table []) ≡ 1 =
     ap (λ (ns : List ℕ). length ns) (past_end touched table (table - length touched) (omega (arith, le))) in
     omega (arith, before, now)
 
@@ -175,7 +175,7 @@ applied_one : (next : Next) (table : ℕ) (c : Change) (rows : List Record) → 
 applied_one next table c rows lt h true e = with_values_taken (next table) c.row.0 c.values rows (subst (λ t. c.row.0 < next t) (is_equal c.table table e) lt) h
 applied_one next table c rows lt h false e = h
 
-applied_taken : (next : Next) (table : ℕ) (cs : List Change) (rows : List Record) → ChangesTaken next cs → AreTaken (next table) rows → AreTaken (next table) (applied table cs rows)
+applied_taken : (next : Next) (table : ℕ) (cs : List Change) (rows : List Record) → ChangesTaken next cs → AreTaken (next table) rows → AreTaken (next table) (rows_with_changes table cs rows)
 applied_taken next table [] rows p h = h
 applied_taken next table (c ∷ cs) rows p h = applied_taken next table cs _ p.1 (applied_one next table c rows p.0 h (nat_eq c.table table) refl)
 
@@ -336,7 +336,7 @@ mapped_taken next f h (suc n) a zero m e = subst (λ k. AreTaken (next k) (f a))
 mapped_taken next f h (suc n) a (suc t) m e = mapped_taken next f h n (a + 1) t m (moved m a t e)
 
 tables_changed_taken : (next : Next) (cs : List Change) (rows : List (List Record)) → ChangesTaken next cs → TablesTaken next rows → TablesTaken next (tables_changed cs rows)
-tables_changed_taken next cs rows p h t = mapped_taken next (λ table. applied table cs (rows_at rows table)) (λ table. applied_taken next table cs (rows_at rows table) p (h table))
+tables_changed_taken next cs rows p h t = mapped_taken next (λ table. rows_with_changes table cs (rows_at rows table)) (λ table. applied_taken next table cs (rows_at rows table) p (h table))
     (length rows) 0 t t (omega arith)
 
 ended_taken : (s : State) (own session : ℕ) (left : Transactions) (rows : List (List Record)) (last : ℕ) → HasTaken s

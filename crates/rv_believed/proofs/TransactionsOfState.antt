@@ -2,7 +2,7 @@
 use Rattle.std.specs.Prelude.{ℕ, ◌+◌, List, [], ◌∷◌, ◌++◌, Ok, Bool, not, ◌==◌, nat_lt, length, filter, map, remove, slice_get}
 use Rattle.std.specs.List.{range_with_len, slice_index_or}
 use Rattle.rv_rows.specs.declared.changes.Change.{Change}
-use Rattle.rv_rows.specs.Changes.{applied}
+use Rattle.rv_rows.specs.Changes.{rows_with_changes}
 use Rattle.rv_lang.specs.declared.reply.Refusal.TheVariants.{Active, Busy, Limit, NoTransaction}
 use Rattle.rv_lang.specs.declared.reply.Which.TheVariants.{Indexes, Tables}
 use Rattle.rv_lang.specs.declared.reply.Reply.{Reply}
@@ -53,7 +53,7 @@ without s own session =
 -- with changes as the next commit: of each table the rows, and of rows who last wrote them
 abbrev pub with_commit : State → List Change → State
 with_commit s changes =
-    let rows_of = λ (table : ℕ). applied table changes (slice_index_or s.rows table []) in
+    let rows_of = λ (table : ℕ). rows_with_changes table changes (slice_index_or s.rows table []) in
     let rows = map rows_of (range_with_len 0 (length s.rows)) in
     let by = touch_all (s.last + 1) changes s.transactions.touched in
     let now = record s.transactions { touched = by } in

@@ -10,7 +10,7 @@ use Rattle.rv_catalog.specs.Schema.{no_table}
 use Rattle.rv_catalog.specs.Answers.{◌>>=◌, ok_or, refuse_if}
 use Rattle.rv_model.specs.declared.state.Cursor.{Cursor}
 use Rattle.rv_model.specs.Database.{cursor_named}
-use Rattle.rv_model.specs.Offers.{sorted}
+use Rattle.rv_model.specs.Offers.{offers_in_order}
 use Rattle.rv_model.specs.Transactions.{refuse_at}
 use Rattle.rv_believed.specs.Database.{Database, Transaction, transaction_of}
 use Rattle.rv_believed.specs.Offers.{offers_of}
@@ -19,7 +19,7 @@ use Rattle.rv_believed.specs.Transactions.{Outcome}
 -- a cursor over the rows on which a transaction began, with its offers in their order
 abbrev pub new_cursor : Transaction → ℕ → List ℕ → Select → Cursor
 new_cursor t session name q =
-    let offers = sorted (offers_of q t.rows) in
+    let offers = offers_in_order (offers_of q t.rows) in
     record { session = session; name = name; table = slice_index_or q.tables 0 0; offers = offers }
 
 -- OPEN: not a name that is open in the session, not over a table that the transaction has changed,

@@ -2,7 +2,7 @@
 use Rattle.std.specs.Prelude.{ℕ, List, [], Bool, Option, not, ◌==◌, filter, find, map, if◌then◌else◌}
 use Rattle.rv_value.specs.declared.record.Record.{Record}
 use Rattle.rv_rows.specs.declared.changes.Change.{Change}
-use Rattle.rv_rows.specs.Changes.{applied}
+use Rattle.rv_rows.specs.Changes.{rows_with_changes}
 use Rattle.rv_catalog.specs.declared.def.IndexDef.{IndexDef}
 use Rattle.rv_catalog.specs.declared.def.TableDef.{TableDef}
 use Rattle.rv_model.specs.declared.state.Cursor.{Cursor}
@@ -48,7 +48,7 @@ empty = record {
 
 -- WHAT A TRANSACTION SEES of a table: the rows on which it began, with its own changes
 abbrev pub view : Transaction → ℕ → List Record
-view t table = applied table t.changes (t.rows table)
+view t table = rows_with_changes table t.changes (t.rows table)
 
 -- the session's transaction
 abbrev pub transaction_of : Database → ℕ → Option Transaction

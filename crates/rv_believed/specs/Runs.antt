@@ -14,7 +14,7 @@ use Rattle.rv_judge.specs.declared.events.Happening.TheVariants.{ScanEnded, Rule
 use Rattle.rv_judge.specs.Runs.{Standing}
 use Rattle.rv_lang.specs.declared.reply.Shown.{Shown}
 use Rattle.rv_catalog.specs.declared.def.IndexDef.{IndexDef}
-use Rattle.rv_model.specs.Showing.{numbers_over, trace_named}
+use Rattle.rv_model.specs.Showing.{numbers_over, shown_trace}
 use Rattle.rv_believed.specs.Course.{course}
 
 -- Where a run stands, `Standing`: the control, the index whose scan is under way, the indexes whose
@@ -125,4 +125,4 @@ pub record Allowed (trace : Trace) (indexes : List ℕ) : Type 0 where
 pub record Shows (indexes : List IndexDef) (table : ℕ) (shown : Shown) : Type 0 where
   pub trace : Trace
   pub allowed : Allowed trace (numbers_over table 0 indexes)
-  pub names : shown ≡ trace_named indexes trace
+  pub names : shown ≡ shown_trace indexes trace

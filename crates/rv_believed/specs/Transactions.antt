@@ -1,7 +1,7 @@
 -- Believed: CREATE, BEGIN, COMMIT and ROLLBACK.
 use Rattle.std.specs.Prelude.{ℕ, ◌+◌, List, [], ◌∷◌, ◌++◌, Result, Ok, Bool, ◌==◌, nat_lt, length, filter, slice_get, if◌then◌else◌}
 use Rattle.rv_rows.specs.declared.changes.Change.{Change}
-use Rattle.rv_rows.specs.Changes.{applied, has_change}
+use Rattle.rv_rows.specs.Changes.{has_change, rows_with_changes}
 use Rattle.rv_lang.specs.declared.reply.Refusal.{Refusal}
 use Rattle.rv_lang.specs.declared.reply.Refusal.TheVariants.{Active, Busy, Limit, NoTransaction}
 use Rattle.rv_lang.specs.declared.reply.Which.TheVariants.{Indexes, Tables}
@@ -55,7 +55,7 @@ abbrev pub with_commit : Database → List Change → Database
 with_commit d changes =
     let n = d.last + 1 in
     let by = λ (t r : ℕ). if has_change t r changes then n else d.written_by t r in
-    record d { last = n; rows = λ t. applied t changes (d.rows t); written_by = by }
+    record d { last = n; rows = λ t. rows_with_changes t changes (d.rows t); written_by = by }
 
 -- without a change there is no commit, and the base is answered
 abbrev pub commit_of : Database → ℕ → ℕ → List Change → Reply × Database

@@ -27,7 +27,7 @@ use Rattle.rv_model.specs.Offering.{offers_over}
 use Rattle.rv_restrict.specs.declared.atom.Atom.{Atom}
 use Rattle.rv_restrict.specs.Truth.{qualifies}
 use Rattle.rv_catalog.specs.Fits.{is_column}
-use Rattle.rv_model.specs.Offers.{sorted}
+use Rattle.rv_model.specs.Offers.{offers_in_order}
 use Rattle.rv_model.specs.Transactions.{transaction_of, transaction_at, refuse_at, done, lowest}
 use Rattle.rv_model.specs.Step.{committed, created, first_touched, opened, opening, other_cursors, own_cursors, rolled_back, rows_seen, table_of}
 use Rattle.rv_txn.specs.declared.txns.Standing.{Standing}
@@ -166,7 +166,7 @@ opened_rows shown schema txns cursors session base snap name tables h at there =
     turned P Q (t ∷ ts) a = (sym a.0, turned P Q ts a.1)
 
 pub opens_does : (shown : Shown) (schema : Schema) (txns : Transactions) (cursors more : List Cursor) (session base : ℕ) (name : List ℕ) (select : Select) → opening_base schema.tables txns.active cursors session name select.tables ≡ Ok base → list_all (is_column (length schema.tables)) select.tables ≡ true
-    → more ≡ cursors ++ record { session = session; name = name; table = table_of select; offers = sorted (offers_over select (λ (t : ℕ). shown.rows t base)) } ∷ []
+    → more ≡ cursors ++ record { session = session; name = name; table = table_of select; offers = offers_in_order (offers_over select (λ (t : ℕ). shown.rows t base)) } ∷ []
     → Does (opened (db_of shown schema txns cursors) session name select) (stand_of shown schema txns cursors) (Opened, Opened) (stand_of shown schema txns more)
 opens_does shown schema txns cursors more session base name select h there pushed =
     let o = opening_is schema.tables txns.active cursors session base name select.tables h in

@@ -12,7 +12,7 @@ use Rattle.rv_lang.specs.declared.reply.Reply.TheVariants.{Created, Committed, O
 use Rattle.rv_lang.specs.declared.reply.Refusal.{Refusal}
 use Rattle.rv_lang.specs.declared.reply.Shown.{Shown as Told}
 use Rattle.rv_model.specs.Database.{cursor_named}
-use Rattle.rv_model.specs.Showing.{ShowsTrace, trace_named}
+use Rattle.rv_model.specs.Showing.{ShowsTrace, shown_trace}
 use Rattle.rv_catalog.specs.declared.def.Select.{Select}
 use Rattle.rv_join.specs.Asking.{IsAsked, indexes_from, item_at}
 use Rattle.rv_join.specs.Plans.{PlanFits, PlanStays, Planned, numbers_of, plan_trace}
@@ -266,7 +266,7 @@ pub given_stays : (shown : Shown) (c : Open) (p : Planned) → ((s : Shown) → 
 given_stays shown c p fits stays h = piece_stays shown c p h (fits (seen_by shown c) h.plan) (stays (seen_by shown c) h.plan)
 
 -- SHOW
-pub shows_plan : (shown : Shown) (schema : Schema) (txns : Transactions) (cs : List Open) (n session : ℕ) (name : List ℕ) (place : ℕ) (t : RanTrace) (told : Told) (replies : Reply × Reply) → IsStanding shown schema txns cs n → place < length cs → cursor_named (seen shown cs) session name ≡ Some place → IfSome (slice_get cs place) (λ c. Allowed t (numbers_of (item_at c.plan.asked 0).indexes)) → told ≡ trace_named schema.indexes t → (replies.0 ≡ Trace told) × (replies.1 ≡ Trace told) → Shows (stand_of shown schema txns (seen shown cs)) session name replies
+pub shows_plan : (shown : Shown) (schema : Schema) (txns : Transactions) (cs : List Open) (n session : ℕ) (name : List ℕ) (place : ℕ) (t : RanTrace) (told : Told) (replies : Reply × Reply) → IsStanding shown schema txns cs n → place < length cs → cursor_named (seen shown cs) session name ≡ Some place → IfSome (slice_get cs place) (λ c. Allowed t (numbers_of (item_at c.plan.asked 0).indexes)) → told ≡ shown_trace schema.indexes t → (replies.0 ≡ Trace told) × (replies.1 ≡ Trace told) → Shows (stand_of shown schema txns (seen shown cs)) session name replies
 shows_plan shown schema txns cs n session name place t told replies h within named allowed is made =
     let there = get_there cs place within in
     let o = all_get (IsOpen shown schema txns.active) cs place there.0 there.1 h.opens in
@@ -275,12 +275,12 @@ shows_plan shown schema txns cs n session name place t told replies h within nam
     let shows : ShowsTrace schema.indexes (item_at there.0.plan.asked 0).table told = rw is (shows_trace schema.indexes (item_at there.0.plan.asked 0).table t (item_at there.0.plan.asked 0).indexes o.over k) in
     (made.1 ∙ sym made.0, rw (named, here, made.0) shows)
 
-pub tells_plan : (cs : List Open) (indexes : List IndexDef) (place : ℕ) (o : Option ℕ) (t : RanTrace) (told : Told) (reply : Reply) → o ≡ Some place → IfSome (slice_get cs place) (λ c. t ≡ plan_trace c.plan) → told ≡ trace_named indexes t → reply ≡ Trace told → TellsPlan o indexes cs reply
+pub tells_plan : (cs : List Open) (indexes : List IndexDef) (place : ℕ) (o : Option ℕ) (t : RanTrace) (told : Told) (reply : Reply) → o ≡ Some place → IfSome (slice_get cs place) (λ c. t ≡ plan_trace c.plan) → told ≡ shown_trace indexes t → reply ≡ Trace told → TellsPlan o indexes cs reply
 tells_plan cs indexes place o t told reply named is names made = rw named (by_cursor (slice_get cs place) is)
   where
-    by_cursor : (x : Option Open) → IfSome x (λ c. t ≡ plan_trace c.plan) → IfSome x (λ c. reply ≡ Trace (trace_named indexes (plan_trace c.plan)))
+    by_cursor : (x : Option Open) → IfSome x (λ c. t ≡ plan_trace c.plan) → IfSome x (λ c. reply ≡ Trace (shown_trace indexes (plan_trace c.plan)))
     by_cursor None k = tt
-    by_cursor (Some c) k = made ∙ ap (λ (x : Told). Trace x) (names ∙ ap (trace_named indexes) k)
+    by_cursor (Some c) k = made ∙ ap (λ (x : Told). Trace x) (names ∙ ap (shown_trace indexes) k)
 
 -- a refusal opens no cursor
 pub refused_adds : (r : Reply) (refusal : Refusal) (P : Type 0) → r ≡ Refused refusal → r ≡ Opened → P

@@ -4,7 +4,7 @@ use Rattle.std.specs.List.{slice_index_or, range_with_len, AllByRecursion}
 use Rattle.std.proofs.lemmas.Grind.{common_steps}
 use Rattle.std.proofs.lemmas.List.FromFn.{get_or-map-range_with_len, length-map-range_with_len}
 use Rattle.rv_rows.specs.declared.changes.Change.{Change}
-use Rattle.rv_rows.specs.Changes.{applied}
+use Rattle.rv_rows.specs.Changes.{rows_with_changes}
 use Rattle.rv_reader.specs.Shown.{Shown}
 use Rattle.rv_reader.specs.Storing.{Committed}
 use Rattle.rv_model.specs.declared.transactions.Transaction.{Transaction}
@@ -61,7 +61,7 @@ base_at shown tables table (t ∷ ts) (suc own) h k = base_at shown tables table
 pub image_committed : (old new : Shown) (tables : ℕ) (changes : List Change) → tables ≡ old.tables → Committed old new changes → image new tables new.newest ≡ tables_changed changes (image old tables old.newest)
 image_committed old new tables changes n c =
     let count : length (image old tables old.newest) ≡ tables = length-map-range_with_len (λ t. old.rows t old.newest) 0 tables in
-    rw count (map_range (λ t. new.rows t new.newest) (λ t. applied t changes (rows_at (image old tables old.newest) t)) 0 tables (λ i h.
+    rw count (map_range (λ t. new.rows t new.newest) (λ t. rows_with_changes t changes (rows_at (image old tables old.newest) t)) 0 tables (λ i h.
     let at : rows_at (image old tables old.newest) i ≡ old.rows i old.newest = image_at old tables old.newest i (omega arith) in
     rw at (c.rows i (omega arith))))
 

@@ -10,7 +10,7 @@ use Rattle.rv_reader.specs.Storing.{Stays, IsSame, Committed, Swept}
 use Rattle.rv_model.specs.declared.state.Offer.{Offer}
 use Rattle.rv_model.specs.declared.transactions.Transaction.{Transaction}
 use Rattle.rv_model.specs.declared.transactions.Transactions.{Transactions}
-use Rattle.rv_model.specs.Offers.{sorted}
+use Rattle.rv_model.specs.Offers.{offers_in_order}
 use Rattle.rv_snapshot.specs.Alone.{alone}
 use Rattle.rv_snapshot.proofs.Staying.{alone_stays}
 use Rattle.rv_join.specs.Asking.{item_at}
@@ -30,7 +30,7 @@ fits_stay old new c e f = record {
 }
 
 seen_stays : (old new : Shown) (c : Open) → alone new c.snap ≡ alone old c.snap → seen_of new c ≡ seen_of old c
-seen_stays old new c e = ap (λ (s : Shown). record { session = c.session; name = c.name; table = (item_at c.plan.asked 0).table; offers = sorted (in_hand c.hand ++ plan_rest s c.plan) }) e
+seen_stays old new c e = ap (λ (s : Shown). record { session = c.session; name = c.name; table = (item_at c.plan.asked 0).table; offers = offers_in_order (in_hand c.hand ++ plan_rest s c.plan) }) e
 
 -- the same tables and indexes, and each snapshot that was there and still is
 pub record Kept (old new : Shown) : Type 0 where

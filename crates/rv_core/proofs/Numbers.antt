@@ -2,7 +2,7 @@
 use Rattle.std.proofs.Common.{◌≡◌, ℕ, zero, suc, ◌+◌, ◌-◌, ◌<◌, ◌≤◌, List, [], ◌∷◌, ◌++◌, refl, ap, sym, ◌∙◌, arith, length, length-append, slice_set, nat_lt, inl, inr}
 use Rattle.std.proofs.lemmas.Bool.{cases_Bool}
 use Rattle.std.proofs.lemmas.Bool.Decides.{eqb_tells, nat_tests}
-use Rattle.rv_model.specs.Transactions.{next_row, touched_in, untouched, with_number}
+use Rattle.rv_model.specs.Transactions.{empty_lists, next_row, touched_in, with_number}
 
 -- one more number of a table was taken, and no other
 pub record TakesOne (table : ℕ) (old new : List (List ℕ)) : Type 0 where
@@ -21,17 +21,17 @@ set_other (t ∷ ts) zero (suc i) xs h = refl
 set_other (t ∷ ts) (suc table) zero xs h = refl
 set_other (t ∷ ts) (suc table) (suc i) xs h = set_other ts table i xs (λ e. h (ap (λ n. suc n) e))
 
-new_here : (k : ℕ) → touched_in (untouched k ++ (0 ∷ []) ∷ []) k ≡ 0 ∷ []
+new_here : (k : ℕ) → touched_in (empty_lists k ++ (0 ∷ []) ∷ []) k ≡ 0 ∷ []
 new_here zero = refl
 new_here (suc k) = new_here k
 
-new_other : (k i : ℕ) → (i ≡ k → ⊥) → touched_in (untouched k ++ (0 ∷ []) ∷ []) i ≡ []
+new_other : (k i : ℕ) → (i ≡ k → ⊥) → touched_in (empty_lists k ++ (0 ∷ []) ∷ []) i ≡ []
 new_other zero zero h = absurd (h refl)
 new_other zero (suc i) h = refl
 new_other (suc k) zero h = refl
 new_other (suc k) (suc i) h = new_other k i (λ e. h (ap (λ n. suc n) e))
 
-past_here : (touched : List (List ℕ)) (k table : ℕ) → table ≡ length touched + k → touched_in (touched ++ untouched k ++ (0 ∷ []) ∷ []) table ≡ 0 ∷ []
+past_here : (touched : List (List ℕ)) (k table : ℕ) → table ≡ length touched + k → touched_in (touched ++ empty_lists k ++ (0 ∷ []) ∷ []) table ≡ 0 ∷ []
 past_here [] k table h = let e : table ≡ k = omega arith in rw e (new_here k)
 past_here (t ∷ ts) k zero h = absurd (omega arith)
 past_here (t ∷ ts) k (suc table) h = past_here ts k table (omega arith)
@@ -41,7 +41,7 @@ past_none [] table h = refl
 past_none (t ∷ ts) zero h = absurd (omega arith)
 past_none (t ∷ ts) (suc table) h = past_none ts table (omega arith)
 
-past_other : (touched : List (List ℕ)) (k table i : ℕ) → table ≡ length touched + k → (i ≡ table → ⊥) → touched_in (touched ++ untouched k ++ (0 ∷ []) ∷ []) i ≡ touched_in touched i
+past_other : (touched : List (List ℕ)) (k table i : ℕ) → table ≡ length touched + k → (i ≡ table → ⊥) → touched_in (touched ++ empty_lists k ++ (0 ∷ []) ∷ []) i ≡ touched_in touched i
 past_other [] k table i h n = new_other k i (λ e. n (omega arith))
 past_other (t ∷ ts) k zero i h n = absurd (omega arith)
 past_other (t ∷ ts) k (suc table) zero h n = refl

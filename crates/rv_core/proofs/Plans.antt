@@ -11,7 +11,7 @@ use Rattle.rv_reader.specs.Shown.{Shown, IsSnapshot, CanRead}
 use Rattle.rv_reader.specs.Storing.{IsStored}
 use Rattle.rv_model.specs.declared.transactions.Transactions.{Transactions}
 use Rattle.rv_model.specs.Offering.{offers_over}
-use Rattle.rv_model.specs.Offers.{sorted}
+use Rattle.rv_model.specs.Offers.{offers_in_order}
 use Rattle.rv_model.specs.Step.{table_of}
 use Rattle.rv_snapshot.specs.Alone.{alone}
 use Rattle.rv_snapshot.proofs.Staying.{reads_alone, same_rows}
@@ -49,13 +49,13 @@ alone_rows shown snap (t ∷ ts) can = (same_rows shown snap t snap (reads_alone
 
 -- what is seen of the cursor
 pub plans_seen : {E : Type 0} (r : Result Open E) (shown : Shown) (schema : Schema) (txns : Transactions) (s : Select) (snap session number : ℕ) (name : List ℕ) (indexes : List IndexDef) → IsTied shown schema txns → IsQueryOf schema s → 1 ≤ length s.tables → IsSnapshot shown snap
-    → IfOk r (λ c. left shown c ≡ sorted (offers_over s (table_rows (alone shown snap) snap))) → IfOk r (λ c. IsAsked s indexes snap number c.plan.asked) → IfOk r (λ c. c.session ≡ session) → IfOk r (λ c. c.name ≡ name)
-    → IfOk r (λ c. seen_of shown c ≡ record { session = session; name = name; table = table_of s; offers = sorted (offers_over s (λ (t : ℕ). shown.rows t snap)) })
+    → IfOk r (λ c. left shown c ≡ offers_in_order (offers_over s (table_rows (alone shown snap) snap))) → IfOk r (λ c. IsAsked s indexes snap number c.plan.asked) → IfOk r (λ c. c.session ≡ session) → IfOk r (λ c. c.name ≡ name)
+    → IfOk r (λ c. seen_of shown c ≡ record { session = session; name = name; table = table_of s; offers = offers_in_order (offers_over s (λ (t : ℕ). shown.rows t snap)) })
 plans_seen (Err e) shown schema txns s snap session number name indexes tied query some base lefts asked sessions names = tt
 plans_seen (Ok c) shown schema txns s snap session number name indexes tied query some base lefts asked sessions names =
     let rows = alone_rows shown snap s.tables (reads_all shown schema txns snap s.tables tied query.there base) in
     let same = offers_same s (table_rows (alone shown snap) snap) (λ (t : ℕ). shown.rows t snap) rows in
-    let offers = lefts ∙ ap sorted same in
+    let offers = lefts ∙ ap offers_in_order same in
     let item = asked.items 0 (omega (arith, some)) in
     let table = item.table in
     cc

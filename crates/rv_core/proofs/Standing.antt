@@ -8,7 +8,7 @@ use Rattle.rv_value.specs.declared.value.Value.{Value}
 use Rattle.rv_value.specs.declared.record.Record.{Record}
 use Rattle.rv_value.specs.declared.record.RowNo.{RowNo}
 use Rattle.rv_rows.specs.declared.changes.Change.{Change}
-use Rattle.rv_rows.specs.Changes.{applied, is_before, with_change, with_changes}
+use Rattle.rv_rows.specs.Changes.{is_before, rows_with_changes, with_change, with_changes}
 use Rattle.rv_rows.specs.Rows.{comes_below, with_values}
 use Rattle.rv_lang.specs.declared.reply.Refusal.{Refusal}
 use Rattle.rv_lang.specs.declared.reply.Refusal.TheVariants.{NoTransaction, ReadOnly}
@@ -339,7 +339,7 @@ values_row : (shown : Shown) (touched : List (List ℕ)) (table number : ℕ) (v
 values_row shown touched table number (Some vs) rows taken wide a = all_put (IsRow shown touched table) comes_below (record { row = record { 0 = number }; values = vs }) rows (record { taken = taken; wide = wide }) a
 values_row shown touched table number None rows taken wide a = all_filter (IsRow shown touched table) _ rows a
 
-applied_rows : (shown : Shown) (touched : List (List ℕ)) (table : ℕ) (changes : List Change) (rows : List Record) → AllByRecursion (IsOwn shown touched) changes → AllByRecursion (IsRow shown touched table) rows → AllByRecursion (IsRow shown touched table) (applied table changes rows)
+applied_rows : (shown : Shown) (touched : List (List ℕ)) (table : ℕ) (changes : List Change) (rows : List Record) → AllByRecursion (IsOwn shown touched) changes → AllByRecursion (IsRow shown touched table) rows → AllByRecursion (IsRow shown touched table) (rows_with_changes table changes rows)
 applied_rows shown touched table [] rows fits a = a
 applied_rows shown touched table (c ∷ cs) rows fits a = elim (eqb_tells c.table table) [
   | inl here ↦

@@ -8,7 +8,7 @@ use Rattle.std.proofs.lemmas.Bool.Decides.{eqb_tells}
 use Rattle.rv_value.specs.declared.value.Value.{Value}
 use Rattle.rv_value.specs.declared.record.Record.{Record}
 use Rattle.rv_rows.specs.declared.changes.Change.{Change}
-use Rattle.rv_rows.specs.Changes.{applied}
+use Rattle.rv_rows.specs.Changes.{rows_with_changes}
 use Rattle.rv_rows.specs.Rows.{comes_below, with_values}
 use Rattle.rv_catalog.specs.declared.def.TableDef.{TableDef}
 use Rattle.rv_catalog.specs.declared.def.IndexDef.{IndexDef}
@@ -188,7 +188,7 @@ values_taken : (touched : List (List ℕ)) (table number : ℕ) (values : Option
 values_taken touched table number (Some vs) rows fits a = all_put (λ (r : Record). r.row.0 < next_row touched table) comes_below (record { row = record { 0 = number }; values = vs }) rows fits a
 values_taken touched table number None rows fits a = all_filter (λ (r : Record). r.row.0 < next_row touched table) _ rows a
 
-pub applied_taken : (shown : Shown) (touched : List (List ℕ)) (table : ℕ) (changes : List Change) (rows : List Record) → AllByRecursion (IsOwn shown touched) changes → AreTaken touched table rows → AreTaken touched table (applied table changes rows)
+pub applied_taken : (shown : Shown) (touched : List (List ℕ)) (table : ℕ) (changes : List Change) (rows : List Record) → AllByRecursion (IsOwn shown touched) changes → AreTaken touched table rows → AreTaken touched table (rows_with_changes table changes rows)
 applied_taken shown touched table [] rows fits a = a
 applied_taken shown touched table (c ∷ cs) rows fits a = elim (eqb_tells c.table table) [
   | inl here ↦

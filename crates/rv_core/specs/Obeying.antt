@@ -14,7 +14,7 @@ use Rattle.rv_catalog.specs.declared.def.Resolved.TheVariants as asks
 use Rattle.rv_catalog.specs.declared.def.Select.{Select}
 use Rattle.rv_reader.specs.Shown.{Shown}
 use Rattle.rv_model.specs.declared.state.State.{State}
-use Rattle.rv_model.specs.Showing.{trace_named}
+use Rattle.rv_model.specs.Showing.{shown_trace}
 use Rattle.rv_model.specs.Step.{rows_seen, understood}
 use Rattle.rv_model.specs.Transactions.{transaction_of}
 use Rattle.rv_retrieval.specs.Short.{Settled, fetches_left, has_short}
@@ -120,7 +120,7 @@ StepsTold u most (Some place) reply old new = ⊥
 -- SHOW: the trace of that cursor's plan, with the names of indexes
 abbrev pub TellsPlan : Option ℕ → List IndexDef → List Open → Reply → Type 0
 TellsPlan None indexes opens reply = Unit {0}
-TellsPlan (Some place) indexes opens reply = IfSome (slice_get opens place) (λ c. reply ≡ Trace (trace_named indexes (plan_trace c.plan)))
+TellsPlan (Some place) indexes opens reply = IfSome (slice_get opens place) (λ c. reply ≡ Trace (shown_trace indexes (plan_trace c.plan)))
 
 -- COMMIT and ROLLBACK close the session's cursors, where they are not refused
 abbrev pub ended_by : Reply → ℕ → List Open → List Open

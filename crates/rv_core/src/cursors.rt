@@ -16,7 +16,7 @@ ghost use Rattle.rv_model.specs.declared.transactions.Transaction.{Transaction};
 ghost use Rattle.rv_model.specs.declared.transactions.Transactions.{Transactions};
 ghost use Rattle.rv_model.specs.Database.{cursor_at, cursor_named};
 ghost use Rattle.rv_model.specs.Offering.{offers_over};
-ghost use Rattle.rv_model.specs.Offers.{sorted};
+ghost use Rattle.rv_model.specs.Offers.{offers_in_order};
 ghost use Rattle.rv_model.specs.Step.{Showing, Stepping, own_cursors, table_of};
 ghost use Rattle.rv_model.specs.Transactions.{transaction_of};
 ghost use Rattle.rv_cursor.specs.Left.{CursorFits};
@@ -145,7 +145,7 @@ pub fn plan_cursor<S: Store + Reader<Ledger = Uncounted>>(
     requires some { 1 ≤ length select.now.tables }
     requires base { IsSnapshot (S.shown store.now) snap }
     ensures fits { IfOk result (CursorFits (S.shown store.now)) }
-    ensures seen { IfOk result (λ c. seen_of (S.shown store.now) c ≡ record { session = session; name = name; table = table_of select.now; offers = sorted (offers_over select.now (λ table. (S.shown store.now).rows table snap)) }) }
+    ensures seen { IfOk result (λ c. seen_of (S.shown store.now) c ≡ record { session = session; name = name; table = table_of select.now; offers = offers_in_order (offers_over select.now (λ table. (S.shown store.now).rows table snap)) }) }
     ensures over { IfOk result (λ c. (item_at c.plan.asked 0).indexes ≡ indexes_from (item_at c.plan.asked 0).table 0 catalog.now.indexes) }
     ensures session { IfOk result (λ c. c.session ≡ session) }
     ensures number { IfOk result (λ c. c.number ≡ number) }

@@ -3,7 +3,7 @@ ghost use Rattle.std.specs.Prelude.{◌≡◌, IfOk};
 ghost use Rattle.rv_lang.specs.declared.reply.Refusal.TheVariants.{Limit as LimitPassed};
 ghost use Rattle.rv_lang.specs.declared.reply.Reply.TheVariants.{Refused};
 ghost use Rattle.rv_model.specs.Database.{index_at};
-ghost use Rattle.rv_model.specs.Showing.{named, trace_named};
+ghost use Rattle.rv_model.specs.Showing.{shown_event, shown_trace};
 ghost use Rattle.rv_model.specs.Step.{table_name};
 ghost use Rattle.rv_core.specs.Doing.{parted};
 
@@ -62,7 +62,7 @@ fn index_name(alloc: Global, indexes: &[IndexDef], index: u32) -> Result<Text, N
 
 /// An event with the name of its index.
 fn named(alloc: Global, indexes: &[IndexDef], event: Event) -> Result<ShownEvent, NoMemory>
-    ensures { IfOk result (λ told. told ≡ named indexes.now event) }
+    ensures { IfOk result (λ told. told ≡ shown_event indexes.now event) }
 {
     Ok(match event {
         Event::At(control) => ShownEvent::At(control),
@@ -76,7 +76,7 @@ fn named(alloc: Global, indexes: &[IndexDef], event: Event) -> Result<ShownEvent
 
 /// A trace with the names of indexes in place of their numbers.
 pub fn named_trace(alloc: Global, indexes: &[IndexDef], trace: &Trace) -> Result<Shown, NoMemory>
-    ensures { IfOk result (λ shown. shown ≡ trace_named indexes.now trace.now) }
+    ensures { IfOk result (λ shown. shown ≡ shown_trace indexes.now trace.now) }
 {
     let mut events = Vec::new(alloc);
     'events: for event in trace.events.as_slice() {

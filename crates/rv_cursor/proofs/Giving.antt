@@ -11,7 +11,7 @@ use Rattle.rv_value.specs.Order.{values_cmp}
 use Rattle.rv_lang.specs.declared.reply.Reply.{Reply}
 use Rattle.rv_lang.specs.declared.reply.Reply.TheVariants.{Row, End}
 use Rattle.rv_model.specs.declared.state.Offer.{Offer}
-use Rattle.rv_model.specs.Offers.{offer_cmp, place_of, same_values, sorted, sorted_in, without}
+use Rattle.rv_model.specs.Offers.{offer_cmp, offers_in_order, place_of, same_values, with_offer, without}
 use Rattle.rv_model.specs.Step.{Offers, offers_after}
 use Rattle.rv_model.proofs.Same.{values_itself, values_same}
 use Rattle.rv_join.specs.Order.{IsLeastOf}
@@ -38,19 +38,19 @@ both true b p q = q
 both false b p q = cc
 
 -- a test that all offers pass, sorted or not
-all_in : (p : Offer → Bool) (o : Offer) (xs : List Offer) → p o ≡ true → list_all p xs ≡ true → list_all p (sorted_in o xs) ≡ true
+all_in : (p : Offer → Bool) (o : Offer) (xs : List Offer) → p o ≡ true → list_all p xs ≡ true → list_all p (with_offer o xs) ≡ true
 all_in p o [] here all = both (p o) true here refl
 all_in p o (x ∷ xs) here all =
     let parts = and_parts (p x) (list_all p xs) all in
     let rest = all_in p o xs here parts.1 in
-    elim (less x o) as (λ b. list_all p (cond b (x ∷ sorted_in o xs) (o ∷ x ∷ xs)) ≡ true) [
-      | true ↦ both (p x) (list_all p (sorted_in o xs)) parts.0 rest
+    elim (less x o) as (λ b. list_all p (cond b (x ∷ with_offer o xs) (o ∷ x ∷ xs)) ≡ true) [
+      | true ↦ both (p x) (list_all p (with_offer o xs)) parts.0 rest
       | false ↦ both (p o) (list_all p (x ∷ xs)) here all
     ]
 
-all_sorted : (p : Offer → Bool) (xs : List Offer) → list_all p xs ≡ true → list_all p (sorted xs) ≡ true
+all_sorted : (p : Offer → Bool) (xs : List Offer) → list_all p xs ≡ true → list_all p (offers_in_order xs) ≡ true
 all_sorted p [] all = refl
-all_sorted p (x ∷ xs) all = let parts = and_parts (p x) (list_all p xs) all in all_in p x (sorted xs) parts.0 (all_sorted p xs parts.1)
+all_sorted p (x ∷ xs) all = let parts = and_parts (p x) (list_all p xs) all in all_in p x (offers_in_order xs) parts.0 (all_sorted p xs parts.1)
 
 -- the offer has these order values and returns these values
 abbrev is_it : Offer → Offer → Bool
@@ -72,8 +72,8 @@ before_it o x h = other (values_cmp x.order o.order) (values_cmp x.returned o.re
 
 -- an offer put in is found first where it was put, and taken out from there
 record Found (o : Offer) (xs : List Offer) : Type 0 where
-  pub within : position_or_len (is_it o) (sorted_in o xs) < length (sorted_in o xs)
-  pub left : remove (sorted_in o xs) (position_or_len (is_it o) (sorted_in o xs)) ≡ xs
+  pub within : position_or_len (is_it o) (with_offer o xs) < length (with_offer o xs)
+  pub left : remove (with_offer o xs) (position_or_len (is_it o) (with_offer o xs)) ≡ xs
 
 found : (o : Offer) (xs : List Offer) → Found o xs
 found o [] = let it = it_is o in record { within = rw it (omega arith); left = rw it refl }
@@ -81,7 +81,7 @@ found o (x ∷ xs) = elim (cases_Bool (less x o)) [
   | inl t ↦
       let other = before_it o x t in
       let rest = found o xs in
-      let k : 1 + position_or_len (is_it o) (sorted_in o xs) ≡ suc (position_or_len (is_it o) (sorted_in o xs)) = omega arith in
+      let k : 1 + position_or_len (is_it o) (with_offer o xs) ≡ suc (position_or_len (is_it o) (with_offer o xs)) = omega arith in
       record {
         within = rw (t, other) (let w = rest.within in omega arith);
         left = rw (t, other, k) (ap (λ ys. x ∷ ys) rest.left);
@@ -90,14 +90,14 @@ found o (x ∷ xs) = elim (cases_Bool (less x o)) [
 ]
 
 -- the first of the sorted offers has the order values of the one that is put in, where no other has lower ones
-first_order : (o : Offer) (xs : List Offer) → list_all (not_after o) xs ≡ true → place_of (sorted_in o xs) o.returned ≡ position (is_it o) (sorted_in o xs)
+first_order : (o : Offer) (xs : List Offer) → list_all (not_after o) xs ≡ true → place_of (with_offer o xs) o.returned ≡ position (is_it o) (with_offer o xs)
 first_order o [] all = refl
 first_order o (x ∷ xs) all = elim (cases_Bool (less x o)) [
   | inl t ↦
       let parts = and_parts (not_after o x) (list_all (not_after o) xs) all in
       let low : is_lt (values_cmp x.order o.order) ≡ false = undo (is_lt (values_cmp x.order o.order)) parts.0 in
       let same : x.order ≡ o.order = values_same x.order o.order (equal_then (values_cmp x.order o.order) (values_cmp x.returned o.returned) t low) in
-      rw t (ap (λ (vs : List Value). position (λ (y : Offer). same_values y.order vs && same_values y.returned o.returned) (x ∷ sorted_in o xs)) same)
+      rw t (ap (λ (vs : List Value). position (λ (y : Offer). same_values y.order vs && same_values y.returned o.returned) (x ∷ with_offer o xs)) same)
   | inr f ↦ rw f refl
 ]
   where
@@ -105,10 +105,10 @@ first_order o (x ∷ xs) all = elim (cases_Bool (less x o)) [
     undo true e = cc
     undo false e = refl
 
-found_place : (o : Offer) (xs : List Offer) → list_all (not_after o) xs ≡ true → place_of (sorted_in o xs) o.returned ≡ Some (position_or_len (is_it o) (sorted_in o xs))
+found_place : (o : Offer) (xs : List Offer) → list_all (not_after o) xs ≡ true → place_of (with_offer o xs) o.returned ≡ Some (position_or_len (is_it o) (with_offer o xs))
 found_place o xs all =
     let f = found o xs in
-    let t : nat_lt (position_or_len (is_it o) (sorted_in o xs)) (length (sorted_in o xs)) ≡ true = below _ _ f.within in
+    let t : nat_lt (position_or_len (is_it o) (with_offer o xs)) (length (with_offer o xs)) ≡ true = below _ _ f.within in
     first_order o xs all ∙ rw t refl
   where
     below : (a b : ℕ) → a < b → nat_lt a b ≡ true
@@ -125,12 +125,12 @@ none_less : (o : Offer) (xs : List Offer) → IsLeastOf o xs → list_all (not_a
 none_less o [] least = refl
 none_less o (x ∷ xs) least = both (not_after o x) (list_all (not_after o) xs) (ap not (least x (here x xs))) (none_less o xs (λ e k. least e (there x e xs k)))
 
-pub gives_least : (o : Offer) (rest : List Offer) (replies : Reply × Reply) → IsLeastOf o rest → replies.1 ≡ replies.0 → replies.0 ≡ Row o.returned → TakesOffer (sorted (o ∷ rest)) replies (sorted rest)
+pub gives_least : (o : Offer) (rest : List Offer) (replies : Reply × Reply) → IsLeastOf o rest → replies.1 ≡ replies.0 → replies.0 ≡ Row o.returned → TakesOffer (offers_in_order (o ∷ rest)) replies (offers_in_order rest)
 gives_least o rest replies least twice first =
     let all = all_sorted (not_after o) rest (none_less o rest least) in
-    let place = found_place o (sorted rest) all in
-    let may : Offers (sorted_in o (sorted rest)) (Row o.returned) = rw place refl in
-    let left : sorted rest ≡ offers_after (sorted_in o (sorted rest)) (Row o.returned) = sym (ap (λ (p : Option ℕ). without p (sorted_in o (sorted rest))) place ∙ (found o (sorted rest)).left) in
+    let place = found_place o (offers_in_order rest) all in
+    let may : Offers (with_offer o (offers_in_order rest)) (Row o.returned) = rw place refl in
+    let left : offers_in_order rest ≡ offers_after (with_offer o (offers_in_order rest)) (Row o.returned) = sym (ap (λ (p : Option ℕ). without p (with_offer o (offers_in_order rest))) place ∙ (found o (offers_in_order rest)).left) in
     (twice, rw first may, rw first left)
 
 pub gives_end : (offers : List Offer) (replies : Reply × Reply) → offers ≡ [] → replies.1 ≡ replies.0 → replies.0 ≡ End → TakesOffer offers replies offers

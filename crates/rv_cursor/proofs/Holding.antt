@@ -8,7 +8,7 @@ use Rattle.rv_lang.specs.declared.reply.Reply.TheVariants.{Row}
 use Rattle.rv_reader.specs.Shown.{Shown}
 use Rattle.rv_snapshot.specs.Alone.{alone}
 use Rattle.rv_model.specs.declared.state.Offer.{Offer}
-use Rattle.rv_model.specs.Offers.{sorted}
+use Rattle.rv_model.specs.Offers.{offers_in_order}
 use Rattle.rv_cursor.proofs.Sorted.{sorted_moved}
 use Rattle.rv_join.specs.Order.{IsLeastOf}
 use Rattle.rv_join.specs.Plans.{PlanFits, PlanMoves, PlanStays, Planned, plan_rest, plan_work}
@@ -50,14 +50,14 @@ piece_stays shown c p fits new stays = record {
     least = subst (λ (rest : List Offer). IfSome c.hand (λ o. IsLeastOf o rest)) (sym stays.rest_same) fits.least;
   };
   same = record { session = refl; name = refl; number = refl; snap = refl; asked = stays.asked };
-  left = ap (λ (rest : List Offer). sorted (in_hand c.hand ++ rest)) stays.rest_same;
+  left = ap (λ (rest : List Offer). offers_in_order (in_hand c.hand ++ rest)) stays.rest_same;
 }
 
 -- two calls on the plan, one after the other
 pub pieces_stay : (shown : Shown) (c : Open) (p q : Planned) → CursorFits shown c → PlanFits (seen_by shown c) q → PlanStays (seen_by shown c) c.plan p → PlanStays (seen_by shown c) p q → Stays shown c (record c { plan = q })
 pieces_stay shown c p q fits new first then = piece_stays shown c q fits new (record { asked = then.asked ∙ first.asked; rest_same = then.rest_same ∙ first.rest_same; work = omega (arith, first.work, then.work) })
 
-no_hand : (hand : Option Offer) (rest : List Offer) → hand ≡ None → sorted (in_hand hand ++ rest) ≡ sorted rest
+no_hand : (hand : Option Offer) (rest : List Offer) → hand ≡ None → offers_in_order (in_hand hand ++ rest) ≡ offers_in_order rest
 no_hand hand rest empty = rw empty refl
 
 -- the plan's rest stays but for its order, with no row in hand

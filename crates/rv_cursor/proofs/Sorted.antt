@@ -8,7 +8,7 @@ use Rattle.std.specs.Ordering.{is_lt, ordering_reverse}
 use Rattle.std.specs.declared.cmp.Ordering.{Ordering}
 use Rattle.std.specs.declared.cmp.Ordering.TheVariants.{Less, Equal, Greater}
 use Rattle.rv_model.specs.declared.state.Offer.{Offer}
-use Rattle.rv_model.specs.Offers.{offer_cmp, sorted_in, sorted}
+use Rattle.rv_model.specs.Offers.{offer_cmp, with_offer, offers_in_order}
 use Rattle.rv_model.specs.OfferOrder.{offer_cmp_total}
 use Rattle.rv_model.proofs.Sorting.{sorted_is}
 
@@ -40,7 +40,7 @@ rises_more x y ys first up (suc k) d low within =
     let e : suc k + 1 ≡ suc (k + 1) = omega arith in
     rw e (up k d (omega arith) (omega arith))
 
-rises_in : (o : Offer) (xs : List Offer) → Rises xs → Rises (sorted_in o xs)
+rises_in : (o : Offer) (xs : List Offer) → Rises xs → Rises (with_offer o xs)
 rises_in o [] up = λ k d low within. absurd (omega (arith, within))
 rises_in o (x ∷ []) up = elim (cases_Bool (less x o)) [
   | inl t ↦ rw t (rises_more x o [] (asym x o t) (rises_in o [] (rises_rest x [] up)))
@@ -54,26 +54,26 @@ rises_in o (x ∷ y ∷ ys) up =
       | inr f ↦ rw f (rises_more o x (y ∷ ys) f up)
     ]
   where
-    under : Rises (sorted_in o (y ∷ ys)) → less y x ≡ false → less o x ≡ false → Rises (x ∷ sorted_in o (y ∷ ys))
-    under rest first other = elim (less y o) as (λ b. Rises (cond b (y ∷ sorted_in o ys) (o ∷ y ∷ ys)) → Rises (x ∷ cond b (y ∷ sorted_in o ys) (o ∷ y ∷ ys))) [
-      | true ↦ λ r. rises_more x y (sorted_in o ys) first r
+    under : Rises (with_offer o (y ∷ ys)) → less y x ≡ false → less o x ≡ false → Rises (x ∷ with_offer o (y ∷ ys))
+    under rest first other = elim (less y o) as (λ b. Rises (cond b (y ∷ with_offer o ys) (o ∷ y ∷ ys)) → Rises (x ∷ cond b (y ∷ with_offer o ys) (o ∷ y ∷ ys))) [
+      | true ↦ λ r. rises_more x y (with_offer o ys) first r
       | false ↦ λ r. rises_more x o (y ∷ ys) other r
     ] rest
 
-sorted_rises : (xs : List Offer) → Rises (sorted xs)
+sorted_rises : (xs : List Offer) → Rises (offers_in_order xs)
 sorted_rises [] = λ k d low within. absurd (omega (arith, within))
-sorted_rises (x ∷ xs) = rises_in x (sorted xs) (sorted_rises xs)
+sorted_rises (x ∷ xs) = rises_in x (offers_in_order xs) (sorted_rises xs)
 
-moved_in : (o : Offer) (xs : List Offer) → IsPermutation (o ∷ xs) (sorted_in o xs)
+moved_in : (o : Offer) (xs : List Offer) → IsPermutation (o ∷ xs) (with_offer o xs)
 moved_in o [] = IsPermutation-refl (o ∷ [])
-moved_in o (x ∷ xs) = elim (less x o) as (λ b. IsPermutation (o ∷ x ∷ xs) (cond b (x ∷ sorted_in o xs) (o ∷ x ∷ xs))) [
-  | true ↦ IsPermutation-trans (o ∷ x ∷ xs) (x ∷ o ∷ xs) (x ∷ sorted_in o xs) (IsPermutation-middle (o ∷ []) x xs) (IsPermutation-cons x (o ∷ xs) (sorted_in o xs) (moved_in o xs))
+moved_in o (x ∷ xs) = elim (less x o) as (λ b. IsPermutation (o ∷ x ∷ xs) (cond b (x ∷ with_offer o xs) (o ∷ x ∷ xs))) [
+  | true ↦ IsPermutation-trans (o ∷ x ∷ xs) (x ∷ o ∷ xs) (x ∷ with_offer o xs) (IsPermutation-middle (o ∷ []) x xs) (IsPermutation-cons x (o ∷ xs) (with_offer o xs) (moved_in o xs))
   | false ↦ IsPermutation-refl (o ∷ x ∷ xs)
 ]
 
-moved_sorted : (xs : List Offer) → IsPermutation xs (sorted xs)
+moved_sorted : (xs : List Offer) → IsPermutation xs (offers_in_order xs)
 moved_sorted [] = IsPermutation-refl []
-moved_sorted (x ∷ xs) = IsPermutation-trans (x ∷ xs) (x ∷ sorted xs) (sorted_in x (sorted xs)) (IsPermutation-cons x xs (sorted xs) (moved_sorted xs)) (moved_in x (sorted xs))
+moved_sorted (x ∷ xs) = IsPermutation-trans (x ∷ xs) (x ∷ offers_in_order xs) (with_offer x (offers_in_order xs)) (IsPermutation-cons x xs (offers_in_order xs) (moved_sorted xs)) (moved_in x (offers_in_order xs))
 
-pub sorted_moved : (xs ys : List Offer) → IsPermutation xs ys → sorted ys ≡ sorted xs
-sorted_moved xs ys moved = sorted_is xs (sorted ys) (IsPermutation-trans xs ys (sorted ys) moved (moved_sorted ys)) (sorted_rises ys)
+pub sorted_moved : (xs ys : List Offer) → IsPermutation xs ys → offers_in_order ys ≡ offers_in_order xs
+sorted_moved xs ys moved = sorted_is xs (offers_in_order ys) (IsPermutation-trans xs ys (offers_in_order ys) moved (moved_sorted ys)) (sorted_rises ys)

@@ -2,7 +2,7 @@
 use Rattle.std.specs.Prelude.{◌≡◌, ℕ, ◌+◌, List, [], ◌∷◌, ◌++◌, Option, Some, None, IfSome}
 use Rattle.rv_lang.specs.declared.reply.Reply.{Reply}
 use Rattle.rv_model.specs.declared.state.Offer.{Offer}
-use Rattle.rv_model.specs.Offers.{sorted}
+use Rattle.rv_model.specs.Offers.{offers_in_order}
 use Rattle.rv_model.specs.Step.{Offers, offers_after}
 use Rattle.rv_reader.specs.Shown.{Shown}
 use Rattle.rv_snapshot.specs.Alone.{alone}
@@ -28,7 +28,7 @@ to_come shown c = plan_rest (seen_by shown c) c.plan
 
 -- THE OFFERS THAT A CURSOR HAS LEFT: the row in hand and the rest of its plan, sorted
 abbrev pub left : Shown → Open → List Offer
-left shown c = sorted (in_hand c.hand ++ to_come shown c)
+left shown c = offers_in_order (in_hand c.hand ++ to_come shown c)
 
 -- its plan was drawn from what the reader shows at its snapshot, and none that is to come is less than the row in hand
 pub record CursorFits (shown : Shown) (c : Open) : Type 0 where

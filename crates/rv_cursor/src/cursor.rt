@@ -9,7 +9,7 @@ ghost use Rattle.rv_join.specs.Levels.{table_rows};
 ghost use Rattle.rv_join.specs.Plans.{LeadsWith, plan_trace, plan_work, stage_of};
 ghost use Rattle.rv_join.specs.Work.{row_cost};
 ghost use Rattle.rv_model.specs.Offering.{offers_over};
-ghost use Rattle.rv_model.specs.Offers.{sorted};
+ghost use Rattle.rv_model.specs.Offers.{offers_in_order};
 ghost use Rattle.rv_snapshot.specs.Alone.{alone};
 ghost use Rattle.rv_join.specs.Pieces.{plan_awaited, plan_pieces};
 ghost use Rattle.rv_cursor.specs.Left.{CursorFits, Fills, Stays, left, seen_by, work};
@@ -61,7 +61,7 @@ pub fn open_cursor<R: Reader>(
 ) -> Result<Open, NoMemory>
     requires { CanPlan select.now indexes.now (alone (R.shown reader.now) snap) snap }
     ensures fits { IfOk result (CursorFits (R.shown reader.now)) }
-    ensures left { IfOk result (λ c. left (R.shown reader.now) c ≡ sorted (offers_over select.now (table_rows (alone (R.shown reader.now) snap) snap))) }
+    ensures left { IfOk result (λ c. left (R.shown reader.now) c ≡ offers_in_order (offers_over select.now (table_rows (alone (R.shown reader.now) snap) snap))) }
     ensures asked { IfOk result (λ c. IsAsked select.now indexes.now snap number c.plan.asked) }
     ensures leads { IfOk result (λ c. LeadsWith (alone (R.shown reader.now) snap) c.plan) }
     ensures stage { IfOk result (λ c. c.plan.stage ≡ stage_of select.now indexes.now) }

@@ -8,7 +8,7 @@ use Rattle.rv_judge.specs.declared.events.Trace.{Trace}
 use Rattle.rv_judge.specs.Runs.{Allowed}
 use Rattle.rv_lang.specs.declared.reply.Shown.{Shown}
 use Rattle.rv_catalog.specs.declared.def.IndexDef.{IndexDef}
-use Rattle.rv_model.specs.Showing.{ShowsTrace, named, numbers_over, trace_named}
+use Rattle.rv_model.specs.Showing.{ShowsTrace, numbers_over, shown_event, shown_trace}
 use Rattle.rv_course.specs.Told.{trace_of}
 use Rattle.rv_course.specs.Reading.{is_read}
 use Rattle.rv_course.proofs.Controls.{no_way}

@@ -13,7 +13,7 @@ use Rattle.rv_lang.specs.declared.reply.ShownEvent.{ShownEvent}
 use Rattle.rv_lang.specs.declared.reply.ShownEvent.TheVariants as told
 use Rattle.rv_catalog.specs.declared.def.IndexDef.{IndexDef}
 use Rattle.rv_model.specs.Database.{index_at, no_index}
-use Rattle.rv_model.specs.Showing.{named, numbers_over}
+use Rattle.rv_model.specs.Showing.{numbers_over, shown_event}
 use Rattle.rv_course.proofs.Controls.{both, left_true, no_way, number_is, right_true, same_number}
 use Rattle.rv_decide.specs.Naming.{AreNamedApart, is_named}
 use Rattle.rv_decide.specs.Reading.{drop_of, event_of, events_of, is_of, list_of, number_of, scan_of, with_first}
@@ -28,33 +28,33 @@ named_of indexes table name i e =
 some_is : {A : Type 0} {x y : A} → Some x ≡ Some y → x ≡ y
 some_is e = cc
 
-shown_scan : (indexes : List IndexDef) (name : List ℕ) (found : Option ℕ) (e : Event) → ((i : ℕ) → found ≡ Some i → (index_at indexes i).name ≡ name) → scan_of found ≡ Some e → named indexes e ≡ told.Scan name
+shown_scan : (indexes : List IndexDef) (name : List ℕ) (found : Option ℕ) (e : Event) → ((i : ℕ) → found ≡ Some i → (index_at indexes i).name ≡ name) → scan_of found ≡ Some e → shown_event indexes e ≡ told.Scan name
 shown_scan indexes name None e is read = cc
-shown_scan indexes name (Some i) e is read = ap (named indexes) (sym (some_is read)) ∙ ap told.Scan (is i refl)
+shown_scan indexes name (Some i) e is read = ap (shown_event indexes) (sym (some_is read)) ∙ ap told.Scan (is i refl)
 
-shown_list : (indexes : List IndexDef) (name : List ℕ) (keys : ℕ) (found : Option ℕ) (e : Event) → ((i : ℕ) → found ≡ Some i → (index_at indexes i).name ≡ name) → list_of keys found ≡ Some e → named indexes e ≡ told.List name keys
+shown_list : (indexes : List IndexDef) (name : List ℕ) (keys : ℕ) (found : Option ℕ) (e : Event) → ((i : ℕ) → found ≡ Some i → (index_at indexes i).name ≡ name) → list_of keys found ≡ Some e → shown_event indexes e ≡ told.List name keys
 shown_list indexes name keys None e is read = cc
-shown_list indexes name keys (Some i) e is read = ap (named indexes) (sym (some_is read)) ∙ ap (λ n. told.List n keys) (is i refl)
+shown_list indexes name keys (Some i) e is read = ap (shown_event indexes) (sym (some_is read)) ∙ ap (λ n. told.List n keys) (is i refl)
 
-shown_drop : (indexes : List IndexDef) (name : List ℕ) (found : Option ℕ) (e : Event) → ((i : ℕ) → found ≡ Some i → (index_at indexes i).name ≡ name) → drop_of found ≡ Some e → named indexes e ≡ told.Drop name
+shown_drop : (indexes : List IndexDef) (name : List ℕ) (found : Option ℕ) (e : Event) → ((i : ℕ) → found ≡ Some i → (index_at indexes i).name ≡ name) → drop_of found ≡ Some e → shown_event indexes e ≡ told.Drop name
 shown_drop indexes name None e is read = cc
-shown_drop indexes name (Some i) e is read = ap (named indexes) (sym (some_is read)) ∙ ap told.Drop (is i refl)
+shown_drop indexes name (Some i) e is read = ap (shown_event indexes) (sym (some_is read)) ∙ ap told.Drop (is i refl)
 
-shown_one : (indexes : List IndexDef) (table : ℕ) (shown : ShownEvent) (e : Event) → event_of indexes table shown ≡ Some e → named indexes e ≡ shown
-shown_one indexes table (told.At control) e read = ap (named indexes) (sym (some_is read))
+shown_one : (indexes : List IndexDef) (table : ℕ) (shown : ShownEvent) (e : Event) → event_of indexes table shown ≡ Some e → shown_event indexes e ≡ shown
+shown_one indexes table (told.At control) e read = ap (shown_event indexes) (sym (some_is read))
 shown_one indexes table (told.Scan name) e read = shown_scan indexes name (number_of indexes table name) e (named_of indexes table name) read
 shown_one indexes table (told.List name keys) e read = shown_list indexes name keys (number_of indexes table name) e (named_of indexes table name) read
 shown_one indexes table (told.Drop name) e read = shown_drop indexes name (number_of indexes table name) e (named_of indexes table name) read
-shown_one indexes table told.Full e read = ap (named indexes) (sym (some_is read))
-shown_one indexes table told.Stop e read = ap (named indexes) (sym (some_is read))
+shown_one indexes table told.Full e read = ap (shown_event indexes) (sym (some_is read))
+shown_one indexes table told.Stop e read = ap (shown_event indexes) (sym (some_is read))
 
-pub shown_all : (indexes : List IndexDef) (table : ℕ) (shown : List ShownEvent) (es : List Event) → events_of indexes table shown ≡ Some es → map (named indexes) es ≡ shown
-shown_all indexes table [] es read = ap (map (named indexes)) (sym (some_is read))
+pub shown_all : (indexes : List IndexDef) (table : ℕ) (shown : List ShownEvent) (es : List Event) → events_of indexes table shown ≡ Some es → map (shown_event indexes) es ≡ shown
+shown_all indexes table [] es read = ap (map (shown_event indexes)) (sym (some_is read))
 shown_all indexes table (s ∷ ss) es read = by (event_of indexes table s) (events_of indexes table ss) (shown_all indexes table ss) refl refl read
   where
-    by : (first : Option Event) (rest : Option (List Event)) → ((fs : List Event) → events_of indexes table ss ≡ Some fs → map (named indexes) fs ≡ ss) → event_of indexes table s ≡ first → events_of indexes table ss ≡ rest → with_first first rest ≡ Some es → map (named indexes) es ≡ s ∷ ss
+    by : (first : Option Event) (rest : Option (List Event)) → ((fs : List Event) → events_of indexes table ss ≡ Some fs → map (shown_event indexes) fs ≡ ss) → event_of indexes table s ≡ first → events_of indexes table ss ≡ rest → with_first first rest ≡ Some es → map (shown_event indexes) es ≡ s ∷ ss
     by (Some e) (Some fs) tails f r read =
-        ap (map (named indexes)) (sym (some_is read)) ∙ ap (λ x. x ∷ map (named indexes) fs) (shown_one indexes table s e f) ∙ ap (λ xs. s ∷ xs) (tails fs r)
+        ap (map (shown_event indexes)) (sym (some_is read)) ∙ ap (λ x. x ∷ map (shown_event indexes) fs) (shown_one indexes table s e f) ∙ ap (λ xs. s ∷ xs) (tails fs r)
     by (Some e) None tails f r read = cc
     by None rest tails f r read = cc
 
@@ -129,7 +129,7 @@ names_known indexes (events.List i keys) = has_index i indexes
 names_known indexes (events.Drop i) = has_index i indexes
 names_known indexes e = true
 
-read_one : (indexes : List IndexDef) (table : ℕ) (e : Event) → AreNamedApart indexes → names_known (numbers_over table 0 indexes) e ≡ true → event_of indexes table (named indexes e) ≡ Some e
+read_one : (indexes : List IndexDef) (table : ℕ) (e : Event) → AreNamedApart indexes → names_known (numbers_over table 0 indexes) e ≡ true → event_of indexes table (shown_event indexes e) ≡ Some e
 read_one indexes table (events.At control) apart known = refl
 read_one indexes table (events.Scan i) apart known = ap scan_of (number_found indexes table i apart known)
 read_one indexes table (events.List i keys) apart known = ap (list_of keys) (number_found indexes table i apart known)
@@ -137,9 +137,9 @@ read_one indexes table (events.Drop i) apart known = ap drop_of (number_found in
 read_one indexes table events.Full apart known = refl
 read_one indexes table events.Stop apart known = refl
 
-pub read_all : (indexes : List IndexDef) (table : ℕ) (es : List Event) → AreNamedApart indexes → list_all (names_known (numbers_over table 0 indexes)) es ≡ true → events_of indexes table (map (named indexes) es) ≡ Some es
+pub read_all : (indexes : List IndexDef) (table : ℕ) (es : List Event) → AreNamedApart indexes → list_all (names_known (numbers_over table 0 indexes)) es ≡ true → events_of indexes table (map (shown_event indexes) es) ≡ Some es
 read_all indexes table [] apart known = refl
 read_all indexes table (e ∷ es) apart known =
     let first = read_one indexes table e apart (left_true _ _ known) in
     let rest = read_all indexes table es apart (right_true (names_known (numbers_over table 0 indexes) e) _ known) in
-    ap (λ o. with_first o (events_of indexes table (map (named indexes) es))) first ∙ ap (with_first (Some e)) rest
+    ap (λ o. with_first o (events_of indexes table (map (shown_event indexes) es))) first ∙ ap (with_first (Some e)) rest

@@ -6,7 +6,7 @@ use Rattle.std.proofs.lemmas.List.Elements.{All-from_recursion}
 use Rattle.rv_script.specs.declared.scripts.Line.{Line}
 use Rattle.rv_script.specs.declared.scripts.Phase.{Phase}
 use Rattle.rv_gen.specs.Draws.{draw, state_after}
-use Rattle.rv_gen.specs.Workload.{HasCalls, IsCall, IsRunnable, goal, insert_of, insert_text, inserts, line, open_of, opening, openings_of, phase, readers, round, rounds, tables, update_of, update_text, workload}
+use Rattle.rv_gen.specs.Workload.{HasCalls, IsCall, IsRunnable, goal, insert_of, insert_text, inserts, line, open_lines, open_of, openings_of, phase, readers, round, rounds, tables, update_of, update_text, workload}
 
 -- ---- texts are short
 
@@ -34,7 +34,7 @@ update_short a b la lb = simp length-append (omega (arith, short_number a la, sh
 insert_call : (x : ℕ) → IsCall (line 1 (insert_text x))
 insert_call x = record { from = omega arith; to = omega arith; short = insert_short (draw x 1 1000) (draw x 2 100) (draw x 3 10) (omega arith) (omega arith) (omega arith) }
 
-opening_calls : (session x : ℕ) → 1 ≤ session → session ≤ 8 → AllByRecursion IsCall (opening session x)
+opening_calls : (session x : ℕ) → 1 ≤ session → session ≤ 8 → AllByRecursion IsCall (open_lines session x)
 opening_calls session x from to = (
   record { from = from; to = to; short = omega arith },
   (record { from = from; to = to; short = open_short session (draw x 1 900) (1 + draw x 2 100) (omega arith) (omega arith) }, tt),
@@ -109,7 +109,7 @@ first_calls seed rows =
 
 second_calls : (x y count : ℕ) → AllByRecursion IsCall (openings_of readers x ++ rounds y count)
 second_calls x y count =
-    let f : ℕ → List Line = λ session. opening session (state_after x (2 * (session - 2))) in
+    let f : ℕ → List Line = λ session. open_lines session (state_after x (2 * (session - 2))) in
     let opened = all_flat f readers (
       opening_calls 2 (state_after x 0) (omega arith) (omega arith),
       (

@@ -1,11 +1,11 @@
 -- Draws that go on from where others ended.
 use Rattle.std.proofs.Common.{◌≡◌, ℕ, zero, suc, ◌+◌, ◌*◌, ◌/◌, ◌%◌, ◌^◌, refl, ap, ◌∙◌, arith}
-use Rattle.rv_gen.specs.Draws.{following, state_after, draw}
+use Rattle.rv_gen.specs.Draws.{generator_step, state_after, draw}
 
 pub state_on : (x m n : ℕ) → state_after (state_after x m) n ≡ state_after x (m + n)
 unfolding state_after
 state_on x m zero = ap (state_after x) (let e : m ≡ m + 0 = omega arith in e)
-state_on x m (suc n) = ap following (state_on x m n) ∙ ap (state_after x) (let e : suc (m + n) ≡ m + suc n = omega arith in e)
+state_on x m (suc n) = ap generator_step (state_on x m n) ∙ ap (state_after x) (let e : suc (m + n) ≡ m + suc n = omega arith in e)
 
 pub draw_on : (x m n limit : ℕ) → draw (state_after x m) n limit ≡ draw x (m + n) limit
 draw_on x m n limit = ap (λ (s : ℕ). (s / 2 ^ 33) % limit) (state_on x m n)

@@ -7,7 +7,7 @@ use Rattle.rv_script.specs.declared.scripts.Line.{Line}
 use Rattle.rv_script.specs.declared.scripts.Phase.{Phase}
 use Rattle.rv_script.specs.declared.scripts.Script.{Script}
 use Rattle.rv_gen.specs.Draws.{state_after}
-use Rattle.rv_gen.specs.Workload.{fetches_of, insert_text, inserts, line, opening, openings_of, phase, readers, round, rounds, tables, workload}
+use Rattle.rv_gen.specs.Workload.{fetches_of, insert_text, inserts, line, open_lines, openings_of, phase, readers, round, rounds, tables, workload}
 use Rattle.rv_gen.proofs.Goings.{state_on}
 
 last : (a n j : ℕ) → a + n ≡ j → range_with_len a (suc n) ≡ range_with_len a n ++ j ∷ []
@@ -30,10 +30,10 @@ inserts_more x n = map-range_with_len_more (λ (row : ℕ). line 1 (insert_text 
 pub rounds_more : (x n : ℕ) → rounds x (n + 1) ≡ rounds x n ++ round (state_after x (2 * n))
 rounds_more x n = flat_more (λ (number : ℕ). round (state_after x (2 * number))) 0 n n (omega arith)
 
-pub openings_more : (x session : ℕ) → 2 ≤ session → openings_of (range_with_len 2 (session + 1 - 2)) x ≡ openings_of (range_with_len 2 (session - 2)) x ++ opening session (state_after x (2 * (session - 2)))
+pub openings_more : (x session : ℕ) → 2 ≤ session → openings_of (range_with_len 2 (session + 1 - 2)) x ≡ openings_of (range_with_len 2 (session - 2)) x ++ open_lines session (state_after x (2 * (session - 2)))
 openings_more x session least =
     let count : session + 1 - 2 ≡ (session - 2) + 1 = omega arith in
-    rw count (flat_more (λ (s : ℕ). opening s (state_after x (2 * (s - 2)))) 2 (session - 2) session (omega arith))
+    rw count (flat_more (λ (s : ℕ). open_lines s (state_after x (2 * (s - 2)))) 2 (session - 2) session (omega arith))
 
 pub fetches_more : (session : ℕ) → 2 ≤ session → fetches_of (range_with_len 2 (session + 1 - 2)) ≡ fetches_of (range_with_len 2 (session - 2)) ++ line session (codes "FETCH C") ∷ []
 fetches_more session least =
@@ -64,10 +64,10 @@ round_added x i s old now new a b c =
     ∙ ap (λ (y : ℕ). old ++ (rounds x i ++ round y)) b
     ∙ ap (λ (ls : List Line). old ++ ls) (sym (rounds_more x i))
 
-pub opening_added : (x session s : ℕ) (old now new : List Line) → 2 ≤ session → now ≡ old ++ openings_of (range_with_len 2 (session - 2)) x → s ≡ state_after x (2 * (session - 2)) → new ≡ now ++ opening session s → new ≡ old ++ openings_of (range_with_len 2 (session + 1 - 2)) x
+pub opening_added : (x session s : ℕ) (old now new : List Line) → 2 ≤ session → now ≡ old ++ openings_of (range_with_len 2 (session - 2)) x → s ≡ state_after x (2 * (session - 2)) → new ≡ now ++ open_lines session s → new ≡ old ++ openings_of (range_with_len 2 (session + 1 - 2)) x
 opening_added x session s old now new least a b c =
-    lines_then old now new (openings_of (range_with_len 2 (session - 2)) x) (opening session s) a c
-    ∙ ap (λ (y : ℕ). old ++ (openings_of (range_with_len 2 (session - 2)) x ++ opening session y)) b
+    lines_then old now new (openings_of (range_with_len 2 (session - 2)) x) (open_lines session s) a c
+    ∙ ap (λ (y : ℕ). old ++ (openings_of (range_with_len 2 (session - 2)) x ++ open_lines session y)) b
     ∙ ap (λ (ls : List Line). old ++ ls) (sym (openings_more x session least))
 
 pub fetch_added : (session : ℕ) (old now new : List Line) → 2 ≤ session → now ≡ old ++ fetches_of (range_with_len 2 (session - 2)) → new ≡ now ++ line session (codes "FETCH C") ∷ [] → new ≡ old ++ fetches_of (range_with_len 2 (session + 1 - 2))

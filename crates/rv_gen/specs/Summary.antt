@@ -59,9 +59,9 @@ pub record IsSmall (s : Summary) : Type 0 where
   pub refused : s.refused < 2 ^ 63
 
 -- a line of a summary
-abbrev pub counted : List ℕ → ℕ → List ℕ
-counted word count = word ++ decimal count ++ 10 ∷ []
+abbrev pub summary_line : List ℕ → ℕ → List ℕ
+summary_line word count = word ++ decimal count ++ 10 ∷ []
 
 -- its five lines
 abbrev pub summary_text : Summary → List ℕ
-summary_text s = counted (codes "calls ") s.calls ++ counted (codes "rows ") s.rows ++ counted (codes "ends ") s.ends ++ counted (codes "commits ") s.commits ++ counted (codes "refused ") s.refused
+summary_text s = summary_line (codes "calls ") s.calls ++ summary_line (codes "rows ") s.rows ++ summary_line (codes "ends ") s.ends ++ summary_line (codes "commits ") s.commits ++ summary_line (codes "refused ") s.refused

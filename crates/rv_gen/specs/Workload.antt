@@ -50,12 +50,12 @@ open_of session low above =
 abbrev pub open_text : ℕ → ℕ → List ℕ
 open_text session x = open_of session (draw x 1 900) (1 + draw x 2 100)
 
-abbrev pub opening : ℕ → ℕ → List Line
-opening session x = line session (codes "BEGIN READ ONLY") ∷ line session (open_text session x) ∷ []
+abbrev pub open_lines : ℕ → ℕ → List Line
+open_lines session x = line session (codes "BEGIN READ ONLY") ∷ line session (open_text session x) ∷ []
 
 -- the cursors of sessions from 2 on, each by two draws
 abbrev pub openings_of : List ℕ → ℕ → List Line
-openings_of sessions x = flat_map (λ (session : ℕ). opening session (state_after x (2 * (session - 2)))) sessions
+openings_of sessions x = flat_map (λ (session : ℕ). open_lines session (state_after x (2 * (session - 2)))) sessions
 
 unfoldable pub update_of : ℕ → ℕ → List ℕ
 update_of a b = codes "UPDATE T SET A = " ++ decimal a ++ codes " WHERE B = " ++ decimal b
@@ -86,8 +86,8 @@ workload seed rows count = record {
 }
 
 -- 2,000 rows and 250 rounds
-abbrev pub generated : ℕ → Script
-generated seed = workload seed 2000 250
+abbrev pub workload_of : ℕ → Script
+workload_of seed = workload seed 2000 250
 
 -- ---- what a run needs of it
 

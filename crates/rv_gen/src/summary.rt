@@ -1,7 +1,7 @@
 //! What a history comes to.
 ghost use Rattle.std.specs.Prelude.{◌≡◌, Ok};
 ghost use Rattle.rv_io.specs.Pieces.{Goes};
-ghost use Rattle.rv_gen.specs.Summary.{IsSmall, counted, is_commit, is_end, is_refusal, is_row, one_if, summary, summary_text, with_reply};
+ghost use Rattle.rv_gen.specs.Summary.{IsSmall, is_commit, is_end, is_refusal, is_row, one_if, summary, summary_line, summary_text, with_reply};
 
 use rv_io::{Failed, Sink, write_next};
 use rv_model::{Entry, Reply};
@@ -100,7 +100,7 @@ fn write_count<K: Sink>(
     word: &[u8],
     count: u64,
 ) -> Result<(), Failed>
-    ensures { Goes sofar (K.written sink.old) (K.written sink.new) (K.faults sink.old) (K.faults sink.new) result (counted word.now count) }
+    ensures { Goes sofar (K.written sink.old) (K.written sink.new) (K.faults sink.old) (K.faults sink.new) result (summary_line word.now count) }
 {
     let number = write_number(sink, sofar, word, count);
     write_next(sink, number, b"\n")

@@ -1,7 +1,7 @@
 //! The generated workload.
 ghost use Rattle.std.specs.Prelude.{◌≡◌, ◌*◌, ◌<◌, ◌++◌, ◌∷◌, [], IfOk, OnOk, codes, string_bytes};
 ghost use Rattle.rv_gen.specs.Draws.{state_after};
-ghost use Rattle.rv_gen.specs.Workload.{IsRunnable, fetches_of, generated, insert_of, insert_text, inserts, line, open_of, open_text, opening, openings_of, phase, readers, round, rounds, tables, update_of, update_text, workload};
+ghost use Rattle.rv_gen.specs.Workload.{IsRunnable, fetches_of, insert_of, insert_text, inserts, line, open_lines, open_of, open_text, openings_of, phase, readers, round, rounds, tables, update_of, update_text, workload, workload_of};
 
 use crate::draws::Draws;
 use rv_script::{Line, Phase, Script};
@@ -18,7 +18,7 @@ const ROUNDS: u32 = 250;
 /// cursor each, while session 1 updates the table. Equal seeds give equal scripts.
 #[tactic(auto, using(crate::proofs::Calls::runnable))]
 pub fn generate(alloc: Global, seed: u32) -> Result<Script, NoMemory>
-    ensures is { IfOk result (λ script. script ≡ generated seed) }
+    ensures is { IfOk result (λ script. script ≡ workload_of seed) }
     ensures runnable { IfOk result IsRunnable }
 {
     written(alloc, u64::from(seed), ROWS, ROUNDS)
@@ -133,7 +133,7 @@ fn add_opening(
     draws: &mut Draws,
     session: u8,
 ) -> Result<(), NoMemory>
-    ensures lines { OnOk result (lines.new ≡ lines.old ++ opening session draws.old.state) }
+    ensures lines { OnOk result (lines.new ≡ lines.old ++ open_lines session draws.old.state) }
     ensures state { OnOk result (draws.new.state ≡ state_after draws.old.state 2) }
 {
     add(alloc, lines, session, "BEGIN READ ONLY")?;

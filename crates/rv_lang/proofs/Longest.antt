@@ -10,7 +10,7 @@ use Rattle.rv_lang.specs.declared.token.Token.{Token}
 use Rattle.rv_lang.specs.declared.token.Token.TheVariants.{Word, Int, Str, Symbol}
 use Rattle.rv_lang.specs.declared.token.Symbol.{Symbol as OneSymbol}
 use Rattle.rv_lang.specs.declared.token.Symbol.TheVariants as symbols
-use Rattle.rv_lang.specs.Tokens.{is_word_byte, is_text_byte, doubled, past, value_after, symbol_text, IsToken, IsLongest, IsWord, IsNumber, IsDigits, NoWordByte}
+use Rattle.rv_lang.specs.Tokens.{is_word_byte, is_text_byte, quotes_twice, past, value_after, symbol_text, IsToken, IsLongest, IsWord, IsNumber, IsDigits, NoWordByte}
 use Rattle.rv_lang.specs.Lexing.{run, begins_word, number_of, negative_at, text_body, second, symbol_at, token_at}
 use Rattle.rv_lang.proofs.Runs.{by, and_parts, run_past, run_all, run_same, past_shorter, past_exact, run_exact, Stops, stops_nil, stops_at}
 use Rattle.rv_lang.proofs.Texts.{IsText, text_is, Reaches, text_reaches}
@@ -37,16 +37,16 @@ word_seen (b ∷ bs) rest h = rw h.0 (past_shorter is_word_byte bs rest h.1, λ 
 -- ---- texts
 
 text_token_is : (bs : List ℕ) (o : Option (List ℕ × List ℕ)) → IfSome o (IsText bs) → IfSome (elim o [ Some x ↦ Some (Str x.0, x.1) | None ↦ None ]) (Begins (39 ∷ bs))
-text_token_is bs (Some x) h = (39 ∷ doubled x.0 ++ 39 ∷ [], ap (λ (xs : List ℕ). 39 ∷ xs) (h.spelled ∙ sym (append_assoc (doubled x.0) (39 ∷ []) x.1)), (h.plain, refl))
+text_token_is bs (Some x) h = (39 ∷ quotes_twice x.0 ++ 39 ∷ [], ap (λ (xs : List ℕ). 39 ∷ xs) (h.spelled ∙ sym (append_assoc (quotes_twice x.0) (39 ∷ []) x.1)), (h.plain, refl))
 text_token_is bs None h = tt
 
 text_seen_of : (o : Option (List ℕ × List ℕ)) (text rest : List ℕ) → Reaches o text rest → Seen (elim o [ Some x ↦ Some (Str x.0, x.1) | None ↦ None ]) (Str text) rest
 text_seen_of (Some x) text rest h = (h.0, λ e. ap (λ (t : List ℕ). Str t) (h.1 e))
 text_seen_of None text rest h = absurd h
 
-text_seen : (text rest : List ℕ) → list_all is_text_byte text ≡ true → Seen (token_at (39 ∷ (doubled text ++ 39 ∷ rest))) (Str text) rest
+text_seen : (text rest : List ℕ) → list_all is_text_byte text ≡ true → Seen (token_at (39 ∷ (quotes_twice text ++ 39 ∷ rest))) (Str text) rest
 unfolding token_at
-text_seen text rest h = text_seen_of (text_body (doubled text ++ 39 ∷ rest)) text rest (text_reaches text rest h)
+text_seen text rest h = text_seen_of (text_body (quotes_twice text ++ 39 ∷ rest)) text rest (text_reaches text rest h)
 
 -- ---- symbols
 
@@ -153,7 +153,7 @@ token_is (b ∷ bs) =
 pub token_seen : (front : List ℕ) (t : Token) (rest : List ℕ) → IsToken front t rest → Seen (token_at (front ++ rest)) t rest
 token_seen front (Word name) rest h = rw h.1 (word_seen front rest h.0)
 token_seen front (Int n) rest h = number_seen front n rest h.0 h.1
-token_seen front (Str text) rest h = subst (λ (f : List ℕ). Seen (token_at f) (Str text) rest) (sym (ap (λ (f : List ℕ). f ++ rest) h.1 ∙ ap (λ (xs : List ℕ). 39 ∷ xs) (append_assoc (doubled text) (39 ∷ []) rest))) (text_seen text rest h.0)
+token_seen front (Str text) rest h = subst (λ (f : List ℕ). Seen (token_at f) (Str text) rest) (sym (ap (λ (f : List ℕ). f ++ rest) h.1 ∙ ap (λ (xs : List ℕ). 39 ∷ xs) (append_assoc (quotes_twice text) (39 ∷ []) rest))) (text_seen text rest h.0)
 token_seen front (Symbol s) rest h = rw h (symbol_seen s rest)
 
 -- the token that is read is the longest

@@ -3,14 +3,14 @@ use Rattle.std.proofs.Common.{◌≡◌, ℕ, ◌≤◌, List, [], ◌∷◌, �
 use Rattle.std.specs.Prelude.{IfSome}
 use Rattle.std.specs.List.{list_all}
 use Rattle.std.proofs.lemmas.Bool.{eqb-true}
-use Rattle.rv_lang.specs.Tokens.{is_text_byte, doubled}
+use Rattle.rv_lang.specs.Tokens.{is_text_byte, quotes_twice}
 use Rattle.rv_lang.specs.Lexing.{push_front, or_here, text_body}
 use Rattle.rv_lang.proofs.Runs.{by, and_parts}
 
 -- what a text's reading gives is a spelling of it
 pub record IsText (bs : List ℕ) (x : List ℕ × List ℕ) : Type 0 where
   pub plain : list_all is_text_byte x.0 ≡ true
-  pub spelled : bs ≡ doubled x.0 ++ 39 ∷ x.1
+  pub spelled : bs ≡ quotes_twice x.0 ++ 39 ∷ x.1
 
 here_is : (o : Option (List ℕ × List ℕ)) (bs : List ℕ) → IfSome o (IsText bs) → IfSome (or_here o (39 ∷ bs)) (IsText (39 ∷ 39 ∷ bs))
 here_is (Some x) bs h = record { plain = h.plain; spelled = ap (λ (xs : List ℕ). 39 ∷ 39 ∷ xs) h.spelled }
@@ -35,7 +35,7 @@ Reaches None text rest = ⊥
 Reaches (Some x) text rest = (length x.1 ≤ length rest) × (length x.1 ≡ length rest → x.0 ≡ text)
 
 reaches_here : (o : Option (List ℕ × List ℕ)) (bs : List ℕ) → IfSome o (IsText bs) → Reaches (or_here o (39 ∷ bs)) [] (39 ∷ bs)
-reaches_here (Some x) bs h = let shorter : length x.1 ≤ length bs = omega (arith, ap length h.spelled, length-append (doubled x.0) (39 ∷ x.1)) in (omega (arith, shorter), λ e. absurd (omega (arith, shorter, e)))
+reaches_here (Some x) bs h = let shorter : length x.1 ≤ length bs = omega (arith, ap length h.spelled, length-append (quotes_twice x.0) (39 ∷ x.1)) in (omega (arith, shorter), λ e. absurd (omega (arith, shorter, e)))
 reaches_here None bs h = (omega arith, λ e. refl)
 
 reaches_first : (rest : List ℕ) → Reaches (text_body (39 ∷ rest)) [] rest
@@ -54,9 +54,9 @@ body_step : (b : ℕ) (bs : List ℕ) → nat_eq b 39 ≡ false → is_text_byte
 body_step b [] e f = rw e refl
 body_step b (c ∷ bs) e f = rw (e, f) refl
 
-pub text_reaches : (text rest : List ℕ) → list_all is_text_byte text ≡ true → Reaches (text_body (doubled text ++ 39 ∷ rest)) text rest
+pub text_reaches : (text rest : List ℕ) → list_all is_text_byte text ≡ true → Reaches (text_body (quotes_twice text ++ 39 ∷ rest)) text rest
 text_reaches [] rest h = reaches_first rest
 text_reaches (b ∷ text) rest h = let k = and_parts (is_text_byte b) (list_all is_text_byte text) h in
     by (nat_eq b 39)
-    (λ e. rw (e, eqb-true b 39 e) (reaches_more (text_body (doubled text ++ 39 ∷ rest)) _ text rest (text_reaches text rest k.1)))
-    (λ e. rw (e, body_step b (doubled text ++ 39 ∷ rest) e k.0) (reaches_push b (text_body (doubled text ++ 39 ∷ rest)) text rest (text_reaches text rest k.1)))
+    (λ e. rw (e, eqb-true b 39 e) (reaches_more (text_body (quotes_twice text ++ 39 ∷ rest)) _ text rest (text_reaches text rest k.1)))
+    (λ e. rw (e, body_step b (quotes_twice text ++ 39 ∷ rest) e k.0) (reaches_push b (text_body (quotes_twice text ++ 39 ∷ rest)) text rest (text_reaches text rest k.1)))

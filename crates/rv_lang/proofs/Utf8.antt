@@ -11,7 +11,7 @@ use Rattle.rv_lang.specs.declared.token.Token.{Token}
 use Rattle.rv_lang.specs.declared.token.Token.TheVariants.{Word, Int, Str, Symbol}
 use Rattle.rv_lang.specs.declared.token.Symbol.{Symbol as OneSymbol}
 use Rattle.rv_lang.specs.declared.token.Symbol.TheVariants as symbols
-use Rattle.rv_lang.specs.Tokens.{is_word_byte, is_blank, doubled, past, symbol_text, IsToken, IsWord, IsNumber, IsDigits}
+use Rattle.rv_lang.specs.Tokens.{is_word_byte, is_blank, quotes_twice, past, symbol_text, IsToken, IsWord, IsNumber, IsDigits}
 use Rattle.rv_lang.specs.Lexing.{text_body, token_at, scanned, kept, text_cut}
 use Rattle.rv_lang.proofs.Runs.{by, and_parts}
 use Rattle.rv_lang.proofs.Texts.{IsText, text_is}
@@ -33,13 +33,13 @@ utf8_front front bs u =
       subst IsUtf8 (ap (drop (length front + 1)) e ∙ drop_at (front ++ 39 ∷ []) bs (length front + 1) n) (IsUtf8-drop (front ++ 39 ∷ bs) (length front + 1) u edge),
     )
 
-utf8_doubled : (front text : List ℕ) → IsUtf8 (front ++ doubled text) → IsUtf8 (front ++ text)
+utf8_doubled : (front text : List ℕ) → IsUtf8 (front ++ quotes_twice text) → IsUtf8 (front ++ text)
 utf8_doubled front [] u = u
 utf8_doubled front (b ∷ text) u = by (nat_eq b 39)
-    (λ e. let v : IsUtf8 (front ++ 39 ∷ 39 ∷ doubled text) = rw e at u in let w = utf8_front front (39 ∷ doubled text) v in let x = utf8_front [] (doubled text) w.1 in
+    (λ e. let v : IsUtf8 (front ++ 39 ∷ 39 ∷ quotes_twice text) = rw e at u in let w = utf8_front front (39 ∷ quotes_twice text) v in let x = utf8_front [] (quotes_twice text) w.1 in
     let y : IsUtf8 text = utf8_doubled [] text x.1 in
     rw (eqb-true b 39 e) (subst IsUtf8 (append_assoc front (39 ∷ []) text) (IsUtf8-append (front ++ 39 ∷ []) text w.0 y)))
-    (λ e. let v : IsUtf8 (front ++ b ∷ doubled text) = rw e at u in subst IsUtf8 (append_assoc front (b ∷ []) text) (utf8_doubled (front ++ b ∷ []) text (subst IsUtf8 (sym (append_assoc front (b ∷ []) (doubled text))) v)))
+    (λ e. let v : IsUtf8 (front ++ b ∷ quotes_twice text) = rw e at u in subst IsUtf8 (append_assoc front (b ∷ []) text) (utf8_doubled (front ++ b ∷ []) text (subst IsUtf8 (sym (append_assoc front (b ∷ []) (quotes_twice text))) v)))
 
 utf8_before : (front bs : List ℕ) → IsUtf8 (front ++ 39 ∷ bs) → IsUtf8 front
 utf8_before front bs u =
@@ -51,8 +51,8 @@ pub utf8_said : (bs front rest : List ℕ) → IsUtf8 bs → text_cut bs ≡ Som
 utf8_said bs front rest u e =
     let h : text_body bs ≡ Some (kept false front, rest) = body_scanned bs ∙ cut_some_of bs (scanned None 0 false bs) front rest e in
     let t : IsText bs (kept false front, rest) = subst (λ (o : Option (List ℕ × List ℕ)). IfSome o (IsText bs)) h (text_is bs) in
-    let v : IsUtf8 (doubled (kept false front) ++ 39 ∷ rest) = subst IsUtf8 t.spelled u in
-    utf8_doubled [] (kept false front) (utf8_before (doubled (kept false front)) rest v)
+    let v : IsUtf8 (quotes_twice (kept false front) ++ 39 ∷ rest) = subst IsUtf8 t.spelled u in
+    utf8_doubled [] (kept false front) (utf8_before (quotes_twice (kept false front)) rest v)
 
 -- a blank, and what follows it
 utf8_tail : (b : ℕ) (bs : List ℕ) → b < 128 → IsUtf8 (b ∷ bs) → IsUtf8 bs
@@ -125,7 +125,7 @@ symbol_ends symbols.AtLeast = record { init = 62 ∷ []; last = 61; whole = refl
 token_ends : (front : List ℕ) (t : Token) (rest : List ℕ) → IsToken front t rest → EndsAscii front
 token_ends front (Word name) rest h = word_ends front h.0
 token_ends front (Int n) rest h = number_ends front n h.0
-token_ends front (Str text) rest h = record { init = 39 ∷ doubled text; last = 39; whole = h.1; ascii = omega arith }
+token_ends front (Str text) rest h = record { init = 39 ∷ quotes_twice text; last = 39; whole = h.1; ascii = omega arith }
 token_ends front (Symbol s) rest h = subst EndsAscii (sym h) (symbol_ends s)
 
 utf8_after : (init : List ℕ) (b : ℕ) (bs : List ℕ) → b < 128 → IsUtf8 (init ++ b ∷ bs) → IsUtf8 bs

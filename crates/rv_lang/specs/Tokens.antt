@@ -29,9 +29,9 @@ IsWord [] = ⊥
 IsWord (b ∷ bs) = (is_ascii_alphabetic b ≡ true) × (list_all is_word_byte bs ≡ true)
 
 -- the characters of a text as they stand between its quotes: each quote twice
-abbrev pub doubled : List ℕ → List ℕ
-doubled [] = []
-doubled (b ∷ bs) = if nat_eq b 39 then 39 ∷ 39 ∷ doubled bs else b ∷ doubled bs
+abbrev pub quotes_twice : List ℕ → List ℕ
+quotes_twice [] = []
+quotes_twice (b ∷ bs) = if nat_eq b 39 then 39 ∷ 39 ∷ quotes_twice bs else b ∷ quotes_twice bs
 
 -- the spellings of the symbols
 abbrev pub symbol_text : OneSymbol → List ℕ
@@ -73,7 +73,7 @@ IsNumber (b ∷ bs) n = ((b ≡ 45) × IsDigits bs × (n ≡ neg_ℤ (pos (value
 abbrev pub IsToken : List ℕ → Token → List ℕ → Type 0
 IsToken front (Word name) rest = IsWord front × (name ≡ map to_ascii_uppercase front)
 IsToken front (Int n) rest = IsNumber front n × NoWordByte rest
-IsToken front (Str text) rest = (list_all is_text_byte text ≡ true) × (front ≡ 39 ∷ doubled text ++ 39 ∷ [])
+IsToken front (Str text) rest = (list_all is_text_byte text ≡ true) × (front ≡ 39 ∷ quotes_twice text ++ 39 ∷ [])
 IsToken front (Symbol s) rest = front ≡ symbol_text s
 
 -- the token in front of `rest`, where no token in front is longer

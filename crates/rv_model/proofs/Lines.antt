@@ -21,7 +21,8 @@ use Rattle.rv_judge.specs.declared.events.Strategy.{Strategy}
 use Rattle.rv_judge.specs.declared.events.Strategy.TheVariants as strategies
 use Rattle.rv_judge.specs.declared.events.Control.{Control}
 use Rattle.rv_judge.specs.declared.events.Control.TheVariants as controls
-use Rattle.rv_model.specs.Transcript.{limit_word, strategy_word, control_word, event_words, count_words, trace_words, spaced, IsName, is_name_byte, is_capital, IsPlainEvent, IsPlainTrace, doubled, value_text, more_text, values_text, reply_text, refusal_text, entry_text, text, IsLine, IsPlainValue, IsPlainReply, IsPlainRefusal, IsPlain, SameButPhase, AllSameButPhase}
+use Rattle.rv_lang.specs.Tokens.{quotes_twice}
+use Rattle.rv_model.specs.Transcript.{limit_word, strategy_word, control_word, event_words, count_words, trace_words, words_text, IsName, is_name_byte, is_capital, IsPlainEvent, IsPlainTrace, value_text, more_text, values_text, reply_text, refusal_text, entry_text, text, IsLine, IsPlainValue, IsPlainReply, IsPlainRefusal, IsPlain, SameButPhase, AllSameButPhase}
 use Rattle.rv_model.proofs.Cuts.{Stops, cut, and_parts}
 use Rattle.rv_model.proofs.Values.{numeric, decimal_pass, signed_pass, passes_more}
 use Rattle.rv_model.proofs.Replies.{reply_same}
@@ -46,20 +47,20 @@ decimal_line n small = passes_more numeric no_lf numeric_line (decimal n) (decim
 above_line : (c : ℕ) → nat_le 32 c ≡ true → no_lf c ≡ true
 above_line c h = grind (arith, nat_tests)
 
-doubled_line : (t : List ℕ) → list_all no_lf t ≡ true → list_all no_lf (doubled t) ≡ true
+doubled_line : (t : List ℕ) → list_all no_lf t ≡ true → list_all no_lf (quotes_twice t) ≡ true
 doubled_line [] h = refl
 doubled_line (c ∷ cs) h =
     let parts = and_parts (no_lf c) (list_all no_lf cs) h in
-    let tail : list_all no_lf (doubled cs) ≡ true = doubled_line cs parts.1 in
-    elim (eqb c 39) as (λ b. list_all no_lf (cond b (39 ∷ 39 ∷ doubled cs) (c ∷ doubled cs)) ≡ true) [
+    let tail : list_all no_lf (quotes_twice cs) ≡ true = doubled_line cs parts.1 in
+    elim (eqb c 39) as (λ b. list_all no_lf (cond b (39 ∷ 39 ∷ quotes_twice cs) (c ∷ quotes_twice cs)) ≡ true) [
       | true ↦ tail
-      | false ↦ both (no_lf c) (list_all no_lf (doubled cs)) parts.0 tail
+      | false ↦ both (no_lf c) (list_all no_lf (quotes_twice cs)) parts.0 tail
     ]
 
 value_line : (v : Value) → IsPlainValue v → list_all no_lf (value_text v) ≡ true
 value_line Null p = refl
 value_line (Int z) p = passes_more numeric no_lf numeric_line (signed_decimal z) (signed_pass z p)
-value_line (Str t) p = joined (doubled t) (39 ∷ []) (doubled_line t (passes_more (nat_le 32) no_lf above_line t p)) refl
+value_line (Str t) p = joined (quotes_twice t) (39 ∷ []) (doubled_line t (passes_more (nat_le 32) no_lf above_line t p)) refl
 
 more_line : (vs : List Value) → AllByRecursion IsPlainValue vs → list_all no_lf (more_text vs) ≡ true
 more_line [] p = refl
@@ -155,9 +156,9 @@ trace_lines : (shown : Shown) → IsPlainTrace shown → AreLines (trace_words s
 trace_lines shown p =
     (strategy_line shown.strategy, join_lines (flat_map event_words shown.events) (count_words shown) (all_event_lines shown.events p.events) (refl, (decimal_line shown.pages p.pages, (refl, (decimal_line shown.leaves p.leaves, (refl, (decimal_line shown.fetches p.fetches, tt)))))))
 
-spaced_line : (ws : List (List ℕ)) → AreLines ws → list_all no_lf (spaced ws) ≡ true
+spaced_line : (ws : List (List ℕ)) → AreLines ws → list_all no_lf (words_text ws) ≡ true
 spaced_line [] p = refl
-spaced_line (w ∷ ws) p = joined w (spaced ws) p.0 (spaced_line ws p.1)
+spaced_line (w ∷ ws) p = joined w (words_text ws) p.0 (spaced_line ws p.1)
 
 reply_line : (r : Reply) → IsPlainReply r → list_all no_lf (reply_text r) ≡ true
 reply_line replies.Created p = refl

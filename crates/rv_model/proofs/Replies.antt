@@ -13,7 +13,7 @@ use Rattle.rv_lang.specs.declared.reply.Refusal.TheVariants as refusals
 use Rattle.rv_lang.specs.declared.reply.Shown.{Shown}
 use Rattle.rv_lang.specs.declared.reply.Reply.{Reply}
 use Rattle.rv_lang.specs.declared.reply.Reply.TheVariants as replies
-use Rattle.rv_model.specs.Transcript.{values_text, reply_text, refusal_text, limit_word, spaced, trace_words, IsPlainValue, IsPlainReply, IsPlainRefusal, IsPlainTrace}
+use Rattle.rv_model.specs.Transcript.{values_text, reply_text, refusal_text, limit_word, words_text, trace_words, IsPlainValue, IsPlainReply, IsPlainRefusal, IsPlainTrace}
 use Rattle.rv_model.proofs.Cuts.{cut}
 use Rattle.rv_model.proofs.Values.{values_same, numeric, decimal_pass}
 use Rattle.rv_model.proofs.Traces.{trace_same, no_space}
@@ -126,7 +126,7 @@ limit_text (Some p) = limit_word p.0 ++ 32 ∷ decimal p.1
 
 abbrev trace_text : Option Shown → List ℕ
 trace_text None = []
-trace_text (Some shown) = spaced (trace_words shown)
+trace_text (Some shown) = words_text (trace_words shown)
 
 -- the bytes of the part that a reply has
 abbrev row_part : List ℕ → List ℕ

@@ -13,7 +13,7 @@ use Rattle.rv_value.specs.declared.value.Value.TheVariants.{Null, Int, Str}
 use Rattle.rv_value.specs.Order.{value_cmp, values_cmp}
 use Rattle.rv_model.proofs.Same.{values_same}
 use Rattle.rv_model.specs.declared.state.Offer.{Offer}
-use Rattle.rv_model.specs.Offers.{offer_cmp, sorted_in, sorted}
+use Rattle.rv_model.specs.Offers.{offer_cmp, with_offer, offers_in_order}
 use Rattle.rv_model.specs.OfferOrder.{offer_cmp_total}
 
 abbrev less : Offer → Offer → Bool
@@ -76,7 +76,7 @@ pair a b xs = elim (cases_Bool (less a b)) [
   ]
 ]
 
-swap_in : (a b : Offer) (xs : List Offer) → sorted_in a (sorted_in b xs) ≡ sorted_in b (sorted_in a xs)
+swap_in : (a b : Offer) (xs : List Offer) → with_offer a (with_offer b xs) ≡ with_offer b (with_offer a xs)
 swap_in a b [] = pair a b []
 swap_in a b (x ∷ xs) = elim (cases_Bool (less x b)) [
   | inl tb ↦ elim (cases_Bool (less x a)) [
@@ -99,13 +99,13 @@ rises_rest x xs up k d low within =
     rw e at (up (suc k) d (omega arith) (omega arith))
 
 -- a list in order is sorted
-rising_sorted : (xs : List Offer) → Rises xs → sorted xs ≡ xs
+rising_sorted : (xs : List Offer) → Rises xs → offers_in_order xs ≡ xs
 rising_sorted [] up = refl
 rising_sorted (x ∷ []) up = refl
 rising_sorted (x ∷ y ∷ ys) up =
-    let rest : sorted (y ∷ ys) ≡ y ∷ ys = rising_sorted (y ∷ ys) (rises_rest x (y ∷ ys) up) in
+    let rest : offers_in_order (y ∷ ys) ≡ y ∷ ys = rising_sorted (y ∷ ys) (rises_rest x (y ∷ ys) up) in
     let first : less y x ≡ false = up 0 x (omega arith) (omega arith) in
-    ap (sorted_in x) rest ∙ rw first refl
+    ap (with_offer x) rest ∙ rw first refl
 
 -- without the first that is the same
 abbrev taken : Offer → List Offer → List Offer
@@ -121,22 +121,22 @@ before_other Equal e = cc
 before_other Greater e = cc
 
 -- what was put in can be taken out
-taken_in : (o : Offer) (xs : List Offer) → taken o (sorted_in o xs) ≡ xs
+taken_in : (o : Offer) (xs : List Offer) → taken o (with_offer o xs) ≡ xs
 taken_in o [] = rw (itself o) refl
 taken_in o (x ∷ xs) = elim (cases_Bool (less x o)) [
   | inl h ↦ rw (h, before_other (offer_cmp x o) h) (ap (λ ys. x ∷ ys) (taken_in o xs))
   | inr h ↦ rw (h, itself o) refl
 ]
 
-cancelled : (o : Offer) (xs ys : List Offer) → sorted_in o xs ≡ sorted_in o ys → xs ≡ ys
+cancelled : (o : Offer) (xs ys : List Offer) → with_offer o xs ≡ with_offer o ys → xs ≡ ys
 cancelled o xs ys e = sym (taken_in o xs) ∙ ap (taken o) e ∙ taken_in o ys
 
 -- another offer in a place: the old one and the new one change sides
-set_sorted : (xs : List Offer) (i : ℕ) (y d : Offer) → i < length xs → sorted_in (slice_index_or xs i d) (sorted (slice_set xs i y)) ≡ sorted_in y (sorted xs)
+set_sorted : (xs : List Offer) (i : ℕ) (y d : Offer) → i < length xs → with_offer (slice_index_or xs i d) (offers_in_order (slice_set xs i y)) ≡ with_offer y (offers_in_order xs)
 set_sorted [] i y d h = absurd (omega arith)
-set_sorted (x ∷ xs) zero y d h = swap_in x y (sorted xs)
+set_sorted (x ∷ xs) zero y d h = swap_in x y (offers_in_order xs)
 set_sorted (x ∷ xs) (suc i) y d h =
-    swap_in (slice_index_or xs i d) x (sorted (slice_set xs i y)) ∙ ap (sorted_in x) (set_sorted xs i y d (omega arith)) ∙ swap_in x y (sorted xs)
+    swap_in (slice_index_or xs i d) x (offers_in_order (slice_set xs i y)) ∙ ap (with_offer x) (set_sorted xs i y d (omega arith)) ∙ swap_in x y (offers_in_order xs)
 
 at_same : (xs : List Offer) (i : ℕ) (y d : Offer) → i < length xs → slice_index_or (slice_set xs i y) i d ≡ y
 at_same [] i y d h = absurd (omega arith)
@@ -157,7 +157,7 @@ set_length (x ∷ xs) zero y = refl
 set_length (x ∷ xs) (suc i) y = ap (λ n. suc n) (set_length xs i y)
 
 -- what is swapped within a list is the same sorted
-swapped_sorted : (xs : List Offer) (i j : ℕ) → i < length xs → j < length xs → sorted (swap xs i j) ≡ sorted xs
+swapped_sorted : (xs : List Offer) (i j : ℕ) → i < length xs → j < length xs → offers_in_order (swap xs i j) ≡ offers_in_order xs
 swapped_sorted [] i j hi hj = refl
 swapped_sorted (d ∷ ys) i j hi hj =
     let xs = d ∷ ys in
@@ -165,15 +165,15 @@ swapped_sorted (d ∷ ys) i j hi hj =
     let y = slice_index_or xs j d in
     let m = slice_set xs i y in
     let within : j < length m = rw (set_length xs i y) hj in
-    let second : sorted_in (slice_index_or m j d) (sorted (slice_set m j x)) ≡ sorted_in x (sorted m) = set_sorted m j x d within in
-    let first : sorted_in x (sorted m) ≡ sorted_in y (sorted xs) = set_sorted xs i y d hi in
+    let second : with_offer (slice_index_or m j d) (offers_in_order (slice_set m j x)) ≡ with_offer x (offers_in_order m) = set_sorted m j x d within in
+    let first : with_offer x (offers_in_order m) ≡ with_offer y (offers_in_order xs) = set_sorted xs i y d hi in
     let there : slice_index_or m j d ≡ y = at_put xs i j d hi hj in
-    cancelled y (sorted (slice_set m j x)) (sorted xs) (ap (λ o. sorted_in o (sorted (slice_set m j x))) (sym there) ∙ second ∙ first)
+    cancelled y (offers_in_order (slice_set m j x)) (offers_in_order xs) (ap (λ o. with_offer o (offers_in_order (slice_set m j x))) (sym there) ∙ second ∙ first)
 
 -- the same offers, each as often, are the same sorted
-pub sorted_moved : (xs ys : List Offer) → IsPermutation xs ys → sorted ys ≡ sorted xs
-sorted_moved xs ys moved = IsPermutation-keeps xs (λ (l : List Offer). sorted l ≡ sorted xs) refl (λ l i j hi hj h. swapped_sorted l i j hi hj ∙ h) ys moved
+pub sorted_moved : (xs ys : List Offer) → IsPermutation xs ys → offers_in_order ys ≡ offers_in_order xs
+sorted_moved xs ys moved = IsPermutation-keeps xs (λ (l : List Offer). offers_in_order l ≡ offers_in_order xs) refl (λ l i j hi hj h. swapped_sorted l i j hi hj ∙ h) ys moved
 
 -- A list in order with the offers of another, each as often, is the other sorted.
-pub sorted_is : (xs ys : List Offer) → IsPermutation xs ys → IsSorted offer_cmp ys → ys ≡ sorted xs
+pub sorted_is : (xs ys : List Offer) → IsPermutation xs ys → IsSorted offer_cmp ys → ys ≡ offers_in_order xs
 sorted_is xs ys moved up = sym (rising_sorted ys up) ∙ sorted_moved xs ys moved

@@ -12,7 +12,7 @@ use Rattle.rv_judge.specs.declared.events.Control.TheVariants as controls
 use Rattle.rv_lang.specs.declared.reply.ShownEvent.{ShownEvent}
 use Rattle.rv_lang.specs.declared.reply.ShownEvent.TheVariants as events
 use Rattle.rv_lang.specs.declared.reply.Shown.{Shown}
-use Rattle.rv_model.specs.Transcript.{strategy_word, control_word, event_words, count_words, trace_words, spaced, IsName, is_name_byte, is_capital, IsPlainEvent, IsPlainTrace}
+use Rattle.rv_model.specs.Transcript.{strategy_word, control_word, event_words, count_words, trace_words, words_text, IsName, is_name_byte, is_capital, IsPlainEvent, IsPlainTrace}
 use Rattle.rv_model.proofs.Cuts.{Stops, cut, and_parts}
 use Rattle.rv_model.proofs.Values.{numeric, decimal_pass, passes_more}
 
@@ -23,17 +23,17 @@ no_space c = not (eqb c 32)
 abbrev pub AreWords : List (List ℕ) → Type 0
 AreWords = AllByRecursion (λ (w : List ℕ). list_all no_space w ≡ true)
 
-spaced_stops : (ws : List (List ℕ)) → Stops no_space (spaced ws)
+spaced_stops : (ws : List (List ℕ)) → Stops no_space (words_text ws)
 spaced_stops [] = tt
 spaced_stops (w ∷ ws) = refl
 
-spaced_same : (ws vs : List (List ℕ)) → AreWords ws → AreWords vs → spaced ws ≡ spaced vs → ws ≡ vs
+spaced_same : (ws vs : List (List ℕ)) → AreWords ws → AreWords vs → words_text ws ≡ words_text vs → ws ≡ vs
 spaced_same [] [] a b e = refl
 spaced_same [] (v ∷ vs) a b e = cc
 spaced_same (w ∷ ws) [] a b e = cc
 spaced_same (w ∷ ws) (v ∷ vs) a b e =
-    let f : w ++ spaced ws ≡ v ++ spaced vs = cc in
-    let r = cut no_space w v (spaced ws) (spaced vs) a.0 b.0 (spaced_stops ws) (spaced_stops vs) f in
+    let f : w ++ words_text ws ≡ v ++ words_text vs = cc in
+    let r = cut no_space w v (words_text ws) (words_text vs) a.0 b.0 (spaced_stops ws) (spaced_stops vs) f in
     let first : w ≡ v = r.0 in
     let others : ws ≡ vs = spaced_same ws vs a.1 b.1 r.1 in
     cc
@@ -170,7 +170,7 @@ strategy_back strategies.FastFirst = refl
 strategy_back strategies.Sorted = refl
 strategy_back strategies.IndexOnly = refl
 
-pub trace_same : (a b : Shown) → IsPlainTrace a → IsPlainTrace b → spaced (trace_words a) ≡ spaced (trace_words b) → a ≡ b
+pub trace_same : (a b : Shown) → IsPlainTrace a → IsPlainTrace b → words_text (trace_words a) ≡ words_text (trace_words b) → a ≡ b
 trace_same a b pa pb e =
     let words : trace_words a ≡ trace_words b = spaced_same (trace_words a) (trace_words b) (trace_are_words a pa) (trace_are_words b pb) e in
     let heads : strategy_word a.strategy ≡ strategy_word b.strategy = cc in

@@ -10,7 +10,8 @@ use Rattle.std.proofs.lemmas.List.Folds.{list_all-append}
 use Rattle.std.specs.Int.Signed.{mag}
 use Rattle.rv_value.specs.declared.value.Value.{Value}
 use Rattle.rv_value.specs.declared.value.Value.TheVariants.{Null, Int, Str}
-use Rattle.rv_model.specs.Transcript.{doubled, value_text, more_text, values_text, IsPlainValue}
+use Rattle.rv_lang.specs.Tokens.{quotes_twice}
+use Rattle.rv_model.specs.Transcript.{value_text, more_text, values_text, IsPlainValue}
 use Rattle.rv_model.proofs.Cuts.{Stops, cut, and_parts}
 
 both : (a b : Bool) → a ≡ true → b ≡ true → (a && b) ≡ true
@@ -66,37 +67,37 @@ ends_not : (x z : List ℕ) → Ends x → x ≡ 39 ∷ z → ⊥
 ends_not [] z h e = cc
 ends_not (c ∷ cs) z h e = let same : c ≡ 39 = cc in omega (arith, h)
 
-doubled_head : (c : ℕ) (a : List ℕ) → ((c ≡ 39) × (doubled (c ∷ a) ≡ 39 ∷ 39 ∷ doubled a)) ⊎ ((c ≢ 39) × (doubled (c ∷ a) ≡ c ∷ doubled a))
+doubled_head : (c : ℕ) (a : List ℕ) → ((c ≡ 39) × (quotes_twice (c ∷ a) ≡ 39 ∷ 39 ∷ quotes_twice a)) ⊎ ((c ≢ 39) × (quotes_twice (c ∷ a) ≡ c ∷ quotes_twice a))
 doubled_head c a = elim (eqb_tells c 39) [ inl h ↦ inl (h.1, rw h.0 refl) | inr h ↦ inr (h.1, rw h.0 refl) ]
 
-doubled_cut : (a b x y : List ℕ) → Ends x → Ends y → doubled a ++ 39 ∷ x ≡ doubled b ++ 39 ∷ y → (a ≡ b) × (x ≡ y)
+doubled_cut : (a b x y : List ℕ) → Ends x → Ends y → quotes_twice a ++ 39 ∷ x ≡ quotes_twice b ++ 39 ∷ y → (a ≡ b) × (x ≡ y)
 doubled_cut [] [] x y ex ey e = (refl, cc)
 doubled_cut [] (d ∷ b) x y ex ey e =
     elim (doubled_head d b) [
-      | inl h ↦ let f : 39 ∷ x ≡ 39 ∷ 39 ∷ doubled b ++ 39 ∷ y = rw h.1 at e in absurd (ends_not x (doubled b ++ 39 ∷ y) ex cc)
-      | inr h ↦ let f : 39 ∷ x ≡ d ∷ doubled b ++ 39 ∷ y = rw h.1 at e in let same : 39 ≡ d = cc in absurd (h.0 (sym same))
+      | inl h ↦ let f : 39 ∷ x ≡ 39 ∷ 39 ∷ quotes_twice b ++ 39 ∷ y = rw h.1 at e in absurd (ends_not x (quotes_twice b ++ 39 ∷ y) ex cc)
+      | inr h ↦ let f : 39 ∷ x ≡ d ∷ quotes_twice b ++ 39 ∷ y = rw h.1 at e in let same : 39 ≡ d = cc in absurd (h.0 (sym same))
     ]
 doubled_cut (c ∷ a) [] x y ex ey e =
     elim (doubled_head c a) [
-      | inl h ↦ let f : 39 ∷ 39 ∷ doubled a ++ 39 ∷ x ≡ 39 ∷ y = rw h.1 at e in absurd (ends_not y (doubled a ++ 39 ∷ x) ey cc)
-      | inr h ↦ let f : c ∷ doubled a ++ 39 ∷ x ≡ 39 ∷ y = rw h.1 at e in let same : c ≡ 39 = cc in absurd (h.0 same)
+      | inl h ↦ let f : 39 ∷ 39 ∷ quotes_twice a ++ 39 ∷ x ≡ 39 ∷ y = rw h.1 at e in absurd (ends_not y (quotes_twice a ++ 39 ∷ x) ey cc)
+      | inr h ↦ let f : c ∷ quotes_twice a ++ 39 ∷ x ≡ 39 ∷ y = rw h.1 at e in let same : c ≡ 39 = cc in absurd (h.0 same)
     ]
 doubled_cut (c ∷ a) (d ∷ b) x y ex ey e =
     elim (doubled_head c a) [
       | inl h ↦ elim (doubled_head d b) [
-        | inl k ↦ let f : 39 ∷ 39 ∷ doubled a ++ 39 ∷ x ≡ 39 ∷ 39 ∷ doubled b ++ 39 ∷ y = rw (h.1, k.1) at e in
+        | inl k ↦ let f : 39 ∷ 39 ∷ quotes_twice a ++ 39 ∷ x ≡ 39 ∷ 39 ∷ quotes_twice b ++ 39 ∷ y = rw (h.1, k.1) at e in
             let r = doubled_cut a b x y ex ey cc in (cc (h.0, k.0, r.0), r.1)
-        | inr k ↦ let f : 39 ∷ 39 ∷ doubled a ++ 39 ∷ x ≡ d ∷ doubled b ++ 39 ∷ y = rw (h.1, k.1) at e in let same : 39 ≡ d = cc in absurd (k.0 (sym same))
+        | inr k ↦ let f : 39 ∷ 39 ∷ quotes_twice a ++ 39 ∷ x ≡ d ∷ quotes_twice b ++ 39 ∷ y = rw (h.1, k.1) at e in let same : 39 ≡ d = cc in absurd (k.0 (sym same))
       ]
       | inr h ↦ elim (doubled_head d b) [
-        | inl k ↦ let f : c ∷ doubled a ++ 39 ∷ x ≡ 39 ∷ 39 ∷ doubled b ++ 39 ∷ y = rw (h.1, k.1) at e in let same : c ≡ 39 = cc in absurd (h.0 same)
-        | inr k ↦ let f : c ∷ doubled a ++ 39 ∷ x ≡ d ∷ doubled b ++ 39 ∷ y = rw (h.1, k.1) at e in
+        | inl k ↦ let f : c ∷ quotes_twice a ++ 39 ∷ x ≡ 39 ∷ 39 ∷ quotes_twice b ++ 39 ∷ y = rw (h.1, k.1) at e in let same : c ≡ 39 = cc in absurd (h.0 same)
+        | inr k ↦ let f : c ∷ quotes_twice a ++ 39 ∷ x ≡ d ∷ quotes_twice b ++ 39 ∷ y = rw (h.1, k.1) at e in
             let r = doubled_cut a b x y ex ey cc in let same : c ≡ d = cc in (cc (same, r.0), r.1)
       ]
     ]
 
-regroup : (t x : List ℕ) → (39 ∷ doubled t ++ 39 ∷ []) ++ x ≡ 39 ∷ (doubled t ++ 39 ∷ x)
-regroup t x = ap (λ (u : List ℕ). 39 ∷ u) (append_assoc (doubled t) (39 ∷ []) x)
+regroup : (t x : List ℕ) → (39 ∷ quotes_twice t ++ 39 ∷ []) ++ x ≡ 39 ∷ (quotes_twice t ++ 39 ∷ x)
+regroup t x = ap (λ (u : List ℕ). 39 ∷ u) (append_assoc (quotes_twice t) (39 ∷ []) x)
 
 first_passes : (p : ℕ → Bool) (ds x y : List ℕ) (c : ℕ) → list_all p ds ≡ true → p c ≡ false → 0 < length ds → ds ++ x ≡ c ∷ y → ⊥
 first_passes p [] x y c all fails some e = omega arith
@@ -116,18 +117,18 @@ int_cut z u x y pv pw ex ey e =
     let r = cut numeric (signed_decimal z) (signed_decimal u) x y (signed_pass z pv) (signed_pass u pw) (ends_stop numeric refl x ex) (ends_stop numeric refl y ey) e in
     (signed_decimal_injective z u pv pw r.0, r.1)
 
-str_cut : (t u x y : List ℕ) → Ends x → Ends y → (39 ∷ doubled t ++ 39 ∷ []) ++ x ≡ (39 ∷ doubled u ++ 39 ∷ []) ++ y → (t ≡ u) × (x ≡ y)
+str_cut : (t u x y : List ℕ) → Ends x → Ends y → (39 ∷ quotes_twice t ++ 39 ∷ []) ++ x ≡ (39 ∷ quotes_twice u ++ 39 ∷ []) ++ y → (t ≡ u) × (x ≡ y)
 str_cut t u x y ex ey e =
-    let f : 39 ∷ (doubled t ++ 39 ∷ x) ≡ 39 ∷ (doubled u ++ 39 ∷ y) = sym (regroup t x) ∙ e ∙ regroup u y in
+    let f : 39 ∷ (quotes_twice t ++ 39 ∷ x) ≡ 39 ∷ (quotes_twice u ++ 39 ∷ y) = sym (regroup t x) ∙ e ∙ regroup u y in
     doubled_cut t u x y ex ey cc
 
 int_null : (z : ℤ) (x y : List ℕ) → mag z < 2 ^ 63 → signed_decimal z ++ x ≡ codes "NULL" ++ y → ⊥
 int_null z x y small e = not_numeric_is z x (85 ∷ 76 ∷ 76 ∷ y) 78 small refl e
 
-int_str : (z : ℤ) (t x y : List ℕ) → mag z < 2 ^ 63 → signed_decimal z ++ x ≡ (39 ∷ doubled t ++ 39 ∷ []) ++ y → ⊥
-int_str z t x y small e = not_numeric_is z x ((doubled t ++ 39 ∷ []) ++ y) 39 small refl e
+int_str : (z : ℤ) (t x y : List ℕ) → mag z < 2 ^ 63 → signed_decimal z ++ x ≡ (39 ∷ quotes_twice t ++ 39 ∷ []) ++ y → ⊥
+int_str z t x y small e = not_numeric_is z x ((quotes_twice t ++ 39 ∷ []) ++ y) 39 small refl e
 
-null_str : (t x y : List ℕ) → codes "NULL" ++ x ≡ (39 ∷ doubled t ++ 39 ∷ []) ++ y → ⊥
+null_str : (t x y : List ℕ) → codes "NULL" ++ x ≡ (39 ∷ quotes_twice t ++ 39 ∷ []) ++ y → ⊥
 null_str t x y e = cc
 
 null_null : (x y : List ℕ) → codes "NULL" ++ x ≡ codes "NULL" ++ y → x ≡ y

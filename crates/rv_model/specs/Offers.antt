@@ -16,14 +16,14 @@ abbrev pub offer_cmp : Offer → Offer → Ordering
 offer_cmp a b = ordering_then (values_cmp a.order b.order) (values_cmp a.returned b.returned)
 
 -- a sorted list with one more offer
-abbrev pub sorted_in : Offer → List Offer → List Offer
-sorted_in o [] = o ∷ []
-sorted_in o (x ∷ xs) = if is_lt (offer_cmp x o) then x ∷ sorted_in o xs else o ∷ x ∷ xs
+abbrev pub with_offer : Offer → List Offer → List Offer
+with_offer o [] = o ∷ []
+with_offer o (x ∷ xs) = if is_lt (offer_cmp x o) then x ∷ with_offer o xs else o ∷ x ∷ xs
 
 -- the same offers, each as often, in order
-abbrev pub sorted : List Offer → List Offer
-sorted [] = []
-sorted (o ∷ os) = sorted_in o (sorted os)
+abbrev pub offers_in_order : List Offer → List Offer
+offers_in_order [] = []
+offers_in_order (o ∷ os) = with_offer o (offers_in_order os)
 
 abbrev pub same_values : List Value → List Value → Bool
 same_values a b = is_eq (values_cmp a b)

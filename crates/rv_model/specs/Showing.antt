@@ -15,19 +15,19 @@ abbrev pub numbers_over : ℕ → ℕ → List IndexDef → List ℕ
 numbers_over table number [] = []
 numbers_over table number (d ∷ ds) = if d.table == table then number ∷ numbers_over table (number + 1) ds else numbers_over table (number + 1) ds
 
-abbrev pub named : List IndexDef → Event → ShownEvent
-named indexes (events.At control) = told.At control
-named indexes (events.Scan i) = told.Scan (index_at indexes i).name
-named indexes (events.List i keys) = told.List (index_at indexes i).name keys
-named indexes (events.Drop i) = told.Drop (index_at indexes i).name
-named indexes events.Full = told.Full
-named indexes events.Stop = told.Stop
+abbrev pub shown_event : List IndexDef → Event → ShownEvent
+shown_event indexes (events.At control) = told.At control
+shown_event indexes (events.Scan i) = told.Scan (index_at indexes i).name
+shown_event indexes (events.List i keys) = told.List (index_at indexes i).name keys
+shown_event indexes (events.Drop i) = told.Drop (index_at indexes i).name
+shown_event indexes events.Full = told.Full
+shown_event indexes events.Stop = told.Stop
 
-abbrev pub trace_named : List IndexDef → Trace → Shown
-trace_named indexes t = record { strategy = t.strategy; events = map (named indexes) t.events.items; pages = t.pages; leaves = t.leaves; fetches = t.fetches }
+abbrev pub shown_trace : List IndexDef → Trace → Shown
+shown_trace indexes t = record { strategy = t.strategy; events = map (shown_event indexes) t.events.items; pages = t.pages; leaves = t.leaves; fetches = t.fetches }
 
 -- a trace that the course allows for the indexes over a table
 pub record ShowsTrace (indexes : List IndexDef) (table : ℕ) (shown : Shown) : Type 0 where
   pub trace : Trace
   pub allowed : Allowed trace (numbers_over table 0 indexes)
-  pub names : shown ≡ trace_named indexes trace
+  pub names : shown ≡ shown_trace indexes trace

@@ -4,7 +4,7 @@ use Rattle.std.specs.List.{slice_index_or, range_with_len}
 use Rattle.rv_value.specs.declared.value.Value.{Value}
 use Rattle.rv_value.specs.declared.record.Record.{Record}
 use Rattle.rv_rows.specs.declared.changes.Change.{Change}
-use Rattle.rv_rows.specs.Changes.{applied, touches}
+use Rattle.rv_rows.specs.Changes.{rows_with_changes, touches}
 use Rattle.rv_lang.specs.declared.statement.Statement.{Statement}
 use Rattle.rv_lang.specs.declared.reply.Which.TheVariants.{Tables, Indexes, Cursors}
 use Rattle.rv_lang.specs.declared.reply.Refusal.{Refusal}
@@ -29,7 +29,7 @@ use Rattle.rv_model.specs.declared.transactions.Transactions.{Transactions}
 use Rattle.rv_model.specs.Transactions as transactions
 use Rattle.rv_model.specs.Transactions.{transaction_of, transaction_at, refuse_at}
 use Rattle.rv_model.specs.Database.{cursor_named, cursor_at, rows_at, base_rows}
-use Rattle.rv_model.specs.Offers.{place_of, sorted, without}
+use Rattle.rv_model.specs.Offers.{offers_in_order, place_of, without}
 use Rattle.rv_model.specs.Offering.{offers_over}
 use Rattle.rv_model.specs.Showing.{ShowsTrace}
 
@@ -82,7 +82,7 @@ changed s session table sets only = do
 
 -- each table's rows with the changes of them applied
 abbrev pub tables_changed : List Change → List (List Record) → List (List Record)
-tables_changed changes rows = map (λ table. applied table changes (rows_at rows table)) (range_with_len 0 (length rows))
+tables_changed changes rows = map (λ table. rows_with_changes table changes (rows_at rows table)) (range_with_len 0 (length rows))
 
 -- the cursors of the other sessions
 abbrev pub other_cursors : List Cursor → ℕ → List Cursor
@@ -142,7 +142,7 @@ opening defs active cursors session name tables = do
 abbrev pub opened : State → ℕ → List ℕ → Select → Outcome
 opened s session cursor select = do
   own ← opening s.schema.tables s.transactions.active s.cursors session cursor select.tables
-  Ok (Opened, record s { cursors = s.cursors ++ record { session = session; name = cursor; table = table_of select; offers = sorted (offers_over select (base_rows s own)) } ∷ [] })
+  Ok (Opened, record s { cursors = s.cursors ++ record { session = session; name = cursor; table = table_of select; offers = offers_in_order (offers_over select (base_rows s own)) } ∷ [] })
 
 -- A reply that a cursor with these offers may give: the values of some offer whose order values equal the first offer's,
 -- and End exactly where there is no offer.

@@ -5,7 +5,7 @@ use Rattle.rv_value.specs.declared.value.Value.{Value}
 use Rattle.rv_value.specs.declared.record.Record.{Record}
 use Rattle.rv_value.specs.declared.record.RowNo.{RowNo}
 use Rattle.rv_rows.specs.declared.changes.Change.{Change}
-use Rattle.rv_rows.specs.Changes.{applied, has_change, with_change, with_changes}
+use Rattle.rv_rows.specs.Changes.{has_change, rows_with_changes, with_change, with_changes}
 use Rattle.rv_lang.specs.declared.reply.Which.TheVariants.{Rows, Pending}
 use Rattle.rv_lang.specs.declared.reply.Refusal.{Refusal}
 use Rattle.rv_lang.specs.declared.reply.Refusal.TheVariants.{Active, NoTransaction, ReadOnly, Changed, Held, Limit}
@@ -52,16 +52,16 @@ abbrev pub touched_by : List (List ℕ) → ℕ → ℕ → ℕ
 touched_by touched table row = slice_index_or (touched_in touched table) row 0
 
 -- so many tables of which no row number was taken
-abbrev pub untouched : ℕ → List (List ℕ)
-untouched zero = []
-untouched (suc n) = [] ∷ untouched n
+abbrev pub empty_lists : ℕ → List (List ℕ)
+empty_lists zero = []
+empty_lists (suc n) = [] ∷ empty_lists n
 
 -- the next row number of a table is taken
 abbrev pub with_number : List (List ℕ) → ℕ → List (List ℕ)
 with_number touched table =
     if nat_lt table (length touched)
     then slice_set touched table (touched_in touched table ++ 0 ∷ [])
-    else touched ++ untouched (table - length touched) ++ (0 ∷ []) ∷ []
+    else touched ++ empty_lists (table - length touched) ++ (0 ∷ []) ∷ []
 
 -- with other changes of the transaction in a place
 abbrev pub with_own : List Transaction → ℕ → List Change → List Transaction
@@ -91,7 +91,7 @@ inserted t session table values = do
 
 -- the rows of a table that a transaction sees: those at its base with its own changes
 abbrev pub seen : Transaction → ℕ → (ℕ → List Record) → List Record
-seen t table rows = applied table t.changes (rows t.base)
+seen t table rows = rows_with_changes table t.changes (rows t.base)
 
 -- those of them for which a restriction is True
 abbrev pub met : Transaction → ℕ → List (List Atom) → (ℕ → List Record) → List Record

@@ -9,6 +9,7 @@ use Rattle.rv_judge.specs.declared.events.Strategy.{Strategy}
 use Rattle.rv_judge.specs.declared.events.Strategy.TheVariants as strategies
 use Rattle.rv_judge.specs.declared.events.Control.{Control}
 use Rattle.rv_judge.specs.declared.events.Control.TheVariants as controls
+use Rattle.rv_lang.specs.Tokens.{quotes_twice}
 use Rattle.rv_lang.specs.declared.reply.Which.{Which}
 use Rattle.rv_lang.specs.declared.reply.Which.TheVariants as limits
 use Rattle.rv_lang.specs.declared.reply.Refusal.{Refusal}
@@ -20,16 +21,11 @@ use Rattle.rv_lang.specs.declared.reply.Reply.{Reply}
 use Rattle.rv_lang.specs.declared.reply.Reply.TheVariants as replies
 use Rattle.rv_model.specs.declared.entry.Entry.{Entry}
 
--- each quote twice
-abbrev pub doubled : List ℕ → List ℕ
-doubled [] = []
-doubled (c ∷ cs) = if c == 39 then 39 ∷ 39 ∷ doubled cs else c ∷ doubled cs
-
 -- NULL, decimal digits with a sign where negative, or a text in quotes
 abbrev pub value_text : Value → List ℕ
 value_text Null = codes "NULL"
 value_text (Int z) = signed_decimal z
-value_text (Str t) = 39 ∷ doubled t ++ 39 ∷ []
+value_text (Str t) = 39 ∷ quotes_twice t ++ 39 ∷ []
 
 -- the values after the first
 abbrev pub more_text : List Value → List ℕ
@@ -106,8 +102,8 @@ abbrev pub trace_words : Shown → List (List ℕ)
 trace_words shown = strategy_word shown.strategy ∷ (flat_map event_words shown.events ++ count_words shown)
 
 -- each word behind a space
-abbrev pub spaced : List (List ℕ) → List ℕ
-spaced words = flat_map (λ (word : List ℕ). 32 ∷ word) words
+abbrev pub words_text : List (List ℕ) → List ℕ
+words_text words = flat_map (λ (word : List ℕ). 32 ∷ word) words
 
 abbrev pub reply_text : Reply → List ℕ
 reply_text replies.Created = codes "created"
@@ -121,7 +117,7 @@ reply_text (replies.Row values) = codes "row " ++ values_text values
 reply_text replies.End = codes "end"
 reply_text replies.Closed = codes "closed"
 reply_text (replies.Stepped n) = codes "stepped " ++ decimal n
-reply_text (replies.Trace shown) = codes "trace" ++ spaced (trace_words shown)
+reply_text (replies.Trace shown) = codes "trace" ++ words_text (trace_words shown)
 reply_text (replies.Refused refusal) = refusal_text refusal
 
 -- the session's number, a space and the text as given; then "= " and the reply's text; each line ends with LF

@@ -10,7 +10,7 @@ use Rattle.rv_value.specs.declared.record.Record.{Record}
 use Rattle.rv_value.specs.declared.record.IndexEntry.{IndexEntry}
 use Rattle.rv_value.specs.Entries.{entry_cmp}
 use Rattle.rv_rows.specs.declared.changes.Change.{Change}
-use Rattle.rv_rows.specs.Changes.{applied}
+use Rattle.rv_rows.specs.Changes.{rows_with_changes}
 use Rattle.rv_rows.specs.Rows.{comes_below, with_values, without_row}
 use Rattle.rv_rows.specs.Rows as rows_by_number
 use Rattle.rv_rows.proofs.Filters.{both}
@@ -108,24 +108,24 @@ with_within table pages c rows t all = by c.values refl
         (all_kept (λ (r : Record). r.row.0 < 32 * max pages (c.row.0 / 32 + 1)) (λ (r : Record). comes_below r new) rows more)
         (omega arith, all_kept (λ (r : Record). r.row.0 < 32 * max pages (c.row.0 / 32 + 1)) (λ (r : Record). comes_below new r) rows more))
 
-applied_within : (table pages : ℕ) (cs : List Change) (rows : List Record) → AllByRecursion (λ (r : Record). r.row.0 < 32 * pages) rows → AllByRecursion (λ (r : Record). r.row.0 < 32 * pages_after table cs pages) (applied table cs rows)
+applied_within : (table pages : ℕ) (cs : List Change) (rows : List Record) → AllByRecursion (λ (r : Record). r.row.0 < 32 * pages) rows → AllByRecursion (λ (r : Record). r.row.0 < 32 * pages_after table cs pages) (rows_with_changes table cs rows)
 applied_within table pages [] rows all = all
 applied_within table pages (c ∷ cs) rows all = elim (cases_Bool (c.table == table)) [
-  | inl t ↦ subst (λ b. AllByRecursion (λ (r : Record). r.row.0 < 32 * pages_after table cs (pages_with table c pages)) (applied table cs (cond b (with_values c.row.0 c.values rows) rows))) (sym t) (applied_within table (pages_with table c pages) cs (with_values c.row.0 c.values rows) (with_within table pages c rows t all))
+  | inl t ↦ subst (λ b. AllByRecursion (λ (r : Record). r.row.0 < 32 * pages_after table cs (pages_with table c pages)) (rows_with_changes table cs (cond b (with_values c.row.0 c.values rows) rows))) (sym t) (applied_within table (pages_with table c pages) cs (with_values c.row.0 c.values rows) (with_within table pages c rows t all))
   | inr f ↦
       let same : pages_with table c pages ≡ pages = ap (λ b. cond (b && is_some c.values) (max pages (c.row.0 / 32 + 1)) pages) f in
-      subst (λ b. AllByRecursion (λ (r : Record). r.row.0 < 32 * pages_after table cs (pages_with table c pages)) (applied table cs (cond b (with_values c.row.0 c.values rows) rows))) (sym f)
-      (subst (λ n. AllByRecursion (λ (r : Record). r.row.0 < 32 * pages_after table cs n) (applied table cs rows)) (sym same) (applied_within table pages cs rows all))
+      subst (λ b. AllByRecursion (λ (r : Record). r.row.0 < 32 * pages_after table cs (pages_with table c pages)) (rows_with_changes table cs (cond b (with_values c.row.0 c.values rows) rows))) (sym f)
+      (subst (λ n. AllByRecursion (λ (r : Record). r.row.0 < 32 * pages_after table cs n) (rows_with_changes table cs rows)) (sym same) (applied_within table pages cs rows all))
 ]
 
-pub applied_fits : (table pages : ℕ) (changes : List Change) (rows : List Record) → IsTable rows pages → IsTable (applied table changes rows) (pages_after table changes pages)
+pub applied_fits : (table pages : ℕ) (changes : List Change) (rows : List Record) → IsTable rows pages → IsTable (rows_with_changes table changes rows) (pages_after table changes pages)
 applied_fits table pages changes rows stands = record {
   ascend = applied_ascends table changes rows stands.ascend;
   within = applied_within table pages changes rows stands.within;
 }
 
 size_fits : (rows : List Record) (pages table : ℕ) (changes : List Change) (size : Option TableSize)
-    → IfSome size (KeepsSize rows pages table changes) → IfSome size (IsSizeOf (applied table changes rows) (pages_after table changes pages))
+    → IfSome size (KeepsSize rows pages table changes) → IfSome size (IsSizeOf (rows_with_changes table changes rows) (pages_after table changes pages))
 size_fits rows pages table changes None keeps = tt
 size_fits rows pages table changes (Some s) keeps = record {
   rows_told = keeps.rows_told;

@@ -6,7 +6,7 @@ use Rattle.std.specs.List.{list_all}
 use Rattle.rv_value.specs.declared.value.Value.{Value}
 use Rattle.rv_value.specs.declared.record.Record.{Record}
 use Rattle.rv_rows.specs.declared.changes.Change.{Change}
-use Rattle.rv_rows.specs.Changes.{Rise, applied, is_before, is_of, touches}
+use Rattle.rv_rows.specs.Changes.{Rise, is_before, is_of, rows_with_changes, touches}
 use Rattle.rv_rows.specs.Rows.{Ascend, comes_below, with_values, without_row}
 use Rattle.rv_rows.proofs.Chains.{record_ascends, ascends_without}
 use Rattle.rv_rows.specs.Merging.{Passes}
@@ -77,33 +77,33 @@ module _ (q : ℕ → Bool) where
       ]
 
   -- a change of the table, or of another one, before those that are kept
-  step_here : (table : ℕ) (c : Change) (ds : List Change) (rows : List Record) (b : Bool) → c.table == table ≡ true → applied table ds (cond b (with_values c.row.0 c.values rows) rows) ≡ applied table (cond b (c ∷ ds) ds) rows
-  step_here table c ds rows true t = ap (λ (b : Bool). applied table ds (cond b (with_values c.row.0 c.values rows) rows)) (sym t)
+  step_here : (table : ℕ) (c : Change) (ds : List Change) (rows : List Record) (b : Bool) → c.table == table ≡ true → rows_with_changes table ds (cond b (with_values c.row.0 c.values rows) rows) ≡ rows_with_changes table (cond b (c ∷ ds) ds) rows
+  step_here table c ds rows true t = ap (λ (b : Bool). rows_with_changes table ds (cond b (with_values c.row.0 c.values rows) rows)) (sym t)
   step_here table c ds rows false t = refl
 
-  pub step_other : (table : ℕ) (c : Change) (ds : List Change) (rows : List Record) (b : Bool) → c.table == table ≡ false → applied table ds rows ≡ applied table (cond b (c ∷ ds) ds) rows
-  step_other table c ds rows true f = ap (λ (b : Bool). applied table ds (cond b (with_values c.row.0 c.values rows) rows)) (sym f)
+  pub step_other : (table : ℕ) (c : Change) (ds : List Change) (rows : List Record) (b : Bool) → c.table == table ≡ false → rows_with_changes table ds rows ≡ rows_with_changes table (cond b (c ∷ ds) ds) rows
+  step_other table c ds rows true f = ap (λ (b : Bool). rows_with_changes table ds (cond b (with_values c.row.0 c.values rows) rows)) (sym f)
   step_other table c ds rows false f = refl
 
-  pub kept_applied : (table : ℕ) (cs : List Change) (rows : List Record) → Ascend rows → filter (λ (r : Record). q r.row.0) (applied table cs rows) ≡ applied table (filter (λ (c : Change). q c.row.0) cs) (filter (λ (r : Record). q r.row.0) rows)
+  pub kept_applied : (table : ℕ) (cs : List Change) (rows : List Record) → Ascend rows → filter (λ (r : Record). q r.row.0) (rows_with_changes table cs rows) ≡ rows_with_changes table (filter (λ (c : Change). q c.row.0) cs) (filter (λ (r : Record). q r.row.0) rows)
   kept_applied table [] rows ascend = refl
   kept_applied table (c ∷ cs) rows ascend = elim (cases_Bool (c.table == table)) [
     | inl t ↦
-        ap (λ (b : Bool). filter (λ (r : Record). q r.row.0) (applied table cs (cond b (with_values c.row.0 c.values rows) rows))) t
+        ap (λ (b : Bool). filter (λ (r : Record). q r.row.0) (rows_with_changes table cs (cond b (with_values c.row.0 c.values rows) rows))) t
         ∙ kept_applied table cs (with_values c.row.0 c.values rows) (ascend_with c.row.0 c.values rows ascend)
-        ∙ ap (applied table (filter (λ (d : Change). q d.row.0) cs)) (kept_with c.row.0 c.values rows ascend)
+        ∙ ap (rows_with_changes table (filter (λ (d : Change). q d.row.0) cs)) (kept_with c.row.0 c.values rows ascend)
         ∙ step_here table c (filter (λ (d : Change). q d.row.0) cs) (filter (λ (r : Record). q r.row.0) rows) (q c.row.0) t
     | inr f ↦
-        ap (λ (b : Bool). filter (λ (r : Record). q r.row.0) (applied table cs (cond b (with_values c.row.0 c.values rows) rows))) f
+        ap (λ (b : Bool). filter (λ (r : Record). q r.row.0) (rows_with_changes table cs (cond b (with_values c.row.0 c.values rows) rows))) f
         ∙ kept_applied table cs rows ascend
         ∙ step_other table c (filter (λ (d : Change). q d.row.0) cs) (filter (λ (r : Record). q r.row.0) rows) (q c.row.0) f
   ]
 
-pub page_applied : (table page : ℕ) (cs : List Change) (rows : List Record) → Ascend rows → filter (λ (r : Record). r.row.0 / 32 == page) (applied table cs rows) ≡ applied table (on_page page cs) (filter (λ (r : Record). r.row.0 / 32 == page) rows)
+pub page_applied : (table page : ℕ) (cs : List Change) (rows : List Record) → Ascend rows → filter (λ (r : Record). r.row.0 / 32 == page) (rows_with_changes table cs rows) ≡ rows_with_changes table (on_page page cs) (filter (λ (r : Record). r.row.0 / 32 == page) rows)
 page_applied table page cs rows ascend = kept_applied (λ n. n / 32 == page) table cs rows ascend
 
 -- the changes of the rows of a page of the table do what those of the rows of a page do
-pub on_applied : (table page : ℕ) (cs : List Change) (rows : List Record) → applied table (on_page page (filter (is_on table page) cs)) rows ≡ applied table (on_page page cs) rows
+pub on_applied : (table page : ℕ) (cs : List Change) (rows : List Record) → rows_with_changes table (on_page page (filter (is_on table page) cs)) rows ≡ rows_with_changes table (on_page page cs) rows
 on_applied table page [] rows = refl
 on_applied table page (c ∷ cs) rows = elim (cases_Bool (c.table == table)) [
   | inl t ↦ elim (cases_Bool (c.row.0 / 32 == page)) [
@@ -190,12 +190,12 @@ none_of table number c (d ∷ ds) h all =
 found_is : (table number : ℕ) (c : Change) (cs : List Change) (found : Option Record) (b : Bool) → is_of table number c ≡ b → changed_row (cond b (Some c) (change_of table number cs)) found ≡ changed_row (change_of table number (c ∷ cs)) found
 found_is table number c cs found b e = ap (λ (x : Bool). changed_row (cond x (Some c) (change_of table number cs)) found) (sym e)
 
-pub row_applied : (table number : ℕ) (cs : List Change) (rows : List Record) → Rise cs → row_at (applied table cs rows) number ≡ changed_row (change_of table number cs) (row_at rows number)
+pub row_applied : (table number : ℕ) (cs : List Change) (rows : List Record) → Rise cs → row_at (rows_with_changes table cs rows) number ≡ changed_row (change_of table number cs) (row_at rows number)
 row_applied table number [] rows rise = refl
 row_applied table number (c ∷ cs) rows rise = elim (cases_Bool (c.table == table)) [
   | inl t ↦
       let rest = row_applied table number cs (with_values c.row.0 c.values rows) rise.1 in
-      let first = ap (λ (b : Bool). row_at (applied table cs (cond b (with_values c.row.0 c.values rows) rows)) number) t in
+      let first = ap (λ (b : Bool). row_at (rows_with_changes table cs (cond b (with_values c.row.0 c.values rows) rows)) number) t in
       elim (cases_Bool (c.row.0 == number)) [
         | inl u ↦
             let same : c.row.0 ≡ number = grind (arith, nat_tests) in
@@ -210,7 +210,7 @@ row_applied table number (c ∷ cs) rows rise = elim (cases_Bool (c.table == tab
       ]
   | inr f ↦
       let its : is_of table number c ≡ false = rw f refl in
-      ap (λ (b : Bool). row_at (applied table cs (cond b (with_values c.row.0 c.values rows) rows)) number) f ∙ row_applied table number cs rows rise.1 ∙ found_is table number c cs (row_at rows number) false its
+      ap (λ (b : Bool). row_at (rows_with_changes table cs (cond b (with_values c.row.0 c.values rows) rows)) number) f ∙ row_applied table number cs rows rise.1 ∙ found_is table number c cs (row_at rows number) false its
 ]
 
 -- One change is laid over the rows that are left.
@@ -220,12 +220,12 @@ laid_on table page c old rows new rest on here passes = record {
       let its : c.row.0 / 32 == page ≡ true = grind (arith, nat_tests) in
       let next : on_page page (c ∷ ds) ≡ c ∷ on_page page ds = ap (λ (b : Bool). cond b (c ∷ on_page page ds) (on_page page ds)) its in
       let rises : Rise (c ∷ on_page page ds) = (all_filter (is_before c) (λ (d : Change). d.row.0 / 32 == page) ds rise.0, rising_filter is_before (λ (d : Change). d.row.0 / 32 == page) ds rise.1) in
-      passes.same (on_page page ds) rises ∙ ap (λ cs. old ++ applied table cs rows) (sym next);
+      passes.same (on_page page ds) rises ∙ ap (λ cs. old ++ rows_with_changes table cs rows) (sym next);
 }
 
 pub past_page : (table page : ℕ) (c : Change) (old rows : List Record) → c.row.0 / 32 == page ≡ false → PassesOn table page c old rows old rows
 past_page table page c old rows f = record {
-  same = λ ds rise. ap (λ cs. old ++ applied table cs rows) (sym (ap (λ (b : Bool). cond b (c ∷ on_page page ds) (on_page page ds)) f));
+  same = λ ds rise. ap (λ cs. old ++ rows_with_changes table cs rows) (sym (ap (λ (b : Bool). cond b (c ∷ on_page page ds) (on_page page ds)) f));
 }
 
 pub past_table : (table page : ℕ) (c : Change) (old rows : List Record) → c.table == table ≡ false → PassesOn table page c old rows old rows
@@ -233,7 +233,7 @@ past_table table page c old rows f = record {
   same = λ ds rise. ap (λ rs. old ++ rs) (step_other (λ n. n / 32 == page) table c (on_page page ds) rows (c.row.0 / 32 == page) f);
 }
 
-pub applied_ascends : (table : ℕ) (cs : List Change) (rows : List Record) → Ascend rows → Ascend (applied table cs rows)
+pub applied_ascends : (table : ℕ) (cs : List Change) (rows : List Record) → Ascend rows → Ascend (rows_with_changes table cs rows)
 applied_ascends table [] rows ascend = ascend
 applied_ascends table (c ∷ cs) rows ascend = elim (cases_Bool (c.table == table)) [
   | inl t ↦ rw t (applied_ascends table cs (with_values c.row.0 c.values rows) (ascend_with c.row.0 c.values rows ascend))
@@ -242,11 +242,11 @@ applied_ascends table (c ∷ cs) rows ascend = elim (cases_Bool (c.table == tabl
 
 -- No change, and a table that no change touches.
 
-pub none_laid : (table n : ℕ) (cs : List Change) (rows : List Record) → length cs == 0 ≡ true → rows ≡ applied table (on_page n cs) rows
+pub none_laid : (table n : ℕ) (cs : List Change) (rows : List Record) → length cs == 0 ≡ true → rows ≡ rows_with_changes table (on_page n cs) rows
 none_laid table n [] rows h = refl
 none_laid table n (c ∷ cs) rows h = let none : length (c ∷ cs) ≡ 0 = grind (arith, nat_tests) in absurd (omega (arith, none))
 
-pub rows_untouched : (table : ℕ) (cs : List Change) (rows : List Record) → touches table cs ≡ false → applied table cs rows ≡ rows
+pub rows_untouched : (table : ℕ) (cs : List Change) (rows : List Record) → touches table cs ≡ false → rows_with_changes table cs rows ≡ rows
 rows_untouched table [] rows none = refl
 rows_untouched table (c ∷ cs) rows none = elim (cases_Bool (c.table == table)) [
   | inl t ↦ (let no = rw t at none in cc)
@@ -263,8 +263,8 @@ pages_untouched table (c ∷ cs) pages none = elim (cases_Bool (c.table == table
 -- the size of a table in the view, by what is kept of it
 pub record SizeIs (rows : List Record) (pages table : ℕ) (changes : List Change) (told_pages told_rows : ℕ) : Type 0 where
   pub pages_are : told_pages ≡ pages_after table changes pages
-  pub rows_are : told_rows ≡ length (applied table changes rows)
-  pub stands : IsTable (applied table changes rows) (pages_after table changes pages)
+  pub rows_are : told_rows ≡ length (rows_with_changes table changes rows)
+  pub stands : IsTable (rows_with_changes table changes rows) (pages_after table changes pages)
 
 pub size_other : (rows : List Record) (pages table : ℕ) (f : Frozen) (told_pages told_rows : ℕ) → LaysTable rows pages table f → size_of table f.sizes ≡ None
     → told_pages ≡ pages → told_rows ≡ length rows → IsTable rows pages → SizeIs rows pages table f.changes told_pages told_rows

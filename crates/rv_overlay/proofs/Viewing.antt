@@ -8,7 +8,7 @@ use Rattle.rv_value.specs.declared.record.Record.{Record}
 use Rattle.rv_value.specs.declared.record.IndexEntry.{IndexEntry}
 use Rattle.rv_value.specs.Entries.{entry_cmp}
 use Rattle.rv_rows.specs.declared.changes.Change.{Change}
-use Rattle.rv_rows.specs.Changes.{Rise, applied}
+use Rattle.rv_rows.specs.Changes.{Rise, rows_with_changes}
 use Rattle.rv_rows.specs.Rows as rows_by_number
 use Rattle.rv_rows.specs.Rows.{comes_below}
 use Rattle.rv_rows.proofs.Filters.{both}
@@ -91,9 +91,9 @@ one_entry columns (Some c) found e = old_new (is_entry columns found e) (is_entr
 
 pub view_is : ViewIs
 view_is columns table changes rows taken added ascend rise frozen =
-    members_tell (laid taken added (entries_of columns rows)) (entries_of columns (applied table changes rows))
+    members_tell (laid taken added (entries_of columns rows)) (entries_of columns (rows_with_changes table changes rows))
     (with_ascends added (without taken (entries_of columns rows)) (rising_filter comes_before (λ (e : IndexEntry). not (has taken e)) (entries_of columns rows) (entries_ascend columns rows ascend)))
-    (entries_ascend columns (applied table changes rows) (applied_ascends table changes rows ascend))
+    (entries_ascend columns (rows_with_changes table changes rows) (applied_ascends table changes rows ascend))
     (λ e.
     let c = change_of table e.row.0 changes in
     let found = row_at rows e.row.0 in
@@ -103,4 +103,4 @@ view_is columns table changes rows taken added ascend rise frozen =
     ∙ ap (λ b. adds columns c found e || (is_entry columns found e && not b)) (frozen.gone e)
     ∙ one_entry columns c found e
     ∙ ap (λ o. is_entry columns o e) (sym (row_applied table e.row.0 changes rows rise))
-    ∙ sym (has_entries columns (applied table changes rows) e (applied_ascends table changes rows ascend)))
+    ∙ sym (has_entries columns (rows_with_changes table changes rows) e (applied_ascends table changes rows ascend)))

@@ -3,7 +3,7 @@ use Rattle.std.specs.Prelude.{◌≡◌, ℕ, ◌+◌, ◌<◌, ◌≤◌, ◌^�
 use Rattle.rv_value.specs.declared.record.Record.{Record}
 use Rattle.rv_value.specs.declared.record.IndexEntry.{IndexEntry}
 use Rattle.rv_rows.specs.declared.changes.Change.{Change}
-use Rattle.rv_rows.specs.Changes.{applied, touches}
+use Rattle.rv_rows.specs.Changes.{rows_with_changes, touches}
 use Rattle.rv_rows.specs.Rows as rows_by_number
 use Rattle.rv_reader.specs.Entries.{Ascend, entries_of}
 use Rattle.rv_reader.specs.Leaves.{leaf_from, leaf_entries}
@@ -39,7 +39,7 @@ IndexFits = (columns : List ℕ) (table : ℕ) (changes : List Change) (rows : L
 -- a changed table of a reader at the base, and what is kept of its size beside changes
 pub record KeepsSize (rows : List Record) (pages table : ℕ) (changes : List Change) (s : TableSize) : Type 0 where
   pub stands : IsTable rows pages
-  pub rows_told : s.rows ≡ length (applied table changes rows)
+  pub rows_told : s.rows ≡ length (rows_with_changes table changes rows)
   pub pages_told : s.pages ≡ pages_after table changes pages
   pub few : s.pages < 4294967296
 

@@ -6,7 +6,7 @@ use Rattle.std.specs.Coded.{×_prop, Π_prop, →_prop, Unit-prop, le_prop, Code
 use Rattle.rv_value.specs.declared.record.IndexEntry.{IndexEntry}
 use Rattle.rv_value.specs.declared.record.Record.{Record}
 use Rattle.rv_rows.specs.declared.changes.Change.{Change}
-use Rattle.rv_rows.specs.Changes.{Rise, applied, touches}
+use Rattle.rv_rows.specs.Changes.{Rise, rows_with_changes, touches}
 use Rattle.rv_rows.specs.Rows as rows_by_number
 use Rattle.rv_reader.specs.Tables.{IsTable}
 use Rattle.rv_overlay.specs.declared.frozen.TableSize.{TableSize}
@@ -57,7 +57,7 @@ size_of table sizes = find (λ (s : TableSize). s.table == table) sizes
 -- WHAT IS SHOWN: the view's lists at the base, the reader's at every other snapshot
 abbrev pub overlaid : Shown → Frozen → Shown
 overlaid shown f = record shown {
-  rows = λ t s. if nat_eq s f.base then applied t f.changes (shown.rows t s) else shown.rows t s;
+  rows = λ t s. if nat_eq s f.base then rows_with_changes t f.changes (shown.rows t s) else shown.rows t s;
   pages = λ t s. if nat_eq s f.base then pages_after t f.changes (shown.pages t s) else shown.pages t s;
   entries = λ i s.
       if nat_eq s f.base then laid (part_at f.parts i).taken (part_at f.parts i).added (shown.entries i s)
@@ -94,7 +94,7 @@ pub record IsSizeOf (rows : List Record) (pages : ℕ) (s : TableSize) : Type 0 
 pub record LaysTable (rows : List Record) (pages table : ℕ) (f : Frozen) : Type 0 where
   pub ascend : rows_by_number.Ascend rows
   pub sized : IfSome (size_of table f.sizes)
-      (IsSizeOf (applied table f.changes rows) (pages_after table f.changes pages))
+      (IsSizeOf (rows_with_changes table f.changes rows) (pages_after table f.changes pages))
   pub other : size_of table f.sizes ≡ None → touches table f.changes ≡ false
 
 -- what was frozen fits the reader at the base
@@ -165,7 +165,7 @@ sized-prop rows pages (Some s) = size-prop rows pages s
 lays_table-prop : (rows : List Record) (pages table : ℕ) (f : Frozen) → IsProp (LaysTable rows pages table f)
 lays_table-prop rows pages table f a b = λ i. record {
   ascend = rows-prop rows a.ascend b.ascend i;
-  sized = sized-prop (applied table f.changes rows) (pages_after table f.changes pages) (size_of table f.sizes)
+  sized = sized-prop (rows_with_changes table f.changes rows) (pages_after table f.changes pages) (size_of table f.sizes)
       a.sized b.sized i;
   other = →_prop (Coded-set coded_bool (touches table f.changes) false) a.other b.other i;
 }

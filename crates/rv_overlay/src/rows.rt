@@ -2,7 +2,7 @@
 ghost use Rattle.std.specs.Prelude.{◌≡◌, IfOk, length};
 ghost use Rattle.std.specs.Option.{option_copied};
 ghost use Rattle.rv_judge.specs.Counting.{page_read, record_read};
-ghost use Rattle.rv_rows.specs.Changes.{Rise, applied};
+ghost use Rattle.rv_rows.specs.Changes.{Rise, rows_with_changes};
 ghost use Rattle.rv_rows.specs.Rows.{Ascend};
 ghost use Rattle.rv_reader.specs.Shown.{CanRead};
 ghost use Rattle.rv_reader.specs.Storing.{pages_after};
@@ -63,7 +63,7 @@ pub fn fetch_over<R: Reader>(
 ) -> Result<Option<Record>, NoMemory>
     requires can { CanRead (R.shown reader.now) table snap }
     requires rise { Rise frozen.now.changes }
-    ensures row { IfOk result (λ found. found ≡ row_at (applied table frozen.now.changes ((R.shown reader.now).rows table snap)) row.0) }
+    ensures row { IfOk result (λ found. found ≡ row_at (rows_with_changes table frozen.now.changes ((R.shown reader.now).rows table snap)) row.0) }
     ensures counted { steps.new ≡ record_read steps.old }
 {
     let found = reader.fetch(alloc, table, snap, row, steps)?;
@@ -105,7 +105,7 @@ fn lay_page(
 ) -> Result<Vec<Record>, NoMemory>
     requires ascend { Ascend page.now }
     requires rise { Rise changes.now }
-    ensures { IfOk result (λ all. all.items ≡ applied table (on_page n changes.now) page.now) }
+    ensures { IfOk result (λ all. all.items ≡ rows_with_changes table (on_page n changes.now) page.now) }
 {
     let mut all = Vec::new(alloc);
     let mut rest = page;
@@ -127,7 +127,7 @@ fn lay_changes(
 ) -> Result<Vec<Record>, NoMemory>
     requires ascend { Ascend page.items }
     requires rise { Rise changes.now }
-    ensures { IfOk result (λ all. all.items ≡ applied table (on_page n changes.now) page.items) }
+    ensures { IfOk result (λ all. all.items ≡ rows_with_changes table (on_page n changes.now) page.items) }
 {
     if changes.is_empty() {
         return Ok(page);
@@ -149,7 +149,7 @@ pub fn page_over<R: Reader>(
     requires can { CanRead (R.shown reader.now) table snap }
     requires rise { Rise frozen.now.changes }
     requires ascend { Ascend ((R.shown reader.now).rows table snap) }
-    ensures rows { IfOk result (λ page. page.items ≡ page_of (applied table frozen.now.changes ((R.shown reader.now).rows table snap)) n) }
+    ensures rows { IfOk result (λ page. page.items ≡ page_of (rows_with_changes table frozen.now.changes ((R.shown reader.now).rows table snap)) n) }
     ensures counted { steps.new ≡ page_read steps.old }
 {
     let page = reader.page(alloc, table, snap, n, steps)?;
@@ -174,8 +174,8 @@ pub fn sizes_over<R: Reader>(reader: &R, frozen: &Frozen, table: u32, snap: u64)
     requires can { CanRead (R.shown reader.now) table snap }
     requires lays { LaysTable ((R.shown reader.now).rows table snap) ((R.shown reader.now).pages table snap) table frozen.now }
     ensures pages { result.pages ≡ pages_after table frozen.now.changes ((R.shown reader.now).pages table snap) }
-    ensures rows { result.rows ≡ length (applied table frozen.now.changes ((R.shown reader.now).rows table snap)) }
-    ensures table { IsTable (applied table frozen.now.changes ((R.shown reader.now).rows table snap)) (pages_after table frozen.now.changes ((R.shown reader.now).pages table snap)) }
+    ensures rows { result.rows ≡ length (rows_with_changes table frozen.now.changes ((R.shown reader.now).rows table snap)) }
+    ensures table { IsTable (rows_with_changes table frozen.now.changes ((R.shown reader.now).rows table snap)) (pages_after table frozen.now.changes ((R.shown reader.now).pages table snap)) }
 {
     match size_of(&frozen.sizes, table) {
         None => reader.sizes(table, snap),

@@ -1,7 +1,7 @@
 //! What a cursor has left to offer, and whether it may give a reply.
 ghost use Rattle.std.specs.Prelude.{◌≡◌, ◌<◌, IfOk, IfSome, get_or, length};
 ghost use Rattle.rv_lang.specs.declared.reply.Reply.TheVariants.{Row};
-ghost use Rattle.rv_model.specs.Offers.{place_of, same_values, sorted};
+ghost use Rattle.rv_model.specs.Offers.{offers_in_order, place_of, same_values};
 ghost use Rattle.rv_replay.specs.Judging.{JudgesOffers};
 
 use rv_lang::Reply;
@@ -12,14 +12,14 @@ use std::cmp::Ordering;
 
 /// The offers in the order of the one-thread database.
 pub fn queue_of(alloc: Global, offers: Vec<Offer>) -> Result<Queue<Offer>, NoMemory>
-    ensures { IfOk result (λ queue. queue ≡ sorted offers.items) }
+    ensures { IfOk result (λ queue. queue ≡ offers_in_order offers.items) }
 {
     let offers = in_order(offers)?;
     queued(alloc, offers)
 }
 
 fn in_order(offers: Vec<Offer>) -> Result<Vec<Offer>, NoMemory>
-    ensures { IfOk result (λ new. new.items ≡ sorted offers.items) }
+    ensures { IfOk result (λ new. new.items ≡ offers_in_order offers.items) }
 {
     let mut new = offers;
     new.sort()?;

@@ -10,11 +10,11 @@ use Rattle.rv_script.specs.declared.scripts.Line.{Line}
 use Rattle.rv_script.specs.declared.scripts.Phase.{Phase}
 use Rattle.rv_script.specs.declared.scripts.Script.{Script}
 use Rattle.rv_script.specs.declared.scripts.ScriptFault.{ScriptFault}
-use Rattle.rv_script.specs.Script.{Saying, Nothing, Call, Next, mark_of, call_of, mark_or_call, says, listed, says_at, before, sayings_from, calls_before, phases_of, unmarked, script_said, script_of}
+use Rattle.rv_script.specs.Script.{Saying, Nothing, Call, Next, mark_of, call_of, mark_or_call, says, or_no_session, says_at, saying_before, sayings_from, calls_before, phases_of, without_byte_order_mark, script_said, script_of}
 use Rattle.std.specs.List.{range_with_len}
 use Rattle.std.proofs.lemmas.List.FromFn.{length-map-range_with_len, length-range_with_len}
 use Rattle.rv_gen.specs.Draws.{state_after}
-use Rattle.rv_gen.specs.Workload.{HasCalls, IsCall, IsRunnable, generated, inserts, line as line_of, openings_of, readers, round, rounds, tables, workload}
+use Rattle.rv_gen.specs.Workload.{HasCalls, IsCall, IsRunnable, inserts, line as line_of, openings_of, readers, round, rounds, tables, workload, workload_of}
 use Rattle.rv_run.specs.Making.{FitsPhase, FitsScript}
 
 -- a saying whose call, where it is one, may be made
@@ -73,7 +73,7 @@ says_fits (b ∷ bs) short = elim (cases_Bool (nat_eq b 35)) [
 not_more : (n m : ℕ) → nat_lt n m ≡ false → m ≤ n
 not_more n m h = grind (arith, nat_tests)
 
-listed_fits : (n : ℕ) (o : Option Saying) (saying : Saying) → IfSome o FitsSaying → listed n o ≡ Ok saying → FitsSaying saying
+listed_fits : (n : ℕ) (o : Option Saying) (saying : Saying) → IfSome o FitsSaying → or_no_session n o ≡ Ok saying → FitsSaying saying
 listed_fits n None saying fits e = cc
 listed_fits n (Some s) saying fits e = let same : s ≡ saying = cc in subst FitsSaying same fits
 
@@ -94,7 +94,7 @@ record Splits (first : Result Saying ScriptFault) (more : Result (List Saying) S
   is_more : more ≡ Ok rest
   is_all : all ≡ saying ∷ rest
 
-splits : (first : Result Saying ScriptFault) (more : Result (List Saying) ScriptFault) (all : List Saying) → before first more ≡ Ok all → Splits first more all
+splits : (first : Result Saying ScriptFault) (more : Result (List Saying) ScriptFault) (all : List Saying) → saying_before first more ≡ Ok all → Splits first more all
 splits (Err f) more all e = cc
 splits (Ok s) (Err f) all e = cc
 splits (Ok s) (Ok rest) all e = record { saying = s; rest = rest; is_first = refl; is_more = refl; is_all = cc }
@@ -173,7 +173,7 @@ said_fits (Ok all) script fit e =
 pub script_fits : (bytes : List ℕ) (script : Script) → script_of bytes ≡ Ok script → FitsScript script
 unfolding script_of
 script_fits bytes script e = elim (cases_Bool (utf8_valid_len bytes == length bytes)) [
-  | inl t ↦ let said = rw t at e in said_fits (sayings_from 1 (lines (unmarked bytes))) script (λ all f. sayings_fit 1 (lines (unmarked bytes)) all (omega arith) f) said
+  | inl t ↦ let said = rw t at e in said_fits (sayings_from 1 (lines (without_byte_order_mark bytes))) script (λ all f. sayings_fit 1 (lines (without_byte_order_mark bytes)) all (omega arith) f) said
   | inr f ↦ let wrong = rw f at e in cc
 ]
 
@@ -213,7 +213,7 @@ unnamed_fit : (phases : List Phase) → FewLines 200000 phases → AllByRecursio
 unnamed_fit [] few none calls = tt
 unnamed_fit (p ∷ ps) few none calls = (record { few = few.0; calls = calls.0; judge = rw none.0 tt }, unnamed_fit ps few.1 none.1 calls.1)
 
-pub generated_fits : (script : Script) (seed : ℕ) → script ≡ generated seed → IsRunnable script → FitsScript script
+pub generated_fits : (script : Script) (seed : ℕ) → script ≡ workload_of seed → IsRunnable script → FitsScript script
 generated_fits script seed is runs = record {
   few = omega (arith, runs.phases);
   fits = All-from_recursion FitsPhase script.phases (unnamed_fit script.phases (subst (λ (s : Script). FewLines 200000 s.phases) (sym is) (few_of_workload seed 2000 250 (omega arith) (omega arith))) (subst (λ (s : Script). AllByRecursion (λ (p : Phase). p.judge ≡ None) s.phases) (sym is) (unnamed seed 2000 250)) (recursion_from_All HasCalls script.phases runs.calls));

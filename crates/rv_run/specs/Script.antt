@@ -11,7 +11,7 @@ use Rattle.rv_script.specs.declared.scripts.ScriptFault.{ScriptFault}
 use Rattle.rv_script.specs.declared.scripts.ScriptFault.TheVariants as faults
 use Rattle.rv_script.specs.Script.{script_of}
 use Rattle.rv_gen.specs.Summary.{summary, summary_text}
-use Rattle.rv_gen.specs.Workload.{generated}
+use Rattle.rv_gen.specs.Workload.{workload_of}
 use Rattle.rv_run.specs.declared.status.Over.{Over}
 use Rattle.rv_run.specs.declared.status.Over.TheVariants as over
 use Rattle.rv_model.specs.declared.entry.Entry.{Entry}
@@ -85,7 +85,7 @@ Told left P = IfSome left (λ bytes. Write bytes P)
 
 -- a fact of the script that is run: the generated one of a seed, else the one that the source told, where it tells
 abbrev pub Runs : Option ℕ → Option (List ℕ) → (Script → Type 0) → Type 0
-Runs (Some seed) left P = P (generated seed)
+Runs (Some seed) left P = P (workload_of seed)
 Runs None left P = Told left P
 
 -- what is written of a history: its transcript, or with a seed its summary

@@ -3,7 +3,7 @@ ghost use Rattle.std.specs.Prelude.{◌≡◌, ◌≢◌, ◌≤◌, ◌<◌, �
 ghost use Rattle.std.specs.Io.KnownBytes.{Appends, IsAtEnd};
 ghost use Rattle.rv_io.specs.Causes.{Rose};
 ghost use Rattle.rv_io.specs.Pieces.{AppendsFront, Goes, TakesUpTo};
-ghost use Rattle.rv_gen.specs.Workload.{generated};
+ghost use Rattle.rv_gen.specs.Workload.{workload_of};
 ghost use Rattle.rv_believed.specs.History.{IsLegal};
 ghost use Rattle.rv_words.specs.declared.choices.Asked.{Asked as Askings};
 ghost use Rattle.rv_words.specs.Words.{AreAccepted, AreWithin, Ask};
@@ -241,7 +241,7 @@ fn script_to_run<S: Source>(
 /// The generated script of a seed.
 #[tactic(auto, using(crate::proofs::Fits::generated_fits))]
 fn generated_script(alloc: Global, seed: u32) -> Result<Script, Status>
-    ensures script { IfOk result (λ script. script ≡ generated seed) }
+    ensures script { IfOk result (λ script. script ≡ workload_of seed) }
     ensures fits { IfOk result FitsScript }
     ensures fault { IfErr result (λ status. status ≡ Status.Memory) }
 {

@@ -5,12 +5,13 @@ use Rattle.rv_value.specs.declared.value.Value.{Value}
 use Rattle.std.proofs.lemmas.Grind.{flat_map-append}
 use Rattle.rv_lang.specs.declared.reply.ShownEvent.{ShownEvent}
 use Rattle.rv_lang.specs.declared.reply.Shown.{Shown}
-use Rattle.rv_model.specs.Transcript.{doubled, more_text, value_text, values_text, spaced, event_words, count_words, trace_words, strategy_word}
+use Rattle.rv_lang.specs.Tokens.{quotes_twice}
+use Rattle.rv_model.specs.Transcript.{more_text, value_text, values_text, words_text, event_words, count_words, trace_words, strategy_word}
 
-pub doubled-push : (xs : List ℕ) (c : ℕ) → doubled (xs ++ c ∷ []) ≡ doubled xs ++ cond (eqb c 39) (39 ∷ 39 ∷ []) (c ∷ [])
+pub doubled-push : (xs : List ℕ) (c : ℕ) → quotes_twice (xs ++ c ∷ []) ≡ quotes_twice xs ++ cond (eqb c 39) (39 ∷ 39 ∷ []) (c ∷ [])
 doubled-push [] c = refl
 doubled-push (x ∷ xs) c =
-    elim (eqb x 39) as (λ b. cond b (39 ∷ 39 ∷ doubled (xs ++ c ∷ [])) (x ∷ doubled (xs ++ c ∷ [])) ≡ cond b (39 ∷ 39 ∷ doubled xs) (x ∷ doubled xs) ++ cond (eqb c 39) (39 ∷ 39 ∷ []) (c ∷ [])) [
+    elim (eqb x 39) as (λ b. cond b (39 ∷ 39 ∷ quotes_twice (xs ++ c ∷ [])) (x ∷ quotes_twice (xs ++ c ∷ [])) ≡ cond b (39 ∷ 39 ∷ quotes_twice xs) (x ∷ quotes_twice xs) ++ cond (eqb c 39) (39 ∷ 39 ∷ []) (c ∷ [])) [
       | true ↦ ap (λ (t : List ℕ). 39 ∷ 39 ∷ t) (doubled-push xs c)
       | false ↦ ap (λ (t : List ℕ). x ∷ t) (doubled-push xs c)
     ]
@@ -27,19 +28,19 @@ values_split (w ∷ ws) v some e = let same : v ≡ w = e in
     let others : take (length (w ∷ ws) - 1) (drop 1 (w ∷ ws)) ≡ ws = ap (λ (n : ℕ). take n ws) count ∙ take-length ws in
     rw (same, others) refl
 
-spaced-append : (ws vs : List (List ℕ)) → spaced (ws ++ vs) ≡ spaced ws ++ spaced vs
+spaced-append : (ws vs : List (List ℕ)) → words_text (ws ++ vs) ≡ words_text ws ++ words_text vs
 spaced-append [] vs = refl
-spaced-append (w ∷ ws) vs = rw (spaced-append ws vs) (sym (append_assoc (32 ∷ w) (spaced ws) (spaced vs)))
+spaced-append (w ∷ ws) vs = rw (spaced-append ws vs) (sym (append_assoc (32 ∷ w) (words_text ws) (words_text vs)))
 
-pub events-push : (es : List ShownEvent) (e : ShownEvent) → spaced (flat_map event_words (es ++ e ∷ [])) ≡ spaced (flat_map event_words es) ++ spaced (event_words e)
+pub events-push : (es : List ShownEvent) (e : ShownEvent) → words_text (flat_map event_words (es ++ e ∷ [])) ≡ words_text (flat_map event_words es) ++ words_text (event_words e)
 events-push es e =
     let words : flat_map event_words (es ++ e ∷ []) ≡ flat_map event_words es ++ event_words e = rw flat_map-append (simp append-nil) in
-    ap spaced words ∙ spaced-append (flat_map event_words es) (event_words e)
+    ap words_text words ∙ spaced-append (flat_map event_words es) (event_words e)
 
 -- A trace's text by its strategy, its events and its counts.
-pub trace_parts : (shown : Shown) → codes "trace" ++ spaced (trace_words shown) ≡ (codes "trace" ++ 32 ∷ strategy_word shown.strategy) ++ spaced (flat_map event_words shown.events) ++ spaced (count_words shown)
+pub trace_parts : (shown : Shown) → codes "trace" ++ words_text (trace_words shown) ≡ (codes "trace" ++ 32 ∷ strategy_word shown.strategy) ++ words_text (flat_map event_words shown.events) ++ words_text (count_words shown)
 trace_parts shown = rw (spaced-append (flat_map event_words shown.events) (count_words shown)) (simp append_assoc)
 
 -- The words of a list's event.
-pub list_words : (name keys : List ℕ) → spaced (codes "list" ∷ name ∷ keys ∷ []) ≡ (32 ∷ codes "list" ++ 32 ∷ name) ++ 32 ∷ keys
+pub list_words : (name keys : List ℕ) → words_text (codes "list" ∷ name ∷ keys ∷ []) ≡ (32 ∷ codes "list" ++ 32 ∷ name) ++ 32 ∷ keys
 list_words name keys = simp (append_assoc, append-nil)

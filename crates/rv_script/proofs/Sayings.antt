@@ -8,7 +8,7 @@ use Rattle.rv_script.specs.declared.scripts.Phase.{Phase}
 use Rattle.rv_script.specs.declared.scripts.Script.{Script}
 use Rattle.rv_script.specs.declared.scripts.ScriptFault.{ScriptFault}
 use Rattle.rv_script.specs.declared.scripts.ScriptFault.TheVariants as faults
-use Rattle.rv_script.specs.Script.{Saying, Nothing, Call, Next, calls_before, phases_of, before, says_at, sayings_from}
+use Rattle.rv_script.specs.Script.{Saying, Nothing, Call, Next, calls_before, phases_of, saying_before, says_at, sayings_from}
 use Rattle.rv_script.specs.Drafts.{added, added_if, drafted, FaultIs}
 
 abbrev as_script : List Phase → Result Script ScriptFault
@@ -25,7 +25,7 @@ calls_none : (phases : List Phase) → calls_before [] phases ≡ phases
 calls_none [] = refl
 calls_none (p ∷ phases) = refl
 
-pub drafted_more : (draft : Draft) (saying : Saying) (more : Result (List Saying) ScriptFault) → drafted draft (before (Ok saying) more) ≡ drafted (added draft saying) more
+pub drafted_more : (draft : Draft) (saying : Saying) (more : Result (List Saying) ScriptFault) → drafted draft (saying_before (Ok saying) more) ≡ drafted (added draft saying) more
 drafted_more draft saying (Err fault) = refl
 drafted_more draft Nothing (Ok sayings) = refl
 drafted_more draft (Call line) (Ok sayings) = ap (phases_with draft.over) (calls_twice draft.calls line (phases_of draft.judge sayings))
@@ -34,11 +34,11 @@ drafted_more draft (Next judge) (Ok sayings) =
     ap (λ (calls : List Line). phases_with draft.over (record { judge = draft.judge; lines = calls } ∷ phases_of judge sayings)) a
     ∙ ap as_script (sym (append_assoc draft.over (record { judge = draft.judge; lines = draft.calls } ∷ []) (phases_of judge sayings)) ∙ ap (λ (ps : List Phase). (draft.over ++ record { judge = draft.judge; lines = draft.calls } ∷ []) ++ ps) (sym (calls_none (phases_of judge sayings))))
 
-said_more : (draft more : Draft) (said : Result Saying ScriptFault) (rest : Result (List Saying) ScriptFault) → added_if draft said ≡ Ok more → drafted draft (before said rest) ≡ drafted more rest
+said_more : (draft more : Draft) (said : Result Saying ScriptFault) (rest : Result (List Saying) ScriptFault) → added_if draft said ≡ Ok more → drafted draft (saying_before said rest) ≡ drafted more rest
 said_more draft more (Ok saying) rest e = drafted_more draft saying rest ∙ ap (λ (d : Draft). drafted d rest) (let f : added draft saying ≡ more = cc in f)
 said_more draft more (Err fault) rest e = absurd cc
 
-said_fault : (draft : Draft) (said : Result Saying ScriptFault) (rest : Result (List Saying) ScriptFault) (fault : ScriptFault) → FaultIs fault (added_if draft said) → FaultIs fault (drafted draft (before said rest))
+said_fault : (draft : Draft) (said : Result Saying ScriptFault) (rest : Result (List Saying) ScriptFault) (fault : ScriptFault) → FaultIs fault (added_if draft said) → FaultIs fault (drafted draft (saying_before said rest))
 said_fault draft said rest faults.NoMemory h = tt
 said_fault draft (Ok saying) rest (faults.NoSession line) h = absurd cc
 said_fault draft (Ok saying) rest (faults.NotText offset) h = absurd cc
@@ -51,8 +51,8 @@ said_fault draft (Err fault) rest (faults.TooMany lines) h = let e : fault ≡ f
 
 -- the lines from a place on, where a line stands in that place
 module _ (draft : Draft) (n : ℕ) (all : List (List ℕ)) (i : ℕ) (line : List ℕ) (total : Result Script ScriptFault) (there : (i < length all) × (line ≡ get_or all i line)) (so_far : drafted draft (sayings_from n (drop i all)) ≡ total) where
-  here : drafted draft (before (says_at n line) (sayings_from (n + 1) (drop (i + 1) all))) ≡ total
-  here = ap (λ (l : List ℕ). drafted draft (before (says_at n l) (sayings_from (n + 1) (drop (i + 1) all)))) there.1
+  here : drafted draft (saying_before (says_at n line) (sayings_from (n + 1) (drop (i + 1) all))) ≡ total
+  here = ap (λ (l : List ℕ). drafted draft (saying_before (says_at n l) (sayings_from (n + 1) (drop (i + 1) all)))) there.1
       ∙ sym (at_drop_more (λ (ls : List (List ℕ)). drafted draft (sayings_from n ls)) all i line there.0) ∙ so_far
 
   pub goes_on : (more : Draft) → added_if draft (says_at n line) ≡ Ok more → drafted more (sayings_from (n + 1) (drop (i + 1) all)) ≡ total

@@ -39,26 +39,26 @@ says (b ∷ bs) = if nat_eq b 35 then Some Nothing else mark_or_call (b ∷ bs)
 
 -- ---- the first fault
 
-abbrev pub listed : ℕ → Option Saying → Result Saying ScriptFault
-listed n (Some saying) = Ok saying
-listed n None = Err (faults.NoSession n)
+abbrev pub or_no_session : ℕ → Option Saying → Result Saying ScriptFault
+or_no_session n (Some saying) = Ok saying
+or_no_session n None = Err (faults.NoSession n)
 
 -- what the line of number n says, or its fault
 abbrev pub says_at : ℕ → List ℕ → Result Saying ScriptFault
 says_at n line = if nat_lt 200000 n then Err (faults.TooMany 200000)
     else (if nat_lt 4096 (length line) then Err (faults.TooLong n)
-    else listed n (says line))
+    else or_no_session n (says line))
 
 -- one saying before those that follow, or the first fault
-abbrev pub before : Result Saying ScriptFault → Result (List Saying) ScriptFault → Result (List Saying) ScriptFault
-before (Err fault) more = Err fault
-before (Ok saying) (Err fault) = Err fault
-before (Ok saying) (Ok more) = Ok (saying ∷ more)
+abbrev pub saying_before : Result Saying ScriptFault → Result (List Saying) ScriptFault → Result (List Saying) ScriptFault
+saying_before (Err fault) more = Err fault
+saying_before (Ok saying) (Err fault) = Err fault
+saying_before (Ok saying) (Ok more) = Ok (saying ∷ more)
 
 -- what the lines say, the first of them having the number n, or the first fault
 abbrev pub sayings_from : ℕ → List (List ℕ) → Result (List Saying) ScriptFault
 sayings_from n [] = Ok []
-sayings_from n (line ∷ more) = before (says_at n line) (sayings_from (n + 1) more)
+sayings_from n (line ∷ more) = saying_before (says_at n line) (sayings_from (n + 1) more)
 
 -- ---- phases
 
@@ -77,9 +77,9 @@ phases_of judge ((Next next) ∷ more) = record { judge = judge; lines = [] } �
 -- ---- the whole
 
 -- a byte order mark in front is left out
-abbrev pub unmarked : List ℕ → List ℕ
-unmarked (a ∷ b ∷ c ∷ more) = if nat_eq a 0xEF && (nat_eq b 0xBB && nat_eq c 0xBF) then more else a ∷ b ∷ c ∷ more
-unmarked bytes = bytes
+abbrev pub without_byte_order_mark : List ℕ → List ℕ
+without_byte_order_mark (a ∷ b ∷ c ∷ more) = if nat_eq a 0xEF && (nat_eq b 0xBB && nat_eq c 0xBF) then more else a ∷ b ∷ c ∷ more
+without_byte_order_mark bytes = bytes
 
 abbrev pub script_said : Result (List Saying) ScriptFault → Result Script ScriptFault
 script_said (Ok sayings) = Ok (record { phases = phases_of None sayings })
@@ -88,5 +88,5 @@ script_said (Err fault) = Err fault
 -- the bytes are UTF-8 where their longest front that is UTF-8 is the whole; lines end with LF or CR LF, and the last may have no end
 unfoldable pub script_of : List ℕ → Result Script ScriptFault
 script_of bytes = if utf8_valid_len bytes == length bytes
-    then script_said (sayings_from 1 (lines (unmarked bytes)))
+    then script_said (sayings_from 1 (lines (without_byte_order_mark bytes)))
     else Err (faults.NotText (utf8_valid_len bytes))

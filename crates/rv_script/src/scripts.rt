@@ -2,7 +2,7 @@
 ghost use Rattle.std.specs.Prelude.{◌≡◌, ◌≤◌, ◌∷◌, ◌++◌, [], length, IfOk};
 ghost use Rattle.std.specs.Option.{option_map};
 ghost use Rattle.std.specs.Str.Lines.{lines};
-ghost use Rattle.rv_script.specs.Script.{Call, Next, call_of, says, says_at, sayings_from, script_said, unmarked, script_of};
+ghost use Rattle.rv_script.specs.Script.{Call, Next, call_of, says, says_at, sayings_from, script_said, without_byte_order_mark, script_of};
 ghost use Rattle.rv_script.specs.Drafts.{said_by, added, added_if, drafted, Gives};
 
 use rv_value::{Items, NoMemory, Text};
@@ -211,7 +211,7 @@ fn read_lines(alloc: Global, text: &str) -> Result<Script, ScriptFault>
 
 /// The text behind a byte order mark, or the whole where there is none.
 fn unmarked(text: &str) -> &str
-    ensures { result.now ≡ unmarked text.now }
+    ensures { result.now ≡ without_byte_order_mark text.now }
 {
     match text.strip_prefix('\u{feff}') {
         Some(rest) => rest,

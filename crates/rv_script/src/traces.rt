@@ -1,6 +1,6 @@
 ghost use Rattle.std.specs.Prelude.{◌≡◌, ◌++◌, ◌∷◌, [], codes, decimal, flat_map};
 ghost use Rattle.rv_io.specs.Pieces.{Goes};
-ghost use Rattle.rv_model.specs.Transcript.{spaced, trace_words, event_words, count_words, control_word, strategy_word};
+ghost use Rattle.rv_model.specs.Transcript.{words_text, trace_words, event_words, count_words, control_word, strategy_word};
 
 use itoa::Buffer;
 use rv_io::{Failed, Sink, write_next};
@@ -13,7 +13,7 @@ pub fn write_trace<K: Sink>(
     sofar: Result<(), Failed>,
     shown: &Shown,
 ) -> Result<(), Failed>
-    ensures { Goes sofar (K.written sink.old) (K.written sink.new) (K.faults sink.old) (K.faults sink.new) result (codes "trace" ++ spaced (trace_words shown.now)) }
+    ensures { Goes sofar (K.written sink.old) (K.written sink.new) (K.faults sink.old) (K.faults sink.new) result (codes "trace" ++ words_text (trace_words shown.now)) }
 {
     let head = write_next(sink, sofar, b"trace");
     let strategy = write_word(sink, head, strategy_word(shown.strategy));
@@ -42,7 +42,7 @@ fn write_events<K: Sink>(
     sofar: Result<(), Failed>,
     events: &[ShownEvent],
 ) -> Result<(), Failed>
-    ensures { Goes sofar (K.written sink.old) (K.written sink.new) (K.faults sink.old) (K.faults sink.new) result (spaced (flat_map event_words events.now)) }
+    ensures { Goes sofar (K.written sink.old) (K.written sink.new) (K.faults sink.old) (K.faults sink.new) result (words_text (flat_map event_words events.now)) }
 {
     let mut written = sofar;
     'events: for event in events {
@@ -56,7 +56,7 @@ fn write_event<K: Sink>(
     sofar: Result<(), Failed>,
     event: &ShownEvent,
 ) -> Result<(), Failed>
-    ensures { Goes sofar (K.written sink.old) (K.written sink.new) (K.faults sink.old) (K.faults sink.new) result (spaced (event_words event.now)) }
+    ensures { Goes sofar (K.written sink.old) (K.written sink.new) (K.faults sink.old) (K.faults sink.new) result (words_text (event_words event.now)) }
 {
     match event {
         ShownEvent::At(control) => write_word(sink, sofar, control_word(*control)),
@@ -75,7 +75,7 @@ fn write_list<K: Sink>(
     name: &[u8],
     keys: u64,
 ) -> Result<(), Failed>
-    ensures { Goes sofar (K.written sink.old) (K.written sink.new) (K.faults sink.old) (K.faults sink.new) result (spaced (codes "list" ∷ name.now ∷ decimal keys ∷ [])) }
+    ensures { Goes sofar (K.written sink.old) (K.written sink.new) (K.faults sink.old) (K.faults sink.new) result (words_text (codes "list" ∷ name.now ∷ decimal keys ∷ [])) }
 {
     let list = write_words(sink, sofar, b"list", name);
     write_count(sink, list, keys)
@@ -99,7 +99,7 @@ fn write_counts<K: Sink>(
     sofar: Result<(), Failed>,
     shown: &Shown,
 ) -> Result<(), Failed>
-    ensures { Goes sofar (K.written sink.old) (K.written sink.new) (K.faults sink.old) (K.faults sink.new) result (spaced (count_words shown.now)) }
+    ensures { Goes sofar (K.written sink.old) (K.written sink.new) (K.faults sink.old) (K.faults sink.new) result (words_text (count_words shown.now)) }
 {
     let pages = write_named_count(sink, sofar, b"pages", shown.pages);
     let leaves = write_named_count(sink, pages, b"leaves", shown.leaves);

@@ -1,6 +1,7 @@
 ghost use Rattle.std.specs.Prelude.{◌++◌, ◌∷◌, [], codes, ◌==◌, if◌then◌else◌};
 ghost use Rattle.rv_io.specs.Pieces.{Goes};
-ghost use Rattle.rv_model.specs.Transcript.{values_text, more_text, value_text, doubled};
+ghost use Rattle.rv_lang.specs.Tokens.{quotes_twice};
+ghost use Rattle.rv_model.specs.Transcript.{values_text, more_text, value_text};
 
 use itoa::Buffer;
 use rv_io::{Failed, Sink, write_next};
@@ -73,7 +74,7 @@ fn write_quoted<K: Sink>(
     sofar: Result<(), Failed>,
     bytes: &[u8],
 ) -> Result<(), Failed>
-    ensures { Goes sofar (K.written sink.old) (K.written sink.new) (K.faults sink.old) (K.faults sink.new) result (39 ∷ doubled bytes.now ++ 39 ∷ []) }
+    ensures { Goes sofar (K.written sink.old) (K.written sink.new) (K.faults sink.old) (K.faults sink.new) result (39 ∷ quotes_twice bytes.now ++ 39 ∷ []) }
 {
     let quote = write_next(sink, sofar, b"'");
     let inner = write_doubled(sink, quote, bytes);
@@ -86,7 +87,7 @@ fn write_doubled<K: Sink>(
     sofar: Result<(), Failed>,
     bytes: &[u8],
 ) -> Result<(), Failed>
-    ensures { Goes sofar (K.written sink.old) (K.written sink.new) (K.faults sink.old) (K.faults sink.new) result (doubled bytes.now) }
+    ensures { Goes sofar (K.written sink.old) (K.written sink.new) (K.faults sink.old) (K.faults sink.new) result (quotes_twice bytes.now) }
 {
     let mut written = sofar;
     for byte in bytes {

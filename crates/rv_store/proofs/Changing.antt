@@ -12,7 +12,7 @@ use Rattle.rv_value.specs.declared.record.IndexEntry.{IndexEntry}
 use Rattle.rv_value.specs.Entries.{entry_cmp}
 use Rattle.rv_value.specs.Orders.{entry_cmp_total}
 use Rattle.rv_rows.specs.declared.changes.Change.{Change}
-use Rattle.rv_rows.specs.Changes.{Rise, applied, is_before}
+use Rattle.rv_rows.specs.Changes.{Rise, is_before, rows_with_changes}
 use Rattle.rv_rows.specs.Rows.{comes_below, with_values, without_row, Ascend}
 use Rattle.rv_rows.proofs.Chains.{record_ascends, ascends_without}
 use Rattle.rv_reader.specs.Tables.{row_at}
@@ -153,7 +153,7 @@ ascend_with : (number : ℕ) (values : Option (List Value)) (rows : List Record)
 ascend_with number (Some vs) rows ascend = record_ascends (record { row = record { 0 = number }; values = vs }) rows ascend
 ascend_with number None rows ascend = ascends_without number rows ascend
 
-pub applied_ascends : (table : ℕ) (cs : List Change) (rows : List Record) → Ascend rows → Ascend (applied table cs rows)
+pub applied_ascends : (table : ℕ) (cs : List Change) (rows : List Record) → Ascend rows → Ascend (rows_with_changes table cs rows)
 applied_ascends table [] rows ascend = ascend
 applied_ascends table (c ∷ cs) rows ascend = elim (cases_Bool (c.table == table)) [
   | inl t ↦ rw t (applied_ascends table cs (with_values c.row.0 c.values rows) (ascend_with c.row.0 c.values rows ascend))
@@ -213,7 +213,7 @@ row_with_other number other (Some vs) rows apart =
           find_back front (new ∷ back) other none ∙ rw here (find_kept (λ (r : Record). comes_below new r) other (λ r t. grind (arith, nat_tests)) rows)
     ]
 
-pub row_applied : (c : Change) (cs : List Change) (rows : List Record) → list_all (λ (d : Change). is_before d c) cs ≡ true → row_at (applied c.table cs rows) c.row.0 ≡ row_at rows c.row.0
+pub row_applied : (c : Change) (cs : List Change) (rows : List Record) → list_all (λ (d : Change). is_before d c) cs ≡ true → row_at (rows_with_changes c.table cs rows) c.row.0 ≡ row_at rows c.row.0
 row_applied c [] rows all = refl
 row_applied c (d ∷ ds) rows all =
     let parts = both (is_before d c) (list_all (λ (x : Change). is_before x c) ds) all in
@@ -241,8 +241,8 @@ rise_before (suc i) (c ∷ cs) d h rise =
     first_before (x ∷ xs) (suc j) l all = first_before xs j (omega arith) (both (is_before c x) (list_all (is_before c) xs) all).1
 
 -- the row of a change is as it was before the changes in front of it
-pub row_before : (table : ℕ) (c : Change) (cs : List Change) (rows : List Record) → c.table ≡ table → list_all (λ (d : Change). is_before d c) cs ≡ true → row_at rows c.row.0 ≡ row_at (applied table cs rows) c.row.0
-row_before table c cs rows e all = subst (λ t. row_at rows c.row.0 ≡ row_at (applied t cs rows) c.row.0) e (sym (row_applied c cs rows all))
+pub row_before : (table : ℕ) (c : Change) (cs : List Change) (rows : List Record) → c.table ≡ table → list_all (λ (d : Change). is_before d c) cs ≡ true → row_at rows c.row.0 ≡ row_at (rows_with_changes table cs rows) c.row.0
+row_before table c cs rows e all = subst (λ t. row_at rows c.row.0 ≡ row_at (rows_with_changes t cs rows) c.row.0) e (sym (row_applied c cs rows all))
 
 -- A change is passed.
 
@@ -272,7 +272,7 @@ own_changed commit columns table c before old new t e passed own =
     subst (λ cs. IsTreeChanged commit (entry_at cs before) (entry_at cs (row_with c.row.0 c.values)) old.tree new.tree) e (passed.own (own ∙ sym t))
 
 pub pass_indexed : (commit : ℕ) (columns : List ℕ) (table : ℕ) (c : Change) (before : Option Record) (rows : List Record) (old new : Index) → old.table ≡ table → old.columns ≡ columns → Ascend rows → (c.table ≡ table → before ≡ row_at rows c.row.0)
-    → IsIndexed columns rows commit old.tree → IsPassed commit c before old new → IsIndexed columns (applied table (c ∷ []) rows) commit new.tree
+    → IsIndexed columns rows commit old.tree → IsPassed commit c before old new → IsIndexed columns (rows_with_changes table (c ∷ []) rows) commit new.tree
 pass_indexed commit columns table c before rows old new t e ascend found indexed passed = elim (cases_Bool (c.table == table)) [
   | inl same_table ↦
       let own : c.table ≡ table = grind (arith, nat_tests) in
@@ -283,7 +283,7 @@ pass_indexed commit columns table c before rows old new t e ascend found indexed
 ]
 
 pub pass_tree : (commit : ℕ) (columns : List ℕ) (table : ℕ) (c : Change) (cs : List Change) (before : Option Record) (rows : List Record) (old new : Index) → old.table ≡ table → old.columns ≡ columns → (c.table ≡ table → before ≡ row_at rows c.row.0)
-    → IsPassed commit c before old new → tree_through columns table cs (applied table (c ∷ []) rows) (tree_of new.tree commit) ≡ tree_through columns table (c ∷ cs) rows (tree_of old.tree commit)
+    → IsPassed commit c before old new → tree_through columns table cs (rows_with_changes table (c ∷ []) rows) (tree_of new.tree commit) ≡ tree_through columns table (c ∷ cs) rows (tree_of old.tree commit)
 pass_tree commit columns table c cs before rows old new t e found passed = elim (cases_Bool (c.table == table)) [
   | inl same_table ↦
       let own : c.table ≡ table = grind (arith, nat_tests) in
@@ -296,5 +296,5 @@ pass_tree commit columns table c cs before rows old new t e found passed = elim 
 ]
 
 -- one change more
-pub applied_more : (table : ℕ) (cs : List Change) (c : Change) (all : List Change) (rows : List Record) → all ≡ cs ++ c ∷ [] → applied table all rows ≡ applied table (c ∷ []) (applied table cs rows)
-applied_more table cs c all rows e = ap (λ ds. applied table ds rows) e ∙ applied-append table cs (c ∷ []) rows
+pub applied_more : (table : ℕ) (cs : List Change) (c : Change) (all : List Change) (rows : List Record) → all ≡ cs ++ c ∷ [] → rows_with_changes table all rows ≡ rows_with_changes table (c ∷ []) (rows_with_changes table cs rows)
+applied_more table cs c all rows e = ap (λ ds. rows_with_changes table ds rows) e ∙ applied-append table cs (c ∷ []) rows

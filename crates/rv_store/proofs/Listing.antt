@@ -6,7 +6,7 @@ use Rattle.std.proofs.lemmas.List.{drop_more, get_or_past}
 use Rattle.std.specs.List.{list_all, slice_index_or, slice_set}
 use Rattle.rv_value.specs.declared.record.Record.{Record}
 use Rattle.rv_rows.specs.declared.changes.Change.{Change}
-use Rattle.rv_rows.specs.Changes.{applied}
+use Rattle.rv_rows.specs.Changes.{rows_with_changes}
 use Rattle.rv_rows.specs.Rows.{comes_below, Ascend}
 use Rattle.rv_reader.specs.Entries as rows_entries
 use Rattle.rv_reader.specs.Entries.{comes_before, entry_of, sorted, sorted_in}
@@ -53,12 +53,12 @@ pub set_left : (at : ℕ) (old indexes : List Index) (new : Index) → at < leng
 set_left at old indexes new there left k h = put_each (λ n x. at + 1 ≤ n → x ≡ index_at old n) indexes at new no_index there (λ l. absurd (omega arith)) (λ n other l. left n (omega arith)) k h
 
 pub through_one : (commit : ℕ) (changes : List Change) (tables : List Table) (first old : Index) (table : Table) (new : Index) → old ≡ first → table ≡ table_at tables old.table
-    → IsIndexed old.columns (applied old.table changes (rows_at table.records commit)) commit new.tree
+    → IsIndexed old.columns (rows_with_changes old.table changes (rows_at table.records commit)) commit new.tree
     → tree_of new.tree commit ≡ tree_through old.columns old.table changes (rows_at table.records commit) (tree_of old.tree commit) → length new.tree ≤ 4294967296
     → IsThrough commit changes tables first new
 through_one commit changes tables first old table new e t indexed tree few =
     let here : IsThrough commit changes tables old new = record {
-      indexed = subst (λ (x : Table). IsIndexed old.columns (applied old.table changes (rows_at x.records commit)) commit new.tree) t indexed;
+      indexed = subst (λ (x : Table). IsIndexed old.columns (rows_with_changes old.table changes (rows_at x.records commit)) commit new.tree) t indexed;
       tree = subst (λ (x : Table). tree_of new.tree commit ≡ tree_through old.columns old.table changes (rows_at x.records commit) (tree_of old.tree commit)) t tree;
       few = few;
     } in

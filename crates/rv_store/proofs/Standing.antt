@@ -8,7 +8,7 @@ use Rattle.std.specs.List.{AllByRecursion}
 use Rattle.rv_value.specs.declared.value.Value.{Value}
 use Rattle.rv_value.specs.declared.record.Record.{Record}
 use Rattle.rv_rows.specs.declared.changes.Change.{Change}
-use Rattle.rv_rows.specs.Changes.{applied}
+use Rattle.rv_rows.specs.Changes.{rows_with_changes}
 use Rattle.rv_rows.specs.Rows.{Ascend, comes_below, with_values}
 use Rattle.rv_reader.specs.Entries as rows_entries
 use Rattle.rv_reader.specs.Storing as storing
@@ -136,7 +136,7 @@ wide_with width number (Some vs) rows wide all =
     (wide_filter width (λ (r : Record). comes_below r new) rows all) (wide, wide_filter width (λ (r : Record). comes_below new r) rows all)
 wide_with width number None rows wide all = wide_filter width (λ (r : Record). not (r.row.0 == number)) rows all
 
-applied_wide : (k : Kept) (table : ℕ) (changes : List Change) (rows : List Record) → AllByRecursion (IsChange (shown_of k)) changes → AreWide (table_at k.tables table).width rows → AreWide (table_at k.tables table).width (applied table changes rows)
+applied_wide : (k : Kept) (table : ℕ) (changes : List Change) (rows : List Record) → AllByRecursion (IsChange (shown_of k)) changes → AreWide (table_at k.tables table).width rows → AreWide (table_at k.tables table).width (rows_with_changes table changes rows)
 applied_wide k table [] rows each all = all
 applied_wide k table (c ∷ cs) rows each all = elim (cases_Bool (c.table == table)) [
   | inl t ↦
@@ -266,14 +266,14 @@ kept_committed k changes tables indexes turns kept can same same_indexes through
           | inl old ↦ subst Ascend (sym (same.older table snap old).rows) (kept.tables.ascend table snap low (omega arith))
           | inr late ↦
               let e : snap ≡ commit = omega arith in
-              let rows = through.changed.rows table commit (omega arith) ∙ ap (applied table changes) (rows_next k table kept) in
+              let rows = through.changed.rows table commit (omega arith) ∙ ap (rows_with_changes table changes) (rows_next k table kept) in
               rw e (subst Ascend (sym rows) (applied_ascends table changes (rows_in k.tables table k.newest) (kept.tables.ascend table k.newest standing (omega arith))))
         ];
         wide = λ table snap low known. subst (λ w. AreWide w (rows_in tables table snap)) (sym (same.width table)) (elim (cases_lt snap commit) [
           | inl old ↦ subst (AreWide (table_at k.tables table).width) (sym (same.older table snap old).rows) (kept.tables.wide table snap low (omega arith))
           | inr late ↦
               let e : snap ≡ commit = omega arith in
-              let rows = through.changed.rows table commit (omega arith) ∙ ap (applied table changes) (rows_next k table kept) in
+              let rows = through.changed.rows table commit (omega arith) ∙ ap (rows_with_changes table changes) (rows_next k table kept) in
               rw e (subst (AreWide (table_at k.tables table).width) (sym rows) (applied_wide k table changes (rows_in k.tables table k.newest) can.each (kept.tables.wide table k.newest standing (omega arith))))
         ]);
       };
@@ -306,7 +306,7 @@ committed_is k changes tables indexes turns kept same same_indexes through = rec
   horizon = refl;
   newest = refl;
   stays = stays_is k (with_lists k (k.newest + 1) tables indexes turns) (alike_below k (k.newest + 1) tables indexes turns same same_indexes);
-  rows = λ table h. through.changed.rows table (k.newest + 1) (omega arith) ∙ ap (applied table changes) (rows_next k table kept);
+  rows = λ table h. through.changed.rows table (k.newest + 1) (omega arith) ∙ ap (rows_with_changes table changes) (rows_next k table kept);
   pages = λ table h. through.changed.pages table (k.newest + 1) (omega arith) ∙ ap (pages_after table changes) (pages_next k table kept);
 }
 

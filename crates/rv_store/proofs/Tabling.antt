@@ -6,7 +6,7 @@ use Rattle.std.proofs.lemmas.List.{get_or_past}
 use Rattle.std.specs.List.{slice_set, AllByRecursion}
 use Rattle.rv_value.specs.declared.record.Record.{Record}
 use Rattle.rv_rows.specs.declared.changes.Change.{Change}
-use Rattle.rv_rows.specs.Changes.{applied}
+use Rattle.rv_rows.specs.Changes.{rows_with_changes}
 use Rattle.rv_rows.specs.Rows.{with_values}
 use Rattle.rv_reader.specs.Storing.{pages_with, pages_after}
 use Rattle.rv_records.specs.Pages.{Kept, IsBelow, IsSame, IsPut, rows_at, pages_at}
@@ -64,7 +64,7 @@ set_open commit t tables new there open_ later newest = record {
 
 pub set_changed : (commit : ℕ) (c : Change) (tables : List Table) (new : Table) → c.table < length tables → IsPut c.row.0 c.values commit (table_at tables c.table).records new.records → AreChanged commit (c ∷ []) tables (slice_set tables c.table new)
 set_changed commit c tables new there put = record {
-  rows = λ table snap h. put_each (λ k x. rows_at x.records snap ≡ applied k (c ∷ []) (rows_in tables k snap)) tables c.table new no_table there
+  rows = λ table snap h. put_each (λ k x. rows_at x.records snap ≡ rows_with_changes k (c ∷ []) (rows_in tables k snap)) tables c.table new no_table there
       (let own : c.table == c.table ≡ true = grind (arith, nat_tests) in rw own (put.rows snap h))
       (λ k other. let apart : c.table == k ≡ false = grind (arith, nat_tests) in rw apart refl) table;
   pages = λ table snap h. put_each (λ k x. pages_at x.records snap ≡ pages_after k (c ∷ []) (pages_in tables k snap)) tables c.table new no_table there
@@ -74,7 +74,7 @@ set_changed commit c tables new there put = record {
 
 -- One change after others.
 
-pub applied-append : (table : ℕ) (cs ds : List Change) (rows : List Record) → applied table (cs ++ ds) rows ≡ applied table ds (applied table cs rows)
+pub applied-append : (table : ℕ) (cs ds : List Change) (rows : List Record) → rows_with_changes table (cs ++ ds) rows ≡ rows_with_changes table ds (rows_with_changes table cs rows)
 applied-append table [] ds rows = refl
 applied-append table (c ∷ cs) ds rows = applied-append table cs ds (cond (c.table == table) (with_values c.row.0 c.values rows) rows)
 
@@ -87,7 +87,7 @@ changed_none commit tables = record { rows = λ t snap h. refl; pages = λ t sna
 
 pub changed_more : (commit : ℕ) (cs : List Change) (c : Change) (a b d : List Table) → AreChanged commit cs a b → AreChanged commit (c ∷ []) b d → AreChanged commit (cs ++ c ∷ []) a d
 changed_more commit cs c a b d one two = record {
-  rows = λ t snap h. two.rows t snap h ∙ ap (applied t (c ∷ [])) (one.rows t snap h) ∙ sym (applied-append t cs (c ∷ []) (rows_in a t snap));
+  rows = λ t snap h. two.rows t snap h ∙ ap (rows_with_changes t (c ∷ [])) (one.rows t snap h) ∙ sym (applied-append t cs (c ∷ []) (rows_in a t snap));
   pages = λ t snap h. two.pages t snap h ∙ ap (pages_after t (c ∷ [])) (one.pages t snap h) ∙ sym (pages_after-append t cs (c ∷ []) (pages_in a t snap));
 }
 

@@ -5,7 +5,7 @@ use Rattle.rv_value.specs.declared.record.Record.{Record}
 use Rattle.rv_value.specs.declared.record.IndexEntry.{IndexEntry}
 use Rattle.rv_rows.specs.declared.changes.Change.{Change}
 use Rattle.rv_rows.specs.Rows.{Ascend}
-use Rattle.rv_rows.specs.Changes.{applied}
+use Rattle.rv_rows.specs.Changes.{rows_with_changes}
 use Rattle.rv_versions.specs.Chains.{AllChainsBelow}
 use Rattle.rv_node.specs.Trees.{Whole}
 use Rattle.rv_index.specs.Index.{empty_tree, entries_of, cuts_of, tree_of, IsOlderSame}
@@ -55,7 +55,7 @@ pub record IsOpen (snap : ℕ) (tables : List Table) (index : Index) : Type 0 wh
 -- an index after the changes of a commit, of which the tables have the rows before them: its entries are those of the
 -- changed rows, and its tree is that of the changes made one after another
 pub record IsThrough (commit : ℕ) (changes : List Change) (tables : List Table) (old new : Index) : Type 0 where
-  pub indexed : IsIndexed old.columns (applied old.table changes (rows_in tables old.table commit)) commit new.tree
+  pub indexed : IsIndexed old.columns (rows_with_changes old.table changes (rows_in tables old.table commit)) commit new.tree
   pub tree : tree_of new.tree commit ≡ tree_through old.columns old.table changes (rows_in tables old.table commit) (tree_of old.tree commit)
   pub few : length new.tree ≤ 4294967296
 

@@ -4,7 +4,7 @@ use Rattle.std.specs.List.{slice_index_or}
 use Rattle.rv_value.specs.declared.record.Record.{Record}
 use Rattle.rv_rows.specs.declared.changes.Change.{Change}
 use Rattle.rv_rows.specs.Rows.{Ascend}
-use Rattle.rv_rows.specs.Changes.{applied}
+use Rattle.rv_rows.specs.Changes.{rows_with_changes}
 use Rattle.rv_reader.specs.Storing.{AreWide, pages_after}
 use Rattle.rv_records.specs.Pages.{rows_at, pages_at, IsBelow, IsSame}
 use Rattle.rv_store.specs.declared.tables.Table.{Table}
@@ -43,7 +43,7 @@ pub record AreSameBelow (commit : ℕ) (old new : List Table) : Type 0 where
 
 -- from a commit on the tables have these changes
 pub record AreChanged (commit : ℕ) (changes : List Change) (old new : List Table) : Type 0 where
-  pub rows : (table snap : ℕ) → commit ≤ snap → rows_in new table snap ≡ applied table changes (rows_in old table snap)
+  pub rows : (table snap : ℕ) → commit ≤ snap → rows_in new table snap ≡ rows_with_changes table changes (rows_in old table snap)
   pub pages : (table snap : ℕ) → commit ≤ snap → pages_in new table snap ≡ pages_after table changes (pages_in old table snap)
 
 -- a change of one of so many tables, whose row number fits

@@ -1,7 +1,7 @@
 ghost use Rattle.std.specs.Prelude.{◌≡◌, ℕ, ◌+◌, ◌<◌, ◌≤◌, length, IfOk, OnOk};
 ghost use Rattle.std.specs.Option.{option_copied};
 ghost use Rattle.rv_rows.specs.Rows.{Ascend};
-ghost use Rattle.rv_rows.specs.Changes.{Rise, applied};
+ghost use Rattle.rv_rows.specs.Changes.{Rise, rows_with_changes};
 ghost use Rattle.rv_reader.specs.Tables.{row_at};
 ghost use Rattle.rv_versions.specs.Chains.{AllChainsBelow};
 ghost use Rattle.rv_records.specs.Pages.{page_at, rows_at, rows_of};
@@ -156,7 +156,7 @@ pub fn index_changes(
     requires rise { Rise changes.now }
     requires indexed { IsIndexed index.old.columns (rows_at records.now commit) commit index.old.tree }
     requires newest { AllChainsBelow (commit + 1) index.old.tree }
-    ensures ok { OnOk result (IsIndexed index.old.columns (applied index.old.table changes.now (rows_at records.now commit)) commit index.new.tree) }
+    ensures ok { OnOk result (IsIndexed index.old.columns (rows_with_changes index.old.table changes.now (rows_at records.now commit)) commit index.new.tree) }
     ensures tree { OnOk result (tree_of index.new.tree commit ≡ tree_through index.old.columns index.old.table changes.now (rows_at records.now commit) (tree_of index.old.tree commit)) }
     ensures few { OnOk result (length index.new.tree ≤ 4294967296) }
     ensures same { IsSameIndex commit index.old index.new }

@@ -3,7 +3,7 @@ use Rattle.std.proofs.Common.{◌≡◌, ℕ, zero, suc, ◌≤◌, List, [], �
 use Rattle.std.proofs.lemmas.Bool.{cases_Bool}
 use Rattle.std.proofs.lemmas.Bool.Decides.{nat_tests}
 use Rattle.std.specs.List.{list_all, AllByRecursion}
-use Rattle.rv_model.specs.Transcript.{spaced, IsLine}
+use Rattle.rv_model.specs.Transcript.{words_text, IsLine}
 use Rattle.rv_text.specs.Lines.{cut, extended, grown, split, Cut, Split}
 use Rattle.rv_text.specs.Reading.{ends, front}
 use Rattle.rv_text.specs.Values.{piece_grown, pieces, pieces_of, value_cut}
@@ -143,7 +143,7 @@ words_cut (c ∷ cs) = elim (cases_Bool (eqb c 32)) [
 
 abbrev pub unworded : List (List ℕ) → List ℕ
 unworded [] = []
-unworded (w ∷ ws) = w ++ spaced ws
+unworded (w ∷ ws) = w ++ words_text ws
 
 pub words_whole : (text : List ℕ) → unworded (words text) ≡ text
 words_whole [] = refl
@@ -152,7 +152,7 @@ words_whole (c ∷ cs) = elim (cases_Bool (eqb c 32)) [
   | inr f ↦ rw f (grown_whole (words cs) ∙ ap (λ bs. c ∷ bs) (words_whole cs))
 ]
   where
-    spaced_some : (ws : List (List ℕ)) (w : List ℕ) (us : List (List ℕ)) → ws ≡ w ∷ us → spaced ws ≡ 32 ∷ unworded ws
+    spaced_some : (ws : List (List ℕ)) (w : List ℕ) (us : List (List ℕ)) → ws ≡ w ∷ us → words_text ws ≡ 32 ∷ unworded ws
     spaced_some ws w us e = rw e refl
 
     grown_whole : (ws : List (List ℕ)) → unworded (word_grown c ws) ≡ c ∷ unworded ws
@@ -162,9 +162,9 @@ words_whole (c ∷ cs) = elim (cases_Bool (eqb c 32)) [
 abbrev pub AreWords : List (List ℕ) → Type 0
 AreWords = AllByRecursion (λ (w : List ℕ). lacks 32 w ≡ true)
 
-pub words_again : (w : List ℕ) (ws : List (List ℕ)) → lacks 32 w ≡ true → AreWords ws → words (w ++ spaced ws) ≡ w ∷ ws
+pub words_again : (w : List ℕ) (ws : List (List ℕ)) → lacks 32 w ≡ true → AreWords ws → words (w ++ words_text ws) ≡ w ∷ ws
 words_again w [] h hs = ap words (append-nil w) ∙ words_cut w ∙ ap (λ (c : Cut). c.word ∷ words_of c.more) (cut_all 32 w h)
-words_again w (v ∷ vs) h hs = words_cut (w ++ spaced (v ∷ vs)) ∙ ap (λ (c : Cut). c.word ∷ words_of c.more) (cut_word 32 w (v ++ spaced vs) h) ∙ ap (λ us. w ∷ us) (words_again v vs hs.0 hs.1)
+words_again w (v ∷ vs) h hs = words_cut (w ++ words_text (v ∷ vs)) ∙ ap (λ (c : Cut). c.word ∷ words_of c.more) (cut_word 32 w (v ++ words_text vs) h) ∙ ap (λ us. w ∷ us) (words_again v vs hs.0 hs.1)
 
 -- Pieces of a row.
 

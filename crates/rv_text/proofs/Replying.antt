@@ -14,7 +14,8 @@ use Rattle.rv_lang.specs.declared.reply.Refusal.TheVariants as refusals
 use Rattle.rv_lang.specs.declared.reply.Shown.{Shown}
 use Rattle.rv_lang.specs.declared.reply.Reply.{Reply}
 use Rattle.rv_lang.specs.declared.reply.Reply.TheVariants as replies
-use Rattle.rv_model.specs.Transcript.{doubled, limit_word, more_text, refusal_text, reply_text, spaced, trace_words, value_text, values_text, IsLine, IsName, IsPlainRefusal, IsPlainReply, IsPlainValue}
+use Rattle.rv_lang.specs.Tokens.{quotes_twice}
+use Rattle.rv_model.specs.Transcript.{limit_word, more_text, refusal_text, reply_text, words_text, trace_words, value_text, values_text, IsLine, IsName, IsPlainRefusal, IsPlainReply, IsPlainValue}
 use Rattle.rv_model.proofs.Values.{numeric, decimal_pass, signed_pass, passes_more}
 use Rattle.rv_text.specs.Lines.{cut}
 use Rattle.rv_text.specs.Reading.{CanHoldReply}
@@ -49,19 +50,19 @@ decimal_printed n small = passes_more numeric printed numeric_printed (decimal n
 name_printed : (name : List ℕ) → IsName name → list_all printed name ≡ true
 name_printed name h = passes_more wordy printed wordy_printed name (name_wordy name h)
 
-doubled_printed : (t : List ℕ) → list_all printed t ≡ true → list_all printed (doubled t) ≡ true
+doubled_printed : (t : List ℕ) → list_all printed t ≡ true → list_all printed (quotes_twice t) ≡ true
 doubled_printed [] h = refl
 doubled_printed (c ∷ cs) h =
     let parts = both (printed c) (list_all printed cs) h in
     elim (cases_Bool (eqb c 39)) [
       | inl t ↦ rw t (doubled_printed cs parts.1)
-      | inr f ↦ rw f (joined (printed c) (list_all printed (doubled cs)) parts.0 (doubled_printed cs parts.1))
+      | inr f ↦ rw f (joined (printed c) (list_all printed (quotes_twice cs)) parts.0 (doubled_printed cs parts.1))
     ]
 
 value_printed : (v : Value) → IsPlainValue v → list_all printed (value_text v) ≡ true
 value_printed Null p = refl
 value_printed (Int z) p = passes_more numeric printed numeric_printed (signed_decimal z) (signed_pass z p)
-value_printed (Str t) p = all_printed (doubled t) (39 ∷ []) (doubled_printed t p) refl
+value_printed (Str t) p = all_printed (quotes_twice t) (39 ∷ []) (doubled_printed t p) refl
 
 more_printed : (vs : List Value) → AllByRecursion IsPlainValue vs → list_all printed (more_text vs) ≡ true
 more_printed [] p = refl
@@ -95,9 +96,9 @@ pair_printed n m fn fm = all_printed (decimal n ++ codes " by ") (decimal m) (al
 limit_printed : (w : Which) (n : ℕ) → n < 2 ^ 64 → list_all printed (limit_word w ++ 32 ∷ decimal n) ≡ true
 limit_printed w n small = all_printed (limit_word w) (32 ∷ decimal n) (passes_more wordy printed wordy_printed (limit_word w) (limit_wordy w)) (decimal_printed n small)
 
-spaced_printed : (ws : List (List ℕ)) → AreWordy ws → list_all printed (spaced ws) ≡ true
+spaced_printed : (ws : List (List ℕ)) → AreWordy ws → list_all printed (words_text ws) ≡ true
 spaced_printed [] p = refl
-spaced_printed (w ∷ ws) p = all_printed w (spaced ws) (passes_more wordy printed wordy_printed w p.0) (spaced_printed ws p.1)
+spaced_printed (w ∷ ws) p = all_printed w (words_text ws) (passes_more wordy printed wordy_printed w p.0) (spaced_printed ws p.1)
 
 refusal_printed : (r : Refusal) → IsPlainRefusal r → list_all printed (refusal_text r) ≡ true
 refusal_printed refusals.Syntax p = refl

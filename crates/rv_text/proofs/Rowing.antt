@@ -10,7 +10,8 @@ use Rattle.std.specs.List.{list_all, AllByRecursion}
 use Rattle.std.specs.Str.{is_utf8}
 use Rattle.rv_value.specs.declared.value.Value.{Value}
 use Rattle.rv_value.specs.declared.value.Value.TheVariants.{Null, Int, Str}
-use Rattle.rv_model.specs.Transcript.{doubled, more_text, value_text, values_text, IsPlainValue}
+use Rattle.rv_lang.specs.Tokens.{quotes_twice}
+use Rattle.rv_model.specs.Transcript.{more_text, value_text, values_text, IsPlainValue}
 use Rattle.rv_model.proofs.Values.{numeric, signed_pass, signed_nonempty, passes_more}
 use Rattle.rv_text.specs.Lines.{extended, Cut}
 use Rattle.rv_text.specs.Reading.{CanHoldValue}
@@ -94,7 +95,7 @@ before_takes : (c : ℕ) (o : Option (List ℕ)) (t : List ℕ) → before c o �
 before_takes c None t e = cc
 before_takes c (Some u) t e = (u, refl, sym (some_is (c ∷ u) t e))
 
-pub unquoted_again : (t : List ℕ) → list_all (nat_le 32) t ≡ true → unquoted false (doubled t ++ 39 ∷ []) ≡ Some t
+pub unquoted_again : (t : List ℕ) → list_all (nat_le 32) t ≡ true → unquoted false (quotes_twice t ++ 39 ∷ []) ≡ Some t
 unquoted_again [] h = refl
 unquoted_again (c ∷ cs) h =
     let parts = both (nat_le 32 c) (list_all (nat_le 32) cs) h in
@@ -108,7 +109,7 @@ opened true bytes = 39 ∷ bytes
 opened false bytes = bytes
 
 pub record Unquoted (quoted : Bool) (bytes t : List ℕ) : Type 0 where
-  pub is : doubled t ++ 39 ∷ [] ≡ opened quoted bytes
+  pub is : quotes_twice t ++ 39 ∷ [] ≡ opened quoted bytes
   pub plain : list_all (nat_le 32) t ≡ true
 
 pub unquoted_takes : (quoted : Bool) (bytes t : List ℕ) → unquoted quoted bytes ≡ Some t → Unquoted quoted bytes t
@@ -198,7 +199,7 @@ bare_cut (c ∷ cs) rest h =
     let quote : eqb c 39 ≡ false = (let m = marks.1 in grind (arith, nat_tests)) in
     rw (comma, quote) (ap (λ x. extended (c ∷ []) x) (bare_cut cs rest parts.1))
 
-inside_cut : (t rest : List ℕ) → value_cut true (doubled t ++ 39 ∷ rest) ≡ extended (doubled t ++ 39 ∷ []) (value_cut false rest)
+inside_cut : (t rest : List ℕ) → value_cut true (quotes_twice t ++ 39 ∷ rest) ≡ extended (quotes_twice t ++ 39 ∷ []) (value_cut false rest)
 inside_cut [] rest = refl
 inside_cut (c ∷ cs) rest = elim (cases_Bool (eqb c 39)) [
   | inl q ↦ rw q (ap (λ x. extended (39 ∷ []) (extended (39 ∷ []) x)) (inside_cut cs rest))
@@ -212,7 +213,7 @@ numeric_unmarked c h = grind (arith, nat_tests)
 value_before_cut : (v : Value) (rest : List ℕ) → IsPlainValue v → value_cut false (value_text v ++ rest) ≡ extended (value_text v) (value_cut false rest)
 value_before_cut Null rest p = bare_cut (codes "NULL") rest refl
 value_before_cut (Int z) rest p = bare_cut (signed_decimal z) rest (passes_more numeric unmarked numeric_unmarked (signed_decimal z) (signed_pass z p))
-value_before_cut (Str t) rest p = ap (λ bs. value_cut false (39 ∷ bs)) (append_assoc (doubled t) (39 ∷ []) rest) ∙ ap (λ x. extended (39 ∷ []) x) (inside_cut t rest)
+value_before_cut (Str t) rest p = ap (λ bs. value_cut false (39 ∷ bs)) (append_assoc (quotes_twice t) (39 ∷ []) rest) ∙ ap (λ x. extended (39 ∷ []) x) (inside_cut t rest)
 
 abbrev spaced_text : Value → List ℕ
 spaced_text v = 32 ∷ value_text v
@@ -243,7 +244,7 @@ pub record Nonempty (bytes : List ℕ) : Type 0 where
 value_head : (v : Value) (rest : List ℕ) → IsPlainValue v → Nonempty (value_text v ++ rest)
 value_head Null rest p = record { first = 78; more = 85 ∷ 76 ∷ 76 ∷ rest; is = refl }
 value_head (Int z) rest p = let head = signed_head z p in record { first = head.first; more = head.more ++ rest; is = ap (λ bs. bs ++ rest) head.is }
-value_head (Str t) rest p = record { first = 39; more = (doubled t ++ 39 ∷ []) ++ rest; is = refl }
+value_head (Str t) rest p = record { first = 39; more = (quotes_twice t ++ 39 ∷ []) ++ rest; is = refl }
 
 pub values_again : (vs : List Value) → AllByRecursion IsPlainValue vs → AllByRecursion CanHoldValue vs → values_at (values_text vs) ≡ Some vs
 values_again [] p h = refl

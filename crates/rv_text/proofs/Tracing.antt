@@ -11,7 +11,7 @@ use Rattle.rv_judge.specs.declared.events.Control.TheVariants as controls
 use Rattle.rv_lang.specs.declared.reply.ShownEvent.{ShownEvent}
 use Rattle.rv_lang.specs.declared.reply.ShownEvent.TheVariants as events
 use Rattle.rv_lang.specs.declared.reply.Shown.{Shown}
-use Rattle.rv_model.specs.Transcript.{control_word, count_words, event_words, is_capital, is_name_byte, spaced, strategy_word, trace_words, IsName, IsPlainEvent, IsPlainTrace}
+use Rattle.rv_model.specs.Transcript.{control_word, count_words, event_words, is_capital, is_name_byte, words_text, strategy_word, trace_words, IsName, IsPlainEvent, IsPlainTrace}
 use Rattle.rv_model.proofs.Values.{numeric, decimal_pass, passes_more}
 use Rattle.rv_text.specs.declared.traces.Tail.{Tail}
 use Rattle.rv_text.specs.Values.{number_at}
@@ -136,7 +136,7 @@ strategy_again strategies.IndexOnly = refl
 abbrev tail_of : Shown → Tail
 tail_of shown = record { events = shown.events; pages = shown.pages; leaves = shown.leaves; fetches = shown.fetches }
 
-pub trace_again : (shown : Shown) → IsPlainTrace shown → trace_at (strategy_word shown.strategy ++ spaced (flat_map event_words shown.events ++ count_words shown)) ≡ Some shown
+pub trace_again : (shown : Shown) → IsPlainTrace shown → trace_at (strategy_word shown.strategy ++ words_text (flat_map event_words shown.events ++ count_words shown)) ≡ Some shown
 trace_again shown p =
     let plain = all_unspaced (trace_words shown) (trace_wordy shown p) in
     ap trace_told (words_again (strategy_word shown.strategy) (flat_map event_words shown.events ++ count_words shown) plain.0 plain.1)
@@ -296,21 +296,21 @@ told_takes a (w ∷ ws) t ready e = by (step_at a w) refl e (λ next rdy h. told
         record { is = found.is ∙ step ws; plain = found.plain }
 
 pub record IsTrace (text : List ℕ) (shown : Shown) : Type 0 where
-  pub is : spaced (trace_words shown) ≡ 32 ∷ text
+  pub is : words_text (trace_words shown) ≡ 32 ∷ text
   pub plain : IsPlainTrace shown
 
 trace_words_take : (ws : List (List ℕ)) (shown : Shown) → trace_told ws ≡ Some shown → IsTrace (unworded ws) shown
 trace_words_take [] shown e = cc
 trace_words_take (w ∷ ws) shown e = by (strategy_at w) (told Event ws) refl refl e
   where
-    by : (s : Option Strategy) (t : Option Tail) → strategy_at w ≡ s → told Event ws ≡ t → shown_of s t ≡ Some shown → IsTrace (w ++ spaced ws) shown
+    by : (s : Option Strategy) (t : Option Tail) → strategy_at w ≡ s → told Event ws ≡ t → shown_of s t ≡ Some shown → IsTrace (w ++ words_text ws) shown
     by None t se te e = cc
     by (Some s) None se te e = cc
     by (Some s) (Some t) se te e =
         let word = strategy_takes w s se in
         let tail = told_takes Event ws t (record { is = tt }) te in
         rw (sym (some_is (record { strategy = s; events = t.events; pages = t.pages; leaves = t.leaves; fetches = t.fetches }) shown e)) (record {
-          is = λ i. spaced (word i ∷ tail.is i);
+          is = λ i. words_text (word i ∷ tail.is i);
           plain = record { events = tail.plain.events; pages = tail.plain.pages; leaves = tail.plain.leaves; fetches = tail.plain.fetches };
         })
 

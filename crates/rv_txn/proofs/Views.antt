@@ -7,7 +7,7 @@ use Rattle.rv_value.specs.declared.value.Value.{Value}
 use Rattle.rv_value.specs.declared.record.Record.{Record}
 use Rattle.rv_rows.specs.declared.changes.Change.{Change}
 use Rattle.rv_rows.specs.declared.changes.RowKey.{RowKey}
-use Rattle.rv_rows.specs.Changes.{Rise, applied, change_at, is_before}
+use Rattle.rv_rows.specs.Changes.{Rise, change_at, is_before, rows_with_changes}
 use Rattle.rv_rows.specs.Merging.{Passes}
 use Rattle.rv_rows.specs.Rows.{Ascend, comes_below, with_values, without_row}
 use Rattle.rv_rows.proofs.Chains.{ascends_without, record_ascends}
@@ -87,19 +87,19 @@ with_ascends number None rows ascend = ascends_without number rows ascend
 with_ascends number (Some vs) rows ascend = record_ascends (record { row = record { 0 = number }; values = vs }) rows ascend
 
 -- one change of the table applied, of which values are left out where they are not kept
-one_kept : (only : List (List Atom)) (table : ℕ) (c : Change) (cs : List Change) (rows : List Record) (b : Bool) → c.table == table ≡ b → applied table (kept_change only c ∷ cs) rows ≡ applied table cs (cond b (with_values c.row.0 (kept_values only c.values) rows) rows)
-one_kept only table c cs rows b e = ap (λ (b : Bool). applied table cs (cond b (with_values c.row.0 (kept_values only c.values) rows) rows)) e
+one_kept : (only : List (List Atom)) (table : ℕ) (c : Change) (cs : List Change) (rows : List Record) (b : Bool) → c.table == table ≡ b → rows_with_changes table (kept_change only c ∷ cs) rows ≡ rows_with_changes table cs (cond b (with_values c.row.0 (kept_values only c.values) rows) rows)
+one_kept only table c cs rows b e = ap (λ (b : Bool). rows_with_changes table cs (cond b (with_values c.row.0 (kept_values only c.values) rows) rows)) e
 
-pub kept_applied : (only : List (List Atom)) (table : ℕ) (changes : List Change) (rows : List Record) → Ascend rows → filter (keeps only) (applied table changes rows) ≡ applied table (map (kept_change only) changes) (filter (keeps only) rows)
+pub kept_applied : (only : List (List Atom)) (table : ℕ) (changes : List Change) (rows : List Record) → Ascend rows → filter (keeps only) (rows_with_changes table changes rows) ≡ rows_with_changes table (map (kept_change only) changes) (filter (keeps only) rows)
 kept_applied only table [] rows ascend = refl
 kept_applied only table (c ∷ cs) rows ascend = elim (cases_Bool (c.table == table)) [
   | inl here ↦
-      ap (λ (b : Bool). filter (keeps only) (applied table cs (cond b (with_values c.row.0 c.values rows) rows))) here
+      ap (λ (b : Bool). filter (keeps only) (rows_with_changes table cs (cond b (with_values c.row.0 c.values rows) rows))) here
       ∙ kept_applied only table cs (with_values c.row.0 c.values rows) (with_ascends c.row.0 c.values rows ascend)
-      ∙ ap (applied table (map (kept_change only) cs)) (kept_with only c.row.0 c.values rows ascend)
+      ∙ ap (rows_with_changes table (map (kept_change only) cs)) (kept_with only c.row.0 c.values rows ascend)
       ∙ sym (one_kept only table c (map (kept_change only) cs) (filter (keeps only) rows) true here)
   | inr other ↦
-      ap (λ (b : Bool). filter (keeps only) (applied table cs (cond b (with_values c.row.0 c.values rows) rows))) other
+      ap (λ (b : Bool). filter (keeps only) (rows_with_changes table cs (cond b (with_values c.row.0 c.values rows) rows))) other
       ∙ kept_applied only table cs rows ascend
       ∙ sym (one_kept only table c (map (kept_change only) cs) (filter (keeps only) rows) false other)
 ]
@@ -116,8 +116,8 @@ kept_rise only (c ∷ cs) rise = (kept_behind only c cs rise.0, kept_rise only c
 
 -- One change is laid over the rows that are left.
 pub one_laid : (only : List (List Atom)) (table : ℕ) (old rest new left all : List Record) (s t : List (RowKey × Option (List Value))) (e : RowKey × Option (List Value)) → s ≡ e ∷ t → Rise (map change_at s)
-    → Passes table (kept_change only (change_at e)) old rest new left → old ++ applied table (map (kept_change only) (map change_at s)) rest ≡ all → new ++ applied table (map (kept_change only) (map change_at t)) left ≡ all
+    → Passes table (kept_change only (change_at e)) old rest new left → old ++ rows_with_changes table (map (kept_change only) (map change_at s)) rest ≡ all → new ++ rows_with_changes table (map (kept_change only) (map change_at t)) left ≡ all
 one_laid only table old rest new left all s t e next rise passes told =
     let rise' : Rise (map change_at (e ∷ t)) = rw next at rise in
-    let told' : old ++ applied table (map (kept_change only) (map change_at (e ∷ t))) rest ≡ all = rw next at told in
+    let told' : old ++ rows_with_changes table (map (kept_change only) (map change_at (e ∷ t))) rest ≡ all = rw next at told in
     passes.same (map (kept_change only) (map change_at t)) (kept_rise only (map change_at (e ∷ t)) rise') ∙ told'

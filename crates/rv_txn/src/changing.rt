@@ -3,7 +3,7 @@ ghost use Rattle.std.specs.Prelude.{◌≡◌, ◌++◌, IfOk, IfSome, OnOk, Lis
 ghost use Rattle.std.specs.List.{AllByRecursion};
 ghost use Rattle.std.specs.Option.{option_copied};
 ghost use Rattle.rv_rows.specs.Rows.{Ascend};
-ghost use Rattle.rv_rows.specs.Changes.{applied, change_at, has_change};
+ghost use Rattle.rv_rows.specs.Changes.{change_at, has_change, rows_with_changes};
 ghost use Rattle.rv_rows.specs.Merging.{Passes};
 ghost use Rattle.rv_restrict.specs.Bind.{passes_home};
 ghost use Rattle.rv_restrict.specs.Truth.{names_only, qualifies};
@@ -116,7 +116,7 @@ fn lay_over(
 ) -> Result<Vec<Record>, NoMemory>
     requires ascend { Ascend rows.now }
     requires columns { AllByRecursion (LeavesColumns table only.now) changes.now }
-    ensures { IfOk result (λ all. all.items ≡ applied table (map (kept_change only.now) changes.now) rows.now) }
+    ensures { IfOk result (λ all. all.items ≡ rows_with_changes table (map (kept_change only.now) changes.now) rows.now) }
 {
     let mut all = Vec::new(alloc);
     let mut rest = rows;

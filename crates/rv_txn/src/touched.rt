@@ -2,7 +2,7 @@
 ghost use Rattle.std.specs.Prelude.{◌≡◌, ◌∷◌, ◌++◌, [], IfOk, OnOk, OnErr, slice_set};
 ghost use Rattle.std.specs.List.{slice_index_or};
 ghost use Rattle.rv_rows.specs.Changes.{with_change};
-ghost use Rattle.rv_model.specs.Transactions.{next_row, touch_all, touched_by, touched_in, untouched, with_number};
+ghost use Rattle.rv_model.specs.Transactions.{empty_lists, next_row, touch_all, touched_by, touched_in, with_number};
 ghost use Rattle.rv_txn.specs.Touched.{touch_at};
 
 use rv_rows::{Change, Changes};
@@ -39,7 +39,7 @@ pub fn touched_by(touched: &Items<Items<u64>>, table: u32, row: RowNo) -> u64
 
 /// So many tables of which no row number was taken, and one of which the first was.
 fn more_tables(alloc: Global, tables: usize) -> Result<Vec<Items<u64>>, NoMemory>
-    ensures { IfOk result (λ more. more.items ≡ untouched tables ++ (0 ∷ []) ∷ []) }
+    ensures { IfOk result (λ more. more.items ≡ empty_lists tables ++ (0 ∷ []) ∷ []) }
 {
     let mut more = Vec::new(alloc);
     'tables: for _table in 0..tables {

@@ -1,6 +1,6 @@
 use Rattle.std.proofs.Common.{sym, ap, ◌∙◌, ◌/◌, ◌==◌, filter}
 use Rattle.rv_value.specs.declared.record.Record.{Record}
-use Rattle.rv_rows.specs.Changes.{applied, is_before}
+use Rattle.rv_rows.specs.Changes.{is_before, rows_with_changes}
 use Rattle.rv_rows.specs.Rows.{comes_below}
 use Rattle.rv_rows.proofs.Puts.{rising_filter}
 use Rattle.rv_overlay.specs.Fronts.{is_on}
@@ -17,7 +17,7 @@ lay_changes-requires-clause-rise g c = rw (c.as_slice.ensures.value, c.in_ok-cha
 pub returns-clause-rows : goal.returns-clause-rows
 returns-clause-rows g c =
     c.in_ok-rows.ensures
-    ∙ ap (λ cs. applied c.args.table (on_page c.args.n cs) c.in_ok-page.page.items) (c.as_slice.ensures.value ∙ c.in_ok-changes.ensures)
+    ∙ ap (λ cs. rows_with_changes c.args.table (on_page c.args.n cs) c.in_ok-page.page.items) (c.as_slice.ensures.value ∙ c.in_ok-changes.ensures)
     ∙ on_applied c.args.table c.args.n c.args.frozen.now.changes c.in_ok-page.page.items
-    ∙ ap (applied c.args.table (on_page c.args.n c.args.frozen.now.changes)) c.in_ok-page.ensures.rows
+    ∙ ap (rows_with_changes c.args.table (on_page c.args.n c.args.frozen.now.changes)) c.in_ok-page.ensures.rows
     ∙ sym (page_applied c.args.table c.args.n c.args.frozen.now.changes _ c.requires.ascend)

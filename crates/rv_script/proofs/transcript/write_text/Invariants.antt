@@ -1,6 +1,6 @@
 use Rattle.std.proofs.Common.{◌≡◌, ℕ, List, take, Ok, ◌≤◌}
 use Rattle.rv_io.specs.Pieces.{Goes}
-use Rattle.rv_model.specs.Transcript.{text, more_text, doubled}
+use Rattle.rv_model.specs.Transcript.{text, more_text}
 use Rattle.rv_script.proofs.transcript.write_text.Given as goal
 
 abbrev pub invariant-entries : goal.invariant-entries

@@ -3,7 +3,7 @@ use Rattle.std.specs.List.{list_all}
 use Rattle.std.proofs.lemmas.List.{take_more, drop_more}
 use Rattle.rv_value.specs.declared.record.Record.{Record}
 use Rattle.rv_rows.specs.declared.changes.Change.{Change}
-use Rattle.rv_rows.specs.Changes.{applied, is_before}
+use Rattle.rv_rows.specs.Changes.{is_before, rows_with_changes}
 use Rattle.rv_reader.specs.Tables.{row_at}
 use Rattle.rv_records.specs.Pages.{rows_at}
 use Rattle.rv_index.specs.Index.{tree_of, entries_of}
@@ -19,7 +19,7 @@ pass_change-requires-clause-absent c own =
     let table = c.args.index.now.table in
     let columns = c.args.index.now.columns in
     let rows = rows_at c.args.records.now c.args.commit in
-    let so_far = applied table (take i all) rows in
+    let so_far = rows_with_changes table (take i all) rows in
     let front : list_all (λ (d : Change). is_before d item) (take i all) ≡ true = subst (λ (x : Change). list_all (λ (d : Change). is_before d x) (take i all) ≡ true) (sym c.change-item.is) (rise_before i all item c.changes-test.true c.requires.rise) in
     let found = row_before table item (take i all) rows (own ∙ c.changes.invariant.same.table) front in
     subst (λ (cs : List ℕ). IsAbsent (entry_at cs (row_with item.row.0 item.values)) (taken_out (entry_at cs (row_at rows item.row.0)) (entries_of c.changes.index.tree c.args.commit))) (sym c.changes.invariant.same.columns)
@@ -36,7 +36,7 @@ changes-preserved c =
     let table = c.args.index.now.table in
     let columns = c.args.index.now.columns in
     let rows = rows_at c.args.records.now c.args.commit in
-    let so_far = applied table (take i all) rows in
+    let so_far = rows_with_changes table (take i all) rows in
     let before = row_at rows item.row.0 in
     let front : list_all (λ (d : Change). is_before d item) (take i all) ≡ true = subst (λ (x : Change). list_all (λ (d : Change). is_before d x) (take i all) ≡ true) (sym c.change-item.is) (rise_before i all item c.changes-test.true c.requires.rise) in
     let next : take (i + 1) all ≡ take i all ++ item ∷ [] = take_more all i item c.changes-test.true ∙ ap (λ (x : Change). take i all ++ x ∷ []) (sym c.change-item.is) in

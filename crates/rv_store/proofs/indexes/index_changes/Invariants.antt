@@ -1,5 +1,5 @@
 use Rattle.std.proofs.Common.{◌≡◌, ◌+◌, take, drop}
-use Rattle.rv_rows.specs.Changes.{applied}
+use Rattle.rv_rows.specs.Changes.{rows_with_changes}
 use Rattle.rv_versions.specs.Chains.{AllChainsBelow}
 use Rattle.rv_records.specs.Pages.{rows_at}
 use Rattle.rv_index.specs.Index.{tree_of}
@@ -12,7 +12,7 @@ abbrev pub invariant-changes : goal.invariant-changes
 invariant-changes l =
     let index = l.initial.index in
     let rows = rows_at l.records l.commit in
-    let so_far = applied index.table (take l.change-index l.changes) rows in
+    let so_far = rows_with_changes index.table (take l.change-index l.changes) rows in
     record {
       same : IsSameIndex l.commit index l.index;
       newest : AllChainsBelow (l.commit + 1) l.index.tree;

@@ -1,7 +1,7 @@
 use Rattle.std.proofs.Common.{◌≡◌, ◌++◌, map}
 use Rattle.std.specs.List.{AllByRecursion}
 use Rattle.rv_rows.specs.Rows.{Ascend}
-use Rattle.rv_rows.specs.Changes.{Rise, applied, change_at}
+use Rattle.rv_rows.specs.Changes.{Rise, change_at, rows_with_changes}
 use Rattle.rv_txn.specs.Changing.{LeavesColumns, kept_change}
 use Rattle.rv_txn.proofs.changing.lay_over.Given as goal
 
@@ -11,5 +11,5 @@ invariant-changes l = record {
   ascend : Ascend l.rest;
   rise : Rise (map change_at l.key-iterator);
   columns : AllByRecursion (LeavesColumns l.table l.only) (map change_at l.key-iterator);
-  same : l.all.items ++ applied l.table (map (kept_change l.only) (map change_at l.key-iterator)) l.rest ≡ applied l.table (map (kept_change l.only) l.changes) l.rows;
+  same : l.all.items ++ rows_with_changes l.table (map (kept_change l.only) (map change_at l.key-iterator)) l.rest ≡ rows_with_changes l.table (map (kept_change l.only) l.changes) l.rows;
 }

@@ -1,5 +1,5 @@
 use Rattle.std.proofs.Common.{◌∙◌, ap}
-use Rattle.rv_model.specs.Offers.{sorted}
+use Rattle.rv_model.specs.Offers.{offers_in_order}
 use Rattle.rv_replay.proofs.Fetching.{opens, opens_not}
 use Rattle.rv_replay.proofs.plain.PlainDatabase.open.Goals as goal
 
@@ -11,6 +11,6 @@ returns-in-Err-Refused c =
 pub returns : goal.returns
 returns c =
     let base = rw (c.catalog.ensures, c.txns.ensures, c.as_slice.ensures) at c.in-Ok.ensures.ok in
-    let listed = c.in_ok-offers-2.ensures ∙ ap sorted c.in_ok-offers.ensures in
+    let listed = c.in_ok-offers-2.ensures ∙ ap offers_in_order c.in_ok-offers.ensures in
     let pushed = rw c.first_table.ensures at c.in_ok-push.ensures.ok in
     rw (← c.self.view_is) (opens c.self.inside.database.stand.db c.self.inside.cursors c.push.new.self c.args.session c.in-Ok._base c.args.name c.args.select.now c.in_ok-offers-2.offers base listed pushed)
