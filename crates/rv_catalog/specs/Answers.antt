@@ -5,10 +5,12 @@ use Rattle.rv_catalog.specs.declared.def.BindFault.{BindFault}
 use Rattle.rv_catalog.specs.declared.def.BindFault.TheVariants.{Refused, NoMemory}
 
 infixl 10 ◌>>=◌
+-- a step, and then another with what it gave; a refusal ends the chain
 abbrev pub ◌>>=◌ : {A B : Type 0} → Result A Refusal → (A → Result B Refusal) → Result B Refusal
 ◌>>=◌ (Ok a) f = f a
 ◌>>=◌ (Err e) f = Err e
 
+-- the refusal, where the test is true
 abbrev pub refuse_if : Bool → Refusal → Result (Unit {0}) Refusal
 refuse_if true r = Err r
 refuse_if false r = Ok tt
@@ -17,6 +19,7 @@ abbrev pub refuse_some : Option (List ℕ) → (List ℕ → Refusal) → Result
 refuse_some None r = Ok tt
 refuse_some (Some name) r = Err (r name)
 
+-- what is there, or else the refusal
 abbrev pub ok_or : {A : Type 0} → Option A → Refusal → Result A Refusal
 ok_or (Some a) r = Ok a
 ok_or None r = Err r
@@ -29,7 +32,8 @@ collected f done (x ∷ xs) = do
   collected f (done ++ y ∷ []) xs
 
 -- every item passes, or the first refusal
-abbrev pub all_pass : {A : Type 0} → (A → Result (Unit {0}) Refusal) → List A → Result (Unit {0}) Refusal
+abbrev pub all_pass : {A : Type 0}
+    → (A → Result (Unit {0}) Refusal) → List A → Result (Unit {0}) Refusal
 all_pass f [] = Ok tt
 all_pass f (x ∷ xs) = do
   passed ← f x

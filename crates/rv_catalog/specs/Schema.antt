@@ -11,15 +11,19 @@ pub record Schema : Type 0 where
 
 -- Tables and indexes have separate names. A number is a position.
 
+-- the number of the table of a name
 abbrev pub table_named : List TableDef → List ℕ → Option ℕ
 table_named tables name = position (λ (t : TableDef). bytes_eq name t.name) tables
 
+-- the number of the index of a name
 abbrev pub index_named : List IndexDef → List ℕ → Option ℕ
 index_named indexes name = position (λ (i : IndexDef). bytes_eq name i.name) indexes
 
+-- what stands behind the last table
 abbrev pub no_table : TableDef
 no_table = record { name = []; columns = [] }
 
+-- the names and kinds of a table's columns, none behind the last table
 abbrev pub columns_of : List TableDef → ℕ → List (List ℕ × Kind)
 columns_of tables number = (slice_index_or tables number no_table).columns
 

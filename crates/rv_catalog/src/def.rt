@@ -11,7 +11,8 @@ pub struct TableDef {
     pub columns: Items<(Text, Kind)>,
 }
 
-/// An index: its name, the number of its table, and the numbers of its columns in the order of its keys.
+/// An index: its name, the number of its table, and the numbers of its columns in the order of its
+/// keys.
 #[derive(Drop, Debug, PartialEq, Eq)]
 pub struct IndexDef {
     pub name: Text,
@@ -26,7 +27,8 @@ pub enum Goal {
     TotalTime,
 }
 
-/// A query: the tables of its FROM items, the condition over them, and the columns returned and sorted by.
+/// A query: the tables of its FROM items, the condition over them, and the columns returned and
+/// sorted by.
 #[derive(Drop, Debug)]
 pub struct Select {
     pub tables: Items<u32>,
@@ -36,8 +38,8 @@ pub struct Select {
     pub goal: Goal,
 }
 
-/// A statement with numbers for names. `only` is over place 0 alone but in a `Select`, where a place is
-/// the position of a FROM item.
+/// A statement with numbers for names. `only` is over place 0 alone but in a `Select`, where a
+/// place is the position of a FROM item.
 #[derive(Drop, Debug)]
 pub enum Resolved {
     CreateTable(TableDef),

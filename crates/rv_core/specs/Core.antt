@@ -12,8 +12,8 @@ use Rattle.rv_core.specs.declared.engine.PartOf.{PartOf}
 use Rattle.rv_core.specs.declared.engine.PartOf.TheVariants.{Answered, Working}
 use Rattle.rv_core.specs.Obeying.{HandlesText, LeavesText, Plans, TurnsText, Under, WorksText}
 
--- its history, its phase, its store, the database for which it stands, the horizon of the store, the open cursors with their
--- plans, in the order in which they were opened, and the number of the next cursor
+-- its history, phase and store, the database for which it stands, the store's horizon, the open
+-- cursors with their plans, in the order of their opening, and the number of the next cursor
 pub record Shown (S : Type 0) : Type 0 where
   pub history : List Entry
   pub phase : ℕ

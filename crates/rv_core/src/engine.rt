@@ -26,9 +26,9 @@ pub enum PartOf {
     Working,
 }
 
-/// The database over a store, with the history of its calls. Contracts see the history, the phase, the one-thread
-/// database for which it stands, the horizon of the store and the open cursors; the history is legal, and the database
-/// is the one after it.
+/// The database over a store, with the history of its calls. Contracts see the history, the phase,
+/// the one-thread database for which it stands, the horizon of the store and the open cursors; the
+/// history is legal, and the database is the one after it.
 #[derive(Drop)]
 pub struct Engine<S: Store + Reader<Ledger = Uncounted> + Drop> {
     alloc: Global,

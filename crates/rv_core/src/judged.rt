@@ -16,8 +16,8 @@ use rv_value::NoMemory;
 use std::alloc::Global;
 use std::mem;
 
-/// The database over a store with the history of its calls, the judge that rules on its background scans, and the number of
-/// background steps that may follow each foreground step of a FETCH.
+/// The database over a store with the history of its calls, the judge that rules on its background
+/// scans, and the number of background steps that may follow each foreground step of a FETCH.
 #[derive(Drop)]
 pub struct Core<S: Store + Reader<Ledger = Uncounted> + Drop> {
     engine: Engine<S>,

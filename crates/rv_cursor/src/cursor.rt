@@ -25,7 +25,8 @@ use rv_snapshot::Snapshot;
 use rv_value::{NoMemory, Text};
 use std::alloc::Global;
 
-/// An open cursor of a session over a snapshot: its plan, and the row that the plan gave and that was not fetched yet.
+/// An open cursor of a session over a snapshot: its plan, and the row that the plan gave and that
+/// was not fetched yet.
 #[derive(Drop)]
 pub struct Open {
     pub session: u8,

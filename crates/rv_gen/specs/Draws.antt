@@ -1,7 +1,7 @@
 -- The numbers that are drawn from a seed.
 use Rattle.std.specs.Prelude.{ℕ, zero, suc, ◌+◌, ◌*◌, ◌/◌, ◌%◌, ◌^◌}
 
--- the state after a state, by one step of a linear congruence
+-- the next state of a linear congruential generator
 abbrev pub generator_step : ℕ → ℕ
 generator_step x = (x * 6364136223846793005 + 1442695040888963407) % 2 ^ 64
 

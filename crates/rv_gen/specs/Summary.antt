@@ -5,23 +5,27 @@ use Rattle.rv_lang.specs.declared.reply.Reply.TheVariants.{Row, End, Committed, 
 use Rattle.rv_model.specs.declared.entry.Entry.{Entry}
 use Rattle.rv_gen.specs.declared.summary.Summary.{Summary}
 
+-- a row
 unfoldable pub is_row : Reply → Bool
 is_row (Row values) = true
 is_row reply = false
 
+-- the end of a cursor
 unfoldable pub is_end : Reply → Bool
 is_end End = true
 is_end reply = false
 
+-- a commit
 unfoldable pub is_commit : Reply → Bool
 is_commit (Committed number) = true
 is_commit reply = false
 
+-- a refusal
 unfoldable pub is_refusal : Reply → Bool
 is_refusal (Refused refusal) = true
 is_refusal reply = false
 
--- how many entries have such a reply
+-- how many entries have a reply of such a kind
 abbrev pub replies : (Reply → Bool) → List Entry → ℕ
 replies such entries = length (filter (λ (e : Entry). such e.reply) entries)
 
@@ -58,10 +62,13 @@ pub record IsSmall (s : Summary) : Type 0 where
   pub commits : s.commits < 2 ^ 63
   pub refused : s.refused < 2 ^ 63
 
--- a line of a summary
+-- a word and a count, on a line
 abbrev pub summary_line : List ℕ → ℕ → List ℕ
 summary_line word count = word ++ decimal count ++ 10 ∷ []
 
--- its five lines
+-- the five lines of a summary
 abbrev pub summary_text : Summary → List ℕ
-summary_text s = summary_line (codes "calls ") s.calls ++ summary_line (codes "rows ") s.rows ++ summary_line (codes "ends ") s.ends ++ summary_line (codes "commits ") s.commits ++ summary_line (codes "refused ") s.refused
+summary_text s =
+    summary_line (codes "calls ") s.calls ++ summary_line (codes "rows ") s.rows
+    ++ summary_line (codes "ends ") s.ends ++ summary_line (codes "commits ") s.commits
+    ++ summary_line (codes "refused ") s.refused

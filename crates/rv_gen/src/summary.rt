@@ -7,7 +7,8 @@ use rv_io::{Failed, Sink, write_next};
 use rv_model::{Entry, Reply};
 use rv_script::transcript::write_number;
 
-/// Counts of a history: its entries, and those of them that gave a row, the end of a cursor, a commit or a refusal.
+/// Counts of a history: its entries, and those of them that gave a row, the end of a cursor, a
+/// commit or a refusal.
 #[derive(Clone, Copy, Debug, PartialEq, Eq)]
 pub struct Summary {
     pub calls: u64,

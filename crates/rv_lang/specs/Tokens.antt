@@ -17,7 +17,7 @@ is_word_byte b = is_ascii_alphanumeric b || nat_eq b 95
 abbrev pub is_blank : ℕ → Bool
 is_blank b = nat_eq b 32 || nat_eq b 9
 
--- what may stand in a text: no control character. A character past ASCII has bytes from 128 on alone.
+-- what may stand in a text: no control character; one past ASCII has bytes from 128 on alone
 abbrev pub is_text_byte : ℕ → Bool
 is_text_byte b = nat_le 32 b && not (nat_eq b 127)
 
@@ -66,14 +66,16 @@ NoWordByte (b ∷ bs) = is_word_byte b ≡ false
 -- a `-` or none, directly followed by digits; the number is one of 64 bits with a sign
 abbrev pub IsNumber : List ℕ → ℤ → Type 0
 IsNumber [] n = ⊥
-IsNumber (b ∷ bs) n = ((b ≡ 45) × IsDigits bs × (n ≡ neg_ℤ (pos (value_after 0 bs))) × (value_after 0 bs ≤ 2 ^ 63))
+IsNumber (b ∷ bs) n =
+    ((b ≡ 45) × IsDigits bs × (n ≡ neg_ℤ (pos (value_after 0 bs))) × (value_after 0 bs ≤ 2 ^ 63))
     ⊎ (IsDigits (b ∷ bs) × (n ≡ pos (value_after 0 (b ∷ bs))) × (value_after 0 (b ∷ bs) < 2 ^ 63))
 
--- the bytes `front`, followed by the bytes `rest`, are this token. ASCII letters of a word are folded to upper case.
+-- `front`, followed by `rest`, is this token; ASCII letters of a word are folded to upper case
 abbrev pub IsToken : List ℕ → Token → List ℕ → Type 0
 IsToken front (Word name) rest = IsWord front × (name ≡ map to_ascii_uppercase front)
 IsToken front (Int n) rest = IsNumber front n × NoWordByte rest
-IsToken front (Str text) rest = (list_all is_text_byte text ≡ true) × (front ≡ 39 ∷ quotes_twice text ++ 39 ∷ [])
+IsToken front (Str text) rest =
+    (list_all is_text_byte text ≡ true) × (front ≡ 39 ∷ quotes_twice text ++ 39 ∷ [])
 IsToken front (Symbol s) rest = front ≡ symbol_text s
 
 -- the token in front of `rest`, where no token in front is longer
@@ -81,7 +83,8 @@ pub record IsLongest (bytes : List ℕ) (token : Token) (rest : List ℕ) : Type
   pub front : List ℕ
   pub whole : bytes ≡ front ++ rest
   pub is : IsToken front token rest
-  pub longest : (other : List ℕ) (t : Token) (after : List ℕ) → bytes ≡ other ++ after → IsToken other t after → length rest ≤ length after
+  pub longest : (other : List ℕ) (t : Token) (after : List ℕ)
+      → bytes ≡ other ++ after → IsToken other t after → length rest ≤ length after
 
 -- ---- the whole text
 
@@ -90,10 +93,11 @@ abbrev pub past : (ℕ → Bool) → List ℕ → List ℕ
 past p [] = []
 past p (b ∷ bs) = if p b then past p bs else b ∷ bs
 
--- the tokens of the bytes, each time the longest one, blanks before it being left out; `rest` is what is left, from its first byte on that is no blank
+-- A CUT: each time the longest token, blanks before it left out, and the rest behind blanks
 abbrev pub Cuts : List ℕ → List Token → List ℕ → Type 0
 Cuts bytes [] rest = past is_blank bytes ≡ rest
-Cuts bytes (t ∷ ts) rest = (after : List ℕ) × IsLongest (past is_blank bytes) t after × Cuts after ts rest
+Cuts bytes (t ∷ ts) rest =
+    (after : List ℕ) × IsLongest (past is_blank bytes) t after × Cuts after ts rest
 
 -- there are bytes, and no token begins at the first of them
 abbrev pub NoToken : List ℕ → Type 0

@@ -32,8 +32,8 @@ pub enum Statement {
     },
     Commit,
     Rollback,
-    /// `returned` is None for `*`; `items` are tables with an optional second name; without ORDER BY
-    /// `order` is empty.
+    /// `returned` is None for `*`; `items` are tables with an optional second name; without ORDER
+    /// BY `order` is empty.
     Open {
         cursor: Text,
         returned: Option<Items<RawCol>>,

@@ -1,7 +1,8 @@
 //! The pieces of which a statement's text is made.
 use rv_value::Text;
 
-/// A mark of the language, one for each spelling: `(` `)` `,` `.` `*` `;` `=` `<>` `<` `<=` `>` `>=`.
+/// A mark of the language, one for each spelling:
+/// `(` `)` `,` `.` `*` `;` `=` `<>` `<` `<=` `>` `>=`.
 #[derive(Clone, Copy, Debug, PartialEq, Eq)]
 pub enum Symbol {
     LeftParen,

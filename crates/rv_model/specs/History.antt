@@ -40,4 +40,5 @@ phase_after phase (e ∷ es) = phase_after e.phase es
 
 -- the texts of a session in a phase, in order
 abbrev pub calls : List Entry → ℕ → ℕ → List (List ℕ)
-calls entries session phase = map (λ (e : Entry). e.text) (filter (λ (e : Entry). (e.session == session) && (e.phase == phase)) entries)
+calls entries session phase = map (λ (e : Entry). e.text)
+    (filter (λ (e : Entry). (e.session == session) && (e.phase == phase)) entries)

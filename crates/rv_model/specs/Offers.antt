@@ -11,11 +11,11 @@ use Rattle.rv_restrict.specs.Truth.{qualifies, row_reads}
 use Rattle.rv_catalog.specs.declared.def.Select.{Select}
 use Rattle.rv_model.specs.declared.state.Offer.{Offer}
 
--- by the order values, then by the values returned
+-- the order of offers: by the order values, then by the values returned
 abbrev pub offer_cmp : Offer → Offer → Ordering
 offer_cmp a b = ordering_then (values_cmp a.order b.order) (values_cmp a.returned b.returned)
 
--- a sorted list with one more offer
+-- offers in order with one more in its place
 abbrev pub with_offer : Offer → List Offer → List Offer
 with_offer o [] = o ∷ []
 with_offer o (x ∷ xs) = if is_lt (offer_cmp x o) then x ∷ with_offer o xs else o ∷ x ∷ xs
@@ -25,13 +25,15 @@ abbrev pub offers_in_order : List Offer → List Offer
 offers_in_order [] = []
 offers_in_order (o ∷ os) = with_offer o (offers_in_order os)
 
+-- equal in the order of values
 abbrev pub same_values : List Value → List Value → Bool
 same_values a b = is_eq (values_cmp a b)
 
 -- the place of the first offer that returns these values with the first offer's order values
 abbrev pub place_of : List Offer → List Value → Option ℕ
 place_of [] values = None
-place_of (first ∷ others) values = position (λ (o : Offer). same_values o.order first.order && same_values o.returned values) (first ∷ others)
+place_of (first ∷ more) values = position (λ (o : Offer).
+    is_eq (values_cmp o.order first.order) && is_eq (values_cmp o.returned values)) (first ∷ more)
 
 abbrev pub without : Option ℕ → List Offer → List Offer
 without None offers = offers

@@ -13,8 +13,11 @@ use Rattle.rv_model.specs.Database.{index_at}
 -- the numbers of the indexes over a table; the first index of the list has the number given
 abbrev pub numbers_over : ℕ → ℕ → List IndexDef → List ℕ
 numbers_over table number [] = []
-numbers_over table number (d ∷ ds) = if d.table == table then number ∷ numbers_over table (number + 1) ds else numbers_over table (number + 1) ds
+numbers_over table number (d ∷ ds) = if d.table == table
+    then number ∷ numbers_over table (number + 1) ds
+    else numbers_over table (number + 1) ds
 
+-- an event with its index by name
 abbrev pub shown_event : List IndexDef → Event → ShownEvent
 shown_event indexes (events.At control) = told.At control
 shown_event indexes (events.Scan i) = told.Scan (index_at indexes i).name
@@ -23,8 +26,15 @@ shown_event indexes (events.Drop i) = told.Drop (index_at indexes i).name
 shown_event indexes events.Full = told.Full
 shown_event indexes events.Stop = told.Stop
 
+-- a trace with its indexes by name
 abbrev pub shown_trace : List IndexDef → Trace → Shown
-shown_trace indexes t = record { strategy = t.strategy; events = map (shown_event indexes) t.events.items; pages = t.pages; leaves = t.leaves; fetches = t.fetches }
+shown_trace indexes t = record {
+  strategy = t.strategy;
+  events = map (shown_event indexes) t.events.items;
+  pages = t.pages;
+  leaves = t.leaves;
+  fetches = t.fetches;
+}
 
 -- a trace that the course allows for the indexes over a table
 pub record ShowsTrace (indexes : List IndexDef) (table : ℕ) (shown : Shown) : Type 0 where

@@ -37,6 +37,7 @@ abbrev pub values_text : List Value → List ℕ
 values_text [] = []
 values_text (v ∷ vs) = value_text v ++ more_text vs
 
+-- the word for a limit
 abbrev pub limit_word : Which → List ℕ
 limit_word limits.Name = codes "name"
 limit_word limits.Text = codes "text"
@@ -55,6 +56,7 @@ limit_word limits.Cursors = codes "cursors"
 limit_word limits.Rows = codes "rows"
 limit_word limits.Pending = codes "pending"
 
+-- how a refusal is written
 abbrev pub refusal_text : Refusal → List ℕ
 refusal_text refusals.Syntax = codes "syntax"
 refusal_text (refusals.Unknown name) = codes "unknown " ++ name
@@ -64,13 +66,15 @@ refusal_text (refusals.Active txn) = codes "active " ++ decimal txn
 refusal_text refusals.NoTransaction = codes "no transaction"
 refusal_text (refusals.Busy txn) = codes "busy " ++ decimal txn
 refusal_text refusals.ReadOnly = codes "read only"
-refusal_text (refusals.Changed row commit) = codes "changed " ++ decimal row.0 ++ codes " by " ++ decimal commit
+refusal_text (refusals.Changed row commit) =
+    codes "changed " ++ decimal row.0 ++ codes " by " ++ decimal commit
 refusal_text (refusals.Held row txn) = codes "held " ++ decimal row.0 ++ codes " by " ++ decimal txn
 refusal_text (refusals.NoCursor name) = codes "no cursor " ++ name
 refusal_text (refusals.CursorOpen name) = codes "cursor open " ++ name
-refusal_text (refusals.Limit which number) = codes "limit " ++ limit_word which ++ 32 ∷ decimal number
+refusal_text (refusals.Limit which n) = codes "limit " ++ limit_word which ++ 32 ∷ decimal n
 refusal_text (refusals.Pending name) = codes "pending " ++ name
 
+-- the word for a strategy
 abbrev pub strategy_word : Strategy → List ℕ
 strategy_word strategies.Table = codes "table"
 strategy_word strategies.BackgroundOnly = codes "background-only"
@@ -78,6 +82,7 @@ strategy_word strategies.FastFirst = codes "fast-first"
 strategy_word strategies.Sorted = codes "sorted"
 strategy_word strategies.IndexOnly = codes "index-only"
 
+-- the word for a control
 abbrev pub control_word : Control → List ℕ
 control_word controls.Building = codes "building"
 control_word controls.ForegroundAlone = codes "foreground"
@@ -86,6 +91,7 @@ control_word controls.FinalList = codes "final-list"
 control_word controls.FinalTable = codes "final-table"
 control_word controls.Done = codes "done"
 
+-- the words for an event
 abbrev pub event_words : ShownEvent → List (List ℕ)
 event_words (events.At control) = control_word control ∷ []
 event_words (events.Scan name) = codes "scan" ∷ name ∷ []
@@ -94,17 +100,21 @@ event_words (events.Drop name) = codes "drop" ∷ name ∷ []
 event_words events.Full = codes "full" ∷ []
 event_words events.Stop = codes "stop" ∷ []
 
+-- the counts, each behind its word
 abbrev pub count_words : Shown → List (List ℕ)
-count_words shown = codes "pages" ∷ decimal shown.pages ∷ codes "leaves" ∷ decimal shown.leaves ∷ codes "fetches" ∷ decimal shown.fetches ∷ []
+count_words shown = codes "pages" ∷ decimal shown.pages
+    ∷ codes "leaves" ∷ decimal shown.leaves ∷ codes "fetches" ∷ decimal shown.fetches ∷ []
 
 -- the strategy, the events and the counts
 abbrev pub trace_words : Shown → List (List ℕ)
-trace_words shown = strategy_word shown.strategy ∷ (flat_map event_words shown.events ++ count_words shown)
+trace_words shown =
+    strategy_word shown.strategy ∷ (flat_map event_words shown.events ++ count_words shown)
 
 -- each word behind a space
 abbrev pub words_text : List (List ℕ) → List ℕ
 words_text words = flat_map (λ (word : List ℕ). 32 ∷ word) words
 
+-- how a reply is written
 abbrev pub reply_text : Reply → List ℕ
 reply_text replies.Created = codes "created"
 reply_text (replies.Began n) = codes "began " ++ decimal n
@@ -120,10 +130,11 @@ reply_text (replies.Stepped n) = codes "stepped " ++ decimal n
 reply_text (replies.Trace shown) = codes "trace" ++ words_text (trace_words shown)
 reply_text (replies.Refused refusal) = refusal_text refusal
 
--- the session's number, a space and the text as given; then "= " and the reply's text; each line ends with LF
+-- a line with the session and the text as given, and a line with "= " and the reply
 abbrev pub entry_text : Entry → List ℕ
 entry_text e = decimal e.session ++ 32 ∷ e.text ++ codes "\n= " ++ reply_text e.reply ++ 10 ∷ []
 
+-- THE TRANSCRIPT: the entries, one after another
 abbrev pub text : List Entry → List ℕ
 text entries = flat_map entry_text entries
 

@@ -12,7 +12,8 @@ pub struct Offer {
     pub returned: Values,
 }
 
-/// An open cursor of a session, the table of its first FROM item, and the offers that it has left, in order.
+/// An open cursor of a session, the table of its first FROM item, and the offers that it has left,
+/// in order.
 #[derive(Drop)]
 pub struct Cursor {
     pub session: u8,
@@ -21,8 +22,9 @@ pub struct Cursor {
     pub offers: Queue<Offer>,
 }
 
-/// The whole database. A table's number is its place in the schema and in `rows`, which are those of the last commit.
-/// `bases` has for each active transaction, in their order, the rows of each table at its base.
+/// The whole database. A table's number is its place in the schema and in `rows`, which are those
+/// of the last commit. `bases` has for each active transaction, in their order, the rows of each
+/// table at its base.
 #[derive(Drop)]
 pub struct State {
     pub schema: Catalog,

@@ -13,8 +13,7 @@ use Rattle.rv_restrict.specs.declared.atom.Atom.TheVariants.{Compare, Between, A
 use Rattle.rv_restrict.specs.declared.atom.Tri.{Tri}
 use Rattle.rv_restrict.specs.Truth.{atom_truth, atom_names_only, is_home, names_only, truth_by}
 
--- One row a place.
-
+-- the value of a column in the row of its FROM item
 abbrev pub rows_reads : List (List Value) → ColRef → Value
 rows_reads rows c = slice_index_or (slice_index_or rows c.place []) c.column Null
 

@@ -107,6 +107,7 @@ truth_by read only = least (map (group_truth read) only)
 
 -- On one row, which is that of place 0.
 
+-- the value of a column in a row
 abbrev pub row_reads : List Value → ColRef → Value
 row_reads row c = slice_index_or row c.column Null
 

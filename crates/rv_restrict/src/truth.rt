@@ -33,8 +33,8 @@ impl Reads for Values {
     }
 }
 
-/// A condition on rows: the AND of groups, each of which is the OR of its atoms. Without groups it is
-/// True; a group without atoms is False.
+/// A condition on rows: the AND of groups, each of which is the OR of its atoms. Without groups it
+/// is True; a group without atoms is False.
 #[derive(Drop, Debug)]
 pub struct Restriction {
     groups: Vec<Vec<Atom>>,

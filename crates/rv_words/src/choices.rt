@@ -9,7 +9,8 @@ pub enum Choice {
     Judge,
     /// `--steps`: how many background steps follow a foreground step, 0 to 64.
     Steps,
-    /// `--gen`: the seed of the script that is generated in place of one that is read, 0 to 4,294,967,295.
+    /// `--gen`: the seed of the script that is generated in place of one that is read, 0 to
+    /// 4,294,967,295.
     Gen,
 }
 
