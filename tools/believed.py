@@ -22,8 +22,7 @@ total with them.
 The chapters of CHAPTERS may be left out by a reader who does not use them: to each belongs what the clauses reach
 through its definitions alone. Their lines, and those of the rest, are told behind the total.
 
-In the crate OWN, which holds nothing but what is believed, --check also wants a comment at each definition and no line
-of more than COLUMNS columns.
+Of each definition and data type that is reached --check also wants a comment and no line of more than COLUMNS columns.
 
 A line counts where it is no import and not blank; a definition's comment stands right above it. Of a
 record or struct only those fields are followed that something reached speaks of.
@@ -39,11 +38,10 @@ TOP = ("rv_run", "src/top.rt", "run")
 BESIDE = ("ruled", "ruled_first")
 CHAPTERS = (
     ("SHOW", (("rv_believed", "specs/Step.antt", "ShowsTo"), ("rv_model", "specs/Transcript.antt", "trace_words"))),
-    ("`--gen`", (("rv_gen", "specs/Workload.antt", "generated"), ("rv_gen", "specs/Summary.antt", "summary"),
+    ("`--gen`", (("rv_gen", "specs/Workload.antt", "workload_of"), ("rv_gen", "specs/Summary.antt", "summary"),
                  ("rv_gen", "specs/Summary.antt", "summary_text"))),
 )
 PAGE = "docs/BELIEVE.md"
-OWN = "rv_believed"
 COLUMNS = 100
 HEAD = re.compile(r"^(?:(?:pub|abbrev|unfoldable|record|data|inductive)\s+)+([^\s:(]+)")
 WORD = re.compile(r"[^\W\d][\w']*(?:\.[^\W\d][\w']*)*")
@@ -241,9 +239,9 @@ def words_of(house, definition, text, scope, outer=()):
     signs = {name for name in list(scope) + list(own_module(house, definition)) if "◌" in name}
     for part in parts:
         bound = set(outer) | bound_names(part)
-        left, equals, right = part.partition(" = ")
-        if equals and not HEAD.match(part):
-            for word in WORD.findall(left)[1:]:
+        sides = re.split(r"\s=\s", part, maxsplit=1)
+        if len(sides) == 2 and not HEAD.match(part):
+            for word in WORD.findall(sides[0])[1:]:
                 if word[0].islower():
                     bound.add(word)
         body = re.sub(r"([{;]\s*)[^\W\d]\w*\s*=(?!=)", r"\1", part)
@@ -374,7 +372,7 @@ def reached(house, top=TOP, without=(), cut=()):
         for record, name, text, outer in held:
             # A field of propositions is part of what a record says, whether or not it is named again.
             if name in spoken or says_something(record):
-                look(record, text, record.scope, () if record.is_data else outer | bound_names(record.lines[0]))
+                look(record, text, record.scope, () if record.is_data else outer | bound_names(fields_of(record)[0]))
             else:
                 still.append((record, name, text, outer))
         held = still
@@ -484,14 +482,15 @@ def sentence(comment):
     return re.sub(r"\s+", " ", " ".join(line.lstrip("-/ ") for line in comment))
 
 
-def badly_written(order, own=OWN, columns=COLUMNS):
-    """Which definitions of the own crate have no comment or a line that is too long."""
+def badly_written(order, columns=COLUMNS):
+    """Which definitions and data types have no comment or a line that is too long."""
     for item in order:
-        if item.crate == own and not item.is_data:
-            if not item.comment:
-                yield "%s of %s has no comment" % (item.name, item.path)
-            if any(len(line) > columns for line in item.comment + item.lines):
-                yield "%s of %s has a line of more than %d columns" % (item.name, item.path, columns)
+        place = "%s of crates/%s/%s" % (item.name, item.crate, item.path)
+        if not item.comment:
+            yield "%s has no comment" % place
+        for line in item.comment + item.lines:
+            if len(line) > columns:
+                yield "%s has a line of %d columns, more than %d: %s.." % (place, len(line), columns, line.strip()[:30])
 
 
 def write_list(order, whole, chapters):
@@ -504,14 +503,14 @@ def write_list(order, whole, chapters):
                 for item in order:
                     if item.is_data == is_data and "crates/%s/%s" % (item.crate, item.path) == name:
                         print("    %-28s %3d  %s" % (item.name, item.size, sentence(item.comment)))
-    bare = sum(1 for item in order if not item.is_data and not item.comment)
-    print(total_line(specs, sources).strip("*") + "; %d definitions have no comment" % bare)
+    print(total_line(specs, sources).strip("*"))
     if chapters:
         print(chapters)
 
 
 def self_test():
-    """A house of two crates, in which an argument, a label and a text hide definitions, and a field is not spoken of."""
+    """A house of two crates, in which an argument, a label and a text hide definitions, a field is not spoken of,
+    and a body begins on a line of its own."""
     with tempfile.TemporaryDirectory() as top:
         def write(name, text):
             path = os.path.join(top, "crates", name)
@@ -530,17 +529,21 @@ def self_test():
               "Good hidden = low.deep hidden <+> \"quoted\"\n\n-- ---- a title\n\nabbrev pub unused : ℕ\nunused = 1\n")
         write("rv_b/specs/Low.antt", "-- low words\nuse Rattle.std.specs.Prelude.{ℕ}\n\nabbrev pub hidden : ℕ\nhidden = 1\n\n"
               "abbrev pub quoted : ℕ\nquoted = 2\n\npub record field : Type 0 where\n  pub quoted : ℕ\n\n"
-              "-- deep\n-- down\nabbrev pub deep : ℕ → ℕ\ndeep n = record { quoted = n }\n\n"
+              "-- deep\n-- down\nabbrev pub deep : ℕ → ℕ\ndeep n =\n    record { quoted = below n }\n\n"
+              "-- below\nabbrev pub below : ℕ → ℕ\nbelow n = n\n\n"
               "infixl 10 ◌<+>◌\nabbrev pub ◌<+>◌ : ℕ → ℕ → ℕ\n◌<+>◌ a b = a\n")
         order, kit, because = reached(House(top), ("rv_a", "src/run.rt", "run"))
         assert "unused" in [item.name for item in order]
         whole = total(*files_of(order))
         order, kit, because = reached(House(top), ("rv_a", "src/run.rt", "run"), ("aside", "other"))
         names = sorted(item.name for item in order)
-        assert names == ["Good", "Inner", "Ran", "deep", "◌<+>◌"], names
-        assert len(list(badly_written(order, "rv_b", 100))) == 1 and len(list(badly_written(order, "rv_a", 30))) == 1
+        assert names == ["Good", "Inner", "Ran", "below", "deep", "◌<+>◌"], names
+        bare = [line.split(" ")[0] for line in badly_written(order, 100)]
+        assert sorted(bare) == ["Inner", "◌<+>◌"], bare
+        wide = [line.split(" ")[0] for line in badly_written(order, 22) if "columns" in line]
+        assert sorted(wide) == ["Good", "Good", "Ran", "below", "deep", "deep", "◌<+>◌"], wide
         specs, sources = files_of(order)
-        assert specs == {"crates/rv_a/specs/Top.antt": (1, 3), "crates/rv_b/specs/Low.antt": (2, 6)}, specs
+        assert specs == {"crates/rv_a/specs/Top.antt": (1, 3), "crates/rv_b/specs/Low.antt": (3, 10)}, specs
         assert sources == {"crates/rv_a/src/data.rt": (1, 6), "crates/rv_b/src/lib.rt": (1, 3)}, sources
         assert kit == {"std.specs.Prelude": {"ℕ"}}, kit
         house = House(top)
@@ -558,7 +561,7 @@ def self_test():
         assert not compare(updated(page, specs, sources, kit, whole), specs, sources, kit, whole)
         chapters = chapters_line(House(top), specs, ("rv_a", "src/run.rt", "run"), ("aside", "other"),
                                  (("LOW", (("rv_b", "specs/Low.antt", "deep"),)), ("GOOD", (("rv_a", "specs/Top.antt", "Good"),))))
-        assert chapters == "Of these lines 4 are reached by LOW alone, 9 by GOOD alone, and 0 are the rest", chapters
+        assert chapters == "Of these lines 8 are reached by LOW alone, 13 by GOOD alone, and 0 are the rest", chapters
         page += "\n_Of these lines 0 are reached by LOW alone, and 0 are the rest_"
         assert len(compare(page, specs, sources, kit, whole, chapters)) == 9
         assert not compare(updated(page, specs, sources, kit, whole, chapters), specs, sources, kit, whole, chapters)
