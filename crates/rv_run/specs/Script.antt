@@ -24,6 +24,7 @@ pub record Call : Type 0 where
   pub phase : ℕ
   pub text : List ℕ
 
+-- a call by its parts
 abbrev pub call : ℕ → ℕ → List ℕ → Call
 call session phase text = record { session = session; phase = phase; text = text }
 
@@ -44,6 +45,7 @@ calls_from phase (p ∷ ps) = calls_in phase p.lines ++ calls_from (phase + 1) p
 abbrev pub calls_asked : Script → List Call
 calls_asked script = calls_from 1 script.phases
 
+-- what stands behind the last phase
 abbrev pub no_phase : Phase
 no_phase = record { judge = None; lines = [] }
 
@@ -51,19 +53,22 @@ no_phase = record { judge = None; lines = [] }
 abbrev pub of_session : ℕ → List Call → List Call
 of_session session all = filter (λ (c : Call). c.session == session) all
 
--- EACH SESSION'S CALLS in the history are those that the script asks of it, each once, in their order and phase.
--- Each entry is some session's, so there is no other.
+-- EACH SESSION'S CALLS in the history are those that the script asks of it, each once, in their
+-- order and phase. Each entry is some session's, so there is no other.
 abbrev pub HasAllCalls : List Entry → Script → Type 0
-HasAllCalls history script = (session : ℕ) → of_session session (calls_made history) ≡ of_session session (calls_asked script)
+HasAllCalls history script = (session : ℕ) →
+    of_session session (calls_made history) ≡ of_session session (calls_asked script)
 
 -- the calls of so many phases, and of so many lines of the next one
 abbrev pub first_calls : ℕ → ℕ → List Phase → List Call
-first_calls count lines phases = calls_from 1 (take count phases) ++ calls_in (count + 1) (take lines (slice_index_or phases count no_phase).lines)
+first_calls count lines phases = calls_from 1 (take count phases)
+    ++ calls_in (count + 1) (take lines (slice_index_or phases count no_phase).lines)
 
 -- THE FIRST CALLS: of each session those of so many phases, and of its first lines of the next one.
 pub record HasFirstCalls (history : List Entry) (script : Script) : Type 0 where
   pub phases : ℕ
-  pub each : (session : ℕ) → (lines : ℕ) × (of_session session (calls_made history) ≡ of_session session (first_calls phases lines script.phases))
+  pub each : (session : ℕ) → (lines : ℕ) × (of_session session (calls_made history)
+      ≡ of_session session (first_calls phases lines script.phases))
 
 -- WITHOUT THREADS the history's calls are those of the script, in the script's order;
 abbrev pub IsInOrder : List Entry → Script → Type 0
@@ -83,7 +88,7 @@ pub record Write (bytes : List ℕ) (P : Script → Type 0) : Type 0 where
 abbrev pub Told : Option (List ℕ) → (Script → Type 0) → Type 0
 Told left P = IfSome left (λ bytes. Write bytes P)
 
--- a fact of the script that is run: the generated one of a seed, else the one that the source told, where it tells
+-- a fact of the script that is run: a seed's workload, or else what the source told, where it tells
 abbrev pub Runs : Option ℕ → Option (List ℕ) → (Script → Type 0) → Type 0
 Runs (Some seed) left P = P (workload_of seed)
 Runs None left P = Told left P
@@ -93,8 +98,9 @@ abbrev pub output : Option ℕ → List Entry → List ℕ
 output None history = text history
 output (Some seed) history = summary_text (summary history)
 
--- What statuses 0, 4 and 6 say: this was written of the output of a legal history, which has such calls of the script.
-pub record Writes (seed : Option ℕ) (left : Option (List ℕ)) (Written : List ℕ → Type 0) (Has : List Entry → Script → Type 0) (history : List Entry) : Type 0 where
+-- STATUSES 0, 4 AND 6: so much was written of the output of a legal history, which has such calls.
+pub record Writes (seed : Option ℕ) (left : Option (List ℕ)) (Written : List ℕ → Type 0)
+    (Has : List Entry → Script → Type 0) (history : List Entry) : Type 0 where
   pub legal : IsLegal history
   pub written : Written (output seed history)
   pub calls : Runs seed left (Has history)
@@ -114,24 +120,24 @@ pub record ReadsAll (left after : Option (List ℕ)) (P : List ℕ → Type 0) :
   pub end : IsAtEnd after
   pub told : IfSome left P
 
--- What status 2 says: the source's bytes have this first fault, a line without a session or a byte that is not UTF-8.
+-- a line that names no session, or a byte that is not UTF-8
 abbrev pub IsScriptFault : ScriptFault → Type 0
 IsScriptFault (faults.NoSession line) = Unit {0}
 IsScriptFault (faults.NotText offset) = Unit {0}
 IsScriptFault fault = ⊥
 
+-- STATUS 2: such a fault is the first of the source's bytes.
 pub record HasFault (left after : Option (List ℕ)) (fault : ScriptFault) : Type 0 where
   pub kind : IsScriptFault fault
   pub whole : ReadsAll left after (λ bytes. HasFirst bytes fault)
 
--- What status 3 says: one byte more than 16,777,216 was taken, and no further one; or the first fault of the source's bytes
--- is another limit passed.
+-- STATUS 3: one byte more than 16,777,216 was taken, or the first fault is another limit passed.
 abbrev pub PassesLimit : Option (List ℕ) → Option (List ℕ) → Over → Type 0
 PassesLimit left after over.Bytes = TakesTooMany left after 16777216
 PassesLimit left after over.Lines = ReadsAll left after HasTooMany
-PassesLimit left after (over.Line n) = ReadsAll left after (λ bytes. HasFirst bytes (faults.TooLong n))
+PassesLimit left after (over.Line n) = ReadsAll left after (λ bs. HasFirst bs (faults.TooLong n))
 
--- What status 5 says: a fault was counted, before more than 16,777,216 bytes were taken.
+-- STATUS 5: a fault was counted, before more than 16,777,216 bytes were taken.
 pub record FailsToRead (left after : Option (List ℕ)) (before now : ℕ) : Type 0 where
   pub rose : Rose before now
   pub taken : TakesUpTo left after 16777216

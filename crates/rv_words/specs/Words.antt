@@ -5,8 +5,7 @@ use Rattle.rv_words.specs.declared.choices.Choice.{Choice}
 use Rattle.rv_words.specs.declared.choices.Choice.TheVariants.{Threads, Workers, Judge, Steps, Gen}
 use Rattle.rv_words.specs.declared.choices.Asked.{Asked}
 
--- ---- the options
-
+-- the word that names an option
 abbrev pub name_of : Choice → List ℕ
 name_of Threads = codes "--threads"
 name_of Workers = codes "--workers"
@@ -27,8 +26,7 @@ greatest Judge = 2
 greatest Steps = 64
 greatest Gen = 4294967295
 
--- ---- values
-
+-- a digit from 0 to 9
 abbrev pub is_digit : ℕ → Bool
 is_digit c = nat_le 48 c && nat_le c 57
 
@@ -37,6 +35,7 @@ abbrev pub number_behind : ℕ → List ℕ → ℕ
 number_behind n [] = n
 number_behind n (d ∷ ds) = number_behind (n * 10 + (d - 48)) ds
 
+-- the number that decimal digits write
 abbrev pub number : List ℕ → ℕ
 number digits = number_behind 0 digits
 
@@ -47,19 +46,19 @@ pub record IsValue (option : Choice) (digits : List ℕ) : Type 0 where
   pub decimal : list_all is_digit digits ≡ true
   pub within : number digits ≤ greatest option
 
--- ---- items
-
 -- an option with its value, which is behind `=` or is the next word; or one that takes no value
 pub record Item : Type 0 where
   pub option : Choice
   pub digits : List ℕ
   pub behind : Bool
 
+-- an item is one word or two
 abbrev pub words_of : Item → List (List ℕ)
 words_of item = if is_flag item.option then name_of item.option ∷ []
     else (if item.behind then (name_of item.option ++ (codes "=" ++ item.digits)) ∷ []
     else name_of item.option ∷ item.digits ∷ [])
 
+-- an option that takes a value has one
 abbrev pub IsItem : Item → Type 0
 IsItem item = is_flag item.option ≡ false → IsValue item.option item.digits
 
@@ -67,6 +66,7 @@ IsItem item = is_flag item.option ≡ false → IsValue item.option item.digits
 abbrev pub Lacks : Choice → List Item → Type 0
 Lacks option items = AllByRecursion (λ (item : Item). item.option ≢ option) items
 
+-- No two items are of one option.
 abbrev pub Once : List Item → Type 0
 Once [] = Unit {0}
 Once (item ∷ items) = Lacks item.option items × Once items
@@ -82,8 +82,6 @@ pub record AreAccepted (words : List (List ℕ)) : Type 0 where
   pub items : List Item
   pub spelled : Spell words items
 
--- ---- what they ask
-
 -- whether two options are the same: each has a name of its own
 abbrev pub is_option : Choice → Choice → Bool
 is_option a b = bytes_eq (name_of a) (name_of b)
@@ -91,9 +89,10 @@ is_option a b = bytes_eq (name_of a) (name_of b)
 -- the value of the option's item, if any
 abbrev pub value_of : Choice → List Item → Option ℕ
 value_of option [] = None
-value_of option (item ∷ items) = if is_option option item.option then Some (number item.digits) else value_of option items
+value_of option (item ∷ items) = if is_option option item.option
+    then Some (number item.digits) else value_of option items
 
--- no threads, two workers, judge 0 and one step where nothing else is asked, and the script that is read
+-- where nothing else is asked: no threads, two workers, judge 0, one step, a script that is read
 abbrev pub asked_of : List Item → Asked
 asked_of items = record {
   threads = list_any (λ (item : Item). is_option Threads item.option) items;
