@@ -8,7 +8,5 @@ pub mod plain;
 pub mod queues;
 pub mod same;
 pub mod telling;
-#[cfg(test)]
-mod tests;
 
 pub use following::{Replayed, are_short, replay};

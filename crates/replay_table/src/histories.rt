@@ -1,0 +1,69 @@
+//! Whether a transcript is one of a legal history.
+use rv_model::Entry;
+use rv_replay::{Replayed, are_short, replay};
+use rv_text::{TextRead, read_text};
+use rv_value::NoMemory;
+use std::alloc::Global;
+
+/// Another session or phase of an entry, which a transcript cannot have.
+#[derive(Clone, Copy)]
+enum Change {
+    Session(u8),
+    Phase(u32),
+}
+
+fn change_of(word: &str, number: &str) -> Option<Change> {
+    match word {
+        "session" => Some(Change::Session(number.parse().ok()?)),
+        "phase" => Some(Change::Phase(number.parse().ok()?)),
+        _ => None,
+    }
+}
+
+/// The place of an entry, and the change: ` 1 session 9` or ` 2 phase 0`, in which entries are counted from 1.
+fn read_change(words: &str) -> Option<(usize, Change)> {
+    let (_front, words) = words.split_once(' ')?;
+    let (place, rest) = words.split_once(' ')?;
+    let (word, number) = rest.split_once(' ')?;
+    Some((place.parse().ok()?, change_of(word, number)?))
+}
+
+fn change_entry(entry: &mut Entry, change: Change) {
+    match change {
+        Change::Session(session) => entry.session = session,
+        Change::Phase(phase) => entry.phase = phase,
+    }
+}
+
+/// The entries with a change, where the words name one.
+fn changed(entries: Vec<Entry>, words: &str) -> Vec<Entry> {
+    let mut entries = entries;
+    if let Some((place, change)) = read_change(words) {
+        if 0 < place && place <= entries.len() {
+            change_entry(&mut entries[place - 1], change);
+        }
+    }
+    entries
+}
+
+fn replayed(alloc: Global, entries: &[Entry]) -> Result<String, NoMemory> {
+    if !are_short(entries) {
+        return Ok(format!(in alloc; "too long")?);
+    }
+    match replay(alloc, entries)? {
+        Replayed::Legal => Ok(format!(in alloc; "legal")?),
+        Replayed::Broken { entry } => Ok(format!(in alloc; "broken {entry}")?),
+    }
+}
+
+/// What a replay tells of the entries of a transcript, one of them changed where the words say so.
+pub fn told(alloc: Global, text: &str, words: &str) -> Result<String, NoMemory> {
+    let bytes = text.as_bytes();
+    if bytes.len() > 268_435_456 {
+        return Ok(format!(in alloc; "too long")?);
+    }
+    match read_text(alloc, bytes)? {
+        TextRead::Entries(entries) => replayed(alloc, changed(entries, words).as_slice()),
+        TextRead::Bad { line } => Ok(format!(in alloc; "no transcript, line {line}")?),
+    }
+}

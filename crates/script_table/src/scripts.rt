@@ -1,0 +1,66 @@
+//! Scripts, read: each phase as `[judge: calls]`.
+use crate::read::Fault;
+use rv_script::{Line, Phase, Script, ScriptFault, read_script};
+use rv_value::NoMemory;
+use std::alloc::Global;
+
+fn told_line(alloc: Global, line: &Line) -> Result<String, NoMemory> {
+    Ok(format!(in alloc; " {} {};", line.session, line.text.as_str())?)
+}
+
+fn told_judge(alloc: Global, judge: Option<u8>) -> Result<String, NoMemory> {
+    match judge {
+        Some(judge) => Ok(format!(in alloc; "[{judge}:")?),
+        None => Ok(format!(in alloc; "[:")?),
+    }
+}
+
+fn told_phase(alloc: Global, phase: &Phase) -> Result<String, NoMemory> {
+    let mut told = told_judge(alloc, phase.judge)?;
+    'lines: for line in phase.lines.as_slice() {
+        let word = told_line(alloc, line)?;
+        told.push_str(word.as_str())?;
+    }
+    told.push_str("]")?;
+    Ok(told)
+}
+
+fn told_phases(alloc: Global, script: &Script) -> Result<String, NoMemory> {
+    let mut told = String::new(alloc);
+    'phases: for phase in script.phases.as_slice() {
+        let word = told_phase(alloc, phase)?;
+        told.push_str(word.as_str())?;
+    }
+    Ok(told)
+}
+
+fn told_fault(alloc: Global, fault: ScriptFault) -> Result<String, NoMemory> {
+    match fault {
+        ScriptFault::NoSession { line } => Ok(format!(in alloc; "no session in line {line}")?),
+        ScriptFault::NotText { offset } => Ok(format!(in alloc; "no text at {offset}")?),
+        ScriptFault::TooLong { line } => Ok(format!(in alloc; "line {line} is too long")?),
+        ScriptFault::TooMany { lines } => Ok(format!(in alloc; "more than {lines} lines")?),
+        ScriptFault::NoMemory => Err(NoMemory),
+    }
+}
+
+/// The bytes for which `\n`, `\r` and `\m` stand for a line feed, a carriage return and a byte order mark.
+fn unwritten(alloc: Global, text: &str) -> Result<String, NoMemory> {
+    let text = text.replace(alloc, "\\n", "\n")?;
+    let text = text.replace(alloc, "\\r", "\r")?;
+    Ok(text.replace(alloc, "\\m", "\u{feff}")?)
+}
+
+/// The phases of a script behind `:`, or its first fault.
+pub fn told(alloc: Global, text: &str) -> Result<String, Fault> {
+    let text = text.strip_prefix(":").ok_or(Fault::Form)?;
+    let script = unwritten(alloc, text)?;
+    let bytes = script.as_bytes();
+    if bytes.len() > 16_777_216 {
+        return Err(Fault::Form);
+    }
+    match read_script(alloc, bytes) {
+        Ok(script) => Ok(told_phases(alloc, &script)?),
+        Err(fault) => Ok(told_fault(alloc, fault)?),
+    }
+}

@@ -1,0 +1,70 @@
+//! Summaries of histories, and how much of one is written where a write fails.
+use crate::read::{Fault, cut, small};
+use rv_gen::{summary_of, write_summary};
+use rv_io::MemSink;
+use rv_model::{Entry, Refusal, Reply};
+use rv_value::{NoMemory, RowNo, Text, Value, Values};
+use std::alloc::Global;
+
+fn row(alloc: Global) -> Result<Reply, NoMemory> {
+    Ok(Reply::Row(Values::from_vec(vec![in alloc; Value::Int(5)]?)))
+}
+
+/// A reply, by its first word.
+fn reply(alloc: Global, word: &str) -> Result<Reply, Fault> {
+    match word {
+        "began" => Ok(Reply::Began(1)),
+        "inserted" => Ok(Reply::Inserted(RowNo(0))),
+        "row" => Ok(row(alloc)?),
+        "end" => Ok(Reply::End),
+        "committed" => Ok(Reply::Committed(1)),
+        "refused" => Ok(Reply::Refused(Refusal::NoTransaction)),
+        _ => Err(Fault::Form),
+    }
+}
+
+fn entry(alloc: Global, word: &str) -> Result<Entry, Fault> {
+    let text = Text::read(alloc, "?")?;
+    Ok(Entry {
+        session: 1,
+        phase: 1,
+        text,
+        reply: reply(alloc, word)?,
+    })
+}
+
+/// The entries of replies, which single spaces part.
+fn entries(alloc: Global, text: &str) -> Result<Vec<Entry>, Fault> {
+    let mut entries = Vec::new(alloc);
+    if text.is_empty() {
+        return Ok(entries);
+    }
+    'words: for word in text.split(' ') {
+        entries.push(entry(alloc, word)?)?;
+    }
+    Ok(entries)
+}
+
+/// What is written of the summary of entries into a sink whose write of a number fails, where it is not 0.
+fn written(alloc: Global, entries: &[Entry], fails: u32) -> Result<String, Fault> {
+    let mut calls = Vec::new(alloc);
+    if fails > 0 {
+        calls.push(fails)?;
+    }
+    let mut sink = MemSink::new(alloc, 100, calls)?;
+    let word = match write_summary(&mut sink, &summary_of(entries)) {
+        Ok(()) => "written",
+        Err(_fault) => "failed",
+    };
+    let text = str::from_utf8(sink.written()).ok().ok_or(Fault::Form)?;
+    let text = text.replace(alloc, "\n", "; ")?;
+    Ok(format!(in alloc; "{word}, {}", text.as_str())?)
+}
+
+/// The number of the write that fails, and the replies behind a colon.
+pub fn told(alloc: Global, text: &str) -> Result<String, Fault> {
+    let (fails, words) = cut(text, ':')?;
+    let fails = small(fails)?;
+    let entries = entries(alloc, words)?;
+    written(alloc, entries.as_slice(), fails)
+}

@@ -1,0 +1,184 @@
+//! Transactions: `begin SESSION rw BASE` or `begin SESSION ro BASE` by some sessions, and behind a semicolon what they do and
+//! what is told of them.
+ghost use Rattle.std.specs.Prelude.{◌+◌, ◌<◌, ◌≤◌};
+
+use crate::read::{Fault, cut, number, small};
+use rv_model::Refusal;
+use rv_txn::{Standing, TxnFault, Txns};
+use rv_value::{NoMemory, RowNo, Value, Values};
+use std::alloc::Global;
+
+fn session(word: &str) -> Result<u8, Fault> {
+    word.parse().ok().ok_or(Fault::Form)
+}
+
+fn told_refusal(alloc: Global, refusal: &Refusal) -> Result<String, NoMemory> {
+    match refusal {
+        Refusal::Active(number) => Ok(format!(in alloc; " active {number}")?),
+        Refusal::NoTransaction => Ok(format!(in alloc; " no transaction")?),
+        Refusal::ReadOnly => Ok(format!(in alloc; " read only")?),
+        _ => Ok(format!(in alloc; " another refusal")?),
+    }
+}
+
+fn told_fault(alloc: Global, fault: &TxnFault) -> Result<String, NoMemory> {
+    match fault {
+        TxnFault::Refused(refusal) => told_refusal(alloc, refusal),
+        TxnFault::NoMemory => Err(NoMemory),
+    }
+}
+
+/// A number that was given, or the refusal.
+fn told_number(alloc: Global, number: Result<u64, TxnFault>) -> Result<String, NoMemory> {
+    match number {
+        Ok(number) => Ok(format!(in alloc; " {number}")?),
+        Err(fault) => told_fault(alloc, &fault),
+    }
+}
+
+fn is_read_only(word: &str) -> Result<bool, Fault> {
+    match word {
+        "rw" => Ok(false),
+        "ro" => Ok(true),
+        _ => Err(Fault::Form),
+    }
+}
+
+/// Begins a transaction of a session.
+#[tactic(auto, using(rv_txn::proofs::Beginning::began_next))]
+fn begin(txns: &mut Txns, session: u8, read_only: bool, base: u64) -> Result<u64, TxnFault>
+    requires { txns.old.next < 1000 }
+    ensures { txns.new.next ≤ txns.old.next + 1 }
+{
+    match txns.begin(session, read_only, base) {
+        Ok(number) => Ok(number),
+        Err(fault) => Err(fault),
+    }
+}
+
+fn begin_words(alloc: Global, txns: &mut Txns, text: &str) -> Result<String, Fault>
+    requires { txns.old.next < 1000 }
+    ensures { txns.new.next ≤ txns.old.next + 1 }
+{
+    let text = text.strip_prefix("begin ").ok_or(Fault::Form)?;
+    let (of, rest) = cut(text, ' ')?;
+    let (word, base) = cut(rest, ' ')?;
+    let (of, read_only, base) = (session(of)?, is_read_only(word)?, number(base)?);
+    let begun = begin(txns, of, read_only, base);
+    Ok(told_number(alloc, begun)?)
+}
+
+/// Begins some transactions.
+fn begin_all(alloc: Global, txns: &mut Txns, told: &mut String, text: &str) -> Result<(), Fault>
+    requires { txns.old.next ≤ 1 }
+{
+    let mut tries = 0u32;
+    'begins: for text in text.split(", ") {
+        if tries > 90 {
+            return Err(Fault::Form);
+        }
+        let word = begin_words(alloc, txns, text)?;
+        told.push_str(word.as_str())?;
+        tries += 1;
+    }
+    Ok(())
+}
+
+fn one_value(alloc: Global, n: u32) -> Result<Values, NoMemory> {
+    Ok(Values::from_vec(vec![in alloc; Value::Int(i64::from(n))]?))
+}
+
+/// Inserts a row into a table; its number.
+fn insert(alloc: Global, txns: &mut Txns, text: &str) -> Result<String, Fault> {
+    let (of, table) = cut(text, ' ')?;
+    let (of, table) = (session(of)?, small(table)?);
+    let values = one_value(alloc, table)?;
+    let inserted = match txns.insert(of, table, values) {
+        Ok(RowNo(row)) => Ok(row),
+        Err(fault) => Err(fault),
+    };
+    Ok(told_number(alloc, inserted)?)
+}
+
+/// How many rows a commit of the session changes.
+fn finish(alloc: Global, txns: &Txns, text: &str) -> Result<String, Fault> {
+    match txns.finish(session(text)?) {
+        Ok(finished) => {
+            let count = finished.changes.len();
+            Ok(format!(in alloc; " changes {count}")?)
+        }
+        Err(fault) => Ok(told_fault(alloc, &fault)?),
+    }
+}
+
+fn roll_back(alloc: Global, txns: &mut Txns, text: &str) -> Result<String, Fault> {
+    match txns.rollback(session(text)?) {
+        Ok(()) => Ok(format!(in alloc; " rolled back")?),
+        Err(refusal) => Ok(told_refusal(alloc, &refusal)?),
+    }
+}
+
+fn told_changed(alloc: Global, txns: &Txns, text: &str) -> Result<String, Fault> {
+    let (of, table) = cut(text, ' ')?;
+    if txns.has_changed(session(of)?, small(table)?) {
+        Ok(format!(in alloc; " changed")?)
+    } else {
+        Ok(format!(in alloc; " unchanged")?)
+    }
+}
+
+fn told_active(alloc: Global, active: Option<u64>) -> Result<String, NoMemory> {
+    match active {
+        Some(number) => Ok(format!(in alloc; " lowest {number}")?),
+        None => Ok(format!(in alloc; " none")?),
+    }
+}
+
+fn told_standing(alloc: Global, standing: Option<Standing>) -> Result<String, NoMemory> {
+    match standing {
+        Some(
+            Standing {
+                txn,
+                read_only,
+                base,
+            },
+        ) => {
+            let word = if read_only { "ro" } else { "rw" };
+            Ok(format!(in alloc; " {txn} {word} {base}")?)
+        }
+        None => Ok(format!(in alloc; " none")?),
+    }
+}
+
+/// Does an act; what is found.
+fn act(alloc: Global, txns: &mut Txns, text: &str) -> Result<String, Fault> {
+    let (word, rest) = cut(text, ' ')?;
+    match word {
+        "insert" => insert(alloc, txns, rest),
+        "changed" => told_changed(alloc, txns, rest),
+        "finish" => finish(alloc, txns, rest),
+        "rollback" => roll_back(alloc, txns, rest),
+        "active" => Ok(told_active(alloc, txns.active())?),
+        "horizon" => Ok(format!(in alloc; " {}", txns.horizon(number(rest)?))?),
+        "standing" => Ok(told_standing(alloc, txns.standing(session(rest)?))?),
+        _ => Err(Fault::Form),
+    }
+}
+
+fn act_all(alloc: Global, txns: &mut Txns, told: &mut String, text: &str) -> Result<(), Fault> {
+    'acts: for text in text.split(", ") {
+        let word = act(alloc, txns, text)?;
+        told.push_str(word.as_str())?;
+    }
+    Ok(())
+}
+
+pub fn told(alloc: Global, text: &str) -> Result<String, Fault> {
+    let (begins, acts) = cut(text, ';')?;
+    let mut txns = Txns::new(alloc);
+    let mut told = String::new(alloc);
+    begin_all(alloc, &mut txns, &mut told, begins)?;
+    told.push_str(";")?;
+    act_all(alloc, &mut txns, &mut told, acts.trim_start())?;
+    Ok(told)
+}
