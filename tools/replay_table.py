@@ -6,26 +6,10 @@ transcript can have it. Broken is the first entry up to which the history is non
 import argparse
 
 from ending import end
+from hostile_table import FIRST
 
 # Three rows, two of them equal, and a cursor over all.
-ROWS = """\
-1 CREATE TABLE T (A BIGINT, B VARCHAR(4))
-= created
-1 BEGIN
-= began 1
-1 INSERT INTO T VALUES (1, 'x')
-= inserted 0
-1 INSERT INTO T VALUES (1, 'x')
-= inserted 1
-1 INSERT INTO T VALUES (NULL, '')
-= inserted 2
-1 COMMIT
-= committed 1
-1 BEGIN READ ONLY
-= began 2
-1 OPEN C SELECT * FROM T
-= opened
-"""
+ROWS, _, _ = FIRST.partition("1 FETCH C\n")
 END_OF_ROWS = "1 COMMIT\n= committed 1\n1 FETCH C\n= no cursor C\n"
 
 ONE, NONE = "row 1, 'x'", "row NULL, ''"

@@ -82,6 +82,21 @@ class Sentences(unittest.TestCase):
             self.assertIn(" done pages", told, f"{order}: everything is read before the first row")
         self.assertFalse(self.trace("SELECT T.D FROM T, S WHERE T.D = S.K AND T.D < 9 ORDER BY S.K").startswith("trace sorted"))
 
+    def test_short_range_goes_before_an_index_that_has_all_columns(self):
+        told = self.trace("SELECT A, B FROM T WHERE A = 3 AND B = 1", 2)
+        self.assertEqual(told, "trace background-only background scan IAB list IAB 1 final-list done pages 0 leaves 1 fetches 1")
+        self.assertTrue(self.trace("SELECT A, B FROM T WHERE A = 3").startswith("trace index-only"))  # 32 entries: not short
+
+    def test_order_by_an_index_that_has_all_columns(self):
+        told = self.trace("SELECT A, B FROM T WHERE A < 4 ORDER BY A", 400)
+        self.assertTrue(told.startswith("trace sorted foreground done") and told.endswith(" fetches 0"), told)
+        self.assertIn(" scan IC", self.trace("SELECT * FROM T WHERE C STARTING WITH 'c0' ORDER BY A"))  # ranges of others are scanned
+        self.assertNotIn(" scan", self.trace("SELECT A, B FROM T ORDER BY A"))
+
+    def test_short_range_is_listed_when_the_cursor_is_opened(self):
+        told = self.trace("SELECT * FROM T WHERE A = 3 AND B = 1 ORDER BY A")
+        self.assertEqual(told, "trace sorted building scan IAB list IAB 1 foreground pages 0 leaves 1 fetches 0")
+
     def test_same_order_with_the_equality_written(self):
         rows = []
         for order in ("B", "A, B"):
