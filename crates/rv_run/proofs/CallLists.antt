@@ -6,8 +6,8 @@ use Rattle.rv_script.specs.declared.scripts.Phase.{Phase}
 use Rattle.rv_script.specs.declared.scripts.Script.{Script}
 use Rattle.rv_model.specs.declared.entry.Entry.{Entry}
 use Rattle.rv_core.specs.Core.{Shown}
-use Rattle.rv_run.specs.Script.{Call, HasAllCalls, HasFirstCalls, IsFrontInOrder, call, calls_asked, calls_from, calls_in, calls_made, no_phase, of_session}
-use Rattle.rv_run.specs.Making.{MakesCalls, MakesFirst}
+use Rattle.rv_run.specs.Script.{Call, HasAllCalls, HasFirstCalls, IsFrontInOrder, call, calls_asked, calls_from, calls_in, calls_made, of_session}
+use Rattle.rv_run.specs.Making.{MakesCalls, MakesFirst, no_phase}
 
 -- what stands in the script's order has each session's calls
 pub all_calls : (h : List Entry) (script : Script) → calls_made h ≡ calls_asked script → HasAllCalls h script

@@ -13,8 +13,8 @@ use Rattle.rv_run.specs.declared.status.Status.{Status}
 use Rattle.rv_run.specs.declared.status.Status.TheVariants as statuses
 use Rattle.rv_core.specs.Core.{Shown}
 use Rattle.rv_model.specs.declared.entry.Entry.{Entry}
-use Rattle.rv_run.specs.Script.{HasFirst, HasTooMany, ReadsAll, Runs, Told, Write, Writes}
-use Rattle.rv_run.specs.Performing.{Hinders, Performs, Stops, script_status}
+use Rattle.rv_run.specs.Script.{HasFirst, HasTooMany, ReadsAll, Runs, Write, Writes}
+use Rattle.rv_run.specs.Performing.{Hinders, Performs, Stops, Told, script_status}
 
 -- where nothing was taken
 pub takes_none : (left : Option (List ℕ)) (most : ℕ) → TakesUpTo left left most

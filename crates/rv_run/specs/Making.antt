@@ -1,5 +1,5 @@
 -- What makes calls of a script's lines.
-use Rattle.std.specs.Prelude.{◌≡◌, ◌<◌, ℕ, ◌+◌, ◌≤◌, List, ◌++◌, Some, All, IfSome, length, slice_get, slice_set, take}
+use Rattle.std.specs.Prelude.{◌≡◌, ◌<◌, ℕ, ◌+◌, ◌≤◌, List, ◌++◌, Some, All, IfSome, length, None, [], slice_get, slice_set, take}
 use Rattle.rv_script.specs.declared.scripts.Line.{Line}
 use Rattle.rv_script.specs.declared.scripts.Phase.{Phase}
 use Rattle.rv_script.specs.declared.scripts.Script.{Script}
@@ -15,6 +15,10 @@ pub record FitsPhase (phase : Phase) : Type 0 where
   pub few : length phase.lines ≤ 200000
   pub calls : HasCalls phase
   pub judge : IfSome phase.judge (λ number. number < 3)
+
+-- what stands behind the last phase
+abbrev pub no_phase : Phase
+no_phase = record { judge = None; lines = [] }
 
 -- Phases can be counted, and each may be made.
 pub record FitsScript (script : Script) : Type 0 where

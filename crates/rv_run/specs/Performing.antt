@@ -1,5 +1,5 @@
 -- What performing a script comes to, and which status a fault gives.
-use Rattle.std.specs.Prelude.{ℕ, List, Option, Bool, true, false}
+use Rattle.std.specs.Prelude.{ℕ, List, Option, Bool, true, false, IfSome}
 use Rattle.rv_io.specs.declared.all.ReadFault.{ReadFault}
 use Rattle.rv_io.specs.declared.all.ReadFault.TheVariants as reading
 use Rattle.rv_words.specs.Words.{AreAccepted}
@@ -11,7 +11,7 @@ use Rattle.rv_believed.specs.History.{IsLegal}
 use Rattle.rv_run.specs.declared.status.Over.TheVariants as over
 use Rattle.rv_run.specs.declared.status.Status.{Status}
 use Rattle.rv_run.specs.declared.status.Status.TheVariants as statuses
-use Rattle.rv_run.specs.Script.{FailsToRead, HasFault, PassesLimit, output}
+use Rattle.rv_run.specs.Script.{FailsToRead, HasFault, PassesLimit, Write, output}
 
 -- This was written of the output of a legal history, which has such calls of the script.
 pub record Performs (seed : Option ℕ) (Written : List ℕ → Type 0) (Has : List Entry → Script → Type 0) (script : Script) (history : List Entry) : Type 0 where
@@ -25,6 +25,10 @@ IsPerformed statuses.Done = Unit {0}
 IsPerformed statuses.Memory = Unit {0}
 IsPerformed statuses.WriteFault = Unit {0}
 IsPerformed status = ⊥
+
+-- a fact of the script that the source told, where it tells
+abbrev pub Told : Option (List ℕ) → (Script → Type 0) → Type 0
+Told left P = IfSome left (λ bytes. Write bytes P)
 
 -- Why there is no script to run, by the status that tells it.
 abbrev pub Hinders : Option (List ℕ) → Option (List ℕ) → ℕ → ℕ → Status → Type 0

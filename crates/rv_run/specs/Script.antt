@@ -45,10 +45,6 @@ calls_from phase (p ∷ ps) = calls_in phase p.lines ++ calls_from (phase + 1) p
 abbrev pub calls_asked : Script → List Call
 calls_asked script = calls_from 1 script.phases
 
--- what stands behind the last phase
-abbrev pub no_phase : Phase
-no_phase = record { judge = None; lines = [] }
-
 -- a session's calls among calls, in order
 abbrev pub of_session : ℕ → List Call → List Call
 of_session session all = filter (λ (c : Call). c.session == session) all
@@ -62,7 +58,8 @@ HasAllCalls history script = (session : ℕ) →
 -- the calls of so many phases, and of so many lines of the next one
 abbrev pub first_calls : ℕ → ℕ → List Phase → List Call
 first_calls count lines phases = calls_from 1 (take count phases)
-    ++ calls_in (count + 1) (take lines (slice_index_or phases count no_phase).lines)
+    ++ calls_in (count + 1)
+    (take lines (slice_index_or phases count (record { judge = None; lines = [] })).lines)
 
 -- THE FIRST CALLS: of each session those of so many phases, and of its first lines of the next one.
 pub record HasFirstCalls (history : List Entry) (script : Script) : Type 0 where
@@ -84,14 +81,10 @@ pub record Write (bytes : List ℕ) (P : Script → Type 0) : Type 0 where
   pub few : length bytes ≤ 16777216
   pub script : IsOkAnd (script_of bytes) P
 
--- a fact of the script that the source told, where it tells
-abbrev pub Told : Option (List ℕ) → (Script → Type 0) → Type 0
-Told left P = IfSome left (λ bytes. Write bytes P)
-
 -- a fact of the script that is run: a seed's workload, or else what the source told, where it tells
 abbrev pub Runs : Option ℕ → Option (List ℕ) → (Script → Type 0) → Type 0
 Runs (Some seed) left P = P (workload_of seed)
-Runs None left P = Told left P
+Runs None left P = IfSome left (λ bytes. Write bytes P)
 
 -- what is written of a history: its transcript, or with a seed its summary
 abbrev pub output : Option ℕ → List Entry → List ℕ

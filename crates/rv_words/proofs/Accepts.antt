@@ -6,7 +6,8 @@ use Rattle.std.proofs.lemmas.Bool.{cases_Bool}
 use Rattle.rv_words.specs.declared.choices.Choice.{Choice}
 use Rattle.rv_words.specs.declared.choices.Choice.TheVariants.{Threads, Workers, Judge, Steps, Gen}
 use Rattle.rv_words.specs.declared.reading.Sofar.{Sofar}
-use Rattle.rv_words.specs.Words.{Item, IsItem, IsValue, Lacks, Once, is_flag, is_option, name_of, words_of}
+use Rattle.rv_words.specs.Words.{Item, IsValue, Once, is_flag, name_of, words_of}
+use Rattle.rv_words.proofs.Items.{IsItem, Lacks, is_option}
 use Rattle.rv_words.specs.Reading.{Form, Named, Joined, Other, fit_from, fit_more, form, given, marked, value, with_form, with_new, with_word}
 use Rattle.rv_words.proofs.Values.{has_value, is_value}
 use Rattle.rv_words.proofs.Forms.{is_joined, is_named, joined_word, named_word}

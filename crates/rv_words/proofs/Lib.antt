@@ -1,5 +1,6 @@
 mod Accepts
 mod Forms
+mod Items
 pub mod Loops
 pub mod Told
 mod Values

@@ -5,7 +5,8 @@ use Rattle.std.specs.List.{AllByRecursion}
 use Rattle.rv_words.specs.declared.choices.Asked.{Asked}
 use Rattle.rv_words.specs.declared.choices.Choice.{Choice}
 use Rattle.rv_words.specs.declared.choices.Choice.TheVariants.{Threads, Workers, Judge, Steps, Gen}
-use Rattle.rv_words.specs.Words.{AreAccepted, AreWithin, IsItem, Item, asked_of, greatest, is_flag, number, value_of}
+use Rattle.rv_words.specs.Words.{AreAccepted, AreWithin, Item, asked_of, greatest, is_flag, value_of, number_behind}
+use Rattle.rv_words.proofs.Items.{IsItem}
 use Rattle.rv_words.specs.Reading.{fit_from, given, start}
 use Rattle.rv_words.proofs.Accepts.{Free, option_cases, read_items, read_words}
 
@@ -36,7 +37,7 @@ value_within option [] valued all = tt
 value_within option (item ∷ items) valued all = elim (option_cases option item.option) [
   | inl same ↦
       let is = all.0 (ap is_flag (sym same.0) ∙ valued) in
-      rw same.1 (subst (λ (c : Choice). number item.digits ≤ greatest c) (sym same.0) is.within)
+      rw same.1 (subst (λ (c : Choice). number_behind 0 item.digits ≤ greatest c) (sym same.0) is.within)
   | inr other ↦ rw other.1 (value_within option items valued all.1)
 ]
 

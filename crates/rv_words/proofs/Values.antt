@@ -3,8 +3,9 @@ use Rattle.std.proofs.Common.{◌≡◌, ℕ, ◌+◌, ◌-◌, ◌*◌, ◌≤�
 use Rattle.std.specs.List.{list_all}
 use Rattle.std.proofs.lemmas.Bool.{cases_Bool}
 use Rattle.std.proofs.lemmas.Bool.Decides.{nat_tests}
+use Rattle.std.specs.Char.{is_ascii_digit}
 use Rattle.rv_words.specs.declared.choices.Choice.{Choice}
-use Rattle.rv_words.specs.Words.{IsValue, greatest, is_digit, number_behind, number}
+use Rattle.rv_words.specs.Words.{IsValue, greatest, number_behind}
 use Rattle.rv_words.specs.Reading.{held_to, number_from, value}
 
 pub and_parts : (a b : Bool) → (a && b) ≡ true → (a ≡ true) × (b ≡ true)
@@ -24,24 +25,24 @@ grows n (d ∷ ds) = let more = grows (n * 10 + (d - 48)) ds in omega (arith, mo
 
 -- what was read: digits, and their number
 record Reads (n m : ℕ) (ds : List ℕ) : Type 0 where
-  decimal : list_all is_digit ds ≡ true
+  decimal : list_all is_ascii_digit ds ≡ true
   number : m ≡ number_behind n ds
 
 reads : (n m : ℕ) (ds : List ℕ) → number_from n ds ≡ Some m → Reads n m ds
 reads n m [] e = record { decimal = refl; number = let same : n ≡ m = cc in sym same }
-reads n m (d ∷ ds) e = elim (cases_Bool (is_digit d && nat_le (n * 10 + (d - 48)) 4294967295)) [
+reads n m (d ∷ ds) e = elim (cases_Bool (is_ascii_digit d && nat_le (n * 10 + (d - 48)) 4294967295)) [
   | inl t ↦
-      let digit = and_parts (is_digit d) (nat_le (n * 10 + (d - 48)) 4294967295) t in
+      let digit = and_parts (is_ascii_digit d) (nat_le (n * 10 + (d - 48)) 4294967295) t in
       let rest = rw t at e in
       let more = reads (n * 10 + (d - 48)) m ds rest in
       record { decimal = rw digit.0 more.decimal; number = more.number }
   | inr f ↦ let wrong = rw f at e in cc
 ]
 
-is_read : (n : ℕ) (ds : List ℕ) → list_all is_digit ds ≡ true → number_behind n ds ≤ 4294967295 → number_from n ds ≡ Some (number_behind n ds)
+is_read : (n : ℕ) (ds : List ℕ) → list_all is_ascii_digit ds ≡ true → number_behind n ds ≤ 4294967295 → number_from n ds ≡ Some (number_behind n ds)
 is_read n [] all small = refl
 is_read n (d ∷ ds) all small =
-    let parts = and_parts (is_digit d) (list_all is_digit ds) all in
+    let parts = and_parts (is_ascii_digit d) (list_all is_ascii_digit ds) all in
     let more = grows (n * 10 + (d - 48)) ds in
     let within : nat_le (n * 10 + (d - 48)) 4294967295 ≡ true = is_at_most (n * 10 + (d - 48)) 4294967295 (omega (arith, more, small)) in
     rw (parts.0, within) (is_read (n * 10 + (d - 48)) ds parts.1 small)
@@ -49,7 +50,7 @@ is_read n (d ∷ ds) all small =
 -- a value that was read, and its number
 pub record HasValue (option : Choice) (digits : List ℕ) (n : ℕ) : Type 0 where
   pub is : IsValue option digits
-  pub number : n ≡ number digits
+  pub number : n ≡ number_behind 0 digits
 
 held_value : (option : Choice) (digits : List ℕ) (n : ℕ) (o : Option ℕ) → 1 ≤ length digits → length digits ≤ 10 → number_from 0 digits ≡ o → held_to (greatest option) o ≡ Some n → HasValue option digits n
 held_value option digits n None some few r e = cc
@@ -79,8 +80,8 @@ small_of Choice.Judge = omega arith
 small_of Choice.Steps = omega arith
 small_of Choice.Gen = omega arith
 
-pub is_value : (option : Choice) (digits : List ℕ) → IsValue option digits → value option digits ≡ Some (number digits)
+pub is_value : (option : Choice) (digits : List ℕ) → IsValue option digits → value option digits ≡ Some (number_behind 0 digits)
 is_value option digits v =
     let most = small_of option in
-    let read : number_from 0 digits ≡ Some (number digits) = is_read 0 digits v.decimal (let w = v.within in omega (arith, most, w)) in
-    rw (is_at_most 1 (length digits) v.some, is_at_most (length digits) 10 v.few, read, is_at_most (number digits) (greatest option) v.within) refl
+    let read : number_from 0 digits ≡ Some (number_behind 0 digits) = is_read 0 digits v.decimal (let w = v.within in omega (arith, most, w)) in
+    rw (is_at_most 1 (length digits) v.some, is_at_most (length digits) 10 v.few, read, is_at_most (number_behind 0 digits) (greatest option) v.within) refl

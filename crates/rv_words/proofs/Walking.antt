@@ -13,12 +13,14 @@ use Rattle.clap.specs.declared.parser.matches.Found.{Found}
 use Rattle.clap.specs.declared.parser.matches.ValueSource.TheVariants.{CommandLine, DefaultValue}
 use Rattle.clap.proofs.WalkLemmas.{first_value-rows}
 use Rattle.clap.proofs.OnLiterals.{clap_on_literals}
+use Rattle.std.specs.Char.{is_ascii_digit}
 use Rattle.rv_words.specs.declared.choices.Asked.{Asked}
 use Rattle.rv_words.specs.declared.choices.Choice.{Choice}
 use Rattle.rv_words.specs.declared.choices.Choice.TheVariants.{Threads, Workers, Judge, Steps, Gen}
 use Rattle.rv_words.specs.Command.{app, asked_in, flag_in, found_in, id_of, rule_for, valued_rule}
 use Rattle.rv_words.specs.Reading.{value}
-use Rattle.rv_words.specs.Words.{AreAccepted, Ask, IsItem, IsValue, Item, Lacks, Once, asked_of, is_digit, is_flag, is_option, name_of, value_of, words_of}
+use Rattle.rv_words.specs.Words.{AreAccepted, Ask, IsValue, Item, Once, asked_of, is_flag, name_of, value_of, words_of}
+use Rattle.rv_words.proofs.Items.{IsItem, Lacks, is_option}
 use Rattle.rv_words.proofs.Accepts.{option_cases, value_words}
 use Rattle.rv_words.proofs.Values.{and_parts, is_value}
 
@@ -75,13 +77,13 @@ record IsPlain (word : List ℕ) : Type 0 where
   long : long_of word ≡ None
   short : short_of word ≡ None
 
-no_dash : (d : ℕ) → is_digit d ≡ true → (d == 45) ≡ false
+no_dash : (d : ℕ) → is_ascii_digit d ≡ true → (d == 45) ≡ false
 no_dash d digit = grind (arith, nat_tests)
 
 digits_plain : (o : Choice) (digits : List ℕ) → IsValue o digits → IsPlain digits
 digits_plain o [] v = absurd (let some = v.some in omega (arith, some))
 digits_plain o (d ∷ ds) v =
-    let none = no_dash d (and_parts (is_digit d) (list_all is_digit ds) v.decimal).0 in
+    let none = no_dash d (and_parts (is_ascii_digit d) (list_all is_ascii_digit ds) v.decimal).0 in
     record { dashes = rw none refl; long = rw none refl; short = rw none refl }
 
 abbrev stepped : Walk → List ℕ → Held × Step → Walk

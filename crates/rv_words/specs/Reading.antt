@@ -1,9 +1,10 @@
 -- Words read one after another, as the code reads them. `specs/Words.antt` says which words are accepted.
 use Rattle.std.specs.Prelude.{ℕ, ◌+◌, ◌-◌, ◌*◌, ◌&&◌, ◌==◌, Bool, true, false, List, [], ◌∷◌, Option, Some, None, bytes_eq, drop, take, if◌then◌else◌, is_some, length, nat_le, position, option_and_then}
+use Rattle.std.specs.Char.{is_ascii_digit}
 use Rattle.rv_words.specs.declared.choices.Choice.{Choice}
 use Rattle.rv_words.specs.declared.choices.Choice.TheVariants.{Threads, Workers, Judge, Steps, Gen}
 use Rattle.rv_words.specs.declared.reading.Sofar.{Sofar}
-use Rattle.rv_words.specs.Words.{greatest, is_digit, is_flag, name_of}
+use Rattle.rv_words.specs.Words.{greatest, is_flag, name_of}
 
 -- ---- a word where an item begins
 
@@ -42,7 +43,7 @@ form word = form_at (position (λ c. c == 61) word) word
 
 -- a number with one digit more, up to the greatest of all values
 abbrev pub with_digit : ℕ → ℕ → Option ℕ
-with_digit n d = if is_digit d && nat_le (n * 10 + (d - 48)) 4294967295 then Some (n * 10 + (d - 48)) else None
+with_digit n d = if is_ascii_digit d && nat_le (n * 10 + (d - 48)) 4294967295 then Some (n * 10 + (d - 48)) else None
 
 -- the number that digits write behind those of another
 abbrev pub number_from : ℕ → List ℕ → Option ℕ

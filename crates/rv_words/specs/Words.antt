@@ -1,5 +1,6 @@
 -- The words that the program accepts, and what they ask.
-use Rattle.std.specs.Prelude.{◌≡◌, ℕ, ◌+◌, ◌-◌, ◌*◌, ◌≤◌, ◌&&◌, ◌≢◌, List, [], ◌∷◌, ◌++◌, Bool, true, false, Option, Some, None, bytes_eq, codes, flat_map, if◌then◌else◌, length, nat_le, unwrap_or}
+use Rattle.std.specs.Prelude.{◌≡◌, ℕ, ◌+◌, ◌-◌, ◌*◌, ◌≤◌, ◌≢◌, List, [], ◌∷◌, ◌++◌, Bool, true, false, Option, Some, None, bytes_eq, codes, flat_map, if◌then◌else◌, length, unwrap_or}
+use Rattle.std.specs.Char.{is_ascii_digit}
 use Rattle.std.specs.List.{AllByRecursion, list_all, list_any}
 use Rattle.rv_words.specs.declared.choices.Choice.{Choice}
 use Rattle.rv_words.specs.declared.choices.Choice.TheVariants.{Threads, Workers, Judge, Steps, Gen}
@@ -26,25 +27,17 @@ greatest Judge = 2
 greatest Steps = 64
 greatest Gen = 4294967295
 
--- a digit from 0 to 9
-abbrev pub is_digit : ℕ → Bool
-is_digit c = nat_le 48 c && nat_le c 57
-
 -- the number that decimal digits write behind those of another number
 abbrev pub number_behind : ℕ → List ℕ → ℕ
 number_behind n [] = n
 number_behind n (d ∷ ds) = number_behind (n * 10 + (d - 48)) ds
 
--- the number that decimal digits write
-abbrev pub number : List ℕ → ℕ
-number digits = number_behind 0 digits
-
 -- 1 to 10 decimal digits, whose number is at most the option's greatest value
 pub record IsValue (option : Choice) (digits : List ℕ) : Type 0 where
   pub some : 1 ≤ length digits
   pub few : length digits ≤ 10
-  pub decimal : list_all is_digit digits ≡ true
-  pub within : number digits ≤ greatest option
+  pub decimal : list_all is_ascii_digit digits ≡ true
+  pub within : number_behind 0 digits ≤ greatest option
 
 -- an option with its value, which is behind `=` or is the next word; or one that takes no value
 pub record Item : Type 0 where
@@ -58,23 +51,16 @@ words_of item = if is_flag item.option then name_of item.option ∷ []
     else (if item.behind then (name_of item.option ++ (codes "=" ++ item.digits)) ∷ []
     else name_of item.option ∷ item.digits ∷ [])
 
--- an option that takes a value has one
-abbrev pub IsItem : Item → Type 0
-IsItem item = is_flag item.option ≡ false → IsValue item.option item.digits
-
--- No item is of this option.
-abbrev pub Lacks : Choice → List Item → Type 0
-Lacks option items = AllByRecursion (λ (item : Item). item.option ≢ option) items
-
 -- No two items are of one option.
 abbrev pub Once : List Item → Type 0
 Once [] = Unit {0}
-Once (item ∷ items) = Lacks item.option items × Once items
+Once (item ∷ items) = AllByRecursion (λ (i : Item). i.option ≢ item.option) items × Once items
 
--- The words are these items, one after another, each option at most once.
+-- The words are these items, one after another, each option at most once and with its value.
 pub record Spell (words : List (List ℕ)) (items : List Item) : Type 0 where
   pub whole : words ≡ flat_map words_of items
-  pub fit : AllByRecursion IsItem items
+  pub fit : AllByRecursion
+      (λ (item : Item). is_flag item.option ≡ false → IsValue item.option item.digits) items
   pub once : Once items
 
 -- The words are a list of items.
@@ -82,20 +68,16 @@ pub record AreAccepted (words : List (List ℕ)) : Type 0 where
   pub items : List Item
   pub spelled : Spell words items
 
--- whether two options are the same: each has a name of its own
-abbrev pub is_option : Choice → Choice → Bool
-is_option a b = bytes_eq (name_of a) (name_of b)
-
--- the value of the option's item, if any
+-- the value of the option's item, if any; each option has a name of its own
 abbrev pub value_of : Choice → List Item → Option ℕ
 value_of option [] = None
-value_of option (item ∷ items) = if is_option option item.option
-    then Some (number item.digits) else value_of option items
+value_of option (item ∷ items) = if bytes_eq (name_of option) (name_of item.option)
+    then Some (number_behind 0 item.digits) else value_of option items
 
 -- where nothing else is asked: no threads, two workers, judge 0, one step, a script that is read
 abbrev pub asked_of : List Item → Asked
 asked_of items = record {
-  threads = list_any (λ (item : Item). is_option Threads item.option) items;
+  threads = list_any (λ (item : Item). bytes_eq (name_of Threads) (name_of item.option)) items;
   workers = unwrap_or (value_of Workers items) 2;
   judge = unwrap_or (value_of Judge items) 0;
   steps = unwrap_or (value_of Steps items) 1;
