@@ -1,20 +1,11 @@
 -- Texts that gain an item at their end.
-use Rattle.std.proofs.Common.{◌≡◌, ℕ, List, [], ◌∷◌, ◌++◌, refl, sym, ap, ◌∙◌, Bool, true, false, cond, eqb, append_assoc, append-nil, codes, flat_map, ◌≤◌, ◌-◌, length, take, drop, get_or, arith}
+use Rattle.std.proofs.Common.{◌≡◌, ℕ, List, [], ◌∷◌, ◌++◌, refl, sym, ap, ◌∙◌, append_assoc, append-nil, codes, flat_map, ◌≤◌, ◌-◌, length, take, drop, get_or, arith}
 use Rattle.std.proofs.Math.Seq.{take-length}
 use Rattle.rv_value.specs.declared.value.Value.{Value}
 use Rattle.std.proofs.lemmas.Grind.{flat_map-append}
 use Rattle.rv_lang.specs.declared.reply.ShownEvent.{ShownEvent}
 use Rattle.rv_lang.specs.declared.reply.Shown.{Shown}
-use Rattle.rv_lang.specs.Tokens.{quotes_twice}
 use Rattle.rv_model.specs.Transcript.{more_text, value_text, values_text, words_text, event_words, count_words, trace_words, strategy_word}
-
-pub doubled-push : (xs : List ℕ) (c : ℕ) → quotes_twice (xs ++ c ∷ []) ≡ quotes_twice xs ++ cond (eqb c 39) (39 ∷ 39 ∷ []) (c ∷ [])
-doubled-push [] c = refl
-doubled-push (x ∷ xs) c =
-    elim (eqb x 39) as (λ b. cond b (39 ∷ 39 ∷ quotes_twice (xs ++ c ∷ [])) (x ∷ quotes_twice (xs ++ c ∷ [])) ≡ cond b (39 ∷ 39 ∷ quotes_twice xs) (x ∷ quotes_twice xs) ++ cond (eqb c 39) (39 ∷ 39 ∷ []) (c ∷ [])) [
-      | true ↦ ap (λ (t : List ℕ). 39 ∷ 39 ∷ t) (doubled-push xs c)
-      | false ↦ ap (λ (t : List ℕ). x ∷ t) (doubled-push xs c)
-    ]
 
 pub more_text-push : (vs : List Value) (v : Value) → more_text (vs ++ v ∷ []) ≡ more_text vs ++ (codes ", " ++ value_text v)
 more_text-push [] v = simp append-nil

@@ -1,4 +1,5 @@
-ghost use Rattle.std.specs.Prelude.{◌++◌, ◌∷◌, [], codes, ◌==◌, if◌then◌else◌};
+ghost use Rattle.std.specs.Prelude.{◌≡◌, ◌++◌, ◌∷◌, [], codes, ◌==◌};
+ghost use Rattle.std.specs.List.{position};
 ghost use Rattle.rv_io.specs.Pieces.{Goes};
 ghost use Rattle.rv_lang.specs.Tokens.{quotes_twice};
 ghost use Rattle.rv_model.specs.Transcript.{values_text, more_text, value_text};
@@ -81,7 +82,7 @@ fn write_quoted<K: Sink>(
     write_next(sink, inner, b"'")
 }
 
-/// The bytes, each quote twice.
+/// The bytes, each quote twice: the runs between quotes, each as a whole.
 fn write_doubled<K: Sink>(
     sink: &mut K,
     sofar: Result<(), Failed>,
@@ -90,19 +91,19 @@ fn write_doubled<K: Sink>(
     ensures { Goes sofar (K.written sink.old) (K.written sink.new) (K.faults sink.old) (K.faults sink.new) result (quotes_twice bytes.now) }
 {
     let mut written = sofar;
-    for byte in bytes {
-        written = write_byte(sink, written, *byte);
+    let mut rest = bytes;
+    'runs: while let Some(place) = first_quote(rest) {
+        let (run, behind) = rest.split_at(place);
+        let before = write_next(sink, written, run);
+        written = write_next(sink, before, b"''");
+        rest = &behind[1..];
     }
-    written
+    write_next(sink, written, rest)
 }
 
-/// A byte, a quote twice.
-fn write_byte<K: Sink>(sink: &mut K, sofar: Result<(), Failed>, byte: u8) -> Result<(), Failed>
-    ensures { Goes sofar (K.written sink.old) (K.written sink.new) (K.faults sink.old) (K.faults sink.new) result (if byte == 39 then 39 ∷ 39 ∷ [] else byte ∷ []) }
+/// The place of the first quote.
+fn first_quote(bytes: &[u8]) -> Option<usize>
+    ensures { result ≡ position (λ c. c == 39) bytes.now }
 {
-    if byte == b'\'' {
-        write_next(sink, sofar, b"''")
-    } else {
-        write_next(sink, sofar, &[byte])
-    }
+    bytes.iter().position(|byte| *byte == b'\'')
 }

@@ -1,8 +1,15 @@
-use Rattle.std.proofs.Common.{arith}
-use Rattle.std.proofs.lemmas.List.{take_more}
-use Rattle.rv_io.proofs.Streams.{goes_then}
-use Rattle.rv_script.proofs.Pushes.{doubled-push}
+use Rattle.std.proofs.Common.{sym, ◌∙◌}
+use Rattle.rv_io.proofs.Streams.{rest_is}
+use Rattle.rv_script.proofs.Doubling.{cut_at, cut_nowhere, told_all, told_more}
 use Rattle.rv_script.proofs.values.write_doubled.Goals as goal
 
-pub loop-byte-preserved : goal.loop-byte-preserved
-loop-byte-preserved g c = rw (take_more c.args.bytes.now c.loop-byte.byte-index 0 (omega arith), doubled-push) (goes_then c.loop-byte.invariant c.write_byte-written.ensures)
+pub runs-preserved : goal.runs-preserved
+runs-preserved g c =
+    let cut = cut_at c.runs.rest.now c.in-Some.place c.in-Some.ensures in
+    let run = rw c.split_at.ensures.front at c.write_next-before.ensures in
+    rw (rest_is 1 c.split_at.result.1.now, c.split_at.ensures.back) (told_more cut c.runs.invariant run c.write_next-written.ensures)
+
+pub returns : goal.returns
+returns g c =
+    let none = cut_nowhere c.runs.rest.now (sym c.in_default.is ∙ c.first_quote.ensures) in
+    told_all none c.runs.invariant c.write_next.ensures

@@ -1,8 +1,9 @@
-use Rattle.std.proofs.Common.{◌≡◌, ℕ, List, take, Ok, ◌≤◌}
-use Rattle.rv_io.specs.Pieces.{Goes}
-use Rattle.rv_lang.specs.Tokens.{quotes_twice}
-use Rattle.rv_model.specs.Transcript.{text, more_text}
+use Rattle.std.proofs.Common.{length}
+use Rattle.rv_script.proofs.Doubling.{Told}
 use Rattle.rv_script.proofs.values.write_doubled.Given as goal
 
-abbrev pub invariant-loop-byte : goal.invariant-loop-byte
-invariant-loop-byte g l = Goes l.fn.sofar (g.K.Sink.written l.fn.sink) (g.K.Sink.written l.sink) (g.K.Sink.faults l.fn.sink) (g.K.Sink.faults l.sink) l.written (quotes_twice (take l.byte-index l.bytes))
+abbrev pub invariant-runs : goal.invariant-runs
+invariant-runs g l = Told l.fn.sofar (g.K.Sink.written l.fn.sink) (g.K.Sink.written l.sink) (g.K.Sink.faults l.fn.sink) (g.K.Sink.faults l.sink) l.written l.fn.bytes l.rest
+
+abbrev pub decreases-runs : goal.decreases-runs
+decreases-runs g l = length l.rest
