@@ -29,6 +29,9 @@ def main():
         if (whole.status, whole.output, whole.words) != (0, asked.transcript.read_bytes(), b""):
             print(f"with memory enough: status {whole.status}, {len(whole.output)} bytes, {whole.words!r}")
             return 1
+        if not whole.made:
+            print("the library counted no allocations, so none can be refused")
+            return 1
         print(f"with memory enough: {whole.made} allocations, {whole.most} bytes at most")
         limits = [{"number": number} for number in range(1, whole.made + 2, asked.every)]
         if asked.rooms is not None:

@@ -19,10 +19,14 @@ TEN = r"""
 #include <stdio.h>
 #include <stdlib.h>
 #include <unistd.h>
-int main(void) {
+int run(void) {
     for (int i = 0; i < 10; i++)
         if (!malloc(1000)) return i == WRONG ? 9 : write(2, "no memory\n", 10) == 10 ? 4 : 9;
     return write(1, "1 COMMIT\n= no transaction\n", 26) == 26 ? 0 : 9;
+}
+int main(void) {
+    if (AT_ONCE) _exit(run()); /* as a program with threads ends */
+    return run();
 }
 """
 
@@ -123,10 +127,10 @@ class Random(Folder):
 
 @unittest.skipUnless(shutil.which("cc"), "there is no C compiler")
 class Refused(Folder):
-    def refuse(self, wrong: int) -> subprocess.CompletedProcess:
+    def refuse(self, wrong: int, at_once: int = 0) -> subprocess.CompletedProcess:
         source, program = self.folder / "ten.c", self.folder / "ten"
         source.write_text(TEN, encoding="utf-8")
-        subprocess.run(["cc", "-O0", f"-DWRONG={wrong}", "-o", program, source], check=True)
+        subprocess.run(["cc", "-O0", f"-DWRONG={wrong}", f"-DAT_ONCE={at_once}", "-o", program, source], check=True)
         script, transcript = self.folder / "script", self.folder / "transcript"
         script.write_text("1 COMMIT\n", encoding="utf-8")
         transcript.write_text("1 COMMIT\n= no transaction\n", encoding="utf-8")
@@ -137,6 +141,11 @@ class Refused(Folder):
         self.assertEqual(told.returncode, 0, told.stdout + told.stderr)
         self.assertIn("with memory enough: 10 allocations", told.stdout)
         self.assertIn("status 0 with 1 calls told: 1 runs\nstatus 4 with 0 calls told: 10 runs\n11 runs, 0 ended otherwise\n", told.stdout)
+
+    def test_it_is_told_where_the_program_ends_at_once(self):
+        told = self.refuse(99, at_once=1)
+        self.assertEqual(told.returncode, 0, told.stdout + told.stderr)
+        self.assertIn("11 runs, 0 ended otherwise\n", told.stdout)
 
     def test_wrong_end_is_found(self):
         told = self.refuse(6)
