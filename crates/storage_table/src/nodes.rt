@@ -1,5 +1,5 @@
 //! Nodes of an index tree over keys of one number.
-ghost use Rattle.std.specs.Prelude.{◌≡◌, ◌<◌, ◌≤◌, length};
+ghost use Rattle.std.specs.Prelude.{◌≡◌, length};
 
 use crate::ranges::told_first;
 use crate::read::{Fault, integer};
