@@ -1,13 +1,18 @@
 #!/usr/bin/env python3
-"""Writes what the program `restriction_table` is to print: restrictions and rows, with the place of the row's key in the
-restriction's range, the truth on the row, and whether the index part passes the key.
+"""Writes what the program `storage_table` is to print of values and restrictions: restrictions and rows, with the place of the
+row's key in the restriction's range, the truth on the row, and whether the index part passes the key.
 
 It is written from the rules in words, apart from the Rattle code: values are ordered NULL, integers, texts
 by bytes; a comparison with NULL is Unknown; AND is the least and OR the greatest in the order False,
 Unknown, True; only groups of a single atom bound a range.
 
-A line: the index's columns; the restriction; the row (a, b, c); place; truth; pass.
-Groups are parted by ' & ', atoms of a group by ' / '. N is NULL, a text begins with a quote."""
+A line behind `row`: the index's columns; the restriction; the row (a, b, c); place; truth; pass.
+Groups are parted by ' & ', atoms of a group by ' / '. N is NULL, a text begins with a quote.
+
+A line behind another word tells of values (two orders, and whether they are the same), of keys (by as many
+values as both have, and by all), of entries (the rows in the order of key and row), of a range (or one of what begins with
+the last text of its low bound) and a key, of acts on a list, of copied pairs, of the range of a restriction, of its parts for two
+indexes, and of the range of `the column at place 0 is less than that at place 1` behind a row at place 0."""
 import argparse
 
 FALSE, UNKNOWN, TRUE = 0, 1, 2
@@ -229,18 +234,129 @@ CASES = [
     ("c", "c in 'a 'b", ["0 0 'a", "0 0 'c", "0 0 N"]),
 ]
 
+# Values in rising order.
+RISING = ["N", str(-(2**63)), "-1", str(2**63 - 1), "'", "'A", "'AB", "'B"]
+
+ORDER = {-1: "less", 0: "equal", 1: "greater"}
+
+
+def ordered(a, b):
+    return ORDER[(a > b) - (a < b)]
+
+
+def keyed(text):
+    return [rank(value(word)) for word in text.split(" ")]
+
+
+def told_values(text):
+    """The places of the values in the list are their order."""
+    a, b = map(RISING.index, text.split(" "))
+    return f"{ordered(a, b)} {ordered(a, b)} {yes(a == b)}"
+
+
+def yes(is_so):
+    return "yes" if is_so else "no"
+
+
+def told_keys(text):
+    first, second = map(keyed, text.split(";"))
+    shorter = min(len(first), len(second))
+    return f"{ordered(first[:shorter], second[:shorter])} {ordered(first, second)}"
+
+
+def told_entries(text):
+    entries = [(keyed(key), int(row)) for key, row in (it.split("@") for it in text.split(";"))]
+    return "copied yes, rows" + "".join(f" {row}" for _, row in sorted(entries))
+
+
+def bound(text):
+    return None if text == "-" else ([value(word) for word in text[1:].split(" ")], text[0] == "[")
+
+
+def told_side(text, starts):
+    low, high, key = text.split(";")
+    low, high = bound(low), bound(high)
+    side = place((low, high, starts), [value(word) for word in key.split(" ")])
+    ends = [[rank(v) for v in end[0]] for end in (low, high) if end]
+    crossed = len(ends) == 2 and not starts and (ends[0] > ends[1] or ends[0] == ends[1] and not (low[1] and high[1]))
+    return f"{side}, holds {yes(side == 'in')}, empty {yes(crossed)}, whole {yes(not ends)}, copied yes"
+
+
+def told_items(text):
+    items = []
+    for act in text.split(";"):
+        word, *numbers = act.split(" ")
+        match word, list(map(int, numbers)):
+            case "push", [item]:
+                items.append(item)
+            case "insert", [at, item]:
+                items.insert(at, item)
+            case "turn", [at]:
+                items.append(items.pop(at))
+            case "put" | "write", [at, item]:
+                items[at] = item
+            case "drop", [item]:
+                items = [it for it in items if it != item]
+    return f"{len(items)} items, empty {yes(not items)}," + "".join(f" {item}" for item in items)
+
+
+def word_of(v):
+    return "N" if v is None else str(v) if isinstance(v, int) else "'" + v
+
+
+def told_bounds(the_range):
+    low, high, starts = the_range
+    told = ["-" if end is None else ("[" if end[1] else "(") + " ".join(map(word_of, end[0])) for end in (low, high)]
+    return ";".join(told + ["beginning"] * starts)
+
+
+def told_range(text):
+    columns, restriction = text.split(";", 1)
+    return told_bounds(range_of(groups(restriction), columns.split()))
+
+
+def told_parts(text):
+    first, second, _ = text.split(";")
+    return f"same {yes(first == second)}, copied yes"
+
+
+WORDS = [
+    ("values", told_values, [f"{a} {b}" for a in RISING for b in RISING]),
+    ("keys", told_keys, ["1;1 9", "1 9;1", "1 9;1 9", "2;1 9", "N;'a"]),
+    ("entries", told_entries, ["2 0@1;1 9@7;1 9@3;1 2@8", "'b@2;'a@1;3@5;N@9"]),
+    ("range", lambda text: told_side(text, False), [
+        *[f"(3 1;[3 7;{key}" for key in ("3 N", "3 1", "3 2", "3 7", "3 8", "4 0")],
+        *[f"{low};[3 5;3 5" for low in ("[3 5", "(3 5", "[3 6", "(3 4")],
+        "-;-;3 5", "[3 1;-;3 5", "-;(3 9;3 9",
+    ]),
+    ("beginning", lambda text: told_side(text, True), [f"[3 'ab;-;{key}" for key in ("3 'aa", "3 'ab", "3 'abz", "3 'ac", "4 'ab")]),
+    ("items", told_items, ["push 1;push 2;push 4;insert 2 3", "push 1;push 2;push 4;insert 2 3;turn 0", "push 1;push 2;push 4;insert 2 3;turn 0;put 0 7;write 1 8;drop 4", "push 5;drop 5"]),
+    ("pairs", lambda text: f"{len(text.split(';'))} pairs, copied yes", ["1 2;3 N"]),
+    ("range of", told_range, [
+        "a b;a = 3 & b > 1 & b <= 7", "a;", "a;a = N", "a;a null", "a c;a = 2 & c starts 'x", "c;c starts 'ab & c > 'abc", "a b c;a = 1 & c >= 'm", "a;a < 5",
+    ]),
+    ("parts of", told_parts, ["a b;b a;a = b & c = 1", "a b;a b;a = b & c = 1"]),
+    ("bound at", lambda text: f"({text};-", ["5", "-1"]),
+]  # fmt: skip
+
+
 def lines():
+    """Each line that the program reads, and what is found for it."""
     for columns, restriction, rows in CASES:
         gs = groups(restriction)
         for text in rows:
             row = [value(w) for w in text.split()]
             key = [row[COLUMNS[c]] for c in columns.split()]
-            yield ";".join([columns, restriction, text, place(range_of(gs, columns.split()), key), TRUTHS[truth(gs, row)], passes(gs, columns.split(), row)])
+            found = [place(range_of(gs, columns.split()), key), TRUTHS[truth(gs, row)], passes(gs, columns.split(), row)]
+            yield f"row: {columns};{restriction};{text}", ";".join(found)
+    for word, find, texts in WORDS:
+        for text in texts:
+            yield f"{word}: {text}", find(text)
 
 
 if __name__ == "__main__":
     parser = argparse.ArgumentParser(description=__doc__, formatter_class=argparse.RawDescriptionHelpFormatter)
-    parser.add_argument("--questions", action="store_true", help="the lines that the program reads: no place, truth and pass")
+    parser.add_argument("--questions", action="store_true", help="the lines that the program reads of them")
     asked = parser.parse_args()
-    for line in lines():
-        print(line.rsplit(";", 3)[0] if asked.questions else line)
+    for line, found in lines():
+        print(line if asked.questions else f"{line};{found}")

@@ -1,0 +1,122 @@
+//! Deletions of rows, each as its table and its row: those before `then` are put at once, and the one behind it is put and
+//! taken back.
+use crate::read::{Fault, cut, number, small};
+use rv_rows::{Change, Changes};
+use rv_value::{Duplicate, NoMemory, RowNo};
+use std::alloc::Global;
+
+fn deletion(word: &str) -> Result<Change, Fault> {
+    let (table, row) = cut(word, '.')?;
+    Ok(Change {
+        table: small(table)?,
+        row: RowNo(number(row)?),
+        values: None,
+    })
+}
+
+fn deletions(alloc: Global, text: &str) -> Result<Vec<Change>, Fault> {
+    let mut all = Vec::new(alloc);
+    'words: for word in text.split(' ') {
+        all.push(deletion(word)?)?;
+    }
+    Ok(all)
+}
+
+/// A change as its table and row, marked where its copy is another.
+fn told_change(alloc: Global, change: &Change) -> Result<String, NoMemory> {
+    let mark = if change.copy(alloc)? == *change {
+        ""
+    } else {
+        "!"
+    };
+    Ok(format!(in alloc; " {}.{}{mark}", change.table, change.row.0)?)
+}
+
+/// The changes as `to_vec` gives them.
+fn told_copies(alloc: Global, changes: &[Change]) -> Result<String, NoMemory> {
+    let mut told = String::new(alloc);
+    'changes: for change in changes {
+        let word = told_change(alloc, change)?;
+        told.push_str(word.as_str())?;
+    }
+    Ok(told)
+}
+
+/// The changes as `iter` gives them, marked where they have values.
+fn told_entries(alloc: Global, changes: &Changes) -> Result<String, NoMemory> {
+    let mut told = String::new(alloc);
+    'changes: for (key, values) in changes.iter() {
+        let mark = if values.is_none() { "" } else { "!" };
+        let word = format!(in alloc; " {}.{}{mark}", key.table, key.row.0)?;
+        told.push_str(word.as_str())?;
+    }
+    Ok(told)
+}
+
+/// Which of the tables 0 to 3 are touched.
+fn told_tables(alloc: Global, changes: &Changes) -> Result<String, NoMemory> {
+    let mut told = String::new(alloc);
+    'tables: for table in 0..4u32 {
+        if changes.touches(table) {
+            let word = format!(in alloc; " {table}")?;
+            told.push_str(word.as_str())?;
+        }
+    }
+    Ok(told)
+}
+
+fn word(has: bool) -> &'static str {
+    if has { "changed" } else { "not changed" }
+}
+
+/// How many changes there are, which tables they touch, and whether a row is changed.
+fn told_facts(
+    alloc: Global,
+    changes: &Changes,
+    table: u32,
+    row: RowNo,
+) -> Result<String, NoMemory> {
+    let tables = told_tables(alloc, changes)?;
+    Ok(format!(in alloc;
+        ", {} in all, tables{}, {table}.{} {}",
+        changes.len(),
+        tables.as_str(),
+        row.0,
+        word(changes.has(table, row))
+    )?)
+}
+
+fn told_all(alloc: Global, changes: &Changes, table: u32, row: RowNo) -> Result<String, NoMemory> {
+    let all = changes.to_vec()?;
+    let mut told = told_copies(alloc, all.as_slice())?;
+    let facts = told_facts(alloc, changes, table, row)?;
+    told.push_str(facts.as_str())?;
+    Ok(told)
+}
+
+fn told_left(alloc: Global, changes: &Changes, table: u32, row: RowNo) -> Result<String, NoMemory> {
+    let mut told = told_entries(alloc, changes)?;
+    let facts = told_facts(alloc, changes, table, row)?;
+    told.push_str(facts.as_str())?;
+    Ok(told)
+}
+
+/// Puts a change, tells of all, and takes it back.
+fn told_with(alloc: Global, changes: &mut Changes, change: Change) -> Result<String, NoMemory> {
+    let (table, row) = (change.table, change.row);
+    let undo = changes.put(change)?;
+    let told = told_all(alloc, changes, table, row);
+    changes.take_back(undo);
+    told
+}
+
+pub fn told(alloc: Global, text: &str) -> Result<String, Fault> {
+    let (first, last) = text.split_once(" then ").ok_or(Fault::Form)?;
+    let last = deletion(last)?;
+    let (table, row) = (last.table, last.row);
+    let mut changes = Changes::new(alloc);
+    changes.put_all(deletions(alloc, first)?)?;
+    let with = told_with(alloc, &mut changes, last)?;
+    let left = told_left(alloc, &changes, table, row)?;
+    Ok(format!(in alloc; "put{}; taken back{}", with.as_str(), left.as_str())?)
+}

@@ -1,0 +1,78 @@
+//! Restrictions on rows.
+use crate::conditions::{columns, restriction, values};
+use crate::fits::all_fit;
+use crate::orders::yes_or_no;
+use crate::ranges::side_word;
+use crate::read::Fault;
+use rv_restrict::{Restriction, Tri};
+use rv_value::{Duplicate, Key, Side, Value, Values};
+use std::alloc::Global;
+
+/// What is found for a restriction and a row.
+#[derive(Clone, Copy)]
+struct Found {
+    side: Side,
+    truth: Tri,
+    passes: bool,
+}
+
+fn find(alloc: Global, line: &str) -> Result<Found, Fault> {
+    let (index, rest) = line.split_once(';').ok_or(Fault::Form)?;
+    let (only, row) = rest.split_once(';').ok_or(Fault::Form)?;
+    let columns = columns(alloc, index)?;
+    let only = restriction(alloc, only)?;
+    let row = Values::from_vec(values(alloc, row)?);
+    compare(alloc, columns.as_slice(), &only, &row)
+}
+
+fn compare(
+    alloc: Global,
+    columns: &[u32],
+    only: &Restriction,
+    row: &Values,
+) -> Result<Found, Fault> {
+    let key = key_of(alloc, columns, row)?;
+    if !all_fit(only.groups(), row) || columns.len() > 4 {
+        return Err(Fault::Form);
+    }
+    let truth = only.truth(row);
+    let range = only.range_for(alloc, columns)?;
+    let part = only.index_part(alloc, columns)?;
+    if key.as_slice().len() != part.columns().len() {
+        return Err(Fault::Form);
+    }
+    Ok(Found {
+        side: range.place(&key),
+        truth,
+        passes: part.pass(&key),
+    })
+}
+
+fn key_of(alloc: Global, columns: &[u32], row: &Values) -> Result<Key, Fault> {
+    let mut key = Vec::new(alloc);
+    'columns: for column in columns {
+        let value = row.as_slice().get(*column as usize).ok_or(Fault::Form)?;
+        key.push(value.copy(alloc)?)?;
+    }
+    if key.is_empty() || key.len() > 4 {
+        return Err(Fault::Form);
+    }
+    Ok(Key::from_vec(key))
+}
+
+fn truth_word(truth: Tri) -> &'static str {
+    match truth {
+        Tri::True => "true",
+        Tri::False => "false",
+        Tri::Unknown => "unknown",
+    }
+}
+
+/// An index's columns, a restriction and a row, parted by semicolons: the place of the row's key in the range, the truth on
+/// the row, and whether the part passes the key.
+pub fn told(alloc: Global, line: &str) -> Result<String, Fault> {
+    let found = find(alloc, line)?;
+    let side = side_word(found.side);
+    let passes = yes_or_no(found.passes);
+    Ok(format!(in alloc; "{side};{};{passes}", truth_word(found.truth))?)
+}
