@@ -1,0 +1,9 @@
+pub mod Answering
+pub mod Ending
+pub mod Fronts
+pub mod Gathering
+pub mod Making
+pub mod Marking
+pub mod Phases
+pub mod Placing
+pub mod Short
