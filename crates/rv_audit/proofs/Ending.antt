@@ -2,8 +2,8 @@
 use Rattle.std.proofs.Common.{◌≡◌, ◌⊎◌, ℕ, zero, suc, ◌+◌, ◌-◌, ◌<◌, ◌≤◌, List, [], ◌∷◌, ◌++◌, inl, inr, refl, ap, sym, subst, ◌∙◌, length, take, arith, length-append}
 use Rattle.rv_script.specs.declared.scripts.Script.{Script}
 use Rattle.rv_model.specs.declared.entry.Entry.{Entry}
-use Rattle.rv_model.specs.History.{IsLegal}
 use Rattle.rv_model.specs.Transcript.{AllSameButPhase}
+use Rattle.rv_believed.specs.History.{IsLegal}
 use Rattle.rv_audit.specs.Auditing.{GoesWrongAt, LacksFirst}
 use Rattle.rv_audit.specs.Following.{Follows, HasAll, IsFirstMissing, IsLegalTo, IsWhole}
 use Rattle.rv_audit.specs.Places.{ArePhasesOf, FrontsFollow, IsStuck}

@@ -1,4 +1,5 @@
 pub mod Answering
+pub mod Concluding
 pub mod Ending
 pub mod Fronts
 pub mod Gathering
@@ -7,3 +8,4 @@ pub mod Marking
 pub mod Phases
 pub mod Placing
 pub mod Short
+pub mod Taking

@@ -5,11 +5,11 @@ use Rattle.std.proofs.lemmas.Bool.Decides.{nat_tests}
 use Rattle.std.proofs.lemmas.List.Elements.{filter-append}
 use Rattle.std.specs.List.{filter, AllByRecursion}
 use Rattle.rv_script.specs.declared.scripts.Phase.{Phase}
-use Rattle.rv_model.specs.declared.state.State.{State}
 use Rattle.rv_model.specs.declared.entry.Entry.{Entry}
-use Rattle.rv_model.specs.Database.{empty}
-use Rattle.rv_model.specs.History.{calls, stepped, IsLegal, IsLegalFrom}
+use Rattle.rv_model.specs.History.{calls}
 use Rattle.rv_model.specs.Transcript.{AllSameButPhase, SameButPhase}
+use Rattle.rv_believed.specs.Database.{empty, Database}
+use Rattle.rv_believed.specs.History.{IsLegal, Leads}
 use Rattle.rv_audit.specs.declared.calls.Call.{Call}
 use Rattle.rv_audit.specs.Calls.{calls_by, calls_from}
 use Rattle.rv_audit.specs.Following.{asked_in, Follows, IsFront}
@@ -57,22 +57,22 @@ made_append s (e ∷ es) k = elim (cases_Bool (eqb e.session s)) [
 
 -- Phases and sessions of a legal history.
 
-legal_sessions : (s : State) (phase : ℕ) (h : List Entry) → IsLegalFrom s phase h → AreSessions h
-legal_sessions s phase [] l = tt
-legal_sessions s phase (e ∷ es) l = ((l.0.from, l.0.to), legal_sessions (stepped s e) e.phase es l.1)
+legal_sessions : (d : Database) (phase : ℕ) (h : List Entry) (last : Database) → Leads d phase h last → AreSessions h
+legal_sessions d phase [] last l = tt
+legal_sessions d phase (e ∷ es) last l = ((l.1.from, l.1.to), legal_sessions l.0 e.phase es last l.2)
 
 pub record Rises (low : ℕ) (calls : List Call) : Type 0 where
   pub from : AreFrom low calls
   pub rising : Rising calls
 
-legal_rises : (s : State) (phase : ℕ) (h : List Entry) → IsLegalFrom s phase h → Rises phase (calls_made h)
-legal_rises s phase [] l = record { from = tt; rising = tt }
-legal_rises s phase (e ∷ es) l =
-    let ih = legal_rises (stepped s e) e.phase es l.1 in
-    record { from = (l.0.phase, from_lower phase e.phase (calls_made es) l.0.phase ih.from); rising = (ih.from, ih.rising) }
+legal_rises : (d : Database) (phase : ℕ) (h : List Entry) (last : Database) → Leads d phase h last → Rises phase (calls_made h)
+legal_rises d phase [] last l = record { from = tt; rising = tt }
+legal_rises d phase (e ∷ es) last l =
+    let ih = legal_rises l.0 e.phase es last l.2 in
+    record { from = (l.1.phase, from_lower phase e.phase (calls_made es) l.1.phase ih.from); rising = (ih.from, ih.rising) }
 
 pub sessions_of : (h : List Entry) → IsLegal h → AreSessions h
-sessions_of h l = legal_sessions empty 0 h l
+sessions_of h l = legal_sessions empty 0 h l.0 l.1
 
 -- What a history has made and what is left, parted by a phase.
 pub record Made (phases : List Phase) (h : List Entry) (p : ℕ) (rest : ℕ → List Call) : Type 0 where
@@ -111,7 +111,7 @@ pub made_from : (phases : List Phase) (h : List Entry) → IsLegal h → (f : Fo
 made_from phases h l f = record { whole = λ s from to. (all s from to).is; low = λ s from to. (all s from to).low; high = λ s from to. (all s from to).high }
   where
     all : (s : ℕ) → 1 ≤ s → s ≤ 8 → Parts f.at (asked s phases) (made s h)
-    all s from to = parts f.at s (asked s phases) (made s h) (kept_by s (calls_from 1 phases)) (kept_by s (calls_made h)) (rising_kept s (calls_from 1 phases) (calls_rise 1 phases)) (rising_kept s (calls_made h) (legal_rises empty 0 h l).rising) (agrees phases h f s from to)
+    all s from to = parts f.at s (asked s phases) (made s h) (kept_by s (calls_from 1 phases)) (kept_by s (calls_made h)) (rising_kept s (calls_from 1 phases) (calls_rise 1 phases)) (rising_kept s (calls_made h) (legal_rises empty 0 h l.0 l.1).rising) (agrees phases h f s from to)
 
 -- A script determines the phases.
 

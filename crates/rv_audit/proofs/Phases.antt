@@ -6,6 +6,7 @@ use Rattle.std.proofs.lemmas.List.Elements.{filter-append}
 use Rattle.std.specs.List.{filter, AllByRecursion}
 use Rattle.rv_script.specs.declared.scripts.Line.{Line}
 use Rattle.rv_script.specs.declared.scripts.Phase.{Phase}
+use Rattle.rv_run.specs.Script.{texts_of}
 use Rattle.rv_audit.specs.declared.calls.Call.{Call}
 use Rattle.rv_audit.specs.Calls.{call_in, calls_by, calls_from, calls_in}
 use Rattle.rv_audit.specs.Following.{asked_in}
@@ -134,18 +135,18 @@ lines_up n session (l ∷ ls) = elim (cases_Bool (eqb l.session session)) [
 ]
 
 -- what a script asks of a session in a phase
-pub asked_is : (n k session : ℕ) (phases : List Phase) → texts (n + k) (calls_by session (calls_from n phases)) ≡ asked_in phases session (suc k)
+pub asked_is : (n k session : ℕ) (phases : List Phase) → texts (n + k) (calls_by session (calls_from n phases)) ≡ texts_of phases session k
 asked_is n k session [] = refl
 asked_is n zero session (p ∷ ps) =
     let here : n + 0 ≡ n = omega arith in
-    subst (λ m. texts m (calls_by session (calls_from n (p ∷ ps))) ≡ asked_in (p ∷ ps) session 1) (sym here) (
+    subst (λ m. texts m (calls_by session (calls_from n (p ∷ ps))) ≡ texts_of (p ∷ ps) session 0) (sym here) (
     ap (texts n) (filter-append (λ (c : Call). eqb c.session session) (calls_in n p.lines) (calls_from (n + 1) ps))
     ∙ texts_append n (calls_by session (calls_in n p.lines)) (calls_by session (calls_from (n + 1) ps))
     ∙ (λ i. lines_texts n session p.lines i ++ none_below n (n + 1) (calls_by session (calls_from (n + 1) ps)) (omega arith) (from_kept (n + 1) session (calls_from (n + 1) ps) (calls_from_from (n + 1) ps)) i)
     ∙ append-nil (map (λ (l : Line). l.text) (filter (λ (l : Line). eqb l.session session) p.lines)))
 asked_is n (suc k) session (p ∷ ps) =
     let next : n + suc k ≡ (n + 1) + k = omega arith in
-    subst (λ m. texts m (calls_by session (calls_from n (p ∷ ps))) ≡ asked_in (p ∷ ps) session (suc (suc k))) (sym next) (
+    subst (λ m. texts m (calls_by session (calls_from n (p ∷ ps))) ≡ texts_of (p ∷ ps) session (suc k)) (sym next) (
     ap (texts ((n + 1) + k)) (filter-append (λ (c : Call). eqb c.session session) (calls_in n p.lines) (calls_from (n + 1) ps))
     ∙ texts_append ((n + 1) + k) (calls_by session (calls_in n p.lines)) (calls_by session (calls_from (n + 1) ps))
     ∙ ap (λ ts. ts ++ texts ((n + 1) + k) (calls_by session (calls_from (n + 1) ps))) (none_above ((n + 1) + k) n (calls_by session (calls_in n p.lines)) (omega arith) (lines_up n session p.lines))

@@ -5,8 +5,9 @@ use Rattle.std.proofs.lemmas.Bool.Decides.{nat_tests}
 use Rattle.std.specs.List.{filter, list_all, slice_get, slice_index, AllByRecursion}
 use Rattle.rv_script.specs.declared.scripts.Phase.{Phase}
 use Rattle.rv_model.specs.declared.entry.Entry.{Entry}
-use Rattle.rv_model.specs.History.{calls, IsLegal}
+use Rattle.rv_model.specs.History.{calls}
 use Rattle.rv_model.specs.Transcript.{AllSameButPhase, SameButPhase}
+use Rattle.rv_believed.specs.History.{IsLegal}
 use Rattle.rv_audit.specs.declared.calls.Call.{Call}
 use Rattle.rv_audit.specs.declared.following.Left.{Left}
 use Rattle.rv_audit.specs.Calls.{calls_by, calls_from, is_later, is_by, IsNextOf, waits_at}

@@ -1,6 +1,7 @@
 -- What an audit answers, in the order in which the answers are tried.
 use Rattle.std.specs.Prelude.{◌≡◌, ℕ, ◌+◌, ◌-◌, ◌<◌, ◌≤◌, List, [], ◌∷◌, ◌++◌, Ok, Err, Option, Some, None, length, take}
 use Rattle.rv_script.specs.declared.scripts.Script.{Script}
+use Rattle.rv_script.specs.declared.scripts.ScriptFault.TheVariants as faults
 use Rattle.rv_script.specs.Script.{script_of}
 use Rattle.rv_model.specs.declared.entry.Entry.{Entry}
 use Rattle.rv_model.specs.Transcript.{text}
@@ -69,3 +70,8 @@ Says (Some p) answer = SaysOfParts p.script p.transcript answer
 
 abbrev pub Audits : List ℕ → Audited → Type 0
 Audits input answer = Says (parted input) answer
+
+-- that memory was refused is no fault of a script
+abbrev pub IsAnswer : Audited → Type 0
+IsAnswer (audited.Script fault) = ¬ (fault ≡ faults.NoMemory)
+IsAnswer answer = Unit {0}

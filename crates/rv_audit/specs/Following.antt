@@ -1,19 +1,17 @@
 -- A history follows a script.
-use Rattle.std.specs.Prelude.{◌≡◌, ℕ, zero, suc, ◌<◌, ◌≤◌, List, [], ◌∷◌, ◌++◌, ◌==◌, length, map}
-use Rattle.std.specs.List.{filter}
-use Rattle.rv_script.specs.declared.scripts.Line.{Line}
+use Rattle.std.specs.Prelude.{◌≡◌, ℕ, zero, suc, ◌<◌, ◌≤◌, List, [], ◌++◌, length}
 use Rattle.rv_script.specs.declared.scripts.Phase.{Phase}
 use Rattle.rv_script.specs.declared.scripts.Script.{Script}
 use Rattle.rv_model.specs.declared.entry.Entry.{Entry}
-use Rattle.rv_model.specs.History.{calls, IsLegal}
+use Rattle.rv_model.specs.History.{calls}
 use Rattle.rv_model.specs.Transcript.{AllSameButPhase}
+use Rattle.rv_believed.specs.History.{IsLegal}
+use Rattle.rv_run.specs.Script.{texts_of}
 
 -- the texts of a session in a phase of a script, whose first phase is 1
 abbrev pub asked_in : List Phase → ℕ → ℕ → List (List ℕ)
 asked_in phases session zero = []
-asked_in [] session (suc k) = []
-asked_in (p ∷ ps) session (suc zero) = map (λ (l : Line). l.text) (filter (λ (l : Line). l.session == session) p.lines)
-asked_in (p ∷ ps) session (suc (suc k)) = asked_in ps session (suc k)
+asked_in phases session (suc number) = texts_of phases session number
 
 -- The first list is a front of the second.
 pub record IsFront (front whole : List (List ℕ)) : Type 0 where

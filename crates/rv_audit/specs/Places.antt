@@ -1,10 +1,17 @@
 -- Where each session stands in the calls of a script, and what an entry makes of it.
-use Rattle.std.specs.Prelude.{◌≡◌, ℕ, ◌+◌, ◌-◌, ◌≤◌, ◌<◌, List, [], ◌∷◌, ◌++◌, Bool, true, Option, Some, None, nat_lt, if◌then◌else◌, length, drop, take, slice_get, slice_index}
+use Rattle.std.specs.Prelude.{◌≡◌, ℕ, ◌+◌, ◌-◌, ◌≤◌, ◌<◌, List, [], ◌∷◌, ◌++◌, Bool, true, Option, Some, None, Result, Ok, Err, nat_lt, if◌then◌else◌, length, drop, take, slice_get, slice_index}
 use Rattle.std.specs.List.{list_all, AllByRecursion}
+use Rattle.rv_value.specs.declared.duplicate.NoMemory.{NoMemory}
 use Rattle.rv_script.specs.declared.scripts.Phase.{Phase}
+use Rattle.rv_script.specs.declared.scripts.ScriptFault.{ScriptFault}
+use Rattle.rv_script.specs.declared.scripts.ScriptFault.TheVariants as faults
 use Rattle.rv_model.specs.declared.entry.Entry.{Entry}
-use Rattle.rv_model.specs.History.{IsLegal}
 use Rattle.rv_model.specs.Transcript.{AllSameButPhase}
+use Rattle.rv_believed.specs.History.{IsLegal}
+use Rattle.rv_replay.specs.declared.following.Replayed.{Replayed}
+use Rattle.rv_replay.specs.declared.following.Replayed.TheVariants as replayed
+use Rattle.rv_audit.specs.declared.auditing.Audited.{Audited}
+use Rattle.rv_audit.specs.declared.auditing.Audited.TheVariants as audited
 use Rattle.rv_audit.specs.declared.calls.Call.{Call}
 use Rattle.rv_audit.specs.declared.following.End.{End}
 use Rattle.rv_audit.specs.declared.following.End.TheVariants as ends
@@ -117,3 +124,26 @@ EndsAt calls places ends.Bad = ⊥
 -- each session stands at its first call
 abbrev pub StartsAt : List Call → List ℕ → Type 0
 StartsAt calls places = (session : ℕ) → 1 ≤ session → session ≤ 8 → left_at calls places session ≡ calls_by session calls
+
+-- entry n, from 1, is the first up to which the entries are no legal history
+pub record BreaksAt (entries : List Entry) (n : ℕ) : Type 0 where
+  pub from : 1 ≤ n
+  pub to : n ≤ length entries
+  pub before : IsLegal (take (n - 1) entries)
+  pub breaks : ¬ (IsLegal (take n entries))
+
+-- what a replay says of entries
+abbrev pub ReplaysSo : List Entry → Replayed → Type 0
+ReplaysSo entries replayed.Legal = IsLegal entries
+ReplaysSo entries (replayed.Broken n) = BreaksAt entries n
+
+-- what is told of a script's fault: that memory was refused is none
+abbrev pub FaultTold : ScriptFault → Result Audited NoMemory → Type 0
+FaultTold fault (Ok answer) = (answer ≡ audited.Script fault) × (¬ (fault ≡ faults.NoMemory))
+FaultTold fault (Err memory) = Unit {0}
+
+-- what is told of entries that are legal, of which so many follow a script
+abbrev pub end_told : End → ℕ → Audited
+end_told ends.Whole n = audited.Legal n
+end_told (ends.Missing session phase) n = audited.Missing session phase
+end_told ends.Bad n = audited.BadEntry (n + 1)

@@ -1,11 +1,13 @@
 //! The audit: a script, a mark and a transcript, judged in the order of the answers.
-ghost use Rattle.std.specs.Prelude.{◌≤◌, ◌<◌, IfOk, length};
+ghost use Rattle.std.specs.Prelude.{◌≡◌, ◌≤◌, All, IfOk, length};
 ghost use Rattle.rv_run.specs.Making.{FitsScript};
 ghost use Rattle.rv_text.specs.Reading.{AreReadable};
-ghost use Rattle.rv_audit.specs.Auditing.{Audits, SaysOfEntries, SaysOfTranscript};
+ghost use Rattle.rv_audit.specs.Auditing.{Audits, IsAnswer, SaysOfEntries, SaysOfTranscript};
+ghost use Rattle.rv_audit.specs.Places.{FaultTold, ReplaysSo, end_told};
 
-use crate::following::{End, Followed, follow};
+use crate::following::{End, follow};
 use crate::marks::part;
+use rv_believed::laws::same_are_legal;
 use rv_model::Entry;
 use rv_replay::{Replayed, replay};
 use rv_script::{Script, ScriptFault, read_script};
@@ -37,7 +39,8 @@ const SCRIPT_BYTES: usize = 16_777_216;
 /// Judges an input of 268,435,456 bytes at most.
 pub fn audit(alloc: Global, input: &[u8]) -> Result<Audited, NoMemory>
     requires { length input.now ≤ 268435456 }
-    ensures { IfOk result (λ answer. Audits input.now answer) }
+    ensures audits { IfOk result (λ answer. Audits input.now answer) }
+    ensures answer { IfOk result IsAnswer }
 {
     let Some((script, transcript)) = part(input) else {
         return Ok(Audited::NoMark);
@@ -47,8 +50,20 @@ pub fn audit(alloc: Global, input: &[u8]) -> Result<Audited, NoMemory>
     }
     match read_script(alloc, script) {
         Ok(script) => audit_transcript(alloc, &script, transcript),
-        Err(ScriptFault::NoMemory) => Err(NoMemory),
-        Err(fault) => Ok(Audited::Script(fault)),
+        Err(fault) => told_fault(fault),
+    }
+}
+
+/// A script's fault; want of memory is none.
+fn told_fault(fault: ScriptFault) -> Result<Audited, NoMemory>
+    ensures { FaultTold fault result }
+{
+    match fault {
+        ScriptFault::NoSession { line } => Ok(Audited::Script(ScriptFault::NoSession { line })),
+        ScriptFault::NotText { offset } => Ok(Audited::Script(ScriptFault::NotText { offset })),
+        ScriptFault::TooLong { line } => Ok(Audited::Script(ScriptFault::TooLong { line })),
+        ScriptFault::TooMany { lines } => Ok(Audited::Script(ScriptFault::TooMany { lines })),
+        ScriptFault::NoMemory => Err(NoMemory),
     }
 }
 
@@ -71,19 +86,36 @@ fn audit_entries(alloc: Global, script: &Script, entries: Vec<Entry>) -> Result<
     requires fits { FitsScript script.now }
     ensures { IfOk result (λ answer. SaysOfEntries script.now entries.items answer) }
 {
-    let Followed { entries, end } = follow(alloc, script.phases.as_slice(), entries)?;
-    match replay(alloc, entries.as_slice())? {
+    let followed = follow(alloc, script.phases.as_slice(), entries)?;
+    match replayed(alloc, followed.entries.as_slice())? {
         Replayed::Broken { entry } => Ok(Audited::BadEntry {
             entry: entry as u32,
         }),
-        Replayed::Legal => Ok(match end {
-            End::Bad => Audited::BadEntry {
-                entry: entries.len() as u32 + 1,
-            },
-            End::Missing { session, phase } => Audited::Missing { session, phase },
-            End::Whole => Audited::Legal {
-                entries: entries.len() as u32,
-            },
-        }),
+        Replayed::Legal => Ok(told_end(followed.end, followed.entries.len())),
     }
+}
+
+/// What is told of a script's entries that are legal, of which so many follow it.
+fn told_end(end: End, count: usize) -> Audited
+    requires { count ≤ 268435456 }
+    ensures { result ≡ end_told end count }
+{
+    match end {
+        End::Whole => Audited::Legal {
+            entries: count as u32,
+        },
+        End::Missing { session, phase } => Audited::Missing { session, phase },
+        End::Bad => Audited::BadEntry {
+            entry: count as u32 + 1,
+        },
+    }
+}
+
+/// What a replay tells, by the believed definition of a legal history.
+fn replayed(alloc: Global, entries: &[Entry]) -> Result<Replayed, NoMemory>
+    requires { All (λ e. length e.text ≤ 4096) entries.now }
+    ensures { IfOk result (ReplaysSo entries.now) }
+{
+    same_are_legal();
+    replay(alloc, entries)
 }

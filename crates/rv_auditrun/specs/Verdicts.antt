@@ -1,7 +1,6 @@
 -- The exit codes of an audit, the line that it says, and when.
-use Rattle.std.specs.Prelude.{◌≡◌, ℕ, List, [], ◌∷◌, ◌++◌, codes, decimal, Option, IfSome}
-use Rattle.std.specs.Io.KnownBytes.{Appends, IsAtEnd, Keeps}
-use Rattle.rv_io.specs.Causes.{Rose}
+use Rattle.std.specs.Prelude.{◌≡◌, ℕ, List, [], ◌∷◌, ◌++◌, ◌⊎◌, codes, decimal, Option, IfSome}
+use Rattle.std.specs.Io.KnownBytes.{Appends, IsAtEnd}
 use Rattle.rv_io.specs.Pieces.{AppendsFront, TakesTooMany}
 use Rattle.rv_script.specs.declared.scripts.ScriptFault.{ScriptFault}
 use Rattle.rv_script.specs.declared.scripts.ScriptFault.TheVariants as faults
@@ -25,6 +24,15 @@ audit_code BadText = 7
 audit_code BadEntry = 8
 audit_code Missing = 9
 
+-- An input was judged.
+abbrev pub IsVerdict : AuditStatus → Type 0
+IsVerdict Usage = ⊥
+IsVerdict Memory = ⊥
+IsVerdict ReadFault = ⊥
+IsVerdict WriteFault = ⊥
+IsVerdict status = Unit {0}
+
+-- of a script's fault; no script has the fault that memory was refused
 abbrev pub fault_status : ScriptFault → AuditStatus
 fault_status (faults.NoSession line) = Script
 fault_status (faults.NotText offset) = Script
@@ -41,46 +49,47 @@ status_of (audited.BadEntry entry) = BadEntry
 status_of (audited.Missing session phase) = Missing
 status_of (audited.Legal entries) = Legal
 
--- the line of an answer, without its end
+-- the words of an answer; those of a script's faults are what the program that runs scripts says
 abbrev pub verdict_words : Audited → List ℕ
 verdict_words audited.NoMark = codes "no mark"
 verdict_words audited.Over = limit_words over.Bytes
 verdict_words (audited.Script fault) = script_words fault
 verdict_words (audited.BadText line) = codes "text line " ++ decimal line
 verdict_words (audited.BadEntry entry) = codes "bad entry " ++ decimal entry
-verdict_words (audited.Missing session phase) = codes "missing session " ++ decimal session ++ codes " phase " ++ decimal phase
+verdict_words (audited.Missing session phase) = (codes "missing session " ++ decimal session) ++ (codes " phase " ++ decimal phase)
 verdict_words (audited.Legal entries) = codes "legal " ++ decimal entries
 
+-- with a line feed
 abbrev pub verdict_line : Audited → List ℕ
 verdict_line answer = verdict_words answer ++ 10 ∷ []
 
--- the answer of an audit of the input, whose line was appended
-pub record IsJudged (input : List ℕ) (old new : Option (List ℕ)) (status : AuditStatus) : Type 0 where
-  pub answer : Audited
-  pub audits : Audits input answer
-  pub code : status_of answer ≡ status
-  pub line : Appends old new (verdict_line answer)
-
--- The source was read to its end, and what it told was judged.
-pub record Judges (left after old new : Option (List ℕ)) (status : AuditStatus) : Type 0 where
+-- The source was read to its end, and this is what an audit of all that it told answers: a line and a status.
+pub record IsJudged (left after : Option (List ℕ)) (line : List ℕ) (status : AuditStatus) : Type 0 where
   pub end : IsAtEnd after
-  pub told : IfSome left (λ input. IsJudged input old new status)
+  pub answer : Audited
+  pub audits : IfSome left (λ input. Audits input answer)
+  pub line_is : line ≡ verdict_line answer
+  pub status_is : status ≡ status_of answer
 
 -- More was taken than an input may have.
-pub record IsTooLong (left after old new : Option (List ℕ)) : Type 0 where
+pub record IsTooLong (left after : Option (List ℕ)) (line : List ℕ) (status : AuditStatus) : Type 0 where
   pub many : TakesTooMany left after 268435456
-  pub line : Appends old new (codes "limit: input over 268435456 bytes\n")
+  pub line_is : line ≡ codes "limit: input over 268435456 bytes\n"
+  pub status_is : status ≡ Limit
 
--- a line that a verdict may have
-pub record IsFrontOfLine (old new : Option (List ℕ)) : Type 0 where
+-- the line and the status that are due
+abbrev pub AreDue : Option (List ℕ) → Option (List ℕ) → List ℕ → AuditStatus → Type 0
+AreDue left after line status = IsJudged left after line status ⊎ IsTooLong left after line status
+
+-- The line was appended that is due beside this status.
+pub record Says (left after old new : Option (List ℕ)) (status : AuditStatus) : Type 0 where
   pub line : List ℕ
-  pub front : AppendsFront old new line
+  pub due : AreDue left after line status
+  pub written : Appends old new line
 
--- When each status comes, and what is said.
-abbrev pub Ends : Option (List ℕ) → Option (List ℕ) → ℕ → ℕ → Option (List ℕ) → Option (List ℕ) → ℕ → ℕ → AuditStatus → Type 0
-Ends left after reads_old reads_new old new writes_old writes_new Usage = Keeps left after × Keeps old new
-Ends left after reads_old reads_new old new writes_old writes_new Memory = Keeps old new
-Ends left after reads_old reads_new old new writes_old writes_new ReadFault = Rose reads_old reads_new × Keeps old new
-Ends left after reads_old reads_new old new writes_old writes_new WriteFault = Rose writes_old writes_new × IsFrontOfLine old new
-Ends left after reads_old reads_new old new writes_old writes_new Limit = Judges left after old new Limit ⊎ IsTooLong left after old new
-Ends left after reads_old reads_new old new writes_old writes_new status = Judges left after old new status
+-- Some bytes at the front of the line that is due were appended.
+pub record SaysFront (left after old new : Option (List ℕ)) : Type 0 where
+  pub line : List ℕ
+  pub status : AuditStatus
+  pub due : AreDue left after line status
+  pub written : AppendsFront old new line

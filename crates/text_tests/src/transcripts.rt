@@ -7,24 +7,24 @@ use std::test::Fail;
 
 /// How many entries were read, or which line is bad.
 #[derive(Clone, Copy, Debug, PartialEq, Eq)]
-enum Told {
+enum Outcome {
     Entries(usize),
     Bad(u32),
     TooLong,
 }
 
-fn told(alloc: Global, bytes: &[u8]) -> Result<Told, NoMemory> {
+fn told(alloc: Global, bytes: &[u8]) -> Result<Outcome, NoMemory> {
     if bytes.len() > 268_435_456 {
-        return Ok(Told::TooLong);
+        return Ok(Outcome::TooLong);
     }
     match read_text(alloc, bytes)? {
-        TextRead::Entries(entries) => Ok(Told::Entries(entries.len())),
-        TextRead::Bad { line } => Ok(Told::Bad(line)),
+        TextRead::Entries(entries) => Ok(Outcome::Entries(entries.len())),
+        TextRead::Bad { line } => Ok(Outcome::Bad(line)),
     }
 }
 
 /// What is told of one call with this answer.
-fn answered(alloc: Global, reply: &[u8]) -> Result<Told, NoMemory> {
+fn answered(alloc: Global, reply: &[u8]) -> Result<Outcome, NoMemory> {
     let mut bytes = Vec::new(alloc);
     bytes.extend_from_slice(b"1 X\n= ")?;
     bytes.extend_from_slice(reply)?;
@@ -68,7 +68,7 @@ const REPLIES: [&[u8]; 30] = [
 #[test]
 fn every_reply_is_read(rt: HostRuntime) -> Result<(), Fail> {
     for reply in REPLIES {
-        assert_eq!(rt; answered(rt.alloc(), reply)?, Told::Entries(1));
+        assert_eq!(rt; answered(rt.alloc(), reply)?, Outcome::Entries(1));
     }
     Ok(())
 }
@@ -113,7 +113,7 @@ const OTHERS: [&[u8]; 34] = [
 #[test]
 fn no_other_reply_is_read(rt: HostRuntime) -> Result<(), Fail> {
     for reply in OTHERS {
-        assert_eq!(rt; answered(rt.alloc(), reply)?, Told::Bad(2));
+        assert_eq!(rt; answered(rt.alloc(), reply)?, Outcome::Bad(2));
     }
     Ok(())
 }
@@ -130,7 +130,7 @@ const WHOLE: [(&[u8], usize); 6] = [
 #[test]
 fn calls_may_be_any_line(rt: HostRuntime) -> Result<(), Fail> {
     for (bytes, count) in WHOLE {
-        assert_eq!(rt; told(rt.alloc(), bytes)?, Told::Entries(count));
+        assert_eq!(rt; told(rt.alloc(), bytes)?, Outcome::Entries(count));
     }
     Ok(())
 }
@@ -155,7 +155,7 @@ const BROKEN: [(&[u8], u32); 14] = [
 #[test]
 fn the_first_bad_line_is_told(rt: HostRuntime) -> Result<(), Fail> {
     for (bytes, line) in BROKEN {
-        assert_eq!(rt; told(rt.alloc(), bytes)?, Told::Bad(line));
+        assert_eq!(rt; told(rt.alloc(), bytes)?, Outcome::Bad(line));
     }
     Ok(())
 }

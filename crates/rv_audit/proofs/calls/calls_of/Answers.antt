@@ -10,6 +10,6 @@ phases-preserved c =
     record {
       count = omega (arith, count);
       calls = c.in-Ok.ensures
-          ∙ (λ i. c.phases.invariant.calls i ++ calls_in (place i) c.phase-item.result.lines)
+          ∙ (λ i. c.phases.invariant.calls i ++ calls_in (place i) (c.as_slice.ensures i))
           ∙ sym (phases_more c.args.phases.now c.phases.phase-index c.phase-item.result (omega arith) c.phase-item.is);
     }
