@@ -10,7 +10,7 @@ use Rattle.rv_audit.specs.Places.{ArePhasesOf, FrontsFollow, IsStuck}
 
 -- Fronts.
 
-same_length : (us bs : List Entry) → AllSameButPhase us bs → length us ≡ length bs
+pub same_length : (us bs : List Entry) → AllSameButPhase us bs → length us ≡ length bs
 same_length [] [] h = refl
 same_length [] (b ∷ bs) h = absurd h
 same_length (a ∷ us) [] h = absurd h

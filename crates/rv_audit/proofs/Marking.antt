@@ -103,15 +103,15 @@ lines_within (l ∷ ls) rest p e = elim (cases_Bool (is_mark l)) [
       let n = ap (λ (q : Parted). length q.transcript) (some_parted (parts [] (ended ls rest)) p (rw t at e)) in
       let m = length-append l (10 ∷ ended ls rest) in
       omega (arith, n, m)
-  | inr f ↦ by (parted_lines ls rest) refl (rw f at e)
+  | inr f ↦ by (λ q is. lines_within ls rest q is) (parted_lines ls rest) refl (rw f at e)
 ]
   where
-    by : (o : Option Parted) → parted_lines ls rest ≡ o → behind_line l o ≡ Some p → length p.transcript ≤ length (l ++ 10 ∷ ended ls rest)
-    by None is e = no_part p e
-    by (Some q) is e =
+    by : ((q : Parted) → parted_lines ls rest ≡ Some q → length q.transcript ≤ length (ended ls rest)) → (o : Option Parted) → parted_lines ls rest ≡ o → behind_line l o ≡ Some p → length p.transcript ≤ length (l ++ 10 ∷ ended ls rest)
+    by within None is e = no_part p e
+    by within (Some q) is e =
         let n = ap (λ (r : Parted). length r.transcript) (some_parted (parts (l ++ 10 ∷ q.script) q.transcript) p e) in
         let m = length-append l (10 ∷ ended ls rest) in
-        let ih = lines_within ls rest q is in
+        let ih = within q is in
         omega (arith, n, m, ih)
 
 pub transcript_few : (input : List ℕ) (p : Parted) (most : ℕ) → Some p ≡ parted input → length input ≤ most → length p.transcript ≤ most

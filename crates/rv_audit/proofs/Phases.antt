@@ -6,10 +6,9 @@ use Rattle.std.proofs.lemmas.List.Elements.{filter-append}
 use Rattle.std.specs.List.{filter, AllByRecursion}
 use Rattle.rv_script.specs.declared.scripts.Line.{Line}
 use Rattle.rv_script.specs.declared.scripts.Phase.{Phase}
-use Rattle.rv_run.specs.Script.{texts_of}
 use Rattle.rv_audit.specs.declared.calls.Call.{Call}
 use Rattle.rv_audit.specs.Calls.{call_in, calls_by, calls_from, calls_in}
-use Rattle.rv_audit.specs.Following.{asked_in}
+use Rattle.rv_audit.specs.Following.{asked_in, texts_of}
 
 -- the texts of a phase
 abbrev pub texts : ℕ → List Call → List (List ℕ)

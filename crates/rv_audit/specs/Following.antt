@@ -1,17 +1,24 @@
 -- A history follows a script.
-use Rattle.std.specs.Prelude.{◌≡◌, ℕ, zero, suc, ◌<◌, ◌≤◌, List, [], ◌++◌, length}
+use Rattle.std.specs.Prelude.{◌≡◌, ℕ, zero, suc, ◌<◌, ◌≤◌, ◌==◌, List, [], ◌++◌, Option, None, length, map, filter}
+use Rattle.std.specs.List.{slice_index_or}
+use Rattle.rv_script.specs.declared.scripts.Line.{Line}
 use Rattle.rv_script.specs.declared.scripts.Phase.{Phase}
 use Rattle.rv_script.specs.declared.scripts.Script.{Script}
 use Rattle.rv_model.specs.declared.entry.Entry.{Entry}
 use Rattle.rv_model.specs.History.{calls}
 use Rattle.rv_model.specs.Transcript.{AllSameButPhase}
 use Rattle.rv_believed.specs.History.{IsLegal}
-use Rattle.rv_run.specs.Script.{texts_of}
 
--- the texts of a session in a phase of a script, whose first phase is 1
+-- the texts of a session's calls in the phase in a place, in order
+abbrev pub texts_of : List Phase → ℕ → ℕ → List (List ℕ)
+texts_of phases session place = map (λ (l : Line). l.text)
+    (filter (λ (l : Line). l.session == session)
+    (slice_index_or phases place (record { judge = None; lines = [] })).lines)
+
+-- those of a phase, of which the first is 1
 abbrev pub asked_in : List Phase → ℕ → ℕ → List (List ℕ)
 asked_in phases session zero = []
-asked_in phases session (suc number) = texts_of phases session number
+asked_in phases session (suc place) = texts_of phases session place
 
 -- The first list is a front of the second.
 pub record IsFront (front whole : List (List ℕ)) : Type 0 where
