@@ -16,14 +16,14 @@ same_length [] (b ∷ bs) h = absurd h
 same_length (a ∷ us) [] h = absurd h
 same_length (a ∷ us) (b ∷ bs) h = ap (λ n. suc n) (same_length us bs h.1)
 
-same_take : (k : ℕ) (us bs : List Entry) → AllSameButPhase us bs → AllSameButPhase (take k us) (take k bs)
+pub same_take : (k : ℕ) (us bs : List Entry) → AllSameButPhase us bs → AllSameButPhase (take k us) (take k bs)
 same_take zero us bs h = tt
 same_take (suc k) [] [] h = tt
 same_take (suc k) [] (b ∷ bs) h = absurd h
 same_take (suc k) (a ∷ us) [] h = absurd h
 same_take (suc k) (a ∷ us) (b ∷ bs) h = (h.0, same_take k us bs h.1)
 
-same_over : (xs us bs : List Entry) → AllSameButPhase us xs → AllSameButPhase us bs → AllSameButPhase xs bs
+pub same_over : (xs us bs : List Entry) → AllSameButPhase us xs → AllSameButPhase us bs → AllSameButPhase xs bs
 same_over [] [] [] h k = tt
 same_over [] [] (b ∷ bs) h k = absurd k
 same_over [] (a ∷ us) bs h k = absurd h

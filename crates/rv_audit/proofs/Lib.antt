@@ -1,3 +1,5 @@
+pub mod Again
+pub mod Alone
 pub mod Answering
 pub mod Concluding
 pub mod Ending

@@ -71,6 +71,9 @@ legal_rises d phase (e ∷ es) last l =
     let ih = legal_rises l.0 e.phase es last l.2 in
     record { from = (l.1.phase, from_lower phase e.phase (calls_made es) l.1.phase ih.from); rising = (ih.from, ih.rising) }
 
+pub rises_of : (h : List Entry) → IsLegal h → Rising (calls_made h)
+rises_of h l = (legal_rises empty 0 h l.0 l.1).rising
+
 pub sessions_of : (h : List Entry) → IsLegal h → AreSessions h
 sessions_of h l = legal_sessions empty 0 h l.0 l.1
 

@@ -82,7 +82,7 @@ pub from_append : (low : ℕ) (xs ys : List Call) → AreFrom low xs → AreFrom
 from_append low [] ys h k = k
 from_append low (x ∷ xs) ys h k = (h.0, from_append low xs ys h.1 k)
 
-from_kept : (low session : ℕ) (xs : List Call) → AreFrom low xs → AreFrom low (calls_by session xs)
+pub from_kept : (low session : ℕ) (xs : List Call) → AreFrom low xs → AreFrom low (calls_by session xs)
 from_kept low session [] h = tt
 from_kept low session (x ∷ xs) h = elim (cases_Bool (eqb x.session session)) [
   | inl t ↦ rw t ((h.0, from_kept low session xs h.1))

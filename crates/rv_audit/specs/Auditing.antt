@@ -71,6 +71,10 @@ Says (Some p) answer = SaysOfParts p.script p.transcript answer
 abbrev pub Audits : List ℕ → Audited → Type 0
 Audits input answer = Says (parted input) answer
 
+-- LAW: of an input no two answers are said
+abbrev pub SaysOnce : Type 0
+SaysOnce = (input : List ℕ) (a b : Audited) → Audits input a → Audits input b → a ≡ b
+
 -- that memory was refused is no fault of a script
 abbrev pub IsAnswer : Audited → Type 0
 IsAnswer (audited.Script fault) = ¬ (fault ≡ faults.NoMemory)

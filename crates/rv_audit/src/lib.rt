@@ -4,6 +4,7 @@
 pub mod auditing;
 pub mod calls;
 pub mod following;
+pub mod laws;
 pub mod marks;
 
 pub use auditing::{Audited, audit};
