@@ -77,8 +77,8 @@ missing_once script us bs s p t q back a b =
 
 missing_whole : (script : Script) (us bs : List Entry) (s p : ℕ) → AllSameButPhase bs us → LacksFirst script us s p → IsWhole script bs → ⊥
 missing_whole script us bs s p back a w =
-    not_all (calls a.legal.history s p) (asked_in script.phases s p) a.first.missing (
-    ap (λ (h : List Entry). calls h s p) (one_history script us bs back a.legal (whole_legal script bs w)) ∙ w.all s p a.first.from a.first.to)
+    let same = same_history script.phases us a.legal.history w.history a.legal.same (same_over us bs w.history back w.same) a.legal.legal a.legal.follows w.legal (follows_all script.phases w.history w.all) in
+    not_all (calls a.legal.history s p) (asked_in script.phases s p) a.first.missing (ap (λ (h : List Entry). calls h s p) same ∙ w.all s p a.first.from a.first.to)
 
 record IsWrong (script : Script) (es : List Entry) (answer : Audited) : Type 0 where
   n : ℕ
