@@ -1,0 +1,13 @@
+pub mod Again
+pub mod Alone
+pub mod Answering
+pub mod Concluding
+pub mod Ending
+pub mod Fronts
+pub mod Gathering
+pub mod Making
+pub mod Marking
+pub mod Phases
+pub mod Placing
+pub mod Short
+pub mod Taking

@@ -1,0 +1,5 @@
+pub mod Auditing
+pub mod Calls
+pub mod Following
+pub mod Marks
+pub mod Places
