@@ -1,7 +1,8 @@
 //! Queries under each list of three verdicts.
 use crate::calls::make_calls;
 use rv_core::Core;
-use rv_judge::{Judge, Listed, Patient, Verdict};
+use rv_judge::{Judge, Listed, Patient, Uncounted, Verdict};
+use rv_reader::{Reader, Store};
 use rv_script::Phase;
 use rv_store::Paged;
 use rv_value::NoMemory;
@@ -25,9 +26,9 @@ pub fn under_lists(
 }
 
 /// Makes a query's calls under the list of a number.
-fn make_query(
+fn make_query<S: Store + Reader<Ledger = Uncounted> + Drop>(
     alloc: Global,
-    core: &mut Core<Paged>,
+    core: &mut Core<S>,
     number: u32,
     query: &Phase,
 ) -> Result<(), NoMemory> {

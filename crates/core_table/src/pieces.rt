@@ -3,6 +3,7 @@ use crate::calls::{make_calls, tried};
 use rv_core::Core;
 use rv_jscan::{Given, Piece, Taken, sieve};
 use rv_judge::{Judge, Patient, Steps, Uncounted};
+use rv_reader::{Reader, Store};
 use rv_script::Phase;
 use rv_store::Paged;
 use rv_value::NoMemory;
@@ -37,7 +38,9 @@ fn waiting(alloc: Global, calls: &Phase) -> Result<Core<Paged>, NoMemory> {
 }
 
 /// The piece that a core hands out.
-fn taken(core: &mut Core<Paged>) -> Result<Option<Piece>, NoMemory> {
+fn taken<S: Store + Reader<Ledger = Uncounted> + Drop>(
+    core: &mut Core<S>,
+) -> Result<Option<Piece>, NoMemory> {
     match core.take_piece(0, &mut Steps::new(Uncounted))? {
         Taken::Piece(piece) => Ok(Some(piece)),
         Taken::Nothing => Ok(None),
@@ -45,7 +48,10 @@ fn taken(core: &mut Core<Paged>) -> Result<Option<Piece>, NoMemory> {
 }
 
 /// What a core says of a piece, sieved.
-fn given(core: &mut Core<Paged>, piece: Option<Piece>) -> Result<Answer, NoMemory> {
+fn given<S: Store + Reader<Ledger = Uncounted> + Drop>(
+    core: &mut Core<S>,
+    piece: Option<Piece>,
+) -> Result<Answer, NoMemory> {
     let Some(piece) = piece else {
         return Ok(Answer::NoPiece);
     };
@@ -64,28 +70,48 @@ fn given(core: &mut Core<Paged>, piece: Option<Piece>) -> Result<Answer, NoMemor
 
 /// A piece that is taken twice, and given twice.
 pub fn twice(alloc: Global, calls: &Phase) -> Result<(Answer, Answer), NoMemory> {
-    let mut core = waiting(alloc, calls)?;
-    let first = taken(&mut core)?;
-    let second = taken(&mut core)?;
-    let before = given(&mut core, first)?;
-    let after = given(&mut core, second)?;
+    twice_to(&mut waiting(alloc, calls)?)
+}
+
+fn twice_to<S: Store + Reader<Ledger = Uncounted> + Drop>(
+    core: &mut Core<S>,
+) -> Result<(Answer, Answer), NoMemory> {
+    let first = taken(core)?;
+    let second = taken(core)?;
+    let before = given(core, first)?;
+    let after = given(core, second)?;
     Ok((before, after))
 }
 
 /// A piece that is given after a call of session 1.
 pub fn after(alloc: Global, calls: &Phase, text: &str) -> Result<Answer, NoMemory> {
-    let mut core = waiting(alloc, calls)?;
-    let piece = taken(&mut core)?;
-    tried(&mut core, 1, text)?;
-    given(&mut core, piece)
+    after_to(&mut waiting(alloc, calls)?, text)
+}
+
+fn after_to<S: Store + Reader<Ledger = Uncounted> + Drop>(
+    core: &mut Core<S>,
+    text: &str,
+) -> Result<Answer, NoMemory> {
+    let piece = taken(core)?;
+    tried(core, 1, text)?;
+    given(core, piece)
 }
 
 /// A piece that is given to another core, which has taken its own one before, or not.
 pub fn elsewhere(alloc: Global, calls: &Phase, has_taken: bool) -> Result<Answer, NoMemory> {
-    let piece = taken(&mut waiting(alloc, calls)?)?;
-    let mut core = waiting(alloc, calls)?;
+    let mut here = waiting(alloc, calls)?;
+    let mut there = waiting(alloc, calls)?;
+    hand_over(&mut here, &mut there, has_taken)
+}
+
+fn hand_over<S: Store + Reader<Ledger = Uncounted> + Drop>(
+    here: &mut Core<S>,
+    there: &mut Core<S>,
+    has_taken: bool,
+) -> Result<Answer, NoMemory> {
+    let piece = taken(here)?;
     if has_taken {
-        let _own = taken(&mut core)?;
+        let _own = taken(there)?;
     }
-    given(&mut core, piece)
+    given(there, piece)
 }

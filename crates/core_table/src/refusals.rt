@@ -42,7 +42,15 @@ pub fn refused(
     expected: &[Entry],
 ) -> Result<Outcome, NoMemory> {
     let (core, again) = over_refusing(alloc, number, calls)?;
-    let history = core.history();
+    outcome(alloc, again, core.history(), expected)
+}
+
+fn outcome(
+    alloc: Global,
+    again: u64,
+    history: &[Entry],
+    expected: &[Entry],
+) -> Result<Outcome, NoMemory> {
     Ok(Outcome {
         again,
         same: history == expected,
