@@ -42,10 +42,10 @@ pub fn refused(
     expected: &[Entry],
 ) -> Result<Outcome, NoMemory> {
     let (core, again) = over_refusing(alloc, number, calls)?;
-    outcome(alloc, again, core.history(), expected)
+    compared(alloc, again, core.history(), expected)
 }
 
-fn outcome(
+fn compared(
     alloc: Global,
     again: u64,
     history: &[Entry],

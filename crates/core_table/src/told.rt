@@ -40,7 +40,7 @@ impl From<Failed> for Stop {
 }
 
 /// The numbers of the calls of the store that are refused, one a run.
-const REFUSED: u32 = 60;
+const CALLS: u32 = 60;
 
 /// Makes the calls of five phases, and writes what comes of them.
 pub fn tell<K: Sink>(alloc: Global, sink: &mut K, phases: &[Phase]) -> Result<(), Stop> {
@@ -57,7 +57,7 @@ pub fn tell<K: Sink>(alloc: Global, sink: &mut K, phases: &[Phase]) -> Result<()
 fn tell_refusals<K: Sink>(alloc: Global, sink: &mut K, calls: &Phase) -> Result<(), Stop> {
     let (core, _again) = over_refusing(alloc, 0, calls)?;
     write_text(sink, core.history())?;
-    for number in 1..=REFUSED {
+    for number in 1..=CALLS {
         tell_refusal(alloc, sink, number, calls, core.history())?;
     }
     Ok(())
