@@ -9,7 +9,7 @@ import argparse
 import re
 import sys
 
-from model.engine import Patient
+from model.engine import Patient, Threshold
 from model.program import Session, transcript
 
 VERDICTS = ["go on", "drop", "stop", "end"]
@@ -60,24 +60,44 @@ FAST = [
 REFUSALS = [
     *below(80), "OPEN C SELECT * FROM T WHERE A BETWEEN 10 AND 40 OPTIMIZE FOR FAST FIRST", *fetches("C", 4), "STEP C 5", *fetches("C", 28),
 ]  # fmt: skip
-WAITING = [*below(40), "OPEN C SELECT * FROM T WHERE A BETWEEN 10 AND 29 OPTIMIZE FOR FAST FIRST"]
-NOTES = [
-    "Two tables, of which session 1 puts two queries, each under every list of three verdicts.",
-    "A query in the order of one index, whose rows another one bounds.",
-    "A query for its first rows, whose rows two indexes bound.",
-    "A query for its first rows over a store of which one call is refused. The call that found no memory is made again.",
-    "A query that awaits a piece.",
-]
-PIECES = {
-    "once": "accepted", "twice": "stale, and another one is awaited", "after CLOSE": "stale, and none is awaited",
-    "after COMMIT": "stale, and none is awaited", "to a core that has not taken its own": "stale, and another one is awaited",
-    "to a core that has taken its own": "accepted",
-}  # fmt: skip
+OPENED = "OPEN C SELECT * FROM T WHERE A BETWEEN 10 AND 29 OPTIMIZE FOR FAST FIRST"
+WAITING = [*below(40), OPENED]
+ANEW = [*fetches("C", 21), "CLOSE C", OPENED]
+JOINED = [
+    "CREATE TABLE O (A BIGINT)", *inserts("O", [(1,), (1,)]),
+    "CREATE TABLE T (A BIGINT, B BIGINT)", "CREATE INDEX IA ON T (A)", *inserts("T", [(i % 2, i) for i in range(40)]),
+    "BEGIN READ ONLY", "OPEN C SELECT B FROM O, T WHERE T.A = O.A OPTIMIZE FOR FAST FIRST", "FETCH C",
+]  # fmt: skip
+NEXT = fetches("C", 20)
+PHASES = [
+    ("Two tables, of which session 1 puts two queries, each under every list of three verdicts.", LOAD),
+    ("A query in the order of one index, whose rows another one bounds.", SORTED),
+    ("A query for its first rows, whose rows two indexes bound.", FAST),
+    ("A query for its first rows over a store of which one call is refused. The call that found no memory is made again.", REFUSALS),
+    ("A query that awaits a piece.", WAITING),
+    ("The rows that are left of it, and the same query anew.", ANEW),
+    ("A join that awaits a piece, with the first of two rows that ask the same of T.", JOINED),
+    ("Up to the second of the two.", NEXT),
+]  # fmt: skip
+
+# What is said of a piece. Its numbers are those of the cursor, of the retrieval that the cursor opened, and of the piece in it. A
+# piece is accepted where its cursor is open, awaits a piece of its numbers and entries, and has handed it out. It is said to be
+# stale elsewhere, beside the numbers of the piece that the cursor of its number awaits; a cursor that is closed, or whose scan is
+# dropped, awaits none.
+AGAIN = [
+    ("once", "accepted"), ("twice", "1.1.1 is stale, and 1.1.2 is awaited"),
+    ("after CLOSE and OPEN", "1.1.1 is stale, and none is awaited"),
+    ("after CLOSE, OPEN and a new one", "1.1.1 is stale, and none is awaited"),
+]  # fmt: skip
+AFTER = [("after CLOSE", "1.1.1 is stale, and none is awaited"), ("after COMMIT", "1.1.1 is stale, and none is awaited")]
+DROPPED = [("after its scan was dropped", "1.1.1 is stale, and none is awaited"), ("after that, the next one", "there is none")]
+ELSEWHERE = [("to a core that has not taken its own", "1.1.1 is stale, and 1.1.1 is awaited"), ("to a core that has taken its own", "accepted")]
+# The first retrieval of the join is that of O, the second and the third those of T for the two rows of O.
+LATER = [("after the next row of a join", "1.2.1 is stale, and 1.3.1 is awaited"), ("after that, the next one", "accepted")]
 
 
 def script():
-    phases = zip(NOTES, [LOAD, SORTED, FAST, REFUSALS, WAITING])
-    return "--\n".join(f"# {note}\n" + "".join(f"1 {text}\n" for text in texts) for note, texts in phases)
+    return "--\n".join(f"# {note}\n" + "".join(f"1 {text}\n" for text in texts) for note, texts in PHASES)
 
 
 # What is told.
@@ -120,8 +140,20 @@ def refusals():
     return transcript(run.replies) + "".join(line + "\n" for line in lines)
 
 
+def given(answers):
+    return "".join(f"a piece given {when}: {answer}\n" for when, answer in answers)
+
+
+def rows(judge, texts):
+    run = Run()
+    run.under(judge, texts)
+    return transcript(run.replies)
+
+
 def pieces():
-    return "".join(f"a piece given {when}: {answer}\n" for when, answer in PIECES.items())
+    told = given(AGAIN) + rows(Patient(), WAITING + ANEW) + given(AFTER)
+    told += given(DROPPED) + rows(Threshold(), [*WAITING, "FETCH C", *ANEW]) + given(ELSEWHERE)
+    return told + given(LATER) + rows(Patient(), JOINED + NEXT)
 
 
 def main():

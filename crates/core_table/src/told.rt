@@ -1,8 +1,9 @@
 //! What the program writes.
 use crate::lists::under_lists;
-use crate::pieces::{Answer, after, elsewhere, twice};
+use crate::pieces::{tell_after, tell_again, tell_dropped, tell_elsewhere, tell_joined};
 use crate::refusals::{Outcome, over_refusing, refused};
 use rv_io::{Failed, Sink, write_all};
+use rv_jscan::{Given, PieceId};
 use rv_model::Entry;
 use rv_script::{Phase, write_text};
 use rv_value::NoMemory;
@@ -20,7 +21,7 @@ pub enum Stop {
 impl Stop {
     pub fn words(self) -> &'static str {
         match self {
-            Stop::NoScript => "no script of five phases",
+            Stop::NoScript => "no script of eight phases",
             Stop::NoMemory => "no memory",
             Stop::Failed => "write fault",
         }
@@ -42,15 +43,16 @@ impl From<Failed> for Stop {
 /// The numbers of the calls of the store that are refused, one a run.
 const CALLS: u32 = 60;
 
-/// Makes the calls of five phases, and writes what comes of them.
+/// Makes the calls of eight phases, and writes what comes of them.
 pub fn tell<K: Sink>(alloc: Global, sink: &mut K, phases: &[Phase]) -> Result<(), Stop> {
-    let [load, sorted, fast, refusals, pieces] = phases else {
+    let [load, sorted, fast, refusals, pieces, anew, joined, next] = phases else {
         return Err(Stop::NoScript);
     };
     let core = under_lists(alloc, load, sorted, fast)?;
     write_text(sink, core.history())?;
     tell_refusals(alloc, sink, refusals)?;
-    tell_pieces(alloc, sink, pieces)
+    tell_pieces(alloc, sink, pieces, anew)?;
+    tell_joined(alloc, sink, joined, next)
 }
 
 /// Writes the replies without a refused call, and what came of each refused one.
@@ -88,23 +90,59 @@ fn line_of(alloc: Global, number: u32, outcome: Outcome) -> Result<String, NoMem
 }
 
 /// Writes what is said of pieces.
-fn tell_pieces<K: Sink>(alloc: Global, sink: &mut K, calls: &Phase) -> Result<(), Stop> {
-    let (first, second) = twice(alloc, calls)?;
-    tell_piece(sink, b"once", first)?;
-    tell_piece(sink, b"twice", second)?;
-    tell_piece(sink, b"after CLOSE", after(alloc, calls, "CLOSE C")?)?;
-    tell_piece(sink, b"after COMMIT", after(alloc, calls, "COMMIT")?)?;
-    let early = elsewhere(alloc, calls, false)?;
-    tell_piece(sink, b"to a core that has not taken its own", early)?;
-    let late = elsewhere(alloc, calls, true)?;
-    tell_piece(sink, b"to a core that has taken its own", late)
+fn tell_pieces<K: Sink>(
+    alloc: Global,
+    sink: &mut K,
+    calls: &Phase,
+    anew: &Phase,
+) -> Result<(), Stop> {
+    tell_again(alloc, sink, calls, anew)?;
+    tell_after(alloc, sink, calls)?;
+    tell_dropped(alloc, sink, calls, anew)?;
+    tell_elsewhere(alloc, sink, calls)
 }
 
-fn tell_piece<K: Sink>(sink: &mut K, when: &[u8], answer: Answer) -> Result<(), Stop> {
+/// Writes what a core said of a piece that was given to it.
+pub fn tell_given<K: Sink>(
+    alloc: Global,
+    sink: &mut K,
+    when: &[u8],
+    answer: Option<Given>,
+) -> Result<(), Stop> {
+    let words = words_of(alloc, answer)?;
     write_all(sink, b"a piece given ")?;
     write_all(sink, when)?;
     write_all(sink, b": ")?;
-    write_all(sink, answer.words().as_bytes())?;
+    write_all(sink, words.as_bytes())?;
     write_all(sink, b"\n")?;
     Ok(())
+}
+
+fn words_of(alloc: Global, answer: Option<Given>) -> Result<String, NoMemory> {
+    let Some(answer) = answer else {
+        return Ok(format!(in alloc; "there is none")?);
+    };
+    match answer {
+        Given::Accepted => Ok(format!(in alloc; "accepted")?),
+        Given::Stale { asked, now } => stale_words(alloc, asked, now),
+    }
+}
+
+/// The words for a piece that is another one than that which is awaited.
+fn stale_words(alloc: Global, asked: PieceId, now: Option<PieceId>) -> Result<String, NoMemory> {
+    let asked = id_words(alloc, asked)?;
+    let Some(now) = now else {
+        return Ok(format!(in alloc; "{asked} is stale, and none is awaited")?);
+    };
+    let now = id_words(alloc, now)?;
+    Ok(format!(in alloc; "{asked} is stale, and {now} is awaited")?)
+}
+
+fn id_words(alloc: Global, id: PieceId) -> Result<String, NoMemory> {
+    let PieceId {
+        cursor,
+        opening,
+        number,
+    } = id;
+    Ok(format!(in alloc; "{cursor}.{opening}.{number}")?)
 }
