@@ -20,14 +20,16 @@ fn waiting(alloc: Global, judge: Box<dyn Judge>, calls: &Phase) -> Result<Core<P
 
 /// The same under a judge that drops nothing.
 fn patient(alloc: Global, calls: &Phase) -> Result<Core<Paged>, NoMemory> {
-    waiting(alloc, Box::new(alloc, Patient::new())?, calls)
+    let judge: Box<dyn Judge> = Box::new(alloc, Patient::new())?;
+    waiting(alloc, judge, calls)
 }
 
 /// The piece that a core hands out.
 fn taken<S: Store + Reader<Ledger = Uncounted> + Drop>(
     core: &mut Core<S>,
 ) -> Result<Option<Piece>, NoMemory> {
-    match core.take_piece(0, &mut Steps::new(Uncounted))? {
+    let mut steps = Steps::new(Uncounted);
+    match core.take_piece(0, &mut steps)? {
         Taken::Piece(piece) => Ok(Some(piece)),
         Taken::Nothing => Ok(None),
     }
@@ -41,7 +43,8 @@ fn given<S: Store + Reader<Ledger = Uncounted> + Drop>(
     let Some(piece) = piece else {
         return Ok(None);
     };
-    let answer = core.give_piece(sieve(piece), &mut Steps::new(Uncounted))?;
+    let mut steps = Steps::new(Uncounted);
+    let answer = core.give_piece(sieve(piece), &mut steps)?;
     Ok(Some(answer))
 }
 
@@ -52,7 +55,8 @@ pub fn tell_again<K: Sink>(
     calls: &Phase,
     anew: &Phase,
 ) -> Result<(), Stop> {
-    again_to(alloc, sink, &mut patient(alloc, calls)?, anew)
+    let mut core = patient(alloc, calls)?;
+    again_to(alloc, sink, &mut core, anew)
 }
 
 fn again_to<K: Sink, S: Store + Reader<Ledger = Uncounted> + Drop>(
@@ -82,9 +86,11 @@ fn again_to<K: Sink, S: Store + Reader<Ledger = Uncounted> + Drop>(
 
 /// A piece that is given after calls of session 1: of its cursor's end, and of its transaction's.
 pub fn tell_after<K: Sink>(alloc: Global, sink: &mut K, calls: &Phase) -> Result<(), Stop> {
-    let closed = after_to(&mut patient(alloc, calls)?, "CLOSE C")?;
+    let mut first = patient(alloc, calls)?;
+    let closed = after_to(&mut first, "CLOSE C")?;
     tell_given(alloc, sink, b"after CLOSE", closed)?;
-    let committed = after_to(&mut patient(alloc, calls)?, "COMMIT")?;
+    let mut second = patient(alloc, calls)?;
+    let committed = after_to(&mut second, "COMMIT")?;
     tell_given(alloc, sink, b"after COMMIT", committed)
 }
 
@@ -105,7 +111,8 @@ pub fn tell_dropped<K: Sink>(
     anew: &Phase,
 ) -> Result<(), Stop> {
     let judge: Box<dyn Judge> = Box::new(alloc, Threshold::new())?;
-    dropped_to(alloc, sink, &mut waiting(alloc, judge, calls)?, anew)
+    let mut core = waiting(alloc, judge, calls)?;
+    dropped_to(alloc, sink, &mut core, anew)
 }
 
 fn dropped_to<K: Sink, S: Store + Reader<Ledger = Uncounted> + Drop>(
@@ -161,7 +168,8 @@ pub fn tell_joined<K: Sink>(
     calls: &Phase,
     next: &Phase,
 ) -> Result<(), Stop> {
-    joined_to(alloc, sink, &mut patient(alloc, calls)?, next)
+    let mut core = patient(alloc, calls)?;
+    joined_to(alloc, sink, &mut core, next)
 }
 
 fn joined_to<K: Sink, S: Store + Reader<Ledger = Uncounted> + Drop>(
