@@ -24,6 +24,12 @@ fn patient(alloc: Global, calls: &Phase) -> Result<Core<Paged>, NoMemory> {
     waiting(alloc, judge, calls)
 }
 
+/// The same under the threshold judge.
+fn frugal(alloc: Global, calls: &Phase) -> Result<Core<Paged>, NoMemory> {
+    let judge: Box<dyn Judge> = Box::new(alloc, Threshold::new())?;
+    waiting(alloc, judge, calls)
+}
+
 /// The piece that a core hands out.
 fn taken<S: Store + Reader<Ledger = Uncounted> + Drop>(
     core: &mut Core<S>,
@@ -110,8 +116,7 @@ pub fn tell_dropped<K: Sink>(
     calls: &Phase,
     anew: &Phase,
 ) -> Result<(), Stop> {
-    let judge: Box<dyn Judge> = Box::new(alloc, Threshold::new())?;
-    let mut core = waiting(alloc, judge, calls)?;
+    let mut core = frugal(alloc, calls)?;
     dropped_to(alloc, sink, &mut core, anew)
 }
 
