@@ -65,10 +65,10 @@ WAITING = [*below(40), OPENED]
 ANEW = [*fetches("C", 21), "CLOSE C", OPENED]
 JOINED = [
     "CREATE TABLE O (A BIGINT)", *inserts("O", [(1,), (1,)]),
-    "CREATE TABLE T (A BIGINT, B BIGINT)", "CREATE INDEX IA ON T (A)", *inserts("T", [(i % 2, i) for i in range(40)]),
+    "CREATE TABLE T (A BIGINT, B BIGINT)", "CREATE INDEX IA ON T (A)", *inserts("T", [(i % 2, i) for i in range(80)]),
     "BEGIN READ ONLY", "OPEN C SELECT B FROM O, T WHERE T.A = O.A OPTIMIZE FOR FAST FIRST", "FETCH C",
 ]  # fmt: skip
-NEXT = fetches("C", 20)
+NEXT = fetches("C", 40)
 PHASES = [
     ("Two tables, of which session 1 puts two queries, each under every list of three verdicts.", LOAD),
     ("A query in the order of one index, whose rows another one bounds.", SORTED),
@@ -92,8 +92,9 @@ AGAIN = [
 AFTER = [("after CLOSE", "1.1.1 is stale, and none is awaited"), ("after COMMIT", "1.1.1 is stale, and none is awaited")]
 DROPPED = [("after its scan was dropped", "1.1.1 is stale, and none is awaited"), ("after that, the next one", "there is none")]
 ELSEWHERE = [("to a core that has not taken its own", "1.1.1 is stale, and 1.1.1 is awaited"), ("to a core that has taken its own", "accepted")]
-# The first retrieval of the join is that of O, the second and the third those of T for the two rows of O.
-LATER = [("after the next row of a join", "1.2.1 is stale, and 1.3.1 is awaited"), ("after that, the next one", "accepted")]
+# The first retrieval of the join is that of O, the second and the third those of T for the two rows of O. Each of these has read a leaf
+# for its first row, which is its first piece, and awaits the second.
+LATER = [("after the next row of a join", "1.2.2 is stale, and 1.3.2 is awaited"), ("after that, the next one", "accepted")]
 
 
 def script():
