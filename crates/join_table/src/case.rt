@@ -8,9 +8,10 @@ ghost use Rattle.join_table.specs.Asking.{HasIndexes, IsOurs};
 ghost use Rattle.join_table.specs.Laying.{Offers};
 
 use crate::drive::{Driven, drive};
-use crate::load::{Filling, Loaded, load};
-use crate::select::{Asked, indexes, of_three, select};
-use crate::told::{add_rows, told};
+use crate::load::{Filling, Loaded, filling, load};
+use crate::read::{Asked, Fault, read_line, small};
+use crate::select::{indexes, select};
+use crate::told::{rows_text, told};
 use crate::trace::trace_text;
 use rv_catalog::{IndexDef, Select};
 use rv_join::Plan;
@@ -42,6 +43,23 @@ fn planned<R: Reader<Ledger = Uncounted>>(
     Ok((driven, plan.trace()))
 }
 
+/// A judge of the three, by its name.
+#[derive(Clone, Copy, Debug, PartialEq, Eq)]
+enum Ruling {
+    Threshold,
+    Contrary,
+    Patient,
+}
+
+fn ruling(word: &str) -> Result<Ruling, Fault> {
+    match word {
+        "threshold" => Ok(Ruling::Threshold),
+        "contrary" => Ok(Ruling::Contrary),
+        "patient" => Ok(Ruling::Patient),
+        _ => Err(Fault::Form),
+    }
+}
+
 /// The same with one of three judges.
 fn run<R: Reader<Ledger = Uncounted>>(
     alloc: Global,
@@ -49,7 +67,7 @@ fn run<R: Reader<Ledger = Uncounted>>(
     snap: u64,
     indexes: &[IndexDef],
     select: &Select,
-    ruling: u32,
+    ruling: Ruling,
     so_many: u32,
 ) -> Result<(Driven, Trace), NoMemory>
     requires offers { Offers (R.shown reader.now) snap }
@@ -57,141 +75,86 @@ fn run<R: Reader<Ledger = Uncounted>>(
     requires select { IsOurs select.now }
     ensures { IfOk result (λ found. found.0.ended ≡ true → IsPermutation (offers_over select.now (table_rows (R.shown reader.now) snap)) found.0.offers.items) }
 {
-    let mut judge: Box<dyn Judge> = match ruling % 3 {
-        0 => Box::new(alloc, Threshold::new())?,
-        1 => Box::new(alloc, Contrary::new())?,
-        _ => Box::new(alloc, Patient::new())?,
+    let mut judge: Box<dyn Judge> = match ruling {
+        Ruling::Threshold => Box::new(alloc, Threshold::new())?,
+        Ruling::Contrary => Box::new(alloc, Contrary::new())?,
+        Ruling::Patient => Box::new(alloc, Patient::new())?,
     };
     planned(alloc, reader, snap, indexes, select, &mut judge, so_many)
 }
 
-fn add_case(
+/// The same over what was loaded.
+fn driven(
     alloc: Global,
     loaded: &Loaded,
-    indexes: &[IndexDef],
-    asked: Asked,
-    lines: &mut Vec<String>,
-) -> Result<(), NoMemory>
+    asked: &Asked,
+    select: &Select,
+) -> Result<(Driven, Trace), Fault>
     requires loaded { Offers (shown_of loaded.now.store) loaded.now.snap }
-    requires indexes { HasIndexes indexes.now }
+    requires select { IsOurs select.now }
 {
-    if let Some(select) = select(alloc, asked)? {
-        let so_many = asked.form % 4 + asked.order % 4;
-        let (driven, _trace) = run(
-            alloc,
-            &loaded.store,
-            loaded.snap,
-            indexes,
-            &select,
-            asked.order,
-            so_many % 4,
-        )?;
-        let told = told(alloc, driven)?;
-        let (from, form, order) = (asked.from, asked.form, asked.order);
-        lines.push(format!(in alloc;
-            "from {from} where {form} order {order}: {}",
-            told.as_str()
-        )?)?;
-    }
-    Ok(())
+    let ruling = ruling(asked.judge)?;
+    let steps = small(asked.steps)?;
+    let indexes = indexes(alloc, loaded.indexes())?;
+    let found = run(
+        alloc,
+        &loaded.store,
+        loaded.snap,
+        indexes.as_slice(),
+        select,
+        ruling,
+        steps,
+    )?;
+    Ok(found)
 }
 
-fn add_orders(
+/// What came of a plan, as the line asks it.
+fn told_as(alloc: Global, asked: &Asked, driven: Driven, trace: &Trace) -> Result<String, Fault> {
+    match asked.tell {
+        "mix" => Ok(told(alloc, driven)?),
+        "reads" => told_reads(alloc, driven, trace),
+        "rows" => told_rows(alloc, &driven, trace),
+        _ => Err(Fault::Form),
+    }
+}
+
+fn told_reads(alloc: Global, driven: Driven, trace: &Trace) -> Result<String, Fault> {
+    let told = told(alloc, driven)?;
+    Ok(format!(in alloc;
+        "{}, pages {} leaves {} fetches {}",
+        told.as_str(),
+        trace.pages,
+        trace.leaves,
+        trace.fetches
+    )?)
+}
+
+fn told_rows(alloc: Global, driven: &Driven, trace: &Trace) -> Result<String, Fault> {
+    let rows = rows_text(alloc, driven)?;
+    let trace = trace_text(alloc, trace)?;
+    Ok(format!(in alloc; "{}; {}", rows.as_str(), trace.as_str())?)
+}
+
+/// What comes of a line.
+pub fn answer(alloc: Global, line: &str) -> Result<String, Fault> {
+    let asked = read_line(line)?;
+    let filling: Filling = filling(asked.rows)?;
+    match select(alloc, &asked)? {
+        Some(select) => answered(alloc, filling, &asked, &select),
+        None => Err(Fault::Form),
+    }
+}
+
+/// Loads a store, and drives a plan over it.
+fn answered(
     alloc: Global,
-    loaded: &Loaded,
-    indexes: &[IndexDef],
-    from: u32,
-    form: u32,
-    lines: &mut Vec<String>,
-) -> Result<(), NoMemory>
-    requires loaded { Offers (shown_of loaded.now.store) loaded.now.snap }
-    requires indexes { HasIndexes indexes.now }
+    filling: Filling,
+    asked: &Asked,
+    select: &Select,
+) -> Result<String, Fault>
+    requires select { IsOurs select.now }
 {
-    'orders: for order in 0..7 {
-        add_case(alloc, loaded, indexes, Asked { from, form, order }, lines)?;
-    }
-    Ok(())
-}
-
-fn add_forms(
-    alloc: Global,
-    loaded: &Loaded,
-    indexes: &[IndexDef],
-    from: u32,
-    lines: &mut Vec<String>,
-) -> Result<(), NoMemory>
-    requires loaded { Offers (shown_of loaded.now.store) loaded.now.snap }
-    requires indexes { HasIndexes indexes.now }
-{
-    'forms: for form in 0..12 {
-        add_orders(alloc, loaded, indexes, from, form, lines)?;
-    }
-    Ok(())
-}
-
-/// The lines of all joins.
-pub fn add_cases(alloc: Global, lines: &mut Vec<String>) -> Result<(), NoMemory> {
-    let loaded = load(alloc, Filling::Many(6))?;
-    let indexes = indexes(alloc, 6)?;
-    'from: for from in 0..10 {
-        add_forms(alloc, &loaded, indexes.as_slice(), from, lines)?;
-    }
-    Ok(())
-}
-
-/// What a join of two tables on an indexed column reads, by the number of rows.
-fn add_read(
-    alloc: Global,
-    indexes: &[IndexDef],
-    rows: u64,
-    lines: &mut Vec<String>,
-) -> Result<(), NoMemory>
-    requires { HasIndexes indexes.now }
-{
-    let loaded = load(alloc, Filling::Many(rows))?;
-    let asked = Asked {
-        from: 2,
-        form: 3,
-        order: 0,
-    };
-    if let Some(select) = select(alloc, asked)? {
-        let (driven, trace) = run(alloc, &loaded.store, loaded.snap, indexes, &select, 0, 0)?;
-        let told = told(alloc, driven)?;
-        lines.push(format!(in alloc;
-            "{rows} rows on an index: {}, pages {} leaves {} fetches {}",
-            told.as_str(),
-            trace.pages,
-            trace.leaves,
-            trace.fetches
-        )?)?;
-    }
-    Ok(())
-}
-
-/// The lines of the joins of which the reads are told.
-pub fn add_reads(alloc: Global, lines: &mut Vec<String>) -> Result<(), NoMemory> {
-    let indexes = indexes(alloc, 6)?;
-    add_read(alloc, indexes.as_slice(), 40, lines)?;
-    add_read(alloc, indexes.as_slice(), 80, lines)?;
-    add_read(alloc, indexes.as_slice(), 120, lines)
-}
-
-/// The lines of a join of three tables without an index: its rows as they come, and its trace.
-pub fn add_three(alloc: Global, lines: &mut Vec<String>) -> Result<(), NoMemory> {
-    let loaded = load(alloc, Filling::Three)?;
-    let indexes = indexes(alloc, 0)?;
-    if let Some(select) = of_three(alloc)? {
-        let (driven, trace) = run(
-            alloc,
-            &loaded.store,
-            loaded.snap,
-            indexes.as_slice(),
-            &select,
-            0,
-            0,
-        )?;
-        add_rows(alloc, &driven, lines)?;
-        lines.push(trace_text(alloc, &trace)?)?;
-    }
-    Ok(())
+    let loaded = load(alloc, filling)?;
+    let (driven, trace) = driven(alloc, &loaded, asked, select)?;
+    told_as(alloc, asked, driven, &trace)
 }

@@ -4,6 +4,7 @@ ghost use Rattle.rv_plain.specs.Kept.{shown_of};
 ghost use Rattle.rv_reader.specs.Shown.{CanRead};
 ghost use Rattle.join_table.specs.Laying.{Ascending, Fresh, IsBatch, IsNew, Laid, Offers, columns_of, table_of};
 
+use crate::read::{Fault, number};
 use rv_plain::Plain;
 use rv_reader::{Change, Store};
 use rv_value::{Items, NoMemory, RowNo, Value, Values};
@@ -34,6 +35,14 @@ pub enum Filling {
     Many(u64),
     /// Two, three, three and none: K of the first, K and M of the second, M of the third, and NULL for the rest.
     Three,
+}
+
+/// `three`, or a number of rows.
+pub fn filling(word: &str) -> Result<Filling, Fault> {
+    match word {
+        "three" => Ok(Filling::Three),
+        _ => Ok(Filling::Many(number(word)?)),
+    }
 }
 
 /// How many rows a table has.
@@ -272,6 +281,19 @@ fn settle<S: Store>(store: &S) -> u64
 pub struct Loaded {
     pub store: Plain,
     pub snap: u64,
+    filling: Filling,
+}
+
+impl Loaded {
+    /// How many of the indexes a plan is given: none in the join of three tables.
+    pub fn indexes(&self) -> u32
+        ensures { result ≤ 6 }
+    {
+        match self.filling {
+            Filling::Many(_) => 6,
+            Filling::Three => 0,
+        }
+    }
 }
 
 fn load_store<S: Store>(alloc: Global, store: &mut S, filling: Filling) -> Result<u64, NoMemory>
@@ -289,5 +311,9 @@ pub fn load(alloc: Global, filling: Filling) -> Result<Loaded, NoMemory>
 {
     let mut store = Plain::new(alloc)?;
     let snap = load_store(alloc, &mut store, filling)?;
-    Ok(Loaded { store, snap })
+    Ok(Loaded {
+        store,
+        snap,
+        filling,
+    })
 }

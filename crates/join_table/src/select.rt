@@ -6,30 +6,12 @@ ghost use Rattle.rv_restrict.specs.Truth.{atom_names_only, group_names_only, nam
 ghost use Rattle.join_table.specs.Asking.{HasIndexes, IsOurs, is_column, is_table};
 ghost use Rattle.join_table.specs.Laying.{columns_of, table_of};
 
-use crate::forms::{at, groups, groups_of_three, order, tables};
 use crate::load::{columns_of, table_of};
-use rv_catalog::{Goal, IndexDef, Select};
-use rv_restrict::{Atom, ColRef, Operand, Restriction};
+use crate::read::{Asked, Fault, columns, goal, restriction, tables};
+use rv_catalog::{IndexDef, Select};
+use rv_restrict::{Atom, ColRef, Operand};
 use rv_value::{Items, NoMemory, Text};
 use std::alloc::Global;
-
-/// A FROM list, a form of restriction and a form of order, by their numbers.
-#[derive(Clone, Copy, PartialEq, Eq, Debug)]
-pub struct Asked {
-    pub from: u32,
-    pub form: u32,
-    pub order: u32,
-}
-
-/// The columns returned: the second of each item and the third of the last.
-fn returns(alloc: Global, places: u32) -> Result<Vec<ColRef>, NoMemory> {
-    let mut returns = Vec::new(alloc);
-    'places: for place in 0..places {
-        returns.push(at(place, 1))?;
-    }
-    returns.push(at(places.saturating_sub(1), 2))?;
-    Ok(returns)
-}
 
 fn are_tables(tables: &[u32]) -> bool
     ensures { result ≡ list_all is_table tables.now }
@@ -117,11 +99,11 @@ fn is_ours(select: &Select) -> bool
     are_groups(items, select.only.groups())
 }
 
-/// The select for what is asked; None where it is not over the tables.
-pub fn select(alloc: Global, asked: Asked) -> Result<Option<Select>, NoMemory>
+/// The select for what a line asks; None where it is not over the tables.
+pub fn select(alloc: Global, asked: &Asked) -> Result<Option<Select>, Fault>
     ensures { IfOk result (λ found. IfSome found IsOurs) }
 {
-    let select = made(alloc, asked)?;
+    let select = read_select(alloc, asked)?;
     if is_ours(&select) {
         Ok(Some(select))
     } else {
@@ -129,37 +111,17 @@ pub fn select(alloc: Global, asked: Asked) -> Result<Option<Select>, NoMemory>
     }
 }
 
-/// A join of three tables by K and M; None where it is not over the tables.
-pub fn of_three(alloc: Global) -> Result<Option<Select>, NoMemory>
-    ensures { IfOk result (λ found. IfSome found IsOurs) }
-{
-    let select = Select {
-        tables: Items::from_vec(vec![in alloc; 0, 1, 2]?),
-        only: Restriction::from_groups(groups_of_three(alloc)?),
-        returns: Items::from_vec(vec![in alloc; at(0, 0), at(2, 0)]?),
-        order: Items::new(alloc),
-        goal: Goal::FastFirst,
-    };
-    if is_ours(&select) {
-        Ok(Some(select))
-    } else {
-        Ok(None)
-    }
-}
-
-fn made(alloc: Global, asked: Asked) -> Result<Select, NoMemory> {
+fn read_select(alloc: Global, asked: &Asked) -> Result<Select, Fault> {
+    let goal = goal(asked.goal)?;
     let tables = tables(alloc, asked.from)?;
-    let places = tables.len() as u32;
-    let goal = if asked.form % 2 == 0 {
-        Goal::FastFirst
-    } else {
-        Goal::TotalTime
-    };
+    let returns = columns(alloc, asked.returns)?;
+    let order = columns(alloc, asked.order)?;
+    let only = restriction(alloc, asked.only)?;
     Ok(Select {
         tables: Items::from_vec(tables),
-        only: Restriction::from_groups(groups(alloc, asked.form)?),
-        returns: Items::from_vec(returns(alloc, places)?),
-        order: Items::from_vec(order(alloc, asked.order, places.saturating_sub(1))?),
+        only,
+        returns: Items::from_vec(returns),
+        order: Items::from_vec(order),
         goal,
     })
 }

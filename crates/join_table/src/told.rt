@@ -80,15 +80,16 @@ fn row_text(alloc: Global, values: &[Value]) -> Result<String, NoMemory> {
     Ok(text)
 }
 
-/// The values returned, a line for each offer, and the end.
-pub fn add_rows(alloc: Global, driven: &Driven, lines: &mut Vec<String>) -> Result<(), NoMemory> {
+/// The values returned, one offer after another, and the end.
+pub fn rows_text(alloc: Global, driven: &Driven) -> Result<String, NoMemory> {
+    let mut text = String::new(alloc);
     'offers: for offer in driven.offers.as_slice() {
-        lines.push(row_text(alloc, offer.returned.as_slice())?)?;
+        let row = row_text(alloc, offer.returned.as_slice())?;
+        text.push_str(row.as_str())?;
+        text.push_str("; ")?;
     }
-    if driven.ended {
-        lines.push(format!(in alloc; "end")?)?;
-    }
-    Ok(())
+    text.push_str(if driven.ended { "end" } else { "NOT ENDED" })?;
+    Ok(text)
 }
 
 /// How many offers came, whether in order, and their number once they are sorted wholly.

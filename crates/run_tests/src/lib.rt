@@ -1,14 +1,10 @@
-//! Tests of whole runs: scripts with their transcripts, courses, pieces, statuses and words. They stand in a crate of their
-//! own, since a crate with tests is proved twice.
+//! Tests of pieces that leave the core, and of runs over the plain store. They stand in a crate of their own, since a crate
+//! with tests is proved twice.
 #![tactic(auto)]
 
 #[cfg(test)]
 mod pieces;
 #[cfg(test)]
-mod runs;
-#[cfg(test)]
-mod sessions;
+mod plain;
 #[cfg(test)]
 mod traces;
-#[cfg(test)]
-mod words;

@@ -1,7 +1,6 @@
-//! Courses of retrievals, which SHOW tells: what judges, their numbers in scripts and `--steps` change.
-use crate::runs::{run_over, told};
+//! Courses of retrievals over the plain store, which SHOW tells.
+use crate::plain::run;
 use rv_io::{MemSink, MemSource};
-use rv_store::Paged;
 use rv_value::NoMemory;
 use std::alloc::Global;
 use std::test::Fail;
@@ -14,14 +13,6 @@ struct Reading {
     steps: u32,
     after: u32,
 }
-
-/// Half of a table of 40 rows.
-const HALF: Reading = Reading {
-    only: "A BETWEEN 10 AND 29",
-    before: 4,
-    steps: 5,
-    after: 17,
-};
 
 /// More than a third of a table of 80 rows.
 const THIRD: Reading = Reading {
@@ -97,106 +88,43 @@ fn traces(alloc: Global, written: &[u8]) -> Result<String, NoMemory> {
     Ok(traces)
 }
 
-/// The traces of a run over the paged store.
-fn paged_traces(alloc: Global, words: &str, script: &str) -> Result<String, Fail> {
+/// The traces of a run without automatic steps.
+fn shown(alloc: Global, script: &str) -> Result<String, NoMemory> {
     let bytes = Vec::from_slice(alloc, script.as_bytes())?;
     let mut source = MemSource::new(bytes, Vec::new(alloc));
     let mut sink = MemSink::new(alloc, 200_000, Vec::new(alloc))?;
-    let _status = run_over(alloc, Paged::new(alloc)?, words, &mut source, &mut sink)?;
-    Ok(traces(alloc, sink.written())?)
-}
-
-/// The traces of a run over the plain store.
-fn plain_traces(alloc: Global, words: &str, script: &str) -> Result<String, Fail> {
-    let (_status, written) = told(alloc, words, script)?;
-    Ok(traces(alloc, written.as_slice())?)
+    let _status = run(alloc, &mut source, &mut sink)?;
+    traces(alloc, sink.written())
 }
 
 #[test]
-fn judges_and_steps_change_courses_over_the_paged_store(rt: HostRuntime) -> Result<(), Fail> {
+fn judges_change_courses(rt: HostRuntime) -> Result<(), Fail> {
     let alloc = rt.alloc();
-    for (words, mark, trace) in [
+    for (mark, trace) in [
         (
-            "--steps 0",
             "",
-            "= trace fast-first building scan IA drop IA final-table done pages 2 leaves 1 fetches 0\n",
+            "= trace fast-first building scan IA drop IA final-table done pages 3 leaves 1 fetches 0\n",
         ),
         (
-            "--judge 1 --steps 0",
-            "",
-            "= trace fast-first building scan IA list IA 20 final-list done pages 0 leaves 2 fetches 20\n",
-        ),
-        (
-            "--steps=1 --judge=1",
-            "",
-            "= trace fast-first building scan IA list IA 20 final-list done pages 0 leaves 2 fetches 20\n",
-        ),
-        (
-            "--judge 2 --steps 0",
-            "",
-            "= trace fast-first building scan IA stop background list IA 20 final-list done pages 0 leaves 2 fetches 20\n",
-        ),
-        (
-            "--steps 0",
-            "-- 2\n",
-            "= trace fast-first building scan IA stop background list IA 20 final-list done pages 0 leaves 2 fetches 20\n",
+            "-- 1\n",
+            "= trace fast-first building scan IA list IA 31 final-list done pages 0 leaves 2 fetches 31\n",
         ),
     ] {
-        let script = script_of(alloc, 40, mark, HALF)?;
-        let shown = paged_traces(alloc, words, script.as_str())?;
-        assert_eq!(rt; shown.as_str(), trace);
+        let script = script_of(alloc, 80, mark, THIRD)?;
+        let told = shown(alloc, script.as_str())?;
+        assert_eq!(rt; told.as_str(), trace);
     }
-    Ok(())
-}
-
-#[test]
-fn judges_change_courses_over_the_plain_store(rt: HostRuntime) -> Result<(), Fail> {
-    let alloc = rt.alloc();
-    let script = script_of(alloc, 80, "", THIRD)?;
-    let shown = plain_traces(alloc, "--steps 0", script.as_str())?;
-    assert_eq!(rt;
-        shown.as_str(),
-        "= trace fast-first building scan IA drop IA final-table done pages 3 leaves 1 fetches 0\n"
-    );
-    let shown = plain_traces(alloc, "--judge 1 --steps 0", script.as_str())?;
-    assert_eq!(rt;
-        shown.as_str(),
-        "= trace fast-first building scan IA list IA 31 final-list done pages 0 leaves 2 fetches 31\n"
-    );
     Ok(())
 }
 
 #[test]
 fn a_full_buffer_stops_the_foreground(rt: HostRuntime) -> Result<(), Fail> {
     let alloc = rt.alloc();
-    let script = script_of(alloc, 1100, "", ALL)?;
-    let shown = paged_traces(alloc, "--judge 1 --steps 0", script.as_str())?;
+    let script = script_of(alloc, 1100, "-- 1\n", ALL)?;
+    let told = shown(alloc, script.as_str())?;
     assert_eq!(rt;
-        shown.as_str(),
-        "= trace fast-first building scan IA full background list IA 1100 final-list done pages 0 leaves 68 fetches 1100\n"
-    );
-    let shown = plain_traces(alloc, "--judge 1 --steps 0", script.as_str())?;
-    assert_eq!(rt;
-        shown.as_str(),
+        told.as_str(),
         "= trace fast-first building scan IA full background list IA 1100 final-list done pages 0 leaves 35 fetches 1100\n"
-    );
-    Ok(())
-}
-
-/// Contrary is asked once in a reading of the half. Its second verdict, which lets the scan go on, comes when it is
-/// back, and its third one drops the scan.
-#[test]
-fn a_judge_that_comes_back_goes_on_from_its_state(rt: HostRuntime) -> Result<(), Fail> {
-    let alloc = rt.alloc();
-    let mut script = loaded(alloc, 40)?;
-    for mark in ["-- 2\n", "-- 0\n", "-- 2\n", "--\n"] {
-        script.push_str(mark)?;
-        read(alloc, &mut script, HALF)?;
-    }
-    let shown = paged_traces(alloc, "--judge 1 --steps 0", script.as_str())?;
-    assert_eq!(rt;
-        shown.as_str(),
-        "= trace fast-first building scan IA stop background list IA 20 final-list done pages 0 leaves 2 fetches 20\n= trace fast-first building scan IA drop IA final-table done pages 2 leaves 1 fetches 0\n= trace fast-first building scan IA list IA 20 final-list done pages 0 leaves 2 fetches 20\n= trace fast-first building scan IA drop IA final-table done pages 2 leaves 1 fetches 0\n"
     );
     Ok(())
 }
