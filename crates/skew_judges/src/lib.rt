@@ -5,6 +5,3 @@ pub mod judges;
 pub mod rules;
 
 pub use judges::{AllRows, FirstRows};
-
-#[cfg(test)]
-mod tests;

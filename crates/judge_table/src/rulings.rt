@@ -1,0 +1,105 @@
+//! Projections, and judges that are asked one question after another.
+use rv_judge::{Contrary, Control, Facts, Judge, Patient, Threshold, project};
+use skew_judges::{AllRows, FirstRows};
+use std::io;
+
+/// Of a scan the greatest number of entries, the entries scanned and the keys kept.
+const SCANS: [[u64; 3]; 7] = [
+    [16, 6, 6],
+    [16, 0, 0],
+    [17, 0, 0],
+    [20, 20, 3],
+    [10, 3, 1],
+    [u64::MAX, 1, 1],
+    [u64::MAX, 1, u64::MAX],
+];
+
+pub fn write_projections(rt: &HostRuntime) -> io::Result<()> {
+    'scans: for [total, scanned, kept] in SCANS {
+        if scanned <= total {
+            let cost = project(total, scanned, kept);
+            println!(rt; "project {total} {scanned} {kept}: {cost}")?;
+        }
+    }
+    Ok(())
+}
+
+/// A question: the control, the scan's position, its entries scanned, its keys kept, its estimate, its leaves read, its
+/// projection, the guarantee, and the rows delivered.
+type Question = (Control, u32, [u64; 7]);
+
+const ALONE: Control = Control::BackgroundAlone;
+
+const BUILDING: Control = Control::Building;
+
+/// Of a scan that may be dear: 4 * (6 + 100) is below 7 * 61, and not below 7 * 60; a 256 is taken for 384, and 24 leaves.
+const QUESTIONS: [Question; 19] = [
+    (BUILDING, 0, [6, 6, 16, 1, 17, 2, 0]),
+    (BUILDING, 0, [6, 6, 16, 1, 19, 20, 0]),
+    (BUILDING, 0, [6, 6, 16, 1, 18, 20, 0]),
+    (BUILDING, 0, [6, 6, 16, 1, u64::MAX, u64::MAX, 0]),
+    (BUILDING, 0, [6, 6, 16, 1, u64::MAX / 2, u64::MAX, 0]),
+    (ALONE, 0, [20, 20, 80, 2, 0, 61, 0]),
+    (ALONE, 0, [20, 20, 80, 2, 0, 60, 0]),
+    (ALONE, 0, [20, 20, 80, 1, 0, 60, 0]),
+    (ALONE, 1, [20, 2, 80, 2, 0, 16, 0]),
+    (ALONE, 1, [20, 2, 80, 2, 0, 15, 0]),
+    (ALONE, 0, [20, 20, 256, 2, 0, 125, 0]),
+    (ALONE, 0, [20, 20, 256, 3, 0, 125, 0]),
+    (BUILDING, 0, [20, 20, 80, 1, 0, 61, 0]),
+    (BUILDING, 0, [20, 20, 80, 1, 0, 60, 0]),
+    (BUILDING, 0, [60, 49, 80, 3, 0, 61, 0]),
+    (BUILDING, 0, [20, 20, 80, 1, 0, 61, 1]),
+    (BUILDING, 1, [20, 2, 80, 1, 0, 61, 0]),
+    (BUILDING, 0, [20, 20, 256, 1, 0, 125, 0]),
+    (
+        ALONE,
+        0,
+        [u64::MAX, u64::MAX, u64::MAX, u64::MAX, 0, u64::MAX, 0],
+    ),
+];
+
+fn facts_of(question: Question) -> Facts {
+    let (
+        control,
+        scan,
+        [
+            scanned,
+            kept,
+            estimate,
+            spent,
+            projected,
+            guaranteed,
+            delivered,
+        ],
+    ) = question;
+    Facts {
+        control,
+        scan,
+        scanned,
+        kept,
+        estimate,
+        spent,
+        projected,
+        guaranteed,
+        delivered,
+    }
+}
+
+/// Asks a judge the questions, one after another.
+fn write_judge<J: Judge>(rt: &HostRuntime, name: &str, judge: &mut J) -> io::Result<()> {
+    'questions: for question in QUESTIONS {
+        let facts = facts_of(question);
+        let verdict = judge.rule(&facts);
+        println!(rt; "{name}, {facts:?}: {verdict:?}")?;
+    }
+    Ok(())
+}
+
+pub fn write_all(rt: &HostRuntime) -> io::Result<()> {
+    write_judge(rt, "threshold", &mut Threshold::new())?;
+    write_judge(rt, "patient", &mut Patient::new())?;
+    write_judge(rt, "contrary", &mut Contrary::new())?;
+    write_judge(rt, "all rows", &mut AllRows::new())?;
+    write_judge(rt, "first rows", &mut FirstRows::new())
+}
