@@ -78,7 +78,8 @@ kept_change shown indexes c f written next base old new told_rows told_pages cha
     let changes_too : changes ≡ with_change c f.changes = changes_is ∙ ap (λ p. put_in p c f.changes) change_first in
     let parts_too : parts ≡ parts_after indexes c.table (row_at rows c.row.0) (changed_row (change_of c.table c.row.0 f.changes) (row_at rows c.row.0)) (changed_row (Some c) None) f.parts =
     parts_is ∙ (λ i. parts_after indexes c.table (base_is i) (old_too i) (new_is i) f.parts) in
-    let sizes_too = sizes_is ∙ (λ i. put_in by_table (size_after c.table (rows_is i) (pages_is i) (old_too i) (new_is i) (next_is i) f.sizes) f.sizes) in
+    let sizes_too : sizes ≡ put_in by_table (size_after c.table (length rows) pages (changed_row (change_of c.table c.row.0 f.changes) (row_at rows c.row.0)) (changed_row (Some c) None) (written_after c written) f.sizes) f.sizes =
+    sizes_is ∙ (λ i. put_in by_table (size_after c.table (rows_is i) (pages_is i) (old_too i) (new_is i) (next_is i) f.sizes) f.sizes) in
     let fit : pages < 4294967296 = omega (arith, small, pages_is) in
     let on = stays_kept shown indexes c f written are can stands fit low keeps in
     subst (λ w. Keeps shown (record { base = f.base; changes = changes; sizes = sizes; parts = parts }) w) (sym next_is)

@@ -156,7 +156,7 @@ size_own rows pages c changes written sizes stands small rise low told keeps oth
       stands = stands;
       rows_told = sum;
       pages_told = told_pages;
-      few = rw told_pages (pages_fit c.table (with_change c changes) pages small low);
+      few = subst (λ n. n < 4294967296) (sym told_pages) (pages_fit c.table (with_change c changes) pages small low);
     }
 
 size_other : (rows : List Record) (pages table : ℕ) (c : Change) (changes : List Change) (size : Option TableSize) → c.table == table ≡ false → Rise changes

@@ -104,7 +104,9 @@ applied_other table c cs rows f ascend rise =
 -- Their pages, and whether they are changed.
 
 behind_same : (x c : Change) (xs : List Change) → x.table ≡ c.table → x.row.0 ≡ c.row.0 → list_all (is_before x) xs ≡ true → list_all (is_before c) xs ≡ true
-behind_same x c xs t r all = sym (ap (λ (p : Change → Bool). list_all p xs) (λ i y. nat_lt (t i) y.table || ((t i == y.table) && nat_lt (r i) y.row.0))) ∙ all
+behind_same x c xs t r all =
+    let same : is_before x ≡ is_before c = λ i y. nat_lt (t i) y.table || ((t i == y.table) && nat_lt (r i) y.row.0) in
+    sym (ap (λ (p : Change → Bool). list_all p xs) same) ∙ all
 
 pages_step : (table : ℕ) (c : Change) (cs : List Change) (pages : ℕ) → c.table == table ≡ false → pages_after table (c ∷ cs) pages ≡ pages_after table cs pages
 pages_step table c cs pages f = ap (λ b. pages_after table cs (cond (b && is_some c.values) (max pages (c.row.0 / 32 + 1)) pages)) f
