@@ -80,7 +80,10 @@ kept_change shown indexes c f written next base old new told_rows told_pages cha
     parts_is ∙ (λ i. parts_after indexes c.table (base_is i) (old_too i) (new_is i) f.parts) in
     let sizes_too : sizes ≡ put_in by_table (size_after c.table (length rows) pages (changed_row (change_of c.table c.row.0 f.changes) (row_at rows c.row.0)) (changed_row (Some c) None) (written_after c written) f.sizes) f.sizes =
     sizes_is ∙ (λ i. put_in by_table (size_after c.table (rows_is i) (pages_is i) (old_too i) (new_is i) (next_is i) f.sizes) f.sizes) in
+    let back_changes = sym changes_too in
+    let back_sizes = sym sizes_too in
+    let back_parts = sym parts_too in
     let fit : pages < 4294967296 = omega (arith, small, pages_is) in
     let on = stays_kept shown indexes c f written are can stands fit low keeps in
     subst (λ w. Keeps shown (record { base = f.base; changes = changes; sizes = sizes; parts = parts }) w) (sym next_is)
-    (subst (λ (g : Frozen). Keeps shown g (written_after c written)) (λ i. record { base = f.base; changes = changes_too (~ i); sizes = sizes_too (~ i); parts = parts_too (~ i) }) on)
+    (subst (λ (g : Frozen). Keeps shown g (written_after c written)) (λ i. record { base = f.base; changes = back_changes i; sizes = back_sizes i; parts = back_parts i }) on)

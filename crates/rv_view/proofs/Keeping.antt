@@ -29,7 +29,7 @@ use Rattle.rv_overlay.specs.Overlaid.{part_at, size_of}
 use Rattle.rv_overlay.specs.Rows.{change_of, changed_row}
 use Rattle.rv_overlay.proofs.Moving.{find_back, find_front, find_kept, find_left, keeps_up, nothing_kept, others_keep_up}
 use Rattle.rv_overlay.proofs.Tabling.{applied_ascends, row_applied, rows_untouched}
-use Rattle.rv_view.specs.Making.{AreIndexes, Keeps, KeepsPart, by_table, empty_parts, last_of, one_if, pages_up, part_after, parts_after, rows_or, size_after, unchanged, written_after, written_of}
+use Rattle.rv_view.specs.Making.{AreIndexes, Keeps, KeepsPart, by_table, empty_part, empty_parts, last_of, one_if, pages_up, part_after, parts_after, rows_or, size_after, unchanged, written_after, written_of}
 use Rattle.rv_view.proofs.Rows.{applied_other, applied_own, length_with, pages_fit, pages_other, some_is, touches_other}
 use Rattle.rv_view.proofs.Written.{pages_written, written_with}
 
@@ -170,7 +170,7 @@ size_other rows pages table c changes (Some s) f rise keeps = record {
 }
 
 pub all_put : (P : Change → Type 0) (c : Change) (cs : List Change) → P c → AllByRecursion P cs → AllByRecursion P (with_change c cs)
-all_put P c cs own all = joined (filter (λ d. is_before d c) cs) (kept (λ d. is_before d c) cs all) (own, kept (λ d. is_before c d) cs all)
+all_put P c cs own all = joined (filter (λ d. is_before d c) cs) (c ∷ filter (λ d. is_before c d) cs) (kept (λ d. is_before d c) cs all) (own, kept (λ d. is_before c d) cs all)
   where
     kept : (t : Change → Bool) (ds : List Change) → AllByRecursion P ds → AllByRecursion P (filter t ds)
     kept t [] all = tt
@@ -178,9 +178,9 @@ all_put P c cs own all = joined (filter (λ d. is_before d c) cs) (kept (λ d. i
         let rest = kept t ds all.1 in
         elim (t d) as (λ b. AllByRecursion P (cond b (d ∷ filter t ds) (filter t ds))) [ true ↦ (all.0, rest) | false ↦ rest ]
 
-    joined : (xs : List Change) {ys : List Change} → AllByRecursion P xs → AllByRecursion P ys → AllByRecursion P (xs ++ ys)
-    joined [] h k = k
-    joined (x ∷ xs) h k = (h.0, joined xs h.1 k)
+    joined : (xs ys : List Change) → AllByRecursion P xs → AllByRecursion P ys → AllByRecursion P (xs ++ ys)
+    joined [] ys h k = k
+    joined (x ∷ xs) ys h k = (h.0, joined xs ys h.1 k)
 
 -- What follows of one change, computed: the indexes, the change, the rows and pages of its table at the base.
 
@@ -266,9 +266,9 @@ empty_length : (ds : List IndexDef) → length (empty_parts ds) ≡ length ds
 empty_length [] = refl
 empty_length (d ∷ ds) = ap (λ n. suc n) (empty_length ds)
 
-empty_at : (ds : List IndexDef) (i : ℕ) (d : IndexDef) → slice_get ds i ≡ Some d → part_at (empty_parts ds) i ≡ record { width = length d.columns; taken = []; added = [] }
+empty_at : (ds : List IndexDef) (i : ℕ) (d : IndexDef) → slice_get ds i ≡ Some d → part_at (empty_parts ds) i ≡ empty_part d
 empty_at [] i d is = cc
-empty_at (e ∷ ds) zero d is = ap (λ (x : IndexDef). record { width = length x.columns; taken = []; added = [] }) (some_is e d is)
+empty_at (e ∷ ds) zero d is = ap empty_part (some_is e d is)
 empty_at (e ∷ ds) (suc i) d is = empty_at ds i d is
 
 pub starts_kept : (shown : Shown) (indexes : List IndexDef) (base : ℕ) → AreIndexes shown indexes → Keeps shown (unchanged base indexes) []
@@ -280,7 +280,7 @@ starts_kept shown indexes base are = record {
   each = λ index there. get_of indexes index (let below = there.there in let count = are.count in omega (arith, below, count))
       (λ d is.
       let keys = are.keys index d is in
-      let part : Part = record { width = length d.columns; taken = []; added = [] } in
+      let part = empty_part d in
       let rows = shown.rows (shown.over index) base in
       let empty : KeepsPart d.columns (shown.over index) [] rows part = record { width = refl; taken = tt; added = tt; freezes = nothing_kept d.columns (shown.over index) rows } in
       subst (λ k. KeepsPart k (shown.over index) [] rows (part_at (empty_parts indexes) index)) (sym keys)

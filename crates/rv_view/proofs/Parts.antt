@@ -11,7 +11,7 @@ use Rattle.rv_rows.proofs.Filters.{both, filter_none}
 use Rattle.rv_rows.proofs.Puts.{filter_all}
 use Rattle.rv_catalog.specs.declared.def.IndexDef.{IndexDef}
 use Rattle.rv_overlay.specs.declared.frozen.Part.{Part}
-use Rattle.rv_view.specs.Making.{empty_parts, part_after, parts_after}
+use Rattle.rv_view.specs.Making.{empty_part, empty_parts, part_after, parts_after}
 use Rattle.rv_view.proofs.Rows.{some_is}
 
 -- The item of a place has what all have.
@@ -28,7 +28,10 @@ pub parts_step : (ds : List IndexDef) (k : ℕ) (d : IndexDef) (table : ℕ) (ba
     → slice_set (parts_after (take k ds) table base old new ps) k (part_after d table base old new p) ≡ parts_after (take (suc k) ds) table base old new ps
 parts_step [] k d table base old new ps p is got = cc
 parts_step (e ∷ ds) zero d table base old new [] p is got = cc
-parts_step (e ∷ ds) zero d table base old new (q ∷ ps) p is got = λ i. part_after (some_is e d is (~ i)) table base old new (some_is q p got (~ i)) ∷ ps
+parts_step (e ∷ ds) zero d table base old new (q ∷ ps) p is got =
+    let def : d ≡ e = sym (some_is e d is) in
+    let part : p ≡ q = sym (some_is q p got) in
+    λ i. part_after (def i) table base old new (part i) ∷ ps
 parts_step (e ∷ ds) (suc k) d table base old new [] p is got = cc
 parts_step (e ∷ ds) (suc k) d table base old new (q ∷ ps) p is got = ap (λ xs. part_after e table base old new q ∷ xs) (parts_step ds k d table base old new ps p is got)
 
@@ -62,7 +65,7 @@ taken_next xs k c is rise = change_next (take k xs) c (drop (suc k) xs) (subst R
 
 -- The empty parts, one more at a time.
 
-pub empty_more : (ds : List IndexDef) (k : ℕ) (d : IndexDef) → slice_get ds k ≡ Some d → empty_parts (take k ds) ++ record { width = length d.columns; taken = []; added = [] } ∷ [] ≡ empty_parts (take (suc k) ds)
+pub empty_more : (ds : List IndexDef) (k : ℕ) (d : IndexDef) → slice_get ds k ≡ Some d → empty_parts (take k ds) ++ empty_part d ∷ [] ≡ empty_parts (take (suc k) ds)
 empty_more [] k d is = cc
-empty_more (e ∷ ds) zero d is = ap (λ (x : IndexDef). record { width = length x.columns; taken = []; added = [] } ∷ []) (sym (some_is e d is))
-empty_more (e ∷ ds) (suc k) d is = ap (λ ps. record { width = length e.columns; taken = []; added = [] } ∷ ps) (empty_more ds k d is)
+empty_more (e ∷ ds) zero d is = ap (λ (x : IndexDef). empty_part x ∷ []) (sym (some_is e d is))
+empty_more (e ∷ ds) (suc k) d is = ap (λ ps. empty_part e ∷ ps) (empty_more ds k d is)

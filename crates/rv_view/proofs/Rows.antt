@@ -200,7 +200,7 @@ above_low r (s ∷ rows) all =
     rw here (above_low r rows parts.1)
 
 count_from : (low n : ℕ) (rows : List Record) → low ≤ n → Ascend rows → list_all (λ (s : Record). nat_le low s.row.0) rows ≡ true → AllByRecursion (λ (r : Record). r.row.0 < n) rows → length rows + low ≤ n
-count_from low n [] le ascend above all = le
+count_from low n [] le ascend above all = omega (arith, le)
 count_from low n (r ∷ rows) le ascend above all =
     let parts = both (nat_le low r.row.0) (list_all (λ (s : Record). nat_le low s.row.0) rows) above in
     let first : low ≤ r.row.0 = (let here = parts.0 in grind (arith, nat_tests)) in

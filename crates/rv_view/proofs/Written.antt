@@ -104,7 +104,7 @@ last_low n table cs all =
 
 -- How far the pages reach.
 
-pages_over : List Change → ℕ → ℕ
+abbrev pages_over : List Change → ℕ → ℕ
 pages_over [] pages = pages
 pages_over (c ∷ cs) pages = pages_over cs (max pages (c.row.0 / 32 + 1))
 
@@ -125,7 +125,7 @@ pub all_own : (p : Change → Bool) (cs : List Change) → list_all p (filter p 
 all_own p [] = refl
 all_own p (c ∷ cs) = elim (cases_Bool (p c)) [ inl t ↦ rw t (rw t (all_own p cs)) | inr f ↦ rw f (all_own p cs) ]
 
-pub last_or : Change → List Change → Change
+abbrev pub last_or : Change → List Change → Change
 last_or c [] = c
 last_or c (d ∷ ds) = last_or d ds
 

@@ -73,8 +73,11 @@ pub record Keeps (shown : Shown) (f : Frozen) (written : List Change) : Type 0 w
   pub others : (table : ℕ) → size_of table f.sizes ≡ None → touches table f.changes ≡ false
 
 -- nothing changed over a commit: of each index nothing is taken and nothing added
+abbrev pub empty_part : IndexDef → Part
+empty_part d = record { width = length d.columns; taken = []; added = [] }
+
 abbrev pub empty_parts : List IndexDef → List Part
-empty_parts indexes = map (λ (d : IndexDef). record { width = length d.columns; taken = []; added = [] }) indexes
+empty_parts indexes = map empty_part indexes
 
 abbrev pub unchanged : ℕ → List IndexDef → Frozen
 unchanged base indexes = record { base = base; changes = []; sizes = []; parts = empty_parts indexes }

@@ -1,12 +1,12 @@
 //! How what is frozen is made of a transaction's changes, and brought up to date with each further one.
-ghost use Rattle.std.specs.Prelude.{◌≡◌, ◌≤◌, ◌<◌, [], length, IfOk, OnOk};
+ghost use Rattle.std.specs.Prelude.{◌≡◌, ◌≤◌, ◌<◌, length, IfOk, OnOk};
 ghost use Rattle.std.specs.List.{AllByRecursion};
 ghost use Rattle.std.specs.Option.{option_copied};
 ghost use Rattle.rv_catalog.specs.declared.def.IndexDef.{IndexDef as OneIndex};
 ghost use Rattle.rv_rows.specs.Changes.{Rise, with_change};
 ghost use Rattle.rv_rows.specs.declared.changes.Change.{Change as OneChange};
 ghost use Rattle.rv_reader.specs.Shown.{CanRead};
-ghost use Rattle.rv_view.specs.Making.{AreIndexes, Keeps, part_after, parts_after, unchanged};
+ghost use Rattle.rv_view.specs.Making.{AreIndexes, Keeps, empty_part, part_after, parts_after, unchanged};
 
 use crate::entries::{entry_at, row_before, row_of};
 use crate::sizing::{keep_size, keep_written};
@@ -68,7 +68,7 @@ fn keep_parts(
 /// Nothing taken and nothing added of an index. It takes no memory.
 fn empty_part(alloc: Global, index: &IndexDef) -> Part
     requires { length index.now.columns ≤ 4 }
-    ensures { result ≡ record { width = length index.now.columns; taken = []; added = [] } }
+    ensures { result ≡ empty_part index.now }
 {
     Part::new(alloc, index.columns.len() as u32)
 }
