@@ -1,5 +1,6 @@
 -- A store of one table with one index over its first column, which a transaction reads at commit 1.
-use Rattle.std.specs.Prelude.{◌≡◌, ℕ, List, [], ◌∷◌, IfSome, length}
+use Rattle.std.specs.Prelude.{◌≡◌, ℕ, List, [], ◌∷◌, None, IfSome, false, length}
+use Rattle.rv_value.specs.declared.range.Range.{Range}
 use Rattle.rv_rows.specs.declared.changes.Change.{Change}
 use Rattle.rv_catalog.specs.declared.def.IndexDef.{IndexDef}
 use Rattle.rv_reader.specs.Shown.{Shown, IsSnapshot}
@@ -35,3 +36,7 @@ pub record IsEmpty (shown : Shown) : Type 0 where
   pub indexes : shown.indexes ≡ 0
   pub horizon : shown.horizon ≡ 0
   pub newest : shown.newest ≡ 0
+
+-- the range of all entries
+abbrev pub all_entries : Range
+all_entries = record { low = None; high = None; starts = false }

@@ -1,7 +1,7 @@
-ghost use Rattle.std.specs.Prelude.{◌≤◌, ◌<◌, IfOk, OnOk};
+ghost use Rattle.std.specs.Prelude.{◌≡◌, ◌≤◌, ◌<◌, IfOk, OnOk};
 ghost use Rattle.rv_reader.specs.Shown.{CanRead, CanScan};
 ghost use Rattle.rv_view.specs.Sights.{LaysSome};
-ghost use Rattle.view_tests.specs.Standing.{IsEmpty, IsFirst, IsKept, IsOf, Stands};
+ghost use Rattle.view_tests.specs.Standing.{IsEmpty, IsFirst, IsKept, IsOf, Stands, all_entries};
 
 use rv_blocks::Blocks;
 use rv_catalog::IndexDef;
@@ -70,22 +70,23 @@ fn begin<S: Store + Reader<Ledger = Uncounted>>(
     Ok((View::new(alloc, frozen)?, written))
 }
 
-/// Rows get a value, or are deleted, one after another.
+/// The rows from one on and before another one get a value, or are deleted, one after another.
 fn write<S: Store + Reader<Ledger = Uncounted>>(
     alloc: Global,
     store: &S,
     indexes: &[IndexDef],
     view: &mut View,
     written: &mut Blocks<Change>,
-    rows: std::ops::Range<u64>,
+    from: u64,
+    to: u64,
     value: Option<i64>,
 ) -> Result<(), NoMemory>
     requires stands { Stands (S.shown store.now) indexes.now }
-    requires low { rows.end ≤ 1000 }
+    requires low { to ≤ 1000 }
     requires kept { IsKept (S.shown store.now) view.old written.old }
     ensures { OnOk result (IsKept (S.shown store.now) view.new written.new) }
 {
-    'rows: for row in rows {
+    'rows: for row in from..to {
         view.keep(alloc, written, store, indexes, &change(alloc, row, value)?)?;
     }
     Ok(())
@@ -104,7 +105,9 @@ struct Told {
     is_row_one_there: bool,
 }
 
-fn all() -> Range {
+fn all() -> Range
+    ensures { result ≡ all_entries }
+{
     Range {
         low: None,
         high: None,
@@ -177,12 +180,12 @@ fn course<S: Store + Reader<Ledger = Uncounted>>(
 {
     lays_kept();
     let (mut view, mut written) = begin(alloc, store, indexes)?;
-    write(alloc, store, indexes, &mut view, &mut written, 0..1, Some(7))?;
-    write(alloc, store, indexes, &mut view, &mut written, 0..1, Some(5))?;
-    write(alloc, store, indexes, &mut view, &mut written, 2..33, Some(2))?;
+    write(alloc, store, indexes, &mut view, &mut written, 0, 1, Some(7))?;
+    write(alloc, store, indexes, &mut view, &mut written, 0, 1, Some(5))?;
+    write(alloc, store, indexes, &mut view, &mut written, 2, 33, Some(2))?;
     let earlier = Some(view.share()?);
-    write(alloc, store, indexes, &mut view, &mut written, 1..2, None)?;
-    write(alloc, store, indexes, &mut view, &mut written, 32..33, None)?;
+    write(alloc, store, indexes, &mut view, &mut written, 1, 2, None)?;
+    write(alloc, store, indexes, &mut view, &mut written, 32, 33, None)?;
     let later = Some(view);
     Ok((
         seen(alloc, store, &None, indexes)?,
