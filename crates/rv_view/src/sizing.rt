@@ -60,7 +60,7 @@ fn last_of(written: &Blocks<Change>, table: u32) -> Option<&Change>
 }
 
 fn pages_up(last: Option<&Change>, pages: u32) -> u32
-    requires { IfSome (option_copied last.entry) (λ c. c.row.0 < 4294967296) }
+    requires { IfSome (option_copied last) (λ c. c.row.0 < 4294967296) }
     ensures { result ≡ pages_up (option_copied last.entry) pages }
 {
     match last {
@@ -90,7 +90,7 @@ pub fn keep_size(
 ) -> Result<(), NoMemory>
     requires rise { Rise written.now }
     requires low { IfSome (last_of table written.now) (λ c. c.row.0 < 4294967296) }
-    requires rows { one_if (option_copied old.entry) ≤ rows_or base.rows (size_of table sizes.old) }
+    requires rows { one_if (option_copied old) ≤ rows_or base.rows (size_of table sizes.old) }
     requires few { rows_or base.rows (size_of table sizes.old) < 2 ^ 64 - 1 }
     ensures { OnOk result (sizes.new ≡ put_in by_table (size_after table base.rows base.pages (option_copied old.entry) (option_copied new.entry) written.now sizes.old) sizes.old) }
 {
