@@ -94,7 +94,10 @@ fn each_call_once(rt: HostRuntime) -> Result<(), NoMemory> {
         Some(Ten { ten: 33, one: 0 })
     );
     assert_eq!(rt; list.take_out(&Ten { ten: 34, one: 0 })?, None);
-    assert_eq!(rt; list.find(&Ten { ten: 30, one: 9 }).map(|item| item.one), Some(1));
+    assert_eq!(rt;
+        list.find(&Ten { ten: 30, one: 9 }).map(|item| item.one),
+        Some(1)
+    );
     assert!(rt; list.find(&Ten { ten: 33, one: 0 }).is_none());
     assert_eq!(rt; (list.len(), before.len()), (999, 1000));
     assert_eq!(rt; (up_to(&list, 33), up_to(&before, 33)), (11, 12));

@@ -180,9 +180,36 @@ fn course<S: Store + Reader<Ledger = Uncounted>>(
 {
     lays_kept();
     let (mut view, mut written) = begin(alloc, store, indexes)?;
-    write(alloc, store, indexes, &mut view, &mut written, 0, 1, Some(7))?;
-    write(alloc, store, indexes, &mut view, &mut written, 0, 1, Some(5))?;
-    write(alloc, store, indexes, &mut view, &mut written, 2, 33, Some(2))?;
+    write(
+        alloc,
+        store,
+        indexes,
+        &mut view,
+        &mut written,
+        0,
+        1,
+        Some(7),
+    )?;
+    write(
+        alloc,
+        store,
+        indexes,
+        &mut view,
+        &mut written,
+        0,
+        1,
+        Some(5),
+    )?;
+    write(
+        alloc,
+        store,
+        indexes,
+        &mut view,
+        &mut written,
+        2,
+        33,
+        Some(2),
+    )?;
     let earlier = Some(view.share()?);
     write(alloc, store, indexes, &mut view, &mut written, 1, 2, None)?;
     write(alloc, store, indexes, &mut view, &mut written, 32, 33, None)?;
