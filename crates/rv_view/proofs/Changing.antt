@@ -3,7 +3,7 @@ use Rattle.std.proofs.Common.{◌≡◌, ℕ, ◌-◌, ◌<◌, ◌≤◌, ◌^�
 use Rattle.std.specs.List.{AllByRecursion}
 use Rattle.rv_value.specs.declared.record.Record.{Record}
 use Rattle.rv_rows.specs.declared.changes.Change.{Change}
-use Rattle.rv_rows.specs.Changes.{Rise, applied, touches, with_change}
+use Rattle.rv_rows.specs.Changes.{Rise, rows_with_changes, touches, with_change}
 use Rattle.rv_rows.specs.Rising.{put_in}
 use Rattle.rv_rows.proofs.Chains.{change_rises}
 use Rattle.rv_catalog.specs.declared.def.IndexDef.{IndexDef}
@@ -39,7 +39,7 @@ pub rows_ready : (rows : List Record) (pages told : ℕ) (c : Change) (changes :
     → AllByRecursion (λ (d : Change). d.row.0 < 4294967296) changes → IfSome size (KeepsSize rows pages c.table changes) → (size ≡ None → touches c.table changes ≡ false)
     → told ≡ length rows → base ≡ row_at rows c.row.0 → old ≡ changed_row (change_of c.table c.row.0 changes) base → Ready old (rows_or told size)
 rows_ready rows pages told c changes base old size stands small rise lows keeps other count base_is old_is =
-    let view = applied c.table changes rows in
+    let view = rows_with_changes c.table changes rows in
     let same : rows_or told size ≡ length view = ap (λ n. rows_or n size) count ∙ rows_are rows pages c.table changes size keeps other in
     let its : old ≡ row_at view c.row.0 = old_is ∙ ap (changed_row (change_of c.table c.row.0 changes)) base_is ∙ sym (row_applied c.table c.row.0 changes rows rise) in
     let one = one_at view c.row.0 in

@@ -8,7 +8,7 @@ use Rattle.std.specs.List.{AllByRecursion, list_all}
 use Rattle.rv_value.specs.declared.record.Record.{Record}
 use Rattle.rv_value.specs.declared.record.IndexEntry.{IndexEntry}
 use Rattle.rv_rows.specs.declared.changes.Change.{Change}
-use Rattle.rv_rows.specs.Changes.{Rise, applied, is_before, touches, with_change}
+use Rattle.rv_rows.specs.Changes.{Rise, is_before, rows_with_changes, touches, with_change}
 use Rattle.rv_rows.specs.Rising.{put_in}
 use Rattle.rv_rows.specs.Rows as rows_by_number
 use Rattle.rv_rows.proofs.Chains.{change_rises}
@@ -132,7 +132,7 @@ size_put table s sizes =
 
 -- the rows told of a table are those of the view
 pub rows_are : (rows : List Record) (pages table : ℕ) (changes : List Change) (size : Option TableSize) → IfSome size (KeepsSize rows pages table changes) → (size ≡ None → touches table changes ≡ false)
-    → rows_or (length rows) size ≡ length (applied table changes rows)
+    → rows_or (length rows) size ≡ length (rows_with_changes table changes rows)
 rows_are rows pages table changes None keeps other = ap length (sym (rows_untouched table changes rows (other refl)))
 rows_are rows pages table changes (Some s) keeps other = keeps.rows_told
 
@@ -142,14 +142,14 @@ size_own : (rows : List Record) (pages : ℕ) (c : Change) (changes written : Li
     KeepsSize rows pages c.table (with_change c changes)
     (size_after c.table (length rows) pages (changed_row (change_of c.table c.row.0 changes) base) (changed_row (Some c) None) (written_after c written) sizes)
 size_own rows pages c changes written sizes stands small rise low told keeps other =
-    let view = applied c.table changes rows in
+    let view = rows_with_changes c.table changes rows in
     let before = row_applied c.table c.row.0 changes rows rise in
     let size = rows_are rows pages c.table changes (size_of c.table sizes) keeps other in
     let more = length_with c view (applied_ascends c.table changes rows stands.ascend) in
     let old = ap one_if before in
     let after = ap length (applied_own c changes rows stands.ascend rise) in
     let its : Option Record = changed_row (change_of c.table c.row.0 changes) (row_at rows c.row.0) in
-    let sum : rows_or (length rows) (size_of c.table sizes) + one_if (changed_row (Some c) None) - one_if its ≡ length (applied c.table (with_change c changes) rows) = omega (arith, size, more, old, after) in
+    let sum : rows_or (length rows) (size_of c.table sizes) + one_if (changed_row (Some c) None) - one_if its ≡ length (rows_with_changes c.table (with_change c changes) rows) = omega (arith, size, more, old, after) in
     let told_pages : pages_up (last_of c.table (written_after c written)) pages ≡ pages_after c.table (with_change c changes) pages =
     ap (λ w. pages_up (last_of c.table w) pages) (ap (written_after c) told ∙ sym (written_with c changes)) ∙ sym (pages_written c.table (with_change c changes) pages (change_rises c changes rise)) in
     record {

@@ -5,7 +5,7 @@ use Rattle.std.proofs.lemmas.Bool.Decides.{nat_tests}
 use Rattle.rv_value.specs.declared.record.Record.{Record}
 use Rattle.rv_value.specs.declared.record.IndexEntry.{IndexEntry}
 use Rattle.rv_rows.specs.declared.changes.Change.{Change}
-use Rattle.rv_rows.specs.Changes.{Rise, applied, is_of, touches}
+use Rattle.rv_rows.specs.Changes.{Rise, is_of, rows_with_changes, touches}
 use Rattle.rv_rows.specs.Rows as rows_by_number
 use Rattle.rv_rows.proofs.Puts.{rising_filter}
 use Rattle.rv_reader.specs.Entries.{Ascend, comes_before, entries_of}
@@ -41,17 +41,17 @@ first_or true b = refl
 first_or false b = refl
 
 added_few : (columns : List ℕ) (table : ℕ) (changes : List Change) (rows : List Record) (part : Part) → rows_by_number.Ascend rows → Rise changes
-    → KeepsPart columns table changes rows part → length part.added ≤ length (applied table changes rows)
+    → KeepsPart columns table changes rows part → length part.added ≤ length (rows_with_changes table changes rows)
 added_few columns table changes rows part ascend rise keeps =
     let entries = entries_of columns rows in
     let view = laid part.taken part.added entries in
     let is = view_is columns table changes rows part.taken part.added ascend rise keeps.freezes in
-    let ascends : Ascend view = subst Ascend (sym is) (entries_ascend columns (applied table changes rows) (applied_ascends table changes rows ascend)) in
+    let ascends : Ascend view = subst Ascend (sym is) (entries_ascend columns (rows_with_changes table changes rows) (applied_ascends table changes rows ascend)) in
     let own = members_tell part.added (filter (has part.added) view) keeps.added (rising_filter comes_before (has part.added) view ascends)
     (λ e. first_or (has part.added e) (has entries e && not (has part.taken e)) ∙ ap (λ b. has part.added e && b) (sym (laid_has part.taken part.added entries e)) ∙ sym (has_filter (has part.added) view e)) in
     let less = filter_length (has part.added) view in
     let same = ap length own in
-    let count = ap length is ∙ entries_count columns (applied table changes rows) in
+    let count = ap length is ∙ entries_count columns (rows_with_changes table changes rows) in
     omega (arith, less, same, count)
 
 -- Where the table of an index is not changed, nothing is added.
@@ -90,7 +90,7 @@ few_here columns table pages changes rows part None ascend rise part_keeps size_
     record { many = λ some. omega (arith, none, some); few = omega (arith, none) }
 few_here columns table pages changes rows part (Some s) ascend rise part_keeps size_keeps other =
     let added = added_few columns table changes rows part ascend rise part_keeps in
-    let view = rows_few (applied table changes rows) (pages_after table changes pages) (applied_fits table pages changes rows size_keeps.stands) in
+    let view = rows_few (rows_with_changes table changes rows) (pages_after table changes pages) (applied_fits table pages changes rows size_keeps.stands) in
     let base = rows_few rows pages size_keeps.stands in
     let count = entries_count columns rows in
     let told = size_keeps.pages_told in

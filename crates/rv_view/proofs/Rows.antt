@@ -7,7 +7,7 @@ use Rattle.std.specs.List.{AllByRecursion, list_all, list_any}
 use Rattle.rv_value.specs.declared.value.Value.{Value}
 use Rattle.rv_value.specs.declared.record.Record.{Record}
 use Rattle.rv_rows.specs.declared.changes.Change.{Change}
-use Rattle.rv_rows.specs.Changes.{Rise, applied, is_before, is_of, touches, with_change}
+use Rattle.rv_rows.specs.Changes.{Rise, is_before, is_of, rows_with_changes, touches, with_change}
 use Rattle.rv_rows.specs.Rows.{Ascend, comes_below, with_values}
 use Rattle.rv_rows.specs.Merging.{above, below}
 use Rattle.rv_rows.proofs.Chains.{by_row, change_rises}
@@ -77,11 +77,11 @@ rows_tell (x ∷ xs) (y ∷ ys) ax ay h = elim (cases_lt x.row.0 y.row.0) [
 
 -- The rows of the changed table, and those of another one.
 
-pub applied_own : (c : Change) (cs : List Change) (rows : List Record) → Ascend rows → Rise cs → applied c.table (with_change c cs) rows ≡ with_values c.row.0 c.values (applied c.table cs rows)
+pub applied_own : (c : Change) (cs : List Change) (rows : List Record) → Ascend rows → Rise cs → rows_with_changes c.table (with_change c cs) rows ≡ with_values c.row.0 c.values (rows_with_changes c.table cs rows)
 applied_own c cs rows ascend rise =
-    let mid = applied c.table cs rows in
+    let mid = rows_with_changes c.table cs rows in
     let mid_ascends = applied_ascends c.table cs rows ascend in
-    rows_tell (applied c.table (with_change c cs) rows) (with_values c.row.0 c.values mid)
+    rows_tell (rows_with_changes c.table (with_change c cs) rows) (with_values c.row.0 c.values mid)
     (applied_ascends c.table (with_change c cs) rows ascend) (ascend_with c.row.0 c.values mid mid_ascends)
     (λ n. row_applied c.table n (with_change c cs) rows (change_rises c cs rise) ∙ elim (cases_Bool (c.row.0 == n)) [
       | inl t ↦
@@ -93,9 +93,9 @@ applied_own c cs rows ascend rise =
           ap (λ o. changed_row o (row_at rows n)) (put_other c.table n c cs its) ∙ sym (row_applied c.table n cs rows rise) ∙ sym (row_with_other c.row.0 n c.values mid f)
     ])
 
-pub applied_other : (table : ℕ) (c : Change) (cs : List Change) (rows : List Record) → c.table == table ≡ false → Ascend rows → Rise cs → applied table (with_change c cs) rows ≡ applied table cs rows
+pub applied_other : (table : ℕ) (c : Change) (cs : List Change) (rows : List Record) → c.table == table ≡ false → Ascend rows → Rise cs → rows_with_changes table (with_change c cs) rows ≡ rows_with_changes table cs rows
 applied_other table c cs rows f ascend rise =
-    rows_tell (applied table (with_change c cs) rows) (applied table cs rows)
+    rows_tell (rows_with_changes table (with_change c cs) rows) (rows_with_changes table cs rows)
     (applied_ascends table (with_change c cs) rows ascend) (applied_ascends table cs rows ascend)
     (λ n.
     let its : is_of table n c ≡ false = grind (arith, nat_tests) in
