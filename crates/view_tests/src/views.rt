@@ -135,7 +135,7 @@ fn entries<R: Reader<Ledger = Uncounted>>(alloc: Global, reader: &R) -> Result<V
     Ok(rows)
 }
 
-fn told<R: Reader<Ledger = Uncounted>>(alloc: Global, reader: &R) -> Result<Told, NoMemory>
+fn tell<R: Reader<Ledger = Uncounted>>(alloc: Global, reader: &R) -> Result<Told, NoMemory>
     requires read { CanRead (R.shown reader.now) 0 1 }
     requires scan { CanScan (R.shown reader.now) 0 1 }
 {
@@ -166,7 +166,7 @@ fn seen<S: Store + Reader<Ledger = Uncounted>>(
     requires stands { Stands (S.shown store.now) indexes.now }
     requires lays { LaysSome (S.shown store.now) view.now }
 {
-    told(alloc, &Seen::new(store, view))
+    tell(alloc, &Seen::new(store, view))
 }
 
 /// What a cursor reads without a view, with the one that it was given before the last two changes, and with the one
