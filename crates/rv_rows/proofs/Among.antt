@@ -1,5 +1,5 @@
 -- A row put among others.
-use Rattle.std.proofs.Common.{◌≡◌, ℕ, ◌<◌, ◌+◌, List, [], ◌∷◌, ◌++◌, Bool, true, false, not, ◌==◌, zero, suc, refl, ap, sym, ◌∙◌, arith, length, filter, take, drop}
+use Rattle.std.proofs.Common.{◌≡◌, ℕ, ◌<◌, List, [], ◌∷◌, ◌++◌, true, false, not, zero, suc, refl, ap, sym, ◌∙◌, arith, length, filter, take, drop}
 use Rattle.std.specs.List.{insert, slice_set}
 use Rattle.rv_value.specs.declared.record.Record.{Record}
 use Rattle.rv_rows.specs.Rows.{Ascend, with_record}
