@@ -72,6 +72,14 @@ def run(command, script, shaken, seconds, rng):
     return process.returncode, out, words
 
 
+def judged(script, broken, status, out):
+    """Whether a run is right, and what was found: a script that is none is told by its status, and nothing is written of it."""
+    if broken:
+        return (status, out) == (2, b""), f"{len(out)} bytes written of what is no script"
+    code, found = verdict(script + b"====\n" + out)
+    return (status, code) == (0, 0), found
+
+
 def main():
     parser = argparse.ArgumentParser(description=__doc__, formatter_class=argparse.RawDescriptionHelpFormatter)
     parser.add_argument("program", metavar="PROGRAM")
@@ -84,19 +92,17 @@ def main():
     for number in range(asked.count):
         rng = random.Random(asked.seed * 1_000_000 + number)
         script, _calls, broken, words = Maker(rng).script()
-        if broken:
-            continue
-        script = parted(rng, shuffled(rng, script)).encode()
+        script = (script if broken else parted(rng, shuffled(rng, script))).encode()
         workers = rng.randint(0, 8)
         command = [asked.program, "--threads", f"--workers={workers}"]
         command += [word for name, value in words.items() for word in (f"--{name}", str(value))]
         status, out, told = run(command, script, asked.shaken, asked.seconds, rng)
-        judged = verdict(script + b"====\n" + out)
-        if (status, judged[0]) != (0, 0):
+        is_right, found = judged(script, broken, status, out)
+        if not is_right:
             wrong += 1
-            print(f"script {number} of seed {asked.seed}, {command[1:]}: status {status} {told!r}, {judged[1]}", flush=True)
-        else:
-            entries += int(judged[1].split()[1])
+            print(f"script {number} of seed {asked.seed}, {command[1:]}: status {status} {told!r}, {found}", flush=True)
+        elif not broken:
+            entries += int(found.split()[1])
     print(f"{asked.count} scripts, {entries} calls, {wrong} not legal")
     return 1 if wrong else 0
 
