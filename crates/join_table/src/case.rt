@@ -8,7 +8,7 @@ ghost use Rattle.join_table.specs.Asking.{HasIndexes, IsOurs};
 ghost use Rattle.join_table.specs.Laying.{Offers};
 
 use crate::drive::{Driven, drive};
-use crate::load::{Filling, Loaded, filling, load};
+use crate::load::{Filling, Loaded, load, read_filling};
 use crate::read::{Asked, Fault, read_line, small};
 use crate::select::{indexes, select};
 use crate::told::{rows_text, told};
@@ -51,7 +51,7 @@ enum Ruling {
     Patient,
 }
 
-fn ruling(word: &str) -> Result<Ruling, Fault> {
+fn read_ruling(word: &str) -> Result<Ruling, Fault> {
     match word {
         "threshold" => Ok(Ruling::Threshold),
         "contrary" => Ok(Ruling::Contrary),
@@ -93,7 +93,7 @@ fn driven(
     requires loaded { Offers (shown_of loaded.now.store) loaded.now.snap }
     requires select { IsOurs select.now }
 {
-    let ruling = ruling(asked.judge)?;
+    let ruling = read_ruling(asked.judge)?;
     let steps = small(asked.steps)?;
     let indexes = indexes(alloc, loaded.indexes())?;
     let found = run(
@@ -138,7 +138,7 @@ fn told_rows(alloc: Global, driven: &Driven, trace: &Trace) -> Result<String, Fa
 /// What comes of a line.
 pub fn answer(alloc: Global, line: &str) -> Result<String, Fault> {
     let asked = read_line(line)?;
-    let filling: Filling = filling(asked.rows)?;
+    let filling: Filling = read_filling(asked.rows)?;
     match select(alloc, &asked)? {
         Some(select) => answered(alloc, filling, &asked, &select),
         None => Err(Fault::Form),

@@ -38,7 +38,7 @@ pub enum Filling {
 }
 
 /// `three`, or a number of rows.
-pub fn filling(word: &str) -> Result<Filling, Fault> {
+pub fn read_filling(word: &str) -> Result<Filling, Fault> {
     match word {
         "three" => Ok(Filling::Three),
         _ => Ok(Filling::Many(number(word)?)),
