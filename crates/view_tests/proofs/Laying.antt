@@ -1,8 +1,9 @@
 -- The store that the tests read, its index, and changes of its rows.
-use Rattle.std.proofs.Common.{◌≡◌, ℕ, zero, suc, ◌+◌, ◌<◌, ◌≤◌, List, [], ◌∷◌, true, ◌==◌, Some, IfSome, length, refl, ap, sym, subst, ◌∙◌, arith, nat_lt}
+use Rattle.std.proofs.Common.{◌≡◌, ℕ, zero, suc, ◌+◌, ◌<◌, ◌≤◌, List, [], ◌∷◌, true, ◌==◌, Some, IfSome, length, refl, ap, sym, subst, ◌∙◌, arith, nat_eq, nat_lt}
 use Rattle.std.specs.Prelude.{slice_get}
-use Rattle.std.specs.List.{AllByRecursion, list_all}
+use Rattle.std.specs.List.{AllByRecursion, IsDistinct, list_all}
 use Rattle.std.proofs.lemmas.Bool.Decides.{nat_tests}
+use Rattle.std.proofs.lemmas.Map.Keys.{IsDistinct-cons}
 use Rattle.rv_value.specs.declared.record.IndexEntry.{IndexEntry}
 use Rattle.rv_rows.specs.declared.changes.Change.{Change}
 use Rattle.rv_rows.specs.Changes.{Rise, is_before}
@@ -47,13 +48,17 @@ one_index shown d count over keys first =
 
 -- The store, step by step.
 
+none_distinct : IsDistinct nat_eq []
+unfolding IsDistinct
+none_distinct = tt
+
 pub can_index : (old new : Shown) → IsEmpty old → Created old new 1 → AreColumns (new.columns 0) (0 ∷ [])
 can_index old new empty made =
     let wide : new.columns 0 ≡ 1 = subst (λ n. new.columns n ≡ 1) empty.tables made.width in
     record {
       some = omega arith;
       few = omega arith;
-      different = (tt, tt);
+      different = IsDistinct-cons nat_eq 0 [] tt none_distinct;
       there = (omega (arith, wide), tt);
     }
 
@@ -64,9 +69,9 @@ can_commit old mid new c d empty made indexed first second =
     let wide : mid.columns 0 ≡ 1 = subst (λ n. mid.columns n ≡ 1) empty.tables made.width in
     let same : new.columns 0 ≡ 1 = indexed.stays.columns 0 (omega (arith, one)) ∙ wide in
     let c_table = first.table in
-    let c_row = first.row in
+    let c_row = first.number in
     let d_table = second.table in
-    let d_row = second.row in
+    let d_row = second.number in
     let before : is_before c d ≡ true = grind (arith, nat_tests) in
     record {
       rise = (rw before refl, (refl, tt));
@@ -76,7 +81,7 @@ can_commit old mid new c d empty made indexed first second =
     change : (shown : Shown) (x : Change) (row : ℕ) → IsOf row x → shown.tables ≡ 1 → shown.columns 0 ≡ 1 → row < 1000 → IsChange shown x
     change shown x row is tables columns low =
         let table = is.table in
-        let number = is.row in
+        let number = is.number in
         let wide : shown.columns x.table ≡ 1 = ap shown.columns table ∙ columns in
         record {
           there = omega (arith, table, tables);
@@ -110,7 +115,7 @@ laid old mid next new d changes empty made indexed committed stored first =
       stored = stored;
       tables = omega (arith, t0, t1, t2, t3);
       snapshot = record { kept = omega (arith, h0, h1, h2, h3); known = omega (arith, n0, n1, n2, n3) };
-      indexes = one_index new d (committed.indexes ∙ count) (committed.stays.over 0 there ∙ over) (committed.stays.keys 0 there ∙ keys) first;
+      listed = one_index new d (committed.indexes ∙ count) (committed.stays.over 0 there ∙ over) (committed.stays.keys 0 there ∙ keys) first;
     }
 
 -- What may be read.

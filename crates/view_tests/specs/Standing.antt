@@ -12,7 +12,7 @@ pub record Stands (shown : Shown) (indexes : List IndexDef) : Type 0 where
   pub stored : IsStored shown
   pub tables : shown.tables ≡ 1
   pub snapshot : IsSnapshot shown 1
-  pub indexes : AreIndexes shown indexes
+  pub listed : AreIndexes shown indexes
 
 -- the one index
 pub record IsFirst (d : IndexDef) : Type 0 where
@@ -22,7 +22,7 @@ pub record IsFirst (d : IndexDef) : Type 0 where
 -- a change of a row of the table
 pub record IsOf (row : ℕ) (c : Change) : Type 0 where
   pub table : c.table ≡ 0
-  pub row : c.row.0 ≡ row
+  pub number : c.row.0 ≡ row
   pub width : IfSome c.values (λ values. length values ≡ 1)
 
 -- a view over commit 1, as it is kept
