@@ -6,9 +6,9 @@ from pathlib import Path
 
 TOOLS = Path(__file__).resolve().parents[1]
 CRATES = TOOLS.parent / "crates"
-ANSWERS = ["core_table", "join_table", "language_table", "name_table", "paged_table", "piece_table", "replay_table", "retrieval_table",
+ANSWERS = ["join_table", "language_table", "name_table", "paged_table", "piece_table", "replay_table", "retrieval_table",
            "scan_table", "script_table", "storage_table", "tree_shapes"]  # fmt: skip
-QUESTIONS = {"core_table": "--script", "join_table": "--lines", "language_table": "--lines", "name_table": "--statements", "replay_table": "--lines",
+QUESTIONS = {"join_table": "--lines", "language_table": "--lines", "name_table": "--statements", "replay_table": "--lines",
              "script_table": "--lines", "storage_table": "--lines"}  # fmt: skip
 
 
