@@ -6,7 +6,8 @@
   faults       the first fault of a script with its place, and the limits of lines, each from both sides
   words        words that are not accepted, with which nothing is read or written
   workload     a generated workload writes its summary, and reads nothing
-  traces       what SHOW tells under each judge, by the words of the command line and by marks, with background steps and without
+  traces       what SHOW tells under each judge, by the words of the command line and by marks, with background steps and without;
+               of a built program the same with threads and no workers, where one session has all calls
 
 The answers were found by hand."""
 from __future__ import annotations
@@ -157,11 +158,11 @@ class Runs:
         good = output.startswith(b"calls 3763\nrows ") and output.endswith(b"\ncommits 251\nrefused 0\n")
         self.expect("workload", (status, good, words, read), (0, True, b"", 0))
 
-    def try_traces(self, plain: bool) -> None:
+    def try_traces(self, plain: bool, *more: str) -> None:
         for words, script, wants in traces(plain):
-            status, output, said = self.run("".join(line + "\n" for line in script).encode(), *words)
+            status, output, said = self.run("".join(line + "\n" for line in script).encode(), *words, *more)
             found = [line[8:] for line in output.decode().splitlines() if line.startswith("= trace ")]
-            self.expect(f"traces, {' '.join(words)}", (status, found, said), (0, wants, b""))
+            self.expect(f"traces, {' '.join([*words, *more])}", (status, found, said), (0, wants, b""))
 
 
 def main() -> int:
@@ -177,6 +178,8 @@ def main() -> int:
         runs.try_words()
         runs.try_workload()
     runs.try_traces(asked.plain)
+    if asked.program and not asked.plain:
+        runs.try_traces(False, "--threads", "--workers=0")
     print(f"{runs.cases} worked runs, {runs.wrong} end otherwise")
     return 1 if runs.wrong else 0
 
