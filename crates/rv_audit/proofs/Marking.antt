@@ -9,7 +9,7 @@ ended_is : (ls : List (List ℕ)) (rest : List ℕ) → ended ls rest ≡ unspli
 ended_is [] rest = refl
 ended_is (l ∷ ls) rest = ap (λ bs. l ++ 10 ∷ bs) (ended_is ls rest) ∙ sym (append_assoc l (10 ∷ unsplit ls) rest)
 
-ended_whole : (bytes : List ℕ) → ended (split bytes).lines (split bytes).rest ≡ bytes
+pub ended_whole : (bytes : List ℕ) → ended (split bytes).lines (split bytes).rest ≡ bytes
 ended_whole bytes = ended_is (split bytes).lines (split bytes).rest ∙ split_whole bytes
 
 abbrev pub parts : List ℕ → List ℕ → Parted

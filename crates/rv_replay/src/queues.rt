@@ -152,7 +152,7 @@ fn cmp_sought(offer: &Offer, order: &Values, returned: &Values) -> Ordering
 
 /// How many of these come before an offer of these values.
 fn place_of(alike: &[Alike], order: &Values, returned: &Values) -> usize
-    ensures { Turns (is_under (record { order = order.now; returned = returned.now })) alike.now result }
+    ensures { Turns (λ a. is_under (record { order = order.now; returned = returned.now }) a) alike.now result }
 {
     turn_in(alike, &Under { order, returned })
 }
