@@ -107,7 +107,6 @@ pub fn close_all(cursors: &mut Items<OpenCursor>, session: u8)
 }
 
 /// Whether the cursor in a place may give a reply. Where it may, what the reply gives is taken out.
-#[tactic(auto, using(crate::proofs::Fetching::judges_at))]
 pub fn fetch_at(cursors: &mut Items<OpenCursor>, place: usize, given: &Reply) -> bool
     requires { place < length cursors.old }
     ensures { JudgesAt result place cursors.old given.now cursors.new }
