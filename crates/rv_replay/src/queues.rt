@@ -72,7 +72,8 @@ pub fn queue_of(alloc: Global, offers: Vec<Offer>) -> Result<OfferQueue, NoMemor
 
 /// The same offers in their order, so that each is then put in at the end.
 fn sorted(offers: Vec<Offer>) -> Result<Vec<Offer>, NoMemory>
-    ensures { IfOk result (λ new. offers_in_order new.items ≡ offers_in_order offers.items) }
+    ensures sorted { IfOk result (λ new. new.items ≡ offers_in_order offers.items) }
+    ensures same { IfOk result (λ new. offers_in_order new.items ≡ offers_in_order offers.items) }
 {
     let mut new = offers;
     new.sort()?;

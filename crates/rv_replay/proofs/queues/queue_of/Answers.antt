@@ -12,4 +12,4 @@ invariant_of-result c = record {
 }
 
 pub returns : goal.returns
-returns c = c.in_ok-alike.ensures.all ∙ c.in_ok-offers.ensures
+returns c = c.in_ok-alike.ensures.all ∙ c.in_ok-offers.ensures.same
