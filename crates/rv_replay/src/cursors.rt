@@ -61,7 +61,7 @@ impl OpenCursor {
     fn is_named(&self, session: u8, name: &Text) -> bool
         ensures { result ≡ ((self.now.session == session) && bytes_eq self.now.name name.now) }
     {
-        self.session == session && self.name.is(name.as_str())
+        self.session == session && self.name.as_str() == name.as_str()
     }
 
     fn table(&self) -> u32
