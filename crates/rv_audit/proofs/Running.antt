@@ -18,7 +18,7 @@ use Rattle.rv_model.specs.declared.entry.Entry.{Entry}
 use Rattle.rv_model.specs.Transcript.{text, AllSameButPhase, IsLine}
 use Rattle.rv_believed.specs.History.{IsLegal}
 use Rattle.rv_run.specs.Script as runs
-use Rattle.rv_run.specs.Script.{HasAllCalls}
+use Rattle.rv_run.specs.Script.{HasAllCalls, Write}
 use Rattle.rv_text.specs.Lines.{grown, split, Split}
 use Rattle.rv_text.specs.Reading.{AreReadable}
 use Rattle.rv_text.proofs.Cutting.{lines_of, split_line, split_unsplit, split_whole, turned, unsplit, AreLines}
@@ -226,11 +226,16 @@ said_legal bytes script history few is all legal readable =
       said = record { entries = history; written = record { readable = readable; is = refl }; said = (whole, refl) };
     }
 
-pub runs_are_legal : RunsAreLegal
-runs_are_legal bytes history writes legal readable whole = by (script_of bytes) refl writes.script
+marked_legal : (bytes : List ℕ) (history : List Entry) → AreWholeLines bytes → IsLegal history → Write bytes (HasAllCalls history) → AreReadable history
+    → Audits (bytes ++ codes "====\n" ++ text history) (audited.Legal (length history))
+marked_legal bytes history whole legal writes readable = by (script_of bytes) refl writes.script
   where
     by : (r : Result Script ScriptFault) → script_of bytes ≡ r → IsOkAnd r (HasAllCalls history) → Audits (bytes ++ codes "====\n" ++ text history) (audited.Legal (length history))
     by (Ok script) is all =
         subst (λ (o : Option Parted). Says o (audited.Legal (length history))) (sym (marked_parted bytes (text history) whole (no_marks bytes whole (said_of bytes script is))))
         (said_legal bytes script history writes.few is all legal readable)
     by (Err fault) is all = absurd all
+
+pub runs_are_legal : RunsAreLegal
+runs_are_legal input run =
+    subst (λ (bytes : List ℕ). Audits bytes (audited.Legal (length run.history))) (sym run.is) (marked_legal run.script run.history run.lines run.legal run.calls run.readable)

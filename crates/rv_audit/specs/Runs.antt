@@ -13,8 +13,16 @@ use Rattle.rv_audit.specs.Auditing.{Audits}
 abbrev pub AreWholeLines : List ℕ → Type 0
 AreWholeLines bytes = (split bytes).rest ≡ []
 
--- LAW: behind a script of whole lines and a mark the transcript of a legal history is judged legal, which has all calls of the
--- script and whose entries can be read back.
+-- A script of whole lines, a mark, and the transcript that a run writes of it with status 0, whose entries can be read back.
+pub record IsOfRun (input : List ℕ) : Type 0 where
+  pub script : List ℕ
+  pub lines : AreWholeLines script
+  pub history : List Entry
+  pub legal : IsLegal history
+  pub calls : Write script (HasAllCalls history)
+  pub readable : AreReadable history
+  pub is : input ≡ script ++ codes "====\n" ++ text history
+
+-- LAW: such an input is legal.
 abbrev pub RunsAreLegal : Type 0
-RunsAreLegal = (bytes : List ℕ) (history : List Entry) → Write bytes (HasAllCalls history) → IsLegal history → AreReadable history → AreWholeLines bytes
-    → Audits (bytes ++ codes "====\n" ++ text history) (audited.Legal (length history))
+RunsAreLegal = (input : List ℕ) (run : IsOfRun input) → Audits input (audited.Legal (length run.history))
