@@ -224,10 +224,17 @@ fn first_of(alike: &[Alike], front: usize) -> Option<&Offer>
     requires { IsFront front alike.now }
     ensures { option_copied result ≡ slice_get (all_of alike.now) 0 }
 {
-    match alike.get(front) {
+    match those_at(alike, front) {
         Some(first) => Some(&first.offer),
         None => None,
     }
+}
+
+/// The offers in a place; None behind the last ones.
+fn those_at(alike: &[Alike], place: usize) -> Option<&Alike>
+    ensures { option_copied result ≡ slice_get alike.now place }
+{
+    alike.get(place)
 }
 
 /// Whether none is left.

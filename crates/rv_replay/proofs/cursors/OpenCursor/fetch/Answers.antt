@@ -2,4 +2,6 @@ use Rattle.rv_replay.proofs.Fetching.{judges_cursor}
 use Rattle.rv_replay.proofs.cursors.OpenCursor.fetch.Goals as goal
 
 pub returns : goal.returns
-returns c = rw (← c.self.view_is) (judges_cursor c.take_given.result _ c.args.given.now c.take_given.new.offers c.take_given.ensures)
+returns c =
+    let i = c.self.inside in
+    rw (← c.self.view_is) (judges_cursor c.take_given.result (record { session = i.session; name = i.name; table = i.table; offers = i.offers }) c.args.given.now c.take_given.new.offers c.take_given.ensures)
