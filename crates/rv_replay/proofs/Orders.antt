@@ -1,5 +1,5 @@
 -- The order of offers, alone and with equal ones together, and where a search turns.
-use Rattle.std.proofs.Common.{◌≡◌, ℕ, zero, suc, ◌<◌, ◌-◌, List, [], ◌∷◌, ap, sym, ◌∙◌, refl, subst, inl, inr, arith, Bool, true, false, not, ◌&&◌, length, slice_get, slice_set, insert}
+use Rattle.std.proofs.Common.{◌≡◌, ℕ, zero, suc, ◌-◌, List, [], ◌∷◌, ap, sym, ◌∙◌, refl, subst, inl, inr, arith, Bool, true, false, not, ◌&&◌, slice_get, slice_set, insert}
 use Rattle.std.proofs.lemmas.Bool.{cases_Bool}
 use Rattle.std.proofs.lemmas.List.Sorted.{ranks_by}
 use Rattle.std.specs.Cmp.{IsStrictWeakOrder, alike_right, tied_then}

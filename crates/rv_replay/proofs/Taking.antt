@@ -11,7 +11,7 @@ use Rattle.rv_blocks.specs.Flat.{Turns}
 use Rattle.rv_model.specs.declared.state.Offer.{Offer}
 use Rattle.rv_model.specs.Offers.{place_of, without}
 use Rattle.rv_replay.specs.Judging.{fits}
-use Rattle.rv_replay.specs.Queues.{AreTaken, IsFront, IsQueue, TakesOut, alike_at, all_of, comes_before, is_under, may_give, no_alike, one_less, those}
+use Rattle.rv_replay.specs.Queues.{AreTaken, IsFront, TakesOut, alike_at, all_of, comes_before, is_under, may_give, no_alike, one_less, those}
 use Rattle.rv_replay.specs.declared.queues.Alike.{Alike}
 use Rattle.rv_replay.proofs.Orders.{Splits, less, over_not, rises_set, sought, splits, under_not}
 use Rattle.rv_replay.proofs.Places.{Takes, place_is, position_none, takes_one, takes_past}
