@@ -206,9 +206,9 @@ lines_parted (l ∷ ls) transcript none =
 abbrev behind_lines : List (List ℕ) → Split → Split
 behind_lines ls s = record { lines = ls ++ s.lines; rest = s.rest }
 
-marked_parted : (bytes transcript : List ℕ) → AreWholeLines bytes → HaveNoMark (split bytes).lines → parted (bytes ++ codes "====\n" ++ transcript) ≡ Some (parts bytes transcript)
+marked_parted : (bytes transcript : List ℕ) → AreWholeLines bytes → HaveNoMark (split bytes).lines → parted (bytes ++ (codes "====\n" ++ transcript)) ≡ Some (parts bytes transcript)
 marked_parted bytes transcript whole none =
-    ap (λ (bs : List ℕ). parted (bs ++ codes "====\n" ++ transcript)) (sym (whole_is bytes whole))
+    ap (λ (bs : List ℕ). parted (bs ++ (codes "====\n" ++ transcript))) (sym (whole_is bytes whole))
     ∙ ap (λ (s : Split). parted_lines s.lines s.rest)
     (split_unsplit (split bytes).lines (codes "====\n" ++ transcript) (lines_of bytes)
     ∙ ap (behind_lines (split bytes).lines) (split_line (codes "====") transcript refl))
@@ -227,10 +227,10 @@ said_legal bytes script history few is all legal readable =
     }
 
 marked_legal : (bytes : List ℕ) (history : List Entry) → AreWholeLines bytes → IsLegal history → Write bytes (HasAllCalls history) → AreReadable history
-    → Audits (bytes ++ codes "====\n" ++ text history) (audited.Legal (length history))
+    → Audits (bytes ++ (codes "====\n" ++ text history)) (audited.Legal (length history))
 marked_legal bytes history whole legal writes readable = by (script_of bytes) refl writes.script
   where
-    by : (r : Result Script ScriptFault) → script_of bytes ≡ r → IsOkAnd r (HasAllCalls history) → Audits (bytes ++ codes "====\n" ++ text history) (audited.Legal (length history))
+    by : (r : Result Script ScriptFault) → script_of bytes ≡ r → IsOkAnd r (HasAllCalls history) → Audits (bytes ++ (codes "====\n" ++ text history)) (audited.Legal (length history))
     by (Ok script) is all =
         subst (λ (o : Option Parted). Says o (audited.Legal (length history))) (sym (marked_parted bytes (text history) whole (no_marks bytes whole (said_of bytes script is))))
         (said_legal bytes script history writes.few is all legal readable)

@@ -21,7 +21,7 @@ pub record IsOfRun (input : List ℕ) : Type 0 where
   pub legal : IsLegal history
   pub calls : Write script (HasAllCalls history)
   pub readable : AreReadable history
-  pub is : input ≡ script ++ codes "====\n" ++ text history
+  pub is : input ≡ script ++ (codes "====\n" ++ text history)
 
 -- LAW: such an input is legal.
 abbrev pub RunsAreLegal : Type 0
