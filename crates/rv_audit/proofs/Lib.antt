@@ -12,3 +12,4 @@ pub mod Placing
 pub mod Running
 pub mod Short
 pub mod Taking
+pub mod Texts
