@@ -1,19 +1,20 @@
 -- What a run writes is judged legal.
-use Rattle.std.proofs.Common.{◌≡◌, ◌⊎◌, ℕ, zero, suc, ◌+◌, List, [], ◌∷◌, ◌++◌, Bool, true, false, not, ◌&&◌, ◌||◌, ◌==◌, cond, if◌then◌else◌, Option, Some, None, Result, Ok, Err, IsOkAnd, All, inl, inr, refl, ap, sym, subst, ◌∙◌, length, map, arith, bytes_eq, codes, eqb, eqb-true, nat_eq, nat_lt, append-nil, ◌≤◌}
-use Rattle.std.specs.List.{list_all, slice_split}
+use Rattle.std.proofs.Common.{◌≡◌, ◌⊎◌, ℕ, zero, suc, ◌+◌, List, [], ◌∷◌, ◌++◌, Bool, true, false, not, ◌&&◌, ◌||◌, ◌==◌, cond, if◌then◌else◌, Option, Some, None, Result, Ok, Err, IsOkAnd, IsUtf8, All, inl, inr, refl, ap, sym, subst, ◌∙◌, length, map, arith, bytes_eq, codes, eqb, eqb-true, nat_eq, nat_lt, append-nil, ◌≤◌}
+use Rattle.std.specs.List.{list_all, slice_split, AllByRecursion}
 use Rattle.std.specs.Str.Lines.{lines, lines_of_parts, strip_carriage_return}
 use Rattle.std.specs.Str.Lossy.{utf8_valid_len}
 use Rattle.std.proofs.lemmas.Bool.{cases_Bool}
 use Rattle.std.proofs.lemmas.List.Elements.{All-cons, All-nil}
 use Rattle.std.proofs.lemmas.List.Splits.{slice_split_at}
 use Rattle.std.proofs.lemmas.Slice.Eq.{bytes_eq-Decides}
+use Rattle.std.proofs.lemmas.Str.{IsUtf8-past_char}
 use Rattle.rv_rows.proofs.Filters.{both}
 use Rattle.rv_script.specs.declared.scripts.Line.{Line}
 use Rattle.rv_script.specs.declared.scripts.Phase.{Phase}
 use Rattle.rv_script.specs.declared.scripts.Script.{Script}
 use Rattle.rv_script.specs.declared.scripts.ScriptFault.{ScriptFault}
 use Rattle.rv_script.specs.declared.scripts.ScriptFault.TheVariants as faults
-use Rattle.rv_script.specs.Script.{Saying, says_at, saying_before, sayings_from, script_of, script_said, without_byte_order_mark}
+use Rattle.rv_script.specs.Script.{Saying, phases_of, says_at, saying_before, sayings_from, script_of, script_said, without_byte_order_mark}
 use Rattle.rv_model.specs.declared.entry.Entry.{Entry}
 use Rattle.rv_model.specs.Transcript.{text, AllSameButPhase, IsLine}
 use Rattle.rv_believed.specs.History.{IsLegal}
@@ -28,10 +29,12 @@ use Rattle.rv_audit.specs.Auditing.{Audits, Says, SaysBehindScript}
 use Rattle.rv_audit.specs.Calls.{call_in, calls_by, calls_from, calls_in}
 use Rattle.rv_audit.specs.Following.{HasAll, IsWhole}
 use Rattle.rv_audit.specs.Marks.{behind_line, is_mark, parted, parted_lines, Parted}
-use Rattle.rv_audit.specs.Runs.{AreWholeLines, RunsAreLegal}
-use Rattle.rv_audit.proofs.Making.{call_by, calls_is, made}
+use Rattle.rv_audit.specs.Places.{AreSessions}
+use Rattle.rv_audit.specs.Runs.{AreWholeLines, HasPlainReply, RunsAreLegal}
+use Rattle.rv_audit.proofs.Making.{call_by, calls_is, made, sessions_of}
 use Rattle.rv_audit.proofs.Marking.{ended_whole, parts}
 use Rattle.rv_audit.proofs.Phases.{asked_of, texts}
+use Rattle.rv_audit.proofs.Texts.{history_texts, lines_text, strip_texts, utf8_of, AreTexts, IsText}
 
 -- ---- the calls
 
@@ -194,6 +197,61 @@ said_of bytes script is = by (utf8_valid_len bytes == length bytes) (sayings_fro
     by true (Err fault) e h = absurd (cc)
     by false r e h = absurd (cc)
 
+-- ---- the texts of the history
+
+whole_behind : (ls : List (List ℕ)) (rest : List ℕ) → (behind_order (record { lines = ls; rest = rest })).rest ≡ [] → rest ≡ []
+whole_behind [] rest whole = absurd (cc)
+whole_behind (l ∷ ls) rest whole = whole
+
+record IsRead (bytes : List ℕ) : Type 0 where
+  whole : AreWholeLines bytes
+  utf8 : IsUtf8 bytes
+
+-- behind a byte order mark stand whole lines, and UTF-8
+read_behind : (bytes : List ℕ) → IsRead bytes → IsRead (without_byte_order_mark bytes)
+read_behind [] r = r
+read_behind (a ∷ []) r = r
+read_behind (a ∷ b ∷ []) r = r
+read_behind (a ∷ b ∷ c ∷ more) r = by (nat_eq a 0xEF && (nat_eq b 0xBB && nat_eq c 0xBF)) refl
+  where
+    by : (t : Bool) → (nat_eq a 0xEF && (nat_eq b 0xBB && nat_eq c 0xBF)) ≡ t → IsRead (if t then more else a ∷ b ∷ c ∷ more)
+    by false is = r
+    by true is =
+        let same = three a b c is in
+        let e : a ∷ b ∷ c ∷ more ≡ ordered more = λ i. same.0 i ∷ same.1 i ∷ same.2 i ∷ more in
+        record {
+          whole = whole_behind (split more).lines (split more).rest (subst AreWholeLines e r.whole);
+          utf8 = IsUtf8-past_char (a ∷ b ∷ c ∷ more) more 0xFEFF r.utf8 e;
+        }
+
+lines_read : (bytes : List ℕ) → IsRead bytes → AreTexts (lines bytes)
+lines_read bytes r = subst AreTexts (sym (lines_are_split bytes r.whole)) (strip_texts (split bytes).lines (lines_text (split bytes).lines (lines_of bytes) (subst IsUtf8 (sym (whole_is bytes r.whole)) r.utf8)))
+
+script_is : (sayings : List Saying) (script : Script) → script_said (Ok sayings) ≡ Ok script → record { phases = phases_of None sayings } ≡ script
+script_is sayings script e = cc
+
+read_texts : (bytes : List ℕ) (script : Script) (h : List Entry) → AreWholeLines bytes → script_of bytes ≡ Ok script → HasAllCalls h script → AllByRecursion (λ (e : Entry). IsText e.text) h
+unfolding script_of
+read_texts bytes script h whole is calls = by (utf8_valid_len bytes == length bytes) refl (sayings_from 1 (lines (without_byte_order_mark bytes))) refl is
+  where
+    by : (b : Bool) → (utf8_valid_len bytes == length bytes) ≡ b → (r : Result (List Saying) ScriptFault) → sayings_from 1 (lines (without_byte_order_mark bytes)) ≡ r → (if b then script_said r else Err (faults.NotText (utf8_valid_len bytes))) ≡ Ok script → AllByRecursion (λ (e : Entry). IsText e.text) h
+    by true u (Ok sayings) said e =
+        let read = read_behind bytes (record { whole = whole; utf8 = utf8_of bytes u }) in
+        history_texts (lines (without_byte_order_mark bytes)) sayings h (lines_read (without_byte_order_mark bytes) read) said (subst (HasAllCalls h) (sym (script_is sayings script e)) calls)
+    by true u (Err fault) said e = absurd (cc)
+    by false u r said e = absurd (cc)
+
+readable : (h : List Entry) → AreSessions h → AllByRecursion (λ (e : Entry). IsText e.text) h → AllByRecursion HasPlainReply h → AreReadable h
+readable [] sessions texts replies = tt
+readable (e ∷ es) sessions texts replies = (
+  record {
+    plain = record { from = sessions.0.0; to = sessions.0.1; asked = texts.0.0; answered = replies.0.0 };
+    call = texts.0.1;
+    reply = replies.0.1;
+  },
+  readable es sessions.1 texts.1 replies.1,
+)
+
 -- ---- the input is parted behind the script
 
 lines_parted : (ls : List (List ℕ)) (transcript : List ℕ) → HaveNoMark ls → parted_lines (ls ++ codes "====" ∷ (split transcript).lines) (split transcript).rest ≡ Some (parts (unsplit ls) transcript)
@@ -217,25 +275,25 @@ marked_parted bytes transcript whole none =
 
 -- ---- the law
 
-said_legal : (bytes : List ℕ) (script : Script) (history : List Entry) → length bytes ≤ 16777216 → script_of bytes ≡ Ok script → HasAllCalls history script → IsLegal history → AreReadable history
+said_legal : (bytes : List ℕ) (script : Script) (history : List Entry) → length bytes ≤ 16777216 → AreWholeLines bytes → script_of bytes ≡ Ok script → HasAllCalls history script → IsLegal history → AllByRecursion HasPlainReply history
     → SaysBehindScript bytes (text history) (audited.Legal (length history))
-said_legal bytes script history few is all legal readable =
+said_legal bytes script history few lines is all legal replies =
     let whole : IsWhole script history = record { history = history; same = same_itself history; legal = legal; all = has_all history script all } in
     record {
       has = record { few = few; script = script; is = is };
-      said = record { entries = history; written = record { readable = readable; is = refl }; said = (whole, refl) };
+      said = record { entries = history; written = record { readable = readable history (sessions_of history legal) (read_texts bytes script history lines is all) replies; is = refl }; said = (whole, refl) };
     }
 
-marked_legal : (bytes : List ℕ) (history : List Entry) → AreWholeLines bytes → IsLegal history → Write bytes (HasAllCalls history) → AreReadable history
+marked_legal : (bytes : List ℕ) (history : List Entry) → AreWholeLines bytes → IsLegal history → Write bytes (HasAllCalls history) → AllByRecursion HasPlainReply history
     → Audits (bytes ++ (codes "====\n" ++ text history)) (audited.Legal (length history))
-marked_legal bytes history whole legal writes readable = by (script_of bytes) refl writes.script
+marked_legal bytes history whole legal writes replies = by (script_of bytes) refl writes.script
   where
     by : (r : Result Script ScriptFault) → script_of bytes ≡ r → IsOkAnd r (HasAllCalls history) → Audits (bytes ++ (codes "====\n" ++ text history)) (audited.Legal (length history))
     by (Ok script) is all =
         subst (λ (o : Option Parted). Says o (audited.Legal (length history))) (sym (marked_parted bytes (text history) whole (no_marks bytes whole (said_of bytes script is))))
-        (said_legal bytes script history writes.few is all legal readable)
+        (said_legal bytes script history writes.few whole is all legal replies)
     by (Err fault) is all = absurd all
 
 pub runs_are_legal : RunsAreLegal
 runs_are_legal input run =
-    subst (λ (bytes : List ℕ). Audits bytes (audited.Legal (length run.history))) (sym run.is) (marked_legal run.script run.history run.lines run.legal run.calls run.readable)
+    subst (λ (bytes : List ℕ). Audits bytes (audited.Legal (length run.history))) (sym run.is) (marked_legal run.script run.history run.lines run.legal run.calls run.replies)

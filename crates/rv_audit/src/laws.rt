@@ -11,7 +11,7 @@ pub fn says_once()
     text_tells();
 }
 
-/// A law: what a run writes with status 0 is legal to its script, where its entries can be read back and the script's
+/// A law: what a run writes with status 0 is legal to its script, where its replies can be read back and the script's
 /// last line has its end.
 pub fn runs_are_legal()
     ensures { RunsAreLegal }
