@@ -209,6 +209,7 @@ record IsRead (bytes : List ℕ) : Type 0 where
 
 -- behind a byte order mark stand whole lines, and UTF-8
 read_behind : (bytes : List ℕ) → IsRead bytes → IsRead (without_byte_order_mark bytes)
+unfolding lib.Utf8.encode
 read_behind [] r = r
 read_behind (a ∷ []) r = r
 read_behind (a ∷ b ∷ []) r = r

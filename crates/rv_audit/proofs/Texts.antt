@@ -160,14 +160,14 @@ said_text n line saying text h = by (nat_lt 200000 n) (nat_lt 4096 (length line)
 
 all_said : (n : ℕ) (ls : List (List ℕ)) (all : List Saying) → AreTexts ls → sayings_from n ls ≡ Ok all → AllByRecursion SaysText all
 all_said n [] all texts h = let none : [] ≡ all = cc in subst (AllByRecursion SaysText) none tt
-all_said n (l ∷ ls) all texts h = by (says_at n l) (sayings_from (n + 1) ls) refl refl h
+all_said n (l ∷ ls) all texts h = by (λ more e. all_said (n + 1) ls more texts.1 e) (says_at n l) (sayings_from (n + 1) ls) refl refl h
   where
-    by : (a : Result Saying ScriptFault) (b : Result (List Saying) ScriptFault) → says_at n l ≡ a → sayings_from (n + 1) ls ≡ b → saying_before a b ≡ Ok all → AllByRecursion SaysText all
-    by (Err fault) b ea eb e = absurd (cc)
-    by (Ok saying) (Err fault) ea eb e = absurd (cc)
-    by (Ok saying) (Ok more) ea eb e =
+    by : ((more : List Saying) → sayings_from (n + 1) ls ≡ Ok more → AllByRecursion SaysText more) → (a : Result Saying ScriptFault) (b : Result (List Saying) ScriptFault) → says_at n l ≡ a → sayings_from (n + 1) ls ≡ b → saying_before a b ≡ Ok all → AllByRecursion SaysText all
+    by others (Err fault) b ea eb e = absurd (cc)
+    by others (Ok saying) (Err fault) ea eb e = absurd (cc)
+    by others (Ok saying) (Ok more) ea eb e =
         let same : saying ∷ more ≡ all = cc in
-        subst (AllByRecursion SaysText) same ((said_text n l saying texts.0 ea, all_said (n + 1) ls more texts.1 eb))
+        subst (AllByRecursion SaysText) same ((said_text n l saying texts.0 ea, others more eb))
 
 -- ---- phases and calls
 
@@ -206,19 +206,23 @@ by_session s (c ∷ cs) h = elim (cases_Bool (eqb c.session s)) [
   | inr f ↦ rw f (by_session s cs h.1)
 ]
 
+kept_rest : (b : Bool) (c : runs.Call) (cs : List runs.Call) → CallsText (cond b (c ∷ cs) cs) → CallsText cs
+kept_rest true c cs h = h.1
+kept_rest false c cs h = h
+
 -- each call is some session's
 all_sessions : (cs : List runs.Call) → ((s : ℕ) → CallsText (runs.of_session s cs)) → CallsText cs
 all_sessions [] all = tt
 all_sessions (c ∷ cs) all = (first, all_sessions cs others)
   where
     first : IsText c.text
-    first = let same : eqb c.session c.session ≡ true = grind (arith, nat_tests) in (rw same at all c.session).0
+    first =
+        let same : (c.session == c.session) ≡ true = grind (arith, nat_tests) in
+        let here = subst (λ (b : Bool). CallsText (cond b (c ∷ runs.of_session c.session cs) (runs.of_session c.session cs))) same (all c.session) in
+        here.0
 
     others : (s : ℕ) → CallsText (runs.of_session s cs)
-    others s = elim (cases_Bool (eqb c.session s)) [
-      | inl t ↦ (rw t at all s).1
-      | inr f ↦ rw f at all s
-    ]
+    others s = kept_rest (c.session == s) c (runs.of_session s cs) (all s)
 
 entries_texts : (h : List Entry) → CallsText (runs.calls_made h) → AllByRecursion (λ (e : Entry). IsText e.text) h
 entries_texts [] c = tt
