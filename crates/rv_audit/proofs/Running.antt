@@ -1,5 +1,5 @@
 -- What a run writes is judged legal.
-use Rattle.std.proofs.Common.{◌≡◌, ◌⊎◌, ℕ, zero, suc, ◌+◌, List, [], ◌∷◌, ◌++◌, Bool, true, false, not, ◌&&◌, ◌||◌, ◌==◌, cond, if◌then◌else◌, Option, Some, None, Result, Ok, Err, IsOkAnd, IsUtf8, All, inl, inr, refl, ap, sym, subst, ◌∙◌, length, map, arith, bytes_eq, codes, eqb, eqb-true, nat_eq, nat_lt, append-nil, ◌≤◌}
+use Rattle.std.proofs.Common.{◌≡◌, ◌⊎◌, ℕ, ◌+◌, List, [], ◌∷◌, ◌++◌, Bool, true, false, not, ◌&&◌, ◌||◌, ◌==◌, cond, if◌then◌else◌, Option, Some, None, Result, Ok, Err, IsOkAnd, IsUtf8, All, inl, inr, refl, ap, sym, subst, ◌∙◌, length, map, bytes_eq, codes, eqb, eqb-true, nat_eq, nat_lt, append-nil, ◌≤◌}
 use Rattle.std.specs.List.{list_all, slice_split, AllByRecursion}
 use Rattle.std.specs.Str.Lines.{lines, lines_of_parts, strip_carriage_return}
 use Rattle.std.specs.Str.Lossy.{utf8_valid_len}

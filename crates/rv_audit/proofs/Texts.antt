@@ -1,20 +1,19 @@
 -- The texts of a script's calls are lines and UTF-8, and so are those of a history that has its calls.
-use Rattle.std.proofs.Common.{◌≡◌, ◌⊎◌, ℕ, zero, suc, ◌+◌, ◌-◌, ◌<◌, ◌≤◌, List, [], ◌∷◌, ◌++◌, Bool, true, false, not, ◌&&◌, ◌==◌, cond, if◌then◌else◌, Option, Some, None, Result, Ok, Err, IsUtf8, inl, inr, refl, ap, sym, subst, ◌∙◌, length, length-append, map, take, drop, get_or, arith, eqb, eqb-true, nat_eq, nat_le, nat_lt, append_assoc, take_all, slice_index}
+use Rattle.std.proofs.Common.{◌≡◌, ℕ, zero, suc, ◌+◌, ◌-◌, ◌<◌, ◌≤◌, List, [], ◌∷◌, ◌++◌, Bool, true, false, not, ◌&&◌, ◌==◌, cond, if◌then◌else◌, Option, Some, None, Result, Ok, Err, IsUtf8, inl, inr, refl, ap, sym, subst, ◌∙◌, length, length-append, map, take, drop, get_or, arith, eqb, eqb-true, nat_eq, nat_le, nat_lt, append_assoc, take_all, slice_index}
 use Rattle.std.specs.List.{list_all, AllByRecursion}
 use Rattle.std.specs.Str.{is_utf8}
-use Rattle.std.specs.Str.Lines.{lines, strip_carriage_return}
+use Rattle.std.specs.Str.Lines.{strip_carriage_return}
 use Rattle.std.specs.Str.Lossy.{utf8_valid_len, valid_len_up_to}
 use Rattle.std.proofs.lemmas.Bool.{cases_Bool}
 use Rattle.std.proofs.lemmas.Bool.Decides.{nat_tests}
 use Rattle.std.proofs.lemmas.List.{drop_at, nil_from_length, take_at}
-use Rattle.std.proofs.lemmas.Str.{IsCharBoundary-after_ascii, IsCharBoundary-before_ascii, IsUtf8-drop, IsUtf8-from_is_utf8, IsUtf8-nil, IsUtf8-past_char, IsUtf8-take}
+use Rattle.std.proofs.lemmas.Str.{IsCharBoundary-after_ascii, IsCharBoundary-before_ascii, IsUtf8-drop, IsUtf8-from_is_utf8, IsUtf8-nil, IsUtf8-take}
 use Rattle.rv_rows.proofs.Filters.{both}
 use Rattle.rv_script.specs.declared.scripts.Line.{Line}
 use Rattle.rv_script.specs.declared.scripts.Phase.{Phase}
-use Rattle.rv_script.specs.declared.scripts.Script.{Script}
 use Rattle.rv_script.specs.declared.scripts.ScriptFault.{ScriptFault}
 use Rattle.rv_script.specs.declared.scripts.ScriptFault.TheVariants as faults
-use Rattle.rv_script.specs.Script.{Saying, Nothing, Call, Next, call_of, calls_before, mark_of, mark_or_call, or_no_session, phases_of, says, says_at, saying_before, sayings_from}
+use Rattle.rv_script.specs.Script.{Saying, Nothing, Call, Next, call_of, calls_before, mark_of, or_no_session, phases_of, says, says_at, saying_before, sayings_from}
 use Rattle.rv_model.specs.declared.entry.Entry.{Entry}
 use Rattle.rv_model.specs.Transcript.{IsLine}
 use Rattle.rv_run.specs.Script as runs
