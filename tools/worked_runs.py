@@ -7,7 +7,7 @@
   words        words that are not accepted, with which nothing is read or written
   workload     a generated workload writes its summary, and reads nothing
   traces       what SHOW tells under each judge, by the words of the command line and by marks, with background steps and without;
-               of a built program the same with threads and no workers, where one session has all calls
+               of a built program the same with threads and no workers, where each phase has one session
 
 The answers were found by hand."""
 from __future__ import annotations
@@ -80,7 +80,7 @@ def faults() -> Iterator[tuple[str, bytes, Came]]:
 
 def loaded(rows: int) -> list[str]:
     inserts = [f"1 INSERT INTO T VALUES ({row}, 0)" for row in range(rows)]
-    return ["1 CREATE TABLE T (A BIGINT, B BIGINT)", "1 CREATE INDEX IA ON T (A)", "1 BEGIN", *inserts, "1 COMMIT"]
+    return ["1 CREATE TABLE T (A BIGINT, B BIGINT)", "1 CREATE INDEX IA ON T (A)", "1 BEGIN", *inserts, "1 COMMIT", "--"]
 
 
 def reading(only: str, before: int, steps: int, after: int) -> list[str]:
