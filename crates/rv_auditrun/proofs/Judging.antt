@@ -1,5 +1,5 @@
 -- Of what a run wrote the verdict is that it is legal.
-use Rattle.std.proofs.Common.{◌≡◌, ◌⊎◌, ℕ, ◌+◌, ◌≤◌, List, ◌++◌, Option, Some, None, inl, inr, ap, ◌∙◌, length, length-append, arith}
+use Rattle.std.proofs.Common.{◌≡◌, ℕ, ◌+◌, ◌≤◌, List, Option, Some, None, inl, inr, ap, ◌∙◌, length, length-append, arith}
 use Rattle.std.specs.Io.KnownBytes.{Consumes}
 use Rattle.rv_audit.specs.declared.auditing.Audited.TheVariants as audited
 use Rattle.rv_audit.specs.Auditing.{SaysOnce}
