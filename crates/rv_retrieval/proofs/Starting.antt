@@ -38,7 +38,8 @@ use Rattle.rv_retrieval.specs.Opens.{first_of}
 use Rattle.rv_retrieval.specs.Rulings.{gone, listed}
 use Rattle.rv_retrieval.specs.Runs.{Tells, TellsOf, events_left, indexes_asked, indexes_of, runs_both, standing_of}
 use Rattle.rv_retrieval.specs.Shape.{Shape, is_background, is_building}
-use Rattle.rv_retrieval.specs.Telling.{counted, events_for, index_of, new_trace, with_events}
+use Rattle.rv_retrieval.specs.Telling.{events_for, index_of}
+use Rattle.rv_judge.specs.Tracing.{counted, new_trace, with_events}
 use Rattle.rv_retrieval.proofs.Chosen.{filter_some, from_all, no_way, one_found, to_all}
 use Rattle.rv_retrieval.proofs.Tellings.{counted_tells, runs_tells}
 

@@ -21,7 +21,8 @@ use Rattle.rv_retrieval.specs.Opens.{first_of}
 use Rattle.rv_retrieval.specs.Shape.{Shape, is_background}
 use Rattle.rv_choice.specs.declared.choosing.Background.{Background}
 use Rattle.rv_choice.specs.declared.choosing.Background.TheVariants.{Nothing, One, Each, EachBut}
-use Rattle.rv_retrieval.specs.Telling.{NothingCounted, events_for, index_of, list_len, noted, noted_all}
+use Rattle.rv_retrieval.specs.Telling.{events_for, index_of, list_len}
+use Rattle.rv_judge.specs.Tracing.{NothingCounted, noted, noted_all}
 use Rattle.rv_retrieval.specs.Rulings.{gone, listed}
 
 -- a walk along the whole range of an index

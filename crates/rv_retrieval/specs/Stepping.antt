@@ -32,7 +32,7 @@ use Rattle.rv_retrieval.specs.Given.{TakesLeaf}
 use Rattle.rv_retrieval.specs.Opens.{fg_of}
 use Rattle.rv_retrieval.specs.Rulings.{GivesOn, gone}
 use Rattle.rv_retrieval.specs.Shape.{Shape, keys_left, is_background, is_sorted, rows_of}
-use Rattle.rv_retrieval.specs.Telling.{counted, noted}
+use Rattle.rv_judge.specs.Tracing.{counted, noted}
 
 -- a piece is awaited
 abbrev pub is_awaiting : Shape → Bool

@@ -9,7 +9,7 @@ ghost use Rattle.rv_retrieval.specs.Opens.{Opens};
 ghost use Rattle.rv_retrieval.specs.Rest.{qualifying};
 ghost use Rattle.rv_retrieval.specs.Runs.{Tells};
 ghost use Rattle.rv_retrieval.specs.Shape.{RetrievalFits, is_background, rest};
-ghost use Rattle.rv_retrieval.specs.Telling.{CountsAll, NothingCounted, new_trace};
+ghost use Rattle.rv_judge.specs.Tracing.{CountsAll, NothingCounted, new_trace};
 ghost use Rattle.rv_judge.specs.Counting.{reads};
 ghost use Rattle.rv_reader.specs.Tables.{IsTable};
 ghost use Rattle.rv_retrieval.specs.Effort.{Awaiting, back_work, effort, life_of};

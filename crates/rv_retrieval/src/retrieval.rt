@@ -21,7 +21,8 @@ ghost use Rattle.rv_retrieval.specs.Rest.{StepMarks, qualifying};
 ghost use Rattle.rv_retrieval.specs.Runs.{Tells, indexes_asked};
 ghost use Rattle.rv_retrieval.specs.Shape.{KeyAt, LastFits, LeastOf, NextKey, Remembers, RetrievalFits, Source, given_as, left_at, lending, front_entries, is_background, is_led, is_sorted, keys_left, rest, rows_of};
 ghost use Rattle.rv_retrieval.specs.Stepping.{FrontMayRead, FrontReads, OneAtMost, WalkReads};
-ghost use Rattle.rv_retrieval.specs.Telling.{counted, index_of, list_len, new_trace, noted};
+ghost use Rattle.rv_retrieval.specs.Telling.{index_of, list_len};
+ghost use Rattle.rv_judge.specs.Tracing.{counted, new_trace, noted};
 ghost use Rattle.rv_retrieval.specs.Effort.{Falls, Tries, front_work, table_work};
 ghost use Rattle.rv_judge.specs.Counting.{record_read};
 ghost use Rattle.rv_value.specs.declared.record.Record.{Record as OneRecord};
@@ -435,11 +436,11 @@ impl Retrieval {
         })
     }
 
-    /// Writes an event into the trace, which has room for all that a retrieval comes to.
+    /// Writes an event into the trace.
     pub(crate) fn note(&mut self, event: Event)
         ensures { self.new ≡ record self.old { trace = noted self.old.trace event } }
     {
-        let _full = self.trace.events.try_push(event);
+        self.trace.note(event);
     }
 
     /// The index of a planned scan.
@@ -474,12 +475,7 @@ impl Retrieval {
     pub(crate) fn count(&mut self, before: Counts, after: Counts)
         ensures { self.new ≡ record self.old { trace = counted self.old.trace before after } }
     {
-        let pages = after.pages.saturating_sub(before.pages);
-        let leaves = after.leaves.saturating_sub(before.leaves);
-        let fetches = after.records.saturating_sub(before.records);
-        self.trace.pages = self.trace.pages.saturating_add(pages);
-        self.trace.leaves = self.trace.leaves.saturating_add(leaves);
-        self.trace.fetches = self.trace.fetches.saturating_add(fetches);
+        self.trace.count(before, after);
     }
 
     /// What it did so far.

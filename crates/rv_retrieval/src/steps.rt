@@ -13,7 +13,7 @@ ghost use Rattle.rv_retrieval.specs.Opens.{GivesStep, fg_of};
 ghost use Rattle.rv_retrieval.specs.Runs.{SameCourse, Tells};
 ghost use Rattle.rv_retrieval.specs.Shape.{Delivers, DoesStep, EndsIn, KeyAt, NextKey, PassesKeys, RetrievalFits, Source, given_as, is_background, is_building, is_index_only, rest, source, lending, rows_of};
 ghost use Rattle.rv_retrieval.specs.Stepping.{Borrows, DoesIts, FrontMayRead, FrontReads, IsFirstLeft, ListReads, MayReadIts, OneAtMost, OnlyTakes, ReadsIts, Remembered, RemembersBy, StepsAs, WalkReads, ended_by};
-ghost use Rattle.rv_retrieval.specs.Telling.{CountsRise, SameCounts};
+ghost use Rattle.rv_judge.specs.Tracing.{CountsRise, SameCounts};
 ghost use Rattle.rv_retrieval.specs.Effort.{Awaiting, Falls, FgSpends, Tries, effort, keys_work, to_borrow};
 ghost use Rattle.rv_retrieval.specs.Short.{Settled, fetches_left};
 
