@@ -17,7 +17,8 @@ use Rattle.rv_jscan.specs.declared.jscan.Given.TheVariants.{Accepted, Stale}
 use Rattle.rv_value.specs.declared.record.IndexEntry.{IndexEntry}
 use Rattle.rv_jscan.specs.Steps.{Accepts, held_next}
 use Rattle.rv_retrieval.specs.declared.steps.Fg.{Fg}
-use Rattle.rv_retrieval.specs.Effort.{GiveSpends, Tries, effort, life_of}
+use Rattle.rv_retrieval.specs.Effort.{GiveSpends, effort, life_of}
+use Rattle.rv_final.specs.Work.{Tries}
 use Rattle.rv_retrieval.specs.Given.{TakesLeaf, TakesLeafBy, awaited}
 use Rattle.rv_retrieval.specs.Opened.{Opened}
 use Rattle.rv_retrieval.specs.Rulings.{GivesOn}

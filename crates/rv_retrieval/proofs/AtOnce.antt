@@ -22,7 +22,7 @@ use Rattle.rv_retrieval.specs.declared.steps.Fg.{Fg}
 use Rattle.rv_choice.specs.Choice.{AreScans, IsChosen, candidates_of}
 use Rattle.rv_retrieval.specs.Opened.{IsMade, OnlyLists, Opened, RunsOut, SameScans, Scanned, Settles, Starts, bounded_by, guarantee_of, has_scans, is_one}
 use Rattle.rv_retrieval.specs.Opens.{GivesStep, fg_of, first_of}
-use Rattle.rv_retrieval.specs.Rest.{Steps}
+use Rattle.rv_final.specs.Rest.{Steps}
 use Rattle.rv_retrieval.specs.Rulings.{going_on, gone, listed, scan_over}
 use Rattle.rv_retrieval.specs.Shape.{DoesStep, RetrievalFits, Shape, is_background, rest}
 use Rattle.rv_retrieval.specs.Telling.{list_len}

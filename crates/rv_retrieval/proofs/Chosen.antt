@@ -40,7 +40,7 @@ use Rattle.rv_choice.specs.Choice.{AreScans, IsChosen, IsLeastOf, candidate_at, 
 use Rattle.rv_retrieval.specs.Fronts.{Front, front_left, walk_of}
 use Rattle.rv_retrieval.specs.Opened.{Begun, front_begun, front_candidate, has_scans, is_one, walk_begun}
 use Rattle.rv_retrieval.specs.Opens.{Opens, first_of}
-use Rattle.rv_retrieval.specs.Rest.{qualifies_at}
+use Rattle.rv_final.specs.Rest.{qualifies_at}
 use Rattle.rv_retrieval.specs.Shape.{FrontFits, Shape, is_background, is_index_only, is_led, is_sorted}
 use Rattle.rv_choice.proofs.Suited.{range_suits}
 use Rattle.rv_choice.proofs.Choices.{IsCandidate, all_at, are_candidates, leads_begins, stand_all}

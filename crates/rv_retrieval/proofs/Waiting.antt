@@ -15,7 +15,8 @@ use Rattle.rv_jscan.specs.Steps.{awaited_id}
 use Rattle.rv_retrieval.specs.Accounts.{fresh_of}
 use Rattle.rv_retrieval.specs.Effort.{keys_work}
 use Rattle.rv_retrieval.specs.Given.{TakesLeaf, TakesLeafBy, awaited}
-use Rattle.rv_retrieval.specs.Shape.{Shape, front_entries, is_background, keys_left, lending}
+use Rattle.rv_retrieval.specs.Shape.{Shape, front_entries, is_background, lending}
+use Rattle.rv_final.specs.Stage.{keys_left}
 use Rattle.rv_retrieval.specs.Short.{fetches_by, fetches_left, scan_fetches}
 use Rattle.rv_retrieval.specs.Stepping.{OnlyTakes}
 

@@ -23,7 +23,8 @@ use Rattle.rv_choice.specs.declared.query.Query.{Query}
 use Rattle.rv_retrieval.specs.declared.steps.Fg.{Fg}
 use Rattle.rv_retrieval.specs.declared.steps.Fg.TheVariants.{Row, Working as FgWorking, End as FgEnd}
 use Rattle.rv_retrieval.specs.Fronts.{walk_of}
-use Rattle.rv_retrieval.specs.Shape.{Shape, front_entries, is_background, is_building, is_led, keys_left, lending, rows_of}
+use Rattle.rv_retrieval.specs.Shape.{Shape, front_entries, is_background, is_building, is_led, lending, rows_of}
+use Rattle.rv_final.specs.Stage.{keys_left}
 use Rattle.rv_retrieval.specs.Telling.{list_len}
 use Rattle.rv_judge.specs.Course.{fast_first}
 use Rattle.std.specs.Prelude.{◌||◌}
@@ -83,17 +84,6 @@ sum_of Done back front table keys = 0
 -- THE EFFORT
 abbrev pub effort : Shape → Shown → ℕ
 effort v shown = sum_of v.control (back_work v.joint v.borrowed shown) (front_work v shown) (table_work v shown) (keys_work v)
-
--- a call reads at most once, and does not raise the effort
-pub record Tries (before after : Counts) (old new : ℕ) : Type 0 where
-  pub once : reads after ≤ reads before + 1
-  pub less : new ≤ old
-
--- a step lowers the effort unless it ends, and reads nothing where it ends
-abbrev pub Falls : Scanned → Counts → Counts → ℕ → ℕ → Type 0
-Falls (Found r) before after old new = new < old
-Falls Working before after old new = new < old
-Falls End before after old new = after ≡ before
 
 -- nothing was read where a step ends
 abbrev pub ReadsNone : Scanned → Counts → Counts → Type 0

@@ -1,8 +1,6 @@
 -- What a foreground step does, by the control, the strategy and the fresh key.
-use Rattle.std.specs.Prelude.{◌≡◌, ◌⊎◌, ℕ, ◌≤◌, Bool, true, false, not, ◌&&◌, ◌==◌, find, length, Option, Some, None, if◌then◌else◌}
+use Rattle.std.specs.Prelude.{◌≡◌, ◌⊎◌, ℕ, ◌≤◌, Bool, true, false, ◌&&◌, ◌==◌, length, Option, Some, None, if◌then◌else◌}
 use Rattle.rv_delivered.specs.Rows.{AddsRow}
-use Rattle.rv_keys.specs.Keys.{has_key}
-use Rattle.rv_value.specs.declared.record.RowNo.{RowNo}
 use Rattle.rv_judge.specs.Counting.{leaf_read, page_read, record_read}
 use Rattle.rv_judge.specs.declared.counting.Counts.{Counts}
 use Rattle.rv_judge.specs.declared.events.Control.{Control}
@@ -31,7 +29,9 @@ use Rattle.rv_retrieval.specs.declared.steps.Fg.{Fg}
 use Rattle.rv_retrieval.specs.Given.{TakesLeaf}
 use Rattle.rv_retrieval.specs.Opens.{fg_of}
 use Rattle.rv_retrieval.specs.Rulings.{GivesOn, gone}
-use Rattle.rv_retrieval.specs.Shape.{Shape, keys_left, is_background, is_sorted, rows_of}
+use Rattle.rv_retrieval.specs.Shape.{Shape, is_background, is_sorted, rows_of}
+use Rattle.rv_final.specs.Stage.{FetchesKey, first_key}
+use Rattle.rv_final.specs.Work.{OneAtMost}
 use Rattle.rv_judge.specs.Tracing.{counted, noted}
 
 -- a piece is awaited
@@ -83,19 +83,11 @@ WalkReads v shown c d s = WalkRow v shown c d s ⊎ (d.records ≡ c.records)
 
 -- the first key of the complete list that is left and was not delivered
 abbrev pub first_left : Shape → Option ℕ
-first_left v = find (λ (k : ℕ). not (has_key k v.delivered)) (keys_left v.joint.list v.at)
-
-abbrev pub IsFirstLeft : Shape → Option RowNo → Type 0
-IsFirstLeft v None = first_left v ≡ None
-IsFirstLeft v (Some row) = first_left v ≡ Some row.0
+first_left v = first_key v.joint.list (Some v.delivered) v.at
 
 -- that key's row is fetched, and given exactly where it qualifies; where there is none it is the end
-abbrev pub FetchesKey : Option ℕ → Shape → Shown → Counts → Counts → Scanned → Type 0
-FetchesKey None v shown c d s = (s ≡ End) × (d ≡ c)
-FetchesKey (Some key) v shown c d s = (d ≡ record_read c) × (s ≡ looked v.query.only (row_at (rows_of v shown) key))
-
 abbrev pub ListReads : Shape → Shown → Counts → Counts → Scanned → Type 0
-ListReads v shown c d s = FetchesKey (first_left v) v shown c d s
+ListReads v shown c d s = FetchesKey (first_left v) v.query.only (rows_of v shown) c d s
 
 -- a source at its end leads to the last control
 abbrev pub ended_by : Happening → Scanned → Shape → Shape
@@ -149,10 +141,6 @@ DoesAs Over would state after shown c d s old new = (after ≡ state) × (s ≡ 
 -- WHAT A FOREGROUND STEP DOES
 abbrev pub DoesIts : (ℕ → Facts → Ruling) → ℕ → ℕ → Shown → Counts → Counts → Scanned → Shape → Shape → Type 0
 DoesIts would state after shown c d s old new = DoesAs (kind_of old.control old.strategy (fresh_of old)) would state after shown c d s old new
-
--- at most one read of a sort, and no other
-abbrev pub OneAtMost : (Counts → Counts) → Counts → Counts → Type 0
-OneAtMost one c d = (d ≡ c) ⊎ (d ≡ one c)
 
 -- a foreground's scan reads leaves alone where its index has every column needed, else leaves and records
 abbrev pub FrontMayRead : Bool → Counts → Counts → Type 0

@@ -6,7 +6,7 @@ ghost use Rattle.rv_choice.specs.Asked.{CanAsk};
 ghost use Rattle.rv_choice.specs.Choice.{IsChosen, IsRight, candidates_of, no_candidate};
 ghost use Rattle.rv_retrieval.specs.Opened.{Begun, IsMade, OnlyLists, Opened, RunsOut, SameScans, Scanned, Starts, front_begun, front_candidate, guarantee_of, is_one, start_told};
 ghost use Rattle.rv_retrieval.specs.Opens.{Opens};
-ghost use Rattle.rv_retrieval.specs.Rest.{qualifying};
+ghost use Rattle.rv_final.specs.Rest.{qualifying};
 ghost use Rattle.rv_retrieval.specs.Runs.{Tells};
 ghost use Rattle.rv_retrieval.specs.Shape.{RetrievalFits, is_background, rest};
 ghost use Rattle.rv_judge.specs.Tracing.{CountsAll, NothingCounted, new_trace};

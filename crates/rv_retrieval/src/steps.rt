@@ -11,10 +11,11 @@ ghost use Rattle.rv_retrieval.specs.Accounts.{IsFresh, first_fresh};
 ghost use Rattle.rv_retrieval.specs.Fronts.{SameFront};
 ghost use Rattle.rv_retrieval.specs.Opens.{GivesStep, fg_of};
 ghost use Rattle.rv_retrieval.specs.Runs.{SameCourse, Tells};
-ghost use Rattle.rv_retrieval.specs.Shape.{Delivers, DoesStep, EndsIn, KeyAt, NextKey, PassesKeys, RetrievalFits, Source, given_as, is_background, is_building, is_index_only, rest, source, lending, rows_of};
-ghost use Rattle.rv_retrieval.specs.Stepping.{Borrows, DoesIts, FrontMayRead, FrontReads, IsFirstLeft, ListReads, MayReadIts, OneAtMost, OnlyTakes, ReadsIts, Remembered, RemembersBy, StepsAs, WalkReads, ended_by};
+ghost use Rattle.rv_retrieval.specs.Shape.{Delivers, DoesStep, EndsIn, RetrievalFits, Source, is_background, is_building, is_index_only, rest, source, lending, rows_of};
+ghost use Rattle.rv_retrieval.specs.Stepping.{Borrows, DoesIts, FrontMayRead, FrontReads, ListReads, MayReadIts, OnlyTakes, ReadsIts, Remembered, RemembersBy, StepsAs, WalkReads, ended_by};
 ghost use Rattle.rv_judge.specs.Tracing.{CountsRise, SameCounts};
-ghost use Rattle.rv_retrieval.specs.Effort.{Awaiting, Falls, FgSpends, Tries, effort, keys_work, to_borrow};
+ghost use Rattle.rv_retrieval.specs.Effort.{Awaiting, FgSpends, effort, to_borrow};
+ghost use Rattle.rv_final.specs.Work.{Falls, Tries, OneAtMost};
 ghost use Rattle.rv_retrieval.specs.Short.{Settled, fetches_left};
 
 use crate::retrieval::Retrieval;
@@ -22,15 +23,6 @@ use rv_judge::{Control, Event, Happening, Judge, Steps, Strategy};
 use rv_reader::Reader;
 use rv_scan::Scanned;
 use rv_value::{NoMemory, Record, RowNo};
-
-fn given(found: Option<Record>) -> Scanned
-    ensures { result ≡ given_as found }
-{
-    match found {
-        Some(found) => Scanned::Found(found),
-        None => Scanned::Working,
-    }
-}
 
 /// What a foreground step answers.
 #[derive(Drop, Debug)]
@@ -55,30 +47,6 @@ fn answer(scanned: Scanned) -> Fg
 
 /// The foreground of a retrieval: a function for each control.
 impl Retrieval {
-    /// The next key of the complete list whose row was not delivered. Those before it are passed over; there are at most
-    /// as many as the buffer has places.
-    fn final_key(&mut self) -> Option<RowNo>
-        ensures same { self.new ≡ record self.old { at = self.new.at } }
-        ensures passed { PassesKeys self.old.joint.list self.old.delivered self.old.at self.new.at }
-        ensures key { KeyAt self.old.joint.list self.new.at result }
-        ensures first { IsFirstLeft self.old result }
-        ensures fresh { IfSome result (λ row. has_key row.0 self.old.delivered ≡ false) }
-        ensures fewer { keys_work self.new ≤ keys_work self.old }
-    {
-        match self.key_at() {
-            None => None,
-            Some(row) => {
-                let given_before = self.was_delivered(row);
-                if given_before {
-                    self.pass_key();
-                    self.final_key()
-                } else {
-                    Some(row)
-                }
-            }
-        }
-    }
-
     /// Fetches the next key of the complete list.
     fn list_step<R: Reader>(
         &mut self,
@@ -106,45 +74,14 @@ impl Retrieval {
         ensures settled { Settled self.old → Settled self.new }
         ensures front { SameFront self.old.front self.new.front }
     {
-        match self.final_key() {
-            None => {
+        match self.scan_list(reader, steps)? {
+            Scanned::Found(row) => Ok(Scanned::Found(row)),
+            Scanned::Working => Ok(Scanned::Working),
+            Scanned::End => {
                 self.go(Happening::FinalEnded);
                 Ok(Scanned::End)
             }
-            Some(row) => self.fetch_key(reader, row, steps),
         }
-    }
-
-    fn fetch_key<R: Reader>(
-        &mut self,
-        reader: &R,
-        row: RowNo,
-        steps: &mut Steps<R::Ledger>,
-    ) -> Result<Scanned, NoMemory>
-        requires control { self.old.control ≡ Control.FinalList }
-        requires fits { RetrievalFits self.old (R.shown reader.now) }
-        requires key { NextKey self.old.joint.list self.old.at row.0 }
-        requires fresh { has_key row.0 self.old.delivered ≡ false }
-        ensures counts { SameCounts self.old.trace self.new.trace }
-        ensures query { self.new.query ≡ self.old.query }
-        ensures fits { RetrievalFits self.new (R.shown reader.now) }
-        ensures step { IfOk result (DoesStep self.old self.new (R.shown reader.now)) }
-        ensures ends { IfOk result (EndsIn self.new) }
-        ensures err { OnErr result (self.new ≡ self.old) }
-        ensures does { IfOk result (λ s. self.new ≡ ended_by Happening.FinalEnded s (record self.old { at = self.new.at })) }
-        ensures tries { Tries steps.old steps.new (effort self.old (R.shown reader.now)) (effort self.new (R.shown reader.now)) }
-        ensures falls { IfOk result (λ s. Falls s steps.old steps.new (effort self.old (R.shown reader.now)) (effort self.new (R.shown reader.now))) }
-        ensures awaiting { Awaiting self.old → Awaiting self.new }
-        ensures reads { steps.new ≡ record_read steps.old }
-        ensures looks { IfOk result (λ s. s ≡ looked self.old.query.only (row_at (rows_of self.old (R.shown reader.now)) row.0)) }
-        ensures records { IfOk result (λ s. steps.new.records + fetches_left self.new (R.shown reader.now) ≤ steps.old.records + fetches_left self.old (R.shown reader.now)) }
-        ensures pages { steps.new.pages ≡ steps.old.pages }
-        ensures settled { Settled self.old → Settled self.new }
-        ensures front { SameFront self.old.front self.new.front }
-    {
-        let found = self.examine(reader, row, steps)?;
-        self.pass_key();
-        Ok(given(found))
     }
 
     /// A step of the final scan of the table.

@@ -1,4 +1,4 @@
--- The records that a retrieval still owes, as a part of the table's rows, and what a step does to them.
+-- The records that are still owed, as a part of a table's rows, and what a step does to them.
 use Rattle.std.specs.Prelude.{◌≡◌, ℕ, ◌<◌, Bool, true, false, not, ◌&&◌, List, [], ◌∷◌, ◌++◌, length, filter, map, Some, nat_eq}
 use Rattle.std.specs.List.{list_all, list_any}
 use Rattle.std.specs.Ordering.{is_lt}

@@ -9,7 +9,7 @@ use Rattle.rv_restrict.specs.declared.atom.Atom.{Atom}
 use Rattle.rv_restrict.specs.Truth.{qualifies}
 use Rattle.rv_reader.specs.Tables.{row_at}
 use Rattle.rv_reader.proofs.Filters.{both}
-use Rattle.rv_retrieval.specs.Rest.{rest_by, qualifies_at, Agree, AgreesIn, IsWide, TakesOut, Marks, has_row}
+use Rattle.rv_final.specs.Rest.{rest_by, qualifies_at, Agree, AgreesIn, IsWide, TakesOut, Marks, has_row}
 
 here_qualifies : (only : List (List Atom)) (r : Record) (rows : List Record) → qualifies only r.values ≡ true → qualifies_at only (r ∷ rows) r.row.0 ≡ true
 here_qualifies only r rows p = first _ _ _ (same_number r.row.0) p

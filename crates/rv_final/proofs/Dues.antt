@@ -1,5 +1,5 @@
 -- What a scan's step says of each row number: the records that it looks through stand for rows of the table.
-use Rattle.std.proofs.Common.{◌≡◌, ℕ, List, [], ◌∷◌, filter, Bool, true, false, not, cond, ◌&&◌, ◌||◌, refl, ap, sym, ◌∙◌, arith, subst, Some, nat_eq, inl, inr}
+use Rattle.std.proofs.Common.{◌≡◌, ℕ, List, [], ◌∷◌, drop, filter, Bool, true, false, not, cond, ◌&&◌, ◌||◌, refl, ap, sym, ◌∙◌, arith, subst, Some, nat_eq, zero, suc, inl, inr}
 use Rattle.std.specs.List.{AllByRecursion}
 use Rattle.std.proofs.lemmas.Bool.{cases_Bool}
 use Rattle.std.proofs.lemmas.Bool.Decides.{nat_tests}
@@ -12,8 +12,8 @@ use Rattle.rv_reader.proofs.Filters.{both}
 use Rattle.rv_scan.specs.declared.skip.Scanned.{Scanned}
 use Rattle.rv_scan.specs.declared.skip.Scanned.TheVariants.{Found, Working, End}
 use Rattle.rv_scan.specs.Due.{Skipped, StepsTo, due, is_due, skips}
-use Rattle.rv_retrieval.specs.Rest.{qualifies_at, Agree, AgreesIn, IsWide, Marks, StepMarks, has_row}
-use Rattle.rv_retrieval.proofs.Rests.{told_by}
+use Rattle.rv_final.specs.Rest.{qualifies_at, Agree, AgreesIn, IsWide, Marks, StepMarks, has_row}
+use Rattle.rv_final.proofs.Rests.{below_all, rows_found, told_by}
 
 -- a record that stands for a row: it agrees with it in the columns needed, and qualifies exactly where the row does
 pub record StandsFor (need : List ℕ) (only : List (List Atom)) (rows : List Record) (x : Record) : Type 0 where
@@ -154,3 +154,45 @@ pub step_marks : (need : List ℕ) (only : List (List Atom)) (rows : List Record
 step_marks need only rows skip xs ys (Found r) w v asc lx ly step = found_marks need only rows skip xs ys r asc lx ly step.0
 step_marks need only rows skip xs ys Working w v asc lx ly step = λ n q. sym (due_has need only rows skip ys n asc ly.each q) ∙ ap (has_row n) step.0 ∙ due_has need only rows skip xs n asc lx.each q
 step_marks need only rows skip xs ys End w v asc lx ly step = (none_due need only rows skip xs asc lx step.0, none_due need only rows skip ys asc ly step.1)
+
+-- The rows of a table themselves.
+
+pub rows_apart : (rows : List Record) → Ascend rows → RowsApart rows
+rows_apart [] a = tt
+rows_apart (r ∷ rows) a = (below_all r rows r.row.0 (omega arith) a.0, rows_apart rows a.1)
+
+pub all_dropped : {X : Type 0} (P : X → Type 0) (k : ℕ) (xs : List X) → AllByRecursion P xs → AllByRecursion P (drop k xs)
+all_dropped P zero xs a = a
+all_dropped P (suc k) [] a = a
+all_dropped P (suc k) (x ∷ xs) a = all_dropped P k xs a.1
+
+rows_apart_dropped : (k : ℕ) (xs : List Record) → RowsApart xs → RowsApart (drop k xs)
+rows_apart_dropped zero xs a = a
+rows_apart_dropped (suc k) [] a = a
+rows_apart_dropped (suc k) (x ∷ xs) a = rows_apart_dropped k xs a.1
+
+pub rows_looks : (need : List ℕ) (only : List (List Atom)) (rows : List Record) (k : ℕ) → Ascend rows → Looks need only rows (drop k rows)
+rows_looks need only rows k asc = record {
+  each = stands (drop k rows) (all_dropped (λ (x : Record). row_at rows x.row.0 ≡ Some x) k rows (rows_found rows asc));
+  apart = rows_apart_dropped k rows (rows_apart rows asc);
+}
+  where
+    stands : (xs : List Record) → AllByRecursion (λ (x : Record). row_at rows x.row.0 ≡ Some x) xs → AllByRecursion (StandsFor need only rows) xs
+    stands [] a = tt
+    stands (x ∷ xs) a = (record { row = x; there = a.0; agrees = λ c h. refl; wide = λ c h l. l; same = refl }, stands xs a.1)
+
+-- Marks by tests that tell the same.
+pub marks_move : (need : List ℕ) (only : List (List Atom)) (rows : List Record) (s : Scanned) (old new o n : ℕ → Bool) → Ascend rows → Agree only rows old o → Agree only rows new n → StepMarks need only rows s old new → StepMarks need only rows s o n
+marks_move need only rows (Found r) old new o n asc a b m =
+    let q = told_by only rows r.row.0 m.taken asc m.there ∙ m.qualifies in
+    record {
+      taken = m.taken;
+      there = m.there;
+      qualifies = m.qualifies;
+      left = a r.row.0 q ∙ m.left;
+      agrees = m.agrees;
+      wide = m.wide;
+      others = λ k p. b k p ∙ m.others k p ∙ ap (λ (x : Bool). x && not (nat_eq k r.row.0)) (sym (a k p));
+    }
+marks_move need only rows Working old new o n asc a b m = λ k p. b k p ∙ m k p ∙ sym (a k p)
+marks_move need only rows End old new o n asc a b m = (λ k p. a k p ∙ m.0 k p, λ k p. b k p ∙ m.1 k p)
