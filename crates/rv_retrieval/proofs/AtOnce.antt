@@ -20,7 +20,8 @@ use Rattle.rv_choice.specs.declared.choosing.Choice.{Choice}
 use Rattle.rv_choice.specs.declared.query.Query.{Query}
 use Rattle.rv_retrieval.specs.declared.steps.Fg.{Fg}
 use Rattle.rv_choice.specs.Choice.{AreScans, IsChosen, candidates_of}
-use Rattle.rv_retrieval.specs.Opened.{IsMade, OnlyLists, Opened, RunsOut, SameScans, Scanned, Settles, Starts, bounded_by, guarantee_of, has_scans, is_one}
+use Rattle.rv_retrieval.specs.Opened.{IsMade, OnlyLists, Opened, RunsOut, SameScans, Scanned, Settles, Starts, bounded_by, has_scans, is_one}
+use Rattle.rv_choice.specs.Leading.{guarantee_of}
 use Rattle.rv_retrieval.specs.Opens.{GivesStep, fg_of, first_of}
 use Rattle.rv_final.specs.Rest.{Steps}
 use Rattle.rv_retrieval.specs.Rulings.{going_on, gone, listed, scan_over}

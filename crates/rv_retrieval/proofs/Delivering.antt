@@ -23,7 +23,8 @@ use Rattle.rv_scan.specs.declared.skip.Scanned.TheVariants.{Found, Working, End}
 use Rattle.rv_scan.specs.Alongs.{Follows, looked}
 use Rattle.rv_choice.specs.declared.query.Query.{Query}
 use Rattle.rv_final.specs.Rest.{Agree, IsLeast, StepMarks, Steps, rest_by}
-use Rattle.rv_retrieval.specs.Fronts.{Front, SameFront, front_left, walk_of}
+use Rattle.rv_retrieval.specs.Fronts.{front_left}
+use Rattle.rv_scan.specs.Fronts.{Front, SameFront, walk_of}
 use Rattle.rv_retrieval.specs.Shape.{Shape, RetrievalFits, Delivers, DoesStep, FrontFits, LeastOf, Undelivered, Ahead, Keys, rest, source, source_of, left_at, rows_of, front_entries, is_building, is_index_only, is_sorted, is_led, is_early}
 use Rattle.rv_final.proofs.Rests.{marks_out, no_rest, same_rest, told_by}
 use Rattle.rv_retrieval.proofs.Switching.{rest_at, both_ahead}

@@ -11,9 +11,9 @@ use Rattle.rv_scan.specs.Alongs.{is_given, left}
 use Rattle.rv_scan.specs.Due.{Skipped, is_unlisted, skips, was_delivered}
 use Rattle.rv_jscan.specs.Joint.{keys_of}
 use Rattle.rv_jscan.specs.Pieces.{may}
-use Rattle.rv_retrieval.specs.Fronts.{Front, SameFront, walk_of}
+use Rattle.rv_scan.specs.Fronts.{Front, SameFront, walk_of, front_fetches}
 use Rattle.rv_retrieval.specs.Shape.{RetrievalFits, Shape, front_entries, is_led}
-use Rattle.rv_retrieval.specs.Short.{front_fetches, scan_fetches}
+use Rattle.rv_retrieval.specs.Short.{scan_fetches}
 use Rattle.rv_retrieval.proofs.Fronting.{own_entries}
 
 given_may : (skip : Skipped) (list : Option (List ℕ)) (n : ℕ) → skip.delivered ≡ None → keys_of skip.list ≡ list → not (skips skip n) ≡ may list n

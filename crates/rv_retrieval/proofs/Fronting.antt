@@ -10,16 +10,16 @@ use Rattle.rv_keylist.specs.Listed.{Listed}
 use Rattle.rv_reader.specs.Shown.{Shown}
 use Rattle.rv_reader.specs.Tables.{row_at}
 use Rattle.rv_scan.specs.declared.skip.Scanned.{Scanned}
-use Rattle.rv_scan.specs.declared.skip.Scanned.TheVariants.{Found, Working, End}
 use Rattle.rv_scan.specs.Alongs.{FetchesDue, Follows, looked, fetch_rest, fetched, leaf_work, left}
 use Rattle.rv_scan.specs.Due.{Skipped, StepsTo, due, is_unlisted, skips, was_delivered}
-use Rattle.rv_scan.specs.Told.{KeyReads, NamesThese, told, told_rest}
+use Rattle.rv_scan.specs.Told.{NamesThese, told, told_rest}
 use Rattle.rv_jscan.specs.Entries.{has_entry, Apart}
 use Rattle.rv_jscan.specs.Joint.{InCompleted, keys_of}
 use Rattle.rv_jscan.specs.Pieces.{may}
 use Rattle.rv_jscan.proofs.Fits.{covered_may}
 use Rattle.rv_final.specs.Rest.{Agree, StepMarks, has_row, qualifies_at}
-use Rattle.rv_retrieval.specs.Fronts.{Front, SameFront, front_left, front_rest, walk_of}
+use Rattle.rv_retrieval.specs.Fronts.{front_left}
+use Rattle.rv_scan.specs.Fronts.{Front, SameFront, front_rest, walk_of}
 use Rattle.rv_retrieval.specs.Shape.{RetrievalFits, Shape, front_entries, is_led, is_sorted, rows_of}
 use Rattle.rv_retrieval.specs.Stepping.{WalkReads}
 use Rattle.rv_final.proofs.Dues.{Looks, marks_move, open_in, step_marks}
@@ -135,12 +135,6 @@ front_marks (Ok s) v new shown skip f led by same follows step = one_marks v new
 front_marks (Err e) v new shown skip f led by same follows step = tt
 
 -- Which record a step reads.
-
-pub told_fetches : {E : Type 0} (r : Result Scanned E) (skip : Skipped) (only : List (List Atom)) (rows : List Record) (old new : Counts) → IfOk r (λ scanned. KeyReads scanned old new) → IfOk r (λ scanned. FetchesDue skip only rows scanned old new)
-told_fetches (Ok (Found r)) skip only rows old new reads = inr (ap (λ (c : Counts). c.records) reads)
-told_fetches (Ok Working) skip only rows old new reads = inr (ap (λ (c : Counts). c.records) reads)
-told_fetches (Ok End) skip only rows old new reads = inr (ap (λ (c : Counts). c.records) reads)
-told_fetches (Err e) skip only rows old new reads = tt
 
 pub walk_reads : {E : Type 0} (r : Result Scanned E) (v : Shape) (shown : Shown) (o l : Option Listed) (c d : Counts) → RetrievalFits v shown → is_led v.strategy ≡ true → o ≡ (if is_sorted v.strategy then l else None) → keys_of l ≡ v.joint.list → IfOk r (λ s. FetchesDue (record { delivered = None; list = o }) v.query.only (shown.rows v.front.fetching.table (walk_of v.front).snap) s c d) → IfOk r (WalkReads v shown c d)
 walk_reads (Err e) v shown o l c d f led hides keys reads = tt

@@ -33,7 +33,8 @@ use Rattle.rv_scan.specs.Told.{NamesThese, told}
 use Rattle.rv_scan.proofs.Telling.{told_wide, told_reads, told_truth}
 use Rattle.rv_jscan.specs.Entries.{has_entry}
 use Rattle.rv_final.specs.Rest.{order_of, qualifies_at}
-use Rattle.rv_retrieval.specs.Fronts.{Front, front_left, front_rest, walk_of}
+use Rattle.rv_retrieval.specs.Fronts.{front_left}
+use Rattle.rv_scan.specs.Fronts.{Front, front_rest, walk_of}
 use Rattle.rv_retrieval.specs.Shape.{LeastOf, RetrievalFits, Shape, front_entries, is_index_only, is_led, is_sorted, rows_of}
 use Rattle.rv_final.proofs.Rests.{found_row, rows_found, told_by}
 use Rattle.rv_final.proofs.Dues.{StandsFor}

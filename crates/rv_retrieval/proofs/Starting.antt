@@ -32,7 +32,7 @@ use Rattle.rv_choice.specs.declared.choosing.Role.TheVariants.{Restricted, Short
 use Rattle.rv_choice.specs.declared.query.Goal2.{Goal2}
 use Rattle.rv_choice.specs.declared.query.Goal2.TheVariants.{FastFirst as Soon, TotalTime}
 use Rattle.rv_choice.specs.declared.query.Query.{Query}
-use Rattle.rv_retrieval.specs.Fronts.{Front}
+use Rattle.rv_scan.specs.Fronts.{Front}
 use Rattle.rv_retrieval.specs.Opened.{Begun, RunsOut, Starts, has_scans, is_one, start_told}
 use Rattle.rv_retrieval.specs.Opens.{first_of}
 use Rattle.rv_retrieval.specs.Rulings.{gone, listed}

@@ -20,7 +20,8 @@ use Rattle.rv_scan.specs.Due.{HaveColumns}
 use Rattle.rv_scan.specs.Places.{Place, unseen}
 use Rattle.rv_jscan.specs.Joint.{Joint, JointFits, CanTake, meets, plan_at}
 use Rattle.rv_choice.specs.declared.query.Query.{Query}
-use Rattle.rv_retrieval.specs.Fronts.{Front, CanFront, front_left, walk_of}
+use Rattle.rv_retrieval.specs.Fronts.{front_left}
+use Rattle.rv_scan.specs.Fronts.{Front, CanFront, walk_of}
 use Rattle.rv_scan.specs.declared.skip.Scanned.{Scanned}
 use Rattle.rv_scan.specs.declared.skip.Scanned.TheVariants.{Found, Working, End}
 use Rattle.rv_final.specs.Rest.{IsLeast, Steps, rest_by, qualifies_at, Agree, has_row}

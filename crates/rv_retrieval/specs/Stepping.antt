@@ -14,7 +14,7 @@ use Rattle.rv_judge.specs.declared.judging.Facts.{Facts}
 use Rattle.rv_judge.specs.Verdicts.{Ruling}
 use Rattle.rv_reader.specs.Shown.{Shown}
 use Rattle.rv_reader.specs.Tables.{row_at}
-use Rattle.rv_scan.specs.Alongs.{FetchReads, looked}
+use Rattle.rv_scan.specs.Alongs.{looked}
 use Rattle.rv_scan.specs.Places.{PageReads}
 use Rattle.rv_scan.specs.Told.{KeyReads}
 use Rattle.rv_scan.specs.declared.skip.Scanned.{Scanned}
@@ -31,7 +31,8 @@ use Rattle.rv_retrieval.specs.Opens.{fg_of}
 use Rattle.rv_retrieval.specs.Rulings.{GivesOn, gone}
 use Rattle.rv_retrieval.specs.Shape.{Shape, is_background, is_sorted, rows_of}
 use Rattle.rv_final.specs.Stage.{FetchesKey, first_key}
-use Rattle.rv_final.specs.Work.{OneAtMost}
+use Rattle.rv_scan.specs.Fronts.{FrontMayRead, FrontReads}
+use Rattle.rv_scan.specs.Reads.{OneAtMost}
 use Rattle.rv_judge.specs.Tracing.{counted, noted}
 
 -- a piece is awaited
@@ -142,11 +143,6 @@ DoesAs Over would state after shown c d s old new = (after ≡ state) × (s ≡ 
 abbrev pub DoesIts : (ℕ → Facts → Ruling) → ℕ → ℕ → Shown → Counts → Counts → Scanned → Shape → Shape → Type 0
 DoesIts would state after shown c d s old new = DoesAs (kind_of old.control old.strategy (fresh_of old)) would state after shown c d s old new
 
--- a foreground's scan reads leaves alone where its index has every column needed, else leaves and records
-abbrev pub FrontMayRead : Bool → Counts → Counts → Type 0
-FrontMayRead true c d = OneAtMost leaf_read c d
-FrontMayRead false c d = OneAtMost leaf_read c d ⊎ OneAtMost record_read c d
-
 -- the awaited leaf is read where it is not held
 abbrev pub piece_read : Shape → Counts → Counts
 piece_read v c = if is_background v.control then steps_read v.joint c else c
@@ -164,10 +160,6 @@ MayRead Over v c d = d ≡ c
 
 abbrev pub MayReadIts : Shape → Counts → Counts → Type 0
 MayReadIts v c d = MayRead (kind_of v.control v.strategy (fresh_of v)) v c d
-
-abbrev pub FrontReads : Bool → Scanned → Counts → Counts → Type 0
-FrontReads true s c d = KeyReads s c d
-FrontReads false s c d = FetchReads s c d
 
 -- what it reads by its answer: a scan reads nothing where it gives a row of the leaf or page that it holds
 abbrev pub ReadsAs : Kind → Shape → Scanned → Counts → Counts → Type 0

@@ -3,7 +3,7 @@ ghost use Rattle.rv_reader.specs.Shown.{Shown};
 ghost use Rattle.rv_judge.specs.Course.{next_control};
 ghost use Rattle.rv_judge.specs.declared.events.Event.{Event as TheEvent};
 ghost use Rattle.rv_jscan.specs.Joint.{under_way};
-ghost use Rattle.rv_retrieval.specs.Fronts.{SameFront};
+ghost use Rattle.rv_scan.specs.Fronts.{SameFront};
 ghost use Rattle.rv_retrieval.specs.Given.{Answers, TakesLeaf, TakesPiece, awaited};
 ghost use Rattle.rv_retrieval.specs.Rulings.{GivesOn, Obeys, dropped, listed, ruled, scan_over, stopped};
 ghost use Rattle.rv_retrieval.specs.Runs.{IsOfUndropped, SameCourse, Tells};

@@ -8,14 +8,15 @@ ghost use Rattle.rv_scan.specs.Places.{PageReads};
 ghost use Rattle.rv_scan.specs.Told.{KeyReads};
 ghost use Rattle.rv_jscan.specs.Joint.{under_way};
 ghost use Rattle.rv_retrieval.specs.Accounts.{IsFresh, first_fresh};
-ghost use Rattle.rv_retrieval.specs.Fronts.{SameFront};
+ghost use Rattle.rv_scan.specs.Fronts.{SameFront, FrontMayRead, FrontReads};
 ghost use Rattle.rv_retrieval.specs.Opens.{GivesStep, fg_of};
 ghost use Rattle.rv_retrieval.specs.Runs.{SameCourse, Tells};
 ghost use Rattle.rv_retrieval.specs.Shape.{Delivers, DoesStep, EndsIn, RetrievalFits, Source, is_background, is_building, is_index_only, rest, source, lending, rows_of};
-ghost use Rattle.rv_retrieval.specs.Stepping.{Borrows, DoesIts, FrontMayRead, FrontReads, ListReads, MayReadIts, OnlyTakes, ReadsIts, Remembered, RemembersBy, StepsAs, WalkReads, ended_by};
+ghost use Rattle.rv_retrieval.specs.Stepping.{Borrows, DoesIts, ListReads, MayReadIts, OnlyTakes, ReadsIts, Remembered, RemembersBy, StepsAs, WalkReads, ended_by};
 ghost use Rattle.rv_judge.specs.Tracing.{CountsRise, SameCounts};
 ghost use Rattle.rv_retrieval.specs.Effort.{Awaiting, FgSpends, effort, to_borrow};
-ghost use Rattle.rv_final.specs.Work.{Falls, Tries, OneAtMost};
+ghost use Rattle.rv_final.specs.Work.{Falls, Tries};
+ghost use Rattle.rv_scan.specs.Reads.{OneAtMost};
 ghost use Rattle.rv_retrieval.specs.Short.{Settled, fetches_left};
 
 use crate::retrieval::Retrieval;

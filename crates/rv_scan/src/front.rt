@@ -1,16 +1,16 @@
 ghost use Rattle.std.specs.Prelude.{◌≡◌, ◌+◌, ◌≤◌, ℕ, IfOk, OnErr, true};
 ghost use Rattle.rv_scan.specs.Alongs.{Follows, leaf_work, FetchesDue};
 ghost use Rattle.rv_scan.specs.Due.{IsReady, StepsTo, skipped};
-ghost use Rattle.rv_retrieval.specs.Fronts.{CanFront, SameFront, front_rest, walk_of};
-ghost use Rattle.rv_retrieval.specs.Effort.{ReadsNone};
-ghost use Rattle.rv_retrieval.specs.Stepping.{FrontMayRead, FrontReads};
+ghost use Rattle.rv_scan.specs.Fronts.{CanFront, FrontMayRead, FrontReads, SameFront, front_fetches, front_rest, walk_of};
+ghost use Rattle.rv_scan.specs.Reads.{ReadsNone};
 ghost use Rattle.rv_judge.specs.Counting.{reads};
-ghost use Rattle.rv_retrieval.specs.Short.{front_fetches};
 
+use crate::fscan::Fscan;
+use crate::skip::{Scanned, Skip};
+use crate::sscan::Sscan;
 use rv_judge::Steps;
 use rv_reader::Reader;
 use rv_restrict::Restriction;
-use rv_scan::{Fscan, Scanned, Skip, Sscan};
 use rv_value::{Items, NoMemory};
 use std::marker::Model;
 
@@ -24,7 +24,7 @@ pub struct Front {
 }
 
 impl Model for Front {
-    ghost use Rattle.rv_retrieval.specs.Fronts.{Front};
+    ghost use Rattle.rv_scan.specs.Fronts.{Front};
 
     ghost Value = { Front };
 
