@@ -24,16 +24,24 @@ use Rattle.rv_jscan.specs.Joint.{Joint, under_way}
 use Rattle.rv_jscan.specs.Pieces.{Pieced, may}
 use Rattle.rv_jscan.specs.Steps.{Awaits, TakeLeaves, steps_read}
 use Rattle.rv_retrieval.specs.Accounts.{fresh_of}
-use Rattle.rv_retrieval.specs.Effort.{keys_work}
+use Rattle.rv_retrieval.specs.Effort.{Awaiting, keys_work}
 use Rattle.rv_retrieval.specs.declared.steps.Fg.{Fg}
 use Rattle.rv_retrieval.specs.Given.{TakesLeaf}
 use Rattle.rv_retrieval.specs.Opens.{fg_of}
 use Rattle.rv_retrieval.specs.Rulings.{GivesOn, gone}
 use Rattle.rv_retrieval.specs.Shape.{Shape, is_background, is_sorted, rows_of}
 use Rattle.rv_final.specs.Stage.{FetchesKey, first_key}
-use Rattle.rv_scan.specs.Fronts.{FrontMayRead, FrontReads}
+use Rattle.rv_scan.specs.Fronts.{FrontMayRead, FrontReads, SameFront}
 use Rattle.rv_scan.specs.Reads.{OneAtMost}
-use Rattle.rv_judge.specs.Tracing.{counted, noted}
+use Rattle.rv_judge.specs.Tracing.{SameCounts, counted, noted}
+
+-- WHAT EVERY STEP KEEPS, whatever it answers: the query, the foreground's scan but for its place, and that a scan is under
+-- way where pieces are awaited. It writes no counts into the trace; its caller does.
+pub record Steady (old new : Shape) : Type 0 where
+  pub counts : SameCounts old.trace new.trace
+  pub query : new.query ≡ old.query
+  pub awaiting : Awaiting old → Awaiting new
+  pub front : SameFront old.front new.front
 
 -- a piece is awaited
 abbrev pub is_awaiting : Shape → Bool

@@ -12,7 +12,7 @@ ghost use Rattle.rv_scan.specs.Fronts.{SameFront, FrontMayRead, FrontReads};
 ghost use Rattle.rv_retrieval.specs.Opens.{GivesStep, fg_of};
 ghost use Rattle.rv_retrieval.specs.Runs.{SameCourse, Tells};
 ghost use Rattle.rv_retrieval.specs.Shape.{Delivers, DoesStep, EndsIn, RetrievalFits, Source, is_background, is_building, is_index_only, rest, source, lending, rows_of};
-ghost use Rattle.rv_retrieval.specs.Stepping.{Borrows, DoesIts, ListReads, MayReadIts, OnlyTakes, ReadsIts, Remembered, RemembersBy, StepsAs, WalkReads, ended_by};
+ghost use Rattle.rv_retrieval.specs.Stepping.{Borrows, DoesIts, ListReads, MayReadIts, OnlyTakes, ReadsIts, Remembered, RemembersBy, Steady, StepsAs, WalkReads, ended_by};
 ghost use Rattle.rv_judge.specs.Tracing.{CountsRise, SameCounts};
 ghost use Rattle.rv_retrieval.specs.Effort.{Awaiting, FgSpends, effort, to_borrow};
 ghost use Rattle.rv_final.specs.Work.{Falls, Tries};
@@ -56,8 +56,7 @@ impl Retrieval {
     ) -> Result<Scanned, NoMemory>
         requires control { self.old.control ≡ Control.FinalList }
         requires fits { RetrievalFits self.old (R.shown reader.now) }
-        ensures counts { SameCounts self.old.trace self.new.trace }
-        ensures query { self.new.query ≡ self.old.query }
+        ensures steady { Steady self.old self.new }
         ensures fits { RetrievalFits self.new (R.shown reader.now) }
         ensures step { IfOk result (DoesStep self.old self.new (R.shown reader.now)) }
         ensures ends { IfOk result (EndsIn self.new) }
@@ -69,11 +68,9 @@ impl Retrieval {
         ensures still { OnErr result (OnlyTakes self.old self.new) }
         ensures tries { Tries steps.old steps.new (effort self.old (R.shown reader.now)) (effort self.new (R.shown reader.now)) }
         ensures falls { IfOk result (λ s. Falls s steps.old steps.new (effort self.old (R.shown reader.now)) (effort self.new (R.shown reader.now))) }
-        ensures awaiting { Awaiting self.old → Awaiting self.new }
         ensures records { IfOk result (λ s. steps.new.records + fetches_left self.new (R.shown reader.now) ≤ steps.old.records + fetches_left self.old (R.shown reader.now)) }
         ensures pages { steps.new.pages ≡ steps.old.pages }
         ensures settled { Settled self.old → Settled self.new }
-        ensures front { SameFront self.old.front self.new.front }
     {
         match self.scan_list(reader, steps)? {
             Scanned::Found(row) => Ok(Scanned::Found(row)),
@@ -93,8 +90,7 @@ impl Retrieval {
     ) -> Result<Scanned, NoMemory>
         requires control { self.old.control ≡ Control.FinalTable }
         requires fits { RetrievalFits self.old (R.shown reader.now) }
-        ensures counts { SameCounts self.old.trace self.new.trace }
-        ensures query { self.new.query ≡ self.old.query }
+        ensures steady { Steady self.old self.new }
         ensures fits { RetrievalFits self.new (R.shown reader.now) }
         ensures step { IfOk result (DoesStep self.old self.new (R.shown reader.now)) }
         ensures ends { IfOk result (EndsIn self.new) }
@@ -104,8 +100,6 @@ impl Retrieval {
         ensures reads { IfOk result (λ s. PageReads s steps.old steps.new) }
         ensures tries { Tries steps.old steps.new (effort self.old (R.shown reader.now)) (effort self.new (R.shown reader.now)) }
         ensures falls { IfOk result (λ s. Falls s steps.old steps.new (effort self.old (R.shown reader.now)) (effort self.new (R.shown reader.now))) }
-        ensures awaiting { Awaiting self.old → Awaiting self.new }
-        ensures front { SameFront self.old.front self.new.front }
     {
         match self.scan_last(reader, steps)? {
             Scanned::Found(found) => Ok(Scanned::Found(found)),
@@ -167,8 +161,7 @@ impl Retrieval {
         requires fits { RetrievalFits self.old (R.shown reader.now) }
         requires fresh { has_key row.0 self.old.delivered ≡ false }
         requires small { self.old.borrowed < 2 ^ 64 - 1 }
-        ensures counts { SameCounts self.old.trace self.new.trace }
-        ensures query { self.new.query ≡ self.old.query }
+        ensures steady { Steady self.old self.new }
         ensures fits { RetrievalFits self.new (R.shown reader.now) }
         ensures step { IfOk result (DoesStep self.old self.new (R.shown reader.now)) }
         ensures ends { IfOk result (EndsIn self.new) }
@@ -177,8 +170,6 @@ impl Retrieval {
         ensures reads { steps.new ≡ record_read steps.old }
         ensures tries { Tries steps.old steps.new (effort self.old (R.shown reader.now)) (effort self.new (R.shown reader.now)) }
         ensures falls { self.old.borrowed < length (lending self.old.joint) → IfOk result (λ s. Falls s steps.old steps.new (effort self.old (R.shown reader.now)) (effort self.new (R.shown reader.now))) }
-        ensures awaiting { Awaiting self.old → Awaiting self.new }
-        ensures front { SameFront self.old.front self.new.front }
     {
         match self.examine(reader, row, steps)? {
             Some(found) => {
@@ -203,8 +194,7 @@ impl Retrieval {
         requires control { self.old.control ≡ Control.Building }
         requires strategy { self.old.strategy ≡ Strategy.FastFirst }
         requires fits { RetrievalFits self.old (R.shown reader.now) }
-        ensures counts { SameCounts self.old.trace self.new.trace }
-        ensures query { self.new.query ≡ self.old.query }
+        ensures steady { Steady self.old self.new }
         ensures fits { RetrievalFits self.new (R.shown reader.now) }
         ensures step { IfOk result (DoesStep self.old self.new (R.shown reader.now)) }
         ensures ends { IfOk result (EndsIn self.new) }
@@ -214,12 +204,10 @@ impl Retrieval {
         ensures may_read { under_way self.old.joint ≡ true → MayReadIts self.old steps.old steps.new }
         ensures reads { under_way self.old.joint ≡ true → IfOk result (ReadsIts self.old steps.old steps.new) }
         ensures still { OnErr result (OnlyTakes self.old self.new) }
-        ensures front { SameFront self.old.front self.new.front }
         ensures stays { would judge.new ≡ would judge.old }
         ensures course { OnErr result (SameCourse self.old self.new) }
         ensures tries { Tries steps.old steps.new (effort self.old (R.shown reader.now)) (effort self.new (R.shown reader.now)) }
         ensures falls { Awaiting self.old → IfOk result (λ s. Falls s steps.old steps.new (effort self.old (R.shown reader.now)) (effort self.new (R.shown reader.now))) }
-        ensures awaiting { Awaiting self.old → Awaiting self.new }
     {
         match self.fresh_key() {
             None => self.background_step(reader, judge, steps),
@@ -236,8 +224,7 @@ impl Retrieval {
         requires front { source self.old ≡ Source.Ahead }
         requires forgets { (is_building self.old.control && is_index_only self.old.strategy) ≡ false }
         requires fits { RetrievalFits self.old (R.shown reader.now) }
-        ensures counts { SameCounts self.old.trace self.new.trace }
-        ensures query { self.new.query ≡ self.old.query }
+        ensures steady { Steady self.old self.new }
         ensures fits { RetrievalFits self.new (R.shown reader.now) }
         ensures step { IfOk result (DoesStep self.old self.new (R.shown reader.now)) }
         ensures ends { IfOk result (EndsIn self.new) }
@@ -247,12 +234,10 @@ impl Retrieval {
         ensures reads { IfOk result (λ s. FrontReads self.old.front.alone s steps.old steps.new) }
         ensures tries { Tries steps.old steps.new (effort self.old (R.shown reader.now)) (effort self.new (R.shown reader.now)) }
         ensures falls { IfOk result (λ s. Falls s steps.old steps.new (effort self.old (R.shown reader.now)) (effort self.new (R.shown reader.now))) }
-        ensures awaiting { Awaiting self.old → Awaiting self.new }
         ensures fetches { IfOk result (WalkReads self.old (R.shown reader.now) steps.old steps.new) }
         ensures records { Settled self.old → IfOk result (λ s. steps.new.records + fetches_left self.new (R.shown reader.now) ≤ steps.old.records + fetches_left self.old (R.shown reader.now)) }
         ensures pages { steps.new.pages ≡ steps.old.pages }
         ensures settled { Settled self.old → Settled self.new }
-        ensures front { SameFront self.old.front self.new.front }
     {
         match self.scan_front(reader, steps)? {
             Scanned::Found(record) => Ok(Scanned::Found(record)),
@@ -272,8 +257,7 @@ impl Retrieval {
     ) -> Result<Scanned, NoMemory>
         requires both { (is_building self.old.control && is_index_only self.old.strategy) ≡ true }
         requires fits { RetrievalFits self.old (R.shown reader.now) }
-        ensures counts { SameCounts self.old.trace self.new.trace }
-        ensures query { self.new.query ≡ self.old.query }
+        ensures steady { Steady self.old self.new }
         ensures fits { RetrievalFits self.new (R.shown reader.now) }
         ensures step { IfOk result (DoesStep self.old self.new (R.shown reader.now)) }
         ensures ends { IfOk result (EndsIn self.new) }
@@ -283,8 +267,6 @@ impl Retrieval {
         ensures reads { IfOk result (λ s. KeyReads s steps.old steps.new) }
         ensures tries { Tries steps.old steps.new (effort self.old (R.shown reader.now)) (effort self.new (R.shown reader.now)) }
         ensures falls { IfOk result (λ s. Falls s steps.old steps.new (effort self.old (R.shown reader.now)) (effort self.new (R.shown reader.now))) }
-        ensures awaiting { Awaiting self.old → Awaiting self.new }
-        ensures front { SameFront self.old.front self.new.front }
     {
         match self.scan_front(reader, steps)? {
             Scanned::Found(record) => {
@@ -307,8 +289,7 @@ impl Retrieval {
     ) -> Result<Scanned, NoMemory>
         requires control { self.old.control ≡ Control.Building }
         requires fits { RetrievalFits self.old (R.shown reader.now) }
-        ensures counts { SameCounts self.old.trace self.new.trace }
-        ensures query { self.new.query ≡ self.old.query }
+        ensures steady { Steady self.old self.new }
         ensures fits { RetrievalFits self.new (R.shown reader.now) }
         ensures step { IfOk result (DoesStep self.old self.new (R.shown reader.now)) }
         ensures ends { IfOk result (EndsIn self.new) }
@@ -318,12 +299,10 @@ impl Retrieval {
         ensures may_read { (is_background self.old.control ≡ true → under_way self.old.joint ≡ true) → MayReadIts self.old steps.old steps.new }
         ensures reads { (is_background self.old.control ≡ true → under_way self.old.joint ≡ true) → IfOk result (ReadsIts self.old steps.old steps.new) }
         ensures still { OnErr result (OnlyTakes self.old self.new) }
-        ensures front { SameFront self.old.front self.new.front }
         ensures stays { would judge.new ≡ would judge.old }
         ensures course { OnErr result (SameCourse self.old self.new) }
         ensures tries { Tries steps.old steps.new (effort self.old (R.shown reader.now)) (effort self.new (R.shown reader.now)) }
         ensures falls { Awaiting self.old → IfOk result (λ s. Falls s steps.old steps.new (effort self.old (R.shown reader.now)) (effort self.new (R.shown reader.now))) }
-        ensures awaiting { Awaiting self.old → Awaiting self.new }
     {
         match self.strategy() {
             Strategy::FastFirst => self.fast_step(reader, judge, steps),
@@ -342,8 +321,7 @@ impl Retrieval {
         steps: &mut Steps<R::Ledger>,
     ) -> Result<Scanned, NoMemory>
         requires fits { RetrievalFits self.old (R.shown reader.now) }
-        ensures counts { SameCounts self.old.trace self.new.trace }
-        ensures query { self.new.query ≡ self.old.query }
+        ensures steady { Steady self.old self.new }
         ensures fits { RetrievalFits self.new (R.shown reader.now) }
         ensures step { IfOk result (DoesStep self.old self.new (R.shown reader.now)) }
         ensures ends { IfOk result (EndsIn self.new) }
@@ -354,12 +332,10 @@ impl Retrieval {
         ensures may_read { (is_background self.old.control ≡ true → under_way self.old.joint ≡ true) → MayReadIts self.old steps.old steps.new }
         ensures reads { (is_background self.old.control ≡ true → under_way self.old.joint ≡ true) → IfOk result (ReadsIts self.old steps.old steps.new) }
         ensures still { OnErr result (OnlyTakes self.old self.new) }
-        ensures front { SameFront self.old.front self.new.front }
         ensures stays { would judge.new ≡ would judge.old }
         ensures course { OnErr result (SameCourse self.old self.new) }
         ensures tries { Tries steps.old steps.new (effort self.old (R.shown reader.now)) (effort self.new (R.shown reader.now)) }
         ensures falls { Awaiting self.old → IfOk result (λ s. Falls s steps.old steps.new (effort self.old (R.shown reader.now)) (effort self.new (R.shown reader.now))) }
-        ensures awaiting { Awaiting self.old → Awaiting self.new }
         ensures settled { Settled self.old → Settled self.new }
         ensures unasked { Settled self.old → state judge.new ≡ state judge.old }
         ensures pages { Settled self.old → steps.new.pages ≡ steps.old.pages }
