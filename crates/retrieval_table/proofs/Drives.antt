@@ -5,7 +5,7 @@ use Rattle.std.specs.Prelude.{IsPermutation}
 use Rattle.std.proofs.lemmas.List.Sorted.{IsPermutation-append_right, IsPermutation-middle, IsPermutation-refl, IsPermutation-trans}
 use Rattle.rv_value.specs.declared.record.Record.{Record}
 use Rattle.rv_reader.specs.Shown.{Shown}
-use Rattle.rv_retrieval.specs.Rest.{TakesOut}
+use Rattle.rv_final.specs.Rest.{TakesOut}
 use Rattle.rv_retrieval.specs.Shape.{Keeps, RetrievalFits, Shape, rest}
 use Rattle.retrieval_table.specs.Driving.{Gives, Stays, numbers_of}
 

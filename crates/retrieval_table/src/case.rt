@@ -1,6 +1,6 @@
 //! A retrieval for what is asked of a store that was loaded, and the line that tells of it.
 ghost use Rattle.std.specs.Prelude.{◌≡◌, ◌≤◌, IfOk, IsPermutation, true};
-ghost use Rattle.rv_retrieval.specs.Rest.{qualifying};
+ghost use Rattle.rv_final.specs.Rest.{qualifying};
 ghost use Rattle.retrieval_table.specs.Asking.{spans_of};
 ghost use Rattle.retrieval_table.specs.Driving.{numbers_of};
 ghost use Rattle.retrieval_table.specs.Standing.{Stands};

@@ -3,7 +3,9 @@
 #![tactic(auto)]
 
 mod choosing;
+mod leading;
 mod query;
 
 pub use choosing::{Background, Candidate, Choice, Role, candidates, choose, scans};
+pub use leading::{foreground, guarantee};
 pub use query::{Goal2, Query, ordered};

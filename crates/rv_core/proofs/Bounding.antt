@@ -1,13 +1,12 @@
 -- The bounds with which a cursor's plan begins, from what its opening makes of a counter at zero.
 use Rattle.std.proofs.Common.{◌≡◌, ℕ, ◌+◌, ◌-◌, ◌≤◌, true, List, ap, arith, Result, Ok, Err, IfOk}
-use Rattle.rv_judge.specs.Counting.{no_counts, reads}
+use Rattle.rv_judge.specs.Counting.{no_counts, reads, raised}
 use Rattle.rv_judge.specs.declared.counting.Counts.{Counts}
 use Rattle.rv_catalog.specs.declared.def.IndexDef.{IndexDef}
 use Rattle.rv_catalog.specs.declared.def.Select.{Select}
 use Rattle.rv_reader.specs.Shown.{Shown}
-use Rattle.rv_jscan.specs.Steps.{raised}
 use Rattle.rv_retrieval.specs.Short.{OnlyLeaves, Settled, fetches_left, has_short}
-use Rattle.rv_retrieval.specs.Telling.{CountsAll}
+use Rattle.rv_judge.specs.Tracing.{CountsAll}
 use Rattle.rv_join.specs.Alone.{plan_effort, plan_life}
 use Rattle.rv_join.specs.Plans.{Planned, plan_trace, plan_work}
 use Rattle.rv_join.specs.Work.{row_cost}

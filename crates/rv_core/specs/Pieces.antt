@@ -13,7 +13,7 @@ use Rattle.rv_retrieval.specs.Given.{TakesPiece}
 use Rattle.rv_retrieval.specs.Rulings.{GivesOn}
 use Rattle.rv_retrieval.specs.Short.{Settled}
 use Rattle.rv_retrieval.specs.Stepping.{piece_read}
-use Rattle.rv_retrieval.specs.Telling.{CountsRise, SameCounts}
+use Rattle.rv_judge.specs.Tracing.{CountsRise, SameCounts}
 use Rattle.rv_join.specs.Alone.{IsAlone, TakesOnce}
 use Rattle.rv_join.specs.Pieces.{CountsPiece, GivesPiece, TakesAwaited, plan_awaited, plan_pieces, waited, waiting}
 use Rattle.rv_join.specs.Plans.{PlanStays, plan_trace}

@@ -15,7 +15,7 @@ use Rattle.rv_retrieval.specs.Given.{AwaitsPiece}
 use Rattle.rv_retrieval.specs.Rulings.{GivesOn}
 use Rattle.rv_retrieval.specs.Short.{Settled}
 use Rattle.rv_retrieval.specs.Stepping.{piece_read}
-use Rattle.rv_retrieval.specs.Telling.{CountsRise, SameCounts}
+use Rattle.rv_judge.specs.Tracing.{CountsRise, SameCounts}
 use Rattle.rv_join.specs.Alone.{FewFetches, IsAlone, PlanAsks, PlanSpends, Spends, StepsOnce, TakesOnce, plan_effort}
 use Rattle.rv_join.specs.Pieces.{CountsPiece, GivesPiece, counted_up, plan_awaited, plan_pieces, stack_builds, waited, waiting}
 use Rattle.rv_join.specs.Plans.{PlanKept, PlanMoves, PlanStays, Planned, WorkTo, plan_trace, plan_work}

@@ -14,7 +14,7 @@ use Rattle.rv_retrieval.specs.Given.{AwaitsPiece}
 use Rattle.rv_retrieval.specs.Rulings.{GivesOn}
 use Rattle.rv_retrieval.specs.Short.{Settled}
 use Rattle.rv_retrieval.specs.Stepping.{piece_read}
-use Rattle.rv_retrieval.specs.Telling.{CountsRise, SameCounts}
+use Rattle.rv_judge.specs.Tracing.{CountsRise, SameCounts}
 use Rattle.rv_join.specs.Alone.{FewFetches, IsAlone, PlanAsks, PlanSpends, Spends, StepsOnce, TakesOnce, plan_effort}
 use Rattle.rv_join.specs.Pieces.{plan_awaited, plan_pieces, stack_builds, waited, waiting}
 use Rattle.rv_join.specs.Plans.{PlanMoves, PlanStays, Planned, plan_trace, plan_work}

@@ -2,7 +2,7 @@
 ghost use Rattle.std.specs.Prelude.{◌≡◌, ◌+◌, ◌≤◌, true, false, None, Ok, IfOk, OnErr};
 ghost use Rattle.rv_judge.specs.Counting.{reads};
 ghost use Rattle.rv_retrieval.specs.Short.{OnlyLeaves, Settled, fetches_left, has_short};
-ghost use Rattle.rv_retrieval.specs.Telling.{CountsAll};
+ghost use Rattle.rv_judge.specs.Tracing.{CountsAll};
 ghost use Rattle.rv_join.specs.Alone.{plan_effort, plan_life};
 ghost use Rattle.rv_join.specs.Asking.{CanPlan, IsAsked};
 ghost use Rattle.rv_join.specs.Levels.{table_rows};

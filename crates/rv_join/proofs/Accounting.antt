@@ -5,7 +5,7 @@ use Rattle.rv_judge.specs.declared.counting.Counts.{Counts}
 use Rattle.rv_judge.specs.declared.events.Trace.{Trace}
 use Rattle.rv_reader.specs.Shown.{Shown}
 use Rattle.rv_retrieval.specs.Shape.{Shape}
-use Rattle.rv_retrieval.specs.Telling.{CountsAll, CountsRise}
+use Rattle.rv_judge.specs.Tracing.{CountsAll, CountsRise}
 use Rattle.rv_join.specs.declared.places.Asked.{Asked}
 use Rattle.rv_join.specs.declared.level.Level.{Level}
 use Rattle.rv_join.specs.Levels.{StackFits, Stacked, first_in, first_of, is_last, used}

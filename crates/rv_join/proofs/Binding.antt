@@ -18,7 +18,7 @@ use Rattle.rv_choice.specs.Asked.{CanAsk, IsIndexOf}
 use Rattle.rv_judge.specs.Account.{life_bound}
 use Rattle.rv_retrieval.specs.Effort.{Awaiting, cuts_and_entries, effort, life_of}
 use Rattle.rv_retrieval.specs.Opened.{Opened}
-use Rattle.rv_retrieval.specs.Rest.{qualifying}
+use Rattle.rv_final.specs.Rest.{qualifying}
 use Rattle.rv_retrieval.specs.Runs.{Tells}
 use Rattle.rv_retrieval.specs.Shape.{RetrievalFits, Shape, rest}
 use Rattle.rv_join.specs.declared.places.Asked.{Asked}

@@ -15,8 +15,9 @@ use Rattle.rv_model.specs.declared.state.Offer.{Offer}
 use Rattle.rv_reader.specs.Entries.{column_of}
 use Rattle.rv_reader.specs.Shown.{Shown}
 use Rattle.rv_judge.specs.declared.counting.Counts.{Counts}
-use Rattle.rv_retrieval.specs.Effort.{Awaiting, Tries, effort}
-use Rattle.rv_retrieval.specs.Rest.{IsLeast, TakesOut, order_of}
+use Rattle.rv_retrieval.specs.Effort.{Awaiting, effort}
+use Rattle.rv_final.specs.Work.{Tries}
+use Rattle.rv_final.specs.Rest.{IsLeast, TakesOut, order_of}
 use Rattle.rv_retrieval.specs.Runs.{Tells}
 use Rattle.rv_retrieval.specs.Shape.{RetrievalFits, Shape, rest}
 use Rattle.rv_join.specs.declared.places.Asked.{Asked}

@@ -4,7 +4,9 @@ use Rattle.rv_judge.specs.Counting.{leaf_read, one_more, page_read, record_read}
 use Rattle.rv_judge.specs.declared.counting.Counts.{Counts}
 use Rattle.rv_jscan.specs.Steps.{reads_leaf, steps_read}
 use Rattle.rv_retrieval.specs.Shape.{Shape, is_background}
-use Rattle.rv_retrieval.specs.Stepping.{FrontMayRead, Kind, MayRead, OneAtMost, piece_read}
+use Rattle.rv_retrieval.specs.Stepping.{Kind, MayRead, piece_read}
+use Rattle.rv_scan.specs.Fronts.{FrontMayRead}
+use Rattle.rv_scan.specs.Reads.{OneAtMost}
 use Rattle.rv_retrieval.specs.Stepping.Kind.{Borrow, Piece, Walk, WalkBoth, NextKey, NextPage, Over}
 
 abbrev pub OneUp : Counts → Counts → Type 0

@@ -7,7 +7,7 @@ use Rattle.rv_judge.specs.Runs.{Allowed}
 use Rattle.rv_retrieval.specs.Runs.{indexes_asked}
 use Rattle.rv_retrieval.specs.Shape.{RetrievalFits}
 use Rattle.rv_retrieval.proofs.Tellings.{allowed}
-use Rattle.rv_retrieval.specs.Telling.{SameCounts}
+use Rattle.rv_judge.specs.Tracing.{SameCounts}
 use Rattle.rv_join.specs.declared.places.Asked.{Asked}
 use Rattle.rv_join.specs.declared.level.Level.{Level}
 use Rattle.rv_join.specs.declared.plan.PlanStep.{PlanStep}

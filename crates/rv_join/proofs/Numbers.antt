@@ -2,7 +2,7 @@
 use Rattle.std.proofs.Common.{◌≡◌, ℕ, ◌<◌, List, [], ◌∷◌, length, Bool, true, false, Option, Some, None, is_some, if◌then◌else◌, refl, ap, sym, ◌∙◌, arith, subst, zero, suc, slice_index_or, slice_set, position, Result, Ok, Err, IfOk}
 use Rattle.std.proofs.lemmas.List.{length-set}
 use Rattle.std.proofs.lemmas.List.Folds.{position_or_len-set}
-use Rattle.rv_judge.specs.Counting.{one_more}
+use Rattle.rv_judge.specs.Counting.{one_more, raised}
 use Rattle.rv_judge.specs.declared.judging.Facts.{Facts}
 use Rattle.rv_judge.specs.Verdicts.{Ruling}
 use Rattle.rv_judge.specs.declared.judging.Verdict.{Verdict}
@@ -15,7 +15,7 @@ use Rattle.rv_jscan.specs.declared.jscan.Taken.{Taken}
 use Rattle.rv_jscan.specs.declared.jscan.Taken.TheVariants.{Piece, Nothing}
 use Rattle.rv_jscan.specs.Joint.{Joint, under_way}
 use Rattle.rv_jscan.specs.Pieces.{Pieced}
-use Rattle.rv_jscan.specs.Steps.{Accepts, awaited_id, held_next, raised}
+use Rattle.rv_jscan.specs.Steps.{Accepts, awaited_id, held_next}
 use Rattle.rv_retrieval.specs.Given.{AwaitsPiece, TakesLeaf, TakesLeafBy, TakesPiece, awaited, more_behind}
 use Rattle.rv_retrieval.specs.Rulings.{GivesOn, Obeyed, dropped, ruled, scan_over, stopped}
 use Rattle.rv_retrieval.specs.Shape.{Shape, is_background}

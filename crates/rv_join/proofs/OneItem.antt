@@ -1,7 +1,7 @@
 -- A plan over one FROM item: what its one retrieval does, and what the first item's retrieval keeps.
 use Rattle.std.proofs.Common.{◌≡◌, ℕ, ◌+◌, ◌-◌, ◌^◌, ◌<◌, ◌≤◌, List, [], ◌∷◌, ◌++◌, length, Bool, true, false, ◌==◌, Option, Some, None, is_some, refl, ap, sym, ◌∙◌, arith, subst, inl, inr, zero, suc, slice_index_or, slice_set, Result, Ok, Err, IfOk, OnOk, OnErr}
 use Rattle.rv_value.specs.declared.value.Value.{Value}
-use Rattle.rv_judge.specs.Counting.{reads}
+use Rattle.rv_judge.specs.Counting.{reads, raised}
 use Rattle.rv_judge.specs.declared.counting.Counts.{Counts}
 use Rattle.rv_judge.specs.declared.events.Happening.{Happening}
 use Rattle.rv_judge.specs.declared.events.Happening.TheVariants.{FrontEnded, FinalEnded}
@@ -15,9 +15,10 @@ use Rattle.rv_jscan.specs.Pieces.{Pieced}
 use Rattle.rv_jscan.specs.declared.jscan.Given.{Given}
 use Rattle.rv_jscan.specs.declared.jscan.Given.TheVariants.{Accepted, Stale}
 use Rattle.rv_value.specs.declared.record.IndexEntry.{IndexEntry}
-use Rattle.rv_jscan.specs.Steps.{Accepts, held_next, raised}
+use Rattle.rv_jscan.specs.Steps.{Accepts, held_next}
 use Rattle.rv_retrieval.specs.declared.steps.Fg.{Fg}
-use Rattle.rv_retrieval.specs.Effort.{GiveSpends, Tries, effort, life_of}
+use Rattle.rv_retrieval.specs.Effort.{GiveSpends, effort, life_of}
+use Rattle.rv_final.specs.Work.{Tries}
 use Rattle.rv_retrieval.specs.Given.{TakesLeaf, TakesLeafBy, awaited}
 use Rattle.rv_retrieval.specs.Opened.{Opened}
 use Rattle.rv_retrieval.specs.Rulings.{GivesOn}

@@ -9,8 +9,9 @@ use Rattle.rv_value.specs.declared.value.Value.{Value}
 use Rattle.rv_value.specs.declared.record.Record.{Record}
 use Rattle.rv_reader.specs.Shown.{Shown}
 use Rattle.rv_judge.specs.declared.counting.Counts.{Counts}
-use Rattle.rv_retrieval.specs.Effort.{Awaiting, Tries, effort}
-use Rattle.rv_retrieval.specs.Rest.{AgreesIn, TakesOut}
+use Rattle.rv_retrieval.specs.Effort.{Awaiting, effort}
+use Rattle.rv_final.specs.Work.{Tries}
+use Rattle.rv_final.specs.Rest.{AgreesIn, TakesOut}
 use Rattle.rv_retrieval.specs.Runs.{Tells}
 use Rattle.rv_retrieval.specs.Shape.{Keeps, RetrievalFits, Shape, rest}
 use Rattle.rv_join.specs.declared.places.Asked.{Asked}

@@ -5,7 +5,7 @@ use Rattle.rv_value.specs.declared.value.Value.{Value}
 use Rattle.rv_value.specs.declared.record.Record.{Record}
 use Rattle.rv_reader.specs.Shown.{Shown}
 use Rattle.rv_retrieval.specs.Effort.{effort}
-use Rattle.rv_retrieval.specs.Rest.{TakesOut}
+use Rattle.rv_final.specs.Rest.{TakesOut}
 use Rattle.rv_retrieval.specs.Shape.{Shape, rest}
 use Rattle.rv_join.specs.declared.places.Asked.{Asked}
 use Rattle.rv_join.specs.declared.places.Item.{Item}

@@ -9,7 +9,8 @@ use Rattle.rv_catalog.specs.declared.def.IndexDef.{IndexDef}
 use Rattle.rv_catalog.specs.declared.def.Select.{Select}
 use Rattle.rv_reader.specs.Shown.{Shown}
 use Rattle.rv_retrieval.specs.declared.steps.Fg.{Fg}
-use Rattle.rv_retrieval.specs.Effort.{Tries, cuts_and_entries, effort}
+use Rattle.rv_retrieval.specs.Effort.{cuts_and_entries, effort}
+use Rattle.rv_final.specs.Work.{Tries}
 use Rattle.rv_retrieval.specs.Runs.{SameCourse}
 use Rattle.rv_retrieval.specs.Shape.{Shape}
 use Rattle.rv_retrieval.specs.Short.{Settled, fetches_left}

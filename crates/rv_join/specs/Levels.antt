@@ -6,7 +6,7 @@ use Rattle.rv_value.specs.declared.value.Value.TheVariants.{Null}
 use Rattle.rv_value.specs.declared.record.Record.{Record}
 use Rattle.rv_model.specs.declared.state.Offer.{Offer}
 use Rattle.rv_reader.specs.Shown.{Shown}
-use Rattle.rv_jscan.specs.Steps.{raised}
+use Rattle.rv_judge.specs.Counting.{raised}
 use Rattle.rv_retrieval.specs.Effort.{Awaiting}
 use Rattle.rv_retrieval.specs.Runs.{Tells}
 use Rattle.rv_retrieval.specs.Shape.{RetrievalFits, rest}

@@ -6,7 +6,7 @@ use Rattle.rv_model.specs.declared.state.Offer.{Offer}
 use Rattle.rv_reader.specs.Shown.{Shown}
 use Rattle.rv_judge.specs.declared.counting.Counts.{Counts}
 use Rattle.rv_retrieval.specs.Shape.{Shape, rest}
-use Rattle.rv_retrieval.specs.Telling.{CountsRise}
+use Rattle.rv_judge.specs.Tracing.{CountsRise}
 use Rattle.rv_join.specs.declared.places.Asked.{Asked}
 use Rattle.rv_join.specs.declared.level.Level.{Level}
 use Rattle.rv_join.specs.declared.level.Caught.{Caught}

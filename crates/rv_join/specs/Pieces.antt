@@ -1,14 +1,13 @@
 -- The pieces of a plan: those of the first retrieval in FROM order that awaits one.
 use Rattle.std.specs.Prelude.{◌≡◌, ℕ, Bool, ◌||◌, List, [], ◌∷◌, length, Option, Some, None, is_some, position, zero, suc}
 use Rattle.std.specs.List.{list_any, slice_index_or}
-use Rattle.rv_judge.specs.Counting.{one_more}
+use Rattle.rv_judge.specs.Counting.{one_more, raised}
 use Rattle.rv_jscan.specs.declared.piece.PieceId.{PieceId}
 use Rattle.rv_jscan.specs.declared.jscan.Given.{Given}
 use Rattle.rv_jscan.specs.declared.jscan.Given.TheVariants.{Accepted, Stale}
 use Rattle.rv_jscan.specs.declared.jscan.Taken.{Taken}
 use Rattle.rv_jscan.specs.declared.jscan.Taken.TheVariants.{Piece, Nothing}
 use Rattle.rv_jscan.specs.Pieces.{Pieced}
-use Rattle.rv_jscan.specs.Steps.{raised}
 use Rattle.rv_retrieval.specs.Given.{AwaitsPiece, awaited}
 use Rattle.rv_retrieval.specs.Shape.{Shape, is_building}
 use Rattle.rv_join.specs.declared.level.Level.{Level}

@@ -7,7 +7,7 @@ use Rattle.rv_catalog.specs.declared.def.Select.{Select}
 use Rattle.rv_catalog.specs.declared.def.IndexDef.{IndexDef}
 use Rattle.rv_model.specs.declared.state.Offer.{Offer}
 use Rattle.rv_reader.specs.Shown.{Shown}
-use Rattle.rv_jscan.specs.Steps.{raised}
+use Rattle.rv_judge.specs.Counting.{raised}
 use Rattle.rv_retrieval.specs.Opened.{Opened}
 use Rattle.rv_join.specs.declared.places.Asked.{Asked}
 use Rattle.rv_join.specs.declared.gather.Stage.{Stage}

@@ -8,7 +8,7 @@ ghost use Rattle.rv_judge.specs.Counting.{reads};
 ghost use Rattle.rv_retrieval.specs.Effort.{effort, life_of};
 ghost use Rattle.rv_retrieval.specs.Short.{OnlyLeaves, Settled, fetches_left, has_short};
 ghost use Rattle.rv_retrieval.specs.Opened.{Opened};
-ghost use Rattle.rv_retrieval.specs.Telling.{CountsAll};
+ghost use Rattle.rv_judge.specs.Tracing.{CountsAll};
 ghost use Rattle.rv_join.specs.Asking.{Adds, AreWide, Asks, CanPlan, CanRun, IsAsked, IsItem, OpensItem, atom_names, by_index, col_at, columns_of, goal_of, group_names, indexes_from, is_first, item_at, only_names, operand_names, order_at, same_column, select_uses, table_at};
 
 use rv_catalog::{Goal, IndexDef, Select};

@@ -7,7 +7,7 @@ ghost use Rattle.rv_retrieval.specs.Rulings.{GivesOn};
 ghost use Rattle.rv_retrieval.specs.Given.{Answers, TakesPiece};
 ghost use Rattle.rv_retrieval.specs.Shape.{RetrievalFits};
 ghost use Rattle.rv_retrieval.specs.Stepping.{piece_read};
-ghost use Rattle.rv_retrieval.specs.Telling.{CountsAll, CountsRise, SameCounts};
+ghost use Rattle.rv_judge.specs.Tracing.{CountsAll, CountsRise, SameCounts};
 ghost use Rattle.rv_jscan.specs.declared.piece.PieceId.{PieceId as Id};
 ghost use Rattle.rv_jscan.specs.declared.jscan.Given.{Given as TheGiven};
 ghost use Rattle.rv_judge.specs.Counting.{reads};

@@ -21,7 +21,7 @@ ghost use Rattle.rv_retrieval.specs.Opened.{Opened};
 ghost use Rattle.rv_retrieval.specs.Rulings.{GivesOn};
 ghost use Rattle.rv_retrieval.specs.Shape.{RetrievalFits, is_building};
 ghost use Rattle.rv_retrieval.specs.Stepping.{piece_read};
-ghost use Rattle.rv_retrieval.specs.Telling.{CountsAll, CountsRise, SameCounts};
+ghost use Rattle.rv_judge.specs.Tracing.{CountsAll, CountsRise, SameCounts};
 
 use crate::level::{Caught, Level};
 use crate::places::{Asked, open_item};

@@ -1,12 +1,9 @@
 -- A leaf read, an accepted piece and an abandoned scan keep what a joint scan holds drawn from the entries.
-use Rattle.std.proofs.Common.{◌≡◌, ℕ, ◌<◌, ◌≤◌, List, [], ◌++◌, length, length-set, slice_set, Bool, true, false, ◌&&◌, ◌||◌, refl, ap, sym, ◌∙◌, arith, subst, Option, Some, None, nat_eq, IfSome, IsPermutation, inl, inr}
-use Rattle.std.proofs.lemmas.Bool.{cases_Bool}
+use Rattle.std.proofs.Common.{◌≡◌, ℕ, ◌<◌, ◌≤◌, List, [], ◌++◌, length, length-set, slice_set, Bool, true, false, ◌||◌, refl, ap, sym, ◌∙◌, arith, subst, Option, Some, None, nat_eq, IfSome, IsPermutation}
 use Rattle.std.proofs.lemmas.Bool.Decides.{nat_tests}
 use Rattle.std.proofs.lemmas.List.{get_or-set_other, get_or-set_same}
-use Rattle.std.proofs.lemmas.List.Elements.{filter-append}
 use Rattle.std.proofs.lemmas.List.Sorted.{list_any-IsPermutation}
 use Rattle.rv_value.specs.declared.record.IndexEntry.{IndexEntry}
-use Rattle.rv_restrict.specs.Parts.{Parted, passes}
 use Rattle.rv_keys.specs.Keys.{has_key}
 use Rattle.rv_keylist.proofs.Bits.{may_key-never_denies}
 use Rattle.rv_reader.specs.declared.reader.Chunk.{Chunk}
@@ -14,12 +11,11 @@ use Rattle.rv_reader.specs.Leaves.{run_after}
 use Rattle.rv_reader.specs.Shown.{Shown}
 use Rattle.rv_jscan.specs.declared.jscan.ScanCounts.{ScanCounts}
 use Rattle.rv_jscan.specs.Entries.{has_entry, Apart, Disjoint}
-use Rattle.rv_jscan.specs.Pieces.{Pieced, kept_rows, may}
-use Rattle.rv_reader.specs.Storing.{AreKeys}
-use Rattle.rv_jscan.specs.Joint.{CanTake, Joint, JointFits, InCompleted, Covers, IsNextLeaf, counts_at, meets, no_counts, passing, present, to_sieve, under_way}
+use Rattle.rv_jscan.specs.Pieces.{Pieced, may}
+use Rattle.rv_jscan.specs.Joint.{Joint, JointFits, InCompleted, Covers, IsNextLeaf, counts_at, meets, no_counts, passing, present, to_sieve, under_way}
 use Rattle.rv_jscan.specs.Steps.{Accepts, Awaits, HasEntries, abandoned, completed, counts_after, going, held_next, kept_of}
-use Rattle.rv_jscan.proofs.Parts.{chunk_apart, chunk_keys, Apart-cross, Apart-run, has_append, key_append}
-use Rattle.rv_jscan.proofs.Kept.{kept_has, kept_in}
+use Rattle.rv_jscan.proofs.Parts.{Apart-run}
+use Rattle.rv_jscan.proofs.Kept.{found_or_ahead, fresh_after}
 
 pub way_within : (j : Joint) → under_way j ≡ true → j.ended < length j.plans
 way_within j w = grind (arith, nat_tests)
@@ -43,24 +39,6 @@ counted_fits j shown counts f = record {
   drawn = f.drawn;
 }
 
-pub leaf_keys : (j : Joint) (shown : Shown) (chunk : Chunk) → under_way j ≡ true → CanTake j shown → IsNextLeaf j shown chunk → AreKeys (length (present j).part.columns) chunk.entries
-leaf_keys j shown chunk way can leaf = chunk_keys (length (present j).part.columns) (shown.entries (present j).index j.snap) (shown.cuts (present j).index j.snap) (present j).range j.place chunk leaf (can.each j.ended (way_within j way)).keys
-
-pub leaf_apart : (j : Joint) (shown : Shown) (chunk : Chunk) → under_way j ≡ true → JointFits j shown → IsNextLeaf j shown chunk → Apart chunk.entries
-leaf_apart j shown chunk way f leaf = chunk_apart (shown.entries (present j).index j.snap) (shown.cuts (present j).index j.snap) (present j).range j.place chunk leaf (f.apart j.ended (way_within j way))
-
--- no row of the list being built is in the leaf
-pub leaf_fresh : (j : Joint) (shown : Shown) (chunk : Chunk) → JointFits j shown → IsNextLeaf j shown chunk → Disjoint j.building chunk.entries
-leaf_fresh j shown chunk f leaf n =
-    let after = run_after (shown.entries (present j).index j.snap) (present j).range chunk.next in
-    without (has_key n j.building) (has_entry n chunk.entries) (has_entry n after) _ (subst (λ (es : List IndexEntry). (has_key n j.building && has_entry n es) ≡ false) leaf.parts (f.fresh n)) (has_append n chunk.entries after)
-  where
-    without : (b e a ea : Bool) → (b && ea) ≡ false → ea ≡ (e || a) → (b && e) ≡ false
-    without b e a ea h1 h2 = grind arith
-
-pub held_fits : (j : Joint) (shown : Shown) (chunk : Chunk) → IsNextLeaf j shown chunk → JointFits j shown → JointFits (record j { held = Some chunk }) shown
-held_fits j shown chunk d f = record { room = f.room; within = f.within; apart = f.apart; covers = f.covers; builds = f.builds; fresh = f.fresh; drawn = d }
-
 pub abandoned_fits : (j : Joint) (shown : Shown) → under_way j ≡ true → JointFits j shown → JointFits (abandoned j) shown
 abandoned_fits j shown way f = record {
   room = f.room;
@@ -80,9 +58,6 @@ covered_may j shown n c inc = by_list j.list c
     by_list None c = refl
     by_list (Some keys) c = may_key-never_denies n keys (c n inc)
 
-builds_bool : (b e a ea m k bk : Bool) → (b || ea) ≡ true → ea ≡ (e || a) → k ≡ (e && m) → m ≡ true → bk ≡ (b || k) → (bk || a) ≡ true
-builds_bool b e a ea m k bk h1 h2 h3 h4 h5 = grind arith
-
 or_false : (b : Bool) → (b || false) ≡ true → b ≡ true
 or_false b h = grind arith
 
@@ -91,25 +66,7 @@ builds_split : (j : Joint) (shown : Shown) (n : ℕ) (entries after : List Index
 builds_split j shown n entries after f parts inc m =
     let part = (present j).part in
     let b : (has_key n j.building || has_entry n (passing part (entries ++ after))) ≡ true = subst (λ (left : List IndexEntry). (has_key n j.building || has_entry n (passing part left)) ≡ true) parts (f.builds n inc m) in
-    let s : passing part (entries ++ after) ≡ passing part entries ++ passing part after = filter-append (λ (e : IndexEntry). passes part e.key) entries after in
-    let h = has_append n (passing part entries) (passing part after) in
-    let k = kept_has part j.list n entries in
-    let y = covered_may j shown n f.covers inc in
-    let a = key_append n j.building (kept_of j entries) in
-    builds_bool (has_key n j.building) (has_entry n (passing part entries)) (has_entry n (passing part after)) _ (may j.list n) _ _ (subst (λ (left : List IndexEntry). (has_key n j.building || has_entry n left) ≡ true) s b) h k y a
-
-fresh_yes : (b bk a : Bool) → a ≡ false → (bk && a) ≡ false
-fresh_yes b bk a h = grind arith
-
-fresh_no : (b k bk e a ea : Bool) → (b && ea) ≡ false → ea ≡ (e || a) → bk ≡ (b || k) → k ≡ false → (bk && a) ≡ false
-fresh_no b k bk e a ea h1 h2 h3 h4 = grind arith
-
-fresh_after : (building : List ℕ) (part : Parted) (list : Option (List ℕ)) (entries after : List IndexEntry) → Apart (entries ++ after) → Disjoint building (entries ++ after) → Disjoint (building ++ kept_rows part list entries) after
-fresh_after building part list entries after a d n =
-    elim (cases_Bool (has_entry n entries)) [
-      | inl here ↦ fresh_yes true _ _ (Apart-cross n entries after a here)
-      | inr other ↦ fresh_no (has_key n building) (has_key n (kept_rows part list entries)) _ (has_entry n entries) _ _ (d n) (has_append n entries after) (key_append n building (kept_rows part list entries)) (kept_in part list n entries other)
-    ]
+    found_or_ahead j.building (may j.list) part n entries after b (covered_may j shown n f.covers inc)
 
 going_fits : (j : Joint) (shown : Shown) (entries : List IndexEntry) (cut : IndexEntry) → under_way j ≡ true → JointFits j shown → to_sieve j shown ≡ entries ++ run_after (shown.entries (present j).index j.snap) (present j).range (Some cut) → JointFits (going j entries cut) shown
 going_fits j shown entries cut way f parts =
@@ -121,7 +78,7 @@ going_fits j shown entries cut way f parts =
       apart = f.apart;
       covers = some_more (Covers j shown) (Covers (going j entries cut) shown) j.list (λ keys c n inc. c n (in_completed_before j shown _ n inc)) f.covers;
       builds = λ n inc m. builds_split j shown n entries after f parts (in_completed_before j shown _ n inc) m;
-      fresh = fresh_after j.building (present j).part j.list entries after (subst Apart parts (Apart-run all (present j).range j.place (f.apart j.ended (way_within j way)))) (subst (Disjoint j.building) parts f.fresh);
+      fresh = fresh_after j.building (may j.list) (present j).part entries after (subst Apart parts (Apart-run all (present j).range j.place (f.apart j.ended (way_within j way)))) (subst (Disjoint j.building) parts f.fresh);
       drawn = tt;
     }
 

@@ -4,3 +4,4 @@ pub mod Parts
 pub mod Kept
 pub mod Fits
 pub mod Leaves
+pub mod Lanes

@@ -117,16 +117,10 @@ pub record CanTake (j : Joint) (shown : Shown) : Type 0 where
   pub each : (i : ℕ) → i < length j.plans → CanMake (plan_at j.plans i) shown j.snap
 
 -- what holds of the parts alone
-pub record Whole (plans : List ScanPlan) (ended : ℕ) (held : Option Chunk) (building : Listed) (list : Option Listed)
-    : Type 0 where
+pub record Whole (plans : List ScanPlan) (ended : ℕ) (list : Option Listed) : Type 0 where
   pub few : length plans ≤ 8
   pub within : ended ≤ length plans
-  pub building_open : building.finished ≡ false
   pub list_finished : IfSome list (λ l. l.finished ≡ true)
-  pub short : IfSome held (λ h. length h.entries ≤ 48)
-  pub keys : IfSome held (λ h. AreKeys (length (plan_at plans ended).part.columns) h.entries)
-  pub apart : IfSome held (λ h. Apart h.entries)
-  pub fresh : IfSome held (λ h. Disjoint building.keys h.entries)
 
 -- the leaves of whole scans
 abbrev pub leaves_planned : List ScanPlan → Shown → ℕ → ℕ

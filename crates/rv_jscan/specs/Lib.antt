@@ -2,3 +2,4 @@ pub mod Entries
 pub mod Pieces
 pub mod Joint
 pub mod Steps
+pub mod Lanes

@@ -1,4 +1,4 @@
--- A piece as contracts see it, and the rows that a list takes of it.
+-- A piece as contracts see it, and the rows that a list takes up of it.
 use Rattle.std.specs.Prelude.{◌≡◌, ℕ, ◌≤◌, List, Bool, true, ◌&&◌, map, filter, length, take, Option, Some, None}
 use Rattle.rv_value.specs.declared.record.IndexEntry.{IndexEntry}
 use Rattle.rv_restrict.specs.Parts.{Parted, passes}
@@ -21,12 +21,12 @@ abbrev pub may : Option (List ℕ) → ℕ → Bool
 may None row = true
 may (Some keys) row = may_key row keys
 
--- the entries of which the list being built takes the rows: the marked ones that the last complete list may have
-abbrev pub is_kept : Parted → Option (List ℕ) → IndexEntry → Bool
-is_kept part list e = passes part e.key && may list e.row.0
+-- the entries of which a list being built takes the rows: the marked ones whose rows a test admits
+abbrev pub is_kept : (ℕ → Bool) → Parted → IndexEntry → Bool
+is_kept admits part e = passes part e.key && admits e.row.0
 
-abbrev pub kept_rows : Parted → Option (List ℕ) → List IndexEntry → List ℕ
-kept_rows part list entries = map (λ (e : IndexEntry). e.row.0) (filter (is_kept part list) entries)
+abbrev pub kept_by : (ℕ → Bool) → Parted → List IndexEntry → List ℕ
+kept_by admits part entries = map (λ (e : IndexEntry). e.row.0) (filter (is_kept admits part) entries)
 
 -- at most 64 entries, whose keys have one value for each column of the part
 pub record IsPiece (entries : List IndexEntry) (part : Parted) : Type 0 where

@@ -1,9 +1,9 @@
 -- What the calls of a joint scan do.
-use Rattle.std.specs.Prelude.{◌≡◌, ℕ, ◌+◌, ◌-◌, ◌<◌, ◌^◌, Bool, true, false, not, ◌&&◌, List, [], ◌∷◌, ◌++◌, length, min, slice_set, Option, Some, None, is_some, IsPermutation, if◌then◌else◌}
+use Rattle.std.specs.Prelude.{◌≡◌, ℕ, ◌+◌, ◌<◌, Bool, true, false, not, ◌&&◌, List, [], ◌∷◌, ◌++◌, length, slice_set, Option, Some, None, is_some, IsPermutation, if◌then◌else◌}
 use Rattle.std.specs.List.Sorted.{IsStrictlyIncreasing}
 use Rattle.rv_value.specs.declared.record.IndexEntry.{IndexEntry}
 use Rattle.rv_judge.specs.declared.counting.Counts.{Counts}
-use Rattle.rv_judge.specs.Counting.{one_more, leaf_read}
+use Rattle.rv_judge.specs.Counting.{one_more, leaf_read, raised}
 use Rattle.rv_reader.specs.declared.reader.Chunk.{Chunk}
 use Rattle.rv_reader.specs.Shown.{Shown}
 use Rattle.rv_jscan.specs.declared.piece.PieceId.{PieceId}
@@ -13,7 +13,7 @@ use Rattle.rv_jscan.specs.declared.jscan.Taken.{Taken}
 use Rattle.rv_jscan.specs.declared.jscan.Taken.TheVariants.{Piece, Nothing}
 use Rattle.rv_jscan.specs.declared.jscan.Given.{Given}
 use Rattle.rv_jscan.specs.declared.jscan.Given.TheVariants.{Accepted, Stale}
-use Rattle.rv_jscan.specs.Pieces.{Pieced, kept_rows}
+use Rattle.rv_jscan.specs.Pieces.{Pieced, kept_by, may}
 use Rattle.rv_jscan.specs.Joint.{Joint, counts_at, leaves_ahead, no_counts, present, under_way}
 
 abbrev pub eight : ScanCounts → List ScanCounts
@@ -82,12 +82,9 @@ abbrev pub Takes : Joint → Taken → Type 0
 Takes j (Piece piece) = Awaits j piece
 Takes j Nothing = under_way j ≡ false
 
--- the rows that a scan keeps of entries
+-- the rows that a scan keeps of entries: those that the last complete list, if any, may have
 abbrev pub kept_of : Joint → List IndexEntry → List ℕ
-kept_of j entries = kept_rows (present j).part j.list entries
-
-abbrev pub raised : ℕ → ℕ → ℕ
-raised n more = min (n + more) (2 ^ 64 - 1)
+kept_of j entries = kept_by (may j.list) (present j).part entries
 
 abbrev pub piece_counted : ScanCounts → ℕ → ℕ → Bool → ScanCounts
 piece_counted c entries kept listed = record { scanned = raised c.scanned entries; kept = raised c.kept kept; leaves = c.leaves; listed = listed }

@@ -1,20 +1,21 @@
-ghost use Rattle.std.specs.Prelude.{◌≡◌, ℕ, ◌+◌, ◌<◌, ◌≤◌, ◌++◌, ◌↔◌, [], true, false, length, is_some, slice_set, Some, None, IfOk, IfSome, IsSome, IsTrue, IsPermutation, OnOk, OnErr};
+ghost use Rattle.std.specs.Prelude.{◌≡◌, ℕ, ◌+◌, ◌<◌, ◌≤◌, ◌++◌, ◌↔◌, [], true, false, not, length, is_some, slice_set, Some, None, IfOk, IfSome, IsSome, IsTrue, IsPermutation, OnOk, OnErr};
 ghost use Rattle.std.specs.Option.{option_copied};
 ghost use Rattle.std.specs.List.Sorted.{IsStrictlyIncreasing};
-ghost use Rattle.rv_judge.specs.Counting.{leaf_read, one_more};
+ghost use Rattle.rv_judge.specs.Counting.{one_more};
 ghost use Rattle.rv_reader.specs.Shown.{Shown};
-ghost use Rattle.rv_reader.specs.Storing.{AreKeys};
-ghost use Rattle.rv_jscan.specs.Entries.{Apart, Disjoint};
-ghost use Rattle.rv_jscan.specs.Joint.{CanTake, Covers, IsNextLeaf, JointFits, counts_at, keys_of, plan_at, present, under_way};
-ghost use Rattle.rv_jscan.specs.Steps.{Accepts, Awaits, Gives, HasEntries, Nearer, TakeLeaves, Takes, abandoned, awaited_id, begun, counts_read, held_next, kept_of, next_id, one_leaf, piece_counted, steps_read};
+ghost use Rattle.rv_jscan.specs.Entries.{Apart};
+ghost use Rattle.rv_jscan.specs.Joint.{CanMake, CanTake, Covers, JointFits, counts_at, keys_of, plan_at, present, under_way};
+ghost use Rattle.rv_jscan.specs.Lanes.{IsOwn, LaneFits, lane_of, leaf_once};
+ghost use Rattle.rv_jscan.specs.Steps.{Accepts, Awaits, Gives, Nearer, TakeLeaves, Takes, abandoned, awaited_id, begun, counts_read, held_next, kept_of, next_id, one_leaf, piece_counted, steps_read};
 
-use crate::keeping::add_marked;
+use crate::keeping::Within;
+use crate::lane::Lane;
 use crate::piece::{Piece, PieceId, Sieved};
 use rv_judge::Steps;
 use rv_keylist::KeyList;
-use rv_reader::{Chunk, Reader};
+use rv_reader::Reader;
 use rv_restrict::Part;
-use rv_value::{Duplicate, IndexEntry, NoMemory, Range, copy_slice};
+use rv_value::{NoMemory, Range};
 use std::alloc::Global;
 use std::marker::Model;
 use std::mem;
@@ -79,9 +80,7 @@ pub struct Jscan {
     counts: [ScanCounts; 8],
     ended: u32,
     number: u64,
-    place: Option<IndexEntry>,
-    held: Option<Chunk>,
-    building: KeyList,
+    lane: Lane,
     list: Option<KeyList>,
 }
 
@@ -90,9 +89,17 @@ impl Model for Jscan {
 
     ghost Value = { Joint };
 
-    ghost view = { λ s. record { table = s.table; snap = s.snap; cursor = s.cursor; opening = s.opening; plans = s.plans.items; counts = s.counts; ended = s.ended; number = s.number; place = s.place; held = s.held; building = s.building.keys; list = keys_of s.list } };
+    ghost view = { λ s. record { table = s.table; snap = s.snap; cursor = s.cursor; opening = s.opening; plans = s.plans.items; counts = s.counts; ended = s.ended; number = s.number; place = s.lane.place; held = s.lane.held; building = s.lane.building; list = keys_of s.list } };
 
-    ghost invariant = { λ s. Whole s.plans.items s.ended s.held s.building s.list };
+    ghost invariant = { λ s. Whole s.plans.items s.ended s.list };
+}
+
+/// The planned scan in a place.
+fn plan_in(plans: &Vec<ScanPlan>, at: u32) -> &ScanPlan
+    requires { at < length plans.now.items }
+    ensures { result.now ≡ plan_at plans.now.items at }
+{
+    &plans[at as usize]
 }
 
 impl Jscan {
@@ -125,9 +132,7 @@ impl Jscan {
             counts: [none; 8],
             ended: 0,
             number: 1,
-            place: None,
-            held: None,
-            building: KeyList::new(alloc),
+            lane: Lane::new(alloc),
             list: None,
         }
     }
@@ -180,7 +185,7 @@ impl Jscan {
         ensures unfinished { IfSome (option_copied result) (λ l. l.finished ≡ false) }
     {
         if self.is_under_way() {
-            Some(&self.building)
+            Some(self.lane.building())
         } else {
             None
         }
@@ -237,24 +242,6 @@ impl Jscan {
 }
 
 impl Jscan {
-    /// The leaf at the place of the present scan.
-    fn leaf<R: Reader>(&self, reader: &R, steps: &mut Steps<R::Ledger>) -> Result<Chunk, NoMemory>
-        requires way { under_way self.now ≡ true }
-        requires can { CanTake self.now (R.shown reader.now) }
-        ensures leaf { IfOk result (IsNextLeaf self.now (R.shown reader.now)) }
-        ensures reads { steps.new ≡ leaf_read steps.old }
-    {
-        let plan = &self.plans[self.ended as usize];
-        reader.chunk(
-            self.alloc,
-            plan.index,
-            self.snap,
-            self.place.as_ref(),
-            &plan.range,
-            steps,
-        )
-    }
-
     fn count_leaf(&mut self)
         requires { under_way self.old ≡ true }
         ensures { self.new ≡ record self.old { counts = one_leaf self.old } }
@@ -264,25 +251,46 @@ impl Jscan {
         self.counts[at].leaves = self.counts[at].leaves.saturating_add(1);
     }
 
-    fn hold(&mut self, held: Chunk)
-        requires short { length held.entries ≤ 48 }
-        requires keys { AreKeys (length (present self.old).part.columns) held.entries }
-        requires apart { Apart held.entries }
-        requires fresh { Disjoint self.old.building held.entries }
-        ensures { self.new ≡ record self.old { held = Some held } }
-    {
-        let _before = self.held.replace(held);
-    }
-
     fn is_held(&self) -> bool
         ensures { result ≡ is_some self.now.held }
     {
-        self.held.is_some()
+        self.lane.is_held()
     }
 
-    /// Reads the awaited leaf and copies its piece. The leaf is held once the copy is made, so without one the piece is
-    /// not taken.
-    fn read<R: Reader>(
+    /// Counts the awaited leaf, where it is still to be read.
+    fn count_read(&mut self)
+        requires { under_way self.old ≡ true }
+        ensures { self.new ≡ record self.old { counts = counts_read self.old } }
+    {
+        if !self.is_held() {
+            self.count_leaf();
+        }
+    }
+
+    /// A copy of the leaf that the present scan awaits, as the piece of an id.
+    fn take_lane<R: Reader>(
+        &mut self,
+        id: PieceId,
+        reader: &R,
+        steps: &mut Steps<R::Ledger>,
+    ) -> Result<Piece, NoMemory>
+        requires way { under_way self.old ≡ true }
+        requires can { CanMake (present self.old) (R.shown reader.now) self.old.snap }
+        requires fits { LaneFits (present self.old) (R.shown reader.now) self.old.snap (lane_of self.old) }
+        ensures same { self.new ≡ record self.old { held = self.new.held } }
+        ensures held { is_some self.old.held ≡ true → self.new ≡ self.old }
+        ensures taken { IfOk result (IsOwn (present self.old) id (lane_of self.new)) }
+        ensures err { OnErr result (self.new ≡ self.old) }
+        ensures fits { LaneFits (present self.old) (R.shown reader.now) self.old.snap (lane_of self.new) }
+        ensures reads { steps.new ≡ leaf_once (lane_of self.old) steps.old }
+    {
+        let plan = plan_in(&self.plans, self.ended);
+        self.lane
+            .take(self.alloc, reader, plan, self.snap, id, steps)
+    }
+
+    /// A copy of the awaited piece, where a scan is under way.
+    fn take_awaited<R: Reader>(
         &mut self,
         reader: &R,
         steps: &mut Steps<R::Ledger>,
@@ -290,40 +298,15 @@ impl Jscan {
         requires way { under_way self.old ≡ true }
         requires can { CanTake self.old (R.shown reader.now) }
         requires fits { JointFits self.old (R.shown reader.now) }
-        ensures same { self.new ≡ record self.old { held = self.new.held; counts = one_leaf self.old } }
+        ensures leaves { TakeLeaves self.old self.new }
         ensures taken { IfOk result (λ p. Awaits self.new p) }
-        ensures err { OnErr result (self.new ≡ record self.old { counts = one_leaf self.old }) }
+        ensures err { OnErr result (self.new ≡ record self.old { counts = counts_read self.old }) }
         ensures fits { JointFits self.new (R.shown reader.now) }
-        ensures reads { steps.new ≡ leaf_read steps.old }
+        ensures reads { steps.new ≡ steps_read self.old steps.old }
     {
-        self.count_leaf();
-        let held = self.leaf(reader, steps)?;
-        let piece = self.piece_of(&held)?;
-        self.hold(held);
-        Ok(piece)
-    }
-
-    /// A copy of the piece of a leaf.
-    fn piece_of(&self, leaf: &Chunk) -> Result<Piece, NoMemory>
-        requires way { under_way self.now ≡ true }
-        requires short { length leaf.now.entries ≤ 48 }
-        requires keys { AreKeys (length (present self.now).part.columns) leaf.now.entries }
-        ensures { IfOk result (λ p. p ≡ record { id = next_id self.now; entries = leaf.now.entries; part = (present self.now).part }) }
-    {
-        let entries = copy_slice(self.alloc, leaf.entries.as_slice())?;
-        let part = self.plans[self.ended as usize].part.copy(self.alloc)?;
-        Ok(Piece::make(self.next_id(), entries, part))
-    }
-
-    fn copy_held(&self) -> Result<Piece, NoMemory>
-        requires way { under_way self.now ≡ true }
-        requires held { IsSome self.now.held }
-        ensures { IfOk result (λ p. Awaits self.now p) }
-    {
-        match &self.held {
-            Some(held) => self.piece_of(held),
-            None => unreachable!(),
-        }
+        self.count_read();
+        let id = self.next_id();
+        self.take_lane(id, reader, steps)
     }
 
     /// A copy of the awaited piece; Nothing exactly where no scan is under way. The leaf is read at the first take of its
@@ -345,26 +328,20 @@ impl Jscan {
         if !self.is_under_way() {
             return Ok(Taken::Nothing);
         }
-        if self.is_held() {
-            return Ok(Taken::Piece(self.copy_held()?));
-        }
-        Ok(Taken::Piece(self.read(reader, steps)?))
-    }
-}
-
-fn next_of(held: Option<Chunk>) -> Option<IndexEntry>
-    ensures { result ≡ held_next held }
-{
-    match held {
-        Some(chunk) => {
-            let Chunk { entries: _, next } = chunk;
-            next
-        }
-        None => None,
+        Ok(Taken::Piece(self.take_awaited(reader, steps)?))
     }
 }
 
 impl Jscan {
+    /// Whether the piece is the leaf that the present scan holds, under this name.
+    fn is_own(&self, id: PieceId, sieved: &Sieved) -> bool
+        requires { under_way self.now ≡ true }
+        ensures { IsTrue result ↔ IsOwn (present self.now) id (lane_of self.now) sieved.now }
+    {
+        self.lane
+            .awaits(plan_in(&self.plans, self.ended), id, sieved)
+    }
+
     /// Whether the piece is the awaited one, once taken.
     fn awaits(&self, sieved: &Sieved) -> bool
         ensures { IsTrue result ↔ Awaits self.now sieved.now }
@@ -372,32 +349,27 @@ impl Jscan {
         if !self.is_under_way() {
             return false;
         }
-        match &self.held {
-            Some(held) => sieved.is(
-                self.next_id(),
-                held.entries.as_slice(),
-                &self.plans[self.ended as usize].part,
-            ),
-            None => false,
-        }
+        self.is_own(self.next_id(), sieved)
     }
 
-    /// Adds what the awaited piece gives to the list being built, and lets the leaf go; the cut that follows it.
-    fn add_kept(&mut self, sieved: &Sieved) -> Result<Option<IndexEntry>, NoMemory>
+    /// Adds what the awaited piece gives to the list being built, and goes on to the following cut; true where there is
+    /// none.
+    fn add_kept(&mut self, sieved: &Sieved) -> Result<bool, NoMemory>
         requires { Awaits self.old sieved.now }
-        ensures next { IfOk result (λ next. next ≡ held_next self.old.held) }
-        ensures ok { OnOk result (self.new ≡ record self.old { building = self.old.building ++ kept_of self.old sieved.now.entries; held = None }) }
+        ensures last { IfOk result (λ last. is_some (held_next self.old.held) ≡ not last) }
+        ensures ok { OnOk result (self.new ≡ record self.old { place = held_next self.old.held; held = None; building = self.old.building ++ kept_of self.old sieved.now.entries }) }
         ensures err { OnErr result (self.new ≡ self.old) }
     {
-        let _plans = &self.plans;
-        add_marked(&mut self.building, self.list.as_ref(), sieved)?;
-        Ok(next_of(self.held.take()))
+        let within = Within {
+            list: self.list.as_ref(),
+        };
+        self.lane.accept(sieved, &within)
     }
 
     fn built(&self) -> u64
         ensures { result ≡ length self.now.building }
     {
-        self.building.len()
+        self.lane.building().len()
     }
 
     fn count(&mut self, entries: u64, kept: u64, listed: bool)
@@ -416,24 +388,14 @@ impl Jscan {
         self.number = self.number.saturating_add(1);
     }
 
-    fn go(&mut self, next: IndexEntry)
-        requires { self.old.held ≡ None }
-        ensures { self.new ≡ record self.old { place = Some next } }
-    {
-        let _before = self.place.replace(next);
-    }
-
     /// Makes the list being built the complete list, and begins the next scan.
     fn complete(&mut self)
-        requires within { self.old.ended < length self.old.plans }
-        requires free { self.old.held ≡ None }
-        ensures keys { IfSome self.new.list (λ keys. IsPermutation self.old.building keys × IsStrictlyIncreasing keys × (self.new ≡ record self.old { ended = self.old.ended + 1; place = None; building = []; list = Some keys })) }
+        requires { self.old.ended < length self.old.plans }
+        ensures keys { IfSome self.new.list (λ keys. IsPermutation self.old.building keys × IsStrictlyIncreasing keys × (self.new ≡ record self.old { ended = self.old.ended + 1; place = None; held = None; building = []; list = Some keys })) }
         ensures some { IsSome self.new.list }
     {
-        let mut list = mem::replace(&mut self.building, KeyList::new(self.alloc));
-        list.finish();
-        let _before = self.list.replace(list);
-        let _place = self.place.take();
+        let lane = mem::replace(&mut self.lane, Lane::new(self.alloc));
+        let _before = self.list.replace(lane.into_list());
         self.ended += 1;
     }
 
@@ -443,18 +405,11 @@ impl Jscan {
         ensures err { OnErr result (self.new ≡ self.old) }
     {
         let before = self.built();
-        let next = self.add_kept(sieved)?;
+        let last = self.add_kept(sieved)?;
         let kept = self.built() - before;
-        let entries = sieved.entries().len() as u64;
-        match next {
-            Some(cut) => {
-                self.count(entries, kept, false);
-                self.go(cut);
-            }
-            None => {
-                self.count(entries, kept, true);
-                self.complete();
-            }
+        self.count(sieved.entries().len() as u64, kept, last);
+        if last {
+            self.complete();
         }
         Ok(())
     }
@@ -482,9 +437,7 @@ impl Jscan {
         ensures { self.new ≡ abandoned self.old }
     {
         let _plans = &self.plans;
-        let _built = mem::replace(&mut self.building, KeyList::new(self.alloc));
-        let _held = self.held.take();
-        let _place = self.place.take();
+        let _lane = mem::replace(&mut self.lane, Lane::new(self.alloc));
         self.ended += 1;
     }
 

@@ -4,7 +4,10 @@
 
 mod jscan;
 mod keeping;
+mod lane;
 mod piece;
 
 pub use jscan::{Given, Jscan, ScanCounts, ScanPlan, Taken};
+pub use keeping::{Admits, Within};
+pub use lane::Lane;
 pub use piece::{Piece, PieceId, Sieved, sieve};

@@ -12,7 +12,7 @@ use Rattle.rv_judge.specs.declared.events.Happening.TheVariants.{ScanEnded}
 use Rattle.rv_judge.specs.declared.events.Strategy.{Strategy}
 use Rattle.rv_judge.specs.declared.events.Trace.{Trace}
 use Rattle.rv_jscan.specs.Joint.{Joint, JointFits, under_way}
-use Rattle.rv_jscan.specs.Steps.{raised}
+use Rattle.rv_judge.specs.Counting.{raised}
 use Rattle.rv_scan.specs.declared.skip.Scanned.{Scanned as Stepped}
 use Rattle.rv_scan.specs.declared.skip.Scanned.TheVariants.{Found, Working, End}
 use Rattle.rv_choice.specs.declared.choosing.Background.{Background}
@@ -20,12 +20,14 @@ use Rattle.rv_choice.specs.declared.choosing.Choice.{Choice}
 use Rattle.rv_choice.specs.declared.query.Query.{Query}
 use Rattle.rv_retrieval.specs.declared.steps.Fg.{Fg}
 use Rattle.rv_choice.specs.Choice.{AreScans, IsChosen, candidates_of}
-use Rattle.rv_retrieval.specs.Opened.{IsMade, OnlyLists, Opened, RunsOut, SameScans, Scanned, Settles, Starts, bounded_by, guarantee_of, has_scans, is_one}
+use Rattle.rv_retrieval.specs.Opened.{IsMade, OnlyLists, Opened, RunsOut, SameScans, Scanned, Settles, Starts, bounded_by, has_scans, is_one}
+use Rattle.rv_choice.specs.Leading.{guarantee_of}
 use Rattle.rv_retrieval.specs.Opens.{GivesStep, fg_of, first_of}
-use Rattle.rv_retrieval.specs.Rest.{Steps}
+use Rattle.rv_final.specs.Rest.{Steps}
 use Rattle.rv_retrieval.specs.Rulings.{going_on, gone, listed, scan_over}
 use Rattle.rv_retrieval.specs.Shape.{DoesStep, RetrievalFits, Shape, is_background, rest}
-use Rattle.rv_retrieval.specs.Telling.{CountsAll, NothingCounted, counted, list_len}
+use Rattle.rv_retrieval.specs.Telling.{list_len}
+use Rattle.rv_judge.specs.Tracing.{CountsAll, NothingCounted, counted}
 use Rattle.rv_retrieval.proofs.Chosen.{no_way}
 use Rattle.rv_retrieval.proofs.Switching.{joint_fits, joint_rest}
 

@@ -12,7 +12,7 @@ use Rattle.rv_reader.specs.Shown.{Shown}
 use Rattle.rv_jscan.specs.declared.jscan.ScanPlan.{ScanPlan}
 use Rattle.rv_jscan.specs.declared.jscan.Taken.{Taken}
 use Rattle.rv_jscan.specs.declared.jscan.Taken.TheVariants.{Piece, Nothing}
-use Rattle.rv_jscan.specs.Pieces.{Pieced, is_kept}
+use Rattle.rv_jscan.specs.Pieces.{Pieced, is_kept, may}
 use Rattle.rv_jscan.specs.Joint.{Joint, JointFits, leaves_ahead, no_plan, present, to_sieve, under_way}
 use Rattle.rv_jscan.specs.Steps.{Accepts, Awaits, HasEntries, TakeLeaves, Takes, abandoned, completed, going, held_next, kept_of, reads_leaf, steps_read}
 use Rattle.rv_jscan.proofs.Fits.{by_held, way_within}
@@ -43,8 +43,8 @@ fewer p (x ∷ xs) = let more = fewer p xs in elim (p x) as (λ b. length (cond 
 
 pub kept_few : (j : Joint) (entries : List IndexEntry) → length (kept_of j entries) ≤ length entries
 kept_few j entries =
-    let mapped = length-map (filter (is_kept (present j).part j.list) entries) (λ (e : IndexEntry). e.row.0) in
-    let few = fewer (is_kept (present j).part j.list) entries in
+    let mapped = length-map (filter (is_kept (may j.list) (present j).part) entries) (λ (e : IndexEntry). e.row.0) in
+    let few = fewer (is_kept (may j.list) (present j).part) entries in
     omega arith
 
 -- The keys to borrow.

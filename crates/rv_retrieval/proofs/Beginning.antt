@@ -1,5 +1,5 @@
 -- A retrieval before its first step.
-use Rattle.std.proofs.Common.{◌≡◌, ℕ, ◌<◌, List, [], ◌∷◌, length, filter, Bool, true, false, not, cond, ◌&&◌, ◌||◌, refl, ap, sym, ◌∙◌, arith, subst, None, inl}
+use Rattle.std.proofs.Common.{◌≡◌, ℕ, ◌<◌, List, [], ◌∷◌, length, Bool, true, false, not, cond, ◌&&◌, ◌||◌, refl, ap, sym, ◌∙◌, arith, subst, inl}
 use Rattle.rv_value.specs.declared.record.Record.{Record}
 use Rattle.rv_restrict.specs.declared.atom.Atom.{Atom}
 use Rattle.rv_restrict.specs.Truth.{qualifies}
@@ -8,28 +8,15 @@ use Rattle.rv_judge.specs.declared.events.Strategy.{Strategy}
 use Rattle.rv_judge.specs.declared.events.Strategy.TheVariants.{Table, BackgroundOnly, FastFirst, Sorted, IndexOnly}
 use Rattle.rv_judge.specs.declared.events.Control.{Control}
 use Rattle.rv_reader.specs.Shown.{Shown}
-use Rattle.rv_scan.specs.Due.{Skipped, due}
-use Rattle.rv_scan.specs.Places.{Place, unseen, Fits as PlaceFits, rest as pages_rest}
+use Rattle.rv_scan.specs.Places.{unseen, Fits as PlaceFits}
 use Rattle.rv_jscan.specs.declared.jscan.ScanPlan.{ScanPlan}
 use Rattle.rv_jscan.specs.Joint.{CanTake, Joint, JointFits, meets, plan_at}
 use Rattle.rv_jscan.specs.Steps.{begun}
-use Rattle.rv_retrieval.specs.Rest.{qualifies_at, qualifying, rest_by, has_row}
+use Rattle.rv_final.specs.Rest.{qualifies_at, qualifying, rest_by, has_row}
 use Rattle.rv_retrieval.specs.Opens.{Opens, first_of}
 use Rattle.rv_retrieval.specs.Shape.{Shape, RetrievalFits, Source, Undelivered, Ahead, Keys, Pages, rest, source, source_of, left_at, rows_of, is_building, is_index_only, is_sorted, is_led}
-use Rattle.rv_retrieval.proofs.Rests.{same_rest}
+use Rattle.rv_final.proofs.Rests.{same_rest}
 use Rattle.rv_retrieval.proofs.Switching.{row_there}
-
-filter_all : (rows : List Record) → filter (λ (r : Record). true) rows ≡ rows
-filter_all [] = refl
-filter_all (r ∷ rows) = ap (λ (rs : List Record). r ∷ rs) (filter_all rows)
-
-pub no_skip : Skipped
-no_skip = record { delivered = None; list = None }
-
--- a scan of the table that gives all rows has looked at none
-pub unseen_all : (place : Place) (rows : List Record) → pages_rest place rows [] no_skip ≡ due [] no_skip rows → unseen place rows ≡ rows
-unfolding no_skip
-unseen_all place rows e = sym (filter_all (unseen place rows)) ∙ e ∙ filter_all rows
 
 pub all_qualifying : (only : List (List Atom)) (rows : List Record) → rest_by (λ n. true) only rows ≡ qualifying only rows
 all_qualifying only [] = refl

@@ -6,7 +6,8 @@ use Rattle.rv_judge.specs.declared.events.Control.TheVariants.{Building, Foregro
 use Rattle.rv_judge.specs.declared.events.Strategy.{Strategy}
 use Rattle.rv_judge.specs.declared.events.Trace.{Trace}
 use Rattle.rv_reader.specs.Shown.{Shown}
-use Rattle.rv_retrieval.specs.Effort.{Tries, back_work, effort, front_work, keys_work, sum_of, table_work}
+use Rattle.rv_retrieval.specs.Effort.{back_work, effort, front_work, keys_work, sum_of, table_work}
+use Rattle.rv_final.specs.Work.{Tries}
 use Rattle.rv_retrieval.specs.Shape.{Shape, is_building, is_index_only}
 use Rattle.rv_retrieval.proofs.Courses.{keys_back, sum_lower}
 

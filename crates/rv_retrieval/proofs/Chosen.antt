@@ -1,5 +1,5 @@
 -- What is chosen among a query's indexes can be opened.
-use Rattle.std.proofs.Common.{◌≡◌, ℕ, zero, suc, ◌<◌, ◌≤◌, ◌⊎◌, List, [], ◌∷◌, length, Bool, true, false, not, ◌&&◌, ◌||◌, refl, ap, sym, ◌∙◌, arith, subst, Some, None, Option, IfSome, nat_eq, nat_lt, inl, inr, map, filter, cond, Result, Ok, Err, IfOk}
+use Rattle.std.proofs.Common.{◌≡◌, ℕ, zero, suc, ◌<◌, ◌≤◌, ◌⊎◌, List, [], ◌∷◌, length, Bool, true, false, not, ◌&&◌, ◌||◌, refl, ap, sym, ◌∙◌, arith, subst, Some, None, Option, nat_eq, nat_lt, inl, inr, map, filter, cond, Result, Ok, Err, IfOk}
 use Rattle.std.proofs.lemmas.Bool.{cases_Bool}
 use Rattle.std.proofs.lemmas.Bool.Decides.{nat_tests}
 use Rattle.std.proofs.lemmas.List.Quantifiers.{position-Some}
@@ -35,12 +35,14 @@ use Rattle.rv_choice.specs.declared.choosing.Choice.{Choice}
 use Rattle.rv_choice.specs.declared.choosing.Background.{Background}
 use Rattle.rv_choice.specs.declared.choosing.Background.TheVariants.{Nothing, One, Each, EachBut}
 use Rattle.rv_choice.specs.declared.choosing.Role.TheVariants.{Short, Sufficient}
-use Rattle.rv_choice.specs.Asked.{CanAsk, IsIndexOf, IsPlanned}
+use Rattle.rv_choice.specs.Asked.{CanAsk, IsPlanned}
 use Rattle.rv_choice.specs.Choice.{AreScans, IsChosen, IsLeastOf, candidate_at, candidate_of, candidates_of, choice_of, is_scanned, leads, no_candidate, order_index, ordered_choice, plan_of, restricted_choice}
-use Rattle.rv_retrieval.specs.Fronts.{Front, front_left, walk_of}
-use Rattle.rv_retrieval.specs.Opened.{Begun, front_begun, front_candidate, has_scans, is_one, walk_begun}
+use Rattle.rv_retrieval.specs.Fronts.{front_left}
+use Rattle.rv_scan.specs.Fronts.{Front, walk_of}
+use Rattle.rv_retrieval.specs.Opened.{Begun, has_scans, is_one}
+use Rattle.rv_choice.specs.Leading.{front_begun, front_candidate, walk_begun}
 use Rattle.rv_retrieval.specs.Opens.{Opens, first_of}
-use Rattle.rv_retrieval.specs.Rest.{qualifies_at}
+use Rattle.rv_final.specs.Rest.{qualifies_at}
 use Rattle.rv_retrieval.specs.Shape.{FrontFits, Shape, is_background, is_index_only, is_led, is_sorted}
 use Rattle.rv_choice.proofs.Suited.{range_suits}
 use Rattle.rv_choice.proofs.Choices.{IsCandidate, all_at, are_candidates, leads_begins, stand_all}

@@ -13,7 +13,8 @@ use Rattle.rv_judge.specs.declared.judging.Verdict.TheVariants.{AbandonScan, Aba
 use Rattle.rv_judge.specs.Course.{Row, course, fast_first, next_by, next_control}
 use Rattle.rv_reader.specs.Shown.{Shown}
 use Rattle.rv_retrieval.specs.Effort.{back_work, keys_work, sum_of}
-use Rattle.rv_retrieval.specs.Shape.{Shape, is_background, is_building, is_led, keys_left}
+use Rattle.rv_retrieval.specs.Shape.{Shape, is_background, is_building, is_led}
+use Rattle.rv_final.specs.Stage.{keys_left}
 use Rattle.rv_retrieval.specs.Telling.{list_len}
 
 abbrev stays_front : Control → Bool

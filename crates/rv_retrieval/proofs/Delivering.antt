@@ -10,7 +10,7 @@ use Rattle.rv_judge.specs.declared.events.Strategy.{Strategy}
 use Rattle.rv_judge.specs.declared.events.Strategy.TheVariants.{Table, BackgroundOnly, FastFirst, Sorted, IndexOnly}
 use Rattle.rv_judge.specs.declared.events.Control.{Control}
 use Rattle.rv_judge.specs.declared.events.Control.TheVariants.{Building, ForegroundAlone, BackgroundAlone, FinalList, FinalTable, Done}
-use Rattle.rv_judge.specs.declared.events.Happening.TheVariants.{Full, FrontEnded, FinalEnded}
+use Rattle.rv_judge.specs.declared.events.Happening.TheVariants.{Full, FrontEnded}
 use Rattle.rv_judge.specs.Course.{next_control}
 use Rattle.rv_reader.specs.Shown.{CanScan, Shown, Suits}
 use Rattle.rv_reader.specs.Entries.{entries_of}
@@ -22,12 +22,14 @@ use Rattle.rv_scan.specs.declared.skip.Scanned.{Scanned}
 use Rattle.rv_scan.specs.declared.skip.Scanned.TheVariants.{Found, Working, End}
 use Rattle.rv_scan.specs.Alongs.{Follows, looked}
 use Rattle.rv_choice.specs.declared.query.Query.{Query}
-use Rattle.rv_retrieval.specs.Rest.{Agree, IsLeast, StepMarks, Steps, rest_by}
-use Rattle.rv_retrieval.specs.Fronts.{Front, SameFront, front_left, walk_of}
-use Rattle.rv_retrieval.specs.Shape.{Shape, RetrievalFits, Delivers, DoesStep, FrontFits, LeastOf, PassesKeys, keys_left, Undelivered, Ahead, Keys, rest, source, source_of, left_at, rows_of, front_entries, is_building, is_index_only, is_sorted, is_led, is_early}
-use Rattle.rv_retrieval.proofs.Rests.{marks_out, no_rest, same_rest, told_by}
+use Rattle.rv_final.specs.Rest.{Agree, IsLeast, StepMarks, Steps, rest_by}
+use Rattle.rv_retrieval.specs.Fronts.{front_left}
+use Rattle.rv_scan.specs.Fronts.{Front, SameFront, walk_of}
+use Rattle.rv_retrieval.specs.Shape.{Shape, RetrievalFits, Delivers, DoesStep, FrontFits, LeastOf, Undelivered, Ahead, Keys, rest, source, source_of, left_at, rows_of, front_entries, is_building, is_index_only, is_sorted, is_led, is_early}
+use Rattle.rv_final.proofs.Rests.{marks_out, no_rest, same_rest, told_by}
 use Rattle.rv_retrieval.proofs.Switching.{rest_at, both_ahead}
-use Rattle.rv_retrieval.proofs.Controls.{ended, fetched_marks, final_ends, list_over, marks_steps, no_columns, passed_rest, unordered}
+use Rattle.rv_retrieval.proofs.Controls.{no_columns}
+use Rattle.rv_final.proofs.Marks.{fetched_marks, marks_steps, unordered}
 
 pub delivered_control : (v new : Shape) (k : ℕ) → Delivers v new k → ((new.control ≡ v.control) × (length new.delivered < 1024)) ⊎ (new.control ≡ next_control v.strategy v.control Full)
 delivered_control v new k d = by d.less
@@ -304,17 +306,6 @@ pub does_from : {E : Type 0} (r : Result Scanned E) (v mid new : Shape) (shown :
 does_from (Ok s) v mid new shown q e step = subst (λ (x : List Record). Steps v.query.need v.query.order s x (rest new shown)) e (subst (λ (x : Query). Steps x.need x.order s (rest mid shown) (rest new shown)) q step)
 does_from (Err x) v mid new shown q e step = tt
 
-pub err_from : {T E : Type 0} (r : Result T E) (v mid new : Shape) (shown : Shown) → rest mid shown ≡ rest v shown → OnErr r (new ≡ mid) → OnErr r (rest new shown ≡ rest v shown)
-err_from (Ok x) v mid new shown e n = tt
-err_from (Err x) v mid new shown e n = ap (λ (y : Shape). rest y shown) n ∙ e
-
 pub rest_from : {T E : Type 0} (r : Result T E) (v mid new : Shape) (shown : Shown) → rest mid shown ≡ rest v shown → OnErr r (rest new shown ≡ rest mid shown) → OnErr r (rest new shown ≡ rest v shown)
 rest_from (Ok x) v mid new shown e n = tt
 rest_from (Err x) v mid new shown e n = n ∙ e
-
-pub list_none : (v mid new : Shape) (shown : Shown) → v.control ≡ FinalList → mid ≡ record v { at = mid.at } → PassesKeys v.joint.list v.delivered v.at mid.at → keys_left v.joint.list mid.at ≡ [] → new ≡ record mid { control = next_control mid.strategy mid.control FinalEnded; trace = new.trace } → (rest v shown ≡ []) × (rest new shown ≡ [])
-list_none v mid new shown c e p none n =
-    let control : mid.control ≡ FinalList = ap (λ (x : Shape). x.control) e ∙ c in
-    let list : mid.joint.list ≡ v.joint.list = ap (λ (x : Shape). x.joint.list) e in
-    let over = list_over mid shown control (ap (λ (l : Option (List ℕ)). keys_left l mid.at) list ∙ none) in
-    ended v mid new shown (sym (passed_rest v mid shown c e p) ∙ over) (final_ends mid new (inl control) n)

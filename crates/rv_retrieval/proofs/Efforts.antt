@@ -26,7 +26,8 @@ use Rattle.rv_retrieval.specs.Effort.{Awaiting, GiveSpends, back_work, effort, f
 use Rattle.rv_retrieval.specs.Given.{Answers, more_behind}
 use Rattle.rv_retrieval.specs.Rulings.{GivesOn, Obeyed, Obeys, dropped, dropping, going_on, gone, listed, ruled, scan_over, stopped}
 use Rattle.rv_retrieval.specs.Shape.{RetrievalFits, Shape, is_background}
-use Rattle.rv_retrieval.specs.Telling.{can_stop, noted}
+use Rattle.rv_retrieval.specs.Telling.{can_stop}
+use Rattle.rv_judge.specs.Tracing.{noted}
 use Rattle.rv_retrieval.proofs.BackWork.{abandoned_less, accepted_less, completed_less}
 use Rattle.rv_retrieval.proofs.Courses.{HasFront, back_none, building_back, ended_none, goes_lower, keys_back, lower_back, lower_building, may_lead, scan_none, sum_less, sum_lower, sum_near}
 

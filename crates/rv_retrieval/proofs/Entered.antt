@@ -16,9 +16,9 @@ use Rattle.rv_scan.specs.Told.{NamesThese, told}
 use Rattle.rv_scan.proofs.Telling.{told_wide, told_reads, told_truth}
 use Rattle.rv_jscan.specs.Entries.{has_entry, Apart}
 use Rattle.rv_jscan.proofs.Parts.{Apart-filter}
-use Rattle.rv_retrieval.specs.Rest.{qualifies_at, has_row}
-use Rattle.rv_retrieval.proofs.Rests.{below_all, found_row, rows_found}
-use Rattle.rv_retrieval.proofs.Dues.{StandsFor, RowsApart, Looks}
+use Rattle.rv_final.specs.Rest.{qualifies_at, has_row}
+use Rattle.rv_final.proofs.Rests.{found_row, rows_found}
+use Rattle.rv_final.proofs.Dues.{StandsFor, RowsApart, Looks, all_dropped, rows_apart}
 
 -- an entry of a row
 pub record EntryOf (columns : List ℕ) (rows : List Record) (e : IndexEntry) : Type 0 where
@@ -80,10 +80,6 @@ mapped_has : (columns : List ℕ) (n : ℕ) (rows : List Record) → has_entry n
 mapped_has columns n [] = refl
 mapped_has columns n (r ∷ rows) = ap (λ (b : Bool). nat_eq n r.row.0 || b) (mapped_has columns n rows)
 
-pub rows_apart : (rows : List Record) → Ascend rows → RowsApart rows
-rows_apart [] a = tt
-rows_apart (r ∷ rows) a = (below_all r rows r.row.0 (omega arith) a.0, rows_apart rows a.1)
-
 apart_mapped : (columns : List ℕ) (rows : List Record) → RowsApart rows → Apart (sorted (map (entry_of columns) rows))
 apart_mapped columns [] a = tt
 apart_mapped columns (r ∷ rows) a = apart_in (entry_of columns r) (sorted (map (entry_of columns) rows)) (any_sorted (λ (y : IndexEntry). nat_eq r.row.0 y.row.0) (map (entry_of columns) rows) ∙ mapped_has columns r.row.0 rows ∙ a.0) (apart_mapped columns rows a.1)
@@ -103,20 +99,10 @@ pub all_kept : {X : Type 0} (P : X → Type 0) (p : X → Bool) (xs : List X) �
 all_kept P p [] a = tt
 all_kept P p (x ∷ xs) a = elim (p x) as (λ b. AllByRecursion P (cond b (x ∷ filter p xs) (filter p xs))) [ true ↦ (a.0, all_kept P p xs a.1) | false ↦ all_kept P p xs a.1 ]
 
-pub all_dropped : {X : Type 0} (P : X → Type 0) (k : ℕ) (xs : List X) → AllByRecursion P xs → AllByRecursion P (drop k xs)
-all_dropped P zero xs a = a
-all_dropped P (suc k) [] a = a
-all_dropped P (suc k) (x ∷ xs) a = all_dropped P k xs a.1
-
 apart_dropped : (k : ℕ) (xs : List IndexEntry) → Apart xs → Apart (drop k xs)
 apart_dropped zero xs a = a
 apart_dropped (suc k) [] a = a
 apart_dropped (suc k) (x ∷ xs) a = apart_dropped k xs a.1
-
-rows_apart_dropped : (k : ℕ) (xs : List Record) → RowsApart xs → RowsApart (drop k xs)
-rows_apart_dropped zero xs a = a
-rows_apart_dropped (suc k) [] a = a
-rows_apart_dropped (suc k) (x ∷ xs) a = rows_apart_dropped k xs a.1
 
 -- what a walk did not look at
 pub left_apart : (along : Along) (entries : List IndexEntry) → Follows along entries → Apart entries → Apart (left along entries)
@@ -188,17 +174,6 @@ told_looks need only columns rows es names covering a d = record { each = told_s
 
 pub told_open : (columns : List ℕ) (es : List IndexEntry) (n : ℕ) → has_row n (map (told columns) es) ≡ has_entry n es
 told_open columns es n = told_has columns es n
-
--- rows of a table
-pub rows_looks : (need : List ℕ) (only : List (List Atom)) (rows : List Record) (k : ℕ) → Ascend rows → Looks need only rows (drop k rows)
-rows_looks need only rows k asc = record {
-  each = stands (drop k rows) (all_dropped (λ (x : Record). row_at rows x.row.0 ≡ Some x) k rows (rows_found rows asc));
-  apart = rows_apart_dropped k rows (rows_apart rows asc);
-}
-  where
-    stands : (xs : List Record) → AllByRecursion (λ (x : Record). row_at rows x.row.0 ≡ Some x) xs → AllByRecursion (StandsFor need only rows) xs
-    stands [] a = tt
-    stands (x ∷ xs) a = (record { row = x; there = a.0; agrees = λ c h. refl; wide = λ c h l. l; same = refl }, stands xs a.1)
 
 -- a row that qualifies has an entry that passes each test that its own entry passes
 any_filter : (p : IndexEntry → Bool) (n : ℕ) (es : List IndexEntry) → has_entry n (filter p es) ≡ list_any (λ (e : IndexEntry). nat_eq n e.row.0 && p e) es

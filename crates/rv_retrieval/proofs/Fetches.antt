@@ -11,12 +11,9 @@ use Rattle.rv_scan.specs.Alongs.{is_given, left}
 use Rattle.rv_scan.specs.Due.{Skipped, is_unlisted, skips, was_delivered}
 use Rattle.rv_jscan.specs.Joint.{keys_of}
 use Rattle.rv_jscan.specs.Pieces.{may}
-use Rattle.rv_retrieval.specs.Fronts.{Front, SameFront, walk_of}
+use Rattle.rv_scan.specs.Fronts.{Front, SameFront, walk_of, front_fetches}
 use Rattle.rv_retrieval.specs.Shape.{RetrievalFits, Shape, front_entries, is_led}
-use Rattle.rv_judge.specs.declared.events.Control.{Control}
-use Rattle.rv_judge.specs.declared.events.Control.TheVariants.{FinalList}
-use Rattle.rv_retrieval.specs.Effort.{keys_work}
-use Rattle.rv_retrieval.specs.Short.{fetches_by, fetches_left, front_fetches, scan_fetches}
+use Rattle.rv_retrieval.specs.Short.{scan_fetches}
 use Rattle.rv_retrieval.proofs.Fronting.{own_entries}
 
 given_may : (skip : Skipped) (list : Option (List ℕ)) (n : ℕ) → skip.delivered ≡ None → keys_of skip.list ≡ list → not (skips skip n) ≡ may list n
@@ -47,12 +44,3 @@ one_fetches v new shown skip before after f led d k same step =
 pub scan_fewer : {E : Type 0} (r : Result Scanned E) (v : Shape) (new : Front) (shown : Shown) (skip : Skipped) (before after : Counts) → RetrievalFits v shown → is_led v.strategy ≡ true → skip.delivered ≡ None → keys_of skip.list ≡ v.joint.list → SameFront v.front new → IfOk r (λ s. after.records + front_fetches new (own_entries v shown) skip ≤ before.records + front_fetches v.front (own_entries v shown) skip) → IfOk r (λ s. after.records + scan_fetches (record v { front = new }) shown ≤ before.records + scan_fetches v shown)
 scan_fewer (Ok s) v new shown skip before after f led d k same step = one_fetches v new shown skip before after f led d k same step
 scan_fewer (Err x) v new shown skip before after f led d k same step = tt
-
--- The final list.
-
-pub passed_fetches : {E : Type 0} (r : Result Scanned E) (v mid : Shape) (shown : Shown) (before after left : ℕ) → v.control ≡ FinalList → mid ≡ record v { at = mid.at } → keys_work mid ≤ keys_work v → IfOk r (λ s. after + left ≤ before + fetches_left mid shown) → IfOk r (λ s. after + left ≤ before + fetches_left v shown)
-passed_fetches (Ok s) v mid shown before after left c e fewer f =
-    let old : fetches_left v shown ≡ keys_work v = ap (λ (x : Control). fetches_by x (scan_fetches v shown) (keys_work v)) c in
-    let next : fetches_left mid shown ≡ keys_work mid = ap (λ (x : Control). fetches_by x (scan_fetches mid shown) (keys_work mid)) (ap (λ (x : Shape). x.control) e ∙ c) in
-    omega arith
-passed_fetches (Err x) v mid shown before after left c e fewer f = tt

@@ -1,30 +1,28 @@
 -- A step of the foreground's scan, said of each row number.
-use Rattle.std.proofs.Common.{◌≡◌, ℕ, ◌⊎◌, List, map, Bool, true, false, not, ◌&&◌, ◌||◌, refl, ap, sym, ◌∙◌, arith, subst, Some, None, Option, inl, inr, nat_eq, Result, Ok, Err, IfOk}
+use Rattle.std.proofs.Common.{◌≡◌, ℕ, ◌⊎◌, List, map, Bool, true, false, not, ◌&&◌, ◌||◌, refl, ap, sym, ◌∙◌, arith, subst, Some, None, Option, inl, inr, Result, Ok, Err, IfOk}
 use Rattle.std.specs.Prelude.{if◌then◌else◌}
 use Rattle.rv_value.specs.declared.record.Record.{Record}
 use Rattle.rv_judge.specs.declared.counting.Counts.{Counts}
 use Rattle.rv_keylist.specs.Keys.{may_key}
 use Rattle.rv_value.specs.declared.record.IndexEntry.{IndexEntry}
-use Rattle.rv_rows.specs.Rows.{Ascend}
 use Rattle.rv_restrict.specs.declared.atom.Atom.{Atom}
 use Rattle.rv_keylist.specs.Listed.{Listed}
 use Rattle.rv_reader.specs.Shown.{Shown}
 use Rattle.rv_reader.specs.Tables.{row_at}
 use Rattle.rv_scan.specs.declared.skip.Scanned.{Scanned}
-use Rattle.rv_scan.specs.declared.skip.Scanned.TheVariants.{Found, Working, End}
 use Rattle.rv_scan.specs.Alongs.{FetchesDue, Follows, looked, fetch_rest, fetched, leaf_work, left}
 use Rattle.rv_scan.specs.Due.{Skipped, StepsTo, due, is_unlisted, skips, was_delivered}
-use Rattle.rv_scan.specs.Told.{KeyReads, NamesThese, told, told_rest}
+use Rattle.rv_scan.specs.Told.{NamesThese, told, told_rest}
 use Rattle.rv_jscan.specs.Entries.{has_entry, Apart}
 use Rattle.rv_jscan.specs.Joint.{InCompleted, keys_of}
 use Rattle.rv_jscan.specs.Pieces.{may}
 use Rattle.rv_jscan.proofs.Fits.{covered_may}
-use Rattle.rv_retrieval.specs.Rest.{Agree, StepMarks, has_row, qualifies_at}
-use Rattle.rv_retrieval.specs.Fronts.{Front, SameFront, front_left, front_rest, walk_of}
+use Rattle.rv_final.specs.Rest.{Agree, StepMarks, has_row, qualifies_at}
+use Rattle.rv_retrieval.specs.Fronts.{front_left}
+use Rattle.rv_scan.specs.Fronts.{Front, SameFront, front_rest, walk_of}
 use Rattle.rv_retrieval.specs.Shape.{RetrievalFits, Shape, front_entries, is_led, is_sorted, rows_of}
 use Rattle.rv_retrieval.specs.Stepping.{WalkReads}
-use Rattle.rv_retrieval.proofs.Rests.{told_by}
-use Rattle.rv_retrieval.proofs.Dues.{Looks, open_in, step_marks}
+use Rattle.rv_final.proofs.Dues.{Looks, marks_move, open_in, step_marks}
 use Rattle.rv_retrieval.proofs.Entered.{AreOf, Covering, entries_apart, entries_stand, fetched_looks, fetched_open, left_apart, left_stands, told_looks, told_open}
 
 -- the records that a step looks through
@@ -70,22 +68,6 @@ unskipped v shown skip n f s q = ap (λ (d : Option (List ℕ)). was_delivered d
     by : ((skip.list ≡ None) ⊎ (keys_of skip.list ≡ v.joint.list)) → is_unlisted skip.list n ≡ false
     by (inl e) = ap (λ (l : Option Listed). is_unlisted l n) e
     by (inr e) = unlisted skip.list v.joint.list n e (may_all v shown n f q)
-
--- marks by tests that tell the same
-pub marks_move : (need : List ℕ) (only : List (List Atom)) (rows : List Record) (s : Scanned) (old new o n : ℕ → Bool) → Ascend rows → Agree only rows old o → Agree only rows new n → StepMarks need only rows s old new → StepMarks need only rows s o n
-marks_move need only rows (Found r) old new o n asc a b m =
-    let q = told_by only rows r.row.0 m.taken asc m.there ∙ m.qualifies in
-    record {
-      taken = m.taken;
-      there = m.there;
-      qualifies = m.qualifies;
-      left = a r.row.0 q ∙ m.left;
-      agrees = m.agrees;
-      wide = m.wide;
-      others = λ k p. b k p ∙ m.others k p ∙ ap (λ (x : Bool). x && not (nat_eq k r.row.0)) (sym (a k p));
-    }
-marks_move need only rows Working old new o n asc a b m = λ k p. b k p ∙ m k p ∙ sym (a k p)
-marks_move need only rows End old new o n asc a b m = (λ k p. a k p ∙ m.0 k p, λ k p. b k p ∙ m.1 k p)
 
 open_is : (need : List ℕ) (f : Front) (only : List (List Atom)) (columns : List ℕ) (entries : List IndexEntry) (rows : List Record) (skip : Skipped) → Follows (walk_of f) entries → AreOf columns rows entries → ((n : ℕ) → qualifies_at only rows n ≡ true → skips skip n ≡ false) → Agree only rows (open_in (front_items f entries rows) skip) (front_left f entries)
 open_is need f only columns entries rows skip w a clear n q = sym (items_has f columns entries rows n w a) ∙ sym (keeps _ _ (clear n q))
@@ -153,12 +135,6 @@ front_marks (Ok s) v new shown skip f led by same follows step = one_marks v new
 front_marks (Err e) v new shown skip f led by same follows step = tt
 
 -- Which record a step reads.
-
-pub told_fetches : {E : Type 0} (r : Result Scanned E) (skip : Skipped) (only : List (List Atom)) (rows : List Record) (old new : Counts) → IfOk r (λ scanned. KeyReads scanned old new) → IfOk r (λ scanned. FetchesDue skip only rows scanned old new)
-told_fetches (Ok (Found r)) skip only rows old new reads = inr (ap (λ (c : Counts). c.records) reads)
-told_fetches (Ok Working) skip only rows old new reads = inr (ap (λ (c : Counts). c.records) reads)
-told_fetches (Ok End) skip only rows old new reads = inr (ap (λ (c : Counts). c.records) reads)
-told_fetches (Err e) skip only rows old new reads = tt
 
 pub walk_reads : {E : Type 0} (r : Result Scanned E) (v : Shape) (shown : Shown) (o l : Option Listed) (c d : Counts) → RetrievalFits v shown → is_led v.strategy ≡ true → o ≡ (if is_sorted v.strategy then l else None) → keys_of l ≡ v.joint.list → IfOk r (λ s. FetchesDue (record { delivered = None; list = o }) v.query.only (shown.rows v.front.fetching.table (walk_of v.front).snap) s c d) → IfOk r (WalkReads v shown c d)
 walk_reads (Err e) v shown o l c d f led hides keys reads = tt

@@ -32,11 +32,12 @@ use Rattle.rv_scan.specs.Due.{Skipped, due, is_due, skips}
 use Rattle.rv_scan.specs.Told.{NamesThese, told}
 use Rattle.rv_scan.proofs.Telling.{told_wide, told_reads, told_truth}
 use Rattle.rv_jscan.specs.Entries.{has_entry}
-use Rattle.rv_retrieval.specs.Rest.{order_of, qualifies_at}
-use Rattle.rv_retrieval.specs.Fronts.{Front, front_left, front_rest, walk_of}
+use Rattle.rv_final.specs.Rest.{order_of, qualifies_at}
+use Rattle.rv_retrieval.specs.Fronts.{front_left}
+use Rattle.rv_scan.specs.Fronts.{Front, front_rest, walk_of}
 use Rattle.rv_retrieval.specs.Shape.{LeastOf, RetrievalFits, Shape, front_entries, is_index_only, is_led, is_sorted, rows_of}
-use Rattle.rv_retrieval.proofs.Rests.{found_row, rows_found, told_by}
-use Rattle.rv_retrieval.proofs.Dues.{StandsFor}
+use Rattle.rv_final.proofs.Rests.{found_row, rows_found, told_by}
+use Rattle.rv_final.proofs.Dues.{StandsFor}
 use Rattle.rv_retrieval.proofs.Entered.{AreOf, Covering, EntryOf, entries_stand, left_stands}
 use Rattle.rv_retrieval.proofs.Fronting.{FrontStep, SkipsBy, front_items, items_rest, own_entries, unskipped}
 

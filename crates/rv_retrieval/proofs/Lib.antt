@@ -1,5 +1,3 @@
-pub mod Rests
-pub mod Dues
 pub mod Entered
 pub mod Fronting
 pub mod Switching

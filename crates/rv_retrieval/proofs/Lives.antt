@@ -34,8 +34,9 @@ use Rattle.rv_choice.specs.declared.choosing.Choice.{Choice}
 use Rattle.rv_choice.specs.Asked.{CanAsk}
 use Rattle.rv_choice.specs.Choice.{AreScans, IsChosen, IsLeastOf, candidate_at, choice_of, leads, no_candidate, order_index, restricted_choice, candidate_of, candidates_of, is_scanned, plan_of}
 use Rattle.rv_retrieval.specs.Effort.{Awaiting, back_work, cuts_and_entries, effort, entries_of_scans, entries_planned, front_work, keys_work, life_of, sum_of, table_work}
-use Rattle.rv_retrieval.specs.Fronts.{Front, walk_of}
-use Rattle.rv_retrieval.specs.Opened.{Begun, front_begun, front_candidate, has_scans, walk_begun}
+use Rattle.rv_scan.specs.Fronts.{Front, walk_of}
+use Rattle.rv_retrieval.specs.Opened.{Begun, has_scans}
+use Rattle.rv_choice.specs.Leading.{front_begun, front_candidate, walk_begun}
 use Rattle.rv_retrieval.specs.Opens.{first_of}
 use Rattle.rv_retrieval.specs.Shape.{Shape, is_background, is_building, is_led}
 use Rattle.rv_retrieval.proofs.Chosen.{chosen_front, walk_same}

@@ -15,7 +15,8 @@ use Rattle.rv_jscan.specs.declared.jscan.Taken.TheVariants.{Piece, Nothing}
 use Rattle.rv_jscan.specs.Joint.{Joint, JointFits, under_way}
 use Rattle.rv_jscan.specs.Pieces.{Pieced}
 use Rattle.rv_jscan.specs.Steps.{Gives, TakeLeaves, Takes, next_id, steps_read}
-use Rattle.rv_retrieval.specs.Effort.{Awaiting, Tries, back_work, effort, front_work, keys_work, sum_of, table_work}
+use Rattle.rv_retrieval.specs.Effort.{Awaiting, back_work, effort, front_work, keys_work, sum_of, table_work}
+use Rattle.rv_final.specs.Work.{Tries}
 use Rattle.rv_retrieval.specs.Given.{Answers, AwaitsPiece, TakesPiece}
 use Rattle.rv_retrieval.specs.Rulings.{GivesOn, scan_over}
 use Rattle.rv_retrieval.specs.Shape.{RetrievalFits, Shape, is_background}

@@ -20,7 +20,7 @@ use Rattle.rv_jscan.specs.Joint.{is_empty_list, plan_at}
 use Rattle.rv_retrieval.specs.Accounts.{list_length}
 use Rattle.rv_retrieval.specs.Runs.{TellsOf, events_left, is_drop, was_dropped, goes_on, indexes_of, runs_both, standing_of}
 use Rattle.rv_retrieval.specs.Shape.{is_background, is_building, is_led}
-use Rattle.rv_retrieval.specs.Telling.{with_events}
+use Rattle.rv_judge.specs.Tracing.{with_events}
 use Rattle.rv_retrieval.proofs.Chosen.{no_way}
 use Rattle.rv_retrieval.proofs.Turns.{OneTurn, all_rests, drop_all, drop_last, drop_on, drop_rests, final_turn, front_turn, full_fast, full_index, list_last, list_on, list_rests, standing, stop_turn}
 

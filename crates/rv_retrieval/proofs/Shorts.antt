@@ -39,7 +39,7 @@ use Rattle.rv_choice.specs.declared.choosing.Role.TheVariants.{Short}
 use Rattle.rv_choice.specs.Asked.{CanAsk}
 use Rattle.rv_choice.specs.Choice.{AreScans, IsChosen, IsLeastOf, IsRight, candidate_at, candidate_of, candidates_of, choice_of, is_scanned, no_candidate, order_index, plan_of, plays}
 use Rattle.rv_retrieval.specs.Effort.{Awaiting, entries_of_scans, entries_planned, keys_work}
-use Rattle.rv_retrieval.specs.Fronts.{Front, walk_of}
+use Rattle.rv_scan.specs.Fronts.{Front, walk_of}
 use Rattle.rv_retrieval.specs.Opened.{Begun, OnlyLists, SameScans, is_one}
 use Rattle.rv_retrieval.specs.Rulings.{going_on, gone, listed, scan_over}
 use Rattle.rv_retrieval.specs.Shape.{RetrievalFits, Shape, front_entries, is_background, is_sorted}

@@ -32,13 +32,14 @@ use Rattle.rv_choice.specs.declared.choosing.Role.TheVariants.{Restricted, Short
 use Rattle.rv_choice.specs.declared.query.Goal2.{Goal2}
 use Rattle.rv_choice.specs.declared.query.Goal2.TheVariants.{FastFirst as Soon, TotalTime}
 use Rattle.rv_choice.specs.declared.query.Query.{Query}
-use Rattle.rv_retrieval.specs.Fronts.{Front}
+use Rattle.rv_scan.specs.Fronts.{Front}
 use Rattle.rv_retrieval.specs.Opened.{Begun, RunsOut, Starts, has_scans, is_one, start_told}
 use Rattle.rv_retrieval.specs.Opens.{first_of}
 use Rattle.rv_retrieval.specs.Rulings.{gone, listed}
 use Rattle.rv_retrieval.specs.Runs.{Tells, TellsOf, events_left, indexes_asked, indexes_of, runs_both, standing_of}
 use Rattle.rv_retrieval.specs.Shape.{Shape, is_background, is_building}
-use Rattle.rv_retrieval.specs.Telling.{counted, events_for, index_of, new_trace, with_events}
+use Rattle.rv_retrieval.specs.Telling.{events_for, index_of}
+use Rattle.rv_judge.specs.Tracing.{counted, new_trace, with_events}
 use Rattle.rv_retrieval.proofs.Chosen.{filter_some, from_all, no_way, one_found, to_all}
 use Rattle.rv_retrieval.proofs.Tellings.{counted_tells, runs_tells}
 

@@ -19,7 +19,7 @@ use Rattle.rv_reader.specs.Shown.{Shown}
 use Rattle.rv_reader.specs.Tables.{row_at}
 use Rattle.rv_scan.specs.Alongs.{looked}
 use Rattle.rv_scan.specs.declared.skip.Scanned.{Scanned}
-use Rattle.rv_scan.specs.declared.skip.Scanned.TheVariants.{Found, Working, End}
+use Rattle.rv_scan.specs.declared.skip.Scanned.TheVariants.{Found, Working}
 use Rattle.rv_jscan.specs.declared.jscan.Given.{Given}
 use Rattle.rv_jscan.specs.declared.jscan.Given.TheVariants.{Accepted, Stale}
 use Rattle.rv_jscan.specs.Joint.{Joint, under_way}
@@ -28,9 +28,9 @@ use Rattle.rv_jscan.specs.Steps.{TakeLeaves}
 use Rattle.rv_retrieval.specs.Accounts.{IsFresh, NextBorrowed, first_fresh, fresh_of}
 use Rattle.rv_retrieval.specs.Given.{Answers, AwaitsPiece, TakesLeafBy}
 use Rattle.rv_retrieval.specs.Rulings.{GivesOn}
-use Rattle.rv_retrieval.specs.Shape.{NextKey, Shape, keys_left, is_background, lending, rows_of}
-use Rattle.rv_retrieval.specs.Stepping.{Borrows, DoesAs, DoesIts, FetchesKey, IsFirstLeft, ListReads, first_left, Kind, Piece, Remembered, StepsBackground, StepsBehind, filled, is_awaiting, kind_of, while_both}
-use Rattle.rv_retrieval.proofs.Rests.{found_row}
+use Rattle.rv_retrieval.specs.Shape.{Shape, is_background, lending, rows_of}
+use Rattle.rv_retrieval.specs.Stepping.{Borrows, DoesAs, DoesIts, Kind, Piece, Remembered, StepsBackground, StepsBehind, filled, is_awaiting, kind_of, while_both}
+use Rattle.rv_final.proofs.Rests.{found_row}
 
 -- a delivered key is passed over
 pub passes_on : (v mid : Shape) (row : RowNo) → mid ≡ record v { borrowed = v.borrowed + 1 } → has_key row.0 v.delivered ≡ true → NextBorrowed v (Some row) → first_fresh mid ≡ first_fresh v
@@ -124,21 +124,3 @@ background_kind control strategy fresh both (inr alone) = rw (both, alone) refl
 pub piece_does : {E : Type 0} (r : Result Scanned E) (would : ℕ → Facts → Ruling) (state after : ℕ) (shown : Shown) (c d : Counts) (old new : Shape) → old.control ≡ Building → (old.strategy ≡ Table) ⊎ (old.strategy ≡ BackgroundOnly) → IfOk r (λ s. (s ≡ Working) × StepsBackground would state after old new) → IfOk r (λ s. DoesIts would state after shown c d s old new)
 piece_does (Ok s) would state after shown c d old new both which h = subst (λ (k : Kind). DoesAs k would state after shown c d s old new) (sym (background_kind old.control old.strategy (fresh_of old) both which)) h
 piece_does (Err e) would state after shown c d old new both which h = tt
-
--- The complete list in the final stage.
-pub passes_left : (v mid : Shape) (row : RowNo) → mid ≡ record v { at = v.at + 1 } → has_key row.0 v.delivered ≡ true → NextKey v.joint.list v.at row.0 → first_left mid ≡ first_left v
-passes_left v mid row e h n = ap first_left e ∙ sym (ap (find (λ (k : ℕ). not (has_key k v.delivered))) n.split ∙ gone)
-  where
-    gone : find (λ (k : ℕ). not (has_key k v.delivered)) (row.0 ∷ keys_left v.joint.list (v.at + 1)) ≡ find (λ (k : ℕ). not (has_key k v.delivered)) (keys_left v.joint.list (v.at + 1))
-    gone = rw h refl
-
-pub left_on : (v mid : Shape) (r : Option RowNo) → first_left mid ≡ first_left v → IsFirstLeft mid r → IsFirstLeft v r
-left_on v mid None e f = sym e ∙ f
-left_on v mid (Some row) e f = sym e ∙ f
-
-pub list_fetches : {E : Type 0} (r : Result Scanned E) (v mid : Shape) (row : RowNo) (shown : Shown) (c d : Counts) → mid ≡ record v { at = mid.at } → first_left v ≡ Some row.0 → d ≡ record_read c → IfOk r (λ s. s ≡ looked mid.query.only (row_at (rows_of mid shown) row.0)) → IfOk r (ListReads v shown c d)
-list_fetches (Err x) v mid row shown c d e f reads looks = tt
-list_fetches (Ok s) v mid row shown c d e f reads looks = subst (λ (k : Option ℕ). FetchesKey k v shown c d s) (sym f) (reads, looks ∙ ap (λ (x : Shape). looked x.query.only (row_at (rows_of x shown) row.0)) e)
-
-pub list_ends : (v : Shape) (shown : Shown) (c : Counts) → first_left v ≡ None → ListReads v shown c c End
-list_ends v shown c f = subst (λ (k : Option ℕ). FetchesKey k v shown c c End) (sym f) (refl, refl)

@@ -22,9 +22,10 @@ use Rattle.rv_jscan.specs.declared.jscan.Given.TheVariants.{Accepted, Stale}
 use Rattle.rv_jscan.specs.Joint.{CanMake, Covers, Joint, JointFits, meets, plan_at}
 use Rattle.rv_jscan.specs.Pieces.{Pieced}
 use Rattle.rv_jscan.specs.Steps.{Accepts, Gives, held_next}
-use Rattle.rv_retrieval.specs.Rest.{Agree, has_row, qualifies_at, rest_by}
-use Rattle.rv_retrieval.specs.Shape.{Shape, RetrievalFits, Keeps, Leads, MayGo, BothSides, FromBuffer, Source, Undelivered, Ahead, Keys, Pages, Nowhere, rest, source, source_of, left_at, rows_of, keys_left, is_background, is_building, is_index_only, is_sorted, is_led, is_early}
-use Rattle.rv_retrieval.proofs.Rests.{same_rest}
+use Rattle.rv_final.specs.Rest.{Agree, has_row, qualifies_at, rest_by}
+use Rattle.rv_retrieval.specs.Shape.{Shape, RetrievalFits, Keeps, Leads, MayGo, BothSides, FromBuffer, Source, Undelivered, Ahead, Keys, Pages, Nowhere, rest, source, source_of, left_at, rows_of, is_background, is_building, is_index_only, is_sorted, is_led, is_early}
+use Rattle.rv_final.specs.Stage.{keys_left}
+use Rattle.rv_final.proofs.Rests.{same_rest}
 use Rattle.rv_retrieval.proofs.Fronting.{in_completed}
 
 pub keeps_trans : (a b c : Shape) → Keeps a b → Keeps b c → Keeps a c

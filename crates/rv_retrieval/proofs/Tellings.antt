@@ -41,7 +41,8 @@ use Rattle.rv_retrieval.specs.Rulings.{GivesOn, Obeyed, Obeys, dropping, going_o
 use Rattle.rv_retrieval.specs.Runs.{IsOfUndropped, SameCourse, Tells, TellsOf, events_left, goes_on, indexes_asked, indexes_of}
 use Rattle.rv_retrieval.specs.Shape.{Ahead, Shape, is_background, is_led, rows_of, source, source_of}
 use Rattle.rv_retrieval.specs.Stepping.{Borrows, DoesAs, DoesIts, RemembersBy, StepsBackground, StepsBehind, ended_by, filled, is_awaiting, kind_of}
-use Rattle.rv_retrieval.specs.Telling.{can_stop, counted, events_for, index_of, list_len, noted, with_events}
+use Rattle.rv_retrieval.specs.Telling.{can_stop, events_for, index_of, list_len}
+use Rattle.rv_judge.specs.Tracing.{counted, noted, with_events}
 use Rattle.rv_retrieval.proofs.Running.{all_tells, drop_tells_last, drop_tells_on, final_tells, front_tells, full_tells_fast, full_tells_index, list_tells_last, list_tells_on, stop_tells}
 use Rattle.rv_retrieval.proofs.Turns.{final_row, front_row}
 

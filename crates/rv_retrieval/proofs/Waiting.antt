@@ -13,11 +13,14 @@ use Rattle.rv_jscan.specs.Joint.{Joint, under_way}
 use Rattle.rv_jscan.specs.Pieces.{may}
 use Rattle.rv_jscan.specs.Steps.{awaited_id}
 use Rattle.rv_retrieval.specs.Accounts.{fresh_of}
-use Rattle.rv_retrieval.specs.Effort.{keys_work}
+use Rattle.rv_retrieval.specs.Effort.{Awaiting, keys_work}
 use Rattle.rv_retrieval.specs.Given.{TakesLeaf, TakesLeafBy, awaited}
-use Rattle.rv_retrieval.specs.Shape.{Shape, front_entries, is_background, keys_left, lending}
+use Rattle.rv_retrieval.specs.Shape.{Shape, front_entries, is_background, lending}
+use Rattle.rv_final.specs.Stage.{keys_left}
 use Rattle.rv_retrieval.specs.Short.{fetches_by, fetches_left, scan_fetches}
-use Rattle.rv_retrieval.specs.Stepping.{OnlyTakes}
+use Rattle.rv_retrieval.specs.Stepping.{OnlyTakes, Steady}
+use Rattle.rv_judge.specs.Tracing.{SameCounts}
+use Rattle.rv_scan.specs.Fronts.{SameFront}
 
 lends : (b : Bool) (old new : Joint) → TakesLeafBy b old new → lending new ≡ lending old
 lends true old new t = ap lending t.same
@@ -102,3 +105,24 @@ keeps_awaited old new e leaves = ap awaited e ∙ by (is_background old.control)
     by : (b : Bool) → TakesLeafBy b old.joint new.joint → (if b then awaited_id new.joint else None) ≡ (if b then awaited_id old.joint else None)
     by true t = ap awaited_id t.same
     by false e = refl
+
+-- What every step keeps.
+
+pub steady_by : (old new : Shape) → SameCounts old.trace new.trace → new.query ≡ old.query → (Awaiting old → Awaiting new) → new.front ≡ old.front → Steady old new
+steady_by old new c q a e =
+    let same : SameFront old.front old.front = record { alone = refl; columns = refl; table = refl; index = refl; snap = refl; range = refl } in
+    record { counts = c; query = q; awaiting = a; front = subst (SameFront old.front) (sym e) same }
+
+pub steady_on : (a b c : Shape) → Steady a b → Steady b c → Steady a c
+steady_on a b c s t = record {
+  counts = record { pages = t.counts.pages ∙ s.counts.pages; leaves = t.counts.leaves ∙ s.counts.leaves; fetches = t.counts.fetches ∙ s.counts.fetches };
+  query = t.query ∙ s.query;
+  awaiting = λ w. t.awaiting (s.awaiting w);
+  front = record { alone = t.front.alone ∙ s.front.alone; columns = t.front.columns ∙ s.front.columns; table = t.front.table ∙ s.front.table; index = t.front.index ∙ s.front.index; snap = t.front.snap ∙ s.front.snap; range = t.front.range ∙ s.front.range };
+}
+
+pub steady_borrowed : (a b c : Shape) → b ≡ record a { borrowed = b.borrowed } → Steady b c → Steady a c
+steady_borrowed a b c e s = steady_on a b c (subst (Steady a) (sym e) (by b.borrowed)) s
+  where
+    by : (n : ℕ) → Steady a (record a { borrowed = n })
+    by n = steady_by a (record a { borrowed = n }) (record { pages = refl; leaves = refl; fetches = refl }) refl (λ w. record { way = w.way; both = w.both }) refl

@@ -13,8 +13,6 @@ use Rattle.rv_reader.specs.Leaves.{run_from}
 use Rattle.rv_reader.specs.Shown.{Shown}
 use Rattle.rv_scan.specs.Alongs.{leaf_work}
 use Rattle.rv_scan.specs.Places.{work as pages_work}
-use Rattle.rv_scan.specs.declared.skip.Scanned.{Scanned}
-use Rattle.rv_scan.specs.declared.skip.Scanned.TheVariants.{Found, Working, End}
 use Rattle.rv_jscan.specs.declared.jscan.ScanPlan.{ScanPlan}
 use Rattle.rv_jscan.specs.declared.jscan.Given.{Given}
 use Rattle.rv_jscan.specs.declared.jscan.Given.TheVariants.{Accepted, Stale}
@@ -22,8 +20,9 @@ use Rattle.rv_jscan.specs.Joint.{Joint, leaves_ahead, under_way}
 use Rattle.rv_choice.specs.declared.query.Query.{Query}
 use Rattle.rv_retrieval.specs.declared.steps.Fg.{Fg}
 use Rattle.rv_retrieval.specs.declared.steps.Fg.TheVariants.{Row, Working as FgWorking, End as FgEnd}
-use Rattle.rv_retrieval.specs.Fronts.{walk_of}
-use Rattle.rv_retrieval.specs.Shape.{Shape, front_entries, is_background, is_building, is_led, keys_left, lending, rows_of}
+use Rattle.rv_scan.specs.Fronts.{walk_of}
+use Rattle.rv_retrieval.specs.Shape.{Shape, front_entries, is_background, is_building, is_led, lending, rows_of}
+use Rattle.rv_final.specs.Stage.{keys_left}
 use Rattle.rv_retrieval.specs.Telling.{list_len}
 use Rattle.rv_judge.specs.Course.{fast_first}
 use Rattle.std.specs.Prelude.{◌||◌}
@@ -83,23 +82,6 @@ sum_of Done back front table keys = 0
 -- THE EFFORT
 abbrev pub effort : Shape → Shown → ℕ
 effort v shown = sum_of v.control (back_work v.joint v.borrowed shown) (front_work v shown) (table_work v shown) (keys_work v)
-
--- a call reads at most once, and does not raise the effort
-pub record Tries (before after : Counts) (old new : ℕ) : Type 0 where
-  pub once : reads after ≤ reads before + 1
-  pub less : new ≤ old
-
--- a step lowers the effort unless it ends, and reads nothing where it ends
-abbrev pub Falls : Scanned → Counts → Counts → ℕ → ℕ → Type 0
-Falls (Found r) before after old new = new < old
-Falls Working before after old new = new < old
-Falls End before after old new = after ≡ before
-
--- nothing was read where a step ends
-abbrev pub ReadsNone : Scanned → Counts → Counts → Type 0
-ReadsNone (Found r) before after = Unit {0}
-ReadsNone Working before after = Unit {0}
-ReadsNone End before after = after ≡ before
 
 -- WHAT A FOREGROUND'S STEP SPENDS: it lowers the effort by at least its reads, and unless it ends by at least one
 abbrev pub FgSpends : Fg → Counts → Counts → ℕ → ℕ → Type 0

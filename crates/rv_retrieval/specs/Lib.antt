@@ -1,4 +1,3 @@
-pub mod Rest
 pub mod Fronts
 pub mod Shape
 pub mod Given

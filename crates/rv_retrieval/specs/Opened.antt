@@ -1,7 +1,7 @@
 -- What a retrieval is when it was opened.
-use Rattle.std.specs.Prelude.{◌≡◌, ◌⊎◌, ℕ, ◌<◌, Bool, true, false, Option, Some, None, IsSome, List, [], length, nat_lt, if◌then◌else◌}
+use Rattle.std.specs.Prelude.{◌≡◌, ◌⊎◌, ℕ, ◌<◌, Bool, true, false, Option, IsSome, List, [], length, nat_lt, if◌then◌else◌}
 use Rattle.rv_judge.specs.declared.events.Strategy.{Strategy}
-use Rattle.rv_judge.specs.Account.{first_guarantee, guarantee_with}
+use Rattle.rv_judge.specs.Account.{guarantee_with}
 use Rattle.rv_judge.specs.Course.{next_control}
 use Rattle.rv_judge.specs.declared.events.Event.TheVariants.{At, Scan}
 use Rattle.rv_judge.specs.declared.events.Happening.TheVariants.{ScanEnded}
@@ -10,36 +10,18 @@ use Rattle.rv_reader.specs.Shown.{Shown}
 use Rattle.rv_jscan.specs.declared.jscan.ScanPlan.{ScanPlan}
 use Rattle.rv_jscan.specs.Joint.{Joint, under_way}
 use Rattle.rv_jscan.specs.Steps.{begun}
-use Rattle.rv_scan.specs.Alongs.{Along}
-use Rattle.rv_scan.specs.declared.along.Ahead.TheVariants.{First}
 use Rattle.rv_choice.specs.declared.query.Query.{Query}
-use Rattle.rv_choice.specs.declared.choosing.Candidate.{Candidate}
 use Rattle.rv_choice.specs.declared.choosing.Choice.{Choice}
-use Rattle.rv_choice.specs.Choice.{AreScans, IsChosen, candidate_at, candidates_of, no_candidate}
-use Rattle.rv_retrieval.specs.Fronts.{Front}
+use Rattle.rv_choice.specs.Choice.{AreScans, IsChosen, candidates_of}
+use Rattle.rv_choice.specs.Leading.{front_begun, front_candidate, guarantee_of}
+use Rattle.rv_scan.specs.Fronts.{Front}
 use Rattle.rv_retrieval.specs.Opens.{first_of}
 use Rattle.rv_retrieval.specs.Shape.{Shape, is_background}
 use Rattle.rv_choice.specs.declared.choosing.Background.{Background}
 use Rattle.rv_choice.specs.declared.choosing.Background.TheVariants.{Nothing, One, Each, EachBut}
-use Rattle.rv_retrieval.specs.Telling.{NothingCounted, events_for, index_of, list_len, noted, noted_all}
+use Rattle.rv_retrieval.specs.Telling.{events_for, index_of, list_len}
+use Rattle.rv_judge.specs.Tracing.{NothingCounted, noted, noted_all}
 use Rattle.rv_retrieval.specs.Rulings.{gone, listed}
-
--- a walk along the whole range of an index
-abbrev pub walk_begun : Query → Candidate → Along
-walk_begun query c = record { index = c.index; snap = query.snap; range = c.range; ahead = First; held = [] }
-
--- the foreground's scan of an index: by the index alone where it has every column needed
-abbrev pub front_begun : Query → Candidate → Front
-front_begun query c = record { alone = c.sufficient; columns = c.columns; fetching = record { table = query.table; walk = walk_begun query c }; telling = walk_begun query c }
-
--- the index of the foreground's scan
-abbrev pub front_candidate : List Candidate → Option ℕ → Candidate
-front_candidate cs None = no_candidate
-front_candidate cs (Some at) = candidate_at cs at
-
--- the guarantee at opening
-abbrev pub guarantee_of : Query → Shown → List Candidate → Choice → ℕ
-guarantee_of query shown cs choice = first_guarantee choice.strategy (shown.pages query.table query.snap) (front_candidate cs choice.front).estimate.value
 
 -- whether a background scan is planned
 abbrev pub has_scans : List ScanPlan → Bool

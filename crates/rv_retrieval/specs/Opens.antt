@@ -15,8 +15,9 @@ use Rattle.rv_scan.specs.declared.skip.Scanned.{Scanned}
 use Rattle.rv_scan.specs.declared.skip.Scanned.TheVariants.{Found, Working, End}
 use Rattle.rv_retrieval.specs.declared.steps.Fg.{Fg}
 use Rattle.rv_retrieval.specs.declared.steps.Fg.TheVariants.{Row, Working as FgWorking, End as FgEnd}
-use Rattle.rv_retrieval.specs.Rest.{IsLeast, TakesOut, qualifies_at}
-use Rattle.rv_retrieval.specs.Fronts.{Front, front_left, walk_of}
+use Rattle.rv_final.specs.Rest.{IsLeast, TakesOut, qualifies_at}
+use Rattle.rv_retrieval.specs.Fronts.{front_left}
+use Rattle.rv_scan.specs.Fronts.{Front, walk_of}
 use Rattle.rv_retrieval.specs.Shape.{FrontFits, Shape, is_led, is_sorted, rest}
 
 -- the first control of a strategy, by whether a background scan is planned

@@ -17,7 +17,8 @@ use Rattle.rv_jscan.specs.Steps.{Accepts, abandoned, held_next}
 use Rattle.rv_retrieval.specs.Accounts.{account_of}
 use Rattle.rv_retrieval.specs.Given.{more_behind}
 use Rattle.rv_retrieval.specs.Shape.{Shape}
-use Rattle.rv_retrieval.specs.Telling.{can_stop, list_len, noted, noted_drop, noted_list, noted_scan}
+use Rattle.rv_retrieval.specs.Telling.{can_stop, list_len, noted_drop, noted_list, noted_scan}
+use Rattle.rv_judge.specs.Tracing.{noted}
 
 -- the control is that of the course, and the trace tells it
 abbrev pub gone : Happening → Shape → Shape

@@ -1,8 +1,7 @@
 -- A retrieval as contracts see it, and the records that it still owes.
-use Rattle.std.specs.Prelude.{◌≡◌, ℕ, ◌+◌, ◌<◌, ◌^◌, ◌-◌, Bool, true, false, not, ◌&&◌, ◌||◌, ◌⊎◌, List, [], ◌∷◌, drop, take, length, Option, Some, None, IsSome}
+use Rattle.std.specs.Prelude.{◌≡◌, ℕ, ◌<◌, Bool, true, false, not, ◌&&◌, ◌||◌, ◌⊎◌, List, [], take, length, Option, Some, None, IsSome}
 use Rattle.rv_value.specs.declared.record.Record.{Record}
 use Rattle.rv_value.specs.declared.record.IndexEntry.{IndexEntry}
-use Rattle.rv_value.specs.declared.record.RowNo.{RowNo}
 use Rattle.rv_rows.specs.Rows.{Ascend}
 use Rattle.rv_keys.specs.Keys.{has_key}
 use Rattle.rv_delivered.specs.Rows.{AddsRow}
@@ -18,13 +17,15 @@ use Rattle.rv_reader.specs.Shown.{Shown, CanRead}
 use Rattle.rv_restrict.specs.Parts.{stands_among}
 use Rattle.rv_scan.specs.Alongs.{Follows}
 use Rattle.rv_scan.specs.Due.{HaveColumns}
-use Rattle.rv_scan.specs.Places.{Place, unseen, Fits as PlaceFits}
+use Rattle.rv_scan.specs.Places.{Place, unseen}
 use Rattle.rv_jscan.specs.Joint.{Joint, JointFits, CanTake, meets, plan_at}
 use Rattle.rv_choice.specs.declared.query.Query.{Query}
-use Rattle.rv_retrieval.specs.Fronts.{Front, CanFront, front_left, walk_of}
+use Rattle.rv_retrieval.specs.Fronts.{front_left}
+use Rattle.rv_scan.specs.Fronts.{Front, CanFront, walk_of}
 use Rattle.rv_scan.specs.declared.skip.Scanned.{Scanned}
 use Rattle.rv_scan.specs.declared.skip.Scanned.TheVariants.{Found, Working, End}
-use Rattle.rv_retrieval.specs.Rest.{IsLeast, Steps, rest_by, qualifies_at, Agree, has_row}
+use Rattle.rv_final.specs.Rest.{IsLeast, Steps, rest_by, qualifies_at, Agree, has_row}
+use Rattle.rv_final.specs.Stage.{LastFits, Unbegun, keys_left}
 
 -- Everything that a retrieval keeps. `borrowed` counts the keys that fast-first has borrowed of the list that it borrows
 -- from, `at` those of the complete list that the final stage has passed, and `last` is the final scan of the table.
@@ -70,11 +71,6 @@ source_of Done strategy = Nowhere
 
 abbrev pub source : Shape → Source
 source v = source_of v.control v.strategy
-
--- the keys of the complete list from a place on
-abbrev pub keys_left : Option (List ℕ) → ℕ → List ℕ
-keys_left None at = []
-keys_left (Some keys) at = drop at keys
 
 abbrev pub front_entries : Shape → Shown → List IndexEntry
 front_entries v shown = shown.entries (walk_of v.front).index v.query.snap
@@ -149,17 +145,6 @@ pub record FrontFits (query : Query) (strategy : Strategy) (f : Front) (shown : 
   pub begins : is_sorted strategy ≡ true → take (length query.order) f.columns ≡ query.order
   pub needs : (c : ℕ) → stands_among query.order c ≡ true → stands_among query.need c ≡ true
 
--- the final scan of the table
-pub record LastFits (query : Query) (last : Place) (shown : Shown) : Type 0 where
-  pub of_table : last.table ≡ query.table
-  pub at_snap : last.snap ≡ query.snap
-  pub drawn : PlaceFits last (shown.rows query.table query.snap)
-
--- nothing of the final stage was passed
-pub record Unbegun (at : ℕ) (last : Place) : Type 0 where
-  pub keys : at ≡ 0
-  pub pages : (rows : List Record) → unseen last rows ≡ rows
-
 -- WHAT IT HOLDS WAS DRAWN FROM WHAT A READER SHOWS, and the reader can be read as it will be.
 pub record RetrievalFits (v : Shape) (shown : Shown) : Type 0 where
   pub ascend : Ascend (rows_of v shown)
@@ -171,7 +156,7 @@ pub record RetrievalFits (v : Shape) (shown : Shown) : Type 0 where
   pub planned : (i : ℕ) → i < length v.joint.plans → (n : ℕ) → qualifies_at v.query.only (rows_of v shown) n ≡ true → meets (plan_at v.joint.plans i) shown v.joint.snap n ≡ true
   pub front : is_led v.strategy ≡ true → FrontFits v.query v.strategy v.front shown
   pub led : source v ≡ Ahead → is_led v.strategy ≡ true
-  pub last : LastFits v.query v.last shown
+  pub last : LastFits v.query.table v.query.snap v.last shown
   pub unbegun : is_early (source v) ≡ true → Unbegun v.at v.last
   pub listed : source v ≡ Keys → IsSome v.joint.list
   pub room : is_building v.control ≡ true → length v.delivered < 1024
@@ -192,20 +177,6 @@ lending_of (Some keys) building = keys
 
 abbrev pub lending : Joint → List ℕ
 lending j = lending_of j.list j.building
-
--- the next key of the complete list, or none is left
-pub record NextKey (list : Option (List ℕ)) (at : ℕ) (key : ℕ) : Type 0 where
-  pub split : keys_left list at ≡ key ∷ keys_left list (at + 1)
-  pub gone : has_key key (keys_left list (at + 1)) ≡ false
-  pub small : at < 2 ^ 64 - 1
-
-abbrev pub KeyAt : Option (List ℕ) → ℕ → Option RowNo → Type 0
-KeyAt list at None = keys_left list at ≡ []
-KeyAt list at (Some row) = NextKey list at row.0
-
--- keys were passed over that are of rows delivered
-pub record PassesKeys (list : Option (List ℕ)) (delivered : List ℕ) (old new : ℕ) : Type 0 where
-  pub same : (n : ℕ) → (has_key n (keys_left list new) && not (has_key n delivered)) ≡ (has_key n (keys_left list old) && not (has_key n delivered))
 
 -- a row is remembered
 pub record Remembers (old new : Shape) (row : ℕ) : Type 0 where
@@ -236,11 +207,6 @@ abbrev pub LeastOf : Shape → Shown → Scanned → Type 0
 LeastOf v shown (Found r) = IsLeast v.query.order r (rest_by (front_left v.front (front_entries v shown)) v.query.only (rows_of v shown))
 LeastOf v shown Working = Unit {0}
 LeastOf v shown End = Unit {0}
-
--- a row that qualifies, or none, as a step's answer
-abbrev pub given_as : Option Record → Scanned
-given_as None = Working
-given_as (Some r) = Found r
 
 -- Where a happening may lead.
 

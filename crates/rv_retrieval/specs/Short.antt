@@ -1,19 +1,17 @@
 -- WHERE A SHORT INDEX WAS SCANNED AT OPENING: the background is over, and few records may still be fetched.
-use Rattle.std.specs.Prelude.{◌≡◌, ℕ, ◌+◌, Bool, true, false, List, length, filter, if◌then◌else◌}
+use Rattle.std.specs.Prelude.{◌≡◌, ℕ, ◌+◌, Bool, true, false, length, filter, if◌then◌else◌}
 use Rattle.std.specs.List.{list_any}
 use Rattle.rv_value.specs.declared.record.IndexEntry.{IndexEntry}
 use Rattle.rv_judge.specs.declared.counting.Counts.{Counts}
 use Rattle.rv_judge.specs.declared.events.Control.{Control}
 use Rattle.rv_judge.specs.declared.events.Control.TheVariants.{Building, ForegroundAlone, BackgroundAlone, FinalList, FinalTable, Done}
 use Rattle.rv_reader.specs.Shown.{Shown}
-use Rattle.rv_scan.specs.Alongs.{left, to_fetch}
-use Rattle.rv_scan.specs.Due.{Skipped}
+use Rattle.rv_scan.specs.Alongs.{left}
 use Rattle.rv_jscan.specs.Joint.{Joint}
 use Rattle.rv_jscan.specs.Pieces.{may}
 use Rattle.rv_choice.specs.declared.query.Query.{Query}
 use Rattle.rv_choice.specs.declared.choosing.Role.TheVariants.{Short}
 use Rattle.rv_choice.specs.Choice.{candidates_of, plays}
-use Rattle.rv_retrieval.specs.Fronts.{Front}
 use Rattle.rv_retrieval.specs.Effort.{entries_ahead, keys_work}
 use Rattle.rv_retrieval.specs.Shape.{Shape, front_entries, is_sorted}
 use Rattle.rv_retrieval.specs.Telling.{list_len}
@@ -32,11 +30,8 @@ pub record Settled (v : Shape) : Type 0 where
   pub over : is_settled v.control ≡ true
   pub sorted : v.control ≡ ForegroundAlone → is_sorted v.strategy ≡ true
 
--- the records that a foreground's scan may still fetch, none where its index is scanned alone
-abbrev pub front_fetches : Front → List IndexEntry → Skipped → ℕ
-front_fetches f entries skip = if f.alone then 0 else to_fetch f.fetching.walk entries skip
-
--- the same where a complete list hides what it cannot have: one for each entry ahead that the list may have
+-- the records that a foreground's scan may still fetch, where a complete list hides what it cannot have: one for each
+-- entry ahead that the list may have, none where the index is scanned alone
 abbrev pub scan_fetches : Shape → Shown → ℕ
 scan_fetches v shown = if v.front.alone then 0 else length (filter (λ (e : IndexEntry). may v.joint.list e.row.0) (left v.front.fetching.walk (front_entries v shown)))
 

@@ -1,8 +1,6 @@
 -- What a foreground step does, by the control, the strategy and the fresh key.
-use Rattle.std.specs.Prelude.{◌≡◌, ◌⊎◌, ℕ, ◌≤◌, Bool, true, false, not, ◌&&◌, ◌==◌, find, length, Option, Some, None, if◌then◌else◌}
+use Rattle.std.specs.Prelude.{◌≡◌, ◌⊎◌, ℕ, ◌≤◌, Bool, true, false, ◌&&◌, ◌==◌, length, Option, Some, None, if◌then◌else◌}
 use Rattle.rv_delivered.specs.Rows.{AddsRow}
-use Rattle.rv_keys.specs.Keys.{has_key}
-use Rattle.rv_value.specs.declared.record.RowNo.{RowNo}
 use Rattle.rv_judge.specs.Counting.{leaf_read, page_read, record_read}
 use Rattle.rv_judge.specs.declared.counting.Counts.{Counts}
 use Rattle.rv_judge.specs.declared.events.Control.{Control}
@@ -16,7 +14,7 @@ use Rattle.rv_judge.specs.declared.judging.Facts.{Facts}
 use Rattle.rv_judge.specs.Verdicts.{Ruling}
 use Rattle.rv_reader.specs.Shown.{Shown}
 use Rattle.rv_reader.specs.Tables.{row_at}
-use Rattle.rv_scan.specs.Alongs.{FetchReads, looked}
+use Rattle.rv_scan.specs.Alongs.{looked}
 use Rattle.rv_scan.specs.Places.{PageReads}
 use Rattle.rv_scan.specs.Told.{KeyReads}
 use Rattle.rv_scan.specs.declared.skip.Scanned.{Scanned}
@@ -26,13 +24,24 @@ use Rattle.rv_jscan.specs.Joint.{Joint, under_way}
 use Rattle.rv_jscan.specs.Pieces.{Pieced, may}
 use Rattle.rv_jscan.specs.Steps.{Awaits, TakeLeaves, steps_read}
 use Rattle.rv_retrieval.specs.Accounts.{fresh_of}
-use Rattle.rv_retrieval.specs.Effort.{keys_work}
+use Rattle.rv_retrieval.specs.Effort.{Awaiting, keys_work}
 use Rattle.rv_retrieval.specs.declared.steps.Fg.{Fg}
 use Rattle.rv_retrieval.specs.Given.{TakesLeaf}
 use Rattle.rv_retrieval.specs.Opens.{fg_of}
 use Rattle.rv_retrieval.specs.Rulings.{GivesOn, gone}
-use Rattle.rv_retrieval.specs.Shape.{Shape, keys_left, is_background, is_sorted, rows_of}
-use Rattle.rv_retrieval.specs.Telling.{counted, noted}
+use Rattle.rv_retrieval.specs.Shape.{Shape, is_background, is_sorted, rows_of}
+use Rattle.rv_final.specs.Stage.{FetchesKey, first_key}
+use Rattle.rv_scan.specs.Fronts.{FrontMayRead, FrontReads, SameFront}
+use Rattle.rv_scan.specs.Reads.{OneAtMost}
+use Rattle.rv_judge.specs.Tracing.{SameCounts, counted, noted}
+
+-- WHAT EVERY STEP KEEPS, whatever it answers: the query, the foreground's scan but for its place, and that a scan is under
+-- way where pieces are awaited. It writes no counts into the trace; its caller does.
+pub record Steady (old new : Shape) : Type 0 where
+  pub counts : SameCounts old.trace new.trace
+  pub query : new.query ≡ old.query
+  pub awaiting : Awaiting old → Awaiting new
+  pub front : SameFront old.front new.front
 
 -- a piece is awaited
 abbrev pub is_awaiting : Shape → Bool
@@ -83,19 +92,11 @@ WalkReads v shown c d s = WalkRow v shown c d s ⊎ (d.records ≡ c.records)
 
 -- the first key of the complete list that is left and was not delivered
 abbrev pub first_left : Shape → Option ℕ
-first_left v = find (λ (k : ℕ). not (has_key k v.delivered)) (keys_left v.joint.list v.at)
-
-abbrev pub IsFirstLeft : Shape → Option RowNo → Type 0
-IsFirstLeft v None = first_left v ≡ None
-IsFirstLeft v (Some row) = first_left v ≡ Some row.0
+first_left v = first_key v.joint.list (Some v.delivered) v.at
 
 -- that key's row is fetched, and given exactly where it qualifies; where there is none it is the end
-abbrev pub FetchesKey : Option ℕ → Shape → Shown → Counts → Counts → Scanned → Type 0
-FetchesKey None v shown c d s = (s ≡ End) × (d ≡ c)
-FetchesKey (Some key) v shown c d s = (d ≡ record_read c) × (s ≡ looked v.query.only (row_at (rows_of v shown) key))
-
 abbrev pub ListReads : Shape → Shown → Counts → Counts → Scanned → Type 0
-ListReads v shown c d s = FetchesKey (first_left v) v shown c d s
+ListReads v shown c d s = FetchesKey (first_left v) v.query.only (rows_of v shown) c d s
 
 -- a source at its end leads to the last control
 abbrev pub ended_by : Happening → Scanned → Shape → Shape
@@ -150,15 +151,6 @@ DoesAs Over would state after shown c d s old new = (after ≡ state) × (s ≡ 
 abbrev pub DoesIts : (ℕ → Facts → Ruling) → ℕ → ℕ → Shown → Counts → Counts → Scanned → Shape → Shape → Type 0
 DoesIts would state after shown c d s old new = DoesAs (kind_of old.control old.strategy (fresh_of old)) would state after shown c d s old new
 
--- at most one read of a sort, and no other
-abbrev pub OneAtMost : (Counts → Counts) → Counts → Counts → Type 0
-OneAtMost one c d = (d ≡ c) ⊎ (d ≡ one c)
-
--- a foreground's scan reads leaves alone where its index has every column needed, else leaves and records
-abbrev pub FrontMayRead : Bool → Counts → Counts → Type 0
-FrontMayRead true c d = OneAtMost leaf_read c d
-FrontMayRead false c d = OneAtMost leaf_read c d ⊎ OneAtMost record_read c d
-
 -- the awaited leaf is read where it is not held
 abbrev pub piece_read : Shape → Counts → Counts
 piece_read v c = if is_background v.control then steps_read v.joint c else c
@@ -176,10 +168,6 @@ MayRead Over v c d = d ≡ c
 
 abbrev pub MayReadIts : Shape → Counts → Counts → Type 0
 MayReadIts v c d = MayRead (kind_of v.control v.strategy (fresh_of v)) v c d
-
-abbrev pub FrontReads : Bool → Scanned → Counts → Counts → Type 0
-FrontReads true s c d = KeyReads s c d
-FrontReads false s c d = FetchReads s c d
 
 -- what it reads by its answer: a scan reads nothing where it gives a row of the leaf or page that it holds
 abbrev pub ReadsAs : Kind → Shape → Scanned → Counts → Counts → Type 0

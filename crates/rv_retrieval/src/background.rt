@@ -3,14 +3,16 @@ ghost use Rattle.rv_reader.specs.Shown.{Shown};
 ghost use Rattle.rv_judge.specs.Course.{next_control};
 ghost use Rattle.rv_judge.specs.declared.events.Event.{Event as TheEvent};
 ghost use Rattle.rv_jscan.specs.Joint.{under_way};
-ghost use Rattle.rv_retrieval.specs.Fronts.{SameFront};
+ghost use Rattle.rv_scan.specs.Fronts.{SameFront};
 ghost use Rattle.rv_retrieval.specs.Given.{Answers, TakesLeaf, TakesPiece, awaited};
 ghost use Rattle.rv_retrieval.specs.Rulings.{GivesOn, Obeys, dropped, listed, ruled, scan_over, stopped};
 ghost use Rattle.rv_retrieval.specs.Runs.{IsOfUndropped, SameCourse, Tells};
 ghost use Rattle.rv_retrieval.specs.Shape.{DoesStep, EndsIn, Keeps, RetrievalFits, is_background, rest};
-ghost use Rattle.rv_retrieval.specs.Stepping.{OnlyTakes, StepsBackground, StepsBehind, is_awaiting, piece_read};
-ghost use Rattle.rv_retrieval.specs.Telling.{CountsRise, SameCounts, can_stop, list_len, noted, noted_drop, noted_list, noted_scan};
-ghost use Rattle.rv_retrieval.specs.Effort.{Awaiting, Falls, GiveSpends, Tries, effort};
+ghost use Rattle.rv_retrieval.specs.Stepping.{OnlyTakes, Steady, StepsBackground, piece_read};
+ghost use Rattle.rv_retrieval.specs.Telling.{can_stop, list_len, noted_drop, noted_list, noted_scan};
+ghost use Rattle.rv_judge.specs.Tracing.{CountsRise, SameCounts, noted};
+ghost use Rattle.rv_retrieval.specs.Effort.{Awaiting, GiveSpends, effort};
+ghost use Rattle.rv_final.specs.Work.{Falls, Tries};
 ghost use Rattle.rv_judge.specs.Counting.{reads};
 ghost use Rattle.rv_retrieval.specs.Short.{Settled};
 
@@ -285,37 +287,6 @@ impl Retrieval {
     }
 
     /// A background step: a piece taken, sieved and given.
-    fn background<R: Reader>(
-        &mut self,
-        reader: &R,
-        judge: &mut Box<dyn Judge>,
-        steps: &mut Steps<R::Ledger>,
-    ) -> Result<(), NoMemory>
-        requires fits { RetrievalFits self.old (R.shown reader.now) }
-        ensures counts { SameCounts self.old.trace self.new.trace }
-        ensures query { self.new.query ≡ self.old.query }
-        ensures fits { RetrievalFits self.new (R.shown reader.now) }
-        ensures rest { rest self.new (R.shown reader.now) ≡ rest self.old (R.shown reader.now) }
-        ensures does { OnOk result (StepsBehind (is_awaiting self.old) (would judge.old) (state judge.old) (state judge.new) self.old self.new) }
-        ensures quiet { OnErr result (state judge.new ≡ state judge.old) }
-        ensures stays { would judge.new ≡ would judge.old }
-        ensures course { OnErr result (SameCourse self.old self.new) }
-        ensures still { OnErr result (OnlyTakes self.old self.new) }
-        ensures reads { steps.new ≡ piece_read self.old steps.old }
-        ensures tries { Tries steps.old steps.new (effort self.old (R.shown reader.now)) (effort self.new (R.shown reader.now)) }
-        ensures falls { is_background self.old.control ≡ true → Awaiting self.old → OnOk result (effort self.new (R.shown reader.now) < effort self.old (R.shown reader.now)) }
-        ensures awaiting { Awaiting self.old → Awaiting self.new }
-        ensures front { self.new.front ≡ self.old.front }
-    {
-        match self.take_piece(reader, steps)? {
-            Taken::Piece(piece) => {
-                let _given = self.give_piece(sieve(piece), judge)?;
-            }
-            Taken::Nothing => {}
-        }
-        Ok(())
-    }
-
     pub(crate) fn background_step<R: Reader>(
         &mut self,
         reader: &R,
@@ -323,8 +294,7 @@ impl Retrieval {
         steps: &mut Steps<R::Ledger>,
     ) -> Result<Scanned, NoMemory>
         requires fits { RetrievalFits self.old (R.shown reader.now) }
-        ensures counts { SameCounts self.old.trace self.new.trace }
-        ensures query { self.new.query ≡ self.old.query }
+        ensures steady { Steady self.old self.new }
         ensures fits { RetrievalFits self.new (R.shown reader.now) }
         ensures step { IfOk result (DoesStep self.old self.new (R.shown reader.now)) }
         ensures ends { IfOk result (EndsIn self.new) }
@@ -337,10 +307,13 @@ impl Retrieval {
         ensures reads { steps.new ≡ piece_read self.old steps.old }
         ensures tries { Tries steps.old steps.new (effort self.old (R.shown reader.now)) (effort self.new (R.shown reader.now)) }
         ensures falls { is_background self.old.control ≡ true → Awaiting self.old → IfOk result (λ s. Falls s steps.old steps.new (effort self.old (R.shown reader.now)) (effort self.new (R.shown reader.now))) }
-        ensures awaiting { Awaiting self.old → Awaiting self.new }
-        ensures front { SameFront self.old.front self.new.front }
     {
-        self.background(reader, judge, steps)?;
-        Ok(Scanned::Working)
+        match self.take_piece(reader, steps)? {
+            Taken::Piece(piece) => {
+                let _given = self.give_piece(sieve(piece), judge)?;
+                Ok(Scanned::Working)
+            }
+            Taken::Nothing => Ok(Scanned::Working),
+        }
     }
 }

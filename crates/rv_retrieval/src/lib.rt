@@ -2,11 +2,9 @@
 #![tactic(auto)]
 
 mod background;
-mod front;
 mod opening;
 mod retrieval;
 mod steps;
 
-pub use front::Front;
 pub use retrieval::Retrieval;
 pub use steps::Fg;

@@ -1,129 +1,32 @@
 ghost use Rattle.std.specs.Prelude.{◌≡◌, ◌<◌, ◌≤◌, length, None, true, false, IfOk, IfSome, OnOk, OnErr, ◌+◌, ℕ, List};
-ghost use Rattle.rv_judge.specs.Account.{first_guarantee};
-ghost use Rattle.rv_reader.specs.Shown.{CanRead, Shown};
+ghost use Rattle.rv_reader.specs.Shown.{Shown};
 ghost use Rattle.rv_jscan.specs.Joint.{CanTake, JointFits, leaves_ahead, under_way};
 ghost use Rattle.rv_choice.specs.Asked.{CanAsk};
-ghost use Rattle.rv_choice.specs.Choice.{IsChosen, IsRight, candidates_of, no_candidate};
-ghost use Rattle.rv_retrieval.specs.Opened.{Begun, IsMade, OnlyLists, Opened, RunsOut, SameScans, Scanned, Starts, front_begun, front_candidate, guarantee_of, is_one, start_told};
+ghost use Rattle.rv_choice.specs.Choice.{IsChosen, IsRight, candidates_of};
+ghost use Rattle.rv_retrieval.specs.Opened.{Begun, IsMade, OnlyLists, Opened, RunsOut, SameScans, Scanned, Starts, is_one, start_told};
+ghost use Rattle.rv_choice.specs.Leading.{guarantee_of};
 ghost use Rattle.rv_retrieval.specs.Opens.{Opens};
-ghost use Rattle.rv_retrieval.specs.Rest.{qualifying};
+ghost use Rattle.rv_final.specs.Rest.{qualifying};
 ghost use Rattle.rv_retrieval.specs.Runs.{Tells};
 ghost use Rattle.rv_retrieval.specs.Shape.{RetrievalFits, is_background, rest};
-ghost use Rattle.rv_retrieval.specs.Telling.{CountsAll, NothingCounted, new_trace};
+ghost use Rattle.rv_judge.specs.Tracing.{CountsAll, NothingCounted, new_trace};
 ghost use Rattle.rv_judge.specs.Counting.{reads};
-ghost use Rattle.rv_reader.specs.Tables.{IsTable};
 ghost use Rattle.rv_retrieval.specs.Effort.{Awaiting, back_work, effort, life_of};
 ghost use Rattle.rv_scan.specs.Places.{work as pages_work};
 ghost use Rattle.rv_value.specs.declared.record.Record.{Record as OneRecord};
 ghost use Rattle.std.specs.List.{AllByRecursion};
 ghost use Rattle.rv_retrieval.specs.Short.{OnlyLeaves, Settled, fetches_left, has_short, keys_most};
 
-use crate::front::Front;
 use crate::retrieval::Retrieval;
-use rv_choice::{Background, Candidate, Choice, Query, candidates, choose, scans};
+use rv_choice::{
+    Background, Candidate, Choice, Query, candidates, choose, foreground, guarantee, scans,
+};
 use rv_jscan::{ScanPlan, Taken, sieve};
 use rv_judge::{Event, Steps, Strategy};
-use rv_reader::{Estimate, Reader};
-use rv_scan::{Fscan, Sscan};
-use rv_value::{Duplicate, Items, NoMemory, Range};
+use rv_reader::Reader;
+use rv_scan::Front;
+use rv_value::NoMemory;
 use std::alloc::Global;
-
-/// The scan of an index as the foreground.
-fn front(alloc: Global, query: &Query, candidate: &Candidate) -> Result<Front, NoMemory>
-    ensures { IfOk result (λ front. front ≡ front_begun query.now candidate.now) }
-{
-    let fetching = Fscan::new(
-        alloc,
-        query.table,
-        candidate.index,
-        query.snap,
-        candidate.range.copy(alloc)?,
-    );
-    let telling = Sscan::new(
-        alloc,
-        candidate.index,
-        query.snap,
-        candidate.range.copy(alloc)?,
-    );
-    Ok(Front::new(
-        candidate.sufficient,
-        candidate.columns.copy(alloc)?,
-        fetching,
-        telling,
-    ))
-}
-
-/// What stands for the foreground's index where no index is scanned by the foreground. It is never read.
-fn no_candidate(alloc: Global) -> Candidate
-    ensures { result ≡ no_candidate }
-{
-    Candidate {
-        index: 0,
-        columns: Items::new(alloc),
-        range: Range {
-            low: None,
-            high: None,
-            starts: false,
-        },
-        estimate: Estimate {
-            value: 0,
-            exact: false,
-        },
-        restricted: false,
-        sufficient: false,
-    }
-}
-
-fn chosen_front(
-    alloc: Global,
-    query: &Query,
-    candidates: &[Candidate],
-    place: Option<usize>,
-) -> Result<Front, NoMemory>
-    requires { IfSome place (λ at. at < length candidates.now) }
-    ensures { IfOk result (λ front. front ≡ front_begun query.now (front_candidate candidates.now place)) }
-{
-    match place {
-        Some(at) => front(alloc, query, &candidates[at]),
-        None => front(alloc, query, &no_candidate(alloc)),
-    }
-}
-
-/// About how many entries the foreground's scan has.
-fn front_entries(candidates: &[Candidate], place: Option<usize>) -> u64
-    requires { IfSome place (λ at. at < length candidates.now) }
-    ensures { result ≡ (front_candidate candidates.now place).estimate.value }
-{
-    match place {
-        Some(at) => candidates[at].estimate.value,
-        None => 0,
-    }
-}
-
-fn first_guarantee(strategy: Strategy, pages: u64, entries: u64) -> u64
-    ensures { result ≡ first_guarantee strategy pages entries }
-{
-    match strategy {
-        Strategy::Table | Strategy::BackgroundOnly | Strategy::FastFirst => pages,
-        Strategy::Sorted => entries,
-        Strategy::IndexOnly => entries.div_ceil(16),
-    }
-}
-
-/// The cost at which the retrieval can be finished without a background.
-fn guarantee<R: Reader>(reader: &R, query: &Query, candidates: &[Candidate], choice: Choice) -> u64
-    requires can { CanRead (R.shown reader.now) query.now.table query.now.snap }
-    requires place { IfSome choice.front (λ at. at < length candidates.now) }
-    ensures value { result ≡ guarantee_of query.now (R.shown reader.now) candidates.now choice }
-    ensures table { IsTable ((R.shown reader.now).rows query.now.table query.now.snap) ((R.shown reader.now).pages query.now.table query.now.snap) }
-{
-    let pages = u64::from(reader.sizes(query.table, query.snap).pages);
-    first_guarantee(
-        choice.strategy,
-        pages,
-        front_entries(candidates, choice.front),
-    )
-}
 
 impl Retrieval {
     /// Writes the first control into the trace, and the scan with which a background begins.
@@ -302,7 +205,7 @@ impl Retrieval {
         ensures few { has_short query (R.shown reader.now) ≡ true → IfOk result (λ r. keys_most r.joint (R.shown reader.now) ≤ 20) }
     {
         let scans = scans(alloc, &query.only, candidates, choice.background)?;
-        let front = chosen_front(alloc, &query, candidates, choice.front)?;
+        let front = foreground(alloc, &query, candidates, choice.front)?;
         let guaranteed = guarantee(reader, &query, candidates, choice);
         Retrieval::begin(
             alloc,

@@ -1,7 +1,6 @@
 ghost use Rattle.std.specs.Prelude.{if◌then◌else◌, ◌≡◌, ℕ, List, ◌+◌, ◌-◌, ◌^◌, ◌<◌, ◌≤◌, ◌++◌, ◌∷◌, [], ◌&&◌, ◌==◌, ◌⊎◌, true, false, is_some, length, min, Some, None, IfOk, IfSome, IsSome, IsTrue, OnOk, OnErr, Ok};
 ghost use Rattle.std.specs.Option.{option_copied};
-ghost use Rattle.rv_keys.specs.Keys.{has_key, Once};
-ghost use Rattle.rv_restrict.specs.Truth.{names_only, row_has};
+ghost use Rattle.rv_keys.specs.Keys.{has_key};
 ghost use Rattle.rv_reader.specs.Shown.{Shown, CanRead};
 ghost use Rattle.rv_reader.specs.Tables.{row_at};
 ghost use Rattle.rv_scan.specs.Alongs.{Follows, looked};
@@ -10,32 +9,36 @@ ghost use Rattle.rv_scan.specs.Due.{HaveColumns};
 ghost use Rattle.rv_jscan.specs.Joint.{CanTake, JointFits, keys_of, under_way};
 ghost use Rattle.rv_jscan.specs.Steps.{Gives, Nearer, TakeLeaves, Takes, abandoned, awaited_id, begun, counts_read, steps_read};
 ghost use Rattle.rv_judge.specs.Account.{facts_of, guarantee_with};
-ghost use Rattle.rv_judge.specs.Counting.{page_read, record_read};
+ghost use Rattle.rv_judge.specs.Counting.{page_read};
 ghost use Rattle.rv_retrieval.specs.Accounts.{NextBorrowed, account_of};
-ghost use Rattle.rv_retrieval.specs.Fronts.{SameFront, front_left, walk_of};
+ghost use Rattle.rv_retrieval.specs.Fronts.{front_left};
+ghost use Rattle.rv_scan.specs.Fronts.{SameFront, walk_of, FrontMayRead, FrontReads};
 ghost use Rattle.rv_retrieval.specs.Given.{awaited, more_behind};
 ghost use Rattle.rv_retrieval.specs.Opened.{Begun, has_scans};
 ghost use Rattle.rv_retrieval.specs.Opens.{Opens, first_of};
 ghost use Rattle.rv_judge.specs.Runs.{Allowed};
-ghost use Rattle.rv_retrieval.specs.Rest.{StepMarks, qualifying};
+ghost use Rattle.rv_final.specs.Rest.{StepMarks, qualifying};
 ghost use Rattle.rv_retrieval.specs.Runs.{Tells, indexes_asked};
-ghost use Rattle.rv_retrieval.specs.Shape.{KeyAt, LastFits, LeastOf, NextKey, Remembers, RetrievalFits, Source, given_as, left_at, lending, front_entries, is_background, is_led, is_sorted, keys_left, rest, rows_of};
-ghost use Rattle.rv_retrieval.specs.Stepping.{FrontMayRead, FrontReads, OneAtMost, WalkReads};
-ghost use Rattle.rv_retrieval.specs.Telling.{counted, index_of, list_len, new_trace, noted};
-ghost use Rattle.rv_retrieval.specs.Effort.{Falls, Tries, front_work, table_work};
+ghost use Rattle.rv_retrieval.specs.Shape.{LeastOf, Remembers, RetrievalFits, Source, left_at, lending, front_entries, is_background, is_led, is_sorted, rest, rows_of};
+ghost use Rattle.rv_final.specs.Stage.{LastFits, PassesKeys, given_as};
+ghost use Rattle.rv_retrieval.specs.Stepping.{ListReads, WalkReads};
+ghost use Rattle.rv_retrieval.specs.Telling.{index_of, list_len};
+ghost use Rattle.rv_judge.specs.Tracing.{counted, new_trace, noted};
+ghost use Rattle.rv_retrieval.specs.Effort.{front_work, keys_work, table_work};
+ghost use Rattle.rv_final.specs.Work.{Falls, Tries};
+ghost use Rattle.rv_scan.specs.Reads.{OneAtMost};
 ghost use Rattle.rv_judge.specs.Counting.{record_read};
 ghost use Rattle.rv_value.specs.declared.record.Record.{Record as OneRecord};
 ghost use Rattle.rv_retrieval.specs.Short.{OnlyLeaves, scan_fetches};
 
-use crate::front::Front;
 use rv_choice::Query;
 use rv_delivered::Delivered;
+use rv_final::{Final, examine};
 use rv_jscan::{Given, Jscan, PieceId, ScanPlan, Sieved, Taken};
 use rv_judge::{Control, Counts, Event, Facts, Steps, Strategy, Trace, project};
 use rv_keylist::KeyList;
 use rv_reader::Reader;
-use rv_restrict::Tri;
-use rv_scan::{Scanned, Skip, Tscan};
+use rv_scan::{Front, Scanned, Skip};
 use rv_value::{NoMemory, Record, RowNo};
 use std::alloc::Global;
 use std::marker::Model;
@@ -86,8 +89,7 @@ pub struct Retrieval {
     front: Front,
     delivered: Delivered,
     borrowed: u64,
-    at: u64,
-    last: Tscan,
+    ending: Final,
     guaranteed: u64,
     trace: Trace,
 }
@@ -97,7 +99,7 @@ impl Model for Retrieval {
 
     ghost Value = { Shape };
 
-    ghost view = { λ r. record { query = r.query; strategy = r.strategy; control = r.control; joint = r.joint; front = r.front; delivered = r.delivered; borrowed = r.borrowed; at = r.at; last = r.last; guaranteed = r.guaranteed; trace = r.trace } };
+    ghost view = { λ r. record { query = r.query; strategy = r.strategy; control = r.control; joint = r.joint; front = r.front; delivered = r.delivered; borrowed = r.borrowed; at = r.ending.at; last = r.ending.last; guaranteed = r.guaranteed; trace = r.trace } };
 }
 
 impl Retrieval {
@@ -159,24 +161,15 @@ impl Retrieval {
         ensures found { IfOk result (λ found. given_as found ≡ looked self.now.query.only (row_at (rows_of self.now (R.shown reader.now)) row.0)) }
         ensures reads { steps.new ≡ record_read steps.old }
     {
-        let found = reader.fetch(self.alloc, self.query.table, self.query.snap, row, steps)?;
-        Ok(self.look(found))
-    }
-
-    pub(crate) fn look(&self, found: Option<Record>) -> Option<Record>
-        requires { IfSome found (λ r. names_only (row_has r.values) self.now.query.only ≡ true) }
-        ensures { given_as result ≡ looked self.now.query.only found }
-    {
-        match found {
-            None => None,
-            Some(found) => {
-                if self.query.only.truth(&found.values) == Tri::True {
-                    Some(found)
-                } else {
-                    None
-                }
-            }
-        }
+        examine(
+            self.alloc,
+            reader,
+            self.query.table,
+            self.query.snap,
+            &self.query.only,
+            row,
+            steps,
+        )
     }
 
     pub(crate) fn more_behind(&self) -> bool
@@ -287,28 +280,35 @@ impl Retrieval {
         self.front.step(reader, &self.query.only, &skip, steps)
     }
 
-    pub(crate) fn key_at(&self) -> Option<RowNo>
-        ensures { KeyAt self.now.joint.list self.now.at result }
+    /// A step through the complete list.
+    pub(crate) fn scan_list<R: Reader>(
+        &mut self,
+        reader: &R,
+        steps: &mut Steps<R::Ledger>,
+    ) -> Result<Scanned, NoMemory>
+        requires fits { RetrievalFits self.old (R.shown reader.now) }
+        ensures same { self.new ≡ record self.old { at = self.new.at } }
+        ensures marks { let shown = R.shown reader.now in IfOk result (λ s. StepMarks self.old.query.need self.old.query.only (rows_of self.old shown) s (left_at Source.Keys self.old shown) (left_at Source.Keys self.new shown)) }
+        ensures fetches { IfOk result (ListReads self.old (R.shown reader.now) steps.old steps.new) }
+        ensures passed { OnErr result (PassesKeys self.old.joint.list (Some self.old.delivered) self.old.at self.new.at) }
+        ensures may_read { OneAtMost record_read steps.old steps.new }
+        ensures tries { Tries steps.old steps.new (keys_work self.old) (keys_work self.new) }
+        ensures falls { IfOk result (λ s. Falls s steps.old steps.new (keys_work self.old) (keys_work self.new)) }
+        ensures records { IfOk result (λ s. steps.new.records + keys_work self.new ≤ steps.old.records + keys_work self.old) }
+        ensures pages { steps.new.pages ≡ steps.old.pages }
     {
-        match self.joint.list() {
-            Some(list) => {
-                if self.at < list.len() {
-                    Some(list.get(self.at))
-                } else {
-                    None
-                }
-            }
-            None => None,
-        }
+        self.ending.list_step(
+            reader,
+            self.query.table,
+            self.query.snap,
+            &self.query.only,
+            self.joint.list(),
+            Some(&self.delivered),
+            steps,
+        )
     }
 
-    pub(crate) fn pass_key(&mut self)
-        requires { self.old.at < 2 ^ 64 - 1 }
-        ensures { self.new ≡ record self.old { at = self.old.at + 1 } }
-    {
-        self.at += 1;
-    }
-
+    /// A step through the pages of the table.
     pub(crate) fn scan_last<R: Reader>(
         &mut self,
         reader: &R,
@@ -316,7 +316,7 @@ impl Retrieval {
     ) -> Result<Scanned, NoMemory>
         requires fits { RetrievalFits self.old (R.shown reader.now) }
         ensures same { self.new ≡ record self.old { last = self.new.last } }
-        ensures last { LastFits self.old.query self.new.last (R.shown reader.now) }
+        ensures last { LastFits self.old.query.table self.old.query.snap self.new.last (R.shown reader.now) }
         ensures marks { let shown = R.shown reader.now in IfOk result (λ s. StepMarks self.old.query.need self.old.query.only (rows_of self.old shown) s (left_at Source.Pages self.old shown) (left_at Source.Pages self.new shown)) }
         ensures err { OnErr result (self.new ≡ self.old) }
         ensures may_read { OneAtMost page_read steps.old steps.new }
@@ -324,11 +324,8 @@ impl Retrieval {
         ensures tries { Tries steps.old steps.new (table_work self.old (R.shown reader.now)) (table_work self.new (R.shown reader.now)) }
         ensures falls { IfOk result (λ s. Falls s steps.old steps.new (table_work self.old (R.shown reader.now)) (table_work self.new (R.shown reader.now))) }
     {
-        let skip = Skip {
-            delivered: Some(&self.delivered),
-            list: None,
-        };
-        self.last.step(reader, &self.query.only, &skip, steps)
+        self.ending
+            .table_step(reader, &self.query.only, Some(&self.delivered), steps)
     }
 
     /// The next key of the list that is borrowed from.
@@ -417,7 +414,7 @@ impl Retrieval {
     {
         let delivered = Delivered::new(alloc)?;
         let control = first_control(strategy, has_scans(scans.as_slice()));
-        let last = Tscan::new(alloc, query.table, query.snap);
+        let ending = Final::new(alloc, query.table, query.snap);
         let joint = Jscan::new(alloc, query.table, query.snap, scans, cursor, opening);
         Ok(Retrieval {
             alloc,
@@ -428,18 +425,17 @@ impl Retrieval {
             front,
             delivered,
             borrowed: 0,
-            at: 0,
-            last,
+            ending,
             guaranteed,
             trace: Trace::new(strategy),
         })
     }
 
-    /// Writes an event into the trace, which has room for all that a retrieval comes to.
+    /// Writes an event into the trace.
     pub(crate) fn note(&mut self, event: Event)
         ensures { self.new ≡ record self.old { trace = noted self.old.trace event } }
     {
-        let _full = self.trace.events.try_push(event);
+        self.trace.note(event);
     }
 
     /// The index of a planned scan.
@@ -474,12 +470,7 @@ impl Retrieval {
     pub(crate) fn count(&mut self, before: Counts, after: Counts)
         ensures { self.new ≡ record self.old { trace = counted self.old.trace before after } }
     {
-        let pages = after.pages.saturating_sub(before.pages);
-        let leaves = after.leaves.saturating_sub(before.leaves);
-        let fetches = after.records.saturating_sub(before.records);
-        self.trace.pages = self.trace.pages.saturating_add(pages);
-        self.trace.leaves = self.trace.leaves.saturating_add(leaves);
-        self.trace.fetches = self.trace.fetches.saturating_add(fetches);
+        self.trace.count(before, after);
     }
 
     /// What it did so far.

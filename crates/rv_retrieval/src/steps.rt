@@ -8,13 +8,15 @@ ghost use Rattle.rv_scan.specs.Places.{PageReads};
 ghost use Rattle.rv_scan.specs.Told.{KeyReads};
 ghost use Rattle.rv_jscan.specs.Joint.{under_way};
 ghost use Rattle.rv_retrieval.specs.Accounts.{IsFresh, first_fresh};
-ghost use Rattle.rv_retrieval.specs.Fronts.{SameFront};
+ghost use Rattle.rv_scan.specs.Fronts.{SameFront, FrontMayRead, FrontReads};
 ghost use Rattle.rv_retrieval.specs.Opens.{GivesStep, fg_of};
 ghost use Rattle.rv_retrieval.specs.Runs.{SameCourse, Tells};
-ghost use Rattle.rv_retrieval.specs.Shape.{Delivers, DoesStep, EndsIn, KeyAt, NextKey, PassesKeys, RetrievalFits, Source, given_as, is_background, is_building, is_index_only, rest, source, lending, rows_of};
-ghost use Rattle.rv_retrieval.specs.Stepping.{Borrows, DoesIts, FrontMayRead, FrontReads, IsFirstLeft, ListReads, MayReadIts, OneAtMost, OnlyTakes, ReadsIts, Remembered, RemembersBy, StepsAs, WalkReads, ended_by};
-ghost use Rattle.rv_retrieval.specs.Telling.{CountsRise, SameCounts};
-ghost use Rattle.rv_retrieval.specs.Effort.{Awaiting, Falls, FgSpends, Tries, effort, keys_work, to_borrow};
+ghost use Rattle.rv_retrieval.specs.Shape.{Delivers, DoesStep, EndsIn, RetrievalFits, Source, is_background, is_building, is_index_only, rest, source, lending, rows_of};
+ghost use Rattle.rv_retrieval.specs.Stepping.{Borrows, DoesIts, ListReads, MayReadIts, OnlyTakes, ReadsIts, Remembered, RemembersBy, Steady, StepsAs, WalkReads, ended_by};
+ghost use Rattle.rv_judge.specs.Tracing.{CountsRise, SameCounts};
+ghost use Rattle.rv_retrieval.specs.Effort.{Awaiting, FgSpends, effort, to_borrow};
+ghost use Rattle.rv_final.specs.Work.{Falls, Tries};
+ghost use Rattle.rv_scan.specs.Reads.{OneAtMost};
 ghost use Rattle.rv_retrieval.specs.Short.{Settled, fetches_left};
 
 use crate::retrieval::Retrieval;
@@ -22,15 +24,6 @@ use rv_judge::{Control, Event, Happening, Judge, Steps, Strategy};
 use rv_reader::Reader;
 use rv_scan::Scanned;
 use rv_value::{NoMemory, Record, RowNo};
-
-fn given(found: Option<Record>) -> Scanned
-    ensures { result ≡ given_as found }
-{
-    match found {
-        Some(found) => Scanned::Found(found),
-        None => Scanned::Working,
-    }
-}
 
 /// What a foreground step answers.
 #[derive(Drop, Debug)]
@@ -55,30 +48,6 @@ fn answer(scanned: Scanned) -> Fg
 
 /// The foreground of a retrieval: a function for each control.
 impl Retrieval {
-    /// The next key of the complete list whose row was not delivered. Those before it are passed over; there are at most
-    /// as many as the buffer has places.
-    fn final_key(&mut self) -> Option<RowNo>
-        ensures same { self.new ≡ record self.old { at = self.new.at } }
-        ensures passed { PassesKeys self.old.joint.list self.old.delivered self.old.at self.new.at }
-        ensures key { KeyAt self.old.joint.list self.new.at result }
-        ensures first { IsFirstLeft self.old result }
-        ensures fresh { IfSome result (λ row. has_key row.0 self.old.delivered ≡ false) }
-        ensures fewer { keys_work self.new ≤ keys_work self.old }
-    {
-        match self.key_at() {
-            None => None,
-            Some(row) => {
-                let given_before = self.was_delivered(row);
-                if given_before {
-                    self.pass_key();
-                    self.final_key()
-                } else {
-                    Some(row)
-                }
-            }
-        }
-    }
-
     /// Fetches the next key of the complete list.
     fn list_step<R: Reader>(
         &mut self,
@@ -87,8 +56,7 @@ impl Retrieval {
     ) -> Result<Scanned, NoMemory>
         requires control { self.old.control ≡ Control.FinalList }
         requires fits { RetrievalFits self.old (R.shown reader.now) }
-        ensures counts { SameCounts self.old.trace self.new.trace }
-        ensures query { self.new.query ≡ self.old.query }
+        ensures steady { Steady self.old self.new }
         ensures fits { RetrievalFits self.new (R.shown reader.now) }
         ensures step { IfOk result (DoesStep self.old self.new (R.shown reader.now)) }
         ensures ends { IfOk result (EndsIn self.new) }
@@ -100,51 +68,18 @@ impl Retrieval {
         ensures still { OnErr result (OnlyTakes self.old self.new) }
         ensures tries { Tries steps.old steps.new (effort self.old (R.shown reader.now)) (effort self.new (R.shown reader.now)) }
         ensures falls { IfOk result (λ s. Falls s steps.old steps.new (effort self.old (R.shown reader.now)) (effort self.new (R.shown reader.now))) }
-        ensures awaiting { Awaiting self.old → Awaiting self.new }
         ensures records { IfOk result (λ s. steps.new.records + fetches_left self.new (R.shown reader.now) ≤ steps.old.records + fetches_left self.old (R.shown reader.now)) }
         ensures pages { steps.new.pages ≡ steps.old.pages }
         ensures settled { Settled self.old → Settled self.new }
-        ensures front { SameFront self.old.front self.new.front }
     {
-        match self.final_key() {
-            None => {
+        match self.scan_list(reader, steps)? {
+            Scanned::Found(row) => Ok(Scanned::Found(row)),
+            Scanned::Working => Ok(Scanned::Working),
+            Scanned::End => {
                 self.go(Happening::FinalEnded);
                 Ok(Scanned::End)
             }
-            Some(row) => self.fetch_key(reader, row, steps),
         }
-    }
-
-    fn fetch_key<R: Reader>(
-        &mut self,
-        reader: &R,
-        row: RowNo,
-        steps: &mut Steps<R::Ledger>,
-    ) -> Result<Scanned, NoMemory>
-        requires control { self.old.control ≡ Control.FinalList }
-        requires fits { RetrievalFits self.old (R.shown reader.now) }
-        requires key { NextKey self.old.joint.list self.old.at row.0 }
-        requires fresh { has_key row.0 self.old.delivered ≡ false }
-        ensures counts { SameCounts self.old.trace self.new.trace }
-        ensures query { self.new.query ≡ self.old.query }
-        ensures fits { RetrievalFits self.new (R.shown reader.now) }
-        ensures step { IfOk result (DoesStep self.old self.new (R.shown reader.now)) }
-        ensures ends { IfOk result (EndsIn self.new) }
-        ensures err { OnErr result (self.new ≡ self.old) }
-        ensures does { IfOk result (λ s. self.new ≡ ended_by Happening.FinalEnded s (record self.old { at = self.new.at })) }
-        ensures tries { Tries steps.old steps.new (effort self.old (R.shown reader.now)) (effort self.new (R.shown reader.now)) }
-        ensures falls { IfOk result (λ s. Falls s steps.old steps.new (effort self.old (R.shown reader.now)) (effort self.new (R.shown reader.now))) }
-        ensures awaiting { Awaiting self.old → Awaiting self.new }
-        ensures reads { steps.new ≡ record_read steps.old }
-        ensures looks { IfOk result (λ s. s ≡ looked self.old.query.only (row_at (rows_of self.old (R.shown reader.now)) row.0)) }
-        ensures records { IfOk result (λ s. steps.new.records + fetches_left self.new (R.shown reader.now) ≤ steps.old.records + fetches_left self.old (R.shown reader.now)) }
-        ensures pages { steps.new.pages ≡ steps.old.pages }
-        ensures settled { Settled self.old → Settled self.new }
-        ensures front { SameFront self.old.front self.new.front }
-    {
-        let found = self.examine(reader, row, steps)?;
-        self.pass_key();
-        Ok(given(found))
     }
 
     /// A step of the final scan of the table.
@@ -155,8 +90,7 @@ impl Retrieval {
     ) -> Result<Scanned, NoMemory>
         requires control { self.old.control ≡ Control.FinalTable }
         requires fits { RetrievalFits self.old (R.shown reader.now) }
-        ensures counts { SameCounts self.old.trace self.new.trace }
-        ensures query { self.new.query ≡ self.old.query }
+        ensures steady { Steady self.old self.new }
         ensures fits { RetrievalFits self.new (R.shown reader.now) }
         ensures step { IfOk result (DoesStep self.old self.new (R.shown reader.now)) }
         ensures ends { IfOk result (EndsIn self.new) }
@@ -166,8 +100,6 @@ impl Retrieval {
         ensures reads { IfOk result (λ s. PageReads s steps.old steps.new) }
         ensures tries { Tries steps.old steps.new (effort self.old (R.shown reader.now)) (effort self.new (R.shown reader.now)) }
         ensures falls { IfOk result (λ s. Falls s steps.old steps.new (effort self.old (R.shown reader.now)) (effort self.new (R.shown reader.now))) }
-        ensures awaiting { Awaiting self.old → Awaiting self.new }
-        ensures front { SameFront self.old.front self.new.front }
     {
         match self.scan_last(reader, steps)? {
             Scanned::Found(found) => Ok(Scanned::Found(found)),
@@ -229,8 +161,7 @@ impl Retrieval {
         requires fits { RetrievalFits self.old (R.shown reader.now) }
         requires fresh { has_key row.0 self.old.delivered ≡ false }
         requires small { self.old.borrowed < 2 ^ 64 - 1 }
-        ensures counts { SameCounts self.old.trace self.new.trace }
-        ensures query { self.new.query ≡ self.old.query }
+        ensures steady { Steady self.old self.new }
         ensures fits { RetrievalFits self.new (R.shown reader.now) }
         ensures step { IfOk result (DoesStep self.old self.new (R.shown reader.now)) }
         ensures ends { IfOk result (EndsIn self.new) }
@@ -239,8 +170,6 @@ impl Retrieval {
         ensures reads { steps.new ≡ record_read steps.old }
         ensures tries { Tries steps.old steps.new (effort self.old (R.shown reader.now)) (effort self.new (R.shown reader.now)) }
         ensures falls { self.old.borrowed < length (lending self.old.joint) → IfOk result (λ s. Falls s steps.old steps.new (effort self.old (R.shown reader.now)) (effort self.new (R.shown reader.now))) }
-        ensures awaiting { Awaiting self.old → Awaiting self.new }
-        ensures front { SameFront self.old.front self.new.front }
     {
         match self.examine(reader, row, steps)? {
             Some(found) => {
@@ -265,8 +194,7 @@ impl Retrieval {
         requires control { self.old.control ≡ Control.Building }
         requires strategy { self.old.strategy ≡ Strategy.FastFirst }
         requires fits { RetrievalFits self.old (R.shown reader.now) }
-        ensures counts { SameCounts self.old.trace self.new.trace }
-        ensures query { self.new.query ≡ self.old.query }
+        ensures steady { Steady self.old self.new }
         ensures fits { RetrievalFits self.new (R.shown reader.now) }
         ensures step { IfOk result (DoesStep self.old self.new (R.shown reader.now)) }
         ensures ends { IfOk result (EndsIn self.new) }
@@ -276,12 +204,10 @@ impl Retrieval {
         ensures may_read { under_way self.old.joint ≡ true → MayReadIts self.old steps.old steps.new }
         ensures reads { under_way self.old.joint ≡ true → IfOk result (ReadsIts self.old steps.old steps.new) }
         ensures still { OnErr result (OnlyTakes self.old self.new) }
-        ensures front { SameFront self.old.front self.new.front }
         ensures stays { would judge.new ≡ would judge.old }
         ensures course { OnErr result (SameCourse self.old self.new) }
         ensures tries { Tries steps.old steps.new (effort self.old (R.shown reader.now)) (effort self.new (R.shown reader.now)) }
         ensures falls { Awaiting self.old → IfOk result (λ s. Falls s steps.old steps.new (effort self.old (R.shown reader.now)) (effort self.new (R.shown reader.now))) }
-        ensures awaiting { Awaiting self.old → Awaiting self.new }
     {
         match self.fresh_key() {
             None => self.background_step(reader, judge, steps),
@@ -298,8 +224,7 @@ impl Retrieval {
         requires front { source self.old ≡ Source.Ahead }
         requires forgets { (is_building self.old.control && is_index_only self.old.strategy) ≡ false }
         requires fits { RetrievalFits self.old (R.shown reader.now) }
-        ensures counts { SameCounts self.old.trace self.new.trace }
-        ensures query { self.new.query ≡ self.old.query }
+        ensures steady { Steady self.old self.new }
         ensures fits { RetrievalFits self.new (R.shown reader.now) }
         ensures step { IfOk result (DoesStep self.old self.new (R.shown reader.now)) }
         ensures ends { IfOk result (EndsIn self.new) }
@@ -309,12 +234,10 @@ impl Retrieval {
         ensures reads { IfOk result (λ s. FrontReads self.old.front.alone s steps.old steps.new) }
         ensures tries { Tries steps.old steps.new (effort self.old (R.shown reader.now)) (effort self.new (R.shown reader.now)) }
         ensures falls { IfOk result (λ s. Falls s steps.old steps.new (effort self.old (R.shown reader.now)) (effort self.new (R.shown reader.now))) }
-        ensures awaiting { Awaiting self.old → Awaiting self.new }
         ensures fetches { IfOk result (WalkReads self.old (R.shown reader.now) steps.old steps.new) }
         ensures records { Settled self.old → IfOk result (λ s. steps.new.records + fetches_left self.new (R.shown reader.now) ≤ steps.old.records + fetches_left self.old (R.shown reader.now)) }
         ensures pages { steps.new.pages ≡ steps.old.pages }
         ensures settled { Settled self.old → Settled self.new }
-        ensures front { SameFront self.old.front self.new.front }
     {
         match self.scan_front(reader, steps)? {
             Scanned::Found(record) => Ok(Scanned::Found(record)),
@@ -334,8 +257,7 @@ impl Retrieval {
     ) -> Result<Scanned, NoMemory>
         requires both { (is_building self.old.control && is_index_only self.old.strategy) ≡ true }
         requires fits { RetrievalFits self.old (R.shown reader.now) }
-        ensures counts { SameCounts self.old.trace self.new.trace }
-        ensures query { self.new.query ≡ self.old.query }
+        ensures steady { Steady self.old self.new }
         ensures fits { RetrievalFits self.new (R.shown reader.now) }
         ensures step { IfOk result (DoesStep self.old self.new (R.shown reader.now)) }
         ensures ends { IfOk result (EndsIn self.new) }
@@ -345,8 +267,6 @@ impl Retrieval {
         ensures reads { IfOk result (λ s. KeyReads s steps.old steps.new) }
         ensures tries { Tries steps.old steps.new (effort self.old (R.shown reader.now)) (effort self.new (R.shown reader.now)) }
         ensures falls { IfOk result (λ s. Falls s steps.old steps.new (effort self.old (R.shown reader.now)) (effort self.new (R.shown reader.now))) }
-        ensures awaiting { Awaiting self.old → Awaiting self.new }
-        ensures front { SameFront self.old.front self.new.front }
     {
         match self.scan_front(reader, steps)? {
             Scanned::Found(record) => {
@@ -369,8 +289,7 @@ impl Retrieval {
     ) -> Result<Scanned, NoMemory>
         requires control { self.old.control ≡ Control.Building }
         requires fits { RetrievalFits self.old (R.shown reader.now) }
-        ensures counts { SameCounts self.old.trace self.new.trace }
-        ensures query { self.new.query ≡ self.old.query }
+        ensures steady { Steady self.old self.new }
         ensures fits { RetrievalFits self.new (R.shown reader.now) }
         ensures step { IfOk result (DoesStep self.old self.new (R.shown reader.now)) }
         ensures ends { IfOk result (EndsIn self.new) }
@@ -380,12 +299,10 @@ impl Retrieval {
         ensures may_read { (is_background self.old.control ≡ true → under_way self.old.joint ≡ true) → MayReadIts self.old steps.old steps.new }
         ensures reads { (is_background self.old.control ≡ true → under_way self.old.joint ≡ true) → IfOk result (ReadsIts self.old steps.old steps.new) }
         ensures still { OnErr result (OnlyTakes self.old self.new) }
-        ensures front { SameFront self.old.front self.new.front }
         ensures stays { would judge.new ≡ would judge.old }
         ensures course { OnErr result (SameCourse self.old self.new) }
         ensures tries { Tries steps.old steps.new (effort self.old (R.shown reader.now)) (effort self.new (R.shown reader.now)) }
         ensures falls { Awaiting self.old → IfOk result (λ s. Falls s steps.old steps.new (effort self.old (R.shown reader.now)) (effort self.new (R.shown reader.now))) }
-        ensures awaiting { Awaiting self.old → Awaiting self.new }
     {
         match self.strategy() {
             Strategy::FastFirst => self.fast_step(reader, judge, steps),
@@ -404,8 +321,7 @@ impl Retrieval {
         steps: &mut Steps<R::Ledger>,
     ) -> Result<Scanned, NoMemory>
         requires fits { RetrievalFits self.old (R.shown reader.now) }
-        ensures counts { SameCounts self.old.trace self.new.trace }
-        ensures query { self.new.query ≡ self.old.query }
+        ensures steady { Steady self.old self.new }
         ensures fits { RetrievalFits self.new (R.shown reader.now) }
         ensures step { IfOk result (DoesStep self.old self.new (R.shown reader.now)) }
         ensures ends { IfOk result (EndsIn self.new) }
@@ -416,12 +332,10 @@ impl Retrieval {
         ensures may_read { (is_background self.old.control ≡ true → under_way self.old.joint ≡ true) → MayReadIts self.old steps.old steps.new }
         ensures reads { (is_background self.old.control ≡ true → under_way self.old.joint ≡ true) → IfOk result (ReadsIts self.old steps.old steps.new) }
         ensures still { OnErr result (OnlyTakes self.old self.new) }
-        ensures front { SameFront self.old.front self.new.front }
         ensures stays { would judge.new ≡ would judge.old }
         ensures course { OnErr result (SameCourse self.old self.new) }
         ensures tries { Tries steps.old steps.new (effort self.old (R.shown reader.now)) (effort self.new (R.shown reader.now)) }
         ensures falls { Awaiting self.old → IfOk result (λ s. Falls s steps.old steps.new (effort self.old (R.shown reader.now)) (effort self.new (R.shown reader.now))) }
-        ensures awaiting { Awaiting self.old → Awaiting self.new }
         ensures settled { Settled self.old → Settled self.new }
         ensures unasked { Settled self.old → state judge.new ≡ state judge.old }
         ensures pages { Settled self.old → steps.new.pages ≡ steps.old.pages }

@@ -1,5 +1,5 @@
 -- How many records a scan may still fetch.
-use Rattle.std.proofs.Common.{◌≡◌, ℕ, ◌+◌, ◌<◌, ◌≤◌, List, [], ◌∷◌, ◌++◌, Bool, true, false, cond, refl, ap, sym, ◌∙◌, arith, length, zero, suc, drop, filter, subst, Option, Some, None, Result, Ok, Err, IfOk, OnOk}
+use Rattle.std.proofs.Common.{◌≡◌, ℕ, ◌+◌, ◌<◌, ◌≤◌, List, [], ◌∷◌, ◌++◌, Bool, true, false, cond, ap, sym, arith, length, zero, suc, drop, filter, subst, Some, Result, Ok, Err, IfOk, OnOk}
 use Rattle.std.specs.List.{slice_index_or}
 use Rattle.rv_value.specs.declared.record.RowNo.{RowNo}
 use Rattle.rv_value.specs.declared.record.IndexEntry.{IndexEntry}
@@ -8,7 +8,7 @@ use Rattle.rv_judge.specs.Counting.{record_read}
 use Rattle.rv_scan.specs.declared.skip.Scanned.{Scanned}
 use Rattle.rv_scan.specs.declared.skip.Scanned.TheVariants.{Found, Working, End}
 use Rattle.rv_scan.specs.Due.{Skipped}
-use Rattle.rv_scan.specs.Alongs.{Along, Fetching, FetchReads, FindsEntry, Turned, is_given, to_come, to_fetch}
+use Rattle.rv_scan.specs.Alongs.{Fetching, FindsEntry, Turned, is_given, to_come, to_fetch}
 
 -- an entry that is given is passed over
 passed_fewer : (p : IndexEntry → Bool) (passed : ℕ) (xs ys : List IndexEntry) (d : IndexEntry) → passed < length xs → p (slice_index_or xs passed d) ≡ true → length (filter p (drop (passed + 1) xs ++ ys)) + 1 ≤ length (filter p (xs ++ ys))

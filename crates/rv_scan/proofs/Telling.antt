@@ -11,6 +11,7 @@ use Rattle.rv_value.specs.declared.value.Value.{Value}
 use Rattle.rv_value.specs.declared.value.Value.TheVariants.{Null}
 use Rattle.rv_value.specs.declared.record.Record.{Record}
 use Rattle.rv_value.specs.declared.record.IndexEntry.{IndexEntry}
+use Rattle.rv_judge.specs.declared.counting.Counts.{Counts}
 use Rattle.rv_restrict.specs.declared.atom.ColRef.{ColRef}
 use Rattle.rv_restrict.specs.declared.atom.Atom.{Atom}
 use Rattle.rv_restrict.specs.Bind.{passes_home}
@@ -22,8 +23,8 @@ use Rattle.rv_reader.specs.Entries.{run, column_of, entry_of}
 use Rattle.rv_scan.specs.declared.skip.Scanned.{Scanned}
 use Rattle.rv_scan.specs.declared.skip.Scanned.TheVariants.{Found, Working, End}
 use Rattle.rv_scan.specs.Due.{Skipped, is_due, due, StepsTo}
-use Rattle.rv_scan.specs.Alongs.{Along, Follows, leaf_work, to_come}
-use Rattle.rv_scan.specs.Told.{FindsTold, Goes, NamesThese, Tells, told, told_rest, told_values, width}
+use Rattle.rv_scan.specs.Alongs.{Along, FetchesDue, Follows, leaf_work, to_come}
+use Rattle.rv_scan.specs.Told.{FindsTold, Goes, KeyReads, NamesThese, Tells, told, told_rest, told_values, width}
 use Rattle.rv_scan.proofs.Fetches.{drop_all, length_drop}
 
 below_width : (columns : List ℕ) (c : ℕ) → stands_among columns c ≡ true → c < width columns
@@ -122,3 +123,10 @@ told_wide columns row c h =
 
 pub told_truth : (columns : List ℕ) (only : List (List Atom)) (row : Record) → NamesThese columns only → qualifies only (told columns (entry_of columns row)).values ≡ qualifies only row.values
 told_truth columns only row names = ap is_true (truth_same (row_reads (told columns (entry_of columns row)).values) (row_reads row.values) (passes_home (stands_among columns)) (λ c h. told_reads columns row c.column (and_right (is_home c) (stands_among columns c.column) h)) only names)
+
+-- an index alone fetches no record
+pub told_fetches : {E : Type 0} (r : Result Scanned E) (skip : Skipped) (only : List (List Atom)) (rows : List Record) (old new : Counts) → IfOk r (λ scanned. KeyReads scanned old new) → IfOk r (λ scanned. FetchesDue skip only rows scanned old new)
+told_fetches (Ok (Found r)) skip only rows old new reads = inr (ap (λ (c : Counts). c.records) reads)
+told_fetches (Ok Working) skip only rows old new reads = inr (ap (λ (c : Counts). c.records) reads)
+told_fetches (Ok End) skip only rows old new reads = inr (ap (λ (c : Counts). c.records) reads)
+told_fetches (Err e) skip only rows old new reads = tt

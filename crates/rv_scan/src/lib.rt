@@ -2,11 +2,13 @@
 #![tactic(auto)]
 
 mod along;
+mod front;
 mod fscan;
 mod skip;
 mod sscan;
 mod tscan;
 
+pub use front::Front;
 pub use fscan::Fscan;
 pub use skip::{Scanned, Skip};
 pub use sscan::Sscan;

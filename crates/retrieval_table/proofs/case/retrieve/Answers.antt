@@ -1,7 +1,7 @@
 use Rattle.std.proofs.Common.{◌∙◌, List, subst}
 use Rattle.std.specs.Prelude.{IsPermutation}
 use Rattle.rv_value.specs.declared.record.Record.{Record}
-use Rattle.rv_retrieval.specs.Rest.{qualifying}
+use Rattle.rv_final.specs.Rest.{qualifying}
 use Rattle.retrieval_table.specs.Driving.{numbers_of}
 use Rattle.retrieval_table.proofs.case.retrieve.Goals as goal
 

@@ -1,6 +1,4 @@
 use Rattle.std.proofs.Common.{◌<◌, length, take, drop, arith, ap, sym, subst, ◌∙◌}
-use Rattle.std.specs.Option.{option_copied}
-use Rattle.rv_jscan.specs.Joint.{keys_of}
 use Rattle.std.proofs.lemmas.List.{get_or-map, take-append-drop}
 use Rattle.rv_value.specs.declared.record.IndexEntry.{IndexEntry}
 use Rattle.rv_restrict.specs.Parts.{passes}
@@ -11,7 +9,7 @@ use Rattle.rv_jscan.proofs.Kept.{add_step, fresh_here, fresh_step}
 use Rattle.rv_jscan.proofs.keeping.add_marked.Goals as goal
 
 pub entries-preserved : goal.entries-preserved
-entries-preserved c =
+entries-preserved g c =
     let entries = c.args.sieved.now.entries in
     let i = c.entries.i in
     let below : i < length entries = omega (arith, ap length c.entries-in-entries.ensures.entries) in
@@ -24,12 +22,12 @@ entries-preserved c =
       here = omega arith;
       still_open = c.add_one.ensures.open;
       room = omega (arith, c.add_one.ensures.spare, c.entries.invariant.room);
-      keys = add_step c.args.sieved.now.part (keys_of (option_copied c.args.list)) entries i c.args.building.now.keys c.entries.building.keys c.add_one.new.building.keys c.marked.result c.row.result d below row marked c.entries.invariant.keys keys;
+      keys = add_step (g.T.Admits.admits c.args.test.now) c.args.sieved.now.part entries i c.args.building.now.keys c.entries.building.keys c.add_one.new.building.keys c.marked.result c.row.result d below row marked c.entries.invariant.keys keys;
       fresh = fresh_step entries i c.entries.building.keys c.add_one.new.building.keys _ c.row.result d below row apart c.entries.invariant.fresh keys;
     }
 
 pub add_one-requires-clause-fresh : goal.add_one-requires-clause-fresh
-add_one-requires-clause-fresh c =
+add_one-requires-clause-fresh g c =
     let entries = c.args.sieved.now.entries in
     let below : c.entries.i < length entries = omega (arith, ap length c.entries-in-entries.ensures.entries) in
     fresh_here entries c.entries.i c.entries.building.keys c.row.result no_entry below (c.row.ensures no_entry) c.entries.invariant.fresh

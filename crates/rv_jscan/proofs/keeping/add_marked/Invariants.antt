@@ -1,18 +1,16 @@
 use Rattle.std.proofs.Common.{◌≡◌, ◌≤◌, ◌+◌, ◌-◌, ◌++◌, length, take, drop, false}
-use Rattle.std.specs.Option.{option_copied}
 use Rattle.rv_jscan.specs.Entries.{Disjoint}
-use Rattle.rv_jscan.specs.Joint.{keys_of}
-use Rattle.rv_jscan.specs.Pieces.{kept_rows}
+use Rattle.rv_jscan.specs.Pieces.{kept_by}
 use Rattle.rv_jscan.proofs.keeping.add_marked.Given as goal
 
 abbrev pub invariant-entries : goal.invariant-entries
-invariant-entries l = record {
+invariant-entries g l = record {
   here : l.i ≤ length l.sieved.entries;
   still_open : l.building.finished ≡ false;
   room : length l.sieved.entries ≤ l.i + l.building.spare;
-  keys : l.building.keys ≡ l.fn.building.keys ++ kept_rows l.sieved.part (keys_of (option_copied l.list)) (take l.i l.sieved.entries);
+  keys : l.building.keys ≡ l.fn.building.keys ++ kept_by (g.T.Admits.admits l.test) l.sieved.part (take l.i l.sieved.entries);
   fresh : Disjoint l.building.keys (drop l.i l.sieved.entries);
 }
 
 abbrev pub decreases-entries : goal.decreases-entries
-decreases-entries l = length l.sieved.entries - l.i
+decreases-entries g l = length l.sieved.entries - l.i

@@ -1,6 +1,48 @@
-use Rattle.std.proofs.Common.{refl}
-use Rattle.rv_retrieval.proofs.Stepped.{as_it_is}
+use Rattle.std.proofs.Common.{◌∙◌, ap, refl, rules, subst, sym}
+use Rattle.rv_retrieval.proofs.Stepped.{as_it_is, one_piece}
+use Rattle.rv_retrieval.specs.Shape.{is_background}
+use Rattle.rv_retrieval.proofs.Efforts.{give_awaits, give_less}
+use Rattle.rv_retrieval.proofs.Openings.{below, gave_less, nothing_awaited, tries_to}
+use Rattle.rv_retrieval.specs.Stepping.{OnlyTakes}
+use Rattle.rv_retrieval.proofs.Waiting.{kept_if_not, steady_by, steady_on, took_only}
 use Rattle.rv_retrieval.proofs.retrieval.Retrieval.background_step.Goals as goal
 
-pub returns-clause-does : goal.returns-clause-does
-returns-clause-does g c = (refl, as_it_is _ _ _ c.args.self.now c.background.new.self c.in_ok-background.ensures.does)
+pub returns-in_ok-_given-in-Piece-clause-does : goal.returns-in_ok-_given-in-Piece-clause-does
+returns-in_ok-_given-in-Piece-clause-does g c =
+    let v = c.args.self.now in
+    let piece = rw c.in-Piece.is at c.in_ok-piece.ensures.taken in
+    (refl, as_it_is _ _ _ v c.give_piece.new.self (one_piece _ _ _ v c.take_piece.new.self c.give_piece.new.self c.in-Piece.piece c.sieve.result c.in_ok-_given-in-Piece._given c.take_piece.ensures.same c.take_piece.ensures.leaves piece c.sieve.ensures c.in_ok-_given-in-Piece.ensures.given c.in_ok-_given-in-Piece.ensures.obeys))
+
+pub returns-in_ok-_given-in-Piece-clause-tries : goal.returns-in_ok-_given-in-Piece-clause-tries
+returns-in_ok-_given-in-Piece-clause-tries g c =
+    let shown = g.R.Reader.shown c.args.reader.now in
+    tries_to _ _ _ _ _ c.take_piece.ensures.tries (give_less c.give_piece.result _ _ _ c.sieve.result c.take_piece.new.self c.give_piece.new.self shown c.give_piece.ensures.given c.give_piece.ensures.obeys c.give_piece.ensures.err c.take_piece.ensures.fits)
+
+pub returns-in_ok-_given-in-Piece-clause-falls : goal.returns-in_ok-_given-in-Piece-clause-falls
+returns-in_ok-_given-in-Piece-clause-falls g c back a =
+    let shown = g.R.Reader.shown c.args.reader.now in
+    let took = c.take_piece.ensures.tries.less in
+    let gave = gave_less _ _ _ c.in-Piece.piece c.sieve.result c.in_ok-_given-in-Piece._given c.take_piece.new.self c.give_piece.new.self shown (rw c.in-Piece.is at c.in_ok-piece.ensures.taken) c.sieve.ensures c.in_ok-_given-in-Piece.ensures.given c.in_ok-_given-in-Piece.ensures.obeys c.take_piece.ensures.fits in
+    below _ _ _ gave took
+
+pub returns-in_ok-_given-in-Piece-clause-steady : goal.returns-in_ok-_given-in-Piece-clause-steady
+returns-in_ok-_given-in-Piece-clause-steady g c =
+    let v = c.args.self.now in
+    let mid = c.take_piece.new.self in
+    let new = c.give_piece.new.self in
+    steady_on v mid new (steady_by v mid c.take_piece.ensures.counts c.take_piece.ensures.query c.take_piece.ensures.awaiting c.take_piece.ensures.front) (steady_by mid new c.give_piece.ensures.counts c.give_piece.ensures.keeps.query (λ a. give_awaits c.give_piece.result _ _ _ c.sieve.result mid new c.give_piece.ensures.given c.give_piece.ensures.obeys c.give_piece.ensures.err a) c.give_piece.ensures.front)
+
+pub returns-in-Nothing-clause-steady : goal.returns-in-Nothing-clause-steady
+returns-in-Nothing-clause-steady g c = steady_by c.args.self.now c.take_piece.new.self c.take_piece.ensures.counts c.take_piece.ensures.query c.take_piece.ensures.awaiting c.take_piece.ensures.front
+
+pub returns-in-Nothing-clause-does : goal.returns-in-Nothing-clause-does
+returns-in-Nothing-clause-does g c = (refl, as_it_is _ _ _ c.args.self.now c.take_piece.new.self (search rules))
+
+pub returns-in-Nothing-clause-falls : goal.returns-in-Nothing-clause-falls
+returns-in-Nothing-clause-falls g c back a = nothing_awaited c.take_piece.new.self (ap is_background c.take_piece.ensures.control ∙ back) (c.take_piece.ensures.awaiting a) (rw c.in-Nothing.is at c.in_ok-piece.ensures.taken)
+
+pub returns-in_err-piece-clause-still : goal.returns-in_err-piece-clause-still
+returns-in_err-piece-clause-still g c = kept_if_not _ _ (took_only c.args.self.now c.take_piece.new.self c.take_piece.ensures.same c.take_piece.ensures.leaves)
+
+pub returns-in_err-_given-in-Piece-clause-still : goal.returns-in_err-_given-in-Piece-clause-still
+returns-in_err-_given-in-Piece-clause-still g c = kept_if_not _ _ (subst (OnlyTakes c.args.self.now) (sym c.in_err-_given-in-Piece.ensures.err) (took_only c.args.self.now c.take_piece.new.self c.take_piece.ensures.same c.take_piece.ensures.leaves))

@@ -3,6 +3,7 @@ use Rattle.rv_retrieval.specs.Shape.{Shape}
 use Rattle.rv_retrieval.proofs.Delivering.{does_from, rest_from}
 use Rattle.rv_retrieval.proofs.Stepped.{fast_behind}
 use Rattle.rv_retrieval.proofs.Switching.{borrow_keeps}
+use Rattle.rv_retrieval.proofs.Waiting.{steady_borrowed}
 use Rattle.rv_retrieval.proofs.retrieval.Retrieval.fast_step.Goals as goal
 
 pub returns-in-None-clause-step : goal.returns-in-None-clause-step
@@ -31,3 +32,6 @@ returns-in-None-clause-does g c way =
     let v = c.args.self.now in
     let mid = c.fresh_key.new.self in
     fast_behind c.background_step.result _ _ _ (g.R.Reader.shown c.args.reader.now) c.args.steps.now c.background_step.new.steps v mid c.background_step.new.self c.requires.control c.requires.strategy c.fresh_key.ensures.same (c.fresh_key.ensures.passes way) (c.in-None.ensures.first way) c.background_step.ensures.does
+
+pub returns-in-None-clause-steady : goal.returns-in-None-clause-steady
+returns-in-None-clause-steady g c = steady_borrowed c.args.self.now c.fresh_key.new.self c.background_step.new.self c.fresh_key.ensures.same c.background_step.ensures.steady

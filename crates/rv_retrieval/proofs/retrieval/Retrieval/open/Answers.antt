@@ -1,7 +1,7 @@
 use Rattle.std.proofs.Common.{◌≡◌, ◌∙◌, ℕ, List, rules, subst, ◌≤◌, sym}
 use Rattle.rv_choice.specs.declared.choosing.Candidate.{Candidate}
 use Rattle.rv_choice.specs.Choice.{IsChosen}
-use Rattle.rv_retrieval.specs.Opened.{guarantee_of}
+use Rattle.rv_choice.specs.Leading.{guarantee_of}
 use Rattle.rv_retrieval.proofs.AtOnce.{counts_all, opened_by}
 use Rattle.rv_retrieval.proofs.Starting.{opened_tells}
 use Rattle.rv_retrieval.specs.Shape.{Shape}

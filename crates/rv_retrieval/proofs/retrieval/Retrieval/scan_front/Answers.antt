@@ -5,11 +5,11 @@ use Rattle.rv_scan.specs.Alongs.{FetchesDue, Follows}
 use Rattle.rv_scan.specs.Due.{Skipped}
 use Rattle.rv_jscan.specs.Joint.{keys_of}
 use Rattle.rv_scan.specs.declared.skip.Scanned.{Scanned}
-use Rattle.rv_retrieval.specs.Fronts.{SameFront, walk_of}
+use Rattle.rv_scan.specs.Fronts.{SameFront, walk_of, front_fetches}
 use Rattle.rv_retrieval.specs.Shape.{Shape, is_sorted}
 use Rattle.rv_retrieval.proofs.Fronting.{FrontStep, front_marks, own_entries, own_follows, skips_by, walk_reads}
 use Rattle.rv_retrieval.proofs.Least.{front_least}
-use Rattle.rv_retrieval.specs.Short.{front_fetches, scan_fetches}
+use Rattle.rv_retrieval.specs.Short.{scan_fetches}
 use Rattle.rv_retrieval.proofs.Fetches.{scan_fewer}
 use Rattle.rv_retrieval.proofs.retrieval.Retrieval.scan_front.Goals as goal
 

@@ -1,24 +1,66 @@
-use Rattle.std.proofs.Common.{◌≡◌, ◌∙◌, IfOk, None, Some, ap, subst, sym}
-use Rattle.rv_scan.specs.declared.skip.Scanned.{Scanned}
-use Rattle.rv_scan.specs.Due.{Skipped}
-use Rattle.rv_scan.specs.Places.{Fits as PlaceFits}
-use Rattle.rv_retrieval.specs.Rest.{StepMarks}
-use Rattle.rv_retrieval.specs.Shape.{LastFits, Pages, Shape, left_at, rows_of}
-use Rattle.rv_retrieval.proofs.Controls.{LastStep, last_marks_if, own_rows, rows_same}
+use Rattle.std.proofs.Common.{◌≡◌, ◌∙◌, ℕ, List, IfOk, OnErr, Some, ap, subst, sym}
+use Rattle.rv_value.specs.declared.record.Record.{Record}
+use Rattle.rv_scan.specs.Places.{Fits as PlaceFits, work}
+use Rattle.rv_final.specs.Rest.{StepMarks}
+use Rattle.rv_final.specs.Stage.{Staged, own_pages, own_rows, table_left}
+use Rattle.rv_final.specs.Work.{Falls, Tries}
+use Rattle.rv_retrieval.specs.Effort.{table_work}
+use Rattle.rv_retrieval.specs.Shape.{Pages, Shape, left_at, rows_of}
+use Rattle.rv_retrieval.proofs.Controls.{only_last, pages_same, rows_same, stage_err, stage_of, with_stage}
 use Rattle.rv_retrieval.proofs.retrieval.Retrieval.scan_last.Goals as goal
+
+pub returns-clause-same : goal.returns-clause-same
+returns-clause-same g c =
+    let s = c.table_step.new.self in
+    subst (λ (v : Shape). with_stage v s ≡ record c.args.self.now { last = s.last }) (sym c.self.view_is) (only_last c.args.self.now s (c.table_step.ensures.same ∙ ap (λ (v : Shape). record (stage_of v) { last = s.last }) c.self.view_is))
+
+pub returns-clause-err : goal.returns-clause-err
+returns-clause-err g c =
+    let s = c.table_step.new.self in
+    let same = subst (λ (x : Staged). OnErr c.table_step.result (s ≡ x)) (ap stage_of c.self.view_is) c.table_step.ensures.err in
+    subst (λ (v : Shape). OnErr c.table_step.result (with_stage v s ≡ c.args.self.now)) (sym c.self.view_is) (stage_err c.table_step.result c.args.self.now s same)
+
+pub returns-clause-last : goal.returns-clause-last
+returns-clause-last g c =
+    let shown = g.R.Reader.shown c.args.reader.now in
+    let v = c.args.self.now in
+    let f = c.requires.fits in
+    let last = c.table_step.new.self.last in
+    record {
+      of_table = subst (λ (x : Shape). last.table ≡ x.last.table) c.self.view_is c.table_step.ensures.table ∙ f.last.of_table;
+      at_snap = subst (λ (x : Shape). last.snap ≡ x.last.snap) c.self.view_is c.table_step.ensures.snap ∙ f.last.at_snap;
+      drawn = subst (PlaceFits last) (rows_same v shown f) (subst (λ (x : Shape). PlaceFits last (own_rows x.last shown)) c.self.view_is c.table_step.ensures.drawn);
+    }
 
 pub returns-clause-marks : goal.returns-clause-marks
 returns-clause-marks g c =
     let shown = g.R.Reader.shown c.args.reader.now in
     let v = c.args.self.now in
-    let f = c.requires.fits in
-    let last = c.step.new.self in
-    let passing : Skipped = record { delivered = Some c.self.inside.delivered; list = None } in
-    let same : passing ≡ record { delivered = Some v.delivered; list = None } = ap (λ (x : Shape). record { delivered = Some x.delivered; list = None }) c.self.view_is in
-    let step = subst (λ (x : Shape). IfOk c.step.result (LastStep x last shown passing)) c.self.view_is c.step.ensures.step in
-    let fits : LastFits v.query last shown = record {
-      of_table = subst (λ (x : Shape). last.table ≡ x.last.table) c.self.view_is c.step.ensures.table ∙ f.last.of_table;
-      at_snap = subst (λ (x : Shape). last.snap ≡ x.last.snap) c.self.view_is c.step.ensures.snap ∙ f.last.at_snap;
-      drawn = subst (PlaceFits last) (rows_same v shown f) (subst (λ (x : Shape). PlaceFits last (own_rows x shown)) c.self.view_is c.step.ensures.fits);
-    } in
-    subst (λ (x : Shape). IfOk c.step.result (λ (s : Scanned). StepMarks v.query.need v.query.only (rows_of v shown) s (left_at Pages v shown) (left_at Pages (record x { last = last }) shown))) (sym c.self.view_is) (last_marks_if c.step.result v last shown passing f fits same step)
+    let last = c.table_step.new.self.last in
+    let own = subst (λ (x : Shape). IfOk c.table_step.result (λ s. StepMarks v.query.need x.query.only (own_rows x.last shown) s (table_left x.last (own_rows x.last shown) (Some x.delivered)) (table_left last (own_rows x.last shown) (Some x.delivered)))) c.self.view_is (c.table_step.ensures.marks v.query.need) in
+    let moved = subst (λ (rs : List Record). IfOk c.table_step.result (λ s. StepMarks v.query.need v.query.only rs s (table_left v.last rs (Some v.delivered)) (table_left last rs (Some v.delivered)))) (rows_same v shown c.requires.fits) own in
+    subst (λ (x : Shape). IfOk c.table_step.result (λ s. StepMarks v.query.need v.query.only (rows_of v shown) s (left_at Pages v shown) (left_at Pages (record x { last = last }) shown))) (sym c.self.view_is) moved
+
+pub returns-clause-tries : goal.returns-clause-tries
+returns-clause-tries g c =
+    let shown = g.R.Reader.shown c.args.reader.now in
+    let v = c.args.self.now in
+    let last = c.table_step.new.self.last in
+    let before = c.args.steps.now in
+    let after = c.table_step.new.steps in
+    let own = subst (λ (x : Shape). Tries before after (work x.last (own_rows x.last shown) (own_pages x.last shown)) (work last (own_rows x.last shown) (own_pages x.last shown))) c.self.view_is c.table_step.ensures.tries in
+    let rows = subst (λ (rs : List Record). Tries before after (work v.last rs (own_pages v.last shown)) (work last rs (own_pages v.last shown))) (rows_same v shown c.requires.fits) own in
+    let pages = subst (λ (n : ℕ). Tries before after (work v.last (rows_of v shown) n) (work last (rows_of v shown) n)) (pages_same v shown c.requires.fits) rows in
+    subst (λ (x : Shape). Tries before after (table_work v shown) (table_work (record x { last = last }) shown)) (sym c.self.view_is) pages
+
+pub returns-clause-falls : goal.returns-clause-falls
+returns-clause-falls g c =
+    let shown = g.R.Reader.shown c.args.reader.now in
+    let v = c.args.self.now in
+    let last = c.table_step.new.self.last in
+    let before = c.args.steps.now in
+    let after = c.table_step.new.steps in
+    let own = subst (λ (x : Shape). IfOk c.table_step.result (λ s. Falls s before after (work x.last (own_rows x.last shown) (own_pages x.last shown)) (work last (own_rows x.last shown) (own_pages x.last shown)))) c.self.view_is c.table_step.ensures.falls in
+    let rows = subst (λ (rs : List Record). IfOk c.table_step.result (λ s. Falls s before after (work v.last rs (own_pages v.last shown)) (work last rs (own_pages v.last shown)))) (rows_same v shown c.requires.fits) own in
+    let pages = subst (λ (n : ℕ). IfOk c.table_step.result (λ s. Falls s before after (work v.last (rows_of v shown) n) (work last (rows_of v shown) n))) (pages_same v shown c.requires.fits) rows in
+    subst (λ (x : Shape). IfOk c.table_step.result (λ s. Falls s before after (table_work v shown) (table_work (record x { last = last }) shown))) (sym c.self.view_is) pages

@@ -1,0 +1,5 @@
+pub mod Rests
+pub mod Dues
+pub mod Marks
+pub mod Lists
+pub mod Tables

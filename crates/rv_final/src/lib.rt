@@ -1,0 +1,7 @@
+//! The final stage of a retrieval from one table: the records of a complete list are fetched, or the table's pages are
+//! read. A row that was delivered before is passed over.
+#![tactic(auto)]
+
+mod stage;
+
+pub use stage::{Final, examine};

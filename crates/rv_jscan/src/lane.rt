@@ -1,0 +1,257 @@
+ghost use Rattle.std.specs.Prelude.{◌≡◌, ◌≤◌, ◌++◌, ◌↔◌, None, Some, false, is_some, length, not, IfOk, IfSome, IsPermutation, IsSome, IsTrue, OnErr, OnOk, true};
+ghost use Rattle.std.specs.List.Sorted.{IsStrictlyIncreasing};
+ghost use Rattle.rv_judge.specs.Counting.{leaf_read};
+ghost use Rattle.rv_jscan.specs.Entries.{Apart, Disjoint};
+ghost use Rattle.rv_jscan.specs.Joint.{CanMake};
+ghost use Rattle.rv_jscan.specs.Lanes.{HasKeys, IsLeafAt, IsOwn, LaneFits, leaf_once, no_lane, passed};
+ghost use Rattle.rv_jscan.specs.Pieces.{kept_by};
+ghost use Rattle.rv_jscan.specs.Steps.{HasEntries, held_next};
+
+use crate::jscan::ScanPlan;
+use crate::keeping::{Admits, add_marked};
+use crate::piece::{Piece, PieceId, Sieved};
+use rv_judge::Steps;
+use rv_keylist::KeyList;
+use rv_reader::{Chunk, Reader};
+use rv_value::{Duplicate, IndexEntry, NoMemory, copy_slice};
+use std::alloc::Global;
+use std::marker::Model;
+use std::mem;
+
+/// Where one scan of an index stands: the cut at which its awaited leaf begins, that leaf once it was taken, and the
+/// list that is being built. Its plan is lent to each call that needs it.
+#[derive(Drop)]
+pub struct Lane {
+    place: Option<IndexEntry>,
+    held: Option<Chunk>,
+    building: KeyList,
+}
+
+impl Model for Lane {
+    ghost use Rattle.rv_jscan.specs.Lanes.{IsLane, Laned};
+
+    ghost Value = { Laned };
+
+    ghost view = { λ l. record { place = l.place; held = l.held; building = l.building.keys } };
+
+    ghost invariant = { λ l. IsLane l.held l.building };
+}
+
+/// A copy of the piece of a leaf.
+fn piece_of(alloc: Global, leaf: &Chunk, plan: &ScanPlan, id: PieceId) -> Result<Piece, NoMemory>
+    requires short { length leaf.now.entries ≤ 48 }
+    requires keys { HasKeys plan.now leaf.now }
+    ensures { IfOk result (λ p. p ≡ record { id = id; entries = leaf.now.entries; part = plan.now.part }) }
+{
+    let entries = copy_slice(alloc, leaf.entries.as_slice())?;
+    let part = plan.part.copy(alloc)?;
+    Ok(Piece::make(id, entries, part))
+}
+
+fn next_of(held: Option<Chunk>) -> Option<IndexEntry>
+    ensures { result ≡ held_next held }
+{
+    match held {
+        Some(chunk) => {
+            let Chunk { entries: _, next } = chunk;
+            next
+        }
+        None => None,
+    }
+}
+
+fn finished(building: KeyList) -> KeyList
+    ensures keys { IsPermutation building.keys result.keys }
+    ensures ascends { IsStrictlyIncreasing result.keys }
+    ensures finished { result.finished ≡ true }
+{
+    let mut list = building;
+    list.finish();
+    list
+}
+
+impl Lane {
+    /// A scan that has read nothing. It takes no memory.
+    pub fn new(alloc: Global) -> Lane
+        ensures { result ≡ no_lane }
+    {
+        Lane {
+            place: None,
+            held: None,
+            building: KeyList::new(alloc),
+        }
+    }
+
+    /// Whether the awaited leaf is held.
+    pub fn is_held(&self) -> bool
+        ensures { result ≡ is_some self.now.held }
+    {
+        self.held.is_some()
+    }
+
+    /// The list that is being built, which is not finished.
+    pub fn building(&self) -> &KeyList
+        ensures keys { result.now.keys ≡ self.now.building }
+        ensures unfinished { result.now.finished ≡ false }
+    {
+        &self.building
+    }
+
+    /// The leaf at its place.
+    fn leaf<R: Reader>(
+        &self,
+        alloc: Global,
+        reader: &R,
+        plan: &ScanPlan,
+        snap: u64,
+        steps: &mut Steps<R::Ledger>,
+    ) -> Result<Chunk, NoMemory>
+        requires { CanMake plan.now (R.shown reader.now) snap }
+        ensures leaf { IfOk result (IsLeafAt plan.now (R.shown reader.now) snap self.now.place) }
+        ensures reads { steps.new ≡ leaf_read steps.old }
+    {
+        reader.chunk(
+            alloc,
+            plan.index,
+            snap,
+            self.place.as_ref(),
+            &plan.range,
+            steps,
+        )
+    }
+
+    fn hold(&mut self, held: Chunk)
+        requires short { length held.entries ≤ 48 }
+        requires apart { Apart held.entries }
+        requires fresh { Disjoint self.old.building held.entries }
+        ensures { self.new ≡ record self.old { held = Some held } }
+    {
+        let _before = self.held.replace(held);
+    }
+
+    /// Reads the awaited leaf and copies its piece. The leaf is held once the copy is made, so without one the piece is
+    /// not taken.
+    fn read<R: Reader>(
+        &mut self,
+        alloc: Global,
+        reader: &R,
+        plan: &ScanPlan,
+        snap: u64,
+        id: PieceId,
+        steps: &mut Steps<R::Ledger>,
+    ) -> Result<Piece, NoMemory>
+        requires can { CanMake plan.now (R.shown reader.now) snap }
+        requires fits { LaneFits plan.now (R.shown reader.now) snap self.old }
+        ensures same { self.new ≡ record self.old { held = self.new.held } }
+        ensures taken { IfOk result (IsOwn plan.now id self.new) }
+        ensures err { OnErr result (self.new ≡ self.old) }
+        ensures fits { LaneFits plan.now (R.shown reader.now) snap self.new }
+        ensures reads { steps.new ≡ leaf_read steps.old }
+    {
+        let held = self.leaf(alloc, reader, plan, snap, steps)?;
+        let piece = piece_of(alloc, &held, plan, id)?;
+        self.hold(held);
+        Ok(piece)
+    }
+
+    fn copy_held(&self, alloc: Global, plan: &ScanPlan, id: PieceId) -> Result<Piece, NoMemory>
+        requires held { IsSome self.now.held }
+        requires keys { IfSome self.now.held (HasKeys plan.now) }
+        ensures { IfOk result (IsOwn plan.now id self.now) }
+    {
+        match &self.held {
+            Some(held) => piece_of(alloc, held, plan, id),
+            None => unreachable!(),
+        }
+    }
+
+    /// A copy of the awaited piece, under the name `id`. The leaf is read where it is not held. `NoMemory` leaves all as
+    /// it was.
+    pub fn take<R: Reader>(
+        &mut self,
+        alloc: Global,
+        reader: &R,
+        plan: &ScanPlan,
+        snap: u64,
+        id: PieceId,
+        steps: &mut Steps<R::Ledger>,
+    ) -> Result<Piece, NoMemory>
+        requires can { CanMake plan.now (R.shown reader.now) snap }
+        requires fits { LaneFits plan.now (R.shown reader.now) snap self.old }
+        ensures same { self.new ≡ record self.old { held = self.new.held } }
+        ensures held { is_some self.old.held ≡ true → self.new ≡ self.old }
+        ensures taken { IfOk result (IsOwn plan.now id self.new) }
+        ensures err { OnErr result (self.new ≡ self.old) }
+        ensures fits { LaneFits plan.now (R.shown reader.now) snap self.new }
+        ensures reads { steps.new ≡ leaf_once self.old steps.old }
+    {
+        if self.is_held() {
+            return self.copy_held(alloc, plan, id);
+        }
+        self.read(alloc, reader, plan, snap, id, steps)
+    }
+
+    /// Whether the piece is the leaf that is held, under this name and with the plan's part.
+    pub fn awaits(&self, plan: &ScanPlan, id: PieceId, sieved: &Sieved) -> bool
+        ensures { IsTrue result ↔ IsOwn plan.now id self.now sieved.now }
+    {
+        match &self.held {
+            Some(held) => sieved.is(id, held.entries.as_slice(), &plan.part),
+            None => false,
+        }
+    }
+
+    /// Adds the rows of a piece's marked entries that the test admits, and lets the leaf go; the cut that follows it.
+    fn add_kept<T: Admits>(
+        &mut self,
+        sieved: &Sieved,
+        test: &T,
+    ) -> Result<Option<IndexEntry>, NoMemory>
+        requires own { HasEntries self.old.held sieved.now.entries }
+        requires ready { T.ready test.now }
+        ensures next { IfOk result (λ next. next ≡ held_next self.old.held) }
+        ensures ok { OnOk result (self.new ≡ record self.old { building = self.old.building ++ kept_by (T.admits test.now) sieved.now.part sieved.now.entries; held = None }) }
+        ensures err { OnErr result (self.new ≡ self.old) }
+    {
+        add_marked(&mut self.building, sieved, test)?;
+        Ok(next_of(self.held.take()))
+    }
+
+    /// Goes to the cut that follows; true where none does.
+    fn go(&mut self, next: Option<IndexEntry>) -> bool
+        ensures place { self.new ≡ record self.old { place = next } }
+        ensures last { is_some next ≡ not result }
+    {
+        let last = next.is_none();
+        let _before = mem::replace(&mut self.place, next);
+        last
+    }
+
+    /// Takes up the piece of the leaf that is held: the rows of its marked entries that the test admits go into the list,
+    /// and the scan goes on to the following cut. True where there is none, so that the scan is over. `NoMemory` leaves
+    /// all as it was.
+    pub fn accept<T: Admits>(&mut self, sieved: &Sieved, test: &T) -> Result<bool, NoMemory>
+        requires own { HasEntries self.old.held sieved.now.entries }
+        requires ready { T.ready test.now }
+        ensures last { IfOk result (λ last. is_some (held_next self.old.held) ≡ not last) }
+        ensures ok { OnOk result (self.new ≡ passed (T.admits test.now) sieved.now self.old) }
+        ensures err { OnErr result (self.new ≡ self.old) }
+    {
+        let next = self.add_kept(sieved, test)?;
+        Ok(self.go(next))
+    }
+
+    /// The list that was built, in ascending order. It takes no memory.
+    pub fn into_list(self) -> KeyList
+        ensures keys { IsPermutation self.building result.keys }
+        ensures ascends { IsStrictlyIncreasing result.keys }
+        ensures finished { result.finished ≡ true }
+    {
+        let Lane {
+            place: _,
+            held: _,
+            building,
+        } = self;
+        finished(building)
+    }
+}
