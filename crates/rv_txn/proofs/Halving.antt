@@ -48,7 +48,7 @@ changed_by t session table only sets rows new h =
     let space = bind_ok (refuse_if (nat_lt 100000 (changed_with (transaction_at t.active o.0).changes table there)) (Limit Pending 100000)) _ new o.2 in
     let free = bind_ok (unharmed t session (transaction_at t.active o.0).base table there) _ new space.2 in
     let same : map (change_of table sets) there ≡ new = ok_is (map (change_of table sets) there) new free.2 in
-    let count : length there ≡ length new = sym (length-map (change_of table sets) there) ∙ ap length same in
+    let count : length there ≡ length new = sym (length-map there (change_of table sets)) ∙ ap length same in
     let found = written_by t session o.0 o.1 in
     bound (writer t.active session) _ o.0 o.1
     ∙ bound (refuse_if (nat_lt 100000 (changed_with (transaction_at t.active o.0).changes table there)) (Limit Pending 100000)) _ space.0 space.1
