@@ -220,9 +220,9 @@ closes_standing shown schema txns cs kept n place is h = rw is record { tied = h
 -- OPEN
 
 -- the new cursor stands at the base of the session's transaction
-pub fresh_open : (shown : Shown) (schema : Schema) (txns : Transactions) (cursors : List Cursor) (session base : ℕ) (name tables : List ℕ) (c : Open) → opening_base schema.tables txns.active cursors session name tables ≡ Ok base → c.session ≡ session → c.snap ≡ base → CursorFits shown c → (item_at c.plan.asked 0).indexes ≡ indexes_from (item_at c.plan.asked 0).table 0 schema.indexes → IsOpen shown schema txns.active c
-fresh_open shown schema txns cursors session base name tables c h own at fits over =
-    let o = opening_is schema.tables txns.active cursors session base name tables h in
+pub fresh_open : (shown : Shown) (schema : Schema) (txns : Transactions) (cursors : List Cursor) (session base : ℕ) (name : List ℕ) (c : Open) → opening_base txns.active cursors session name ≡ Ok base → c.session ≡ session → c.snap ≡ base → CursorFits shown c → (item_at c.plan.asked 0).indexes ≡ indexes_from (item_at c.plan.asked 0).table 0 schema.indexes → IsOpen shown schema txns.active c
+fresh_open shown schema txns cursors session base name c h own at fits over =
+    let o = opening_is txns.active cursors session base name h in
     record {
       base = ap (λ (s : ℕ). base_of txns.active s) own ∙ base_found txns.active session o.0 o.2 ∙ ap (λ (n : ℕ). Some n) (o.3 ∙ sym at);
       fits = fits;

@@ -17,6 +17,7 @@ ghost use Rattle.rv_core.specs.Pieces.{GivesTo, KeepsSettled, TakesNext, TriesNe
 use rv_cursor::Open;
 use rv_jscan::{Given, PieceId, Sieved, Taken};
 use rv_judge::{Judge, Steps, Uncounted};
+use rv_overlay::Seen;
 use rv_reader::{Reader, Store};
 use rv_snapshot::Snapshot;
 use rv_value::{Items, NoMemory};
@@ -83,10 +84,11 @@ fn take<R: Reader>(
     ensures same { cursor.new ≡ record cursor.old { plan = cursor.new.plan } }
     ensures stays { Stays (R.shown reader.now) cursor.old cursor.new }
 {
-    let seen = Snapshot {
+    let at = Snapshot {
         reader,
         snap: cursor.snap,
     };
+    let seen = Seen::new(&at, &cursor.frozen);
     cursor.plan.take(&seen, steps)
 }
 
