@@ -8,7 +8,7 @@ use Rattle.rv_rows.specs.declared.changes.Change.{Change}
 use Rattle.rv_reader.specs.Shown.{Shown, IsSnapshot}
 use Rattle.rv_model.specs.declared.transactions.Transaction.{Transaction}
 use Rattle.rv_model.specs.Transactions.{no_transaction, transaction_at, transaction_of, with_own}
-use Rattle.rv_txn.specs.OwnViews.{changes_in}
+use Rattle.rv_own.specs.Views.{changes_in}
 use Rattle.rv_core.specs.Db.{IsActive, base_of}
 
 found : (active : List Transaction) (session own : ℕ) → own < length active → ((transaction_at active own).session == session) ≡ true → ((k : ℕ) → k < own → ((transaction_at active k).session == session) ≡ false) → base_of active session ≡ Some (transaction_at active own).base

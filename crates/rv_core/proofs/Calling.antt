@@ -4,12 +4,12 @@ use Rattle.std.specs.List.{AllByRecursion, list_all, slice_index_or}
 use Rattle.std.proofs.lemmas.Bool.Decides.{nat_tests}
 use Rattle.rv_value.specs.declared.record.Record.{Record}
 use Rattle.rv_rows.specs.declared.changes.Change.{Change}
-use Rattle.rv_rows.specs.Changes.{Rise, applied}
+use Rattle.rv_rows.specs.Changes.{Rise, rows_with_changes}
 use Rattle.rv_overlay.specs.declared.frozen.Frozen.{Frozen}
 use Rattle.rv_snapshot.proofs.Staying.{reads_alone, same_rows}
 use Rattle.rv_cursor.specs.declared.cursor.Open.{Open}
 use Rattle.rv_cursor.specs.Left.{seen_at, seen_by}
-use Rattle.rv_txn.specs.OwnViews.{Freezes}
+use Rattle.rv_own.specs.Views.{Freezes}
 use Rattle.rv_core.proofs.Plans.{reads_all}
 use Rattle.rv_lang.specs.declared.reply.Refusal.{Refusal}
 use Rattle.rv_lang.specs.declared.reply.Refusal.TheVariants.{NoTransaction, CursorOpen, Limit}
@@ -216,8 +216,8 @@ low_room n m e h = grind (arith, nat_tests)
 
 -- what the session's transaction reads
 
-pub view_read : (shown : Shown) (schema : Schema) (txns : Transactions) (cursors : List Cursor) (session table : ℕ) (own : ℕ) (rows : List Record) → transaction_of txns.active session ≡ Some own → table < length schema.tables → rows ≡ applied table (transaction_at txns.active own).changes (shown.rows table (transaction_at txns.active own).base)
+pub view_read : (shown : Shown) (schema : Schema) (txns : Transactions) (cursors : List Cursor) (session table : ℕ) (own : ℕ) (rows : List Record) → transaction_of txns.active session ≡ Some own → table < length schema.tables → rows ≡ rows_with_changes table (transaction_at txns.active own).changes (shown.rows table (transaction_at txns.active own).base)
     → rows ≡ rows_viewed (db_of shown schema txns cursors) (transaction_of txns.active session) table
 view_read shown schema txns cursors session table own rows e there read =
     let at = base_at shown (length schema.tables) table txns.active own (own_within txns.active session own e) there in
-    rw e (read ∙ ap (applied table (transaction_at txns.active own).changes) (sym at))
+    rw e (read ∙ ap (rows_with_changes table (transaction_at txns.active own).changes) (sym at))

@@ -3,11 +3,11 @@ use Rattle.std.specs.Prelude.{◌∷◌, ◌+◌, Some, None, if◌then◌else�
 use Rattle.std.specs.List.{AllByRecursion, range_with_len, slice_index_or}
 use Rattle.rv_value.specs.declared.record.Record.{Record}
 use Rattle.rv_rows.specs.declared.changes.Change.{Change}
-use Rattle.rv_rows.specs.Changes.{applied}
-use Rattle.rv_overlay.specs.Making.{Keeps}
+use Rattle.rv_rows.specs.Changes.{rows_with_changes}
+use Rattle.rv_view.specs.Making.{Keeps}
 use Rattle.rv_overlay.specs.declared.frozen.Frozen.{Frozen}
-use Rattle.rv_txn.specs.OwnViews.{AreViews, base_in}
-use Rattle.rv_txn.specs.declared.own_views.OwnView.{OwnView}
+use Rattle.rv_own.specs.Views.{AreViews, base_in}
+use Rattle.rv_own.specs.declared.views.OwnView.{OwnView}
 use Rattle.rv_catalog.specs.declared.def.IndexDef.{IndexDef}
 use Rattle.rv_catalog.specs.Kept.{indexes_over}
 use Rattle.rv_catalog.specs.Schema.{Schema, width}
@@ -114,7 +114,7 @@ pub record IsTied (shown : Shown) (schema : Schema) (transactions : Transactions
 -- the rows of a table at a snapshot, with what a transaction froze applied where it has changes
 abbrev pub view_at : Shown → ℕ → Option Frozen → ℕ → List Record
 view_at shown snap None table = shown.rows table snap
-view_at shown snap (Some f) table = applied table f.changes (shown.rows table snap)
+view_at shown snap (Some f) table = rows_with_changes table f.changes (shown.rows table snap)
 
 -- what was frozen of a transaction on a snapshot is what changes make that it may make
 pub record IsViewed (shown : Shown) (touched : List (List ℕ)) (snap : ℕ) (f : Frozen) : Type 0 where

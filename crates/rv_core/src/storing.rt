@@ -9,13 +9,13 @@ ghost use Rattle.rv_reader.specs.Storing.{AreColumns, CanCommit, Created, Indexe
 ghost use Rattle.rv_txn.specs.Calls.{IsFault};
 ghost use Rattle.rv_model.specs.Database.{no_index};
 ghost use Rattle.rv_model.specs.Transactions.{inserted, transaction_at, transaction_of};
-ghost use Rattle.rv_txn.specs.OwnViews.{AreViews, Freezes};
+ghost use Rattle.rv_own.specs.Views.{AreViews, Freezes};
 ghost use Rattle.rv_core.specs.Db.{IsTied};
 ghost use Rattle.rv_core.specs.Storing.{CommitsTo, changed_over};
 
 use rv_catalog::{Catalog, IndexDef, TableDef};
 use rv_judge::Uncounted;
-use rv_overlay::View;
+use rv_view::View;
 use rv_reader::{Reader, Store};
 use rv_restrict::Restriction;
 use rv_rows::Change;

@@ -7,7 +7,7 @@ use Rattle.rv_model.specs.Step.{Offers, offers_after}
 use Rattle.rv_reader.specs.Shown.{Shown}
 use Rattle.rv_snapshot.specs.Alone.{alone}
 use Rattle.rv_overlay.specs.declared.frozen.Frozen.{Frozen}
-use Rattle.rv_overlay.specs.Overlaid.{LaysSome, laid_over}
+use Rattle.rv_view.specs.Sights.{LaysSome, laid_over}
 use Rattle.rv_join.specs.Order.{IsLeastOf}
 use Rattle.rv_join.specs.Plans.{PlanFits, PlanMoves, plan_rest, plan_work}
 use Rattle.rv_join.specs.declared.plan.PlanStep.{PlanStep}
