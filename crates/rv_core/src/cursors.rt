@@ -28,11 +28,11 @@ use rv_catalog::{Catalog, Select};
 use rv_cursor::{Open, fetch, fetch_step, open_cursor, step};
 use rv_judge::{Judge, Steps, Trace, Uncounted};
 use rv_lang::{Refusal, Reply, Which};
-use rv_view::{Seen, View};
 use rv_reader::{Reader, Store};
 use rv_snapshot::Snapshot;
 use rv_txn::{TxnFault, Txns};
 use rv_value::{Duplicate, Items, NoMemory, Text};
+use rv_view::{Seen, View};
 use std::alloc::Global;
 
 /// The place of the session's cursor of this name.

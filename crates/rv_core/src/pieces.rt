@@ -17,10 +17,10 @@ ghost use Rattle.rv_core.specs.Pieces.{GivesTo, KeepsSettled, TakesNext, TriesNe
 use rv_cursor::Open;
 use rv_jscan::{Given, PieceId, Sieved, Taken};
 use rv_judge::{Judge, Steps, Uncounted};
-use rv_view::Seen;
 use rv_reader::{Reader, Store};
 use rv_snapshot::Snapshot;
 use rv_value::{Items, NoMemory};
+use rv_view::Seen;
 
 fn is_waiting(cursor: &Open) -> bool
     ensures { result ≡ is_waiting cursor.now }

@@ -15,12 +15,13 @@ ghost use Rattle.rv_core.specs.Storing.{CommitsTo, changed_over};
 
 use rv_catalog::{Catalog, IndexDef, TableDef};
 use rv_judge::Uncounted;
-use rv_view::View;
+use rv_own::Views;
 use rv_reader::{Reader, Store};
 use rv_restrict::Restriction;
 use rv_rows::Change;
-use rv_txn::{Finished, TxnFault, Txns, Views};
+use rv_txn::{Finished, TxnFault, Txns};
 use rv_value::{NoMemory, RowNo, Value, Values};
+use rv_view::View;
 use std::slice;
 
 /// A table more in both. Without memory neither has it.
@@ -182,8 +183,9 @@ pub fn change_rows<S: Store + Reader<Ledger = Uncounted>>(
     if let Some(own) = txns.own(session) {
         views.keep(store, catalog.indexes(), own, new.as_slice());
     }
+    let count = new.len() as u64;
     match txns.put_changes(session, new) {
-        Ok(count) => Ok(count),
+        Ok(()) => Ok(count),
         Err(NoMemory) => {
             views.let_go(session);
             Err(TxnFault::NoMemory)

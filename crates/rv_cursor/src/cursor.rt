@@ -10,8 +10,8 @@ ghost use Rattle.rv_join.specs.Plans.{LeadsWith, plan_trace, plan_work, stage_of
 ghost use Rattle.rv_join.specs.Work.{row_cost};
 ghost use Rattle.rv_model.specs.Offering.{offers_over};
 ghost use Rattle.rv_model.specs.Offers.{offers_in_order};
-ghost use Rattle.rv_view.specs.Sights.{LaysSome};
 ghost use Rattle.rv_snapshot.specs.Alone.{alone};
+ghost use Rattle.rv_view.specs.Sights.{LaysSome};
 ghost use Rattle.rv_join.specs.Pieces.{plan_awaited, plan_pieces};
 ghost use Rattle.rv_cursor.specs.Left.{CursorFits, Fills, Stays, left, seen_at, seen_by, work};
 ghost use Rattle.rv_cursor.specs.Moves.{FrontTo, Moves, StepsFront, WorksPiece, ruled};
@@ -21,10 +21,10 @@ use rv_join::{Plan, PlanStep};
 use rv_jscan::{Taken, sieve};
 use rv_judge::{Judge, Steps};
 use rv_model::Offer;
-use rv_view::{Seen, View};
 use rv_reader::Reader;
 use rv_snapshot::Snapshot;
 use rv_value::{NoMemory, Text};
+use rv_view::{Seen, View};
 use std::alloc::Global;
 
 /// An open cursor of a session over a snapshot, with the view that its transaction had when it was
