@@ -19,11 +19,6 @@ use Rattle.rv_join.specs.Order.{IsLeastOf}
 use Rattle.rv_join.specs.Plans.{PlanFits, plan_rest}
 use Rattle.rv_cursor.specs.declared.cursor.Open.{Open}
 use Rattle.rv_cursor.specs.Left.{CursorFits, in_hand, seen_by}
-use Rattle.rv_view.specs.Making.{Keeps, KeepsPart}
-use Rattle.rv_overlay.specs.Overlaid.{part_at}
-use Rattle.rv_overlay.specs.declared.frozen.Frozen.{Frozen}
-use Rattle.rv_own.specs.Views.{AreViews, changes_in}
-use Rattle.rv_own.specs.declared.views.OwnView.{OwnView}
 use Rattle.rv_core.specs.Db.{IsActive, IsOpen, IsTied, base_of, seen, seen_of}
 use Rattle.rv_core.specs.Obeying.{SeesSame}
 use Rattle.rv_core.proofs.Bases.{base_known, base_pushed, base_with, base_without}
@@ -162,41 +157,4 @@ sees_kept old new schema later was is cs kept before after same h = record { eac
   where
     each : (ds : List Open) → SameBases was.active is.active ds → AllByRecursion (IsOpen old schema was.active) ds → AllByRecursion (λ (d : Open). seen_by new d ≡ seen_by old d) ds
     each [] s o = tt
-    each (d ∷ ds) s o = (snapshot_same old new schema later was is d kept before after s.0 o.0, each ds s.1 o.1)
-
--- Views of transactions stay as they are, whatever happens to the store and to other transactions.
-
-keeps_stay : (old new : Shown) (f : Frozen) (written : List Change) → Kept old new → IsStored old → IsSnapshot old f.base → IsSnapshot new f.base → Keeps old f written → Keeps new f written
-keeps_stay old new f written kept stored was is keeps = record {
-  rise = keeps.rise;
-  low = keeps.low;
-  told = keeps.told;
-  parts = keeps.parts ∙ sym kept.indexes;
-  each = λ index can.
-      let there : index < old.indexes = omega (arith, can.there, kept.indexes) in
-      let read : CanRead old (old.over index) f.base = record { there = (stored.over index there).table; snapshot = was } in
-      let same : KeepsPart (old.keys index) (old.over index) f.changes (old.rows (old.over index) f.base) (part_at f.parts index) = keeps.each index (record { there = there; snapshot = was }) in
-      rw (kept.stays.keys index there, kept.stays.over index there, kept.stays.rows (old.over index) f.base read is) same;
-  sized = λ table can.
-      let read : CanRead old table f.base = record { there = omega (arith, can.there, kept.tables); snapshot = was } in
-      rw (kept.stays.rows table f.base read is, kept.stays.pages table f.base read is) (keeps.sized table read);
-  others = keeps.others;
-}
-
-pub views_stay : (old new : Shown) (was is : Transactions) (views : List OwnView) → Kept old new → IsStored old → AllByRecursion (IsActive old was.touched) was.active → AllByRecursion (IsActive new is.touched) is.active
-    → AllByRecursion (λ (v : OwnView). (base_of is.active v.session ≡ base_of was.active v.session) × (changes_in is.active v.session ≡ changes_in was.active v.session)) views → AreViews old was.active views → AreViews new is.active views
-views_stay old new was is [] kept stored before after same h = tt
-views_stay old new was is (v ∷ views) kept stored before after same h =
-    let here = base_known old was.touched was.active v.session v.view.base h.0.base before in
-    let there = base_known new is.touched is.active v.session v.view.base (same.0.0 ∙ h.0.base) after in
-    (record { base = same.0.0 ∙ h.0.base; changes = same.0.1 ∙ h.0.changes; keeps = keeps_stay old new v.view v.written kept stored here there h.0.keeps }, views_stay old new was is views kept stored before after same.1 h.1)
-
--- without a transaction no view is kept
-pub none_viewed : (shown : Shown) (active : List Transaction) (views : List OwnView) → active ≡ [] → AreViews shown active views → views ≡ []
-none_viewed shown active [] e h = refl
-none_viewed shown active (v ∷ views) e h =
-    let none : base_of active v.session ≡ None = ap (λ (ts : List Transaction). base_of ts v.session) e in
-    absurd (apart v.view.base (sym h.0.base ∙ none))
-  where
-    apart : (n : ℕ) → Some n ≡ None → ⊥
-    apart n k = cc
+    each (d ∷ ds) s o = (ap (λ (x : Shown). laid_over x d.frozen) (snapshot_same old new schema later was is d kept before after s.0 o.0), each ds s.1 o.1)

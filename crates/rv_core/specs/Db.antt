@@ -141,8 +141,12 @@ pub record AreListed (next : ℕ) (cursors : List Open) : Type 0 where
   pub sessions : AllByRecursion (λ (c : Open). c.session < 256) cursors
 
 -- what a database keeps
-pub record IsStanding (shown : Shown) (schema : Schema) (transactions : Transactions) (views : List OwnView) (cursors : List Open) (opened : ℕ) : Type 0 where
+pub record IsStanding (shown : Shown) (schema : Schema) (transactions : Transactions) (cursors : List Open) (opened : ℕ) : Type 0 where
   pub tied : IsTied shown schema transactions
-  pub views_kept : AreViews shown transactions.active views
   pub opens : AllByRecursion (IsOpen shown schema transactions.active) cursors
   pub listed : AreListed opened cursors
+
+-- the same, and what is kept of its transactions' views is what their changes make
+pub record IsWhole (shown : Shown) (schema : Schema) (transactions : Transactions) (views : List OwnView) (cursors : List Open) (opened : ℕ) : Type 0 where
+  pub standing : IsStanding shown schema transactions cursors opened
+  pub views_kept : AreViews shown transactions.active views

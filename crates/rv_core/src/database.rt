@@ -47,13 +47,13 @@ pub struct Database<S: Store + Reader<Ledger = Uncounted> + Drop> {
 }
 
 impl<S: Store + Reader<Ledger = Uncounted> + Drop> Model for Database<S> {
-    ghost use Rattle.rv_core.specs.Db.{IsStanding, Whole, whole_of};
+    ghost use Rattle.rv_core.specs.Db.{IsWhole, Whole, whole_of};
 
     ghost Value = { Whole S };
 
     ghost view = { λ d. whole_of d.store (S.shown d.store) d.catalog d.txns d.cursors d.opened };
 
-    ghost invariant = { λ d. IsStanding (S.shown d.store) d.catalog d.txns d.views d.cursors d.opened };
+    ghost invariant = { λ d. IsWhole (S.shown d.store) d.catalog d.txns d.views d.cursors d.opened };
 }
 
 impl<S: Store + Reader<Ledger = Uncounted> + Drop> Database<S> {
