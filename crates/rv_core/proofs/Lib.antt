@@ -22,3 +22,4 @@ pub mod Soundness
 pub mod Standing
 pub mod Tied
 pub mod Turning
+pub mod Viewing

@@ -118,6 +118,8 @@ impl<S: Store + Reader<Ledger = Uncounted> + Drop> Database<S> {
         ensures opened { self.new.opened ≡ self.old.opened }
         ensures opens { self.new.opens ≡ self.old.opens }
     {
+        // What a store tells with its newest commit holds of all that is kept of views.
+        let _last = self.store.last();
         if let Some(number) = self.txns.active() {
             return refused(self.alloc, Refusal::Busy(number));
         }
@@ -143,6 +145,8 @@ impl<S: Store + Reader<Ledger = Uncounted> + Drop> Database<S> {
         ensures opened { self.new.opened ≡ self.old.opened }
         ensures opens { self.new.opens ≡ self.old.opens }
     {
+        // What a store tells with its newest commit holds of all that is kept of views.
+        let _last = self.store.last();
         if let Some(lowest) = self.txns.active() {
             return refused(self.alloc, Refusal::Busy(lowest));
         }
@@ -251,6 +255,8 @@ impl<S: Store + Reader<Ledger = Uncounted> + Drop> Database<S> {
         ensures opens { IfOk result (λ replies. self.new.opens ≡ ended_by replies.0 session self.old.opens) }
         ensures lost { OnErr result (self.new.opens ≡ self.old.opens) }
     {
+        // What a store tells with its newest commit holds of all that is kept of views.
+        let _last = self.store.last();
         let finished = match self.txns.finish(session) {
             Ok(finished) => finished,
             Err(TxnFault::Refused(refusal)) => return refused(self.alloc, refusal),
