@@ -105,9 +105,9 @@ if sys.argv[1:] not in {accepted!r}:
     sys.exit(1)
 """
         good = ran(TOOLS / "program_words.py", self.program(text))
-        self.assertEqual((good.returncode, good.stdout), (0, "28 command lines, 0 differ\n"))
+        self.assertEqual((good.returncode, good.stdout), (0, "37 command lines, 0 differ\n"))
         bad = ran(TOOLS / "program_words.py", self.program(text.replace("exit(1)", "exit(2)")))
-        self.assertEqual((bad.returncode, bad.stdout.splitlines()[-1]), (1, "28 command lines, 22 differ"))
+        self.assertEqual((bad.returncode, bad.stdout.splitlines()[-1]), (1, "37 command lines, 27 differ"))
 
 
 class Random(Folder):

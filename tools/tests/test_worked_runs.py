@@ -43,13 +43,13 @@ class WorkedRuns(unittest.TestCase):
     def test_a_program_that_says_nothing_is_refused(self):
         silent = self.program("cat > /dev/null")
         self.assertEqual(self.counted(silent, "try_scripts"), (50, 47))
-        self.assertEqual(self.counted(silent, "try_words", "try_workload"), (7, 7))
+        self.assertEqual(self.counted(silent, "try_words", "try_workload"), (8, 8))
 
     def test_a_program_that_reads_before_its_words_is_refused(self):
-        early = self.program('cat > /dev/null; echo "usage: rvdyn [--judge N] [--steps K] [--gen SEED]" >&2; exit 1')
-        self.assertEqual(self.counted(early, "try_words"), (6, 6))
-        late = self.program('echo "usage: rvdyn [--judge N] [--steps K] [--gen SEED]" >&2; exit 1')
-        self.assertEqual(self.counted(late, "try_words"), (6, 0))
+        early = self.program('cat > /dev/null; echo "usage: rvdyn [--threads] [--workers W] [--judge N] [--steps K] [--gen SEED]" >&2; exit 1')
+        self.assertEqual(self.counted(early, "try_words"), (7, 7))
+        late = self.program('echo "usage: rvdyn [--threads] [--workers W] [--judge N] [--steps K] [--gen SEED]" >&2; exit 1')
+        self.assertEqual(self.counted(late, "try_words"), (7, 0))
 
     def test_cases_are_apart(self):
         names = [name for cases in (transcripts, lines, faults) for name, _, _ in cases()]

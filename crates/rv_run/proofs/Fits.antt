@@ -1,5 +1,5 @@
 -- A script that was read has few phases, and lines that calls may have.
-use Rattle.std.proofs.Common.{◌≡◌, ℕ, ◌+◌, ◌-◌, ◌*◌, ◌++◌, ap, ◌∙◌, suc, codes, flat_map, length-append, ◌<◌, ◌≤◌, ◌==◌, ◌&&◌, List, [], ◌∷◌, refl, sym, subst, arith, Bool, true, false, inl, inr, length, nat_lt, nat_le, nat_eq, Option, Some, None, Result, Ok, Err, IfSome}
+use Rattle.std.proofs.Common.{◌≡◌, ℕ, ◌+◌, ◌-◌, ◌*◌, ◌++◌, ap, ◌∙◌, codes, flat_map, length-append, ◌<◌, ◌≤◌, ◌==◌, ◌&&◌, List, [], ◌∷◌, refl, sym, subst, arith, Bool, true, false, inl, inr, length, nat_lt, nat_le, nat_eq, Option, Some, None, Result, Ok, Err, IfSome}
 use Rattle.std.proofs.lemmas.Bool.{cases_Bool}
 use Rattle.std.proofs.lemmas.Bool.Decides.{nat_tests}
 use Rattle.std.specs.List.{AllByRecursion}

@@ -1,5 +1,5 @@
 -- Runs under judges: one more call, one run behind another, and places.
-use Rattle.std.proofs.Common.{◌≡◌, ◌∙◌, ◌+◌, ◌<◌, ◌++◌, ◌∷◌, ◌==◌, ℕ, List, [], refl, sym, ap, subst, map, Bool, true, false, Option, Some, None, is_some, not, slice_get, slice_set, append_assoc, append-nil, arith, unwrap_or, suc, zero, length, take, drop, Result, Ok, Err, OnOk, OnErr}
+use Rattle.std.proofs.Common.{◌≡◌, ◌∙◌, ◌+◌, ◌<◌, ◌++◌, ◌∷◌, ℕ, List, [], refl, sym, ap, subst, map, Option, Some, None, slice_get, slice_set, append_assoc, append-nil, arith, unwrap_or, suc, zero, length, take, drop, Result, Ok, Err, OnOk, OnErr}
 use Rattle.std.specs.List.{slice_index_or}
 use Rattle.std.proofs.lemmas.List.{map-append, take_more, take-append-drop}
 use Rattle.std.proofs.Math.Seq.{drop-cons}

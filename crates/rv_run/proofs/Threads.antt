@@ -14,7 +14,7 @@ use Rattle.rv_believed.specs.History.{IsLegal, Leads}
 use Rattle.rv_gen.specs.Workload.{IsCall}
 use Rattle.rv_core.specs.Core.{Shown}
 use Rattle.rv_phases.specs.Phase.{Call as OwnCall, PhaseDone, asked, own}
-use Rattle.rv_run.specs.Script.{Call, HasAllCalls, HasFirstCalls, call, calls_from, calls_in, calls_made, first_calls, of_session}
+use Rattle.rv_run.specs.Script.{Call, HasAllCalls, HasFirstCalls, call, calls_from, calls_in, calls_made, of_session}
 use Rattle.rv_run.specs.Making.{FitsPhase, FitsScript, MadeFirst, no_phase}
 
 -- ---- a session's calls as a phase tells them

@@ -6,6 +6,7 @@ ghost use Rattle.rv_catalog.specs.declared.def.IndexDef.{IndexDef as OneIndex};
 ghost use Rattle.rv_rows.specs.Changes.{Rise, with_change};
 ghost use Rattle.rv_rows.specs.declared.changes.Change.{Change as OneChange};
 ghost use Rattle.rv_reader.specs.Shown.{CanRead};
+ghost use Rattle.rv_reader.specs.Tables.{IsTable};
 ghost use Rattle.rv_view.specs.Making.{AreIndexes, Keeps, empty_part, part_after, parts_after, unchanged};
 
 use crate::entries::{entry_at, row_before, row_of};
@@ -14,7 +15,7 @@ use rv_blocks::Blocks;
 use rv_catalog::IndexDef;
 use rv_judge::{Steps, Uncounted};
 use rv_overlay::{Frozen, Part, change_of};
-use rv_reader::Reader;
+use rv_reader::{Reader, Sizes};
 use rv_rows::Change;
 use rv_value::{Duplicate, Items, NoMemory, Record};
 use std::alloc::Global;
@@ -90,6 +91,17 @@ pub fn frozen_new(alloc: Global, base: u64, indexes: &[IndexDef]) -> Result<Froz
     })
 }
 
+/// How large a table is at a commit.
+fn sizes_at<R: Reader>(reader: &R, table: u32, snap: u64) -> Sizes
+    requires { CanRead (R.shown reader.now) table snap }
+    ensures pages { result.pages ≡ (R.shown reader.now).pages table snap }
+    ensures rows { result.rows ≡ length ((R.shown reader.now).rows table snap) }
+    ensures table { IsTable ((R.shown reader.now).rows table snap) ((R.shown reader.now).pages table snap) }
+    ensures small { result.pages < 4294967296 }
+{
+    reader.sizes(table, snap)
+}
+
 /// Brings what is frozen up to date with a change of one row: it is then what the changes with this one make. It reads
 /// the row at the base. `written` has the rows of the changes that give values. On `NoMemory` both may stand in
 /// between: whoever holds them lets them go.
@@ -110,7 +122,7 @@ pub fn keep_change<R: Reader<Ledger = Uncounted>>(
     ensures base { OnOk result (frozen.new.base ≡ frozen.old.base) }
 {
     let mut steps = Steps::new(Uncounted);
-    let size = reader.sizes(change.table, frozen.base);
+    let size = sizes_at(reader, change.table, frozen.base);
     let base = reader.fetch(alloc, change.table, frozen.base, change.row, &mut steps)?;
     let earlier = change_of(&frozen.changes, change.table, change.row);
     let old = row_before(alloc, earlier, base.as_ref())?;

@@ -44,15 +44,21 @@ fn is_read_only(word: &str) -> Result<bool, Fault> {
     }
 }
 
-/// Begins a transaction of a session.
+/// Begins a transaction of a session: its number, or why it is refused.
 #[tactic(auto, using(rv_txn::proofs::Beginning::began_next))]
-fn begin(txns: &mut Txns, session: u8, read_only: bool, base: u64) -> Result<u64, TxnFault>
+fn begin(
+    alloc: Global,
+    txns: &mut Txns,
+    session: u8,
+    read_only: bool,
+    base: u64,
+) -> Result<String, NoMemory>
     requires { txns.old.next < 1000 }
     ensures { txns.new.next ≤ txns.old.next + 1 }
 {
     match txns.begin(session, read_only, base) {
-        Ok(number) => Ok(number),
-        Err(fault) => Err(fault),
+        Ok(number) => Ok(format!(in alloc; " {number}")?),
+        Err(fault) => told_fault(alloc, &fault),
     }
 }
 
@@ -64,8 +70,7 @@ fn begin_words(alloc: Global, txns: &mut Txns, text: &str) -> Result<String, Fau
     let (of, rest) = cut(text, ' ')?;
     let (word, base) = cut(rest, ' ')?;
     let (of, read_only, base) = (session(of)?, is_read_only(word)?, number(base)?);
-    let begun = begin(txns, of, read_only, base);
-    Ok(told_number(alloc, begun)?)
+    Ok(begin(alloc, txns, of, read_only, base)?)
 }
 
 /// Begins some transactions.

@@ -1,4 +1,4 @@
-use Rattle.std.proofs.Common.{◌≡◌, refl, sym, ap}
+use Rattle.std.proofs.Common.{refl}
 use Rattle.rv_run.proofs.Ends.{stops_of}
 use Rattle.rv_run.proofs.top.begin.Goals as goal
 

@@ -1,4 +1,4 @@
-use Rattle.std.proofs.Common.{◌≡◌, ap, inl, inr, map, rules}
+use Rattle.std.proofs.Common.{◌≡◌, ap, inl, inr, map}
 use Rattle.rv_run.specs.Judges.{by_number}
 use Rattle.rv_run.specs.Ruling.{between, judging}
 use Rattle.rv_run.specs.Script.{calls_asked, calls_made}

@@ -1,4 +1,4 @@
-use Rattle.std.proofs.Common.{◌≡◌, inl, inr}
+use Rattle.std.proofs.Common.{inl, inr}
 use Rattle.rv_run.proofs.Ends.{not_short, not_write}
 use Rattle.rv_run.proofs.Threads.{calls_fit, first_all, whole_all}
 use Rattle.rv_run.proofs.top.perform_by_threads.Goals as goal
