@@ -2,6 +2,7 @@
 use Rattle.std.proofs.Common.{◌≡◌, ℕ, ◌<◌, ◌≤◌, List, [], ◌∷◌, ◌++◌, Bool, true, false, ◌&&◌, ◌==◌, cond, Option, Some, None, IfSome, refl, ap, sym, ◌∙◌, subst, arith, inl, inr, filter, length, nat_eq, nat_lt}
 use Rattle.std.specs.List.{AllByRecursion, list_all}
 use Rattle.std.proofs.lemmas.Bool.{cases_Bool}
+use Rattle.std.proofs.lemmas.List.Folds.{list_all-append}
 use Rattle.std.proofs.lemmas.Bool.Decides.{nat_tests}
 use Rattle.rv_value.specs.declared.value.Value.{Value}
 use Rattle.rv_value.specs.declared.record.Record.{Record}
@@ -9,6 +10,7 @@ use Rattle.rv_value.specs.declared.record.IndexEntry.{IndexEntry}
 use Rattle.rv_rows.specs.declared.changes.Change.{Change}
 use Rattle.rv_rows.specs.Changes.{rows_with_changes}
 use Rattle.rv_rows.specs.Rows.{with_values}
+use Rattle.rv_rows.proofs.Filters.{both}
 use Rattle.rv_restrict.specs.declared.atom.ColRef.{ColRef}
 use Rattle.rv_catalog.specs.declared.def.IndexDef.{IndexDef}
 use Rattle.rv_catalog.specs.declared.def.Select.{Select}
@@ -16,7 +18,7 @@ use Rattle.rv_reader.specs.Entries.{comes_before, entries_of}
 use Rattle.rv_reader.specs.Shown.{Shown, CanRead, CanScan, IsSnapshot}
 use Rattle.rv_reader.specs.Storing.{AreKeys, IsStored}
 use Rattle.rv_overlay.specs.declared.frozen.Frozen.{Frozen}
-use Rattle.rv_overlay.specs.Laying.{marks, sixteenths, with_all}
+use Rattle.rv_overlay.specs.Laying.{laid, marks, sixteenths, with_all}
 use Rattle.rv_overlay.specs.Overlaid.{Lays, LaysIndex, overlaid, part_at}
 use Rattle.rv_overlay.proofs.Tabling.{applied_ascends}
 use Rattle.rv_overlay.proofs.Viewing.{view_is}
@@ -81,16 +83,32 @@ have_viewed table column (c ∷ cs) rows all have = elim (cases_Bool (c.table ==
   | inr f ↦ rw f (have_viewed table column cs rows all.1 have)
 ]
   where
-    -- OPEN: of `with_values`: the rows below, the row where there are values, the rows above
-    by : (values : Option (List Value)) → IfSome values (λ vs. nat_lt column (length vs) ≡ true) → have_column column (with_values c.row.0 values rows) ≡ true
+    test : Record → Bool
+    test r = nat_lt column (length r.values)
+
+    kept : (p : Record → Bool) (rs : List Record) → list_all test rs ≡ true → list_all test (filter p rs) ≡ true
+    kept p [] h = refl
+    kept p (r ∷ rs) h =
+        let parts = both (test r) (list_all test rs) h in
+        let rest = kept p rs parts.1 in
+        elim (cases_Bool (p r)) [ inl t ↦ rw (t, parts.0) rest | inr f ↦ rw f rest ]
+
+    joined : (xs ys : List Record) → list_all test xs ≡ true → list_all test ys ≡ true → list_all test (xs ++ ys) ≡ true
+    joined xs ys first then = rw (list_all-append test xs ys, first) then
+
+    -- the rows below, the row where there are values, the rows above: by the two cases of `with_values`
+    by : (values : Option (List Value)) → IfSome values (λ vs. nat_lt column (length vs) ≡ true) → list_all test (with_values c.row.0 values rows) ≡ true
+    by None told = kept _ rows have
+    by (Some vs) told = joined _ _ (kept _ rows have) (rw told (kept _ rows have))
 
 -- THE PLAN OVER THE VIEW.
 
 pub plan_over : (seen : Shown) (f : Frozen) (written : List Change) (s : Select) (indexes : List IndexDef) → Lays seen f → Keeps seen f written
     → ((i : ℕ) → i < length indexes → (seen.over i ≡ (index_at indexes i).table) × (seen.keys i ≡ (index_at indexes i).columns))
+    → ((i : ℕ) → i < length indexes → CanRead seen (index_at indexes i).table f.base)
     → ((c : ColRef) → select_uses s c ≡ true → HaveColumn (table_at s c.place) c.column f.changes)
     → CanPlan s indexes seen f.base → CanPlan s indexes (overlaid seen f) f.base
-plan_over seen f written s indexes lays keeps are have can =
+plan_over seen f written s indexes lays keeps are read have can =
     let here : nat_eq f.base f.base ≡ true = grind (arith, nat_tests) in
     record {
       some = can.some;
@@ -108,7 +126,7 @@ plan_over seen f written s indexes lays keeps are have can =
           let part = part_at f.parts i in
           let kept : KeepsPart columns table f.changes rows part = rw (sym (are i h).0, sym (are i h).1) (keeps.each i own.can) in
           let index = lays.each i own.can in
-          let ascends = (lays.tables table (record { there = OPEN; snapshot = own.can.snapshot })).ascend in
+          let ascends = (lays.tables table (read i h)).ascend in
           let entries = ap (λ es. laid part.taken part.added es) own.entries ∙ view_is columns table f.changes rows part.taken part.added ascends keeps.rise kept.freezes in
           record {
             can = record { there = own.can.there; snapshot = record { kept = own.can.snapshot.kept; known = own.can.snapshot.known } };
