@@ -29,7 +29,7 @@ class Checked(Database):
         cursor = super().opened(select)
         table = select.tables[0]
         indexes = [name for name, index in self.indexes.items() if index.table == table]
-        cursor.seen = Seen(indexes, len(self.own.rows[table]), len(select.tables), select.soon, select.order)
+        cursor.seen = Seen(indexes, len(self.view(table)), len(select.tables), select.soon, select.order)
         return cursor
 
     def given(self, statement, reply):

@@ -4,6 +4,7 @@ pub mod Calling
 pub mod Choosing
 pub mod Databases
 pub mod Opens
+pub mod Owning
 pub mod Planning
 pub mod Plans
 pub mod Facts
@@ -21,3 +22,4 @@ pub mod Soundness
 pub mod Standing
 pub mod Tied
 pub mod Turning
+pub mod Viewing

@@ -22,13 +22,16 @@ pub plan_cursor-requires-clause-query : goal.plan_cursor-requires-clause-query
 plan_cursor-requires-clause-query g c = rw (← c.self.view_is) at c.requires.query
 
 pub plan_cursor-requires-clause-base : goal.plan_cursor-requires-clause-base
-plan_cursor-requires-clause-base g c = opening_snapshot (g.S.Reader.shown c.self.inside.store) c.self.inside.catalog c.self.inside.txns (seen (g.S.Reader.shown c.self.inside.store) c.self.inside.cursors) c.args.session c.in-Ok.base c.args.name c.as_slice.result.now c.self.invariant.tied (c.in-Ok.ensures.ok (g.S.Reader.shown c.self.inside.store))
+plan_cursor-requires-clause-base g c = opening_snapshot (g.S.Reader.shown c.self.inside.store) c.self.inside.catalog c.self.inside.txns (seen (g.S.Reader.shown c.self.inside.store) c.self.inside.cursors) c.args.session c.in-Ok.base c.args.name c.as_slice.result.now c.self.invariant.standing.tied (c.in-Ok.ensures.ok (g.S.Reader.shown c.self.inside.store))
 
 pub invariant_of-self-2 : goal.invariant_of-self-2
 invariant_of-self-2 g c =
     let shown = g.S.Reader.shown c.self.inside.store in
     let fresh = fresh_open shown c.self.inside.catalog c.self.inside.txns (seen shown c.self.inside.cursors) c.args.session c.in-Ok.base c.args.name c.as_slice.result.now c.in-Ok-plan_cursor.cursor (c.in-Ok.ensures.ok shown) c.in-Ok-plan_cursor.ensures.session c.in-Ok-plan_cursor.ensures.snap c.in-Ok-plan_cursor.ensures.fits c.in-Ok-plan_cursor.ensures.over in
-    opens_standing shown c.self.inside.catalog c.self.inside.txns c.self.inside.cursors c.push.new.self c.in-Ok-plan_cursor.cursor c.self.inside.opened c.in-Ok-push.ensures.ok c.in-Ok-plan_cursor.ensures.number (let own = c.in-Ok-plan_cursor.ensures.session in omega (arith, own)) (rw c.in-Ok-plan_cursor.ensures.session c.in-Ok.ensures.room) fresh c.self.invariant
+    record {
+      standing = opens_standing shown c.self.inside.catalog c.self.inside.txns c.self.inside.cursors c.push.new.self c.in-Ok-plan_cursor.cursor c.self.inside.opened c.in-Ok-push.ensures.ok c.in-Ok-plan_cursor.ensures.number (let own = c.in-Ok-plan_cursor.ensures.session in omega (arith, own)) (rw c.in-Ok-plan_cursor.ensures.session c.in-Ok.ensures.room) fresh c.self.invariant.standing;
+      views_kept = c.freeze.ensures.views;
+    }
 
 pub returns-clause-ok : goal.returns-clause-ok
 returns-clause-ok g c =
