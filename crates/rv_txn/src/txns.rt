@@ -1,9 +1,9 @@
 ghost use Rattle.std.specs.Prelude.{◌≡◌, ◌<◌, ◌-◌, ◌^◌, Ok, Err, IfOk, IfErr, OnOk, OnErr, IfSome, IsSome, length};
 ghost use Rattle.rv_rows.specs.Changes.{Rise};
-ghost use Rattle.rv_model.specs.Transactions.{began, changed, done, horizon, inserted, lowest, no_transactions, transaction_at, transaction_of};
+ghost use Rattle.rv_model.specs.Transactions.{began, done, horizon, lowest, no_transactions, transaction_at, transaction_of};
 ghost use Rattle.std.specs.Option.{option_copied, option_map};
 ghost use Rattle.rv_txn.specs.Changing.{CanChange};
-ghost use Rattle.rv_txn.specs.Calls.{IsFault, finished, has_changed, rolled_back, standing};
+ghost use Rattle.rv_txn.specs.Calls.{IsFault, finished, rolled_back, standing};
 ghost use Rattle.rv_txn.specs.Halves.{changing, inserting, with_new, with_these};
 
 use crate::active::{
@@ -17,7 +17,7 @@ use rv_model::{Refusal, Transaction, Transactions, Which};
 use rv_reader::{Reader, Store};
 use rv_restrict::Restriction;
 use rv_rows::{Change, Changes};
-use rv_value::{Items, NoMemory, RowNo, Value, Values};
+use rv_value::{Items, NoMemory, RowNo, Value};
 use std::alloc::Global;
 use std::marker::Model;
 
@@ -156,22 +156,6 @@ impl Txns {
         )
     }
 
-    /// INSERT: the number of a new row of the table.
-    pub fn insert(&mut self, session: u8, table: u32, values: Values) -> Result<RowNo, TxnFault>
-        ensures ok { IfOk result (λ row. inserted self.old session table values ≡ Ok (row, self.new)) }
-        ensures fault { IfErr result (λ fault. IsFault (inserted self.old session table values) fault) }
-        ensures err { OnErr result (self.new ≡ self.old) }
-    {
-        let row = self.inserting(session, table)?;
-        let change = Change {
-            table,
-            row,
-            values: Some(values),
-        };
-        self.put_new(session, change)?;
-        Ok(row)
-    }
-
     /// The changes that an UPDATE, which sets columns, or a DELETE, which sets none, would make. It changes nothing.
     pub fn changing<S: Store + Reader<Ledger = Uncounted>>(
         &self,
@@ -219,26 +203,6 @@ impl Txns {
             return Ok(());
         };
         self.transactions.active.at_mut(own).changes.put_all(new)
-    }
-
-    /// UPDATE, which sets columns, and DELETE, which sets none: how many rows are changed.
-    pub fn change<S: Store + Reader<Ledger = Uncounted>>(
-        &mut self,
-        session: u8,
-        store: &S,
-        table: u32,
-        only: &Restriction,
-        sets: Option<&[(u32, Value)]>,
-    ) -> Result<u64, TxnFault>
-        requires { IfSome (transaction_of self.old.active session) (λ own. CanChange (S.shown store.now) (transaction_at self.old.active own) table only.now) }
-        ensures ok { IfOk result (λ count. changed self.old session table only.now (option_copied sets.entry) ((S.shown store.now).rows table) ≡ Ok (count, self.new)) }
-        ensures fault { IfErr result (λ fault. IsFault (changed self.old session table only.now (option_copied sets.entry) ((S.shown store.now).rows table)) fault) }
-        ensures err { OnErr result (self.new ≡ self.old) }
-    {
-        let new = self.changing(session, store, table, only, sets)?;
-        let count = new.len() as u64;
-        self.put_changes(session, new)?;
-        Ok(count)
     }
 
     /// What a commit needs of the session's transaction, which stays active.
@@ -291,16 +255,6 @@ impl Txns {
         match transaction_of(&self.transactions.active, session) {
             Some(own) => Some(standing_at(&self.transactions.active, own)),
             None => None,
-        }
-    }
-
-    /// Whether the session's transaction has changed a row of the table. It takes no memory.
-    pub fn has_changed(&self, session: u8, table: u32) -> bool
-        ensures { result ≡ has_changed self.now.active (transaction_of self.now.active session) table }
-    {
-        match transaction_of(&self.transactions.active, session) {
-            Some(own) => changes_at(&self.transactions.active, own).touches(table),
-            None => false,
         }
     }
 
