@@ -32,7 +32,7 @@ fn answered(alloc: Global, reply: &[u8]) -> Result<Outcome, NoMemory> {
     told(alloc, bytes.as_slice())
 }
 
-const REPLIES: [&[u8]; 30] = [
+const REPLIES: [&[u8]; 29] = [
     b"created",
     b"began 1",
     b"inserted 0",
@@ -62,7 +62,6 @@ const REPLIES: [&[u8]; 30] = [
     b"no cursor C",
     b"cursor open C",
     b"limit atoms 65",
-    b"pending C",
 ];
 
 #[test]
