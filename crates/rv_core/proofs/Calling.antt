@@ -6,11 +6,11 @@ use Rattle.rv_value.specs.declared.record.Record.{Record}
 use Rattle.rv_rows.specs.declared.changes.Change.{Change}
 use Rattle.rv_rows.specs.Changes.{Rise, rows_with_changes}
 use Rattle.rv_overlay.specs.declared.frozen.Frozen.{Frozen}
-use Rattle.rv_snapshot.proofs.Staying.{reads_alone, same_rows}
 use Rattle.rv_cursor.specs.declared.cursor.Open.{Open}
 use Rattle.rv_cursor.specs.Left.{seen_at, seen_by}
 use Rattle.rv_own.specs.Views.{Freezes}
 use Rattle.rv_core.proofs.Plans.{reads_all}
+use Rattle.rv_core.proofs.Viewing.{seen_view}
 use Rattle.rv_lang.specs.declared.reply.Refusal.{Refusal}
 use Rattle.rv_lang.specs.declared.reply.Refusal.TheVariants.{NoTransaction, CursorOpen, Limit}
 use Rattle.rv_lang.specs.declared.reply.Which.TheVariants.{Cursors}
@@ -172,13 +172,6 @@ view_agree shown count own base active frozen tables within at freezes there = a
         → AllByRecursion (λ (t : ℕ). rows_with_changes t (transaction_at active own).changes (rows_at (slice_index_or (bases_of shown count active) own []) t) ≡ view_at shown base frozen t) ts
     all_each [] a = tt
     all_each (t ∷ ts) a = (frozen_rows shown base t (transaction_at active own) frozen (rows_at (slice_index_or (bases_of shown count active) own []) t) a.0 freezes, all_each ts a.1)
-
--- a cursor at the base, with what was frozen laid over it, sees the view
-pub seen_view : (shown : Shown) (snap table : ℕ) (frozen : Option Frozen) → CanRead shown table snap → IfSome frozen (λ (f : Frozen). f.base ≡ snap) → (seen_at shown snap frozen).rows table snap ≡ view_at shown snap frozen table
-seen_view shown snap table None can at = same_rows shown snap table snap (reads_alone shown snap table can)
-seen_view shown snap table (Some f) can at =
-    let here : nat_eq snap f.base ≡ true = grind (arith, nat_tests) in
-    rw here (ap (rows_with_changes table f.changes) (same_rows shown snap table snap (reads_alone shown snap table can)))
 
 frozen_base : (shown : Shown) (base : ℕ) (t : Transaction) (frozen : Option Frozen) → t.base ≡ base → Freezes shown t frozen → IfSome frozen (λ (f : Frozen). f.base ≡ base)
 frozen_base shown base t None e h = tt

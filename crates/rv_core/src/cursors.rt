@@ -29,10 +29,9 @@ use rv_cursor::{Open, fetch, fetch_step, open_cursor, step};
 use rv_judge::{Judge, Steps, Trace, Uncounted};
 use rv_lang::{Refusal, Reply, Which};
 use rv_reader::{Reader, Store};
-use rv_snapshot::Snapshot;
 use rv_txn::{TxnFault, Txns};
 use rv_value::{Duplicate, Items, NoMemory, Text};
-use rv_view::{Seen, View};
+use rv_view::View;
 use std::alloc::Global;
 
 /// The place of the session's cursor of this name.
@@ -146,8 +145,7 @@ pub fn plan_cursor<S: Store + Reader<Ledger = Uncounted>>(
 {
     // What a store tells with its newest commit, and what a reader tells with a table's sizes, holds of what is read.
     let _newest = store.last();
-    let at = Snapshot { reader: store, snap };
-    look_at(&Seen::new(&at, &frozen), select.tables.as_slice(), snap);
+    look_at(store, select.tables.as_slice(), snap);
     let mut steps = Steps::new(Uncounted);
     open_cursor(
         alloc,

@@ -88,7 +88,10 @@ fn take<R: Reader>(
         reader,
         snap: cursor.snap,
     };
-    let seen = Seen::new(&at, &cursor.frozen);
+    let seen = Seen {
+        reader: &at,
+        view: &cursor.frozen,
+    };
     cursor.plan.take(&seen, steps)
 }
 

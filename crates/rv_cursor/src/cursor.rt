@@ -52,7 +52,7 @@ pub enum Filled {
     Ended,
 }
 
-/// Opens a cursor over what a select offers at a snapshot, with a transaction's view laid over it where one is given.
+/// Opens a cursor over what a select offers at a snapshot. A transaction's view is laid over it where one is given.
 pub fn open_cursor<R: Reader>(
     alloc: Global,
     reader: &R,
@@ -84,8 +84,18 @@ pub fn open_cursor<R: Reader>(
     ensures frozen { IfOk result (λ c. c.frozen ≡ frozen) }
 {
     let at = Snapshot { reader, snap };
-    let seen = Seen::new(&at, &frozen);
-    let plan = Plan::open(alloc, &seen, select, indexes, snap, number, steps)?;
+    let plan = Plan::open(
+        alloc,
+        &Seen {
+            reader: &at,
+            view: &frozen,
+        },
+        select,
+        indexes,
+        snap,
+        number,
+        steps,
+    )?;
     Ok(Open {
         session,
         name,
@@ -117,7 +127,10 @@ pub fn fill<R: Reader>(
         reader,
         snap: cursor.snap,
     };
-    let seen = Seen::new(&at, &cursor.frozen);
+    let seen = Seen {
+        reader: &at,
+        view: &cursor.frozen,
+    };
     match cursor.plan.step(&seen, judge, steps) {
         Ok(PlanStep::Row(offer)) => {
             let _before = cursor.hand.replace(offer);
@@ -151,7 +164,10 @@ pub fn work_piece<R: Reader>(
         reader,
         snap: cursor.snap,
     };
-    let seen = Seen::new(&at, &cursor.frozen);
+    let seen = Seen {
+        reader: &at,
+        view: &cursor.frozen,
+    };
     let piece = match cursor.plan.take(&seen, steps) {
         Ok(Taken::Piece(piece)) => piece,
         Ok(Taken::Nothing) => return Ok(false),
