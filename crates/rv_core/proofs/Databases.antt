@@ -36,7 +36,7 @@ use Rattle.rv_cursor.specs.declared.cursor.Open.{Open}
 use Rattle.rv_core.specs.Db.{base_of, own_opens, AreListed, IsOpen, IsStanding, IsTied, db_of, seen, stand_of, whole_of}
 use Rattle.rv_core.specs.Doing.{Does, Shows, opening_base}
 use Rattle.rv_core.specs.Obeying.{SeesSame, TellsPlan}
-use Rattle.rv_core.proofs.Bases.{base_found}
+use Rattle.rv_own.proofs.Bases.{base_found}
 use Rattle.rv_core.specs.Storing.{CommitsTo, changed_over}
 use Rattle.rv_restrict.specs.declared.atom.Atom.{Atom}
 use Rattle.rv_core.proofs.Calling.{at_own, commits_does, commits_tied, creates, creates_tied, opening_is, rolls_does, rolls_tied, same_stand}

@@ -21,7 +21,8 @@ use Rattle.rv_cursor.specs.declared.cursor.Open.{Open}
 use Rattle.rv_cursor.specs.Left.{CursorFits, in_hand, seen_by}
 use Rattle.rv_core.specs.Db.{IsActive, IsOpen, IsTied, base_of, seen, seen_of}
 use Rattle.rv_core.specs.Obeying.{SeesSame}
-use Rattle.rv_core.proofs.Bases.{base_known, base_pushed, base_with, base_without}
+use Rattle.rv_own.proofs.Bases.{base_with}
+use Rattle.rv_core.proofs.Bases.{base_known, base_pushed, base_without}
 
 fits_stay : (old new : Shown) (c : Open) → alone new c.snap ≡ alone old c.snap → CursorFits old c → CursorFits new c
 fits_stay old new c e f = record {

@@ -7,6 +7,7 @@ pub mod Opens
 pub mod Owning
 pub mod Planning
 pub mod Plans
+pub mod Putting
 pub mod Facts
 pub mod Few
 pub mod Handling

@@ -1,15 +1,16 @@
 //! Calls on the catalog and the store that go together.
 ghost use Rattle.std.specs.Prelude.{◌≡◌, ◌<◌, ◌≤◌, ◌-◌, ◌^◌, ◌++◌, ◌∷◌, [], None, Ok, true, IfOk, IfErr, OnOk, OnErr, IfSome, length};
-ghost use Rattle.std.specs.List.{slice_index_or};
+ghost use Rattle.std.specs.List.{AllByRecursion, slice_index_or};
 ghost use Rattle.std.specs.Option.{option_copied};
 ghost use Rattle.rv_catalog.specs.Fits.{IsRowOf, is_over_table};
 ghost use Rattle.rv_catalog.specs.Kept.{indexes_over};
 ghost use Rattle.rv_catalog.specs.Schema.{index_named, table_named};
-ghost use Rattle.rv_reader.specs.Storing.{AreColumns, CanCommit, Created, Indexed, IsSame};
+ghost use Rattle.rv_reader.specs.Storing.{AreColumns, CanCommit, Created, Indexed, IsSame, IsStored};
 ghost use Rattle.rv_txn.specs.Calls.{IsFault};
+ghost use Rattle.rv_txn.specs.Halves.{with_these};
 ghost use Rattle.rv_model.specs.Database.{no_index};
 ghost use Rattle.rv_model.specs.Transactions.{inserted, transaction_at, transaction_of};
-ghost use Rattle.rv_own.specs.Views.{AreViews, Freezes};
+ghost use Rattle.rv_own.specs.Views.{AreViews, CanKeep, Freezes};
 ghost use Rattle.rv_core.specs.Db.{IsTied};
 ghost use Rattle.rv_core.specs.Storing.{CommitsTo, changed_over};
 
@@ -22,7 +23,6 @@ use rv_rows::Change;
 use rv_txn::{Finished, TxnFault, Txns};
 use rv_value::{NoMemory, RowNo, Value, Values};
 use rv_view::View;
-use std::slice;
 
 /// A table more in both. Without memory neither has it.
 pub fn add_table<S: Store + Reader<Ledger = Uncounted>>(
@@ -112,6 +112,27 @@ pub fn commit_some<S: Store + Reader<Ledger = Uncounted>>(
     }
 }
 
+/// The view of the session's transaction is kept up with changes that are about to be put.
+fn keep_up<S: Store + Reader<Ledger = Uncounted>>(
+    catalog: &Catalog,
+    store: &S,
+    txns: &Txns,
+    views: &mut Views,
+    session: u8,
+    new: &[Change],
+)
+    requires tied { IsTied (S.shown store.now) catalog.now txns.now }
+    requires stored { IsStored (S.shown store.now) }
+    requires can { IfSome (transaction_of txns.now.active session) (λ own. AllByRecursion (CanKeep (S.shown store.now) (transaction_at txns.now.active own).base) new.now) }
+    requires views { AreViews (S.shown store.now) txns.now.active views.old }
+    ensures { AreViews (S.shown store.now) (with_these txns.now (transaction_of txns.now.active session) new.now).active views.new }
+{
+    match txns.own(session) {
+        None => {}
+        Some(own) => views.keep(store, catalog.indexes(), own, new),
+    }
+}
+
 /// INSERT: the number of the new row. What is kept of the transaction's view is kept up with it.
 pub fn insert_row<S: Store + Reader<Ledger = Uncounted>>(
     catalog: &Catalog,
@@ -128,9 +149,10 @@ pub fn insert_row<S: Store + Reader<Ledger = Uncounted>>(
     ensures ok { IfOk result (λ row. inserted txns.old session table values ≡ Ok (row, txns.new)) }
     ensures fault { IfErr result (λ fault. IsFault (inserted txns.old session table values) fault) }
     ensures err { OnErr result (txns.new ≡ txns.old) }
-    ensures tied { IsTied (S.shown store.now) catalog.now txns.new }
     ensures views { AreViews (S.shown store.now) txns.new.active views.new }
 {
+    // What a store tells with its newest commit holds of all its rows.
+    let _newest = store.last();
     let row = match txns.inserting(session, table) {
         Ok(row) => row,
         Err(fault) => return Err(fault),
@@ -140,9 +162,7 @@ pub fn insert_row<S: Store + Reader<Ledger = Uncounted>>(
         row,
         values: Some(values),
     };
-    if let Some(own) = txns.own(session) {
-        views.keep(store, catalog.indexes(), own, slice::from_ref(&change));
-    }
+    keep_up(catalog, store, txns, views, session, std::slice::from_ref(&change));
     match txns.put_new(session, change) {
         Ok(()) => Ok(row),
         Err(NoMemory) => {
@@ -180,9 +200,7 @@ pub fn change_rows<S: Store + Reader<Ledger = Uncounted>>(
         Ok(new) => new,
         Err(fault) => return Err(fault),
     };
-    if let Some(own) = txns.own(session) {
-        views.keep(store, catalog.indexes(), own, new.as_slice());
-    }
+    keep_up(catalog, store, txns, views, session, new.as_slice());
     let count = new.len() as u64;
     match txns.put_changes(session, new) {
         Ok(()) => Ok(count),

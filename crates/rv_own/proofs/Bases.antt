@@ -97,6 +97,25 @@ others_stay shown active place session changes (v ∷ vs) at all =
       | inr other ↦ rw other (other_stays shown active place session changes v at other all.0, rest)
     ]
 
+other_again : (shown : Shown) (active : List Transaction) (place session : ℕ) (changes : List Change) (v : OwnView) → (transaction_at active place).session ≡ session → (v.session == session) ≡ false → IsViewOf shown (with_own active place changes) v → IsViewOf shown active v
+other_again shown active place session changes v at other view =
+    let apart : ((transaction_at active place).session == v.session) ≡ false = grind (arith, nat_tests) in
+    record {
+      base = sym (base_with active place changes v.session) ∙ view.base;
+      changes = sym (changes_beside active place changes v.session apart) ∙ view.changes;
+      keeps = view.keeps;
+    }
+
+-- and where it does not change them after all
+pub others_again : (shown : Shown) (active : List Transaction) (place session : ℕ) (changes : List Change) (views : List OwnView) → (transaction_at active place).session ≡ session → AreViews shown (with_own active place changes) views → AreViews shown active (others session views)
+others_again shown active place session changes [] at all = tt
+others_again shown active place session changes (v ∷ vs) at all =
+    let rest = others_again shown active place session changes vs at all.1 in
+    elim (cases_Bool (v.session == session)) [
+      | inl own ↦ rw own rest
+      | inr other ↦ rw other (other_again shown active place session changes v at other all.0, rest)
+    ]
+
 -- and what is made of its changes is kept for it
 own_stays : (shown : Shown) (active : List Transaction) (place : ℕ) (t : Transaction) (changes : List Change) (v : OwnView) → transaction_of active t.session ≡ Some place → transaction_at active place ≡ t → IsMadeOf shown t.session t.base changes v
     → IsViewOf shown (with_own active place changes) v

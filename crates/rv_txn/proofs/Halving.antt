@@ -57,6 +57,16 @@ changed_by t session table only sets rows new h =
     ∙ ap (λ (n : ℕ). Ok (n, with_these t (Some o.0) new)) count
     ∙ ap (λ (own : Option ℕ). Ok (length new, with_these t own new)) (sym found)
 
+-- the changes that are due are those of the rows that are met
+pub changing_is : (t : Transactions) (session table : ℕ) (only : List (List Atom)) (sets : Option (List (ℕ × Value))) (rows : ℕ → List Record) (new : List Change) → changing t session table only sets rows ≡ Ok new
+    → (own : ℕ) × (writer t.active session ≡ Ok own) × (new ≡ map (change_of table sets) (met (transaction_at t.active own) table only rows)) × (transaction_of t.active session ≡ Some own)
+changing_is t session table only sets rows new h =
+    let o = bind_ok (writer t.active session) _ new h in
+    let there = met (transaction_at t.active o.0) table only rows in
+    let space = bind_ok (refuse_if (nat_lt 100000 (changed_with (transaction_at t.active o.0).changes table there)) (Limit Pending 100000)) _ new o.2 in
+    let free = bind_ok (unharmed t session (transaction_at t.active o.0).base table there) _ new space.2 in
+    (o.0, o.1, sym (ok_is (map (change_of table sets) there) new free.2), written_by t session o.0 o.1)
+
 -- A refusal of the first half is that of the whole.
 
 refused_first : {A B C : Type 0} (r : Result A Refusal) (f : A → Result B Refusal) (g : A → Result C Refusal) (e : Refusal) → ((a : A) → f a ≡ Err e → g a ≡ Err e) → (r >>= f) ≡ Err e → (r >>= g) ≡ Err e
