@@ -184,14 +184,18 @@ sees_view shown schema txns cursors base own frozen [] at a can = tt
 sees_view shown schema txns cursors base own frozen (t ∷ ts) at a can = (seen_view shown base t frozen can.0 at ∙ sym a.0, sees_view shown schema txns cursors base own frozen ts at a.1 can.1)
 
 -- what the session sees of tables in the view of its transaction
-pub opened_rows : (shown : Shown) (schema : Schema) (txns : Transactions) (cursors : List Cursor) (session base : ℕ) (name tables : List ℕ) (c : Open) → IsTied shown schema txns → opening_base txns.active cursors session name ≡ Ok base → c.snap ≡ base → IfSome (transaction_of txns.active session) (λ (own : ℕ). Freezes shown (transaction_at txns.active own) c.frozen) → list_all (is_column (length schema.tables)) tables ≡ true
+pub opened_rows : (shown : Shown) (schema : Schema) (txns : Transactions) (cursors : List Cursor) (session base : ℕ) (name tables : List ℕ) (frozen : Option Frozen) (c : Open) → IsTied shown schema txns → opening_base txns.active cursors session name ≡ Ok base → c.snap ≡ base → c.frozen ≡ frozen → IfSome (transaction_of txns.active session) (λ (own : ℕ). Freezes shown (transaction_at txns.active own) frozen) → list_all (is_column (length schema.tables)) tables ≡ true
     → AllByRecursion (λ (t : ℕ). (seen_by shown c).rows t c.snap ≡ rows_viewed (db_of shown schema txns cursors) (transaction_of txns.active session) t) tables
-opened_rows shown schema txns cursors session base name tables c tied h at freezes there =
+opened_rows shown schema txns cursors session base name tables frozen c tied h at over freezes there =
+    let db = db_of shown schema txns cursors in
     let o = opening_is txns.active cursors session base name h in
-    let own_freezes : Freezes shown (transaction_at txns.active o.0) c.frozen = rw o.2 at freezes in
-    let agree = view_agree shown (length schema.tables) o.0 base txns.active c.frozen tables (own_within txns.active session o.0 o.2) o.3 own_freezes there in
+    let own_freezes : Freezes shown (transaction_at txns.active o.0) frozen = subst (λ (p : Option ℕ). IfSome p (λ (own : ℕ). Freezes shown (transaction_at txns.active own) frozen)) o.2 freezes in
+    let agree = view_agree shown (length schema.tables) o.0 base txns.active frozen tables (own_within txns.active session o.0 o.2) o.3 own_freezes there in
     let reads = reads_all shown schema txns base tables tied there (opening_snapshot shown schema txns cursors session base name tied h) in
-    rw (at, o.2) (sees_view shown schema txns cursors base o.0 c.frozen tables (frozen_base shown base (transaction_at txns.active o.0) c.frozen o.3 own_freezes) agree reads)
+    let sees = sees_view shown schema txns cursors base o.0 frozen tables (frozen_base shown base (transaction_at txns.active o.0) frozen o.3 own_freezes) agree reads in
+    subst (λ (f : Option Frozen). AllByRecursion (λ (t : ℕ). (seen_at shown c.snap f).rows t c.snap ≡ rows_viewed db (transaction_of txns.active session) t) tables) (sym over)
+    (subst (λ (n : ℕ). AllByRecursion (λ (t : ℕ). (seen_at shown n frozen).rows t n ≡ rows_viewed db (transaction_of txns.active session) t) tables) (sym at)
+    (subst (λ (p : Option ℕ). AllByRecursion (λ (t : ℕ). (seen_at shown base frozen).rows t base ≡ rows_viewed db p t) tables) (sym o.2) sees))
 
 pub opens_does : (shown : Shown) (schema : Schema) (txns : Transactions) (cursors more : List Cursor) (session base : ℕ) (name : List ℕ) (select : Select) (frozen : Option Frozen) → opening_base txns.active cursors session name ≡ Ok base → list_all (is_column (length schema.tables)) select.tables ≡ true
     → IfSome (transaction_of txns.active session) (λ (own : ℕ). Freezes shown (transaction_at txns.active own) frozen)
@@ -199,7 +203,7 @@ pub opens_does : (shown : Shown) (schema : Schema) (txns : Transactions) (cursor
     → Does (opened (db_of shown schema txns cursors) session name select) (stand_of shown schema txns cursors) (Opened, Opened) (stand_of shown schema txns more)
 opens_does shown schema txns cursors more session base name select frozen h there freezes pushed =
     let o = opening_is txns.active cursors session base name h in
-    let own_freezes : Freezes shown (transaction_at txns.active o.0) frozen = rw o.2 at freezes in
+    let own_freezes : Freezes shown (transaction_at txns.active o.0) frozen = subst (λ (p : Option ℕ). IfSome p (λ (own : ℕ). Freezes shown (transaction_at txns.active own) frozen)) o.2 freezes in
     let agree = view_agree shown (length schema.tables) o.0 base txns.active frozen select.tables (own_within txns.active session o.0 o.2) o.3 own_freezes there in
     let same : offers_over select (view_rows (db_of shown schema txns cursors) o.0) ≡ offers_over select (view_at shown base frozen) = offers_same select (view_rows (db_of shown schema txns cursors) o.0) (view_at shown base frozen) agree in
     rw (pushed, o.1, same) (refl, refl, refl)

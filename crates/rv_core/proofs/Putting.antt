@@ -9,7 +9,7 @@ use Rattle.rv_value.specs.declared.value.Value.{Value}
 use Rattle.rv_value.specs.declared.record.Record.{Record}
 use Rattle.rv_value.specs.declared.record.RowNo.{RowNo}
 use Rattle.rv_rows.specs.declared.changes.Change.{Change}
-use Rattle.rv_rows.specs.Changes.{with_changes}
+use Rattle.rv_rows.specs.Changes.{rows_with_changes, with_changes}
 use Rattle.rv_restrict.specs.declared.atom.Atom.{Atom}
 use Rattle.rv_restrict.specs.Truth.{qualifies}
 use Rattle.rv_catalog.specs.declared.def.IndexDef.{IndexDef}
@@ -17,6 +17,7 @@ use Rattle.rv_catalog.specs.Schema.{Schema}
 use Rattle.rv_reader.specs.Shown.{Shown, CanRead, IsSnapshot}
 use Rattle.rv_reader.specs.Storing.{AreColumns, IsStored}
 use Rattle.rv_model.specs.declared.state.State.{State}
+use Rattle.rv_model.specs.declared.state.Cursor.{Cursor}
 use Rattle.rv_model.specs.declared.transactions.Transaction.{Transaction}
 use Rattle.rv_model.specs.declared.transactions.Transactions.{Transactions}
 use Rattle.rv_model.specs.Database.{no_index}
@@ -33,7 +34,9 @@ use Rattle.rv_txn.specs.declared.txns.TxnFault.TheVariants.{Refused, NoMemory}
 use Rattle.rv_txn.specs.Calls.{IsFault}
 use Rattle.rv_txn.specs.Halves.{changing, inserting, with_new, with_these}
 use Rattle.rv_txn.proofs.Halving.{changed_by, changing_is, changing_refused, inserted_by, inserting_refused}
-use Rattle.rv_core.specs.Db.{HasIndex, IsOwn, IsTied, IsViewed}
+use Rattle.rv_core.specs.Db.{HasIndex, IsOwn, IsTied, IsViewed, db_of}
+use Rattle.rv_core.specs.Doing.{opening_base}
+use Rattle.rv_core.proofs.Calling.{opening_is, view_read}
 use Rattle.rv_core.proofs.Databases.{own_is}
 use Rattle.rv_core.proofs.Facts.{all_filter, all_map, all_more}
 use Rattle.rv_core.proofs.Standing.{IsRow, base_known, inserted_is, own_within, row_change, seen_rows, writer_within}
@@ -264,3 +267,16 @@ frozen_viewed shown schema txns session base own frozen tied e at h =
 
 pub frozen_owned : (shown : Shown) (active : List Transaction) (session : ℕ) (t : Transaction) (frozen : Option Frozen) → Owns active session t → Freezes shown t frozen → IfSome (transaction_of active session) (λ own. Freezes shown (transaction_at active own) frozen)
 frozen_owned shown active session t frozen own h = some_owned active session t (λ own. Freezes shown (transaction_at active own) frozen) own (subst (λ (u : Transaction). Freezes shown u frozen) (sym own.here) h)
+
+-- of a cursor that may be opened at the transaction's base
+pub opens_viewed : (shown : Shown) (schema : Schema) (txns : Transactions) (cursors : List Cursor) (session base : ℕ) (name : List ℕ) (frozen : Option Frozen) → IsTied shown schema txns → opening_base txns.active cursors session name ≡ Ok base
+    → IfSome (transaction_of txns.active session) (λ own. Freezes shown (transaction_at txns.active own) frozen) → IfSome frozen (IsViewed shown txns.touched base)
+opens_viewed shown schema txns cursors session base name frozen tied h freezes =
+    let o = opening_is txns.active cursors session base name h in
+    frozen_viewed shown schema txns session base o.0 frozen tied o.2 o.3 freezes
+
+-- the rows of a table in the transaction's view
+pub read_owned : (shown : Shown) (schema : Schema) (txns : Transactions) (cursors : List Cursor) (session table : ℕ) (t : Transaction) (rows : List Record) → table < length schema.tables → Owns txns.active session t → rows ≡ calls.seen t table (shown.rows table)
+    → rows ≡ rows_viewed (db_of shown schema txns cursors) (transaction_of txns.active session) table
+read_owned shown schema txns cursors session table t rows there own is =
+    view_read shown schema txns cursors session table own.place rows own.at there (subst (λ (u : Transaction). rows ≡ rows_with_changes table u.changes (shown.rows table u.base)) (sym own.here) is)
