@@ -192,7 +192,10 @@ fn seen<S: Store + Reader<Ledger = Uncounted>>(
     requires stands { Stands (S.shown store.now) indexes.now }
     requires lays { LaysSome (S.shown store.now) view.now }
 {
-    let seen = Seen::new(store, view);
+    let seen = Seen {
+        reader: store,
+        view,
+    };
     let line = entries(alloc, &seen)?;
     let told = tell(alloc, &seen)?;
     line_of(alloc, line, told)
