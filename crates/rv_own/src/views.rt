@@ -233,7 +233,9 @@ fn updated<S: Store + Reader<Ledger = Uncounted>>(
     ensures left { views.new ≡ others own.now.session views.old }
     ensures own { IfSome result (IsMadeOf (S.shown store.now) own.now.session own.now.base (with_changes new.now own.now.changes)) }
 {
-    let view = resumed(alloc, views, store, indexes, own)?;
+    let Some(view) = resumed(alloc, views, store, indexes, own) else {
+        return None;
+    };
     match kept_on(alloc, view, store, indexes, new) {
         Ok(next) => Some(next),
         Err(NoMemory) => None,
