@@ -1,5 +1,5 @@
 -- What is kept of transactions' views stays, whatever happens to the store and to other transactions.
-use Rattle.std.proofs.Common.{◌≡◌, ⊥, ℕ, ◌+◌, ◌<◌, List, [], ◌∷◌, ◌++◌, true, false, not, ◌==◌, inl, inr, refl, ap, sym, ◌∙◌, subst, absurd, arith, filter, length, remove, Ok, Option, Some, None, IfSome, Bool}
+use Rattle.std.proofs.Common.{◌≡◌, ℕ, ◌+◌, ◌<◌, List, [], ◌∷◌, ◌++◌, true, false, not, ◌==◌, inl, inr, refl, ap, sym, ◌∙◌, subst, arith, filter, length, remove, Ok, Option, Some, None, IfSome, Bool}
 use Rattle.std.specs.List.{AllByRecursion}
 use Rattle.std.proofs.lemmas.Bool.{cases_Bool}
 use Rattle.std.proofs.lemmas.Bool.Decides.{nat_tests}
