@@ -1,5 +1,5 @@
 -- What stands in a place of a list, what is found in it and taken out, and steps of the loops.
-use Rattle.std.proofs.Common.{◌≡◌, ℕ, zero, suc, ◌<◌, ◌≤◌, List, [], ◌∷◌, ◌++◌, Bool, true, false, not, ◌==◌, Option, Some, None, Result, Ok, Err, OnOk, OnErr, ◌⊎◌, inl, inr, refl, ap, sym, subst, ◌∙◌, arith, cond, length, take, drop, filter, find, remove}
+use Rattle.std.proofs.Common.{◌≡◌, ℕ, zero, suc, ◌<◌, ◌≤◌, List, [], ◌∷◌, ◌++◌, Bool, true, false, not, ◌==◌, Some, None, Result, Ok, Err, OnOk, OnErr, ◌⊎◌, inl, inr, refl, ap, sym, subst, ◌∙◌, arith, cond, length, take, filter, find, remove}
 use Rattle.std.specs.Prelude.{position, slice_get, slice_index_or}
 use Rattle.std.specs.List.{AllByRecursion, position_or_len}
 use Rattle.std.proofs.lemmas.Bool.{cases_Bool}

@@ -1,19 +1,19 @@
--- The store that the tests read, its index, and changes of its rows.
-use Rattle.std.proofs.Common.{◌≡◌, ℕ, zero, suc, ◌+◌, ◌<◌, ◌≤◌, List, [], ◌∷◌, true, ◌==◌, Some, IfSome, length, refl, ap, sym, subst, ◌∙◌, arith, nat_eq, nat_lt}
+-- The store that the program reads, its index, and changes of its rows.
+use Rattle.std.proofs.Common.{◌≡◌, ℕ, zero, suc, ◌<◌, List, [], ◌∷◌, true, Some, IfSome, length, refl, ap, sym, subst, ◌∙◌, arith, nat_eq}
 use Rattle.std.specs.Prelude.{slice_get}
-use Rattle.std.specs.List.{AllByRecursion, IsDistinct, list_all}
+use Rattle.std.specs.List.{IsDistinct}
 use Rattle.std.proofs.lemmas.Bool.Decides.{nat_tests}
 use Rattle.std.proofs.lemmas.Map.Keys.{IsDistinct-cons}
 use Rattle.rv_value.specs.declared.record.IndexEntry.{IndexEntry}
 use Rattle.rv_rows.specs.declared.changes.Change.{Change}
-use Rattle.rv_rows.specs.Changes.{Rise, is_before}
+use Rattle.rv_rows.specs.Changes.{is_before}
 use Rattle.rv_catalog.specs.declared.def.IndexDef.{IndexDef}
 use Rattle.rv_reader.specs.Entries.{AreLong}
-use Rattle.rv_reader.specs.Shown.{Shown, CanRead, CanScan, IsSnapshot, Suits}
+use Rattle.rv_reader.specs.Shown.{Shown, CanRead, CanScan, Suits}
 use Rattle.rv_reader.specs.Storing.{AreColumns, CanCommit, Committed, Created, Indexed, IsChange, IsStored}
 use Rattle.rv_overlay.specs.declared.frozen.Frozen.{Frozen}
 use Rattle.rv_overlay.specs.Overlaid.{Lays}
-use Rattle.rv_view.specs.Making.{AreIndexes, Keeps, LaysKept}
+use Rattle.rv_view.specs.Making.{AreIndexes, LaysKept}
 use Rattle.view_table.specs.Standing.{IsEmpty, IsFirst, IsKept, IsOf, Stands, all_entries}
 
 long_all : (es : List IndexEntry) → AreLong all_entries es

@@ -1,5 +1,5 @@
 //! Each call of a list in blocks.
-ghost use Rattle.std.specs.Prelude.{◌≡◌, nat_lt, nat_le};
+ghost use Rattle.std.specs.Prelude.{nat_lt, nat_le};
 ghost use Rattle.std.proofs.lemmas.List.Sorted.{IsStrictWeakOrder-by_number};
 
 use crate::lines::{add, add_some};

@@ -1,4 +1,4 @@
-use Rattle.std.proofs.Common.{List, subst, sym, ℕ}
+use Rattle.std.proofs.Common.{subst, sym, ℕ}
 use Rattle.std.specs.List.{AllByRecursion}
 use Rattle.rv_own.specs.Views.{CanKeep}
 use Rattle.rv_own.proofs.Steps.{made_further}
