@@ -25,7 +25,7 @@ use Rattle.rv_model.specs.declared.state.State.{State}
 use Rattle.rv_model.specs.declared.state.Cursor.{Cursor}
 use Rattle.rv_model.specs.declared.transactions.Transaction.{Transaction}
 use Rattle.rv_model.specs.declared.transactions.Transactions.{Transactions}
-use Rattle.rv_model.specs.Database.{base_rows, cursor_at, cursor_named, empty, no_cursor}
+use Rattle.rv_model.specs.Database.{cursor_at, cursor_named, empty, no_cursor}
 use Rattle.rv_model.specs.History.{after_from, stepped}
 use Rattle.rv_model.specs.Offering.{offers_over}
 use Rattle.rv_model.specs.Offers.{offers_in_order}

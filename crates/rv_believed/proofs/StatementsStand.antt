@@ -1,5 +1,5 @@
 -- Bridge: each statement on the database for which a state stands comes to that of what it comes to on the state.
-use Rattle.std.proofs.Common.{◌≡◌, ℕ, zero, suc, ◌+◌, ◌<◌, ◌≤◌, List, [], ◌∷◌, ◌++◌, Option, Some, None, Ok, Err, Bool, true, false, cond, not, ◌==◌, refl, sym, ap, ◌∙◌, arith, filter, find, is_some, length, map, nat_eq, nat_lt, option_map, slice_get, slice_index_or, if◌then◌else◌}
+use Rattle.std.proofs.Common.{◌≡◌, ℕ, zero, suc, ◌+◌, ◌<◌, ◌≤◌, List, [], ◌∷◌, ◌++◌, Option, Some, None, Ok, Err, Bool, true, false, cond, not, ◌==◌, refl, sym, ap, ◌∙◌, arith, filter, is_some, length, map, nat_eq, nat_lt, option_map, slice_get, slice_index_or, if◌then◌else◌}
 use Rattle.std.proofs.lemmas.Bool.Decides.{nat_tests}
 use Rattle.std.specs.List.{AllByRecursion, range_with_len}
 use Rattle.rv_value.specs.declared.value.Value.{Value}

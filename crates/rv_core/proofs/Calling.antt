@@ -1,5 +1,5 @@
 -- What the methods of a database owe, from what the calls below them say.
-use Rattle.std.proofs.Common.{◌≡◌, ℕ, ◌-◌, ◌<◌, ◌≤◌, List, [], ◌∷◌, ◌++◌, refl, ap, sym, ◌∙◌, subst, arith, length, length-append, Result, Ok, Err, IfSome, Option, Some, None, true, false, nat_lt, is_some, filter}
+use Rattle.std.proofs.Common.{◌≡◌, ℕ, ◌-◌, ◌<◌, ◌≤◌, List, [], ◌∷◌, ◌++◌, refl, ap, sym, ◌∙◌, subst, arith, length, length-append, Result, Ok, Err, IfSome, Option, Some, None, true, false, nat_lt, is_some}
 use Rattle.std.specs.List.{AllByRecursion, list_all, slice_index_or}
 use Rattle.std.proofs.lemmas.Bool.Decides.{nat_tests}
 use Rattle.rv_value.specs.declared.record.Record.{Record}
@@ -28,16 +28,13 @@ use Rattle.rv_model.specs.declared.state.State.{State}
 use Rattle.rv_model.specs.declared.state.Cursor.{Cursor}
 use Rattle.rv_model.specs.declared.transactions.Transaction.{Transaction}
 use Rattle.rv_model.specs.declared.transactions.Transactions.{Transactions}
-use Rattle.rv_model.specs.Database.{base_rows, cursor_named, rows_at}
+use Rattle.rv_model.specs.Database.{cursor_named, rows_at}
 use Rattle.rv_model.specs.Offering.{offers_over}
-use Rattle.rv_restrict.specs.declared.atom.Atom.{Atom}
-use Rattle.rv_restrict.specs.Truth.{qualifies}
 use Rattle.rv_catalog.specs.Fits.{is_column}
 use Rattle.rv_model.specs.Offers.{offers_in_order}
-use Rattle.rv_model.specs.Transactions.{transaction_of, transaction_at, refuse_at, done, lowest}
+use Rattle.rv_model.specs.Transactions.{transaction_of, transaction_at, done, lowest}
 use Rattle.rv_model.specs.Step.{committed, created, opened, opening, other_cursors, own_cursors, rolled_back, rows_viewed, table_of, view_rows}
-use Rattle.rv_txn.specs.declared.txns.Standing.{Standing}
-use Rattle.rv_txn.specs.Calls.{finished, rolled_back as undone, standing, standing_at}
+use Rattle.rv_txn.specs.Calls.{finished, rolled_back as undone}
 use Rattle.rv_core.specs.Db.{bases_of, db_of, stand_of, view_at, IsOwn, IsTied}
 use Rattle.rv_core.specs.Doing.{Does, opening_base}
 use Rattle.rv_core.specs.Storing.{CommitsTo}

@@ -5,8 +5,8 @@ use Rattle.std.proofs.lemmas.Bool.Decides.{eqb_tells}
 use Rattle.rv_rows.specs.declared.changes.Change.{Change}
 use Rattle.rv_model.specs.Transactions.{transaction_at, with_own}
 use Rattle.rv_catalog.specs.Schema.{Schema}
-use Rattle.rv_reader.specs.Shown.{Shown, CanRead, IsSnapshot}
-use Rattle.rv_reader.specs.Storing.{IsStored, Stays, IsSame, Committed, Swept}
+use Rattle.rv_reader.specs.Shown.{Shown, IsSnapshot}
+use Rattle.rv_reader.specs.Storing.{Stays, IsSame, Committed, Swept}
 use Rattle.rv_model.specs.declared.state.Offer.{Offer}
 use Rattle.rv_model.specs.declared.transactions.Transaction.{Transaction}
 use Rattle.rv_model.specs.declared.transactions.Transactions.{Transactions}
@@ -19,7 +19,7 @@ use Rattle.rv_join.specs.Order.{IsLeastOf}
 use Rattle.rv_join.specs.Plans.{PlanFits, plan_rest}
 use Rattle.rv_cursor.specs.declared.cursor.Open.{Open}
 use Rattle.rv_cursor.specs.Left.{CursorFits, in_hand, seen_by}
-use Rattle.rv_core.specs.Db.{IsActive, IsOpen, IsTied, base_of, seen, seen_of}
+use Rattle.rv_core.specs.Db.{IsOpen, IsTied, base_of, seen, seen_of}
 use Rattle.rv_core.specs.Obeying.{SeesSame}
 use Rattle.rv_own.proofs.Bases.{base_with}
 use Rattle.rv_core.proofs.Bases.{base_known, base_pushed, base_without}

@@ -1,5 +1,5 @@
 -- What a cursor gives, and what it can read.
-use Rattle.std.proofs.Common.{◌≡◌, ◌<◌, ℕ, List, [], ◌∷◌, refl, arith, Bool, true, false, ◌&&◌, Option, Some, None, Err, is_some, nat_lt, nat_eq, length, find}
+use Rattle.std.proofs.Common.{◌≡◌, ◌<◌, ℕ, List, [], ◌∷◌, refl, arith, Bool, true, false, ◌&&◌, nat_lt, nat_eq, length}
 use Rattle.std.specs.List.{list_all, slice_index_or}
 use Rattle.std.proofs.lemmas.Bool.Decides.{nat_tests}
 use Rattle.rv_restrict.specs.declared.atom.ColRef.{ColRef}

@@ -1,5 +1,5 @@
 -- What is kept of transactions' views stays, whatever happens to the store and to other transactions.
-use Rattle.std.proofs.Common.{◌≡◌, ℕ, ◌+◌, ◌<◌, List, [], ◌∷◌, ◌++◌, true, false, not, ◌==◌, inl, inr, refl, ap, sym, ◌∙◌, subst, arith, filter, length, remove, Ok, Option, Some, None, IfSome, Bool}
+use Rattle.std.proofs.Common.{◌≡◌, ℕ, ◌+◌, ◌<◌, List, [], ◌∷◌, ◌++◌, true, false, not, ◌==◌, inl, inr, refl, ap, sym, ◌∙◌, subst, arith, filter, remove, Ok, Some, None, IfSome, Bool}
 use Rattle.std.specs.List.{AllByRecursion}
 use Rattle.std.proofs.lemmas.Bool.{cases_Bool}
 use Rattle.std.proofs.lemmas.Bool.Decides.{nat_tests}
@@ -25,7 +25,7 @@ use Rattle.rv_core.proofs.Databases.{commit_own, commits_kept, own_is}
 use Rattle.rv_core.proofs.Facts.{all_filter}
 use Rattle.rv_core.proofs.Keeping.{Kept, kept_same, kept_swept}
 use Rattle.rv_core.proofs.Standing.{begun_is, rolled_is}
-use Rattle.rv_core.proofs.Tied.{none_lowest, tied_same, tied_swept}
+use Rattle.rv_core.proofs.Tied.{none_lowest, tied_swept}
 
 -- Views of transactions stay as they are, whatever happens to the store and to other transactions.
 

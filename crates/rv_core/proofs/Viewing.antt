@@ -1,5 +1,5 @@
 -- A query can be planned over what a transaction sees, where it can be planned over the transaction's snapshot.
-use Rattle.std.proofs.Common.{◌≡◌, ℕ, zero, suc, ◌<◌, ◌≤◌, List, [], ◌∷◌, ◌++◌, Bool, true, false, not, ◌&&◌, ◌==◌, cond, if◌then◌else◌, Option, Some, None, IfSome, refl, ap, sym, ◌∙◌, subst, arith, inl, inr, filter, length, nat_eq, nat_lt}
+use Rattle.std.proofs.Common.{◌≡◌, ℕ, zero, suc, ◌<◌, List, [], ◌∷◌, ◌++◌, Bool, true, false, not, ◌&&◌, ◌==◌, cond, if◌then◌else◌, Option, Some, None, IfSome, refl, ap, sym, ◌∙◌, subst, arith, inl, inr, filter, length, nat_eq, nat_lt}
 use Rattle.std.specs.List.{AllByRecursion, list_all}
 use Rattle.std.proofs.lemmas.Bool.{cases_Bool}
 use Rattle.std.proofs.lemmas.List.Folds.{list_all-append}
@@ -15,8 +15,8 @@ use Rattle.rv_restrict.specs.declared.atom.ColRef.{ColRef}
 use Rattle.rv_catalog.specs.declared.def.IndexDef.{IndexDef}
 use Rattle.rv_catalog.specs.declared.def.Select.{Select}
 use Rattle.rv_catalog.specs.Schema.{Schema}
-use Rattle.rv_reader.specs.Entries.{comes_before, entries_of}
-use Rattle.rv_reader.specs.Shown.{Shown, CanRead, CanScan, IsSnapshot}
+use Rattle.rv_reader.specs.Entries.{comes_before}
+use Rattle.rv_reader.specs.Shown.{Shown, CanRead, IsSnapshot}
 use Rattle.rv_reader.specs.Storing.{AreKeys, IsStored}
 use Rattle.rv_model.specs.declared.transactions.Transactions.{Transactions}
 use Rattle.rv_overlay.specs.declared.frozen.Frozen.{Frozen}
@@ -30,7 +30,7 @@ use Rattle.rv_view.specs.Sights.{LaysSome}
 use Rattle.rv_view.proofs.Laying.{lays_kept}
 use Rattle.rv_snapshot.specs.Alone.{alone}
 use Rattle.rv_snapshot.proofs.Staying.{can_read, can_scan, reads_alone, same_cuts, same_entries, same_pages, same_rows}
-use Rattle.rv_join.specs.Asking.{CanPlan, IsIndexAt, have_column, index_at, select_uses, table_at}
+use Rattle.rv_join.specs.Asking.{CanPlan, have_column, index_at, select_uses, table_at}
 use Rattle.rv_cursor.specs.Left.{seen_at}
 use Rattle.rv_core.specs.Db.{IsOwn, IsTied, IsViewed, view_at}
 

@@ -1,5 +1,5 @@
 -- The database for which a store, a catalog and transactions stand.
-use Rattle.std.specs.Prelude.{◌∷◌, ◌+◌, Some, None, if◌then◌else◌, ◌≡◌, ℕ, ◌<◌, ◌≤◌, ◌==◌, ◌&&◌, List, [], Option, map, filter, length, position, bytes_eq, IfSome}
+use Rattle.std.specs.Prelude.{◌∷◌, ◌+◌, Some, None, ◌≡◌, ℕ, ◌<◌, ◌≤◌, ◌==◌, ◌&&◌, List, [], Option, map, filter, length, position, bytes_eq, IfSome}
 use Rattle.std.specs.List.{AllByRecursion, range_with_len, slice_index_or}
 use Rattle.rv_value.specs.declared.record.Record.{Record}
 use Rattle.rv_rows.specs.declared.changes.Change.{Change}

@@ -9,7 +9,7 @@ use Rattle.rv_catalog.specs.declared.def.Select.{Select}
 use Rattle.rv_model.specs.declared.state.Cursor.{Cursor}
 use Rattle.rv_model.specs.declared.state.Offer.{Offer}
 use Rattle.rv_model.specs.declared.state.State.{State}
-use Rattle.rv_model.specs.Database.{base_rows, cursor_at, no_cursor}
+use Rattle.rv_model.specs.Database.{cursor_at, no_cursor}
 use Rattle.rv_model.specs.Offering.{offers_over}
 use Rattle.rv_model.specs.Offers.{offers_in_order}
 use Rattle.rv_model.specs.Step.{opened, rows_viewed, table_of, view_rows}

@@ -29,7 +29,7 @@ use Rattle.rv_model.specs.Offering.{offers_over}
 use Rattle.rv_model.specs.Offers.{offers_in_order}
 use Rattle.rv_model.specs.declared.entry.Entry.{Entry}
 use Rattle.rv_model.specs.declared.state.State.{State}
-use Rattle.rv_model.specs.Database.{base_rows, cursor_named, empty}
+use Rattle.rv_model.specs.Database.{cursor_named, empty}
 use Rattle.rv_model.specs.History.{after, after_from, stepped}
 use Rattle.rv_model.specs.Step.{committed_with, fetched, next_asked, opening, rows_seen, state_of, table_of, view_rows, understood}
 use Rattle.rv_model.specs.Transactions as transactions

@@ -1,5 +1,5 @@
 -- INSERT, UPDATE and DELETE of what their two halves give.
-use Rattle.std.proofs.Common.{◌≡◌, ℕ, List, Option, Some, None, Result, Ok, Err, Bool, true, false, refl, ap, sym, ◌∙◌, length, map, nat_lt}
+use Rattle.std.proofs.Common.{◌≡◌, ℕ, List, Option, Some, Result, Ok, Err, ap, sym, ◌∙◌, length, map, nat_lt}
 use Rattle.std.proofs.lemmas.List.{length-map}
 use Rattle.rv_value.specs.declared.value.Value.{Value}
 use Rattle.rv_value.specs.declared.record.Record.{Record}
@@ -10,7 +10,7 @@ use Rattle.rv_lang.specs.declared.reply.Refusal.{Refusal}
 use Rattle.rv_lang.specs.declared.reply.Refusal.TheVariants.{NoTransaction, ReadOnly, Limit}
 use Rattle.rv_restrict.specs.declared.atom.Atom.{Atom}
 use Rattle.rv_catalog.specs.Answers.{◌>>=◌, ok_or, refuse_if}
-use Rattle.rv_catalog.proofs.Steps.{answer, bind_ok, ok_is, was_some}
+use Rattle.rv_catalog.proofs.Steps.{bind_ok, ok_is, was_some}
 use Rattle.rv_model.specs.declared.transactions.Transactions.{Transactions}
 use Rattle.rv_model.specs.Transactions.{change_of, changed, changed_with, inserted, met, next_row, transaction_at, transaction_of, unharmed, with_row, writer}
 use Rattle.rv_txn.specs.Halves.{changing, inserting, with_new, with_these}
