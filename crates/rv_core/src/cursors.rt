@@ -1,5 +1,5 @@
 //! Open cursors of sessions: how they are found, opened, read and closed.
-ghost use Rattle.std.specs.Prelude.{◌≡◌, ◌<◌, ◌≤◌, ◌==◌, ℕ, List, true, not, Ok, IfErr, IfOk, IfSome, None, OnErr, Some, length, filter, find, slice_get};
+ghost use Rattle.std.specs.Prelude.{◌≡◌, ◌<◌, ◌≤◌, ◌==◌, ℕ, List, true, not, Ok, IfErr, IfOk, IfSome, None, OnErr, Some, length, filter, slice_get};
 ghost use Rattle.std.specs.List.{AllByRecursion};
 ghost use Rattle.rv_rows.specs.Rows.{Ascend};
 ghost use Rattle.rv_reader.specs.Shown.{CanRead, IsSnapshot, Shown};
@@ -17,7 +17,6 @@ ghost use Rattle.rv_model.specs.Database.{cursor_at, cursor_named};
 ghost use Rattle.rv_model.specs.Offering.{offers_over};
 ghost use Rattle.rv_model.specs.Offers.{offers_in_order};
 ghost use Rattle.rv_model.specs.Step.{Showing, Stepping, own_cursors, table_of};
-ghost use Rattle.rv_model.specs.Transactions.{transaction_of};
 ghost use Rattle.rv_cursor.specs.Left.{CursorFits, seen_at};
 ghost use Rattle.rv_txn.specs.Calls.{IsFault};
 ghost use Rattle.rv_core.specs.Db.{AreListed, IsOpen, IsTied, IsViewed, open_named, own_opens, seen, seen_of, view_at};
