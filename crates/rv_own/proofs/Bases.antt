@@ -1,5 +1,5 @@
 -- The base and the changes of a session's transaction, where it changes rows and where another one does.
-use Rattle.std.proofs.Common.{◌≡◌, ℕ, zero, suc, ◌<◌, List, [], ◌∷◌, true, false, not, ◌==◌, inl, inr, refl, ap, sym, subst, ◌∙◌, arith, length, Option, Some, if◌then◌else◌}
+use Rattle.std.proofs.Common.{◌≡◌, ℕ, zero, suc, ◌<◌, List, [], ◌∷◌, true, false, ◌==◌, inl, inr, refl, ap, sym, subst, ◌∙◌, arith, length, Option, Some, if◌then◌else◌}
 use Rattle.std.proofs.lemmas.Bool.{cases_Bool}
 use Rattle.std.proofs.lemmas.Bool.Decides.{nat_tests}
 use Rattle.std.proofs.lemmas.List.Quantifiers.{position-Some}
