@@ -1,5 +1,5 @@
 -- The rows of a view that a restriction keeps.
-use Rattle.std.proofs.Common.{◌≡◌, ◌≤◌, arith, ℕ, List, [], ◌∷◌, ◌++◌, Bool, true, false, not, ◌&&◌, ◌==◌, refl, ap, sym, ◌∙◌, inl, inr, subst, filter, map, nat_lt, Option, Some, None, length, IfSome, if◌then◌else◌, cond}
+use Rattle.std.proofs.Common.{◌≡◌, ◌≤◌, arith, ℕ, List, [], ◌∷◌, ◌++◌, Bool, true, false, not, ◌==◌, refl, ap, sym, ◌∙◌, inl, inr, subst, filter, map, Option, Some, None, length, IfSome, cond}
 use Rattle.std.specs.List.{AllByRecursion, list_all}
 use Rattle.std.proofs.lemmas.Bool.{cases_Bool}
 use Rattle.std.proofs.lemmas.List.Elements.{filter-append}
@@ -9,7 +9,7 @@ use Rattle.rv_rows.specs.declared.changes.Change.{Change}
 use Rattle.rv_rows.specs.declared.changes.RowKey.{RowKey}
 use Rattle.rv_rows.specs.Changes.{Rise, change_at, is_before, rows_with_changes}
 use Rattle.rv_rows.specs.Merging.{Passes}
-use Rattle.rv_rows.specs.Rows.{Ascend, comes_below, with_values, without_row}
+use Rattle.rv_rows.specs.Rows.{Ascend, comes_below, with_values}
 use Rattle.rv_rows.proofs.Chains.{ascends_without, record_ascends}
 use Rattle.rv_rows.proofs.Filters.{both}
 use Rattle.rv_rows.proofs.Merges.{without_cut}
