@@ -22,6 +22,8 @@ ACCEPTED = [
     [b"--steps", b"0", b"--judge", b"1"],
     [b"--judge", b"0000000002"],
     [b"--steps=007"],
+    [b"--steps=0"],
+    [b"--steps", b"64", b"--judge=1"],
 ]
 
 FAULTY = [
@@ -52,6 +54,21 @@ FAULTY = [
     [b"--gen", b"00000000001"],
     [b"--jud", b"1"],
     ["--judge=\u0661".encode()],
+    [b"x"],
+    [b"--", b"--judge", b"1"],
+    [b"--judge", b"+1"],
+    [b"--judge", b"00000000002"],
+    [b"--judge", b"1", b"--judge", b"1"],
+    [b"--judge=1", b"--judge", b"2"],
+    [b"--judge", b"--threads"],
+    [b"-judge", b"1"],
+    [b"--JUDGE", b"1"],
+    [b"--gen", b"1", b"2"],
+    [b"--gen=1=1"],
+    [b"--gen", b"1a"],
+    [b"--threads="],
+    [b"--thread"],
+    [b"--workers", b"1", b"--workers=1"],
 ]
 
 

@@ -6,7 +6,8 @@
   faults       the first fault of a script with its place, and the limits of lines, each from both sides
   words        words that are not accepted, with which nothing is read or written
   workload     a generated workload writes its summary, and reads nothing
-  traces       what SHOW tells under each judge, by the words of the command line and by marks, with background steps and without
+  traces       what SHOW tells under each judge, by the words of the command line and by marks, with background steps and without;
+               of a built program the same with threads and no workers, where each phase has one session
 
 The answers were found by hand."""
 from __future__ import annotations
@@ -72,6 +73,12 @@ def faults() -> Iterator[tuple[str, bytes, Came]]:
     yield "a comment of 4,097 bytes", longest + b"#" * 4097, (3, b"", b"limit: line 2 over 4096 bytes\n")
     yield "200,000 lines", b"\n" * 200_000, (0, b"", b"")
     yield "200,001 lines", b"\n" * 200_001, (3, b"", b"limit: script over 200000 lines\n")
+    # The source is read in pieces of 4,096 bytes.
+    for size in (4095, 4096, 4097, 10_000):
+        yield f"{size:,} bytes", ((b"#" * 99 + b"\n") * 200)[:size], (0, b"", b"")
+    whole = (b"#" * 4095 + b"\n") * 4096
+    yield "16,777,216 bytes", whole, (0, b"", b"")
+    yield "16,777,217 bytes", whole + b"\n", (3, b"", b"limit: script over 16777216 bytes\n")
 
 
 # Traces.
@@ -79,7 +86,7 @@ def faults() -> Iterator[tuple[str, bytes, Came]]:
 
 def loaded(rows: int) -> list[str]:
     inserts = [f"1 INSERT INTO T VALUES ({row}, 0)" for row in range(rows)]
-    return ["1 CREATE TABLE T (A BIGINT, B BIGINT)", "1 CREATE INDEX IA ON T (A)", "1 BEGIN", *inserts, "1 COMMIT"]
+    return ["1 CREATE TABLE T (A BIGINT, B BIGINT)", "1 CREATE INDEX IA ON T (A)", "1 BEGIN", *inserts, "1 COMMIT", "--"]
 
 
 def reading(only: str, before: int, steps: int, after: int) -> list[str]:
@@ -108,6 +115,7 @@ def traces(plain: bool = False) -> Iterator[tuple[list[str], list[str], list[str
         for words, marks, trace in [
             (["--steps", "0"], [], DROP), (["--judge", "1", "--steps", "0"], [], LIST), (["--steps=1", "--judge=1"], [], LIST),
             (["--judge", "2", "--steps", "0"], [], STOP), (["--steps", "0"], ["-- 2"], STOP),
+            (["--steps=00", "--judge", "0000000002"], [], STOP), (["--judge=0", "--steps=0"], [], DROP),
         ]:  # fmt: skip
             yield words, loaded(40) + marks + HALF, [trace]
         # Contrary is asked once in a reading of the half. Its second verdict, which lets the scan go on, comes when it is back, and
@@ -153,15 +161,19 @@ class Runs:
             self.expect(f"words {words}", self.unread(*words.split()), ((1, b"", USAGE), 0))
 
     def try_workload(self) -> None:
-        (status, output, words), read = self.unread("--gen", "1")
-        good = output.startswith(b"calls 3763\nrows ") and output.endswith(b"\ncommits 251\nrefused 0\n")
-        self.expect("workload", (status, good, words, read), (0, True, b"", 0))
+        # (neither judge nor steps change what the five lines count)
+        for asked in ["--gen 1", "--gen=0000000001", "--judge 1 --steps=0 --gen 1", "--gen=1 --steps 7 --judge=2"]:
+            (status, output, words), read = self.unread(*asked.split())
+            good = output.startswith(b"calls 3763\nrows ") and output.endswith(b"\ncommits 251\nrefused 0\n")
+            self.expect(f"workload {asked}", (status, good, words, read), (0, True, b"", 0))
+        (status, output, words), read = self.unread("--gen", "4294967295")
+        self.expect("workload 4294967295", (status, output[:6], words, read), (0, b"calls ", b"", 0))
 
-    def try_traces(self, plain: bool) -> None:
+    def try_traces(self, plain: bool, *more: str) -> None:
         for words, script, wants in traces(plain):
-            status, output, said = self.run("".join(line + "\n" for line in script).encode(), *words)
+            status, output, said = self.run("".join(line + "\n" for line in script).encode(), *words, *more)
             found = [line[8:] for line in output.decode().splitlines() if line.startswith("= trace ")]
-            self.expect(f"traces, {' '.join(words)}", (status, found, said), (0, wants, b""))
+            self.expect(f"traces, {' '.join([*words, *more])}", (status, found, said), (0, wants, b""))
 
 
 def main() -> int:
@@ -177,6 +189,8 @@ def main() -> int:
         runs.try_words()
         runs.try_workload()
     runs.try_traces(asked.plain)
+    if asked.program and not asked.plain:
+        runs.try_traces(False, "--threads", "--workers=0")
     print(f"{runs.cases} worked runs, {runs.wrong} end otherwise")
     return 1 if runs.wrong else 0
 

@@ -28,7 +28,7 @@ class WorkedRuns(unittest.TestCase):
         return [str(path)]
 
     def test_the_model_passes(self):
-        self.assertEqual(self.counted(MODEL, "try_scripts", "try_traces"), (57, 0))
+        self.assertEqual(self.counted(MODEL, "try_scripts", "try_traces"), (65, 0))
 
     def test_the_model_over_the_plain_store_passes(self):
         runs = Runs([*MODEL, "--plain"])
@@ -42,8 +42,8 @@ class WorkedRuns(unittest.TestCase):
 
     def test_a_program_that_says_nothing_is_refused(self):
         silent = self.program("cat > /dev/null")
-        self.assertEqual(self.counted(silent, "try_scripts"), (50, 47))
-        self.assertEqual(self.counted(silent, "try_words", "try_workload"), (8, 8))
+        self.assertEqual(self.counted(silent, "try_scripts"), (56, 48))
+        self.assertEqual(self.counted(silent, "try_words", "try_workload"), (12, 12))
 
     def test_a_program_that_reads_before_its_words_is_refused(self):
         early = self.program('cat > /dev/null; echo "usage: rvdyn [--threads] [--workers W] [--judge N] [--steps K] [--gen SEED]" >&2; exit 1')

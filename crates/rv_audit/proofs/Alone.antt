@@ -1,5 +1,5 @@
 -- Of an input at most one answer is said.
-use Rattle.std.proofs.Common.{◌≡◌, ◌⊎◌, ℕ, zero, suc, ◌+◌, ◌-◌, ◌<◌, ◌≤◌, List, [], ◌∷◌, ◌++◌, Option, Some, None, Result, Ok, Err, true, false, inl, inr, refl, ap, sym, subst, ◌∙◌, length, take, arith, eqb, append_assoc}
+use Rattle.std.proofs.Common.{◌≡◌, ◌⊎◌, ℕ, zero, suc, ◌-◌, ◌<◌, ◌≤◌, List, [], ◌∷◌, ◌++◌, Option, Some, None, Result, Ok, Err, inl, inr, refl, ap, sym, subst, ◌∙◌, length, take, arith, eqb, append_assoc}
 use Rattle.std.proofs.lemmas.Bool.{cases_Bool}
 use Rattle.std.specs.List.{AllByRecursion}
 use Rattle.rv_script.specs.declared.scripts.Phase.{Phase}
@@ -9,7 +9,7 @@ use Rattle.rv_script.specs.Script.{script_of}
 use Rattle.rv_model.specs.declared.entry.Entry.{Entry}
 use Rattle.rv_model.specs.History.{calls}
 use Rattle.rv_model.specs.Transcript.{AllSameButPhase, IsPlain, TextTells}
-use Rattle.rv_text.specs.Reading.{ends, front, AreReadable, GoesOn, StopsAt}
+use Rattle.rv_text.specs.Reading.{front, AreReadable, GoesOn, StopsAt}
 use Rattle.rv_audit.specs.declared.auditing.Audited.{Audited}
 use Rattle.rv_audit.specs.declared.auditing.Audited.TheVariants as audited
 use Rattle.rv_audit.specs.Auditing.{GoesWrongAt, LacksFirst, ReadsSo, Says, SaysOfEntries, SaysOfParts, SaysOfTranscript, SaysOnce}

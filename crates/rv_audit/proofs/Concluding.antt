@@ -1,5 +1,5 @@
 -- From what the parts of an audit tell to its answer.
-use Rattle.std.proofs.Common.{◌≡◌, ℕ, ◌+◌, ◌-◌, ◌<◌, ◌≤◌, List, [], ◌∷◌, ◌++◌, Option, Some, None, Result, Ok, Err, IfOk, refl, ap, sym, subst, ◌∙◌, length, take, arith, append-nil, length-append, decimal, codes}
+use Rattle.std.proofs.Common.{◌≡◌, ℕ, ◌<◌, ◌≤◌, List, [], ◌∷◌, ◌++◌, Some, None, Result, Ok, Err, IfOk, refl, ap, sym, subst, length, arith, append-nil, length-append, decimal, codes}
 use Rattle.rv_value.specs.declared.duplicate.NoMemory.{NoMemory}
 use Rattle.rv_script.specs.declared.scripts.Phase.{Phase}
 use Rattle.rv_script.specs.declared.scripts.Script.{Script}
@@ -8,7 +8,7 @@ use Rattle.rv_script.specs.declared.scripts.ScriptFault.TheVariants as faults
 use Rattle.rv_script.specs.Drafts.{FaultIs}
 use Rattle.rv_script.specs.Script.{script_of}
 use Rattle.rv_model.specs.declared.entry.Entry.{Entry}
-use Rattle.rv_model.specs.Transcript.{entry_text, reply_text, text, AllSameButPhase}
+use Rattle.rv_model.specs.Transcript.{entry_text, reply_text, text}
 use Rattle.rv_believed.specs.History.{IsLegal}
 use Rattle.rv_text.specs.Reading.{AreReadable}
 use Rattle.rv_audit.specs.declared.auditing.Audited.{Audited}

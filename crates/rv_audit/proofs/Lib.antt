@@ -9,5 +9,7 @@ pub mod Making
 pub mod Marking
 pub mod Phases
 pub mod Placing
+pub mod Running
 pub mod Short
 pub mod Taking
+pub mod Texts

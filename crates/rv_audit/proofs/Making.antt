@@ -1,9 +1,7 @@
 -- The calls that the entries of a history make, against those that a script asks for.
-use Rattle.std.proofs.Common.{◌≡◌, ◌⊎◌, ℕ, zero, suc, ◌+◌, ◌<◌, ◌≤◌, List, [], ◌∷◌, ◌++◌, Bool, true, false, ◌&&◌, cond, inl, inr, refl, ap, sym, subst, ◌∙◌, length, drop, map, arith, eqb, append-nil, append_assoc}
+use Rattle.std.proofs.Common.{◌≡◌, ℕ, ◌≤◌, List, [], ◌∷◌, ◌++◌, true, inl, inr, refl, ap, sym, subst, ◌∙◌, length, drop, map, arith, eqb, append-nil, append_assoc}
 use Rattle.std.proofs.lemmas.Bool.{cases_Bool}
 use Rattle.std.proofs.lemmas.Bool.Decides.{nat_tests}
-use Rattle.std.proofs.lemmas.List.Elements.{filter-append}
-use Rattle.std.specs.List.{filter, AllByRecursion}
 use Rattle.rv_script.specs.declared.scripts.Phase.{Phase}
 use Rattle.rv_model.specs.declared.entry.Entry.{Entry}
 use Rattle.rv_model.specs.History.{calls}

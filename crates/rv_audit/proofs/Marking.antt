@@ -1,7 +1,7 @@
 -- An input is parted at the first cut whose line is the mark.
-use Rattle.std.proofs.Common.{◌≡◌, ℕ, zero, suc, ◌+◌, ◌≤◌, List, [], ◌∷◌, ◌++◌, Bool, true, false, cond, Option, Some, None, inl, inr, refl, ap, sym, subst, ◌∙◌, length, take, arith, bytes_eq, codes, append_assoc, append-nil, length-append}
+use Rattle.std.proofs.Common.{◌≡◌, ℕ, ◌+◌, ◌≤◌, List, [], ◌∷◌, ◌++◌, true, false, cond, Option, Some, None, inl, inr, refl, ap, sym, ◌∙◌, length, take, arith, bytes_eq, codes, append_assoc, append-nil, length-append}
 use Rattle.std.proofs.lemmas.Bool.{cases_Bool}
-use Rattle.rv_text.specs.Lines.{cut, split, Cut, Split}
+use Rattle.rv_text.specs.Lines.{cut, split, Split}
 use Rattle.rv_text.proofs.Cutting.{behind, cut_whole, split_cut, split_of, split_whole, unsplit}
 use Rattle.rv_audit.specs.Marks.{behind_line, ended, is_mark, parted, parted_lines, Parted}
 
@@ -9,7 +9,7 @@ ended_is : (ls : List (List ℕ)) (rest : List ℕ) → ended ls rest ≡ unspli
 ended_is [] rest = refl
 ended_is (l ∷ ls) rest = ap (λ bs. l ++ 10 ∷ bs) (ended_is ls rest) ∙ sym (append_assoc l (10 ∷ unsplit ls) rest)
 
-ended_whole : (bytes : List ℕ) → ended (split bytes).lines (split bytes).rest ≡ bytes
+pub ended_whole : (bytes : List ℕ) → ended (split bytes).lines (split bytes).rest ≡ bytes
 ended_whole bytes = ended_is (split bytes).lines (split bytes).rest ∙ split_whole bytes
 
 abbrev pub parts : List ℕ → List ℕ → Parted

@@ -1,5 +1,5 @@
 -- Calls whose phases never fall, and their texts phase by phase.
-use Rattle.std.proofs.Common.{◌≡◌, ◌⊎◌, ℕ, zero, suc, ◌+◌, ◌<◌, ◌≤◌, List, [], ◌∷◌, ◌++◌, Bool, true, false, ◌&&◌, cond, inl, inr, refl, ap, sym, subst, ◌∙◌, length, drop, map, arith, eqb, nat_lt, append-nil}
+use Rattle.std.proofs.Common.{◌≡◌, ◌⊎◌, ℕ, zero, suc, ◌+◌, ◌<◌, ◌≤◌, List, [], ◌∷◌, ◌++◌, true, false, inl, inr, refl, ap, sym, subst, ◌∙◌, drop, map, arith, eqb, nat_lt, append-nil}
 use Rattle.std.proofs.lemmas.Bool.{cases_Bool}
 use Rattle.std.proofs.lemmas.Bool.Decides.{nat_tests}
 use Rattle.std.proofs.lemmas.List.Elements.{filter-append}
@@ -7,7 +7,7 @@ use Rattle.std.specs.List.{filter, AllByRecursion}
 use Rattle.rv_script.specs.declared.scripts.Line.{Line}
 use Rattle.rv_script.specs.declared.scripts.Phase.{Phase}
 use Rattle.rv_audit.specs.declared.calls.Call.{Call}
-use Rattle.rv_audit.specs.Calls.{call_in, calls_by, calls_from, calls_in}
+use Rattle.rv_audit.specs.Calls.{calls_by, calls_from, calls_in}
 use Rattle.rv_audit.specs.Following.{asked_in, texts_of}
 
 -- the texts of a phase

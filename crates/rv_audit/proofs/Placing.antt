@@ -1,19 +1,18 @@
 -- Places in the calls of a script, and what is made and left by them.
-use Rattle.std.proofs.Common.{◌≡◌, ◌⊎◌, ℕ, zero, suc, ◌+◌, ◌-◌, ◌<◌, ◌≤◌, List, [], ◌∷◌, ◌++◌, Bool, true, false, ◌&&◌, cond, inl, inr, refl, ap, sym, subst, ◌∙◌, length, drop, take, map, arith, eqb, nat_le, nat_lt, Option, Some, None, append-nil, append_assoc, length-append}
+use Rattle.std.proofs.Common.{◌≡◌, ◌⊎◌, ℕ, zero, suc, ◌+◌, ◌-◌, ◌<◌, ◌≤◌, List, [], ◌∷◌, ◌++◌, Bool, true, false, ◌&&◌, inl, inr, refl, ap, sym, subst, ◌∙◌, length, drop, take, arith, eqb, nat_le, nat_lt, Option, Some, None, append-nil, append_assoc, length-append}
 use Rattle.std.proofs.lemmas.Bool.{cases_Bool}
 use Rattle.std.proofs.lemmas.Bool.Decides.{nat_tests}
-use Rattle.std.specs.List.{filter, list_all, slice_get, slice_index, AllByRecursion}
+use Rattle.std.specs.List.{list_all, slice_get, slice_index}
 use Rattle.rv_script.specs.declared.scripts.Phase.{Phase}
 use Rattle.rv_model.specs.declared.entry.Entry.{Entry}
 use Rattle.rv_model.specs.History.{calls}
 use Rattle.rv_model.specs.Transcript.{AllSameButPhase, SameButPhase}
-use Rattle.rv_believed.specs.History.{IsLegal}
 use Rattle.rv_audit.specs.declared.calls.Call.{Call}
 use Rattle.rv_audit.specs.declared.following.Left.{Left}
 use Rattle.rv_audit.specs.Calls.{calls_by, calls_from, is_later, is_by, IsNextOf, waits_at}
-use Rattle.rv_audit.specs.Following.{asked_in, Follows, HasAll, IsFirstMissing}
-use Rattle.rv_audit.specs.Places.{all_wait, asks, left_at, lower_of, ArePhasesOf, AreSessions, FrontsFollow, GoesNoFurther, IsLowestOf, IsStuck, LowestUpTo, Makes, Refuses, Stands, StandsAt}
-use Rattle.rv_audit.proofs.Making.{all_made, asked_parts, calls_is, call_by, determined, follows_by, goes_on, made, made_append, made_from, rest_of, sessions_of, GoesOn, Made}
+use Rattle.rv_audit.specs.Following.{asked_in, HasAll, IsFirstMissing}
+use Rattle.rv_audit.specs.Places.{all_wait, asks, left_at, lower_of, ArePhasesOf, AreSessions, FrontsFollow, IsLowestOf, IsStuck, LowestUpTo, Makes, Refuses, Stands, StandsAt}
+use Rattle.rv_audit.proofs.Making.{all_made, asked_parts, call_by, determined, follows_by, goes_on, made, made_append, made_from, rest_of, sessions_of, Made}
 use Rattle.rv_audit.proofs.Phases.{calls_rise, from_lower, none_below, order, rising_drop, rising_kept, texts, AreFrom, AreUpTo, Rising}
 
 -- A place.

@@ -1,5 +1,5 @@
 -- The texts of entries that follow a script are the script's, so they are as short.
-use Rattle.std.proofs.Common.{◌≡◌, ℕ, zero, suc, ◌+◌, ◌<◌, ◌≤◌, List, [], ◌∷◌, ◌++◌, Bool, true, false, inl, inr, refl, ap, sym, subst, ◌∙◌, length, arith, eqb}
+use Rattle.std.proofs.Common.{ℕ, zero, suc, ◌+◌, ◌≤◌, List, [], ◌∷◌, ◌++◌, inl, inr, refl, sym, subst, length, arith, eqb}
 use Rattle.std.proofs.lemmas.Bool.{cases_Bool}
 use Rattle.std.specs.List.{All, AllByRecursion}
 use Rattle.rv_script.specs.declared.scripts.Line.{Line}
@@ -11,7 +11,7 @@ use Rattle.rv_model.specs.declared.entry.Entry.{Entry}
 use Rattle.rv_audit.specs.declared.calls.Call.{Call}
 use Rattle.rv_audit.specs.Calls.{calls_by, calls_from, calls_in}
 use Rattle.rv_audit.specs.Places.{AreNoLonger, AreSessions}
-use Rattle.rv_audit.proofs.Making.{asked, call_by, made, made_here, Made}
+use Rattle.rv_audit.proofs.Making.{made, made_here, Made}
 
 abbrev pub AreShort : ℕ → List Call → Type 0
 AreShort most calls = AllByRecursion (λ (c : Call). length c.text ≤ most) calls

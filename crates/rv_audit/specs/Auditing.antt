@@ -1,5 +1,5 @@
 -- What an audit answers, in the order in which the answers are tried.
-use Rattle.std.specs.Prelude.{◌≡◌, ℕ, ◌+◌, ◌-◌, ◌<◌, ◌≤◌, List, [], ◌∷◌, ◌++◌, Ok, Err, Option, Some, None, length, take}
+use Rattle.std.specs.Prelude.{◌≡◌, ℕ, ◌-◌, ◌<◌, ◌≤◌, List, Ok, Err, Option, Some, None, length, take}
 use Rattle.rv_script.specs.declared.scripts.Script.{Script}
 use Rattle.rv_script.specs.declared.scripts.ScriptFault.TheVariants as faults
 use Rattle.rv_script.specs.Script.{script_of}
@@ -8,7 +8,7 @@ use Rattle.rv_model.specs.Transcript.{text}
 use Rattle.rv_text.specs.Reading.{AreReadable, StopsAt}
 use Rattle.rv_audit.specs.declared.auditing.Audited.{Audited}
 use Rattle.rv_audit.specs.declared.auditing.Audited.TheVariants as audited
-use Rattle.rv_audit.specs.Following.{Follows, IsFirstMissing, IsLegalTo, IsWhole}
+use Rattle.rv_audit.specs.Following.{IsFirstMissing, IsLegalTo, IsWhole}
 use Rattle.rv_audit.specs.Marks.{parted, Parted}
 
 -- entry n, from 1, is the first up to which the entries are no legal history that follows the script

@@ -3,3 +3,4 @@ pub mod Calls
 pub mod Following
 pub mod Marks
 pub mod Places
+pub mod Runs

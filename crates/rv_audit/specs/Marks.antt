@@ -1,7 +1,7 @@
 -- The mark between a script and its transcript.
 use Rattle.std.specs.Prelude.{ℕ, List, [], ◌∷◌, ◌++◌, Bool, ◌||◌, Option, Some, None, bytes_eq, codes, if◌then◌else◌}
 use denote.Ref.{Bor}
-use Rattle.rv_text.specs.Lines.{split, Split}
+use Rattle.rv_text.specs.Lines.{split}
 
 -- what stands before a mark and behind it
 pub record Parted : Type 0 where

@@ -1,8 +1,7 @@
 -- From what was written to how an audit ends.
-use Rattle.std.proofs.Common.{◌≡◌, ◌↔◌, ℕ, ◌≤◌, List, [], ◌∷◌, ◌++◌, Option, Some, None, Result, Ok, Err, IfSome, inl, inr, refl, ap, sym, subst, ◌∙◌, append-nil, codes}
+use Rattle.std.proofs.Common.{◌≡◌, ◌↔◌, ℕ, List, [], ◌++◌, Option, Some, None, Result, Ok, Err, IfSome, inl, inr, refl, ap, sym, subst, ◌∙◌, append-nil, codes}
 use Rattle.rv_io.specs.declared.traits.Failed.{Failed}
 use Rattle.rv_io.specs.Pieces.{Goes, TakesAll, TakesTooMany}
-use Rattle.rv_script.specs.declared.scripts.ScriptFault.{ScriptFault}
 use Rattle.rv_script.specs.declared.scripts.ScriptFault.TheVariants as faults
 use Rattle.rv_audit.specs.declared.auditing.Audited.{Audited}
 use Rattle.rv_audit.specs.declared.auditing.Audited.TheVariants as audited

@@ -10,6 +10,3 @@ pub use all::{ReadFault, read_all, write_all, write_next};
 pub use edge::{StdSink, StdSource};
 pub use memory::{MemSink, MemSource};
 pub use traits::{Failed, Sink, Source};
-
-#[cfg(test)]
-mod tests;

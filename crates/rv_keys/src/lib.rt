@@ -24,30 +24,3 @@ pub fn place_of(keys: &[u64], row: u64) -> usize
         Ok(_at) => unreachable!(),
     }
 }
-
-#[cfg(test)]
-mod tests {
-    use super::*;
-
-    #[test]
-    fn rows_and_places(rt: HostRuntime) {
-        let keys: [u64; 5] = [1, 4, 5, 9, u64::MAX];
-        let none: [u64; 0] = [];
-        for (row, there) in [
-            (0, false),
-            (1, true),
-            (3, false),
-            (9, true),
-            (10, false),
-            (u64::MAX, true),
-        ] {
-            assert_eq!(rt; is_among(&keys, row), there);
-            assert!(rt; !is_among(&none, row));
-        }
-        assert_eq!(rt;
-            (place_of(&keys, 0), place_of(&keys, 7), place_of(&keys, 10)),
-            (0, 3, 4)
-        );
-        assert_eq!(rt; place_of(&none, 7), 0);
-    }
-}

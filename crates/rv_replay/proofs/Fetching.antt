@@ -12,11 +12,11 @@ use Rattle.rv_model.specs.declared.state.State.{State}
 use Rattle.rv_model.specs.Database.{cursor_at, no_cursor}
 use Rattle.rv_model.specs.Offering.{offers_over}
 use Rattle.rv_model.specs.Offers.{offers_in_order}
-use Rattle.rv_model.specs.Step.{opened, rows_viewed, table_of, view_rows}
+use Rattle.rv_model.specs.Step.{Offers, offers_after, opened, rows_viewed, table_of, view_rows}
 use Rattle.rv_model.specs.Transactions.{transaction_of}
 use Rattle.rv_core.specs.Doing.{opening_base}
 use Rattle.rv_core.proofs.Calling.{opening_is, opens_err}
-use Rattle.rv_replay.specs.Judging.{Done, JudgesAt, JudgesFetch, JudgesOffers, with_cursors}
+use Rattle.rv_replay.specs.Judging.{Done, Judges, JudgesAt, JudgesFetch, JudgesOffers, with_cursors}
 
 -- ---- OPEN
 
@@ -37,12 +37,17 @@ pub fetch_none : (b : Bool) (s : State) (place : Option ℕ) (name : List ℕ) (
 fetch_none true s place name given e same = rw e (sym (same.0 refl), refl)
 fetch_none false s place name given e same = rw e (λ told. let wrong : false ≡ true = same.1 (sym told) in cc)
 
--- the cursor in a place, whose offers are judged
-pub judges_at : (b : Bool) (cs : List Cursor) (place : ℕ) (c : Cursor) (given : Reply) (offers : List Offer) → slice_get cs place ≡ Some c → JudgesOffers b c.offers given offers → JudgesAt b place cs given (slice_set cs place (record c { offers = offers }))
-judges_at true cs place c given offers there judges =
+-- a cursor, whose offers are judged
+pub judges_cursor : (b : Bool) (c : Cursor) (given : Reply) (offers : List Offer) → JudgesOffers b c.offers given offers → Judges b (Offers c.offers given) (◌≡◌ {A = Cursor} (record c { offers = offers }) (record c { offers = offers_after c.offers given }))
+judges_cursor true c given offers judges = (judges.0, ap (λ (os : List Offer). record c { offers = os }) judges.1)
+judges_cursor false c given offers judges = judges
+
+-- the cursor in a place
+pub judges_at : (b : Bool) (cs : List Cursor) (place : ℕ) (c new : Cursor) (given : Reply) → slice_get cs place ≡ Some c → Judges b (Offers c.offers given) (new ≡ record c { offers = offers_after c.offers given }) → JudgesAt b place cs given (slice_set cs place new)
+judges_at true cs place c new given there judges =
     let here : cursor_at cs place ≡ c = get_or_from_slice_get cs place c no_cursor there in
-    rw here (judges.0, ap (λ (os : List Offer). slice_set cs place (record c { offers = os })) judges.1)
-judges_at false cs place c given offers there judges =
+    rw here (judges.0, ap (slice_set cs place) judges.1)
+judges_at false cs place c new given there judges =
     let here : cursor_at cs place ≡ c = get_or_from_slice_get cs place c no_cursor there in
     rw here judges
 

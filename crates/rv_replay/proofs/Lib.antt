@@ -3,4 +3,7 @@ pub mod Fetching
 pub mod Follows
 pub mod Lifts
 pub mod Named
+pub mod Orders
 pub mod Places
+pub mod Putting
+pub mod Taking

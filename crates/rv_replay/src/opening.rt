@@ -10,7 +10,7 @@ use rv_catalog::Select;
 use rv_core::database::Database;
 use rv_decide::offers_over;
 use rv_model::Offer;
-use rv_plain::Plain;
+use rv_store::Paged;
 use rv_value::{Items, NoMemory, Record};
 use std::alloc::Global;
 
@@ -27,7 +27,7 @@ pub fn first_table(select: &Select) -> u32
 /// What a query offers in the view of the session's transaction.
 pub fn offers_of(
     alloc: Global,
-    database: &Database<Plain>,
+    database: &Database<Paged>,
     session: u8,
     select: &Select,
 ) -> Result<Vec<Offer>, NoMemory>
@@ -41,7 +41,7 @@ pub fn offers_of(
 /// The rows of each table in the view of the session's transaction.
 fn lists_of(
     alloc: Global,
-    database: &Database<Plain>,
+    database: &Database<Paged>,
     session: u8,
     tables: &[u32],
 ) -> Result<Vec<Items<Record>>, NoMemory>

@@ -1,4 +1,4 @@
-//! The one-thread database over a plain store, and what each statement does to it.
+//! The one-thread database over a paged store, and what each statement does to it.
 ghost use Rattle.std.specs.Prelude.{◌≡◌, ◌≤◌, ◌<◌, Ok, IfOk, IfSome, length, true};
 ghost use Rattle.std.specs.Option.{option_copied};
 ghost use Rattle.rv_parse.specs.Needed.{HasParts};
@@ -12,7 +12,7 @@ ghost use Rattle.rv_model.specs.Standing.{HasRoom};
 ghost use Rattle.rv_model.specs.Step.{began, changed, closed, committed, created, indexed, inserted, opened, rolled_back};
 ghost use Rattle.rv_replay.specs.Judging.{Compares, Done, JudgesAsked, JudgesFetch, JudgesShow, JudgesStatement, JudgesStep, is_refused, kept_after};
 
-use crate::cursors::{close_all, cursor_named, fetch_at, may_open, table_at};
+use crate::cursors::{OpenCursor, close_all, cursor_named, fetch_at, may_open, table_at};
 use crate::opening::{first_table, offers_of};
 use crate::queues::queue_of;
 use crate::same::same_reply;
@@ -21,22 +21,21 @@ use rv_catalog::{BindFault, Catalog, IndexDef, Resolved, Select, TableDef};
 use rv_core::database::Database;
 use rv_core::statements::understand;
 use rv_lang::{Refusal, Reply, Statement};
-use rv_model::Cursor;
 use rv_parse::read_statement;
-use rv_plain::Plain;
 use rv_restrict::Restriction;
+use rv_store::Paged;
 use rv_txn::TxnFault;
 use rv_value::{Items, NoMemory, Text, Value, Values};
 use std::alloc::Global;
 use std::marker::Model;
 
-/// The one-thread database: tables and transactions over a plain store, and for each open cursor the list of the offers
-/// that it has left.
+/// The one-thread database: tables and transactions over a paged store, whose commits cost what they change, and for
+/// each open cursor the offers that it has left.
 #[derive(Drop)]
 pub struct PlainDatabase {
     alloc: Global,
-    database: Database<Plain>,
-    cursors: Items<Cursor>,
+    database: Database<Paged>,
+    cursors: Items<OpenCursor>,
 }
 
 impl Model for PlainDatabase {
@@ -53,7 +52,7 @@ impl PlainDatabase {
     pub fn new(alloc: Global) -> Result<PlainDatabase, NoMemory>
         ensures { IfOk result (λ p. p ≡ empty) }
     {
-        let store = Plain::new(alloc)?;
+        let store = Paged::new(alloc)?;
         Ok(PlainDatabase {
             alloc,
             database: Database::new(alloc, store),
@@ -168,12 +167,8 @@ impl PlainDatabase {
         }
         let offers = offers_of(self.alloc, &self.database, session, select)?;
         let offers = queue_of(self.alloc, offers)?;
-        self.cursors.push(Cursor {
-            session,
-            name,
-            table: first_table(select),
-            offers,
-        })?;
+        let cursor = OpenCursor::new(session, name, first_table(select), offers);
+        self.cursors.push(cursor)?;
         Ok(Reply::Opened)
     }
 
@@ -234,7 +229,7 @@ fn first(replies: (Reply, Reply)) -> Reply
 }
 
 /// Takes a session's cursors away, unless COMMIT or ROLLBACK was refused.
-fn close_after(cursors: &mut Items<Cursor>, session: u8, reply: &Reply)
+fn close_after(cursors: &mut Items<OpenCursor>, session: u8, reply: &Reply)
     ensures { cursors.new ≡ kept_after reply.now cursors.old session }
 {
     if !is_refused(reply) {

@@ -1,5 +1,6 @@
 //! The calls of a script, those of each phase by threads.
 ghost use Rattle.std.specs.Prelude.{◌≡◌, ℕ, ◌≤◌, [], All, false, length};
+ghost use Rattle.rv_run.specs.Judges.{ruling_after};
 ghost use Rattle.rv_run.specs.Script.{calls_from, calls_made, of_session};
 ghost use Rattle.rv_run.specs.Making.{FitsPhase, MadeFirst};
 
@@ -40,6 +41,7 @@ pub fn make_calls_by_threads<
     requires workers { workers ≤ 8 }
     ensures whole { result.short ≡ false → (session : ℕ) → 1 ≤ session → session ≤ 8 → of_session session (calls_made result.core.engine.history) ≡ of_session session (calls_from 1 phases.now) }
     ensures first { MadeFirst result.core.engine.history phases.now }
+    ensures ruling { result.short ≡ false → judges.new.ruling ≡ ruling_after judges.old.ruling phases.now }
     ensures beside { result.core.beside ≡ core.beside }
 {
     let mut held = core;

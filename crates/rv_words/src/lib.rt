@@ -6,8 +6,6 @@ mod command;
 mod digits;
 mod form;
 mod reading;
-#[cfg(test)]
-mod tests;
 
 pub use choices::{Asked, Choice};
 pub use command::asked;

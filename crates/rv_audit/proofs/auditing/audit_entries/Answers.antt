@@ -1,4 +1,4 @@
-use Rattle.std.proofs.Common.{◌≡◌, ℕ, ◌≤◌, length, ap, sym, subst, ◌∙◌, arith, rules}
+use Rattle.std.proofs.Common.{◌≡◌, ◌≤◌, length, ap, sym, subst, ◌∙◌, arith, rules}
 use Rattle.std.specs.List.{All}
 use Rattle.rv_model.specs.declared.entry.Entry.{Entry}
 use Rattle.rv_believed.specs.History.{IsLegal}

@@ -1,5 +1,5 @@
-use Rattle.std.proofs.Common.{◌≡◌, ◌+◌, ◌++◌, ap, sym, ◌∙◌, take, arith}
-use Rattle.rv_audit.specs.Calls.{calls_from, calls_in}
+use Rattle.std.proofs.Common.{◌≡◌, ◌+◌, ◌++◌, sym, ◌∙◌, arith}
+use Rattle.rv_audit.specs.Calls.{calls_in}
 use Rattle.rv_audit.proofs.Gathering.{phases_more}
 use Rattle.rv_audit.proofs.calls.calls_of.Goals as goal
 

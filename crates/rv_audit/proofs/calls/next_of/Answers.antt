@@ -1,4 +1,4 @@
-use Rattle.std.proofs.Common.{◌≡◌, ◌+◌, suc, ap, sym, ◌∙◌, drop, arith, add-one}
+use Rattle.std.proofs.Common.{◌≡◌, ◌+◌, suc, ap, sym, ◌∙◌, drop, arith}
 use Rattle.rv_audit.specs.Calls.{calls_by}
 use Rattle.rv_audit.proofs.Placing.{found, none_found, skip_by}
 use Rattle.rv_audit.proofs.calls.next_of.Goals as goal

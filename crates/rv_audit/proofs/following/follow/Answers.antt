@@ -1,6 +1,5 @@
 use Rattle.std.proofs.Common.{sym, ◌∙◌}
 use Rattle.std.proofs.lemmas.List.{nil_from_length}
-use Rattle.rv_audit.specs.declared.following.End.TheVariants as ends
 use Rattle.rv_audit.proofs.Answering.{begins, ends_all, ends_stuck, goes_more}
 use Rattle.rv_audit.proofs.following.follow.Goals as goal
 

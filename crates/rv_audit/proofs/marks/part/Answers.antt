@@ -1,6 +1,6 @@
 use Rattle.std.proofs.Common.{ap, sym, ◌∙◌}
 use Rattle.std.specs.Option.{option_copied}
-use Rattle.rv_audit.proofs.Marking.{passed_all, passed_last, passed_line, passed_mark, passed_none}
+use Rattle.rv_audit.proofs.Marking.{passed_all, passed_line, passed_mark, passed_none}
 use Rattle.rv_audit.proofs.marks.part.Goals as goal
 
 pub lines-init : goal.lines-init

@@ -1,4 +1,5 @@
-use Rattle.std.proofs.Common.{◌≡◌, max}
+use Rattle.std.proofs.Common.{◌≡◌, drop, max}
+use Rattle.rv_run.specs.Judges.{ruling_after}
 use Rattle.rv_run.proofs.Threads.{UpTo}
 use Rattle.rv_run.proofs.calls_by_threads.make_calls_by_threads.Given as goal
 
@@ -7,5 +8,6 @@ invariant-phases g l = record {
   number : l.number ≡ l.phase-index;
   phase : l.held.engine.phase ≡ max 1 l.number;
   each : UpTo l.phase-index l.held.engine.history l.phases;
+  ruling : ruling_after l.judges.ruling (drop l.phase-index l.phases) ≡ ruling_after l.fn.judges.ruling l.phases;
   beside : l.held.beside ≡ l.fn.core.beside;
 }
