@@ -26,7 +26,7 @@ REPLIES = [
     b"trace background-only background scan IA list IA 30 scan IB drop IB final-list done pages 1 leaves 4 fetches 23",
     b"trace fast-first building scan I full background stop final-table pages 0 leaves 0 fetches 1",
     b"syntax", b"unknown T_1", b"exists A", b"kind B9", b"active 2", b"no transaction", b"busy 1", b"read only",
-    b"changed 3 by 4", b"held 3 by 4", b"no cursor C", b"cursor open C", b"limit atoms 65", b"pending C",
+    b"changed 3 by 4", b"held 3 by 4", b"no cursor C", b"cursor open C", b"limit atoms 65",
 ]  # fmt: skip
 
 OTHERS = [
@@ -34,7 +34,7 @@ OTHERS = [
     b"began 18446744073709551616", b"row", b"row 5,6", b"row 5, ", b"row 05", b"row -0", b"row 9223372036854775808", b"row 'a",
     b"row 'a'b'", b"row 'a\x1f'", b"row '\xff'", b"row null", b"unknown t", b"unknown ", b"kind 1A", b"limit rows", b"limit ROWS 1",
     b"changed 3 by ", b"trace table pages 0 leaves 0", b"trace table pages 0 leaves 0 fetches 0 ",
-    b"trace tables pages 0 leaves 0 fetches 0", b"trace table scan pages 0 leaves 0 fetches 0", b"not built",
+    b"trace tables pages 0 leaves 0 fetches 0", b"trace table scan pages 0 leaves 0 fetches 0", b"pending C", b"not built",
 ]  # fmt: skip
 
 WHOLE = [b"1 \n= end\n", b"8 A\r\n= end\n", b"1 = end\n= end\n", b"2 A\x00\x1f\xc3\xa4\n= end\n", b"1 A\n= created\n2 B\n= syntax\n"]

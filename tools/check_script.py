@@ -4,7 +4,7 @@
 It finds the first token that fits no statement, with what could stand there; keywords used as names; limits of a
 statement; names of tables, columns, indexes and cursors that are unknown or in use; values of the wrong kind, too many
 and too few. Names are followed through the script as its calls would make them. Rows are not: so what depends on them
-(held, changed, pending) is not told, and neither are calls in a wrong state (no transaction, active, busy, read only),
+(held, changed) is not told, and neither are calls in a wrong state (no transaction, active, busy, read only),
 which a script may well mean to show."""
 from __future__ import annotations
 

@@ -29,7 +29,7 @@ class Checked(Database):
         cursor = super().opened(select)
         table = select.tables[0]
         indexes = [name for name, index in self.indexes.items() if index.table == table]
-        cursor.seen = Seen(indexes, len(self.own.rows[table]), len(select.tables), select.soon, select.order)
+        cursor.seen = Seen(indexes, len(self.view(table)), len(select.tables), select.soon, select.order)
         return cursor
 
     def given(self, statement, reply):
@@ -350,6 +350,8 @@ class Maker:
             session = session if rng.random() < 0.7 else rng.choice(sessions)
             if rng.random() < 0.04:
                 yield from self.conflict(session, rng.randint(1, 8))
+            if rng.random() < 0.05:
+                yield from self.changing(session)
             statement, text = self.statement(session)
             yield session, statement, text
             if statement[0] in ("open", "fetch") and rng.random() < 0.3:
@@ -378,6 +380,18 @@ class Maker:
         end = "commit" if self.rng.random() < 0.7 else "rollback"
         yield first, (end,), self.spelled(end.upper())
         yield second, *change
+
+    def changing(self, session):
+        """A session changes rows, opens a cursor, changes rows while it is open, and opens another one."""
+        if session not in self.database.active:
+            yield session, ("begin", False), "BEGIN"
+        for _ in range(self.rng.randint(1, 3)):
+            for _ in range(self.rng.choice([1, 1, 2, 5, 40 if self.large else 5])):
+                yield session, *self.rng.choice([self.insert, self.insert, self.update, self.delete])()
+            statement, text = self.open()
+            yield session, statement, text
+            for _ in range(self.rng.randint(0, 4)):
+                yield session, *self.on_cursor("fetch", statement[1])
 
     def drained(self, session, name):
         """A cursor is fetched to its end, or nearly, and looked at on the way."""

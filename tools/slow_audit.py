@@ -30,7 +30,7 @@ LIMITS = "name text columns key list atoms groups joined returned order steps ta
 REPLY = re.compile(
     "created|rolled back|opened|end|closed|syntax|no transaction|read only"
     f"|(?:began|inserted|touched|committed|stepped|active|busy) {NUMBER}"
-    f"|(?:unknown|exists|kind|no cursor|cursor open|pending) {NAME}"
+    f"|(?:unknown|exists|kind|no cursor|cursor open) {NAME}"
     f"|(?:changed|held) {NUMBER} by {NUMBER}"
     f"|limit (?:{'|'.join(LIMITS.split())}) {NUMBER}"
     f"|row (?:{VALUE}(?:, {VALUE})*)?"

@@ -266,6 +266,7 @@ class Database:
         return f"touched {len(hit)}"
 
     def view(self, name):
+        """The rows of a table at the transaction's base, with its changes."""
         rows = dict(self.own.rows[name])
         for (table, number), values in self.own.new.items():
             if table == name:
@@ -325,17 +326,16 @@ class Database:
         self.need_transaction()
         if (self.session, cursor) in self.cursors:
             raise Refused("cursor open", cursor)
-        for name, _ in items:
-            if any(table == name for table, _ in self.own.new):
-                raise Refused("pending", name)
         if sum(session == self.session for session, _ in self.cursors) >= 16:
             raise Refused("limit cursors 16")
         self.cursors[self.session, cursor] = self.opened(Select([name for name, _ in items], returns, placed, order, soon))
         return "opened"
 
     def opened(self, select):
-        """The cursor of a select: every combination of base rows for which the restriction is True, each once."""
+        """The cursor of a select: every combination of rows of the transaction's view for which the restriction is True,
+        each once."""
         offers = []
+        views = {name: self.view(name) for name in select.tables}
 
         def combine(rows):
             # a group is tested as soon as all rows that it names are there
@@ -343,7 +343,7 @@ class Database:
             if rows and not qualifies(ready, lambda p: rows[p[0]][p[1]]):
                 return
             if len(rows) < len(select.tables):
-                for values in self.own.rows[select.tables[len(rows)]].values():
+                for values in views[select.tables[len(rows)]].values():
                     combine(rows + [values])
             else:
                 offers.append(offer(select, rows))

@@ -4,7 +4,7 @@ database.py with such cursors. The rules stand in docs/LANGUAGE.md; it shares no
 from .database import Database, atom_truth, offer, place, places_of, qualifies
 from .ranges import NULL, range_for
 from .retrieval import PAGE, Counts, Retrieval, begins_with
-from .trees import Sorted, Tree
+from .trees import Overlaid, Sorted, Tree
 
 
 # Restrictions at one item: places are columns here.
@@ -262,9 +262,25 @@ class Engine(Database):
     def opened(self, select):
         tables = []
         for name in select.tables:
-            indexes = [(i, made.columns, self.own.entries[i]) for i, made in self.indexes.items() if made.table == name]
-            tables.append((self.own.rows[name], self.own.pages[name], indexes))
+            indexes = [(i, made.columns, self.viewed(i)) for i, made in self.indexes.items() if made.table == name]
+            tables.append((self.view(name), self.view_pages(name), indexes))
         return Plan(select, tables, self, self.steps, self.log)
+
+    def view_pages(self, name):
+        """The pages of a table at the transaction's base, or up to the highest row that its changes give values."""
+        written = [number for (table, number), values in self.own.new.items() if table == name and values is not None]
+        return max([self.own.pages[name]] + [number // PAGE + 1 for number in written])
+
+    def viewed(self, index):
+        """An index at the transaction's base, with the entries that its changes take away and add."""
+        table, taken, added = self.indexes[index].table, [], []
+        for number, values in [(number, values) for (name, number), values in self.own.new.items() if name == table]:
+            before = self.own.rows[table].get(number)
+            old, new = [row and (self.key(index, row), number) for row in (before, values)]
+            if old != new:
+                taken += [old] if old else []
+                added += [new] if new else []
+        return Overlaid(self.own.entries[index], taken, added) if taken or added else self.own.entries[index]
 
     def step(self, name, n):
         plan, done = self.need_cursor(name), 0

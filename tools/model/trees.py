@@ -1,6 +1,6 @@
 """Index trees. A node is never changed but copied, so that a snapshot keeps its trees. An index entry is (key, row number),
 a key a tuple of values as `place` of database.py makes them."""
-from bisect import bisect_right
+from bisect import bisect_left, bisect_right
 
 from .retrieval import LEAF
 
@@ -101,3 +101,25 @@ class Sorted:
 
     def estimate(self, bounds):
         return sum(bounds.side(key) == 0 for key, _ in self.entries), True
+
+
+class Overlaid:
+    """An index at a snapshot with entries of a transaction's changes laid over it: some are taken away, others are added,
+    and each sixteenth added one, from the first on, begins a further leaf."""
+
+    def __init__(self, below, taken, added):
+        self.below, self.taken, self.added, self.read = below, set(taken), sorted(added), None
+
+    def leaves(self):
+        if self.read is None:
+            below = self.below.leaves()
+            cuts = sorted({cut for cut, _ in below[1:]} | set(self.added[::16]))
+            entries = sorted([e for _, part in below for e in part if e not in self.taken] + self.added)
+            at = [0] + [bisect_left(entries, cut) for cut in cuts] + [len(entries)]
+            self.read = [(cut, entries[a:b]) for cut, a, b in zip([None] + cuts, at, at[1:])]
+        return self.read
+
+    def estimate(self, bounds):
+        count, exact = self.below.estimate(bounds)
+        inside = lambda entries: sum(bounds.side(key) == 0 for key, _ in entries)
+        return count + inside(self.added) - (inside(self.taken) if exact else 0), exact

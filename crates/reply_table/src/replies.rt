@@ -69,7 +69,6 @@ pub fn refusal(alloc: Global, number: u32) -> Result<Refusal, NoMemory> {
         }),
         10 => Ok(Refusal::NoCursor(Text::read(alloc, "C")?)),
         11 => Ok(Refusal::CursorOpen(Text::read(alloc, "C")?)),
-        12 => Ok(Refusal::Pending(Text::read(alloc, "T")?)),
         _ => Ok(Refusal::Limit {
             which: Which::Joined,
             number: 2,

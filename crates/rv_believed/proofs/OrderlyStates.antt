@@ -25,11 +25,11 @@ use Rattle.rv_model.specs.declared.state.State.{State}
 use Rattle.rv_model.specs.declared.state.Cursor.{Cursor}
 use Rattle.rv_model.specs.declared.transactions.Transaction.{Transaction}
 use Rattle.rv_model.specs.declared.transactions.Transactions.{Transactions}
-use Rattle.rv_model.specs.Database.{base_rows, cursor_at, cursor_named, empty, no_cursor}
+use Rattle.rv_model.specs.Database.{cursor_at, cursor_named, empty, no_cursor}
 use Rattle.rv_model.specs.History.{after_from, stepped}
 use Rattle.rv_model.specs.Offering.{offers_over}
 use Rattle.rv_model.specs.Offers.{offers_in_order}
-use Rattle.rv_model.specs.Step.{Outcome, began, changed, closed, committed, committed_with, created, ended, fetched, first_touched, indexed, inserted, next_asked, offers_after, opened, opening, own_cursors, rolled_back, rows_seen, state_of, table_name, table_of, understood}
+use Rattle.rv_model.specs.Step.{Outcome, began, changed, closed, committed, committed_with, created, ended, fetched, indexed, inserted, next_asked, offers_after, opened, opening, own_cursors, rolled_back, rows_seen, state_of, table_of, understood, view_rows}
 use Rattle.rv_model.specs.Transactions as transactions
 use Rattle.rv_model.specs.Transactions.{no_transaction, refuse_at, transaction_at, transaction_of}
 use Rattle.rv_believed.specs.Orderly.{BeginsBefore, EachTwo, IsOrderly, IsOther, StaysOrderly}
@@ -216,21 +216,18 @@ rolled_orderly s session h = then_gives Any Done (ok_or (transaction_of s.transa
 
 -- ---- cursors
 
-opening_free : (defs : List TableDef) (active : List Transaction) (cursors : List Cursor) (session : ℕ) (name : List ℕ) (tables : List ℕ)
-    → Gives (λ own. is_some (cursor_named cursors session name) ≡ false) (opening defs active cursors session name tables)
-opening_free defs active cursors session name tables =
+opening_free : (active : List Transaction) (cursors : List Cursor) (session : ℕ) (name : List ℕ)
+    → Gives (λ own. is_some (cursor_named cursors session name) ≡ false) (opening active cursors session name)
+opening_free active cursors session name =
     then_gives Any (λ own. is_some (cursor_named cursors session name) ≡ false) (ok_or (transaction_of active session) refusals.NoTransaction) _
     (any_gives (ok_or (transaction_of active session) refusals.NoTransaction))
     (λ own p. then_gives (λ u. is_some (cursor_named cursors session name) ≡ false) (λ own. is_some (cursor_named cursors session name) ≡ false)
     (refuse_if (is_some (cursor_named cursors session name)) (refusals.CursorOpen name)) _
     (test_gives (is_some (cursor_named cursors session name)) (refusals.CursorOpen name))
     (λ u free. then_gives Any (λ own. is_some (cursor_named cursors session name) ≡ false)
-    (refuse_at (first_touched (transaction_at active own).changes tables) (λ table. refusals.Pending (table_name defs table))) _
-    (any_gives (refuse_at (first_touched (transaction_at active own).changes tables) (λ table. refusals.Pending (table_name defs table))))
-    (λ v q. then_gives Any (λ own. is_some (cursor_named cursors session name) ≡ false)
     (refuse_if (nat_lt 15 (length (own_cursors cursors session))) (refusals.Limit which.Cursors 16)) _
     (any_gives (refuse_if (nat_lt 15 (length (own_cursors cursors session))) (refusals.Limit which.Cursors 16)))
-    (λ w r. free))))
+    (λ w r. free)))
 
 others_of : (cursors : List Cursor) (new : Cursor) → AllByRecursion (λ (c : Cursor). (nat_eq c.session new.session && bytes_eq c.name new.name) ≡ false) cursors
     → AllByRecursion (λ c. IsOther c new) cursors
@@ -243,9 +240,9 @@ others_of (c ∷ cs) new e = (
 
 opened_orderly : (s : State) (session : ℕ) (name : List ℕ) (q : Select) → IsOrderly s → Gives Done (opened s session name q)
 opened_orderly s session name q h = then_gives (λ own. is_some (cursor_named s.cursors session name) ≡ false) Done
-    (opening s.schema.tables s.transactions.active s.cursors session name q.tables) _
-    (opening_free s.schema.tables s.transactions.active s.cursors session name q.tables)
-    (λ own free. let new : Cursor = record { session = session; name = name; table = table_of q; offers = offers_in_order (offers_over q (base_rows s own)) } in
+    (opening s.transactions.active s.cursors session name) _
+    (opening_free s.transactions.active s.cursors session name)
+    (λ own free. let new : Cursor = record { session = session; name = name; table = table_of q; offers = offers_in_order (offers_over q (view_rows s own)) } in
     record {
       active = h.active;
       below = h.below;

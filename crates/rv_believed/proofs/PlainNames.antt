@@ -26,7 +26,6 @@ use Rattle.rv_catalog.specs.declared.def.TableDef.{TableDef}
 use Rattle.rv_catalog.specs.Answers.{◌>>=◌, all_pass, ok_or, refuse_if}
 use Rattle.rv_catalog.specs.Limits as working
 use Rattle.rv_catalog.specs.Schema.{columns_of, index_named, no_table, table_named}
-use Rattle.rv_model.specs.Step.{table_name}
 use Rattle.rv_model.specs.Transcript.{IsName as IsPlainName}
 use Rattle.rv_believed.specs.Answers.{Test, answers}
 use Rattle.rv_believed.specs.Limits.{left, right, literals, within_limits}
@@ -255,7 +254,7 @@ IsPlainAsked tables (asked.Update table sets only) = AllByRecursion (λ (s : ℕ
 IsPlainAsked tables (asked.Delete table only) = Unit {0}
 IsPlainAsked tables asked.Commit = Unit {0}
 IsPlainAsked tables asked.Rollback = Unit {0}
-IsPlainAsked tables (asked.Open cursor select) = IsPlainName cursor × AllByRecursion (λ (t : ℕ). IsPlainName (table_name tables t)) select.tables
+IsPlainAsked tables (asked.Open cursor select) = IsPlainName cursor
 IsPlainAsked tables (asked.Fetch cursor) = IsPlainName cursor
 IsPlainAsked tables (asked.Step cursor n) = IsPlainName cursor
 IsPlainAsked tables (asked.Show cursor) = IsPlainName cursor
@@ -276,9 +275,9 @@ set_kind_comes : (reach : List InReach) → AllByRecursion IsPlainReach reach �
 set_kind_comes reach h s p = then_comes IsPlainReach Any (reference reach (plain_column s.0)) (λ c. can_hold c s.1)
     (reference_comes reach h (plain_column s.0) p.0) (λ c q. hold_comes c s.1 q)
 
--- an item in reach: its name, and its table's
+-- an item in reach
 abbrev IsPlainInReach : List TableDef → Item → Type 0
-IsPlainInReach tables i = IsPlainName i.name × IsPlainName (table_name tables i.table)
+IsPlainInReach tables i = IsPlainName i.name
 
 second_plain : (o : Option (List ℕ)) (n : List ℕ) → MayBePlain o → IsPlainName n → IsPlainName (unwrap_or o n)
 second_plain None n p q = q
@@ -286,7 +285,7 @@ second_plain (Some m) n p q = p
 
 item_comes : (tables : List TableDef) → ArePlainTables tables → (i : List ℕ × Option (List ℕ)) → IsPlainItem i → Comes (IsPlainInReach tables) (item_of tables i)
 item_comes tables h i p = then_comes (IsThere tables) (IsPlainInReach tables) (table_number tables i.0) (λ table. Ok (record { name = unwrap_or i.1 i.0; table = table }))
-    (table_comes tables i.0 h p.0) (λ n q. (second_plain i.1 i.0 p.1 p.0, q.name))
+    (table_comes tables i.0 h p.0) (λ n q. second_plain i.1 i.0 p.1 p.0)
 
 returned_comes : (reach : List InReach) → AllByRecursion IsPlainReach reach → (o : Option (List RawCol)) → ArePlainReturned o → Comes Any (columns_returned reach o)
 returned_comes reach h None p = tt
@@ -335,9 +334,9 @@ asked_comes tables indexes h (statements.Open cursor returned items only order g
     (λ shown r. then_comes Any (IsPlainAsked tables) (condition_of reach only) _ (condition_comes reach are only p.3)
     (λ w z. then_comes Any (IsPlainAsked tables) (references reach order) _ (references_come reach are order p.4)
     (λ sorted o. then_comes Any (IsPlainAsked tables) (all_differ [] (map (λ (i : Item). i.name) from)) _
-    (differ_comes [] (map (λ (i : Item). i.name) from) (all_map (IsPlainInReach tables) IsPlainName (λ (i : Item). i.name) (λ i n. n.0) from q))
+    (differ_comes [] (map (λ (i : Item). i.name) from) (all_map (IsPlainInReach tables) IsPlainName (λ (i : Item). i.name) (λ i n. n) from q))
     (λ u n. then_comes Any (IsPlainAsked tables) (kinds reach only) _ (kinds_come reach are only p.3)
-    (λ v m. (p.0, all_map (IsPlainInReach tables) (λ (t : ℕ). IsPlainName (table_name tables t)) (λ (i : Item). i.table) (λ i k. k.1) from q)))))))
+    (λ v m. p.0))))))
 asked_comes tables indexes h (statements.Fetch cursor) p = p
 asked_comes tables indexes h (statements.Show cursor) p = p
 asked_comes tables indexes h (statements.Close cursor) p = p

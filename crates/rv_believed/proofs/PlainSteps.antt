@@ -13,7 +13,7 @@ use Rattle.rv_value.specs.Order.{values_cmp}
 use Rattle.rv_restrict.specs.declared.atom.Atom.{Atom}
 use Rattle.rv_restrict.specs.declared.atom.ColRef.{ColRef}
 use Rattle.rv_rows.specs.declared.changes.Change.{Change}
-use Rattle.rv_rows.specs.Changes.{rows_with_changes, with_change, with_changes, is_before, touches}
+use Rattle.rv_rows.specs.Changes.{rows_with_changes, with_change, with_changes, is_before}
 use Rattle.rv_rows.specs.Rows.{with_values, comes_below}
 use Rattle.rv_lang.specs.declared.reply.Refusal.{Refusal}
 use Rattle.rv_lang.specs.declared.reply.Refusal.TheVariants as refusals
@@ -37,11 +37,11 @@ use Rattle.rv_model.specs.Transactions.{refuse_at, no_transaction, transaction_a
 use Rattle.rv_model.specs.Database.{base_rows, cursor_at, cursor_named, no_cursor, rows_at}
 use Rattle.rv_model.specs.Offers.{offer_cmp, offers_in_order, place_of, same_values, with_offer, without}
 use Rattle.rv_model.specs.Offering.{choices, is_kept, offer_over, offers_over, picked_over}
-use Rattle.rv_model.specs.Step.{Outcome, AllowsFetch, AllowsShow, AllowsStep, Offers, AllowsAsked, next_asked, began, closed, changed, committed, committed_with, created, ended, fetched, first_touched, indexed, inserted, offers_after, opened, opening, own_cursors, reply_of, rolled_back, rows_seen, state_of, table_name, tables_changed}
+use Rattle.rv_model.specs.Step.{Outcome, AllowsFetch, AllowsShow, AllowsStep, Offers, AllowsAsked, next_asked, began, closed, changed, committed, committed_with, created, ended, fetched, indexed, inserted, offers_after, opened, opening, own_cursors, reply_of, rolled_back, rows_seen, state_of, tables_changed, view_rows}
 use Rattle.rv_model.specs.Transcript.{IsName as IsPlainName}
 use Rattle.rv_model.proofs.Same.{values_same}
 use Rattle.rv_believed.specs.Plain.{IsPlainValue, IsPlainRefusal, IsPlainReply}
-use Rattle.rv_believed.proofs.PlainLists.{all_append, all_map, all_map_any, all_filter, all_flat, all_remove, all_set, or_all, find_all, passing}
+use Rattle.rv_believed.proofs.PlainLists.{all_append, all_map, all_map_any, all_filter, all_flat, all_remove, all_set, or_all, passing}
 use Rattle.rv_believed.proofs.PlainNames.{Comes, Any, then_comes, refuse_comes, ok_or_comes, IsPlainTable, ArePlainTables, IsPlainAsked}
 use Rattle.rv_believed.proofs.PlainTraces.{shown_plain}
 
@@ -141,6 +141,9 @@ base_plain s own table h = rows_at_plain (slice_index_or s.bases own []) table (
 seen_plain : (s : State) (o : Option ℕ) (table : ℕ) → IsPlainState s → ArePlainRows (rows_seen s o table)
 seen_plain s None table h = tt
 seen_plain s (Some own) table h = base_plain s own table h
+
+view_plain : (s : State) (own table : ℕ) → IsPlainState s → ArePlainRows (view_rows s own table)
+view_plain s own table h = applied_plain table (transaction_at s.transactions.active own).changes (base_rows s own table) (own_plain s.transactions.active own h.active) (base_plain s own table h)
 
 -- ---- CREATE and BEGIN
 
@@ -350,28 +353,18 @@ sorted_plain : (xs : List Offer) → AllByRecursion IsPlainOffer xs → AllByRec
 sorted_plain [] h = tt
 sorted_plain (x ∷ xs) h = sorted_in_plain x (offers_in_order xs) h.0 (sorted_plain xs h.1)
 
--- the name of a table of which a row is changed
-refuse_found : (defs : List TableDef) (o : Option ℕ) → IfSome o (λ (t : ℕ). IsPlainName (table_name defs t))
-    → Comes Any (refuse_at o (λ table. refusals.Pending (table_name defs table)))
-refuse_found defs None h = tt
-refuse_found defs (Some t) h = h
-
-opening_plain : (defs : List TableDef) (active : List Transaction) (cursors : List Cursor) (session : ℕ) (name : List ℕ) (tables : List ℕ)
-    → IsPlainName name → AllByRecursion (λ (t : ℕ). IsPlainName (table_name defs t)) tables → Comes Any (opening defs active cursors session name tables)
-opening_plain defs active cursors session name tables p h = then_comes Any Any (ok_or (transaction_of active session) refusals.NoTransaction) _
+opening_plain : (active : List Transaction) (cursors : List Cursor) (session : ℕ) (name : List ℕ)
+    → IsPlainName name → Comes Any (opening active cursors session name)
+opening_plain active cursors session name p = then_comes Any Any (ok_or (transaction_of active session) refusals.NoTransaction) _
     (ok_or_comes Any (transaction_of active session) refusals.NoTransaction (some_any (transaction_of active session)) tt)
     (λ own q. then_comes Any Any (refuse_if (is_some (cursor_named cursors session name)) (refusals.CursorOpen name)) _
     (refuse_comes (is_some (cursor_named cursors session name)) (refusals.CursorOpen name) p)
-    (λ u r. then_comes Any Any (refuse_at (first_touched (transaction_at active own).changes tables) (λ table. refusals.Pending (table_name defs table))) _
-    (refuse_found defs (first_touched (transaction_at active own).changes tables)
-    (find_all (λ (t : ℕ). IsPlainName (table_name defs t)) (λ (table : ℕ). touches table (transaction_at active own).changes) tables h))
-    (λ v w. then_comes Any Any (refuse_if (nat_lt 15 (length (own_cursors cursors session))) (refusals.Limit which.Cursors 16)) _
-    (refuse_comes (nat_lt 15 (length (own_cursors cursors session))) (refusals.Limit which.Cursors 16) tt) (λ z o. tt))))
+    (λ u r. then_comes Any Any (refuse_if (nat_lt 15 (length (own_cursors cursors session))) (refusals.Limit which.Cursors 16)) _
+    (refuse_comes (nat_lt 15 (length (own_cursors cursors session))) (refusals.Limit which.Cursors 16) tt) (λ z o. tt)))
 
-opened_plain : (s : State) (session : ℕ) (cursor : List ℕ) (q : Select) → IsPlainState s → IsPlainName cursor
-    → AllByRecursion (λ (t : ℕ). IsPlainName (table_name s.schema.tables t)) q.tables → Comes IsPlainDone (opened s session cursor q)
-opened_plain s session cursor q h p r = then_comes Any IsPlainDone (opening s.schema.tables s.transactions.active s.cursors session cursor q.tables) _
-    (opening_plain s.schema.tables s.transactions.active s.cursors session cursor q.tables p r)
+opened_plain : (s : State) (session : ℕ) (cursor : List ℕ) (q : Select) → IsPlainState s → IsPlainName cursor → Comes IsPlainDone (opened s session cursor q)
+opened_plain s session cursor q h p = then_comes Any IsPlainDone (opening s.transactions.active s.cursors session cursor) _
+    (opening_plain s.transactions.active s.cursors session cursor p)
     (λ own w. (
       tt,
       record {
@@ -380,7 +373,7 @@ opened_plain s session cursor q h p r = then_comes Any IsPlainDone (opening s.sc
         rows = h.rows;
         active = h.active;
         bases = h.bases;
-        cursors = all_append IsPlainCursor s.cursors _ h.cursors (sorted_plain (offers_over q (base_rows s own)) (offers_plain q (base_rows s own) (λ t. base_plain s own t h)), tt);
+        cursors = all_append IsPlainCursor s.cursors _ h.cursors (sorted_plain (offers_over q (view_rows s own)) (offers_plain q (view_rows s own) (λ t. view_plain s own t h)), tt);
       },
     ))
 
@@ -525,5 +518,5 @@ step_keeps (Ok (asked.Update table sets only)) s session reply h p allowed = don
 step_keeps (Ok (asked.Delete table only)) s session reply h p allowed = done_plain (changed s session table None only) s reply h (changed_plain s session table None only h tt) allowed
 step_keeps (Ok asked.Commit) s session reply h p allowed = done_plain (committed s session) s reply h (committed_plain s session h) allowed
 step_keeps (Ok asked.Rollback) s session reply h p allowed = done_plain (rolled_back s session) s reply h (rolled_plain s session h) allowed
-step_keeps (Ok (asked.Open cursor q)) s session reply h p allowed = done_plain (opened s session cursor q) s reply h (opened_plain s session cursor q h p.0 p.1) allowed
+step_keeps (Ok (asked.Open cursor q)) s session reply h p allowed = done_plain (opened s session cursor q) s reply h (opened_plain s session cursor q h p) allowed
 step_keeps (Ok (asked.Close cursor)) s session reply h p allowed = done_plain (closed s session cursor) s reply h (closed_plain s session cursor h p) allowed

@@ -1,14 +1,14 @@
 -- Bridge: each statement on the database for which a state stands comes to that of what it comes to on the state.
-use Rattle.std.proofs.Common.{◌≡◌, ℕ, zero, suc, ◌+◌, ◌<◌, ◌≤◌, List, [], ◌∷◌, ◌++◌, Option, Some, None, Ok, Err, Bool, true, false, cond, not, ◌==◌, refl, sym, ap, ◌∙◌, arith, filter, find, is_some, length, map, nat_eq, nat_lt, option_map, slice_get, slice_index_or, if◌then◌else◌}
+use Rattle.std.proofs.Common.{◌≡◌, ℕ, zero, suc, ◌+◌, ◌<◌, ◌≤◌, List, [], ◌∷◌, ◌++◌, Option, Some, None, Ok, Err, Bool, true, false, cond, not, ◌==◌, refl, sym, ap, ◌∙◌, arith, filter, is_some, length, map, nat_eq, nat_lt, option_map, slice_get, slice_index_or, if◌then◌else◌}
 use Rattle.std.proofs.lemmas.Bool.Decides.{nat_tests}
 use Rattle.std.specs.List.{AllByRecursion, range_with_len}
 use Rattle.rv_value.specs.declared.value.Value.{Value}
 use Rattle.rv_value.specs.declared.record.Record.{Record}
 use Rattle.rv_restrict.specs.declared.atom.Atom.{Atom}
 use Rattle.rv_rows.specs.declared.changes.Change.{Change}
-use Rattle.rv_rows.specs.Changes.{has_change, rows_with_changes, touches, with_change, with_changes}
+use Rattle.rv_rows.specs.Changes.{has_change, rows_with_changes, with_change, with_changes}
 use Rattle.rv_rows.specs.Rows.{with_values}
-use Rattle.rv_lang.specs.declared.reply.Refusal.TheVariants.{Active, Busy, CursorOpen, Held, Limit, NoCursor, Pending}
+use Rattle.rv_lang.specs.declared.reply.Refusal.TheVariants.{Active, Busy, CursorOpen, Held, Limit, NoCursor}
 use Rattle.rv_lang.specs.declared.reply.Which.TheVariants as which
 use Rattle.rv_lang.specs.declared.reply.Reply.{Reply}
 use Rattle.rv_lang.specs.declared.reply.Reply.TheVariants.{Began, Closed, Committed, Created, Inserted, Opened, RolledBack, Touched}
@@ -16,7 +16,6 @@ use Rattle.rv_catalog.specs.declared.def.IndexDef.{IndexDef}
 use Rattle.rv_catalog.specs.declared.def.Select.{Select}
 use Rattle.rv_catalog.specs.declared.def.TableDef.{TableDef}
 use Rattle.rv_catalog.specs.Answers.{◌>>=◌, all_pass, ok_or, refuse_if}
-use Rattle.rv_catalog.specs.Schema.{no_table}
 use Rattle.rv_model.specs.declared.state.State.{State}
 use Rattle.rv_model.specs.declared.state.Cursor.{Cursor}
 use Rattle.rv_model.specs.declared.transactions.Transaction.{Transaction as Working}
@@ -300,9 +299,7 @@ rollback_stands s session h = rollback_on s session h ∙ ap outcome_of (rollbac
 
 open_on : (s : State) (session : ℕ) (name : List ℕ) (q : Select) → cursors.open_cursor (database s) session name q ≡ outcome_of (opening.open_cursor s session name q)
 open_on s session name q = own_then session s.transactions.active s.bases _ _ (λ n e.
-    sym (outcome_thrice (refuse_if (is_some (cursor_named s.cursors session name)) (CursorOpen name))
-    (refuse_at (find (λ table. touches table (transaction_at s.transactions.active n).changes) q.tables)
-    (λ table. Pending (slice_index_or s.schema.tables table no_table).name))
+    sym (outcome_twice (refuse_if (is_some (cursor_named s.cursors session name)) (CursorOpen name))
     (refuse_if (nat_lt 15 (length (filter (λ (c : Cursor). c.session == session) s.cursors))) (Limit which.Cursors 16))
     (Opened, record s { cursors = s.cursors ++ opening.new_cursor s n session name q ∷ [] })))
 

@@ -227,7 +227,7 @@ rolled_there s session h = then_any Done (ok_or (transaction_of s.transactions.a
     (λ own. record { rows = h.rows; touched = h.touched })
 
 opened_there : (s : State) (session : ℕ) (name : List ℕ) (q : Select) → IsOfTables s → Gives Done (opened s session name q)
-opened_there s session name q h = then_any Done (opening s.schema.tables s.transactions.active s.cursors session name q.tables) _
+opened_there s session name q h = then_any Done (opening s.transactions.active s.cursors session name) _
     (λ own. record { rows = h.rows; touched = h.touched })
 
 closed_there : (s : State) (session : ℕ) (name : List ℕ) → IsOfTables s → Gives Done (closed s session name)

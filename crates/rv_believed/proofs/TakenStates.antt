@@ -377,8 +377,8 @@ rolled_taken s session h = then_gives Any Done (ok_or (transaction_of s.transact
     (λ own p. ended_taken s own session (transactions.without s.transactions own) s.rows s.last h refl (no_rise (next_row s.transactions.touched)) h.rows)
 
 opened_taken : (s : State) (session : ℕ) (name : List ℕ) (q : Select) → HasTaken s → Gives Done (opened s session name q)
-opened_taken s session name q h = then_gives Any Done (opening s.schema.tables s.transactions.active s.cursors session name q.tables) _
-    (any_gives (opening s.schema.tables s.transactions.active s.cursors session name q.tables))
+opened_taken s session name q h = then_gives Any Done (opening s.transactions.active s.cursors session name) _
+    (any_gives (opening s.transactions.active s.cursors session name))
     (λ own p. record { rows = h.rows; bases = h.bases; changes = h.changes })
 
 closed_taken : (s : State) (session : ℕ) (name : List ℕ) → HasTaken s → Gives Done (closed s session name)

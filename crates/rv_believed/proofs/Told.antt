@@ -39,7 +39,6 @@ refusal_works (refusals.Held row txn) p h = (h.0, h.1)
 refusal_works (refusals.NoCursor name) p h = p
 refusal_works (refusals.CursorOpen name) p h = p
 refusal_works (refusals.Limit which n) p h = h
-refusal_works (refusals.Pending name) p h = p
 
 event_works : (e : ShownEvent) → IsPlainEvent e → IsHeldEvent e → working.IsPlainEvent e
 event_works (events.At control) p h = tt

@@ -1,35 +1,29 @@
 -- Believed: OPEN and CLOSE.
-use Rattle.std.specs.Prelude.{ℕ, List, [], ◌∷◌, ◌++◌, Ok, ◌==◌, nat_lt, is_some, length, filter, find, remove}
+use Rattle.std.specs.Prelude.{ℕ, List, [], ◌∷◌, ◌++◌, Ok, ◌==◌, nat_lt, is_some, length, filter, remove}
 use Rattle.std.specs.List.{slice_index_or}
-use Rattle.rv_rows.specs.Changes.{touches}
-use Rattle.rv_lang.specs.declared.reply.Refusal.TheVariants.{NoTransaction, NoCursor, CursorOpen, Limit, Pending}
+use Rattle.rv_lang.specs.declared.reply.Refusal.TheVariants.{NoTransaction, NoCursor, CursorOpen, Limit}
 use Rattle.rv_lang.specs.declared.reply.Which.TheVariants as limits
 use Rattle.rv_lang.specs.declared.reply.Reply.TheVariants.{Closed, Opened}
 use Rattle.rv_catalog.specs.declared.def.Select.{Select}
-use Rattle.rv_catalog.specs.Schema.{no_table}
 use Rattle.rv_catalog.specs.Answers.{◌>>=◌, ok_or, refuse_if}
 use Rattle.rv_model.specs.declared.state.Cursor.{Cursor}
 use Rattle.rv_model.specs.Database.{cursor_named}
 use Rattle.rv_model.specs.Offers.{offers_in_order}
-use Rattle.rv_model.specs.Transactions.{refuse_at}
-use Rattle.rv_believed.specs.Database.{Database, Transaction, transaction_of}
+use Rattle.rv_believed.specs.Database.{Database, Transaction, transaction_of, view}
 use Rattle.rv_believed.specs.Offers.{offers_of}
 use Rattle.rv_believed.specs.Transactions.{Outcome}
 
--- a cursor over the rows on which a transaction began, with its offers in their order
+-- a cursor over what a transaction sees as it is opened, with its offers in their order
 abbrev pub new_cursor : Transaction → ℕ → List ℕ → Select → Cursor
 new_cursor t session name q =
-    let offers = offers_in_order (offers_of q t.rows) in
+    let offers = offers_in_order (offers_of q (view t)) in
     record { session = session; name = name; table = slice_index_or q.tables 0 0; offers = offers }
 
--- OPEN: not a name that is open in the session, not over a table that the transaction has changed,
--- and at most 16 cursors in a session
+-- OPEN: not a name that is open in the session, and at most 16 cursors in a session
 abbrev pub open_cursor : Database → ℕ → List ℕ → Select → Outcome
 open_cursor d session name q = do
   t ← ok_or (transaction_of d session) NoTransaction
   free ← refuse_if (is_some (cursor_named d.cursors session name)) (CursorOpen name)
-  clean ← refuse_at (find (λ table. touches table t.changes) q.tables)
-      (λ table. Pending (slice_index_or d.tables table no_table).name)
   room ← refuse_if (nat_lt 15 (length (filter (λ (c : Cursor). c.session == session) d.cursors)))
       (Limit limits.Cursors 16)
   Ok (Opened, record d { cursors = d.cursors ++ new_cursor t session name q ∷ [] })

@@ -29,7 +29,6 @@ IsPlainRefusal (refusals.Exists name) = IsPlainName name
 IsPlainRefusal (refusals.Kind name) = IsPlainName name
 IsPlainRefusal (refusals.NoCursor name) = IsPlainName name
 IsPlainRefusal (refusals.CursorOpen name) = IsPlainName name
-IsPlainRefusal (refusals.Pending name) = IsPlainName name
 IsPlainRefusal refusal = Unit {0}
 
 -- so are the names of indexes

@@ -1,10 +1,16 @@
 -- What the methods of a database owe, from what the calls below them say.
-use Rattle.std.proofs.Common.{◌≡◌, ℕ, ◌-◌, ◌<◌, ◌≤◌, List, [], ◌∷◌, ◌++◌, refl, ap, sym, ◌∙◌, subst, arith, length, length-append, Result, Ok, Err, IfSome, Option, Some, None, true, false, nat_lt, is_some, filter}
+use Rattle.std.proofs.Common.{◌≡◌, ℕ, ◌-◌, ◌<◌, ◌≤◌, List, [], ◌∷◌, ◌++◌, refl, ap, sym, ◌∙◌, subst, arith, length, length-append, Result, Ok, Err, IfSome, Option, Some, None, true, false, nat_lt, is_some}
 use Rattle.std.specs.List.{AllByRecursion, list_all, slice_index_or}
 use Rattle.std.proofs.lemmas.Bool.Decides.{nat_tests}
 use Rattle.rv_value.specs.declared.record.Record.{Record}
 use Rattle.rv_rows.specs.declared.changes.Change.{Change}
-use Rattle.rv_rows.specs.Changes.{Rise}
+use Rattle.rv_rows.specs.Changes.{Rise, rows_with_changes}
+use Rattle.rv_overlay.specs.declared.frozen.Frozen.{Frozen}
+use Rattle.rv_cursor.specs.declared.cursor.Open.{Open}
+use Rattle.rv_cursor.specs.Left.{seen_at, seen_by}
+use Rattle.rv_own.specs.Views.{Freezes}
+use Rattle.rv_core.proofs.Plans.{reads_all}
+use Rattle.rv_core.proofs.Viewing.{seen_view}
 use Rattle.rv_lang.specs.declared.reply.Refusal.{Refusal}
 use Rattle.rv_lang.specs.declared.reply.Refusal.TheVariants.{NoTransaction, CursorOpen, Limit}
 use Rattle.rv_lang.specs.declared.reply.Which.TheVariants.{Cursors}
@@ -16,23 +22,20 @@ use Rattle.rv_catalog.specs.Answers.{◌>>=◌, ok_or, refuse_if}
 use Rattle.rv_catalog.proofs.Steps.{answer, bind_ok, ok_is, was_some}
 use Rattle.rv_catalog.specs.Kept.{indexes_over}
 use Rattle.rv_catalog.specs.Schema.{Schema}
-use Rattle.rv_reader.specs.Shown.{Shown, IsSnapshot}
+use Rattle.rv_reader.specs.Shown.{Shown, CanRead, IsSnapshot}
 use Rattle.rv_reader.specs.Storing.{IsSame, CanCommit, Created as CreatedIn}
 use Rattle.rv_model.specs.declared.state.State.{State}
 use Rattle.rv_model.specs.declared.state.Cursor.{Cursor}
 use Rattle.rv_model.specs.declared.transactions.Transaction.{Transaction}
 use Rattle.rv_model.specs.declared.transactions.Transactions.{Transactions}
-use Rattle.rv_model.specs.Database.{base_rows, cursor_named, rows_at}
+use Rattle.rv_model.specs.Database.{cursor_named, rows_at}
 use Rattle.rv_model.specs.Offering.{offers_over}
-use Rattle.rv_restrict.specs.declared.atom.Atom.{Atom}
-use Rattle.rv_restrict.specs.Truth.{qualifies}
 use Rattle.rv_catalog.specs.Fits.{is_column}
 use Rattle.rv_model.specs.Offers.{offers_in_order}
-use Rattle.rv_model.specs.Transactions.{transaction_of, transaction_at, refuse_at, done, lowest}
-use Rattle.rv_model.specs.Step.{committed, created, first_touched, opened, opening, other_cursors, own_cursors, rolled_back, rows_seen, table_of}
-use Rattle.rv_txn.specs.declared.txns.Standing.{Standing}
-use Rattle.rv_txn.specs.Calls.{finished, rolled_back as undone, standing, standing_at}
-use Rattle.rv_core.specs.Db.{bases_of, db_of, stand_of, IsOwn, IsTied}
+use Rattle.rv_model.specs.Transactions.{transaction_of, transaction_at, done, lowest}
+use Rattle.rv_model.specs.Step.{committed, created, opened, opening, other_cursors, own_cursors, rolled_back, rows_viewed, table_of, view_rows}
+use Rattle.rv_txn.specs.Calls.{finished, rolled_back as undone}
+use Rattle.rv_core.specs.Db.{bases_of, db_of, stand_of, view_at, IsOwn, IsTied}
 use Rattle.rv_core.specs.Doing.{Does, opening_base}
 use Rattle.rv_core.specs.Storing.{CommitsTo}
 use Rattle.rv_core.proofs.Choosing.{offers_same}
@@ -112,14 +115,13 @@ rolls_does shown schema txns left cursors others session h kept =
 -- OPEN
 
 -- the session's transaction in a place may open, and this is its base
-pub opening_is : (defs : List TableDef) (active : List Transaction) (cursors : List Cursor) (session base : ℕ) (name tables : List ℕ) → opening_base defs active cursors session name tables ≡ Ok base
-    → (own : ℕ) × (opening defs active cursors session name tables ≡ Ok own) × (transaction_of active session ≡ Some own) × ((transaction_at active own).base ≡ base)
-opening_is defs active cursors session base name tables h =
-    let o = bind_ok (opening defs active cursors session name tables) _ base h in
+pub opening_is : (active : List Transaction) (cursors : List Cursor) (session base : ℕ) (name : List ℕ) → opening_base active cursors session name ≡ Ok base
+    → (own : ℕ) × (opening active cursors session name ≡ Ok own) × (transaction_of active session ≡ Some own) × ((transaction_at active own).base ≡ base)
+opening_is active cursors session base name h =
+    let o = bind_ok (opening active cursors session name) _ base h in
     let t = bind_ok (ok_or (transaction_of active session) NoTransaction) _ o.0 o.1 in
     let free = bind_ok (refuse_if (is_some (cursor_named cursors session name)) (CursorOpen name)) _ o.0 t.2 in
-    let clean = bind_ok (refuse_at (first_touched (transaction_at active t.0).changes tables) _) _ o.0 free.2 in
-    let room = bind_ok (refuse_if (nat_lt 15 (length (own_cursors cursors session))) (Limit Cursors 16)) _ o.0 clean.2 in
+    let room = bind_ok (refuse_if (nat_lt 15 (length (own_cursors cursors session))) (Limit Cursors 16)) _ o.0 free.2 in
     let same : t.0 ≡ o.0 = ok_is t.0 o.0 room.2 in
     let found : transaction_of active session ≡ Some o.0 = was_some (transaction_of active session) NoTransaction t.0 t.1 ∙ ap (λ (n : ℕ). Some n) same in
     (o.0, o.1, found, ok_is (transaction_at active o.0).base base o.2)
@@ -128,20 +130,20 @@ opening_err : (r : Result ℕ Refusal) (f : ℕ → ℕ) (refusal : Refusal) →
 opening_err (Ok n) f refusal h = cc
 opening_err (Err e) f refusal h = let same : e ≡ refusal = cc in rw same refl
 
-pub opens_err : (s : State) (session : ℕ) (name : List ℕ) (select : Select) (refusal : Refusal) → opening_base s.schema.tables s.transactions.active s.cursors session name select.tables ≡ Err refusal → opened s session name select ≡ Err refusal
+pub opens_err : (s : State) (session : ℕ) (name : List ℕ) (select : Select) (refusal : Refusal) → opening_base s.transactions.active s.cursors session name ≡ Err refusal → opened s session name select ≡ Err refusal
 opens_err s session name select refusal h =
-    let e = opening_err (opening s.schema.tables s.transactions.active s.cursors session name select.tables) (λ own. (transaction_at s.transactions.active own).base) refusal h in
+    let e = opening_err (opening s.transactions.active s.cursors session name) (λ own. (transaction_at s.transactions.active own).base) refusal h in
     rw e refl
 
-pub opens_refused : (shown : Shown) (schema : Schema) (txns : Transactions) (cursors : List Cursor) (session : ℕ) (name : List ℕ) (select : Select) (refusal : Refusal) (replies : Reply × Reply) → opening_base schema.tables txns.active cursors session name select.tables ≡ Err refusal → (replies.0 ≡ Refused refusal) × (replies.1 ≡ Refused refusal)
+pub opens_refused : (shown : Shown) (schema : Schema) (txns : Transactions) (cursors : List Cursor) (session : ℕ) (name : List ℕ) (select : Select) (refusal : Refusal) (replies : Reply × Reply) → opening_base txns.active cursors session name ≡ Err refusal → (replies.0 ≡ Refused refusal) × (replies.1 ≡ Refused refusal)
     → Does (opened (db_of shown schema txns cursors) session name select) (stand_of shown schema txns cursors) replies (stand_of shown schema txns cursors)
 opens_refused shown schema txns cursors session name select refusal replies h made =
     let e = opens_err (db_of shown schema txns cursors) session name select refusal h in
     rw e (made.1 ∙ sym made.0, made.0, refl)
 
-pub opening_snapshot : (shown : Shown) (schema : Schema) (txns : Transactions) (cursors : List Cursor) (session base : ℕ) (name tables : List ℕ) → IsTied shown schema txns → opening_base schema.tables txns.active cursors session name tables ≡ Ok base → IsSnapshot shown base
-opening_snapshot shown schema txns cursors session base name tables tied h =
-    let o = opening_is schema.tables txns.active cursors session base name tables h in
+pub opening_snapshot : (shown : Shown) (schema : Schema) (txns : Transactions) (cursors : List Cursor) (session base : ℕ) (name : List ℕ) → IsTied shown schema txns → opening_base txns.active cursors session name ≡ Ok base → IsSnapshot shown base
+opening_snapshot shown schema txns cursors session base name tied h =
+    let o = opening_is txns.active cursors session base name h in
     rw (← o.3) (base_known shown txns.touched txns.active o.0 (own_within txns.active session o.0 o.2) tied.active)
 
 -- the rows of tables at the base of a transaction
@@ -154,24 +156,53 @@ rows_agree shown count own base active (t ∷ ts) within at there =
     low : (a b : ℕ) → nat_lt a b ≡ true → a < b
     low a b h = grind (arith, nat_tests)
 
--- what the session sees of tables at the base of its transaction
-pub opened_rows : (shown : Shown) (schema : Schema) (txns : Transactions) (cursors : List Cursor) (session base snap : ℕ) (name tables : List ℕ) → opening_base schema.tables txns.active cursors session name tables ≡ Ok base → snap ≡ base → list_all (is_column (length schema.tables)) tables ≡ true → AllByRecursion (λ (t : ℕ). shown.rows t snap ≡ rows_seen (db_of shown schema txns cursors) (transaction_of txns.active session) t) tables
-opened_rows shown schema txns cursors session base snap name tables h at there =
-    let o = opening_is schema.tables txns.active cursors session base name tables h in
-    let agree = rows_agree shown (length schema.tables) o.0 base txns.active tables (own_within txns.active session o.0 o.2) o.3 there in
-    rw (at, o.2) (turned (λ (t : ℕ). rows_at (slice_index_or (bases_of shown (length schema.tables) txns.active) o.0 []) t) (λ (t : ℕ). shown.rows t base) tables agree)
-  where
-    turned : (P Q : ℕ → List Record) (ts : List ℕ) → AllByRecursion (λ (t : ℕ). P t ≡ Q t) ts → AllByRecursion (λ (t : ℕ). Q t ≡ P t) ts
-    turned P Q [] a = tt
-    turned P Q (t ∷ ts) a = (sym a.0, turned P Q ts a.1)
+-- the view of a transaction is what was frozen of it over the store's rows
+frozen_rows : (shown : Shown) (base table : ℕ) (t : Transaction) (frozen : Option Frozen) (rows : List Record) → rows ≡ shown.rows table base → Freezes shown t frozen → rows_with_changes table t.changes rows ≡ view_at shown base frozen table
+frozen_rows shown base table t None rows e none = ap (λ (cs : List Change). rows_with_changes table cs rows) none ∙ e
+frozen_rows shown base table t (Some f) rows e is = ap (λ (cs : List Change). rows_with_changes table cs rows) (sym is.changes) ∙ ap (rows_with_changes table f.changes) e
 
-pub opens_does : (shown : Shown) (schema : Schema) (txns : Transactions) (cursors more : List Cursor) (session base : ℕ) (name : List ℕ) (select : Select) → opening_base schema.tables txns.active cursors session name select.tables ≡ Ok base → list_all (is_column (length schema.tables)) select.tables ≡ true
-    → more ≡ cursors ++ record { session = session; name = name; table = table_of select; offers = offers_in_order (offers_over select (λ (t : ℕ). shown.rows t base)) } ∷ []
+view_agree : (shown : Shown) (count own base : ℕ) (active : List Transaction) (frozen : Option Frozen) (tables : List ℕ) → own < length active → (transaction_at active own).base ≡ base → Freezes shown (transaction_at active own) frozen → list_all (is_column count) tables ≡ true
+    → AllByRecursion (λ (t : ℕ). rows_with_changes t (transaction_at active own).changes (rows_at (slice_index_or (bases_of shown count active) own []) t) ≡ view_at shown base frozen t) tables
+view_agree shown count own base active frozen tables within at freezes there = all_each tables (rows_agree shown count own base active tables within at there)
+  where
+    all_each : (ts : List ℕ) → AllByRecursion (λ (t : ℕ). rows_at (slice_index_or (bases_of shown count active) own []) t ≡ shown.rows t base) ts
+        → AllByRecursion (λ (t : ℕ). rows_with_changes t (transaction_at active own).changes (rows_at (slice_index_or (bases_of shown count active) own []) t) ≡ view_at shown base frozen t) ts
+    all_each [] a = tt
+    all_each (t ∷ ts) a = (frozen_rows shown base t (transaction_at active own) frozen (rows_at (slice_index_or (bases_of shown count active) own []) t) a.0 freezes, all_each ts a.1)
+
+frozen_base : (shown : Shown) (base : ℕ) (t : Transaction) (frozen : Option Frozen) → t.base ≡ base → Freezes shown t frozen → IfSome frozen (λ (f : Frozen). f.base ≡ base)
+frozen_base shown base t None e h = tt
+frozen_base shown base t (Some f) e h = h.base ∙ e
+
+sees_view : (shown : Shown) (schema : Schema) (txns : Transactions) (cursors : List Cursor) (base own : ℕ) (frozen : Option Frozen) (ts : List ℕ) → IfSome frozen (λ (f : Frozen). f.base ≡ base)
+    → AllByRecursion (λ (t : ℕ). view_rows (db_of shown schema txns cursors) own t ≡ view_at shown base frozen t) ts → AllByRecursion (λ (t : ℕ). CanRead shown t base) ts
+    → AllByRecursion (λ (t : ℕ). (seen_at shown base frozen).rows t base ≡ view_rows (db_of shown schema txns cursors) own t) ts
+sees_view shown schema txns cursors base own frozen [] at a can = tt
+sees_view shown schema txns cursors base own frozen (t ∷ ts) at a can = (seen_view shown base t frozen can.0 at ∙ sym a.0, sees_view shown schema txns cursors base own frozen ts at a.1 can.1)
+
+-- what the session sees of tables in the view of its transaction
+pub opened_rows : (shown : Shown) (schema : Schema) (txns : Transactions) (cursors : List Cursor) (session base : ℕ) (name tables : List ℕ) (frozen : Option Frozen) (c : Open) → IsTied shown schema txns → opening_base txns.active cursors session name ≡ Ok base → c.snap ≡ base → c.frozen ≡ frozen → IfSome (transaction_of txns.active session) (λ (own : ℕ). Freezes shown (transaction_at txns.active own) frozen) → list_all (is_column (length schema.tables)) tables ≡ true
+    → AllByRecursion (λ (t : ℕ). (seen_by shown c).rows t c.snap ≡ rows_viewed (db_of shown schema txns cursors) (transaction_of txns.active session) t) tables
+opened_rows shown schema txns cursors session base name tables frozen c tied h at over freezes there =
+    let db = db_of shown schema txns cursors in
+    let o = opening_is txns.active cursors session base name h in
+    let own_freezes : Freezes shown (transaction_at txns.active o.0) frozen = subst (λ (p : Option ℕ). IfSome p (λ (own : ℕ). Freezes shown (transaction_at txns.active own) frozen)) o.2 freezes in
+    let agree = view_agree shown (length schema.tables) o.0 base txns.active frozen tables (own_within txns.active session o.0 o.2) o.3 own_freezes there in
+    let reads = reads_all shown schema txns base tables tied there (opening_snapshot shown schema txns cursors session base name tied h) in
+    let sees = sees_view shown schema txns cursors base o.0 frozen tables (frozen_base shown base (transaction_at txns.active o.0) frozen o.3 own_freezes) agree reads in
+    subst (λ (f : Option Frozen). AllByRecursion (λ (t : ℕ). (seen_at shown c.snap f).rows t c.snap ≡ rows_viewed db (transaction_of txns.active session) t) tables) (sym over)
+    (subst (λ (n : ℕ). AllByRecursion (λ (t : ℕ). (seen_at shown n frozen).rows t n ≡ rows_viewed db (transaction_of txns.active session) t) tables) (sym at)
+    (subst (λ (p : Option ℕ). AllByRecursion (λ (t : ℕ). (seen_at shown base frozen).rows t base ≡ rows_viewed db p t) tables) (sym o.2) sees))
+
+pub opens_does : (shown : Shown) (schema : Schema) (txns : Transactions) (cursors more : List Cursor) (session base : ℕ) (name : List ℕ) (select : Select) (frozen : Option Frozen) → opening_base txns.active cursors session name ≡ Ok base → list_all (is_column (length schema.tables)) select.tables ≡ true
+    → IfSome (transaction_of txns.active session) (λ (own : ℕ). Freezes shown (transaction_at txns.active own) frozen)
+    → more ≡ cursors ++ record { session = session; name = name; table = table_of select; offers = offers_in_order (offers_over select (view_at shown base frozen)) } ∷ []
     → Does (opened (db_of shown schema txns cursors) session name select) (stand_of shown schema txns cursors) (Opened, Opened) (stand_of shown schema txns more)
-opens_does shown schema txns cursors more session base name select h there pushed =
-    let o = opening_is schema.tables txns.active cursors session base name select.tables h in
-    let agree = rows_agree shown (length schema.tables) o.0 base txns.active select.tables (own_within txns.active session o.0 o.2) o.3 there in
-    let same : offers_over select (base_rows (db_of shown schema txns cursors) o.0) ≡ offers_over select (λ (t : ℕ). shown.rows t base) = offers_same select (base_rows (db_of shown schema txns cursors) o.0) (λ (t : ℕ). shown.rows t base) agree in
+opens_does shown schema txns cursors more session base name select frozen h there freezes pushed =
+    let o = opening_is txns.active cursors session base name h in
+    let own_freezes : Freezes shown (transaction_at txns.active o.0) frozen = subst (λ (p : Option ℕ). IfSome p (λ (own : ℕ). Freezes shown (transaction_at txns.active own) frozen)) o.2 freezes in
+    let agree = view_agree shown (length schema.tables) o.0 base txns.active frozen select.tables (own_within txns.active session o.0 o.2) o.3 own_freezes there in
+    let same : offers_over select (view_rows (db_of shown schema txns cursors) o.0) ≡ offers_over select (view_at shown base frozen) = offers_same select (view_rows (db_of shown schema txns cursors) o.0) (view_at shown base frozen) agree in
     rw (pushed, o.1, same) (refl, refl, refl)
 
 pub low_room : (n m : ℕ) → m ≡ n → m ≤ 63 → nat_lt 63 n ≡ false
@@ -179,18 +210,8 @@ low_room n m e h = grind (arith, nat_tests)
 
 -- what the session's transaction reads
 
-seen_by : (shown : Shown) (schema : Schema) (txns : Transactions) (cursors : List Cursor) (session table : ℕ) (s : Standing) (o : Option ℕ) → transaction_of txns.active session ≡ o → standing txns.active o ≡ Some s → table < length schema.tables → rows_seen (db_of shown schema txns cursors) o table ≡ shown.rows table s.base
-seen_by shown schema txns cursors session table s None e h there = cc
-seen_by shown schema txns cursors session table s (Some own) e h there =
+pub view_read : (shown : Shown) (schema : Schema) (txns : Transactions) (cursors : List Cursor) (session table : ℕ) (own : ℕ) (rows : List Record) → transaction_of txns.active session ≡ Some own → table < length schema.tables → rows ≡ rows_with_changes table (transaction_at txns.active own).changes (shown.rows table (transaction_at txns.active own).base)
+    → rows ≡ rows_viewed (db_of shown schema txns cursors) (transaction_of txns.active session) table
+view_read shown schema txns cursors session table own rows e there read =
     let at = base_at shown (length schema.tables) table txns.active own (own_within txns.active session own e) there in
-    let same : standing_at txns.active own ≡ s = cc in
-    at ∙ ap (λ (t : Standing). shown.rows table t.base) same
-
-all_kept : (rows : List Record) → filter (λ (r : Record). qualifies [] r.values) rows ≡ rows
-all_kept [] = refl
-all_kept (r ∷ rows) = ap (λ rs. r ∷ rs) (all_kept rows)
-
-pub rows_read : (shown : Shown) (schema : Schema) (txns : Transactions) (cursors : List Cursor) (session table : ℕ) (s : Standing) (only : List (List Atom)) (rows : List Record) → Some s ≡ standing txns.active (transaction_of txns.active session) → table < length schema.tables → only ≡ [] → rows ≡ filter (λ (r : Record). qualifies only r.values) (shown.rows table s.base) → rows ≡ rows_seen (db_of shown schema txns cursors) (transaction_of txns.active session) table
-rows_read shown schema txns cursors session table s only rows h there none read =
-    let seen = seen_by shown schema txns cursors session table s (transaction_of txns.active session) refl (sym h) there in
-    read ∙ ap (λ (o : List (List Atom)). filter (λ (r : Record). qualifies o r.values) (shown.rows table s.base)) none ∙ all_kept (shown.rows table s.base) ∙ sym seen
+    rw e (read ∙ ap (rows_with_changes table (transaction_at txns.active own).changes) (sym at))

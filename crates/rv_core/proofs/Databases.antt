@@ -36,7 +36,7 @@ use Rattle.rv_cursor.specs.declared.cursor.Open.{Open}
 use Rattle.rv_core.specs.Db.{base_of, own_opens, AreListed, IsOpen, IsStanding, IsTied, db_of, seen, stand_of, whole_of}
 use Rattle.rv_core.specs.Doing.{Does, Shows, opening_base}
 use Rattle.rv_core.specs.Obeying.{SeesSame, TellsPlan}
-use Rattle.rv_core.proofs.Bases.{base_found}
+use Rattle.rv_own.proofs.Bases.{base_found}
 use Rattle.rv_core.specs.Storing.{CommitsTo, changed_over}
 use Rattle.rv_restrict.specs.declared.atom.Atom.{Atom}
 use Rattle.rv_core.proofs.Calling.{at_own, commits_does, commits_tied, creates, creates_tied, opening_is, rolls_does, rolls_tied, same_stand}
@@ -151,12 +151,12 @@ stays_itself shown = record { columns = λ t h. refl; over = λ i h. refl; keys 
 kept_itself : (old new : Shown) → new ≡ old → Kept old new
 kept_itself old new e = rw e record { tables = refl; indexes = refl; stays = stays_itself old }
 
-commits_kept : (old new : Shown) (base c : ℕ) (changes : List Change) → CommitsTo old new base changes c → Kept old new
+pub commits_kept : (old new : Shown) (base c : ℕ) (changes : List Change) → CommitsTo old new base changes c → Kept old new
 commits_kept old new base c [] told = kept_itself old new told.0
 commits_kept old new base c (x ∷ xs) told = kept_committed old new (x ∷ xs) told.0
 
 -- the transaction in the place of the session's is the session's
-own_is : (active : List Transaction) (session own : ℕ) → transaction_of active session ≡ Some own → ((transaction_at active own).session == session) ≡ true
+pub own_is : (active : List Transaction) (session own : ℕ) → transaction_of active session ≡ Some own → ((transaction_at active own).session == session) ≡ true
 own_is active session own e = (position-Some _ active own no_transaction e).1
 
 -- the cursors of other sessions, where a session's transaction is gone
@@ -164,7 +164,7 @@ gone_bases : (txns left : Transactions) (own session : ℕ) (cs : List Open) →
 gone_bases txns left own session cs is e = subst (λ (a : List Transaction). SameBases txns.active a (others cs session)) (sym is) (others_bases txns.active own session cs (own_is txns.active session own e))
 
 -- what a commit has to do with the session's transaction
-commit_own : (txns left : Transactions) (session k base c : ℕ) (changes : List Change) → finished txns session ≡ Ok (k, base, changes) → IfSome (transaction_of txns.active session) (λ own. left ≡ done txns own c)
+pub commit_own : (txns left : Transactions) (session k base c : ℕ) (changes : List Change) → finished txns session ≡ Ok (k, base, changes) → IfSome (transaction_of txns.active session) (λ own. left ≡ done txns own c)
     → (own : ℕ) × (transaction_of txns.active session ≡ Some own) × (left.active ≡ remove txns.active own)
 commit_own txns left session k base c changes did is =
     let f = finished_is txns session k base changes did in
@@ -220,9 +220,9 @@ closes_standing shown schema txns cs kept n place is h = rw is record { tied = h
 -- OPEN
 
 -- the new cursor stands at the base of the session's transaction
-pub fresh_open : (shown : Shown) (schema : Schema) (txns : Transactions) (cursors : List Cursor) (session base : ℕ) (name tables : List ℕ) (c : Open) → opening_base schema.tables txns.active cursors session name tables ≡ Ok base → c.session ≡ session → c.snap ≡ base → CursorFits shown c → (item_at c.plan.asked 0).indexes ≡ indexes_from (item_at c.plan.asked 0).table 0 schema.indexes → IsOpen shown schema txns.active c
-fresh_open shown schema txns cursors session base name tables c h own at fits over =
-    let o = opening_is schema.tables txns.active cursors session base name tables h in
+pub fresh_open : (shown : Shown) (schema : Schema) (txns : Transactions) (cursors : List Cursor) (session base : ℕ) (name : List ℕ) (c : Open) → opening_base txns.active cursors session name ≡ Ok base → c.session ≡ session → c.snap ≡ base → CursorFits shown c → (item_at c.plan.asked 0).indexes ≡ indexes_from (item_at c.plan.asked 0).table 0 schema.indexes → IsOpen shown schema txns.active c
+fresh_open shown schema txns cursors session base name c h own at fits over =
+    let o = opening_is txns.active cursors session base name h in
     record {
       base = ap (λ (s : ℕ). base_of txns.active s) own ∙ base_found txns.active session o.0 o.2 ∙ ap (λ (n : ℕ). Some n) (o.3 ∙ sym at);
       fits = fits;

@@ -71,7 +71,7 @@ rests would shown p place there = (
     after = there.0;
     here = there.1;
     set = sym (set_got p.opens place there.0 there.1);
-    same = record { session = refl; name = refl; number = refl; snap = refl; asked = refl };
+    same = record { session = refl; name = refl; number = refl; snap = refl; frozen = refl; asked = refl };
     moved = record { moves = []; made = refl };
   },
 )

@@ -11,6 +11,7 @@ use Rattle.rv_model.specs.declared.state.Offer.{Offer}
 use Rattle.rv_model.specs.declared.transactions.Transaction.{Transaction}
 use Rattle.rv_model.specs.declared.transactions.Transactions.{Transactions}
 use Rattle.rv_model.specs.Offers.{offers_in_order}
+use Rattle.rv_view.specs.Sights.{LaysSome, laid_over}
 use Rattle.rv_snapshot.specs.Alone.{alone}
 use Rattle.rv_snapshot.proofs.Staying.{alone_stays}
 use Rattle.rv_join.specs.Asking.{item_at}
@@ -20,17 +21,19 @@ use Rattle.rv_cursor.specs.declared.cursor.Open.{Open}
 use Rattle.rv_cursor.specs.Left.{CursorFits, in_hand, seen_by}
 use Rattle.rv_core.specs.Db.{IsOpen, IsTied, base_of, seen, seen_of}
 use Rattle.rv_core.specs.Obeying.{SeesSame}
-use Rattle.rv_core.proofs.Bases.{base_known, base_pushed, base_with, base_without}
+use Rattle.rv_own.proofs.Bases.{base_with}
+use Rattle.rv_core.proofs.Bases.{base_known, base_pushed, base_without}
 
 fits_stay : (old new : Shown) (c : Open) → alone new c.snap ≡ alone old c.snap → CursorFits old c → CursorFits new c
 fits_stay old new c e f = record {
   at = f.at;
-  plan = subst (λ (s : Shown). PlanFits s c.plan) (sym e) f.plan;
-  least = subst (λ (s : Shown). IfSome c.hand (λ (o : Offer). IsLeastOf o (plan_rest s c.plan))) (sym e) f.least;
+  plan = subst (λ (s : Shown). PlanFits (laid_over s c.frozen) c.plan) (sym e) f.plan;
+  least = subst (λ (s : Shown). IfSome c.hand (λ (o : Offer). IsLeastOf o (plan_rest (laid_over s c.frozen) c.plan))) (sym e) f.least;
+  lays = subst (λ (s : Shown). LaysSome s c.frozen) (sym e) f.lays;
 }
 
 seen_stays : (old new : Shown) (c : Open) → alone new c.snap ≡ alone old c.snap → seen_of new c ≡ seen_of old c
-seen_stays old new c e = ap (λ (s : Shown). record { session = c.session; name = c.name; table = (item_at c.plan.asked 0).table; offers = offers_in_order (in_hand c.hand ++ plan_rest s c.plan) }) e
+seen_stays old new c e = ap (λ (s : Shown). record { session = c.session; name = c.name; table = (item_at c.plan.asked 0).table; offers = offers_in_order (in_hand c.hand ++ plan_rest (laid_over s c.frozen) c.plan) }) e
 
 -- the same tables and indexes, and each snapshot that was there and still is
 pub record Kept (old new : Shown) : Type 0 where
@@ -155,4 +158,4 @@ sees_kept old new schema later was is cs kept before after same h = record { eac
   where
     each : (ds : List Open) → SameBases was.active is.active ds → AllByRecursion (IsOpen old schema was.active) ds → AllByRecursion (λ (d : Open). seen_by new d ≡ seen_by old d) ds
     each [] s o = tt
-    each (d ∷ ds) s o = (snapshot_same old new schema later was is d kept before after s.0 o.0, each ds s.1 o.1)
+    each (d ∷ ds) s o = (ap (λ (x : Shown). laid_over x d.frozen) (snapshot_same old new schema later was is d kept before after s.0 o.0), each ds s.1 o.1)

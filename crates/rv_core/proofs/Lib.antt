@@ -4,8 +4,10 @@ pub mod Calling
 pub mod Choosing
 pub mod Databases
 pub mod Opens
+pub mod Owning
 pub mod Planning
 pub mod Plans
+pub mod Putting
 pub mod Facts
 pub mod Few
 pub mod Handling
@@ -21,3 +23,4 @@ pub mod Soundness
 pub mod Standing
 pub mod Tied
 pub mod Turning
+pub mod Viewing

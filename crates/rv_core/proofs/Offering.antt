@@ -1,5 +1,5 @@
 -- What a cursor gives, and what it can read.
-use Rattle.std.proofs.Common.{◌≡◌, ◌<◌, ℕ, List, [], ◌∷◌, refl, arith, Bool, true, false, ◌&&◌, Option, Some, None, Err, is_some, nat_lt, nat_eq, length, find}
+use Rattle.std.proofs.Common.{◌≡◌, ◌<◌, ℕ, List, [], ◌∷◌, refl, arith, Bool, true, false, ◌&&◌, nat_lt, nat_eq, length}
 use Rattle.std.specs.List.{list_all, slice_index_or}
 use Rattle.std.proofs.lemmas.Bool.Decides.{nat_tests}
 use Rattle.rv_restrict.specs.declared.atom.ColRef.{ColRef}
@@ -15,16 +15,8 @@ use Rattle.rv_catalog.specs.Schema.{Schema, width}
 use Rattle.rv_catalog.specs.Fits.{IsQueryOf, is_column, is_there}
 use Rattle.rv_reader.specs.Shown.{Shown, IsSnapshot, CanRead}
 use Rattle.rv_model.specs.declared.transactions.Transactions.{Transactions}
-use Rattle.rv_model.specs.declared.state.Cursor.{Cursor}
-use Rattle.rv_model.specs.Database.{cursor_named}
-use Rattle.rv_lang.specs.declared.reply.Refusal.TheVariants.{Pending}
-use Rattle.rv_txn.specs.declared.txns.Standing.{Standing}
-use Rattle.rv_model.specs.declared.transactions.Transaction.{Transaction}
-use Rattle.rv_model.specs.Transactions.{transaction_of, transaction_at}
-use Rattle.rv_txn.specs.Calls.{has_changed, standing}
-use Rattle.rv_model.specs.Step.{first_touched, table_name, table_of}
+use Rattle.rv_model.specs.Step.{table_of}
 use Rattle.rv_core.specs.Db.{IsTied}
-use Rattle.rv_core.specs.Doing.{opening_base}
 
 -- a restriction that passes one test passes another that follows from it
 
@@ -92,15 +84,3 @@ pub query_over : (shown : Shown) (schema : Schema) (txns : Transactions) (select
 query_over shown schema txns select tied one query =
     let t = first_there (length schema.tables) select.tables one query.there in
     rw (tied.columns (table_of select) t) (names_more (is_there schema.tables select.tables) (passes_home (is_column (width schema.tables (table_of select)))) (λ c h. column_home schema.tables select.tables c one h) select.only query.only)
-
-standing_some : (active : List Transaction) (o : Option ℕ) (s : Standing) → standing active o ≡ Some s → (own : ℕ) × (o ≡ Some own)
-standing_some active None s h = cc
-standing_some active (Some own) s h = (own, refl)
-
--- OPEN over a table that the transaction has changed
-pub opening_pending : (defs : List TableDef) (active : List Transaction) (cursors : List Cursor) (session table : ℕ) (name tables : List ℕ) (s : Standing) → standing active (transaction_of active session) ≡ Some s → is_some (cursor_named cursors session name) ≡ false → find (λ table. has_changed active (transaction_of active session) table) tables ≡ Some table
-    → opening_base defs active cursors session name tables ≡ Err (Pending (table_name defs table))
-opening_pending defs active cursors session table name tables s h free found =
-    let own = standing_some active (transaction_of active session) s h in
-    let first : first_touched (transaction_at active own.0).changes tables ≡ Some table = rw own.1 at found in
-    rw (own.1, free, first) refl

@@ -163,3 +163,12 @@ can_plan shown schema txns s snap tied stored base query some numbers few ascend
       each = λ i h. index_there shown schema txns snap i tied stored base h;
       few = λ p h. let e = from_over (table_at s p) 0 schema.indexes in let k = few (table_at s p) in omega arith;
     }
+
+-- a column that a query names is one of its table
+pub column_fits : (shown : Shown) (schema : Schema) (txns : Transactions) (s : Select) (c : ColRef) → IsTied shown schema txns → IsQueryOf schema s → select_uses s c ≡ true → c.column < shown.columns (table_at s c.place)
+column_fits shown schema txns s c tied query used =
+    let named = used_there schema s c query used in
+    let h : c.place < length s.tables = below c.place (length s.tables) (both_left (nat_lt c.place (length s.tables)) (is_column (width schema.tables (slice_index_or s.tables c.place 0)) c.column) named) in
+    let t = table_there schema s c.place query h in
+    let column : c.column < width schema.tables (table_at s c.place) = below c.column (width schema.tables (table_at s c.place)) (both_right (nat_lt c.place (length s.tables)) (is_column (width schema.tables (slice_index_or s.tables c.place 0)) c.column) named) in
+    omega (arith, tied.columns (table_at s c.place) t, column)

@@ -8,14 +8,13 @@ use Rattle.rv_model.specs.declared.state.Offer.{Offer}
 use Rattle.rv_catalog.specs.declared.def.IndexDef.{IndexDef}
 use Rattle.rv_catalog.specs.declared.def.Select.{Select}
 use Rattle.rv_reader.specs.Shown.{Shown}
-use Rattle.rv_snapshot.specs.Alone.{alone}
 use Rattle.rv_retrieval.specs.Short.{Settled, fetches_left, has_short}
 use Rattle.rv_join.specs.Alone.{FewFetches, IsAlone, plan_fetches}
 use Rattle.rv_join.specs.declared.places.Asked.{Asked}
 use Rattle.rv_join.specs.Plans.{Planned, plan_trace}
 use Rattle.rv_cursor.specs.declared.cursor.Open.{Open}
 use Rattle.rv_cursor.specs.Fetches.{FetchLosesNone, LosesNone, MovesFetchFew, StepLosesNone, TurnLosesNone, lost_in}
-use Rattle.rv_cursor.specs.Left.{SameCursor, seen_by}
+use Rattle.rv_cursor.specs.Left.{SameCursor, seen_at, seen_by}
 use Rattle.rv_cursor.specs.Moves.{Move, MovesByAll, Ruled, TakesOut, TurnMoves, ruled}
 use Rattle.rv_core.specs.Obeying.{AnyOf, FetchOf, IsBounded, MovesAt, SeesSame, StepOf, TurnOf}
 use Rattle.rv_core.specs.Pieces.{KeepsSettled, TriesAt}
@@ -28,7 +27,7 @@ sight h = seen_by h.store h.cursor
 
 -- what a call leaves of it
 sight_stays : (moves : List Move) (old new : Held) → CallMoves moves old new → sight new ≡ sight old
-sight_stays moves old new call = call.sees ∙ ap (λ (n : ℕ). alone old.store n) call.same.snap
+sight_stays moves old new call = call.sees ∙ (λ i. seen_at old.store (call.same.snap i) (call.same.frozen i))
 
 asked_stays : (moves : List Move) (old new : Held) → CallMoves moves old new → IsAlone old.cursor.plan → IsAlone new.cursor.plan
 asked_stays moves old new call one = subst (λ (a : Asked). length a.items ≡ 1) (sym call.same.asked) one
@@ -181,7 +180,7 @@ still_moves would store later judge place cs c here sees = record {
   would = would;
   state = judge;
   after = judge;
-  same = record { session = refl; name = refl; number = refl; snap = refl; asked = refl };
+  same = record { session = refl; name = refl; number = refl; snap = refl; frozen = refl; asked = refl };
   made = refl;
   sees = all_get (λ (d : Open). seen_by later d ≡ seen_by store d) cs place c here sees.each;
 }

@@ -354,7 +354,7 @@ base_rows_are : (shown : Shown) (touched : List (List ℕ)) (table : ℕ) (rows 
 base_rows_are shown touched table [] taken wide = tt
 base_rows_are shown touched table (r ∷ rows) taken wide = (record { taken = taken.0; wide = wide.0 }, base_rows_are shown touched table rows taken.1 wide.1)
 
-row_change : (shown : Shown) (touched : List (List ℕ)) (table : ℕ) (sets : Option (List (ℕ × Value))) (r : Record) → table < shown.tables → IsRow shown touched table r → IsOwn shown touched (calls.change_of table sets r)
+pub row_change : (shown : Shown) (touched : List (List ℕ)) (table : ℕ) (sets : Option (List (ℕ × Value))) (r : Record) → table < shown.tables → IsRow shown touched table r → IsOwn shown touched (calls.change_of table sets r)
 row_change shown touched table None r there h = record { there = there; taken = h.taken; width = tt }
 row_change shown touched table (Some sets) r there h = record { there = there; taken = h.taken; width = sets_length sets r.values ∙ h.wide }
 

@@ -1,8 +1,13 @@
 -- The database for which a store, a catalog and transactions stand.
-use Rattle.std.specs.Prelude.{◌∷◌, ◌+◌, Some, None, if◌then◌else◌, ◌≡◌, ℕ, ◌<◌, ◌≤◌, ◌==◌, ◌&&◌, List, [], Option, map, filter, length, position, bytes_eq, IfSome}
+use Rattle.std.specs.Prelude.{◌∷◌, ◌+◌, Some, None, ◌≡◌, ℕ, ◌<◌, ◌≤◌, ◌==◌, ◌&&◌, List, [], Option, map, filter, length, position, bytes_eq, IfSome}
 use Rattle.std.specs.List.{AllByRecursion, range_with_len, slice_index_or}
 use Rattle.rv_value.specs.declared.record.Record.{Record}
 use Rattle.rv_rows.specs.declared.changes.Change.{Change}
+use Rattle.rv_rows.specs.Changes.{rows_with_changes}
+use Rattle.rv_view.specs.Making.{Keeps}
+use Rattle.rv_overlay.specs.declared.frozen.Frozen.{Frozen}
+use Rattle.rv_own.specs.Views.{AreViews, base_in}
+use Rattle.rv_own.specs.declared.views.OwnView.{OwnView}
 use Rattle.rv_catalog.specs.declared.def.IndexDef.{IndexDef}
 use Rattle.rv_catalog.specs.Kept.{indexes_over}
 use Rattle.rv_catalog.specs.Schema.{Schema, width}
@@ -70,8 +75,7 @@ whole_of store shown schema transactions opens opened = record { store = store; 
 
 -- the base of the session's transaction, where it has one
 abbrev pub base_of : List Transaction → ℕ → Option ℕ
-base_of [] session = None
-base_of (t ∷ ts) session = if t.session == session then Some t.base else base_of ts session
+base_of = base_in
 
 -- a change that the store takes, of a row whose number was taken
 pub record IsOwn (shown : Shown) (touched : List (List ℕ)) (c : Change) : Type 0 where
@@ -107,6 +111,18 @@ pub record IsTied (shown : Shown) (schema : Schema) (transactions : Transactions
   pub few : (table : ℕ) → next_row transactions.touched table ≤ 1000000
   pub active : AllByRecursion (IsActive shown transactions.touched) transactions.active
 
+-- the rows of a table at a snapshot, with what a transaction froze applied where it has changes
+abbrev pub view_at : Shown → ℕ → Option Frozen → ℕ → List Record
+view_at shown snap None table = shown.rows table snap
+view_at shown snap (Some f) table = rows_with_changes table f.changes (shown.rows table snap)
+
+-- what was frozen of a transaction on a snapshot is what changes make that it may make
+pub record IsViewed (shown : Shown) (touched : List (List ℕ)) (snap : ℕ) (f : Frozen) : Type 0 where
+  pub base : f.base ≡ snap
+  pub rows_written : List Change
+  pub keeps : Keeps shown f rows_written
+  pub changes : AllByRecursion (IsOwn shown touched) f.changes
+
 -- An open cursor stands at the base of its session's transaction, and its plan knows the indexes of the schema.
 pub record IsOpen (shown : Shown) (schema : Schema) (active : List Transaction) (c : Open) : Type 0 where
   pub base : base_of active c.session ≡ Some c.snap
@@ -129,3 +145,8 @@ pub record IsStanding (shown : Shown) (schema : Schema) (transactions : Transact
   pub tied : IsTied shown schema transactions
   pub opens : AllByRecursion (IsOpen shown schema transactions.active) cursors
   pub listed : AreListed opened cursors
+
+-- the same, and what is kept of its transactions' views is what their changes make
+pub record IsWhole (shown : Shown) (schema : Schema) (transactions : Transactions) (views : List OwnView) (cursors : List Open) (opened : ℕ) : Type 0 where
+  pub standing : IsStanding shown schema transactions cursors opened
+  pub views_kept : AreViews shown transactions.active views

@@ -5,7 +5,6 @@ use Rattle.rv_lang.specs.declared.reply.Refusal.{Refusal}
 use Rattle.rv_lang.specs.declared.reply.Reply.{Reply}
 use Rattle.rv_catalog.specs.declared.def.Resolved.{Resolved}
 use Rattle.rv_catalog.specs.declared.def.Resolved.TheVariants as asks
-use Rattle.rv_catalog.specs.declared.def.TableDef.{TableDef}
 use Rattle.rv_catalog.specs.Answers.{◌>>=◌}
 use Rattle.rv_model.specs.declared.state.Cursor.{Cursor}
 use Rattle.rv_model.specs.declared.transactions.Transaction.{Transaction}
@@ -50,9 +49,9 @@ parted (Ok replies) = Ok (Some replies)
 parted (Err fault) = Err fault
 
 -- The base of the session's transaction, where it may open the cursor.
-abbrev pub opening_base : List TableDef → List Transaction → List Cursor → ℕ → List ℕ → List ℕ → Result ℕ Refusal
-opening_base defs active cursors session name tables = do
-  own ← opening defs active cursors session name tables
+abbrev pub opening_base : List Transaction → List Cursor → ℕ → List ℕ → Result ℕ Refusal
+opening_base active cursors session name = do
+  own ← opening active cursors session name
   Ok (transaction_at active own).base
 
 -- Two equal replies are allowed to what is asked, and the state is the one after them.

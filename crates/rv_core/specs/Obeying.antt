@@ -15,7 +15,7 @@ use Rattle.rv_catalog.specs.declared.def.Select.{Select}
 use Rattle.rv_reader.specs.Shown.{Shown}
 use Rattle.rv_model.specs.declared.state.State.{State}
 use Rattle.rv_model.specs.Showing.{shown_trace}
-use Rattle.rv_model.specs.Step.{rows_seen, understood}
+use Rattle.rv_model.specs.Step.{rows_viewed, understood}
 use Rattle.rv_model.specs.Transactions.{transaction_of}
 use Rattle.rv_retrieval.specs.Short.{Settled, fetches_left, has_short}
 use Rattle.rv_join.specs.Alone.{plan_effort, plan_life}
@@ -90,7 +90,7 @@ pub record IsBounded (shown : Shown) (s : Select) (indexes : List IndexDef) (sna
   pub short : has_short p.stack.at.here.query shown ≡ true → Settled p.stack.at.here × (fetches_left p.stack.at.here shown ≤ 20)
 
 -- OPEN adds a cursor last, under the next number, at the base of the session's transaction, whose plan is that of its select:
--- drawn from what the store shows, with the strategy and the scans that the five rules choose by the store's own estimates,
+-- drawn from what the store shows there with the transaction's changes, which is its view, with the strategy and the scans that the five rules choose by the store's own estimates,
 -- and with the bounds of such a plan.
 pub record OpensPlan (shown : Shown) (s : Select) (db : State) (session : ℕ) (name : List ℕ) (old new : Plans) : Type 0 where
   pub cursor : Open
@@ -100,7 +100,7 @@ pub record OpensPlan (shown : Shown) (s : Select) (db : State) (session : ℕ) (
   pub number : cursor.number ≡ old.opened
   pub base : base_of db.transactions.active session ≡ Some cursor.snap
   pub asked : IsAsked s db.schema.indexes cursor.snap cursor.number cursor.plan.asked
-  pub rows : AllByRecursion (λ (t : ℕ). shown.rows t cursor.snap ≡ rows_seen db (transaction_of db.transactions.active session) t) s.tables
+  pub rows : AllByRecursion (λ (t : ℕ). (seen_by shown cursor).rows t cursor.snap ≡ rows_viewed db (transaction_of db.transactions.active session) t) s.tables
   pub fits : CursorFits shown cursor
   pub leads : LeadsWith (seen_by shown cursor) cursor.plan
   pub stage : cursor.plan.stage ≡ stage_of s db.schema.indexes

@@ -1,5 +1,5 @@
 //! Open cursors of sessions: how they are found, opened, read and closed.
-ghost use Rattle.std.specs.Prelude.{◌≡◌, ◌<◌, ◌≤◌, ◌==◌, ℕ, List, true, not, Ok, IfErr, IfOk, IfSome, None, OnErr, Some, length, filter, find, slice_get};
+ghost use Rattle.std.specs.Prelude.{◌≡◌, ◌<◌, ◌≤◌, ◌==◌, ℕ, List, true, not, Ok, IfErr, IfOk, IfSome, None, OnErr, Some, length, filter, slice_get};
 ghost use Rattle.std.specs.List.{AllByRecursion};
 ghost use Rattle.rv_rows.specs.Rows.{Ascend};
 ghost use Rattle.rv_reader.specs.Shown.{CanRead, IsSnapshot, Shown};
@@ -8,7 +8,6 @@ ghost use Rattle.rv_catalog.specs.Schema.{Schema};
 ghost use Rattle.rv_judge.specs.Runs.{Allowed};
 ghost use Rattle.rv_join.specs.Asking.{IsAsked, indexes_from, item_at};
 ghost use Rattle.rv_join.specs.Plans.{LeadsWith, numbers_of, plan_trace, stage_of};
-ghost use Rattle.rv_snapshot.specs.Alone.{alone};
 ghost use Rattle.rv_core.specs.Obeying.{AnyOf, FetchOf, IsBounded, MovesAt, StepOf, TurnOf};
 ghost use Rattle.rv_lang.specs.declared.reply.Refusal.{Refusal as TheRefusal};
 ghost use Rattle.rv_lang.specs.declared.reply.Reply.TheVariants.{Refused};
@@ -18,13 +17,12 @@ ghost use Rattle.rv_model.specs.Database.{cursor_at, cursor_named};
 ghost use Rattle.rv_model.specs.Offering.{offers_over};
 ghost use Rattle.rv_model.specs.Offers.{offers_in_order};
 ghost use Rattle.rv_model.specs.Step.{Showing, Stepping, own_cursors, table_of};
-ghost use Rattle.rv_model.specs.Transactions.{transaction_of};
-ghost use Rattle.rv_cursor.specs.Left.{CursorFits};
-ghost use Rattle.rv_txn.specs.Calls.{IsFault, has_changed};
-ghost use Rattle.rv_core.specs.Db.{AreListed, IsOpen, IsTied, open_named, own_opens, seen, seen_of};
+ghost use Rattle.rv_cursor.specs.Left.{CursorFits, seen_at};
+ghost use Rattle.rv_txn.specs.Calls.{IsFault};
+ghost use Rattle.rv_core.specs.Db.{AreListed, IsOpen, IsTied, IsViewed, open_named, own_opens, seen, seen_of, view_at};
 ghost use Rattle.rv_core.specs.Doing.{PartIs, TakesAt, opening_base};
 
-use crate::replies::{limit, table_name};
+use crate::replies::limit;
 use rv_catalog::{Catalog, Select};
 use rv_cursor::{Open, fetch, fetch_step, open_cursor, step};
 use rv_judge::{Judge, Steps, Trace, Uncounted};
@@ -32,6 +30,7 @@ use rv_lang::{Refusal, Reply, Which};
 use rv_reader::{Reader, Store};
 use rv_txn::{TxnFault, Txns};
 use rv_value::{Duplicate, Items, NoMemory, Text};
+use rv_view::View;
 use std::alloc::Global;
 
 /// The place of the session's cursor of this name.
@@ -76,19 +75,17 @@ pub fn close_all(cursors: &mut Items<Open>, session: u8)
     cursors.retain(|cursor| cursor.session != session);
 }
 
-/// The base of the session's transaction, where it may open a cursor of a name over tables.
+/// The base of the session's transaction, where it may open a cursor of a name.
 pub fn opening(
     alloc: Global,
-    catalog: &Catalog,
     txns: &Txns,
     cursors: &Items<Open>,
     session: u8,
     name: &Text,
-    tables: &[u32],
 ) -> Result<u64, TxnFault>
-    ensures ok { IfOk result (λ base. (shown : Shown) → opening_base catalog.now.tables txns.now.active (seen shown cursors.now) session name.now tables.now ≡ Ok base) }
+    ensures ok { IfOk result (λ base. (shown : Shown) → opening_base txns.now.active (seen shown cursors.now) session name.now ≡ Ok base) }
     ensures room { IfOk result (λ base. length (own_opens cursors.now session) < 16) }
-    ensures fault { IfErr result (λ fault. (shown : Shown) → IsFault (opening_base catalog.now.tables txns.now.active (seen shown cursors.now) session name.now tables.now) fault) }
+    ensures fault { IfErr result (λ fault. (shown : Shown) → IsFault (opening_base txns.now.active (seen shown cursors.now) session name.now) fault) }
 {
     let Some(standing) = txns.standing(session) else {
         return Err(TxnFault::Refused(Refusal::NoTransaction));
@@ -96,23 +93,10 @@ pub fn opening(
     if cursor_named(cursors, session, name).is_some() {
         return Err(TxnFault::Refused(Refusal::CursorOpen(name.copy(alloc)?)));
     }
-    if let Some(table) = first_touched(txns, session, tables) {
-        return Err(TxnFault::Refused(Refusal::Pending(table_name(alloc, catalog, table)?)));
-    }
     if count_cursors(cursors, session) > 15 {
         return Err(TxnFault::Refused(limit(Which::Cursors, 16)));
     }
     Ok(standing.base)
-}
-
-/// The first of these tables of which the session's transaction has changed a row.
-pub fn first_touched(txns: &Txns, session: u8, tables: &[u32]) -> Option<u32>
-    ensures { result ≡ find (λ table. has_changed txns.now.active (transaction_of txns.now.active session) table) tables.now }
-{
-    tables
-        .iter()
-        .copied()
-        .find(|table| txns.has_changed(session, *table))
 }
 
 /// Looks at tables of a snapshot, which tells that their rows ascend. It reads nothing.
@@ -129,7 +113,7 @@ fn look_at<R: Reader>(reader: &R, tables: &[u32], snap: u64)
     }
 }
 
-/// A cursor over what a select offers at a snapshot of the store.
+/// A cursor over what a select offers at a snapshot of the store, with a transaction's view laid over it where one is given.
 pub fn plan_cursor<S: Store + Reader<Ledger = Uncounted>>(
     alloc: Global,
     store: &S,
@@ -139,22 +123,24 @@ pub fn plan_cursor<S: Store + Reader<Ledger = Uncounted>>(
     name: Text,
     number: u64,
     snap: u64,
+    frozen: Option<View>,
 ) -> Result<Open, NoMemory>
-    requires tied { (txns : Transactions) × IsTied (S.shown store.now) catalog.now txns }
+    requires tied { (txns : Transactions) × IsTied (S.shown store.now) catalog.now txns × IfSome frozen (IsViewed (S.shown store.now) txns.touched snap) }
     requires query { IsQueryOf catalog.now select.now }
     requires some { 1 ≤ length select.now.tables }
     requires base { IsSnapshot (S.shown store.now) snap }
     ensures fits { IfOk result (CursorFits (S.shown store.now)) }
-    ensures seen { IfOk result (λ c. seen_of (S.shown store.now) c ≡ record { session = session; name = name; table = table_of select.now; offers = offers_in_order (offers_over select.now (λ table. (S.shown store.now).rows table snap)) }) }
+    ensures seen { IfOk result (λ c. seen_of (S.shown store.now) c ≡ record { session = session; name = name; table = table_of select.now; offers = offers_in_order (offers_over select.now (view_at (S.shown store.now) snap frozen)) }) }
     ensures over { IfOk result (λ c. (item_at c.plan.asked 0).indexes ≡ indexes_from (item_at c.plan.asked 0).table 0 catalog.now.indexes) }
     ensures session { IfOk result (λ c. c.session ≡ session) }
     ensures number { IfOk result (λ c. c.number ≡ number) }
     ensures name { IfOk result (λ c. c.name ≡ name) }
     ensures asked { IfOk result (λ c. IsAsked select.now catalog.now.indexes snap number c.plan.asked) }
-    ensures leads { IfOk result (λ c. LeadsWith (alone (S.shown store.now) snap) c.plan) }
+    ensures leads { IfOk result (λ c. LeadsWith (seen_at (S.shown store.now) snap frozen) c.plan) }
     ensures stage { IfOk result (λ c. c.plan.stage ≡ stage_of select.now catalog.now.indexes) }
-    ensures bounds { IfOk result (λ c. IsBounded (alone (S.shown store.now) snap) select.now catalog.now.indexes snap c.plan) }
+    ensures bounds { IfOk result (λ c. IsBounded (seen_at (S.shown store.now) snap frozen) select.now catalog.now.indexes snap c.plan) }
     ensures snap { IfOk result (λ c. c.snap ≡ snap) }
+    ensures frozen { IfOk result (λ c. c.frozen ≡ frozen) }
 {
     // What a store tells with its newest commit, and what a reader tells with a table's sizes, holds of what is read.
     let _newest = store.last();
@@ -169,6 +155,7 @@ pub fn plan_cursor<S: Store + Reader<Ledger = Uncounted>>(
         name,
         number,
         snap,
+        frozen,
         &mut steps,
     )
 }

@@ -4,7 +4,7 @@ ghost use Rattle.std.specs.Option.{option_copied};
 ghost use Rattle.rv_catalog.specs.Fits.{IsNewIndex, IsNewTable, IsQueryOf, IsRowOf, is_over_table};
 ghost use Rattle.rv_model.specs.Database.{empty};
 ghost use Rattle.rv_model.specs.Standing.{HasRoom};
-ghost use Rattle.rv_model.specs.Step.{began, changed, closed, committed, created, indexed, inserted, opened, rolled_back, rows_seen};
+ghost use Rattle.rv_model.specs.Step.{began, changed, closed, committed, created, indexed, inserted, opened, rolled_back, rows_viewed};
 ghost use Rattle.rv_model.specs.Transactions.{transaction_of};
 ghost use Rattle.rv_core.specs.Core.{horizon_of};
 ghost use Rattle.rv_core.specs.Db.{open_named};
@@ -19,15 +19,16 @@ use crate::cursors::{
 };
 use crate::pieces::{give_at, next_waiting, numbered, take_at};
 use crate::replies::{answered, limit, named_trace, refused};
-use crate::storing::{add_index, add_table, change_rows, commit_some};
+use crate::storing::{add_index, add_table, change_rows, commit_some, freeze, insert_row};
 use rv_catalog::{Catalog, IndexDef, Select, TableDef};
 use rv_cursor::{Open, twice};
 use rv_jscan::{Given, Sieved, Taken};
 use rv_judge::{Judge, Steps, Uncounted};
 use rv_lang::{Refusal, Reply, Which};
+use rv_own::Views;
 use rv_reader::{Reader, Store};
 use rv_restrict::Restriction;
-use rv_txn::{TxnFault, Txns, kept_rows};
+use rv_txn::{TxnFault, Txns, viewed_rows};
 use rv_value::{Items, NoMemory, Record, Text, Value, Values};
 use std::alloc::Global;
 use std::marker::Model;
@@ -40,18 +41,19 @@ pub struct Database<S: Store + Reader<Ledger = Uncounted> + Drop> {
     catalog: Catalog,
     store: S,
     txns: Txns,
+    views: Views,
     cursors: Items<Open>,
     opened: u64,
 }
 
 impl<S: Store + Reader<Ledger = Uncounted> + Drop> Model for Database<S> {
-    ghost use Rattle.rv_core.specs.Db.{IsStanding, Whole, whole_of};
+    ghost use Rattle.rv_core.specs.Db.{IsWhole, Whole, whole_of};
 
     ghost Value = { Whole S };
 
     ghost view = { λ d. whole_of d.store (S.shown d.store) d.catalog d.txns d.cursors d.opened };
 
-    ghost invariant = { λ d. IsStanding (S.shown d.store) d.catalog d.txns d.cursors d.opened };
+    ghost invariant = { λ d. IsWhole (S.shown d.store) d.catalog d.txns d.views d.cursors d.opened };
 }
 
 impl<S: Store + Reader<Ledger = Uncounted> + Drop> Database<S> {
@@ -67,6 +69,7 @@ impl<S: Store + Reader<Ledger = Uncounted> + Drop> Database<S> {
             catalog: Catalog::new(alloc),
             store,
             txns: Txns::new(alloc),
+            views: Views::new(alloc),
             cursors: Items::new(alloc),
             opened: 1,
         }
@@ -86,17 +89,15 @@ impl<S: Store + Reader<Ledger = Uncounted> + Drop> Database<S> {
         &self.txns
     }
 
-    /// The rows of a table at the base of the session's transaction; none where it has no transaction.
+    /// The rows of a table in the view of the session's transaction; none where it has no transaction.
     pub fn rows(&self, session: u8, table: u32) -> Result<Vec<Record>, NoMemory>
         requires there { table < length self.now.stand.db.schema.tables }
-        ensures { IfOk result (λ rows. rows.items ≡ rows_seen self.now.stand.db (transaction_of self.now.stand.db.transactions.active session) table) }
+        ensures { IfOk result (λ rows. rows.items ≡ rows_viewed self.now.stand.db (transaction_of self.now.stand.db.transactions.active session) table) }
     {
-        let Some(standing) = self.txns.standing(session) else {
-            return Ok(Vec::new(self.alloc));
-        };
-        let all = Restriction::from_groups(Vec::new(self.alloc));
-        let rows = kept_rows(self.alloc, &self.store, table, standing.base, &all)?;
-        Ok(rows)
+        match self.txns.own(session) {
+            None => Ok(Vec::new(self.alloc)),
+            Some(own) => viewed_rows(self.alloc, own, &self.store, table),
+        }
     }
 
     /// How many cursors are open.
@@ -117,6 +118,8 @@ impl<S: Store + Reader<Ledger = Uncounted> + Drop> Database<S> {
         ensures opened { self.new.opened ≡ self.old.opened }
         ensures opens { self.new.opens ≡ self.old.opens }
     {
+        // What a store tells with its newest commit holds of all that is kept of views.
+        let _last = self.store.last();
         if let Some(number) = self.txns.active() {
             return refused(self.alloc, Refusal::Busy(number));
         }
@@ -142,6 +145,8 @@ impl<S: Store + Reader<Ledger = Uncounted> + Drop> Database<S> {
         ensures opened { self.new.opened ≡ self.old.opened }
         ensures opens { self.new.opens ≡ self.old.opens }
     {
+        // What a store tells with its newest commit holds of all that is kept of views.
+        let _last = self.store.last();
         if let Some(lowest) = self.txns.active() {
             return refused(self.alloc, Refusal::Busy(lowest));
         }
@@ -189,7 +194,15 @@ impl<S: Store + Reader<Ledger = Uncounted> + Drop> Database<S> {
         ensures opened { self.new.opened ≡ self.old.opened }
         ensures opens { self.new.opens ≡ self.old.opens }
     {
-        let row = match self.txns.insert(session, table, values) {
+        let row = match insert_row(
+            &self.catalog,
+            &self.store,
+            &mut self.txns,
+            &mut self.views,
+            session,
+            table,
+            values,
+        ) {
             Ok(row) => row,
             Err(TxnFault::Refused(refusal)) => return refused(self.alloc, refusal),
             Err(TxnFault::NoMemory) => return Err(NoMemory),
@@ -218,6 +231,7 @@ impl<S: Store + Reader<Ledger = Uncounted> + Drop> Database<S> {
             &self.catalog,
             &self.store,
             &mut self.txns,
+            &mut self.views,
             session,
             table,
             sets,
@@ -241,6 +255,8 @@ impl<S: Store + Reader<Ledger = Uncounted> + Drop> Database<S> {
         ensures opens { IfOk result (λ replies. self.new.opens ≡ ended_by replies.0 session self.old.opens) }
         ensures lost { OnErr result (self.new.opens ≡ self.old.opens) }
     {
+        // What a store tells with its newest commit holds of all that is kept of views.
+        let _last = self.store.last();
         let finished = match self.txns.finish(session) {
             Ok(finished) => finished,
             Err(TxnFault::Refused(refusal)) => return refused(self.alloc, refusal),
@@ -251,6 +267,7 @@ impl<S: Store + Reader<Ledger = Uncounted> + Drop> Database<S> {
             Err(NoMemory) => return Err(NoMemory),
         };
         self.txns.commit_done(session, number);
+        self.views.let_go(session);
         close_all(&mut self.cursors, session);
         Ok((Reply::Committed(number), Reply::Committed(number)))
     }
@@ -268,6 +285,7 @@ impl<S: Store + Reader<Ledger = Uncounted> + Drop> Database<S> {
         if let Err(refusal) = self.txns.rollback(session) {
             return refused(self.alloc, refusal);
         }
+        self.views.let_go(session);
         close_all(&mut self.cursors, session);
         Ok((Reply::RolledBack, Reply::RolledBack))
     }
@@ -292,18 +310,20 @@ impl<S: Store + Reader<Ledger = Uncounted> + Drop> Database<S> {
         ensures opened { self.new.opened ≤ self.old.opened + 1 }
         ensures unopened { OnErr result (self.new.opened ≡ self.old.opened) }
     {
-        let base = match opening(
-            self.alloc,
-            &self.catalog,
-            &self.txns,
-            &self.cursors,
-            session,
-            &name,
-            select.tables.as_slice(),
-        ) {
+        let base = match opening(self.alloc, &self.txns, &self.cursors, session, &name) {
             Ok(base) => base,
             Err(TxnFault::Refused(refusal)) => return refused(self.alloc, refusal),
             Err(TxnFault::NoMemory) => return Err(NoMemory),
+        };
+        let frozen = match freeze(
+            &self.catalog,
+            &self.store,
+            &self.txns,
+            &mut self.views,
+            session,
+        ) {
+            Ok(frozen) => frozen,
+            Err(NoMemory) => return Err(NoMemory),
         };
         let cursor = match plan_cursor(
             self.alloc,
@@ -314,6 +334,7 @@ impl<S: Store + Reader<Ledger = Uncounted> + Drop> Database<S> {
             name,
             self.opened,
             base,
+            frozen,
         ) {
             Ok(cursor) => cursor,
             Err(NoMemory) => return Err(NoMemory),

@@ -20,6 +20,7 @@ use rv_judge::{Judge, Steps, Uncounted};
 use rv_reader::{Reader, Store};
 use rv_snapshot::Snapshot;
 use rv_value::{Items, NoMemory};
+use rv_view::Seen;
 
 fn is_waiting(cursor: &Open) -> bool
     ensures { result ≡ is_waiting cursor.now }
@@ -83,9 +84,13 @@ fn take<R: Reader>(
     ensures same { cursor.new ≡ record cursor.old { plan = cursor.new.plan } }
     ensures stays { Stays (R.shown reader.now) cursor.old cursor.new }
 {
-    let seen = Snapshot {
+    let at = Snapshot {
         reader,
         snap: cursor.snap,
+    };
+    let seen = Seen {
+        reader: &at,
+        view: &cursor.frozen,
     };
     cursor.plan.take(&seen, steps)
 }

@@ -4,10 +4,9 @@ ghost use Rattle.rv_lang.specs.declared.reply.Refusal.TheVariants.{Limit as Limi
 ghost use Rattle.rv_lang.specs.declared.reply.Reply.TheVariants.{Refused};
 ghost use Rattle.rv_model.specs.Database.{index_at};
 ghost use Rattle.rv_model.specs.Showing.{shown_event, shown_trace};
-ghost use Rattle.rv_model.specs.Step.{table_name};
 ghost use Rattle.rv_core.specs.Doing.{parted};
 
-use rv_catalog::{Catalog, IndexDef};
+use rv_catalog::IndexDef;
 use rv_cursor::twice;
 use rv_judge::{Event, Trace};
 use rv_lang::{Refusal, Reply, Shown, ShownEvent, Which};
@@ -38,16 +37,6 @@ pub fn limit(which: Which, number: u64) -> Refusal
     ensures { result ≡ LimitPassed which number }
 {
     Refusal::Limit { which, number }
-}
-
-/// The name of a table; empty where there is no such table.
-pub fn table_name(alloc: Global, catalog: &Catalog, table: u32) -> Result<Text, NoMemory>
-    ensures { IfOk result (λ name. name ≡ table_name catalog.now.tables table) }
-{
-    match catalog.tables().get(table as usize) {
-        Some(def) => def.name.copy(alloc),
-        None => Text::read(alloc, ""),
-    }
 }
 
 /// The name of an index; empty where there is no such index.

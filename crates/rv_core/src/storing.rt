@@ -1,22 +1,28 @@
 //! Calls on the catalog and the store that go together.
-ghost use Rattle.std.specs.Prelude.{◌≡◌, ◌<◌, ◌≤◌, ◌-◌, ◌^◌, ◌++◌, ◌∷◌, [], None, Ok, true, IfOk, IfErr, OnOk, OnErr, length};
-ghost use Rattle.std.specs.List.{slice_index_or};
+ghost use Rattle.std.specs.Prelude.{◌≡◌, ◌<◌, ◌≤◌, ◌-◌, ◌^◌, ◌++◌, ◌∷◌, [], None, Ok, true, IfOk, IfErr, OnOk, OnErr, IfSome, length};
+ghost use Rattle.std.specs.List.{AllByRecursion, slice_index_or};
 ghost use Rattle.std.specs.Option.{option_copied};
-ghost use Rattle.rv_catalog.specs.Fits.{is_over_table};
+ghost use Rattle.rv_catalog.specs.Fits.{IsRowOf, is_over_table};
 ghost use Rattle.rv_catalog.specs.Kept.{indexes_over};
 ghost use Rattle.rv_catalog.specs.Schema.{index_named, table_named};
-ghost use Rattle.rv_reader.specs.Storing.{AreColumns, CanCommit, Created, Indexed, IsSame};
+ghost use Rattle.rv_reader.specs.Storing.{AreColumns, CanCommit, Created, Indexed, IsSame, IsStored};
 ghost use Rattle.rv_txn.specs.Calls.{IsFault};
+ghost use Rattle.rv_txn.specs.Halves.{with_these};
 ghost use Rattle.rv_model.specs.Database.{no_index};
+ghost use Rattle.rv_model.specs.Transactions.{inserted, transaction_at, transaction_of};
+ghost use Rattle.rv_own.specs.Views.{AreViews, CanKeep, Freezes};
 ghost use Rattle.rv_core.specs.Db.{IsTied};
 ghost use Rattle.rv_core.specs.Storing.{CommitsTo, changed_over};
 
 use rv_catalog::{Catalog, IndexDef, TableDef};
 use rv_judge::Uncounted;
+use rv_own::Views;
 use rv_reader::{Reader, Store};
 use rv_restrict::Restriction;
+use rv_rows::Change;
 use rv_txn::{Finished, TxnFault, Txns};
-use rv_value::{NoMemory, Value};
+use rv_value::{NoMemory, RowNo, Value, Values};
+use rv_view::View;
 
 /// A table more in both. Without memory neither has it.
 pub fn add_table<S: Store + Reader<Ledger = Uncounted>>(
@@ -106,11 +112,73 @@ pub fn commit_some<S: Store + Reader<Ledger = Uncounted>>(
     }
 }
 
-/// UPDATE, which sets columns, and DELETE, which sets none: how many rows are changed.
+/// The view of the session's transaction is kept up with changes that are about to be put.
+fn keep_up<S: Store + Reader<Ledger = Uncounted>>(
+    catalog: &Catalog,
+    store: &S,
+    txns: &Txns,
+    views: &mut Views,
+    session: u8,
+    new: &[Change],
+)
+    requires tied { IsTied (S.shown store.now) catalog.now txns.now }
+    requires stored { IsStored (S.shown store.now) }
+    requires can { IfSome (transaction_of txns.now.active session) (λ own. AllByRecursion (CanKeep (S.shown store.now) (transaction_at txns.now.active own).base) new.now) }
+    requires views { AreViews (S.shown store.now) txns.now.active views.old }
+    ensures { AreViews (S.shown store.now) (with_these txns.now (transaction_of txns.now.active session) new.now).active views.new }
+{
+    match txns.own(session) {
+        None => {}
+        Some(own) => views.keep(store, catalog.indexes(), own, new),
+    }
+}
+
+/// INSERT: the number of the new row. What is kept of the transaction's view is kept up with it.
+pub fn insert_row<S: Store + Reader<Ledger = Uncounted>>(
+    catalog: &Catalog,
+    store: &S,
+    txns: &mut Txns,
+    views: &mut Views,
+    session: u8,
+    table: u32,
+    values: Values,
+) -> Result<RowNo, TxnFault>
+    requires tied { IsTied (S.shown store.now) catalog.now txns.old }
+    requires row { IsRowOf catalog.now table values }
+    requires views { AreViews (S.shown store.now) txns.old.active views.old }
+    ensures ok { IfOk result (λ row. inserted txns.old session table values ≡ Ok (row, txns.new)) }
+    ensures fault { IfErr result (λ fault. IsFault (inserted txns.old session table values) fault) }
+    ensures err { OnErr result (txns.new ≡ txns.old) }
+    ensures views { AreViews (S.shown store.now) txns.new.active views.new }
+{
+    // What a store tells with its newest commit holds of all its rows.
+    let _newest = store.last();
+    let row = match txns.inserting(session, table) {
+        Ok(row) => row,
+        Err(fault) => return Err(fault),
+    };
+    let change = Change {
+        table,
+        row,
+        values: Some(values),
+    };
+    keep_up(catalog, store, txns, views, session, std::slice::from_ref(&change));
+    match txns.put_new(session, change) {
+        Ok(()) => Ok(row),
+        Err(NoMemory) => {
+            views.let_go(session);
+            Err(TxnFault::NoMemory)
+        }
+    }
+}
+
+/// UPDATE, which sets columns, and DELETE, which sets none: how many rows are changed. What is kept of the transaction's view
+/// is kept up with them.
 pub fn change_rows<S: Store + Reader<Ledger = Uncounted>>(
     catalog: &Catalog,
     store: &S,
     txns: &mut Txns,
+    views: &mut Views,
     session: u8,
     table: u32,
     sets: Option<&[(u32, Value)]>,
@@ -119,12 +187,47 @@ pub fn change_rows<S: Store + Reader<Ledger = Uncounted>>(
     requires tied { IsTied (S.shown store.now) catalog.now txns.old }
     requires there { table < length catalog.now.tables }
     requires over { is_over_table catalog.now.tables table only.now ≡ true }
+    requires views { AreViews (S.shown store.now) txns.old.active views.old }
     ensures ok { IfOk result (λ count. changed_over (S.shown store.now) catalog.now txns.old session table (option_copied sets.entry) only.now ≡ Ok (count, txns.new)) }
     ensures fault { IfErr result (λ fault. IsFault (changed_over (S.shown store.now) catalog.now txns.old session table (option_copied sets.entry) only.now) fault) }
     ensures err { OnErr result (txns.new ≡ txns.old) }
     ensures tied { IsTied (S.shown store.now) catalog.now txns.new }
+    ensures views { AreViews (S.shown store.now) txns.new.active views.new }
 {
     // What a store tells with its newest commit holds of all its rows.
     let _newest = store.last();
-    txns.change(session, store, table, only, sets)
+    let new = match txns.changing(session, store, table, only, sets) {
+        Ok(new) => new,
+        Err(fault) => return Err(fault),
+    };
+    keep_up(catalog, store, txns, views, session, new.as_slice());
+    let count = new.len() as u64;
+    match txns.put_changes(session, new) {
+        Ok(()) => Ok(count),
+        Err(NoMemory) => {
+            views.let_go(session);
+            Err(TxnFault::NoMemory)
+        }
+    }
+}
+
+/// The view of the session's transaction as it stands, for a cursor: None where it has no changes.
+pub fn freeze<S: Store + Reader<Ledger = Uncounted>>(
+    catalog: &Catalog,
+    store: &S,
+    txns: &Txns,
+    views: &mut Views,
+    session: u8,
+) -> Result<Option<View>, NoMemory>
+    requires tied { IsTied (S.shown store.now) catalog.now txns.now }
+    requires views { AreViews (S.shown store.now) txns.now.active views.old }
+    ensures freezes { IfOk result (λ frozen. IfSome (transaction_of txns.now.active session) (λ own. Freezes (S.shown store.now) (transaction_at txns.now.active own) frozen)) }
+    ensures views { AreViews (S.shown store.now) txns.now.active views.new }
+{
+    // What a store tells with its newest commit holds of all its rows.
+    let _newest = store.last();
+    match txns.own(session) {
+        None => Ok(None),
+        Some(own) => views.freeze(store, catalog.indexes(), own),
+    }
 }

@@ -1,12 +1,11 @@
 -- What becomes of a cursor's offers when its plan is called.
-use Rattle.std.proofs.Common.{◌≡◌, ℕ, ◌<◌, ◌≤◌, List, [], ◌∷◌, ◌++◌, refl, ap, sym, ◌∙◌, subst, arith, Option, Some, None, IfSome, Result, Ok, Err}
+use Rattle.std.proofs.Common.{◌≡◌, ◌<◌, ◌≤◌, List, [], ◌∷◌, ◌++◌, refl, ap, sym, ◌∙◌, subst, arith, Option, Some, None, IfSome, Result, Ok, Err}
 use Rattle.std.specs.List.Sorted.{IsPermutation}
 use Rattle.std.proofs.lemmas.List.Sorted.{IsPermutation-refl}
 use Rattle.rv_value.specs.declared.value.Value.{Value}
 use Rattle.rv_lang.specs.declared.reply.Reply.{Reply}
 use Rattle.rv_lang.specs.declared.reply.Reply.TheVariants.{Row}
 use Rattle.rv_reader.specs.Shown.{Shown}
-use Rattle.rv_snapshot.specs.Alone.{alone}
 use Rattle.rv_model.specs.declared.state.Offer.{Offer}
 use Rattle.rv_model.specs.Offers.{offers_in_order}
 use Rattle.rv_cursor.proofs.Sorted.{sorted_moved}
@@ -16,11 +15,11 @@ use Rattle.rv_join.specs.declared.plan.PlanStep.TheVariants.{Row as PlanRow}
 use Rattle.rv_cursor.specs.declared.cursor.Open.{Open}
 use Rattle.rv_cursor.specs.declared.cursor.Filled.{Filled}
 use Rattle.rv_cursor.specs.declared.cursor.Filled.TheVariants.{Brought, Nearer, Ended}
-use Rattle.rv_cursor.specs.Left.{CursorFits, Fills, SameCursor, Stays, TakesOffer, in_hand, left, seen_by, to_come, to_do, work}
+use Rattle.rv_cursor.specs.Left.{CursorFits, Fills, SameCursor, Stays, TakesOffer, in_hand, left, seen_at, seen_by, to_come, to_do, work}
 use Rattle.rv_cursor.proofs.Giving.{gives_least}
 
 same_itself : (c : Open) → SameCursor c c
-same_itself c = record { session = refl; name = refl; number = refl; snap = refl; asked = refl }
+same_itself c = record { session = refl; name = refl; number = refl; snap = refl; frozen = refl; asked = refl }
 
 pub stays_itself : (shown : Shown) (c : Open) → CursorFits shown c → Stays shown c c
 stays_itself shown c fits = record { fits = fits; same = same_itself c; left = refl }
@@ -31,6 +30,7 @@ same_on a b c first then = record {
   name = then.name ∙ first.name;
   number = then.number ∙ first.number;
   snap = then.snap ∙ first.snap;
+  frozen = then.frozen ∙ first.frozen;
   asked = then.asked ∙ first.asked;
 }
 
@@ -48,8 +48,9 @@ piece_stays shown c p fits new stays = record {
     at = ap (λ a. a.snap) stays.asked ∙ fits.at;
     plan = new;
     least = subst (λ (rest : List Offer). IfSome c.hand (λ o. IsLeastOf o rest)) (sym stays.rest_same) fits.least;
+    lays = fits.lays;
   };
-  same = record { session = refl; name = refl; number = refl; snap = refl; asked = stays.asked };
+  same = record { session = refl; name = refl; number = refl; snap = refl; frozen = refl; asked = stays.asked };
   left = ap (λ (rest : List Offer). offers_in_order (in_hand c.hand ++ rest)) stays.rest_same;
 }
 
@@ -63,8 +64,8 @@ no_hand hand rest empty = rw empty refl
 -- the plan's rest stays but for its order, with no row in hand
 pub kept_stays : (shown : Shown) (c : Open) (p : Planned) → c.hand ≡ None → CursorFits shown c → PlanFits (seen_by shown c) p → p.asked ≡ c.plan.asked → IsPermutation (plan_rest (seen_by shown c) c.plan) (plan_rest (seen_by shown c) p) → Stays shown c (record c { plan = p })
 kept_stays shown c p empty fits new asked moved = record {
-  fits = record { at = ap (λ a. a.snap) asked ∙ fits.at; plan = new; least = rw empty tt };
-  same = record { session = refl; name = refl; number = refl; snap = refl; asked = asked };
+  fits = record { at = ap (λ a. a.snap) asked ∙ fits.at; plan = new; least = rw empty tt; lays = fits.lays };
+  same = record { session = refl; name = refl; number = refl; snap = refl; frozen = refl; asked = asked };
   left = no_hand c.hand (plan_rest (seen_by shown c) p) empty ∙ sorted_moved (plan_rest (seen_by shown c) c.plan) (plan_rest (seen_by shown c) p) moved ∙ sym (no_hand c.hand (plan_rest (seen_by shown c) c.plan) empty);
 }
 
@@ -75,8 +76,8 @@ none_moved old new before after = rw (before, after) (IsPermutation-refl [])
 -- a row came out of the plan
 pub row_stays : (shown : Shown) (c : Open) (p : Planned) (o : Offer) (hand : Option Offer) → hand ≡ Some o → c.hand ≡ None → CursorFits shown c → PlanFits (seen_by shown c) p → PlanMoves (seen_by shown c) (PlanRow o) c.plan p → Stays shown c (record c { plan = p; hand = hand })
 row_stays shown c p o hand held empty fits new moves = rw held record {
-  fits = record { at = ap (λ a. a.snap) moves.asked ∙ fits.at; plan = new; least = moves.step.least };
-  same = record { session = refl; name = refl; number = refl; snap = refl; asked = moves.asked };
+  fits = record { at = ap (λ a. a.snap) moves.asked ∙ fits.at; plan = new; least = moves.step.least; lays = fits.lays };
+  same = record { session = refl; name = refl; number = refl; snap = refl; frozen = refl; asked = moves.asked };
   left = sorted_moved (plan_rest (seen_by shown c) c.plan) (o ∷ plan_rest (seen_by shown c) p) moves.step.out ∙ sym (no_hand c.hand (plan_rest (seen_by shown c) c.plan) empty);
 }
 
@@ -92,10 +93,14 @@ hand_gives shown c o values hand replies held empty copied made fits =
     let twice : replies.1 ≡ replies.0 = made.1 ∙ sym made.0 in
     rw (held, empty) (gives_least o (to_come shown c) replies least twice first)
 
+-- a reader at the same snapshot, with the same view laid over it
+pub seen_stays : (shown : Shown) (old new : Open) → SameCursor old new → seen_by shown new ≡ seen_by shown old
+seen_stays shown old new same = λ i. seen_at shown (same.snap i) (same.frozen i)
+
 -- what is done beside changes no row in hand, and adds no work
 pub nearer_beside : (shown : Shown) (old mid new : Open) → old.hand ≡ None → SameCursor old mid → Fills shown Nearer old mid → new.hand ≡ mid.hand → work shown new ≤ work shown mid → to_do shown new < to_do shown old
 nearer_beside shown old mid new empty same fills hand less =
-    let at : work shown mid < work shown old = subst (λ (n : ℕ). plan_work (alone shown n) mid.plan < work shown old) (sym same.snap) fills.moves.work in
+    let at : work shown mid < work shown old = subst (λ (s : Shown). plan_work s mid.plan < work shown old) (sym (seen_stays shown old mid same)) fills.moves.work in
     rw (hand ∙ fills.held, empty) (omega (arith, at, less))
 
 pub nearer_if : {E : Type 0} (f : Filled) (shown : Shown) (old mid new : Open) → old.hand ≡ None → SameCursor old mid → Fills shown f old mid → new.hand ≡ mid.hand → work shown new ≤ work shown mid → ◌≡◌ {A = Result Filled E} (Ok f) (Ok Nearer) → to_do shown new < to_do shown old
@@ -105,10 +110,6 @@ nearer_if Ended shown old mid new empty same fills hand less is = absurd (cc)
 
 pub nearer_none : {E X : Type 0} {e : E} → ◌≡◌ {A = Result Filled E} (Err e) (Ok Nearer) → X
 nearer_none is = absurd (cc)
-
--- a reader at the same snapshot
-pub seen_stays : (shown : Shown) (old new : Open) → SameCursor old new → seen_by shown new ≡ seen_by shown old
-seen_stays shown old new same = ap (alone shown) same.snap
 
 -- the end was found
 pub ended_left : (shown : Shown) (old new : Open) → old.hand ≡ None → Fills shown Ended old new → left shown old ≡ []

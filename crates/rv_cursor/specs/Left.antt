@@ -6,6 +6,8 @@ use Rattle.rv_model.specs.Offers.{offers_in_order}
 use Rattle.rv_model.specs.Step.{Offers, offers_after}
 use Rattle.rv_reader.specs.Shown.{Shown}
 use Rattle.rv_snapshot.specs.Alone.{alone}
+use Rattle.rv_overlay.specs.declared.frozen.Frozen.{Frozen}
+use Rattle.rv_view.specs.Sights.{LaysSome, laid_over}
 use Rattle.rv_join.specs.Order.{IsLeastOf}
 use Rattle.rv_join.specs.Plans.{PlanFits, PlanMoves, plan_rest, plan_work}
 use Rattle.rv_join.specs.declared.plan.PlanStep.{PlanStep}
@@ -14,9 +16,13 @@ use Rattle.rv_cursor.specs.declared.cursor.Open.{Open}
 use Rattle.rv_cursor.specs.declared.cursor.Filled.{Filled}
 use Rattle.rv_cursor.specs.declared.cursor.Filled.TheVariants.{Brought, Nearer, Ended}
 
--- the reader at the cursor's snapshot alone
+-- the reader at one snapshot alone, with what a transaction froze laid over it where it had changes
+abbrev pub seen_at : Shown → ℕ → Option Frozen → Shown
+seen_at shown snap frozen = laid_over (alone shown snap) frozen
+
+-- WHAT A CURSOR SEES: its snapshot, with the changes that its transaction had made when it was opened
 abbrev pub seen_by : Shown → Open → Shown
-seen_by shown c = alone shown c.snap
+seen_by shown c = seen_at shown c.snap c.frozen
 
 abbrev pub in_hand : Option Offer → List Offer
 in_hand None = []
@@ -30,11 +36,12 @@ to_come shown c = plan_rest (seen_by shown c) c.plan
 abbrev pub left : Shown → Open → List Offer
 left shown c = offers_in_order (in_hand c.hand ++ to_come shown c)
 
--- its plan was drawn from what the reader shows at its snapshot, and none that is to come is less than the row in hand
+-- its plan was drawn from what it sees, none that is to come is less than the row in hand, and what was frozen fits the reader
 pub record CursorFits (shown : Shown) (c : Open) : Type 0 where
   pub at : c.plan.asked.snap ≡ c.snap
   pub plan : PlanFits (seen_by shown c) c.plan
   pub least : IfSome c.hand (λ o. IsLeastOf o (to_come shown c))
+  pub lays : LaysSome (alone shown c.snap) c.frozen
 
 -- what it was opened with stays
 pub record SameCursor (old new : Open) : Type 0 where
@@ -42,6 +49,7 @@ pub record SameCursor (old new : Open) : Type 0 where
   pub name : new.name ≡ old.name
   pub number : new.number ≡ old.number
   pub snap : new.snap ≡ old.snap
+  pub frozen : new.frozen ≡ old.frozen
   pub asked : new.plan.asked ≡ old.plan.asked
 
 -- whatever a call does to a cursor, but for an offer that it gives

@@ -11,8 +11,9 @@ ghost use Rattle.rv_join.specs.Work.{row_cost};
 ghost use Rattle.rv_model.specs.Offering.{offers_over};
 ghost use Rattle.rv_model.specs.Offers.{offers_in_order};
 ghost use Rattle.rv_snapshot.specs.Alone.{alone};
+ghost use Rattle.rv_view.specs.Sights.{LaysSome};
 ghost use Rattle.rv_join.specs.Pieces.{plan_awaited, plan_pieces};
-ghost use Rattle.rv_cursor.specs.Left.{CursorFits, Fills, Stays, left, seen_by, work};
+ghost use Rattle.rv_cursor.specs.Left.{CursorFits, Fills, Stays, left, seen_at, seen_by, work};
 ghost use Rattle.rv_cursor.specs.Moves.{FrontTo, Moves, StepsFront, WorksPiece, ruled};
 
 use rv_catalog::{IndexDef, Select};
@@ -23,16 +24,19 @@ use rv_model::Offer;
 use rv_reader::Reader;
 use rv_snapshot::Snapshot;
 use rv_value::{NoMemory, Text};
+use rv_view::{Seen, View};
 use std::alloc::Global;
 
-/// An open cursor of a session over a snapshot: its plan, and the row that the plan gave and that
-/// was not fetched yet.
+/// An open cursor of a session over a snapshot, with the view that its transaction had when it was
+/// opened, where that has changes: its plan, and the row that the plan gave and that was not
+/// fetched yet.
 #[derive(Drop)]
 pub struct Open {
     pub session: u8,
     pub name: Text,
     pub number: u64,
     pub snap: u64,
+    pub frozen: Option<View>,
     pub plan: Plan,
     pub hand: Option<Offer>,
 }
@@ -48,7 +52,7 @@ pub enum Filled {
     Ended,
 }
 
-/// Opens a cursor over what a select offers at a snapshot.
+/// Opens a cursor over what a select offers at a snapshot. A transaction's view is laid over it where one is given.
 pub fn open_cursor<R: Reader>(
     alloc: Global,
     reader: &R,
@@ -58,31 +62,46 @@ pub fn open_cursor<R: Reader>(
     name: Text,
     number: u64,
     snap: u64,
+    frozen: Option<View>,
     steps: &mut Steps<R::Ledger>,
 ) -> Result<Open, NoMemory>
-    requires { CanPlan select.now indexes.now (alone (R.shown reader.now) snap) snap }
+    requires lays { LaysSome (alone (R.shown reader.now) snap) frozen }
+    requires plan { CanPlan select.now indexes.now (seen_at (R.shown reader.now) snap frozen) snap }
     ensures fits { IfOk result (CursorFits (R.shown reader.now)) }
-    ensures left { IfOk result (λ c. left (R.shown reader.now) c ≡ offers_in_order (offers_over select.now (table_rows (alone (R.shown reader.now) snap) snap))) }
+    ensures left { IfOk result (λ c. left (R.shown reader.now) c ≡ offers_in_order (offers_over select.now (table_rows (seen_at (R.shown reader.now) snap frozen) snap))) }
     ensures asked { IfOk result (λ c. IsAsked select.now indexes.now snap number c.plan.asked) }
-    ensures leads { IfOk result (λ c. LeadsWith (alone (R.shown reader.now) snap) c.plan) }
+    ensures leads { IfOk result (λ c. LeadsWith (seen_at (R.shown reader.now) snap frozen) c.plan) }
     ensures stage { IfOk result (λ c. c.plan.stage ≡ stage_of select.now indexes.now) }
-    ensures work { IfOk result (λ c. plan_work (alone (R.shown reader.now) snap) c.plan ≤ row_cost (alone (R.shown reader.now) snap) snap c.plan.asked.items) }
-    ensures life { IfOk result (λ c. reads steps.new + plan_effort (alone (R.shown reader.now) snap) c.plan ≤ reads steps.old + plan_life select.now indexes.now (alone (R.shown reader.now) snap) snap) }
-    ensures short { IfOk result (λ c. has_short c.plan.stack.at.here.query (alone (R.shown reader.now) snap) ≡ true → Settled c.plan.stack.at.here × (fetches_left c.plan.stack.at.here (alone (R.shown reader.now) snap) ≤ 20)) }
+    ensures work { IfOk result (λ c. plan_work (seen_at (R.shown reader.now) snap frozen) c.plan ≤ row_cost (seen_at (R.shown reader.now) snap frozen) snap c.plan.asked.items) }
+    ensures life { IfOk result (λ c. reads steps.new + plan_effort (seen_at (R.shown reader.now) snap frozen) c.plan ≤ reads steps.old + plan_life select.now indexes.now (seen_at (R.shown reader.now) snap frozen) snap) }
+    ensures short { IfOk result (λ c. has_short c.plan.stack.at.here.query (seen_at (R.shown reader.now) snap frozen) ≡ true → Settled c.plan.stack.at.here × (fetches_left c.plan.stack.at.here (seen_at (R.shown reader.now) snap frozen) ≤ 20)) }
     ensures only { OnlyLeaves steps.old steps.new }
     ensures counts { IfOk result (λ c. CountsAll (plan_trace c.plan) steps.old steps.new) }
     ensures session { IfOk result (λ c. c.session ≡ session) }
     ensures name { IfOk result (λ c. c.name ≡ name) }
     ensures number { IfOk result (λ c. c.number ≡ number) }
     ensures snap { IfOk result (λ c. c.snap ≡ snap) }
+    ensures frozen { IfOk result (λ c. c.frozen ≡ frozen) }
 {
-    let seen = Snapshot { reader, snap };
-    let plan = Plan::open(alloc, &seen, select, indexes, snap, number, steps)?;
+    let at = Snapshot { reader, snap };
+    let plan = Plan::open(
+        alloc,
+        &Seen {
+            reader: &at,
+            view: &frozen,
+        },
+        select,
+        indexes,
+        snap,
+        number,
+        steps,
+    )?;
     Ok(Open {
         session,
         name,
         number,
         snap,
+        frozen,
         plan,
         hand: None,
     })
@@ -104,9 +123,13 @@ pub fn fill<R: Reader>(
     ensures lost { OnErr result (StepsFront None (would judge.old) (seen_by (R.shown reader.now) cursor.old) (ruled cursor.old (state judge.old)) (ruled cursor.new (state judge.new))) }
     ensures stays_rule { would judge.new ≡ would judge.old }
 {
-    let seen = Snapshot {
+    let at = Snapshot {
         reader,
         snap: cursor.snap,
+    };
+    let seen = Seen {
+        reader: &at,
+        view: &cursor.frozen,
     };
     match cursor.plan.step(&seen, judge, steps) {
         Ok(PlanStep::Row(offer)) => {
@@ -137,9 +160,13 @@ pub fn work_piece<R: Reader>(
     ensures none { plan_awaited cursor.old.plan ≡ None → (result ≡ Ok false) × (steps.new ≡ steps.old) }
     ensures err { OnErr result (plan_pieces cursor.new.plan ≡ plan_pieces cursor.old.plan) }
 {
-    let seen = Snapshot {
+    let at = Snapshot {
         reader,
         snap: cursor.snap,
+    };
+    let seen = Seen {
+        reader: &at,
+        view: &cursor.frozen,
     };
     let piece = match cursor.plan.take(&seen, steps) {
         Ok(Taken::Piece(piece)) => piece,

@@ -49,8 +49,6 @@ pub enum Refusal {
     CursorOpen(Text),
     /// The number is the greatest that is allowed.
     Limit { which: Which, number: u64 },
-    /// A table of which the transaction has changed a row, at OPEN.
-    Pending(Text),
 }
 
 /// An event of a trace, a scan being named by its index.
@@ -153,7 +151,6 @@ impl Duplicate for Refusal {
                 which: *which,
                 number: *number,
             },
-            Refusal::Pending(name) => Refusal::Pending(name.copy(alloc)?),
         })
     }
 }

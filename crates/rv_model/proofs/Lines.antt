@@ -115,7 +115,6 @@ refusal_line (refusals.Held row txn) p = two_line row.0 txn p.0 p.1
 refusal_line (refusals.NoCursor name) p = name_line name p
 refusal_line (refusals.CursorOpen name) p = name_line name p
 refusal_line (refusals.Limit which number) p = joined (limit_word which) (32 ∷ decimal number) (limit_line which) (decimal_line number p)
-refusal_line (refusals.Pending name) p = name_line name p
 
 -- words that are lines
 abbrev AreLines : List (List ℕ) → Type 0

@@ -56,8 +56,7 @@ read t =
     (or_else (after (codes "no cursor ") t) (λ d. replies.Refused (refusals.NoCursor d))
     (or_else (after (codes "cursor open ") t) (λ d. replies.Refused (refusals.CursorOpen d))
     (or_else (after (codes "limit ") t) (λ _. replies.Refused (refusals.Limit limits.Name 0))
-    (or_else (after (codes "pending ") t) (λ d. replies.Refused (refusals.Pending d))
-    replies.End))))))))))))))))))))))))))
+    replies.End)))))))))))))))))))))))))
 
 -- a reply without those parts
 abbrev shape : Reply → Reply
@@ -97,7 +96,6 @@ read_is (replies.Refused (refusals.Held row txn)) p = refl
 read_is (replies.Refused (refusals.NoCursor name)) p = refl
 read_is (replies.Refused (refusals.CursorOpen name)) p = refl
 read_is (replies.Refused (refusals.Limit which number)) p = refl
-read_is (replies.Refused (refusals.Pending name)) p = refl
 
 abbrev row_of : Reply → List Value
 row_of (replies.Row vs) = vs
@@ -167,7 +165,6 @@ row_part_is (replies.Refused (refusals.Held row txn)) = refl
 row_part_is (replies.Refused (refusals.NoCursor name)) = refl
 row_part_is (replies.Refused (refusals.CursorOpen name)) = refl
 row_part_is (replies.Refused (refusals.Limit which number)) = refl
-row_part_is (replies.Refused (refusals.Pending name)) = refl
 
 pair_part_is : (r : Reply) → pair_part (reply_text r) ≡ pair_text (pair_of r)
 pair_part_is replies.Created = refl
@@ -195,7 +192,6 @@ pair_part_is (replies.Refused (refusals.Held row txn)) = refl
 pair_part_is (replies.Refused (refusals.NoCursor name)) = refl
 pair_part_is (replies.Refused (refusals.CursorOpen name)) = refl
 pair_part_is (replies.Refused (refusals.Limit which number)) = refl
-pair_part_is (replies.Refused (refusals.Pending name)) = refl
 
 limit_part_is : (r : Reply) → limit_part (reply_text r) ≡ limit_text (limit_of r)
 limit_part_is replies.Created = refl
@@ -223,7 +219,6 @@ limit_part_is (replies.Refused (refusals.Held row txn)) = refl
 limit_part_is (replies.Refused (refusals.NoCursor name)) = refl
 limit_part_is (replies.Refused (refusals.CursorOpen name)) = refl
 limit_part_is (replies.Refused (refusals.Limit which number)) = refl
-limit_part_is (replies.Refused (refusals.Pending name)) = refl
 
 trace_part_is : (r : Reply) → trace_part (reply_text r) ≡ trace_text (trace_of r)
 trace_part_is replies.Created = refl
@@ -251,7 +246,6 @@ trace_part_is (replies.Refused (refusals.Held row txn)) = refl
 trace_part_is (replies.Refused (refusals.NoCursor name)) = refl
 trace_part_is (replies.Refused (refusals.CursorOpen name)) = refl
 trace_part_is (replies.Refused (refusals.Limit which number)) = refl
-trace_part_is (replies.Refused (refusals.Pending name)) = refl
 
 -- the plainness of the parts
 plain_row : (r : Reply) → IsPlainReply r → AllByRecursion IsPlainValue (row_of r)
@@ -280,7 +274,6 @@ plain_row (replies.Refused (refusals.Held row txn)) p = tt
 plain_row (replies.Refused (refusals.NoCursor name)) p = tt
 plain_row (replies.Refused (refusals.CursorOpen name)) p = tt
 plain_row (replies.Refused (refusals.Limit which number)) p = tt
-plain_row (replies.Refused (refusals.Pending name)) p = tt
 
 abbrev FitsPair : Option (ℕ × ℕ) → Type 0
 FitsPair None = Unit {0}
@@ -320,7 +313,6 @@ plain_pair (replies.Refused (refusals.Held row txn)) p = p
 plain_pair (replies.Refused (refusals.NoCursor name)) p = tt
 plain_pair (replies.Refused (refusals.CursorOpen name)) p = tt
 plain_pair (replies.Refused (refusals.Limit which number)) p = tt
-plain_pair (replies.Refused (refusals.Pending name)) p = tt
 
 plain_limit : (r : Reply) → IsPlainReply r → FitsLimit (limit_of r)
 plain_limit replies.Created p = tt
@@ -348,7 +340,6 @@ plain_limit (replies.Refused (refusals.Held row txn)) p = tt
 plain_limit (replies.Refused (refusals.NoCursor name)) p = tt
 plain_limit (replies.Refused (refusals.CursorOpen name)) p = tt
 plain_limit (replies.Refused (refusals.Limit which number)) p = p
-plain_limit (replies.Refused (refusals.Pending name)) p = tt
 
 plain_trace : (r : Reply) → IsPlainReply r → FitsTrace (trace_of r)
 plain_trace replies.Created p = tt
@@ -376,7 +367,6 @@ plain_trace (replies.Refused (refusals.Held row txn)) p = tt
 plain_trace (replies.Refused (refusals.NoCursor name)) p = tt
 plain_trace (replies.Refused (refusals.CursorOpen name)) p = tt
 plain_trace (replies.Refused (refusals.Limit which number)) p = tt
-plain_trace (replies.Refused (refusals.Pending name)) p = tt
 
 -- the limit of a word
 abbrev which_of : List ℕ → Which
@@ -501,7 +491,6 @@ rebuilt_is (replies.Refused (refusals.Held row txn)) = refl
 rebuilt_is (replies.Refused (refusals.NoCursor name)) = refl
 rebuilt_is (replies.Refused (refusals.CursorOpen name)) = refl
 rebuilt_is (replies.Refused (refusals.Limit which number)) = refl
-rebuilt_is (replies.Refused (refusals.Pending name)) = refl
 
 pub reply_same : (r q : Reply) → IsPlainReply r → IsPlainReply q → reply_text r ≡ reply_text q → r ≡ q
 reply_same r q pr pq e =

@@ -1,14 +1,14 @@
 -- What each statement does: the replies that are allowed, and the next state.
-use Rattle.std.specs.Prelude.{◌≡◌, ◌≤◌, ℕ, ◌+◌, List, [], ◌∷◌, ◌++◌, Option, Some, None, Result, Ok, Err, Bool, true, false, ◌==◌, IsSome, length, slice_set, filter, find, map, nat_lt, is_some, remove, not}
+use Rattle.std.specs.Prelude.{◌≡◌, ◌≤◌, ℕ, ◌+◌, List, [], ◌∷◌, ◌++◌, Option, Some, None, Result, Ok, Err, Bool, true, false, ◌==◌, IsSome, length, slice_set, filter, map, nat_lt, is_some, remove, not}
 use Rattle.std.specs.List.{slice_index_or, range_with_len}
 use Rattle.rv_value.specs.declared.value.Value.{Value}
 use Rattle.rv_value.specs.declared.record.Record.{Record}
 use Rattle.rv_rows.specs.declared.changes.Change.{Change}
-use Rattle.rv_rows.specs.Changes.{rows_with_changes, touches}
+use Rattle.rv_rows.specs.Changes.{rows_with_changes}
 use Rattle.rv_lang.specs.declared.statement.Statement.{Statement}
 use Rattle.rv_lang.specs.declared.reply.Which.TheVariants.{Tables, Indexes, Cursors}
 use Rattle.rv_lang.specs.declared.reply.Refusal.{Refusal}
-use Rattle.rv_lang.specs.declared.reply.Refusal.TheVariants.{Syntax, NoTransaction, Busy, NoCursor, CursorOpen, Limit, Pending}
+use Rattle.rv_lang.specs.declared.reply.Refusal.TheVariants.{Syntax, NoTransaction, Busy, NoCursor, CursorOpen, Limit}
 use Rattle.rv_lang.specs.declared.reply.Reply.{Reply}
 use Rattle.rv_lang.specs.declared.reply.Reply.TheVariants.{Created, Began, Inserted, Touched, Committed, RolledBack, Opened, Row, End, Closed, Stepped, Trace, Refused}
 use Rattle.rv_restrict.specs.declared.atom.Atom.{Atom}
@@ -20,7 +20,7 @@ use Rattle.rv_catalog.specs.declared.def.Resolved.TheVariants as asks
 use Rattle.rv_catalog.specs.Kept.{indexes_over}
 use Rattle.rv_catalog.specs.Answers.{◌>>=◌, ok_or, refuse_if}
 use Rattle.rv_catalog.specs.Resolve.{resolved}
-use Rattle.rv_catalog.specs.Schema.{Schema, no_table}
+use Rattle.rv_catalog.specs.Schema.{Schema}
 use Rattle.rv_model.specs.declared.state.State.{State}
 use Rattle.rv_model.specs.declared.state.Cursor.{Cursor}
 use Rattle.rv_model.specs.declared.state.Offer.{Offer}
@@ -74,6 +74,14 @@ abbrev pub rows_seen : State → Option ℕ → ℕ → List Record
 rows_seen s None table = []
 rows_seen s (Some own) table = base_rows s own table
 
+-- THE VIEW of the transaction in a place: the rows at its base with its own changes
+abbrev pub view_rows : State → ℕ → ℕ → List Record
+view_rows s own table = transactions.seen (transaction_at s.transactions.active own) table (λ base. base_rows s own table)
+
+abbrev pub rows_viewed : State → Option ℕ → ℕ → List Record
+rows_viewed s None table = []
+rows_viewed s (Some own) table = view_rows s own table
+
 -- UPDATE, which sets columns, and DELETE, which sets none
 abbrev pub changed : State → ℕ → ℕ → Option (List (ℕ × Value)) → List (List Atom) → Outcome
 changed s session table sets only = do
@@ -112,14 +120,6 @@ rolled_back s session = do
   own ← ok_or (transaction_of s.transactions.active session) NoTransaction
   Ok (RolledBack, ended s own session (transactions.without s.transactions own))
 
--- the first of these tables of which a row is changed
-abbrev pub first_touched : List Change → List ℕ → Option ℕ
-first_touched changes tables = find (λ (table : ℕ). touches table changes) tables
-
--- the name of a table
-abbrev pub table_name : List TableDef → ℕ → List ℕ
-table_name defs table = (slice_index_or defs table no_table).name
-
 abbrev pub own_cursors : List Cursor → ℕ → List Cursor
 own_cursors cursors session = filter (λ (c : Cursor). c.session == session) cursors
 
@@ -127,22 +127,21 @@ own_cursors cursors session = filter (λ (c : Cursor). c.session == session) cur
 abbrev pub table_of : Select → ℕ
 table_of select = slice_index_or select.tables 0 0
 
--- the place of the session's transaction, where it may open a cursor of a name over tables: not a name that is open in the
--- session, not over a table that the transaction has changed, and at most 16 cursors
-abbrev pub opening : List TableDef → List Transaction → List Cursor → ℕ → List ℕ → List ℕ → Result ℕ Refusal
-opening defs active cursors session name tables = do
+-- the place of the session's transaction, where it may open a cursor of a name: not a name that is open in the session, and at
+-- most 16 cursors
+abbrev pub opening : List Transaction → List Cursor → ℕ → List ℕ → Result ℕ Refusal
+opening active cursors session name = do
   own ← ok_or (transaction_of active session) NoTransaction
   free ← refuse_if (is_some (cursor_named cursors session name)) (CursorOpen name)
-  clean ← refuse_at (first_touched (transaction_at active own).changes tables) (λ table. Pending (table_name defs table))
   room ← refuse_if (nat_lt 15 (length (own_cursors cursors session))) (Limit Cursors 16)
   Ok own
 
--- OPEN: a cursor over the rows at the transaction's base, with an offer for each choice of one row per FROM item whose
+-- OPEN: a cursor over the transaction's view as it stands, with an offer for each choice of one row per FROM item whose
 -- restriction is True.
 abbrev pub opened : State → ℕ → List ℕ → Select → Outcome
 opened s session cursor select = do
-  own ← opening s.schema.tables s.transactions.active s.cursors session cursor select.tables
-  Ok (Opened, record s { cursors = s.cursors ++ record { session = session; name = cursor; table = table_of select; offers = offers_in_order (offers_over select (base_rows s own)) } ∷ [] })
+  own ← opening s.transactions.active s.cursors session cursor
+  Ok (Opened, record s { cursors = s.cursors ++ record { session = session; name = cursor; table = table_of select; offers = offers_in_order (offers_over select (view_rows s own)) } ∷ [] })
 
 -- A reply that a cursor with these offers may give: the values of some offer whose order values equal the first offer's,
 -- and End exactly where there is no offer.

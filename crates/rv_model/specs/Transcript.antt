@@ -72,7 +72,6 @@ refusal_text (refusals.Held row txn) = codes "held " ++ decimal row.0 ++ codes "
 refusal_text (refusals.NoCursor name) = codes "no cursor " ++ name
 refusal_text (refusals.CursorOpen name) = codes "cursor open " ++ name
 refusal_text (refusals.Limit which n) = codes "limit " ++ limit_word which ++ 32 ∷ decimal n
-refusal_text (refusals.Pending name) = codes "pending " ++ name
 
 -- the word for a strategy
 abbrev pub strategy_word : Strategy → List ℕ
@@ -173,7 +172,6 @@ IsPlainRefusal (refusals.Held row txn) = (row.0 < 2 ^ 64) × (txn < 2 ^ 64)
 IsPlainRefusal (refusals.NoCursor name) = IsName name
 IsPlainRefusal (refusals.CursorOpen name) = IsName name
 IsPlainRefusal (refusals.Limit which number) = number < 2 ^ 64
-IsPlainRefusal (refusals.Pending name) = IsName name
 
 abbrev pub IsPlainEvent : ShownEvent → Type 0
 IsPlainEvent (events.At control) = Unit {0}

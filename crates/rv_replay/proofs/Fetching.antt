@@ -9,10 +9,10 @@ use Rattle.rv_catalog.specs.declared.def.Select.{Select}
 use Rattle.rv_model.specs.declared.state.Cursor.{Cursor}
 use Rattle.rv_model.specs.declared.state.Offer.{Offer}
 use Rattle.rv_model.specs.declared.state.State.{State}
-use Rattle.rv_model.specs.Database.{base_rows, cursor_at, no_cursor}
+use Rattle.rv_model.specs.Database.{cursor_at, no_cursor}
 use Rattle.rv_model.specs.Offering.{offers_over}
 use Rattle.rv_model.specs.Offers.{offers_in_order}
-use Rattle.rv_model.specs.Step.{Offers, offers_after, opened, rows_seen, table_of}
+use Rattle.rv_model.specs.Step.{Offers, offers_after, opened, rows_viewed, table_of, view_rows}
 use Rattle.rv_model.specs.Transactions.{transaction_of}
 use Rattle.rv_core.specs.Doing.{opening_base}
 use Rattle.rv_core.proofs.Calling.{opening_is, opens_err}
@@ -20,14 +20,14 @@ use Rattle.rv_replay.specs.Judging.{Done, Judges, JudgesAt, JudgesFetch, JudgesO
 
 -- ---- OPEN
 
-pub opens : (s : State) (c more : List Cursor) (session base : ℕ) (name : List ℕ) (select : Select) (offers : List Offer) → opening_base s.schema.tables s.transactions.active c session name select.tables ≡ Ok base → offers ≡ offers_in_order (offers_over select (rows_seen s (transaction_of s.transactions.active session))) → more ≡ c ++ record { session = session; name = name; table = table_of select; offers = offers } ∷ []
+pub opens : (s : State) (c more : List Cursor) (session base : ℕ) (name : List ℕ) (select : Select) (offers : List Offer) → opening_base s.transactions.active c session name ≡ Ok base → offers ≡ offers_in_order (offers_over select (rows_viewed s (transaction_of s.transactions.active session))) → more ≡ c ++ record { session = session; name = name; table = table_of select; offers = offers } ∷ []
     → Done (opened (with_cursors s c) session name select) (with_cursors s c) Opened (with_cursors s more)
 opens s c more session base name select offers h listed pushed =
-    let o = opening_is s.schema.tables s.transactions.active c session base name select.tables h in
-    let offers_are : offers ≡ offers_in_order (offers_over select (base_rows s o.0)) = rw (o.2) at listed in
+    let o = opening_is s.transactions.active c session base name h in
+    let offers_are : offers ≡ offers_in_order (offers_over select (view_rows s o.0)) = rw (o.2) at listed in
     rw (o.1, pushed, offers_are) (refl, refl)
 
-pub opens_not : (s : State) (c : List Cursor) (session : ℕ) (name : List ℕ) (select : Select) (refusal : Refusal) → opening_base s.schema.tables s.transactions.active c session name select.tables ≡ Err refusal
+pub opens_not : (s : State) (c : List Cursor) (session : ℕ) (name : List ℕ) (select : Select) (refusal : Refusal) → opening_base s.transactions.active c session name ≡ Err refusal
     → Done (opened (with_cursors s c) session name select) (with_cursors s c) (Refused refusal) (with_cursors s c)
 opens_not s c session name select refusal h = rw (opens_err (with_cursors s c) session name select refusal h) (refl, refl)
 

@@ -29,9 +29,9 @@ use Rattle.rv_model.specs.Offering.{offers_over}
 use Rattle.rv_model.specs.Offers.{offers_in_order}
 use Rattle.rv_model.specs.declared.entry.Entry.{Entry}
 use Rattle.rv_model.specs.declared.state.State.{State}
-use Rattle.rv_model.specs.Database.{base_rows, cursor_named, empty}
+use Rattle.rv_model.specs.Database.{cursor_named, empty}
 use Rattle.rv_model.specs.History.{after, after_from, stepped}
-use Rattle.rv_model.specs.Step.{committed_with, fetched, next_asked, opening, rows_seen, state_of, table_of, understood}
+use Rattle.rv_model.specs.Step.{committed_with, fetched, next_asked, opening, rows_seen, state_of, table_of, view_rows, understood}
 use Rattle.rv_model.specs.Transactions as transactions
 use Rattle.rv_model.specs.Transactions.{lowest, transaction_at, transaction_of}
 use Rattle.rv_decide.specs.Naming.{AreNamedApart, is_named}
@@ -192,7 +192,7 @@ asked_apart (Ok (asks.Update table sets only)) s session reply fits apart = chan
 asked_apart (Ok (asks.Delete table only)) s session reply fits apart = changed_apart s (transactions.changed s.transactions session table only None (λ base. rows_seen s (transaction_of s.transactions.active session) table)) apart
 asked_apart (Ok asks.Commit) s session reply fits apart = committed_apart s session (transaction_of s.transactions.active session) apart
 asked_apart (Ok asks.Rollback) s session reply fits apart = rolled_apart s session (transaction_of s.transactions.active session) apart
-asked_apart (Ok (asks.Open cursor select)) s session reply fits apart = cursors_apart s (opening s.schema.tables s.transactions.active s.cursors session cursor select.tables) Opened (λ own. s.cursors ++ record { session = session; name = cursor; table = table_of select; offers = offers_in_order (offers_over select (base_rows s own)) } ∷ []) apart
+asked_apart (Ok (asks.Open cursor select)) s session reply fits apart = cursors_apart s (opening s.transactions.active s.cursors session cursor) Opened (λ own. s.cursors ++ record { session = session; name = cursor; table = table_of select; offers = offers_in_order (offers_over select (view_rows s own)) } ∷ []) apart
 asked_apart (Ok (asks.Step cursor n)) s session reply fits apart = apart
 asked_apart (Ok (asks.Show cursor)) s session reply fits apart = apart
 asked_apart (Ok (asks.Close cursor)) s session reply fits apart = cursors_apart s (ok_or (cursor_named s.cursors session cursor) (NoCursor cursor)) Closed (λ place. remove s.cursors place) apart

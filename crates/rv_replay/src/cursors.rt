@@ -7,9 +7,7 @@ ghost use Rattle.rv_core.specs.Doing.{opening_base};
 ghost use Rattle.rv_replay.specs.Judging.{Judges, JudgesAt};
 
 use crate::queues::{OfferQueue, take_given};
-use rv_catalog::Catalog;
-use rv_core::cursors::first_touched;
-use rv_core::replies::{limit, table_name};
+use rv_core::replies::limit;
 use rv_lang::{Refusal, Reply, Which};
 use rv_txn::{TxnFault, Txns};
 use rv_value::{Duplicate, Items, Text};
@@ -122,27 +120,22 @@ pub fn table_at(cursors: &Items<OpenCursor>, place: usize) -> u32
     cursors.as_slice()[place].table()
 }
 
-/// The base of the session's transaction, where it may open a cursor of a name over tables.
+/// The base of the session's transaction, where it may open a cursor of a name.
 pub fn may_open(
     alloc: Global,
-    catalog: &Catalog,
     txns: &Txns,
     cursors: &Items<OpenCursor>,
     session: u8,
     name: &Text,
-    tables: &[u32],
 ) -> Result<u64, TxnFault>
-    ensures ok { IfOk result (λ base. opening_base catalog.now.tables txns.now.active cursors.now session name.now tables.now ≡ Ok base) }
-    ensures fault { IfErr result (λ fault. IsFault (opening_base catalog.now.tables txns.now.active cursors.now session name.now tables.now) fault) }
+    ensures ok { IfOk result (λ base. opening_base txns.now.active cursors.now session name.now ≡ Ok base) }
+    ensures fault { IfErr result (λ fault. IsFault (opening_base txns.now.active cursors.now session name.now) fault) }
 {
     let Some(standing) = txns.standing(session) else {
         return Err(TxnFault::Refused(Refusal::NoTransaction));
     };
     if cursor_named(cursors, session, name).is_some() {
         return Err(TxnFault::Refused(Refusal::CursorOpen(name.copy(alloc)?)));
-    }
-    if let Some(table) = first_touched(txns, session, tables) {
-        return Err(TxnFault::Refused(Refusal::Pending(table_name(alloc, catalog, table)?)));
     }
     if count_cursors(cursors, session) > 15 {
         return Err(TxnFault::Refused(limit(Which::Cursors, 16)));

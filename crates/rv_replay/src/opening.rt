@@ -1,9 +1,9 @@
-//! What OPEN needs of the tables: their rows at the base of the session's transaction, and the offers over these.
+//! What OPEN needs of the tables: their rows in the view of the session's transaction, and the offers over these.
 ghost use Rattle.std.specs.Prelude.{◌≡◌, ◌<◌, IfOk, length, map, true};
 ghost use Rattle.std.specs.List.{list_all};
 ghost use Rattle.rv_catalog.specs.Fits.{IsQueryOf, is_column};
 ghost use Rattle.rv_model.specs.Offering.{offers_over};
-ghost use Rattle.rv_model.specs.Step.{rows_seen, table_of};
+ghost use Rattle.rv_model.specs.Step.{rows_viewed, table_of};
 ghost use Rattle.rv_model.specs.Transactions.{transaction_of};
 
 use rv_catalog::Select;
@@ -24,7 +24,7 @@ pub fn first_table(select: &Select) -> u32
     }
 }
 
-/// What a query offers at the base of the session's transaction.
+/// What a query offers in the view of the session's transaction.
 pub fn offers_of(
     alloc: Global,
     database: &Database<Paged>,
@@ -32,13 +32,13 @@ pub fn offers_of(
     select: &Select,
 ) -> Result<Vec<Offer>, NoMemory>
     requires { IsQueryOf database.now.stand.db.schema select.now }
-    ensures { IfOk result (λ offers. offers.items ≡ offers_over select.now (rows_seen database.now.stand.db (transaction_of database.now.stand.db.transactions.active session))) }
+    ensures { IfOk result (λ offers. offers.items ≡ offers_over select.now (rows_viewed database.now.stand.db (transaction_of database.now.stand.db.transactions.active session))) }
 {
     let lists = lists_of(alloc, database, session, select.tables.as_slice())?;
     offers_over(alloc, select, lists.as_slice())
 }
 
-/// The rows of each table at the base of the session's transaction.
+/// The rows of each table in the view of the session's transaction.
 fn lists_of(
     alloc: Global,
     database: &Database<Paged>,
@@ -46,7 +46,7 @@ fn lists_of(
     tables: &[u32],
 ) -> Result<Vec<Items<Record>>, NoMemory>
     requires { list_all (is_column (length database.now.stand.db.schema.tables)) tables.now ≡ true }
-    ensures { IfOk result (λ lists. lists.items ≡ map (rows_seen database.now.stand.db (transaction_of database.now.stand.db.transactions.active session)) tables.now) }
+    ensures { IfOk result (λ lists. lists.items ≡ map (rows_viewed database.now.stand.db (transaction_of database.now.stand.db.transactions.active session)) tables.now) }
 {
     let mut lists = Vec::with_capacity(alloc, tables.len())?;
     'tables: for table in tables {

@@ -156,12 +156,10 @@ impl PlainDatabase {
     {
         match may_open(
             self.alloc,
-            self.database.catalog(),
             self.database.txns(),
             &self.cursors,
             session,
             &name,
-            select.tables.as_slice(),
         ) {
             Ok(_base) => {}
             Err(TxnFault::Refused(refusal)) => return Ok(Reply::Refused(refusal)),

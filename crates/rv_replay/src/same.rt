@@ -55,7 +55,6 @@ pub fn same_refusal(a: &Refusal, b: &Refusal) -> bool
                 number: n,
             },
         ) => { same_which(*which, *w) && *number == *n }
-        (Refusal::Pending(a), Refusal::Pending(b)) => same_text(a, b),
         _ => false,
     }
 }

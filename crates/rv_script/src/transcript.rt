@@ -113,7 +113,6 @@ fn write_refusal<K: Sink>(
             write_two(sink, sofar, b"cursor open ", name.as_str().as_bytes())
         }
         Refusal::Limit { which, number } => write_limit(sink, sofar, *which, *number),
-        Refusal::Pending(name) => write_two(sink, sofar, b"pending ", name.as_str().as_bytes()),
     }
 }
 

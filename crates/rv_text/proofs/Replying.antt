@@ -114,7 +114,6 @@ refusal_printed (refusals.Held row txn) p = pair_printed row.0 txn p.0 p.1
 refusal_printed (refusals.NoCursor name) p = name_printed name p
 refusal_printed (refusals.CursorOpen name) p = name_printed name p
 refusal_printed (refusals.Limit which number) p = limit_printed which number p
-refusal_printed (refusals.Pending name) p = name_printed name p
 
 reply_printed : (r : Reply) → IsPlainReply r → list_all printed (reply_text r) ≡ true
 reply_printed replies.Created p = refl
@@ -189,7 +188,6 @@ reply_again (replies.Refused (refusals.Held row txn)) p h = rw (pair_again row.0
 reply_again (replies.Refused (refusals.NoCursor name)) p h = rw (is_a_name name p) refl
 reply_again (replies.Refused (refusals.CursorOpen name)) p h = rw (is_a_name name p) refl
 reply_again (replies.Refused (refusals.Limit which number)) p h = rw (limit_again which number p) refl
-reply_again (replies.Refused (refusals.Pending name)) p h = rw (is_a_name name p) refl
 
 -- What is read was written.
 
@@ -316,7 +314,6 @@ named_takes text = first_takes text (
     ∷ made (λ name. replies.Refused (refusals.Kind name)) (name_behind (codes "kind ") text)
     ∷ made (λ name. replies.Refused (refusals.NoCursor name)) (name_behind (codes "no cursor ") text)
     ∷ made (λ name. replies.Refused (refusals.CursorOpen name)) (name_behind (codes "cursor open ") text)
-    ∷ made (λ name. replies.Refused (refusals.Pending name)) (name_behind (codes "pending ") text)
     ∷ []) (
       name_reply (codes "unknown ") text (λ name. replies.Refused (refusals.Unknown name)) (λ name h. record { plain = h; held = tt; is = refl }),
       (
@@ -327,10 +324,7 @@ named_takes text = first_takes text (
             name_reply (codes "no cursor ") text (λ name. replies.Refused (refusals.NoCursor name)) (λ name h. record { plain = h; held = tt; is = refl }),
             (
               name_reply (codes "cursor open ") text (λ name. replies.Refused (refusals.CursorOpen name)) (λ name h. record { plain = h; held = tt; is = refl }),
-              (
-                name_reply (codes "pending ") text (λ name. replies.Refused (refusals.Pending name)) (λ name h. record { plain = h; held = tt; is = refl }),
-                tt,
-              ),
+              tt,
             ),
           ),
         ),

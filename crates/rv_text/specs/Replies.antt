@@ -78,7 +78,6 @@ named_at text = first_of (
     ∷ made (λ name. replies.Refused (refusals.Kind name)) (name_behind (codes "kind ") text)
     ∷ made (λ name. replies.Refused (refusals.NoCursor name)) (name_behind (codes "no cursor ") text)
     ∷ made (λ name. replies.Refused (refusals.CursorOpen name)) (name_behind (codes "cursor open ") text)
-    ∷ made (λ name. replies.Refused (refusals.Pending name)) (name_behind (codes "pending ") text)
     ∷ [])
 
 pub record Pair (A B : Type 0) : Type 0 where

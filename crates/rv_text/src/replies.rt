@@ -149,10 +149,6 @@ fn named(alloc: Global, text: &[u8]) -> Result<Option<Reply>, NoMemory>
         let name = Text::read(alloc, name)?;
         return Ok(Some(Reply::Refused(Refusal::CursorOpen(name))));
     }
-    if let Some(name) = name_behind(b"pending ", text) {
-        let name = Text::read(alloc, name)?;
-        return Ok(Some(Reply::Refused(Refusal::Pending(name))));
-    }
     Ok(None)
 }
 

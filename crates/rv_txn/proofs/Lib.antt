@@ -1,4 +1,5 @@
 pub mod Beginning
+pub mod Halving
 pub mod Pages
 pub mod Touching
 pub mod Views

@@ -1,5 +1,5 @@
 -- The rows of a view that a restriction keeps.
-use Rattle.std.proofs.Common.{◌≡◌, ◌≤◌, arith, ℕ, List, [], ◌∷◌, ◌++◌, Bool, true, false, not, ◌&&◌, ◌==◌, refl, ap, sym, ◌∙◌, inl, inr, subst, filter, map, nat_lt, Option, Some, None, length, IfSome, if◌then◌else◌, cond}
+use Rattle.std.proofs.Common.{◌≡◌, ◌≤◌, arith, ℕ, List, [], ◌∷◌, ◌++◌, Bool, true, false, not, ◌==◌, refl, ap, sym, ◌∙◌, inl, inr, subst, filter, map, Option, Some, None, length, IfSome, cond}
 use Rattle.std.specs.List.{AllByRecursion, list_all}
 use Rattle.std.proofs.lemmas.Bool.{cases_Bool}
 use Rattle.std.proofs.lemmas.List.Elements.{filter-append}
@@ -9,7 +9,7 @@ use Rattle.rv_rows.specs.declared.changes.Change.{Change}
 use Rattle.rv_rows.specs.declared.changes.RowKey.{RowKey}
 use Rattle.rv_rows.specs.Changes.{Rise, change_at, is_before, rows_with_changes}
 use Rattle.rv_rows.specs.Merging.{Passes}
-use Rattle.rv_rows.specs.Rows.{Ascend, comes_below, with_values, without_row}
+use Rattle.rv_rows.specs.Rows.{Ascend, comes_below, with_values}
 use Rattle.rv_rows.proofs.Chains.{ascends_without, record_ascends}
 use Rattle.rv_rows.proofs.Filters.{both}
 use Rattle.rv_rows.proofs.Merges.{without_cut}
@@ -121,3 +121,25 @@ one_laid only table old rest new left all s t e next rise passes told =
     let rise' : Rise (map change_at (e ∷ t)) = rw next at rise in
     let told' : old ++ rows_with_changes table (map (kept_change only) (map change_at (e ∷ t))) rest ≡ all = rw next at told in
     passes.same (map (kept_change only) (map change_at t)) (kept_rise only (map change_at (e ∷ t)) rise') ∙ told'
+
+-- Without a restriction each row is kept, and each change as it is.
+
+pub all_kept : (rows : List Record) → filter (keeps []) rows ≡ rows
+all_kept [] = refl
+all_kept (r ∷ rows) = ap (λ rs. r ∷ rs) (all_kept rows)
+
+values_kept : (values : Option (List Value)) → kept_values [] values ≡ values
+values_kept None = refl
+values_kept (Some vs) = refl
+
+pub changes_kept : (cs : List Change) → map (kept_change []) cs ≡ cs
+changes_kept [] = refl
+changes_kept (c ∷ cs) = λ i. record c { values = values_kept c.values i } ∷ changes_kept cs i
+
+some_leave : (values : Option (List Value)) → IfSome values (HasColumns [])
+some_leave None = tt
+some_leave (Some vs) = refl
+
+pub all_leave : (table : ℕ) (cs : List Change) → AllByRecursion (LeavesColumns table []) cs
+all_leave table [] = tt
+all_leave table (c ∷ cs) = (λ here. some_leave c.values, all_leave table cs)

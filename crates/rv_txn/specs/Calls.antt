@@ -1,7 +1,6 @@
 -- What the calls on transactions answer, beside what they make of them.
-use Rattle.std.specs.Prelude.{◌≡◌, ℕ, List, Option, Some, None, Result, Ok, Err, Bool, false}
+use Rattle.std.specs.Prelude.{◌≡◌, ℕ, List, Option, Some, None, Result, Ok, Err}
 use Rattle.rv_rows.specs.declared.changes.Change.{Change}
-use Rattle.rv_rows.specs.Changes.{touches}
 use Rattle.rv_lang.specs.declared.reply.Refusal.{Refusal}
 use Rattle.rv_lang.specs.declared.reply.Refusal.TheVariants.{NoTransaction}
 use Rattle.rv_catalog.specs.Answers.{◌>>=◌, ok_or}
@@ -36,8 +35,3 @@ standing_at active own = record { txn = (transaction_at active own).number; read
 abbrev pub standing : List Transaction → Option ℕ → Option Standing
 standing active None = None
 standing active (Some own) = Some (standing_at active own)
-
--- whether the transaction in a place, if any, has changed a row of the table
-abbrev pub has_changed : List Transaction → Option ℕ → ℕ → Bool
-has_changed active None table = false
-has_changed active (Some own) table = touches table (transaction_at active own).changes

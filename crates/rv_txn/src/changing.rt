@@ -9,7 +9,7 @@ ghost use Rattle.rv_restrict.specs.Bind.{passes_home};
 ghost use Rattle.rv_restrict.specs.Truth.{names_only, qualifies};
 ghost use Rattle.rv_catalog.specs.Fits.{is_column};
 ghost use Rattle.rv_reader.specs.Shown.{CanRead};
-ghost use Rattle.rv_model.specs.Transactions.{change_of, changed_with, met, new_values, with_sets};
+ghost use Rattle.rv_model.specs.Transactions.{change_of, changed_with, met, new_values, seen, with_sets};
 ghost use Rattle.rv_txn.specs.Changing.{CanChange, HasColumns, HaveColumns, LeavesColumns, kept_change, kept_values};
 
 use rv_judge::{Steps, Uncounted};
@@ -140,6 +140,22 @@ pub fn met_rows<S: Store + Reader<Ledger = Uncounted>>(
 {
     let kept = kept_rows(alloc, store, table, transaction.base, only)?;
     let rows = lay_over(alloc, kept.as_slice(), &transaction.changes, table, only)?;
+    Ok(rows)
+}
+
+/// The rows of a table in a transaction's view.
+pub fn viewed_rows<S: Store + Reader<Ledger = Uncounted>>(
+    alloc: Global,
+    transaction: &Transaction,
+    store: &S,
+    table: u32,
+) -> Result<Vec<Record>, NoMemory>
+    requires { CanRead (S.shown store.now) table transaction.now.base }
+    ensures { IfOk result (λ rows. rows.items ≡ seen transaction.now table ((S.shown store.now).rows table)) }
+{
+    let all = Restriction::from_groups(Vec::new(alloc));
+    let kept = kept_rows(alloc, store, table, transaction.base, &all)?;
+    let rows = lay_over(alloc, kept.as_slice(), &transaction.changes, table, &all)?;
     Ok(rows)
 }
 

@@ -1,9 +1,10 @@
 ghost use Rattle.std.specs.Prelude.{◌≡◌, ◌<◌, ◌-◌, ◌^◌, Ok, Err, IfOk, IfErr, OnOk, OnErr, IfSome, IsSome, length};
 ghost use Rattle.rv_rows.specs.Changes.{Rise};
-ghost use Rattle.rv_model.specs.Transactions.{began, changed, done, horizon, inserted, lowest, no_transactions, transaction_at, transaction_of};
-ghost use Rattle.std.specs.Option.{option_copied};
+ghost use Rattle.rv_model.specs.Transactions.{began, done, horizon, lowest, no_transactions, transaction_at, transaction_of};
+ghost use Rattle.std.specs.Option.{option_copied, option_map};
 ghost use Rattle.rv_txn.specs.Changing.{CanChange};
-ghost use Rattle.rv_txn.specs.Calls.{IsFault, finished, has_changed, rolled_back, standing};
+ghost use Rattle.rv_txn.specs.Calls.{IsFault, finished, rolled_back, standing};
+ghost use Rattle.rv_txn.specs.Halves.{changing, inserting, with_new, with_these};
 
 use crate::active::{
     changes_at, horizon, limit, lowest, standing_at, transaction_at, transaction_of, writer,
@@ -16,7 +17,7 @@ use rv_model::{Refusal, Transaction, Transactions, Which};
 use rv_reader::{Reader, Store};
 use rv_restrict::Restriction;
 use rv_rows::{Change, Changes};
-use rv_value::{Items, NoMemory, RowNo, Value, Values};
+use rv_value::{Items, NoMemory, RowNo, Value};
 use std::alloc::Global;
 use std::marker::Model;
 
@@ -109,12 +110,20 @@ impl Txns {
         Ok(number)
     }
 
-    /// INSERT: the number of a new row of the table.
-    #[tactic(auto, using(rv_value::proofs::Places::put_back, rv_value::proofs::Places::read_as))]
-    pub fn insert(&mut self, session: u8, table: u32, values: Values) -> Result<RowNo, TxnFault>
-        ensures ok { IfOk result (λ row. inserted self.old session table values ≡ Ok (row, self.new)) }
-        ensures fault { IfErr result (λ fault. IsFault (inserted self.old session table values) fault) }
-        ensures err { OnErr result (self.new ≡ self.old) }
+    /// The session's transaction, where it has one. It takes no memory.
+    pub fn own(&self, session: u8) -> Option<&Transaction>
+        ensures { option_copied result ≡ option_map (transaction_at self.now.active) (transaction_of self.now.active session) }
+    {
+        match transaction_of(&self.transactions.active, session) {
+            Some(own) => Some(transaction_at(&self.transactions.active, own)),
+            None => None,
+        }
+    }
+
+    /// The number of the row that an INSERT would add. It changes nothing.
+    pub fn inserting(&self, session: u8, table: u32) -> Result<RowNo, TxnFault>
+        ensures ok { IfOk result (λ row. inserting self.now session table ≡ Ok row) }
+        ensures fault { IfErr result (λ fault. IsFault (inserting self.now session table) fault) }
     {
         let own = match writer(&self.transactions.active, session) {
             Ok(own) => own,
@@ -127,34 +136,38 @@ impl Txns {
         if changes_at(&self.transactions.active, own).len() > 99_999 {
             return Err(TxnFault::Refused(limit(Which::Pending, 100_000)));
         }
-        let row = RowNo(number);
+        Ok(RowNo(number))
+    }
+
+    /// Puts the row that an INSERT adds to the session's transaction, and takes its number.
+    #[tactic(auto, using(rv_value::proofs::Places::put_back, rv_value::proofs::Places::read_as))]
+    pub fn put_new(&mut self, session: u8, change: Change) -> Result<(), NoMemory>
+        ensures ok { OnOk result (self.new ≡ with_new self.old (transaction_of self.old.active session) change) }
+        ensures err { OnErr result (self.new ≡ self.old) }
+    {
+        let Some(own) = transaction_of(&self.transactions.active, session) else {
+            return Ok(());
+        };
         put_and_take(
             self.alloc,
             &mut self.transactions.active.at_mut(own).changes,
-            Change {
-                table,
-                row,
-                values: Some(values),
-            },
+            change,
             &mut self.transactions.touched,
-        )?;
-        Ok(row)
+        )
     }
 
-    /// UPDATE, which sets columns, and DELETE, which sets none: how many rows are changed.
-    #[tactic(auto, using(rv_value::proofs::Places::put_back, rv_value::proofs::Places::read_as))]
-    pub fn change<S: Store + Reader<Ledger = Uncounted>>(
-        &mut self,
+    /// The changes that an UPDATE, which sets columns, or a DELETE, which sets none, would make. It changes nothing.
+    pub fn changing<S: Store + Reader<Ledger = Uncounted>>(
+        &self,
         session: u8,
         store: &S,
         table: u32,
         only: &Restriction,
         sets: Option<&[(u32, Value)]>,
-    ) -> Result<u64, TxnFault>
-        requires { IfSome (transaction_of self.old.active session) (λ own. CanChange (S.shown store.now) (transaction_at self.old.active own) table only.now) }
-        ensures ok { IfOk result (λ count. changed self.old session table only.now (option_copied sets.entry) ((S.shown store.now).rows table) ≡ Ok (count, self.new)) }
-        ensures fault { IfErr result (λ fault. IsFault (changed self.old session table only.now (option_copied sets.entry) ((S.shown store.now).rows table)) fault) }
-        ensures err { OnErr result (self.new ≡ self.old) }
+    ) -> Result<Vec<Change>, TxnFault>
+        requires { IfSome (transaction_of self.now.active session) (λ own. CanChange (S.shown store.now) (transaction_at self.now.active own) table only.now) }
+        ensures ok { IfOk result (λ new. changing self.now session table only.now (option_copied sets.entry) ((S.shown store.now).rows table) ≡ Ok new.items) }
+        ensures fault { IfErr result (λ fault. IsFault (changing self.now session table only.now (option_copied sets.entry) ((S.shown store.now).rows table)) fault) }
     {
         let own = match writer(&self.transactions.active, session) {
             Ok(own) => own,
@@ -177,8 +190,19 @@ impl Txns {
             Err(refusal) => return Err(TxnFault::Refused(refusal)),
         }
         let new = changes_of(self.alloc, table, sets, rows.as_slice())?;
-        self.transactions.active.at_mut(own).changes.put_all(new)?;
-        Ok(rows.len() as u64)
+        Ok(new)
+    }
+
+    /// Puts the changes of an UPDATE or DELETE: all, or on `NoMemory` none.
+    #[tactic(auto, using(rv_value::proofs::Places::put_back, rv_value::proofs::Places::read_as))]
+    pub fn put_changes(&mut self, session: u8, new: Vec<Change>) -> Result<(), NoMemory>
+        ensures ok { OnOk result (self.new ≡ with_these self.old (transaction_of self.old.active session) new.items) }
+        ensures err { OnErr result (self.new ≡ self.old) }
+    {
+        let Some(own) = transaction_of(&self.transactions.active, session) else {
+            return Ok(());
+        };
+        self.transactions.active.at_mut(own).changes.put_all(new)
     }
 
     /// What a commit needs of the session's transaction, which stays active.
@@ -231,16 +255,6 @@ impl Txns {
         match transaction_of(&self.transactions.active, session) {
             Some(own) => Some(standing_at(&self.transactions.active, own)),
             None => None,
-        }
-    }
-
-    /// Whether the session's transaction has changed a row of the table. It takes no memory.
-    pub fn has_changed(&self, session: u8, table: u32) -> bool
-        ensures { result ≡ has_changed self.now.active (transaction_of self.now.active session) table }
-    {
-        match transaction_of(&self.transactions.active, session) {
-            Some(own) => changes_at(&self.transactions.active, own).touches(table),
-            None => false,
         }
     }
 

@@ -4,8 +4,9 @@ ghost use Rattle.std.specs.Prelude.{◌+◌, ◌<◌, ◌≤◌};
 
 use crate::read::{Fault, cut, number, small};
 use rv_model::Refusal;
+use rv_rows::Change;
 use rv_txn::{Standing, TxnFault, Txns};
-use rv_value::{NoMemory, RowNo, Value, Values};
+use rv_value::{NoMemory, Value, Values};
 use std::alloc::Global;
 
 fn session(word: &str) -> Result<u8, Fault> {
@@ -25,14 +26,6 @@ fn told_fault(alloc: Global, fault: &TxnFault) -> Result<String, NoMemory> {
     match fault {
         TxnFault::Refused(refusal) => told_refusal(alloc, refusal),
         TxnFault::NoMemory => Err(NoMemory),
-    }
-}
-
-/// A number that was given, or the refusal.
-fn told_number(alloc: Global, number: Result<u64, TxnFault>) -> Result<String, NoMemory> {
-    match number {
-        Ok(number) => Ok(format!(in alloc; " {number}")?),
-        Err(fault) => told_fault(alloc, &fault),
     }
 }
 
@@ -98,11 +91,17 @@ fn insert(alloc: Global, txns: &mut Txns, text: &str) -> Result<String, Fault> {
     let (of, table) = cut(text, ' ')?;
     let (of, table) = (session(of)?, small(table)?);
     let values = one_value(alloc, table)?;
-    let inserted = match txns.insert(of, table, values) {
-        Ok(RowNo(row)) => Ok(row),
-        Err(fault) => Err(fault),
+    let row = match txns.inserting(of, table) {
+        Ok(row) => row,
+        Err(fault) => return Ok(told_fault(alloc, &fault)?),
     };
-    Ok(told_number(alloc, inserted)?)
+    let change = Change {
+        table,
+        row,
+        values: Some(values),
+    };
+    txns.put_new(of, change)?;
+    Ok(format!(in alloc; " {}", row.0)?)
 }
 
 /// How many rows a commit of the session changes.
@@ -123,9 +122,17 @@ fn roll_back(alloc: Global, txns: &mut Txns, text: &str) -> Result<String, Fault
     }
 }
 
+/// Whether the session's transaction has changed a row of a table.
+fn has_changed(txns: &Txns, session: u8, table: u32) -> bool {
+    match txns.own(session) {
+        Some(own) => own.changes.touches(table),
+        None => false,
+    }
+}
+
 fn told_changed(alloc: Global, txns: &Txns, text: &str) -> Result<String, Fault> {
     let (of, table) = cut(text, ' ')?;
-    if txns.has_changed(session(of)?, small(table)?) {
+    if has_changed(txns, session(of)?, small(table)?) {
         Ok(format!(in alloc; " changed")?)
     } else {
         Ok(format!(in alloc; " unchanged")?)

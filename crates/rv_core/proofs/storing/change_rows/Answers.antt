@@ -1,17 +1,43 @@
-use Rattle.std.proofs.Common.{[], refl}
+use Rattle.std.proofs.Common.{◌≡◌, [], arith, length, refl, subst, sym}
 use Rattle.std.specs.Option.{option_copied}
+use Rattle.rv_model.specs.declared.transactions.Transactions.{Transactions}
 use Rattle.rv_model.specs.Transactions.{transaction_of}
-use Rattle.rv_core.proofs.Standing.{can_change, changes_tied, rows_same}
+use Rattle.rv_core.specs.Db.{IsTied}
+use Rattle.rv_core.proofs.Putting.{change_done, change_fault, change_keeps, put_back, put_these}
+use Rattle.rv_core.proofs.Standing.{can_change, rows_same, tied_changed}
 use Rattle.rv_core.proofs.storing.change_rows.Goals as goal
 
-pub change-requires : goal.change-requires
-change-requires g c = can_change (g.S.Reader.shown c.args.store.now) c.args.catalog.now c.args.txns.now c.args.session c.args.table c.args.only.now c.requires.tied c.requires.there c.requires.over
+pub changing-requires : goal.changing-requires
+changing-requires g c = can_change (g.S.Reader.shown c.args.store.now) c.args.catalog.now c.args.txns.now c.args.session c.args.table c.args.only.now c.requires.tied c.requires.there c.requires.over
 
-pub returns-clause-ok : goal.returns-clause-ok
-returns-clause-ok g c = rw (rows_same (g.S.Reader.shown c.args.store.now) c.args.catalog.now c.args.txns.now [] c.args.session c.args.table c.args.only.now (option_copied c.args.sets) (transaction_of c.args.txns.now.active c.args.session) c.requires.there refl) c.change.ensures.ok
+pub keep_up-requires-clause-can : goal.keep_up-requires-clause-can
+keep_up-requires-clause-can g c = change_keeps (g.S.Reader.shown c.args.store.now) c.args.catalog.now c.args.txns.now c.args.session c.args.table c.args.only.now (option_copied c.args.sets) c.in-Ok.new.items c.as_slice.result.now c.requires.tied c.last-newest.ensures.stored c.requires.there c.in-Ok.ensures.ok c.as_slice.ensures.value
 
-pub returns-clause-fault : goal.returns-clause-fault
-returns-clause-fault g c = rw (rows_same (g.S.Reader.shown c.args.store.now) c.args.catalog.now c.args.txns.now [] c.args.session c.args.table c.args.only.now (option_copied c.args.sets) (transaction_of c.args.txns.now.active c.args.session) c.requires.there refl) c.change.ensures.fault
+pub returns-in-Err-clause-fault : goal.returns-in-Err-clause-fault
+returns-in-Err-clause-fault g c =
+    let shown = g.S.Reader.shown c.args.store.now in
+    rw (rows_same shown c.args.catalog.now c.args.txns.now [] c.args.session c.args.table c.args.only.now (option_copied c.args.sets) (transaction_of c.args.txns.now.active c.args.session) c.requires.there refl)
+    (change_fault c.args.txns.now c.args.session c.args.table c.args.only.now (option_copied c.args.sets) (shown.rows c.args.table) c.in-Err.fault c.in-Err.ensures.fault)
 
-pub returns-clause-tied : goal.returns-clause-tied
-returns-clause-tied g c = changes_tied c.change.result (g.S.Reader.shown c.args.store.now) c.args.catalog.now c.args.txns.now c.change.new.self c.args.session c.args.table c.args.only.now (option_copied c.args.sets) c.requires.tied c.last-newest.ensures.stored c.requires.there c.change.ensures.ok c.change.ensures.err
+pub returns-in-Ok-put_changes-clause-ok : goal.returns-in-Ok-put_changes-clause-ok
+returns-in-Ok-put_changes-clause-ok g c =
+    let shown = g.S.Reader.shown c.args.store.now in
+    let long : c.len-count.result ≡ length c.in-Ok.new.items = omega arith in
+    rw (rows_same shown c.args.catalog.now c.args.txns.now [] c.args.session c.args.table c.args.only.now (option_copied c.args.sets) (transaction_of c.args.txns.now.active c.args.session) c.requires.there refl)
+    (change_done c.args.txns.now c.put_changes.new.self c.args.session c.args.table c.len-count.result c.args.only.now (option_copied c.args.sets) (shown.rows c.args.table) c.in-Ok.new.items c.in-Ok.ensures.ok long c.in-Ok-put_changes.ensures.ok)
+
+pub returns-in-Ok-put_changes-clause-tied : goal.returns-in-Ok-put_changes-clause-tied
+returns-in-Ok-put_changes-clause-tied g c =
+    let shown = g.S.Reader.shown c.args.store.now in
+    let long : c.len-count.result ≡ length c.in-Ok.new.items = omega arith in
+    tied_changed shown c.args.catalog.now c.args.txns.now c.put_changes.new.self c.args.session c.args.table c.args.only.now (option_copied c.args.sets) c.len-count.result c.requires.tied c.last-newest.ensures.stored c.requires.there
+    (change_done c.args.txns.now c.put_changes.new.self c.args.session c.args.table c.len-count.result c.args.only.now (option_copied c.args.sets) (shown.rows c.args.table) c.in-Ok.new.items c.in-Ok.ensures.ok long c.in-Ok-put_changes.ensures.ok)
+
+pub returns-in-Err-put_changes-clause-tied : goal.returns-in-Err-put_changes-clause-tied
+returns-in-Err-put_changes-clause-tied g c = subst (λ (t : Transactions). IsTied (g.S.Reader.shown c.args.store.now) c.args.catalog.now t) (sym c.in-Err-put_changes.ensures.err) c.requires.tied
+
+pub returns-in-Ok-put_changes-clause-views : goal.returns-in-Ok-put_changes-clause-views
+returns-in-Ok-put_changes-clause-views g c = put_these (g.S.Reader.shown c.args.store.now) c.args.txns.now c.put_changes.new.self c.args.session c.in-Ok.new.items c.as_slice.result.now c.keep_up.new.views c.as_slice.ensures.value c.in-Ok-put_changes.ensures.ok c.keep_up.ensures
+
+pub returns-in-Err-put_changes-clause-views : goal.returns-in-Err-put_changes-clause-views
+returns-in-Err-put_changes-clause-views g c = put_back (g.S.Reader.shown c.args.store.now) c.args.txns.now c.put_changes.new.self c.args.session c.as_slice.result.now c.keep_up.new.views c.let_go.new.self c.in-Err-put_changes.ensures.err c.let_go.ensures c.keep_up.ensures

@@ -1,4 +1,3 @@
-use Rattle.std.proofs.Common.{◌∷◌, map}
 use Rattle.std.specs.Map.Iter.{deref_pair}
 use Rattle.std.proofs.lemmas.Map.Iter.{rest_more}
 use Rattle.rv_txn.proofs.Views.{one_laid}

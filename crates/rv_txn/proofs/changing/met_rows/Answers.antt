@@ -1,5 +1,5 @@
-use Rattle.std.proofs.Common.{◌∙◌, ap, sym}
-use Rattle.rv_rows.specs.Rows.{Ascend, comes_below}
+use Rattle.std.proofs.Common.{◌∙◌, sym}
+use Rattle.rv_rows.specs.Rows.{comes_below}
 use Rattle.rv_rows.proofs.Puts.{rising_filter}
 use Rattle.rv_txn.proofs.Views.{changes_have, keeps, kept_applied}
 use Rattle.rv_txn.proofs.changing.met_rows.Goals as goal

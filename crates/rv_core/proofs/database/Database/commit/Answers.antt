@@ -1,21 +1,28 @@
 use Rattle.rv_core.proofs.Databases.{commits_all, commits_sees, commits_standing, sees_again, stand_again, standing_same}
 use Rattle.std.proofs.Common.{refl}
+use Rattle.rv_core.proofs.Owning.{views_committed, views_same}
 use Rattle.rv_core.proofs.database.Database.commit.Goals as goal
 
 pub invariant_of-self : goal.invariant_of-self
-invariant_of-self g c = standing_same (g.S.Reader.shown c.self.inside.store) (g.S.Reader.shown c.commit_some.new.store) c.self.inside.catalog c.self.inside.catalog c.self.inside.txns c.self.inside.cursors c.self.inside.opened refl c.in-Err.ensures.err c.self.invariant
+invariant_of-self g c =
+    let standing = standing_same (g.S.Reader.shown c.self.inside.store) (g.S.Reader.shown c.commit_some.new.store) c.self.inside.catalog c.self.inside.catalog c.self.inside.txns c.self.inside.cursors c.self.inside.opened refl c.in-Err.ensures.err c.self.invariant.standing in
+    record { standing = standing; views_kept = views_same (g.S.Reader.shown c.self.inside.store) (g.S.Reader.shown c.commit_some.new.store) c.self.inside.catalog c.self.inside.catalog c.self.inside.txns c.self.inside.views c.last-last.ensures.stored c.in-Err.ensures.err c.self.invariant.standing.tied standing.tied c.self.invariant.views_kept }
 
 pub returns-in-Err-clause-err : goal.returns-in-Err-clause-err
-returns-in-Err-clause-err g c = rw (← c.self.view_is) (stand_again (g.S.Reader.shown c.self.inside.store) (g.S.Reader.shown c.commit_some.new.store) c.self.inside.catalog c.self.inside.catalog c.self.inside.txns c.self.inside.cursors c.self.inside.opened refl c.in-Err.ensures.err c.self.invariant)
+returns-in-Err-clause-err g c = rw (← c.self.view_is) (stand_again (g.S.Reader.shown c.self.inside.store) (g.S.Reader.shown c.commit_some.new.store) c.self.inside.catalog c.self.inside.catalog c.self.inside.txns c.self.inside.cursors c.self.inside.opened refl c.in-Err.ensures.err c.self.invariant.standing)
 
 pub invariant_of-self-2 : goal.invariant_of-self-2
-invariant_of-self-2 g c = commits_standing (g.S.Reader.shown c.self.inside.store) (g.S.Reader.shown c.commit_some.new.store) c.self.inside.catalog c.self.inside.txns c.commit_done.new.self c.self.inside.cursors c.close_all.new.cursors c.self.inside.opened c.args.session c.in-Ok.finished.txn c.in-Ok.finished.base c.in-Ok-commit_some.number c.in-Ok.finished.changes.items c.in-Ok.ensures.ok c.in-Ok-commit_some.ensures.ok c.commit_done.ensures c.close_all.ensures c.self.invariant
+invariant_of-self-2 g c =
+    record {
+      standing = commits_standing (g.S.Reader.shown c.self.inside.store) (g.S.Reader.shown c.commit_some.new.store) c.self.inside.catalog c.self.inside.txns c.commit_done.new.self c.self.inside.cursors c.close_all.new.cursors c.self.inside.opened c.args.session c.in-Ok.finished.txn c.in-Ok.finished.base c.in-Ok-commit_some.number c.in-Ok.finished.changes.items c.in-Ok.ensures.ok c.in-Ok-commit_some.ensures.ok c.commit_done.ensures c.close_all.ensures c.self.invariant.standing;
+      views_kept = views_committed (g.S.Reader.shown c.self.inside.store) (g.S.Reader.shown c.commit_some.new.store) c.self.inside.catalog c.self.inside.txns c.commit_done.new.self c.self.inside.views c.let_go.new.self c.args.session c.in-Ok.finished.txn c.in-Ok.finished.base c.in-Ok-commit_some.number c.in-Ok.finished.changes.items c.last-last.ensures.stored c.in-Ok.ensures.ok c.in-Ok-commit_some.ensures.ok c.commit_done.ensures c.let_go.ensures c.self.invariant.standing.tied c.self.invariant.views_kept;
+    }
 
 pub returns-clause-ok : goal.returns-clause-ok
-returns-clause-ok g c = rw (← c.self.view_is) (commits_all (g.S.Reader.shown c.self.inside.store) (g.S.Reader.shown c.commit_some.new.store) c.self.inside.catalog c.self.inside.txns c.commit_done.new.self c.self.inside.cursors c.close_all.new.cursors c.self.inside.opened c.args.session c.in-Ok.finished.txn c.in-Ok.finished.base c.in-Ok-commit_some.number c.in-Ok.finished.changes.items c.in-Ok.ensures.ok c.in-Ok-commit_some.ensures.ok c.commit_done.ensures c.close_all.ensures c.self.invariant)
+returns-clause-ok g c = rw (← c.self.view_is) (commits_all (g.S.Reader.shown c.self.inside.store) (g.S.Reader.shown c.commit_some.new.store) c.self.inside.catalog c.self.inside.txns c.commit_done.new.self c.self.inside.cursors c.close_all.new.cursors c.self.inside.opened c.args.session c.in-Ok.finished.txn c.in-Ok.finished.base c.in-Ok-commit_some.number c.in-Ok.finished.changes.items c.in-Ok.ensures.ok c.in-Ok-commit_some.ensures.ok c.commit_done.ensures c.close_all.ensures c.self.invariant.standing)
 
 pub returns-in-Err-clause-sees : goal.returns-in-Err-clause-sees
-returns-in-Err-clause-sees g c = rw (← c.self.view_is) (sees_again (g.S.Reader.shown c.self.inside.store) (g.S.Reader.shown c.commit_some.new.store) c.self.inside.catalog c.self.inside.txns c.self.inside.cursors c.self.inside.opened c.in-Err.ensures.err c.self.invariant)
+returns-in-Err-clause-sees g c = rw (← c.self.view_is) (sees_again (g.S.Reader.shown c.self.inside.store) (g.S.Reader.shown c.commit_some.new.store) c.self.inside.catalog c.self.inside.txns c.self.inside.cursors c.self.inside.opened c.in-Err.ensures.err c.self.invariant.standing)
 
 pub returns-clause-sees : goal.returns-clause-sees
-returns-clause-sees g c = rw (← c.self.view_is) (commits_sees (g.S.Reader.shown c.self.inside.store) (g.S.Reader.shown c.commit_some.new.store) c.self.inside.catalog c.self.inside.txns c.commit_done.new.self c.self.inside.cursors c.close_all.new.cursors c.self.inside.opened c.args.session c.in-Ok.finished.txn c.in-Ok.finished.base c.in-Ok-commit_some.number c.in-Ok.finished.changes.items c.in-Ok.ensures.ok c.in-Ok-commit_some.ensures.ok c.commit_done.ensures c.close_all.ensures c.self.invariant)
+returns-clause-sees g c = rw (← c.self.view_is) (commits_sees (g.S.Reader.shown c.self.inside.store) (g.S.Reader.shown c.commit_some.new.store) c.self.inside.catalog c.self.inside.txns c.commit_done.new.self c.self.inside.cursors c.close_all.new.cursors c.self.inside.opened c.args.session c.in-Ok.finished.txn c.in-Ok.finished.base c.in-Ok-commit_some.number c.in-Ok.finished.changes.items c.in-Ok.ensures.ok c.in-Ok-commit_some.ensures.ok c.commit_done.ensures c.close_all.ensures c.self.invariant.standing)

@@ -2,10 +2,18 @@ use Rattle.rv_core.proofs.Databases.{opens_fit, standing_at}
 use Rattle.rv_core.proofs.database.Database.fetch.Goals as goal
 
 pub fetch_at-requires-clause-fits : goal.fetch_at-requires-clause-fits
-fetch_at-requires-clause-fits g c = opens_fit (g.S.Reader.shown c.self.inside.store) c.self.inside.catalog c.self.inside.txns.active c.self.inside.cursors c.self.invariant.opens
+fetch_at-requires-clause-fits g c = opens_fit (g.S.Reader.shown c.self.inside.store) c.self.inside.catalog c.self.inside.txns.active c.self.inside.cursors c.self.invariant.standing.opens
 
 pub invariant_of-self : goal.invariant_of-self
-invariant_of-self g c = standing_at (g.S.Reader.shown c.self.inside.store) c.self.inside.catalog c.self.inside.txns c.self.inside.cursors c.fetch_at.new.cursors c.self.inside.opened c.fetch_at.ensures.opens c.fetch_at.ensures.listed c.self.invariant
+invariant_of-self g c =
+    record {
+      standing = standing_at (g.S.Reader.shown c.self.inside.store) c.self.inside.catalog c.self.inside.txns c.self.inside.cursors c.fetch_at.new.cursors c.self.inside.opened c.fetch_at.ensures.opens c.fetch_at.ensures.listed c.self.invariant.standing;
+      views_kept = c.self.invariant.views_kept;
+    }
 
 pub invariant_of-self-2 : goal.invariant_of-self-2
-invariant_of-self-2 g c = standing_at (g.S.Reader.shown c.self.inside.store) c.self.inside.catalog c.self.inside.txns c.self.inside.cursors c.fetch_at.new.cursors c.self.inside.opened c.fetch_at.ensures.opens c.fetch_at.ensures.listed c.self.invariant
+invariant_of-self-2 g c =
+    record {
+      standing = standing_at (g.S.Reader.shown c.self.inside.store) c.self.inside.catalog c.self.inside.txns c.self.inside.cursors c.fetch_at.new.cursors c.self.inside.opened c.fetch_at.ensures.opens c.fetch_at.ensures.listed c.self.invariant.standing;
+      views_kept = c.self.invariant.views_kept;
+    }

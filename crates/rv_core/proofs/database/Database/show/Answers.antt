@@ -10,8 +10,8 @@ pub returns-clause-ok : goal.returns-clause-ok
 returns-clause-ok g c =
     let shown = g.S.Reader.shown c.self.inside.store in
     let within : c.in-Some.place < length c.self.inside.cursors = search rules in
-    let allowed = c.trace_at-trace.ensures.allowed shown (opens_fit shown c.self.inside.catalog c.self.inside.txns.active c.self.inside.cursors c.self.invariant.opens) in
-    rw (← c.self.view_is) (if_ok c.twice.result _ _ (λ replies k. shows_plan shown c.self.inside.catalog c.self.inside.txns c.self.inside.cursors c.self.inside.opened c.args.session c.args.name c.in-Some.place c.trace_at-trace.result c.in_ok-shown.shown replies c.self.invariant within (sym (c.cursor_named.ensures.seen shown) ∙ c.in-Some.is) allowed (search rules) k) c.twice.ensures)
+    let allowed = c.trace_at-trace.ensures.allowed shown (opens_fit shown c.self.inside.catalog c.self.inside.txns.active c.self.inside.cursors c.self.invariant.standing.opens) in
+    rw (← c.self.view_is) (if_ok c.twice.result _ _ (λ replies k. shows_plan shown c.self.inside.catalog c.self.inside.txns c.self.inside.cursors c.self.inside.opened c.args.session c.args.name c.in-Some.place c.trace_at-trace.result c.in_ok-shown.shown replies c.self.invariant.standing within (sym (c.cursor_named.ensures.seen shown) ∙ c.in-Some.is) allowed (search rules) k) c.twice.ensures)
 
 pub returns-clause-told : goal.returns-clause-told
 returns-clause-told g c =
