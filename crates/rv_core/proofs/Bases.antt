@@ -49,4 +49,3 @@ pub changes_without : (active : List Transaction) (own session : ℕ) → ((tran
 changes_without [] own session other = ap (λ (ts : List Transaction). changes_in ts session) (none_left own)
 changes_without (t ∷ ts) zero session other = rw other refl
 changes_without (t ∷ ts) (suc own) session other = ap (λ (cs : List Change). if t.session == session then t.changes else cs) (changes_without ts own session other)
-

@@ -1,5 +1,5 @@
 -- What is kept of transactions' views stays, whatever happens to the store and to other transactions.
-use Rattle.std.proofs.Common.{◌≡◌, ℕ, ◌+◌, ◌<◌, List, [], ◌∷◌, ◌++◌, true, false, not, ◌==◌, inl, inr, refl, ap, sym, ◌∙◌, subst, arith, filter, remove, Ok, Some, None, IfSome, Bool}
+use Rattle.std.proofs.Common.{◌≡◌, ℕ, ◌<◌, List, [], ◌∷◌, ◌++◌, true, false, not, ◌==◌, inl, inr, refl, ap, sym, ◌∙◌, subst, arith, remove, Ok, Some, None, IfSome, Bool}
 use Rattle.std.specs.List.{AllByRecursion}
 use Rattle.std.proofs.lemmas.Bool.{cases_Bool}
 use Rattle.std.proofs.lemmas.Bool.Decides.{nat_tests}

@@ -1,5 +1,5 @@
 -- What is put into transactions is kept up with in their views, and what is frozen of them.
-use Rattle.std.proofs.Common.{◌≡◌, ℕ, suc, ◌<◌, ◌≤◌, List, [], ◌∷◌, false, not, ◌==◌, Option, Some, None, IfSome, Ok, refl, ap, sym, ◌∙◌, subst, arith, length, map, nat_lt, option_map, filter}
+use Rattle.std.proofs.Common.{◌≡◌, ℕ, suc, ◌<◌, ◌≤◌, List, [], ◌∷◌, false, not, ◌==◌, Option, Some, None, IfSome, Ok, refl, ap, sym, ◌∙◌, subst, arith, length, map, nat_lt, option_map}
 use Rattle.std.specs.Prelude.{slice_get}
 use Rattle.std.specs.List.{AllByRecursion}
 use Rattle.std.proofs.lemmas.Bool.Decides.{nat_tests}

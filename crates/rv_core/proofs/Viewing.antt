@@ -102,8 +102,8 @@ keys_filter n p (e ∷ es) all =
     elim (p e) as (λ b. AreKeys n (cond b (e ∷ filter p es) (filter p es))) [ true ↦ (all.0, rest) | false ↦ rest ]
 
 keys_joined : (n : ℕ) (xs ys : List IndexEntry) → AreKeys n xs → AreKeys n ys → AreKeys n (xs ++ ys)
-keys_joined n [] ys first then = then
-keys_joined n (x ∷ xs) ys first then = (first.0, keys_joined n xs ys first.1 then)
+keys_joined n [] ys first more = more
+keys_joined n (x ∷ xs) ys first more = (first.0, keys_joined n xs ys first.1 more)
 
 keys_all : (n : ℕ) (es cuts : List IndexEntry) → AreKeys n es → AreKeys n cuts → AreKeys n (with_all es cuts)
 keys_all n [] cuts more all = all

@@ -1,5 +1,5 @@
 //! Open cursors of sessions: how they are found, opened, read and closed.
-ghost use Rattle.std.specs.Prelude.{◌≡◌, ◌<◌, ◌≤◌, ◌==◌, ℕ, List, true, not, Ok, IfErr, IfOk, IfSome, None, OnErr, Some, length, filter, slice_get};
+ghost use Rattle.std.specs.Prelude.{◌≡◌, ◌<◌, ◌≤◌, ◌==◌, ℕ, List, true, not, Ok, IfErr, IfOk, IfSome, None, OnErr, Some, length, filter, remove, slice_get};
 ghost use Rattle.std.specs.List.{AllByRecursion};
 ghost use Rattle.rv_rows.specs.Rows.{Ascend};
 ghost use Rattle.rv_reader.specs.Shown.{CanRead, IsSnapshot, Shown};
@@ -73,6 +73,14 @@ pub fn close_all(cursors: &mut Items<Open>, session: u8)
     ensures { cursors.new ≡ filter (λ c. not (c.session == session)) cursors.old }
 {
     cursors.retain(|cursor| cursor.session != session);
+}
+
+/// Takes the cursor in a place away.
+pub fn close_at(cursors: &mut Items<Open>, place: usize)
+    requires { place < length cursors.old }
+    ensures { cursors.new ≡ remove cursors.old place }
+{
+    let _closed = cursors.remove(place);
 }
 
 /// The base of the session's transaction, where it may open a cursor of a name.

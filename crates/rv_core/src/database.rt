@@ -15,7 +15,8 @@ ghost use Rattle.rv_lang.specs.declared.reply.Refusal.{Refusal as TheRefusal};
 ghost use Rattle.rv_lang.specs.declared.reply.Reply.TheVariants.{Opened, Refused};
 
 use crate::cursors::{
-    close_all, cursor_named, fetch_at, fetch_step_at, opening, plan_cursor, step_at, trace_at,
+    close_all, close_at, cursor_named, fetch_at, fetch_step_at, opening, plan_cursor, step_at,
+    trace_at,
 };
 use crate::pieces::{give_at, next_waiting, numbered, take_at};
 use crate::replies::{answered, limit, named_trace, refused};
@@ -514,7 +515,7 @@ impl<S: Store + Reader<Ledger = Uncounted> + Drop> Database<S> {
         let Some(place) = cursor_named(&self.cursors, session, &name) else {
             return refused(self.alloc, Refusal::NoCursor(name));
         };
-        let _closed = self.cursors.remove(place);
+        close_at(&mut self.cursors, place);
         Ok((Reply::Closed, Reply::Closed))
     }
 

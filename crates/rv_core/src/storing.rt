@@ -162,7 +162,14 @@ pub fn insert_row<S: Store + Reader<Ledger = Uncounted>>(
         row,
         values: Some(values),
     };
-    keep_up(catalog, store, txns, views, session, std::slice::from_ref(&change));
+    keep_up(
+        catalog,
+        store,
+        txns,
+        views,
+        session,
+        std::slice::from_ref(&change),
+    );
     match txns.put_new(session, change) {
         Ok(()) => Ok(row),
         Err(NoMemory) => {

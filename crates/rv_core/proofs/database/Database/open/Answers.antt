@@ -22,8 +22,7 @@ returns-in-Err-Refused-clause-ok g c =
 
 pub plan_cursor-requires-clause-tied : goal.plan_cursor-requires-clause-tied
 plan_cursor-requires-clause-tied g c =
-    let shown = g.S.Reader.shown c.self.inside.store in
-    (
+    let shown = g.S.Reader.shown c.self.inside.store in (
       c.self.inside.txns,
       c.self.invariant.standing.tied,
       opens_viewed shown c.self.inside.catalog c.self.inside.txns (seen shown c.self.inside.cursors) c.args.session c.in-Ok.base c.args.name c.in-Ok-freeze.frozen c.self.invariant.standing.tied (c.in-Ok.ensures.ok shown) c.in-Ok-freeze.ensures.freezes,

@@ -6,7 +6,7 @@ use Rattle.rv_core.proofs.database.Database.rows.Goals as goal
 
 pub viewed_rows-requires : goal.viewed_rows-requires
 viewed_rows-requires g c =
-    let there = rw (← c.self.view_is) at c.requires in
+    let there = rw (← c.self.view_is) at c.requires.there in
     own_read (g.S.Reader.shown c.self.inside.store) c.self.inside.catalog c.self.inside.txns c.args.session c.args.table c.in-Some.own.now c.self.invariant.standing.tied there (owns c.self.inside.txns.active c.args.session c.in-Some.own.now c.in-Some.ensures)
 
 pub returns-in-None : goal.returns-in-None
@@ -17,6 +17,6 @@ returns-in-None g c =
 pub returns-in-Some : goal.returns-in-Some
 returns-in-Some g c =
     let shown = g.S.Reader.shown c.self.inside.store in
-    let there = rw (← c.self.view_is) at c.requires in
+    let there = rw (← c.self.view_is) at c.requires.there in
     let own = owns c.self.inside.txns.active c.args.session c.in-Some.own.now c.in-Some.ensures in
     rw (← c.self.view_is) (if_ok c.viewed_rows.result _ _ (λ rows k. read_owned shown c.self.inside.catalog c.self.inside.txns (seen shown c.self.inside.cursors) c.args.session c.args.table c.in-Some.own.now rows.items there own k) c.viewed_rows.ensures)
