@@ -19,16 +19,21 @@ use rv_value::{Duplicate, IndexEntry, Items, NoMemory, Range};
 use rv_versions::Versions;
 use std::alloc::Global;
 use std::marker::Model;
+use std::mem;
 
 /// A search tree of index entries, of which each node keeps its older versions.
 ///
 /// Each commit has its own tree, of which the nodes are the newest versions not above it. A node has up to 32 entries
 /// or children; one that would have more is split into its first 16 and the rest. The root has the id 0, and keeps it
 /// when it is split: two new nodes take the halves. A deletion leaves the node, even an empty one.
+///
+/// It notes which nodes commits have written anew, so that their older versions can be looked for there. Contracts do not
+/// see the notes, and nothing rests on them.
 #[derive(Drop)]
 pub struct Tree {
     alloc: Global,
     nodes: Versions<Node>,
+    written: Vec<u32>,
 }
 
 impl Model for Tree {
@@ -50,7 +55,11 @@ impl Tree {
     {
         let mut nodes = Versions::new(alloc);
         match nodes.write(0, 0, Node::leaf(alloc)) {
-            Ok(()) => Ok(Tree { alloc, nodes }),
+            Ok(()) => Ok(Tree {
+                alloc,
+                nodes,
+                written: Vec::new(alloc),
+            }),
             Err(_node) => Err(NoMemory),
         }
     }
@@ -218,6 +227,20 @@ impl Tree {
         Ok(Some((cut, right)))
     }
 
+    /// Notes that a node is written anew. Where there is no memory for the note, there is none.
+    fn note(&mut self, id: u32)
+        ensures { self.new ≡ self.old }
+    {
+        let _ = self.written.push(id);
+    }
+
+    /// The nodes that were written anew since the last call, each once for each commit. It takes no memory.
+    pub fn take_written(&mut self) -> Vec<u32>
+        ensures { self.new ≡ self.old }
+    {
+        mem::replace(&mut self.written, Vec::new(self.alloc))
+    }
+
     /// Copies of the parts of a node.
     fn copy_parts(&self, id: u32, commit: u64) -> Result<(Vec<IndexEntry>, Vec<u32>), NoMemory>
         ensures { IfOk result (λ parts. HasParts (nodes_at self.now commit id) parts.0.items parts.1.items) }
@@ -237,7 +260,10 @@ impl Tree {
     {
         match self.nodes.take(id, commit) {
             Some(node) => Ok(node.into_parts()),
-            None => self.copy_parts(id, commit),
+            None => {
+                self.note(id);
+                self.copy_parts(id, commit)
+            }
         }
     }
 
