@@ -11,5 +11,5 @@ pub mod Rising
 pub mod Shrinking
 pub mod Storing
 pub mod Whole
-pub mod Halving
+pub mod Parted
 pub mod Ranking

@@ -27,7 +27,7 @@ pub fn count_not_after(entries: &[IndexEntry], range: &Range) -> usize
 
 /// The places of the first and the last child that may hold keys of a range, as `Node::children_for` tells them, of low
 /// entries that ascend.
-#[tactic(auto, using(crate::proofs::Halving::ascend_front, crate::proofs::Halving::long_front))]
+#[tactic(auto, using(crate::proofs::Parted::ascend_front, crate::proofs::Parted::long_front))]
 pub fn children_between(lows: &[IndexEntry], range: &Range) -> (usize, usize)
     requires some { 0 < length lows.now }
     requires ascend { Ascend (drop 1 lows.now) }

@@ -56,7 +56,7 @@ own_rise table cs own_part is rise = subst Rise (sym is) (rising_filter is_befor
 pub own_rows : (table : ℕ) (cs : List Change) (rows : List Record) → rows_with_changes table (filter (own table) cs) rows ≡ rows_with_changes table cs rows
 own_rows table [] rows = refl
 own_rows table (c ∷ cs) rows = elim (cases_Bool (c.table == table)) [
-  | inl here ↦ rw (here, here) (own_rows table cs _)
+  | inl here ↦ rw (here, rows_with_changes, here) (own_rows table cs _)
   | inr other ↦ rw other (own_rows table cs rows)
 ]
 

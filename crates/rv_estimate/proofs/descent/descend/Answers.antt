@@ -22,22 +22,22 @@ down-init c =
       same = refl;
     })
 
-pub children_between-requires-clause-some : goal.children_between-requires-clause-some
-children_between-requires-clause-some c =
+pub children_between-first-requires-clause-some : goal.children_between-first-requires-clause-some
+children_between-first-requires-clause-some c =
     let at = nodes_at c.args.tree.now c.args.snap in
     let node_is = sym (ap (λ v. unwrap_or (option_copied v) empty_node) c.in-Some.is) ∙ c.node.ensures.node in
     let long = ap length (c.entries.ensures.same ∙ ap (λ x. x.entries) node_is) in
     let kids = stored_kids at c.down.level c.down.id c.down-test.true c.down.invariant.stored in
     omega (arith, long, kids.0, kids.1)
 
-pub children_between-requires-clause-ascend : goal.children_between-requires-clause-ascend
-children_between-requires-clause-ascend c =
+pub children_between-first-requires-clause-ascend : goal.children_between-first-requires-clause-ascend
+children_between-first-requires-clause-ascend c =
     let at = nodes_at c.args.tree.now c.args.snap in
     let node_is = sym (ap (λ v. unwrap_or (option_copied v) empty_node) c.in-Some.is) ∙ c.node.ensures.node in
     subst (λ (es : List IndexEntry). Ascend (drop 1 es)) (sym (c.entries.ensures.same ∙ ap (λ x. x.entries) node_is)) (ranked_lows at (is_long c.args.range.now) c.down.level c.down.id c.down-test.true c.down.invariant.ranked).ascend
 
-pub children_between-requires-clause-long : goal.children_between-requires-clause-long
-children_between-requires-clause-long c =
+pub children_between-first-requires-clause-long : goal.children_between-first-requires-clause-long
+children_between-first-requires-clause-long c =
     let at = nodes_at c.args.tree.now c.args.snap in
     let node_is = sym (ap (λ v. unwrap_or (option_copied v) empty_node) c.in-Some.is) ∙ c.node.ensures.node in
     subst (λ (es : List IndexEntry). AreLong c.args.range.now (drop 1 es)) (sym (c.entries.ensures.same ∙ ap (λ x. x.entries) node_is)) (ranked_lows at (is_long c.args.range.now) c.down.level c.down.id c.down-test.true c.down.invariant.ranked).all

@@ -4,8 +4,8 @@ use Rattle.rv_reader.specs.Entries.{Ascend}
 use Rattle.rv_index.proofs.Places.{child_behind}
 use Rattle.rv_index.proofs.parts.child_for.Goals as goal
 
-pub place_behind-requires-clause-ascend : goal.place_behind-requires-clause-ascend
-place_behind-requires-clause-ascend c = subst (λ (es : List IndexEntry). Ascend (drop 1 es)) (sym c.entries.ensures.same) c.requires.ascend
+pub place_behind-at-requires-clause-ascend : goal.place_behind-at-requires-clause-ascend
+place_behind-at-requires-clause-ascend c = subst (λ (es : List IndexEntry). Ascend (drop 1 es)) (sym c.entries.ensures.same) c.requires.ascend
 
 pub returns-clause-child : goal.returns-clause-child
 returns-clause-child c =

@@ -4,8 +4,8 @@ use Rattle.std.specs.List.{insert}
 use Rattle.rv_index.proofs.Places.{insert_placed}
 use Rattle.rv_index.proofs.parts.put_entry.Goals as goal
 
-pub place_of-requires : goal.place_of-requires
-place_of-requires c = subst Ascend (sym c.as_slice.ensures.value) c.requires
+pub place_of-at-requires : goal.place_of-at-requires
+place_of-at-requires c = subst Ascend (sym c.as_slice.ensures.value) c.requires
 
 pub returns : goal.returns
 returns c =

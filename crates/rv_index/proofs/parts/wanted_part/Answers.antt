@@ -1,5 +1,5 @@
 use Rattle.std.specs.Option.{option_copied}
-use Rattle.rv_node.proofs.Halving.{ascend_behind, long_behind}
+use Rattle.rv_node.proofs.Parted.{ascend_behind, long_behind}
 use Rattle.rv_index.proofs.Finding.{wanted_is}
 use Rattle.rv_index.proofs.parts.wanted_part.Goals as goal
 

@@ -1,13 +1,13 @@
 use Rattle.std.proofs.Common.{◌∙◌, sym, subst, ap, arith, length, length-drop, length-take}
 use Rattle.rv_reader.specs.Entries.{AreLong, Ascend}
-use Rattle.rv_node.proofs.Halving.{ascend_front, found_first, found_last, long_front}
+use Rattle.rv_node.proofs.Parted.{ascend_front, found_first, found_last, long_front}
 use Rattle.rv_node.proofs.halving.children_between.Goals as goal
 
-pub count_not_after-requires-clause-ascend : goal.count_not_after-requires-clause-ascend
-count_not_after-requires-clause-ascend c = subst Ascend (sym c.split_at.ensures.back) c.requires.ascend
+pub count_not_after-last-requires-clause-ascend : goal.count_not_after-last-requires-clause-ascend
+count_not_after-last-requires-clause-ascend c = subst Ascend (sym c.split_at.ensures.back) c.requires.ascend
 
-pub count_not_after-requires-clause-long : goal.count_not_after-requires-clause-long
-count_not_after-requires-clause-long c = subst (AreLong c.args.range.now) (sym c.split_at.ensures.back) c.requires.long
+pub count_not_after-last-requires-clause-long : goal.count_not_after-last-requires-clause-long
+count_not_after-last-requires-clause-long c = subst (AreLong c.args.range.now) (sym c.split_at.ensures.back) c.requires.long
 
 pub count_before-requires-clause-ascend : goal.count_before-requires-clause-ascend
 count_before-requires-clause-ascend c = ascend_front c.count_not_after-last.result c.args.lows.now c.split_at.result.1.now c.split_at-2.result.0.now c.split_at.ensures.back c.split_at-2.ensures.front c.requires.ascend

@@ -35,8 +35,8 @@ returns-then-level-eq0-clause-ok t c =
     (λ r s. subst (λ v. IsGrown len len' v c.args.id (grow v comes_before c.args.entry) r at at') (sym zero) (grown_leaf c.args.entry len len' c.args.id at at' r own s))
     c.grow_leaf.ensures.ok
 
-pub kid-requires-clause-ascend : goal.kid-requires-clause-ascend
-kid-requires-clause-ascend t c = (ranked_lows (nodes_at c.args.self.now c.args.commit) any c.args.level c.args.id (omega arith) c.requires.ranked).ascend
+pub kid-kid-requires-clause-ascend : goal.kid-kid-requires-clause-ascend
+kid-kid-requires-clause-ascend t c = (ranked_lows (nodes_at c.args.self.now c.args.commit) any c.args.level c.args.id (omega arith) c.requires.ranked).ascend
 
 pub grow-requires : goal.grow-requires
 grow-requires t c =

@@ -1,9 +1,8 @@
-use Rattle.std.proofs.Common.{refl, ℕ, suc, ◌-◌, ◌≡◌, ◌∙◌, List, [], sym, arith, length, ap, subst, None, Result, Ok, Err, OnOk}
-use Rattle.std.specs.Prelude.{filter}
+use Rattle.std.proofs.Common.{refl, ℕ, suc, ◌-◌, ◌≡◌, sym, arith, length, subst, None, Result, Ok, Err, OnOk}
 use Rattle.rv_node.specs.Nodes.{Parts}
 use Rattle.rv_value.specs.declared.record.IndexEntry.{IndexEntry}
 use Rattle.rv_reader.specs.Entries.{comes_before}
-use Rattle.rv_node.specs.Trees.{up_to, differs}
+use Rattle.rv_node.specs.Trees.{up_to}
 use Rattle.rv_node.specs.Descent.{child_in}
 use Rattle.rv_node.specs.Ranks.{IsRanked, any}
 use Rattle.rv_node.proofs.Ranking.{ranked_kid, ranked_lows}
@@ -32,8 +31,8 @@ returns-then-level-eq0-clause-ok t c =
     (leaf_case c.args.entry.now (length c.args.self.now) (length c.shrink_leaf.new.self) c.args.level c.args.id at at' c.if-level-eq0.true c.shrink_leaf.ensures.len c.requires.own)
     c.shrink_leaf.ensures.ok
 
-pub kid-requires-clause-ascend : goal.kid-requires-clause-ascend
-kid-requires-clause-ascend t c = (ranked_lows (nodes_at c.args.self.now c.args.commit) any c.args.level c.args.id (omega arith) c.requires.ranked).ascend
+pub kid-kid-requires-clause-ascend : goal.kid-kid-requires-clause-ascend
+kid-kid-requires-clause-ascend t c = (ranked_lows (nodes_at c.args.self.now c.args.commit) any c.args.level c.args.id (omega arith) c.requires.ranked).ascend
 
 pub shrink-requires : goal.shrink-requires
 shrink-requires t c =

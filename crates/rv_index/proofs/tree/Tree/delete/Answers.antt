@@ -1,6 +1,6 @@
 use Rattle.std.proofs.Common.{length, None, Result, Ok, Err, OnOk}
 use Rattle.rv_node.specs.Ranks.{any}
-use Rattle.rv_node.proofs.Halving.{all_any}
+use Rattle.rv_node.proofs.Parted.{all_any}
 use Rattle.rv_node.proofs.Ranking.{ranked}
 use Rattle.rv_index.specs.Index.{cuts_of, entries_of, level_at, nodes_at, IsDeleted}
 use Rattle.rv_index.proofs.Rooting.{deleted_by, deleted_is}

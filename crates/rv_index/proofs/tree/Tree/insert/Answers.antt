@@ -3,7 +3,7 @@ use Rattle.rv_value.specs.declared.record.IndexEntry.{IndexEntry}
 use Rattle.rv_reader.specs.Entries.{comes_before}
 use Rattle.rv_node.specs.Trees.{grow}
 use Rattle.rv_node.specs.Ranks.{any}
-use Rattle.rv_node.proofs.Halving.{all_any}
+use Rattle.rv_node.proofs.Parted.{all_any}
 use Rattle.rv_node.proofs.Ranking.{ranked}
 use Rattle.rv_index.specs.Index.{cuts_of, entries_of, level_at, nodes_at, IsInserted}
 use Rattle.rv_index.specs.Steps.{IsGrown}

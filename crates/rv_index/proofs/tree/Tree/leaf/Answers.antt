@@ -18,14 +18,14 @@ down-init c =
       same = refl;
     })
 
-pub child_of-requires-clause-ascend : goal.child_of-requires-clause-ascend
-child_of-requires-clause-ascend c =
+pub child_of-kid-requires-clause-ascend : goal.child_of-kid-requires-clause-ascend
+child_of-kid-requires-clause-ascend c =
     let at = nodes_at c.args.self.now c.args.snap in
     let node_is = ap (λ v. unwrap_or v empty_node) (sym c.read.ensures ∙ ap option_copied c.in-Some.is) in
     rw (← node_is, c.self.view_is) (ranked_lows at (is_long c.args.range.now) c.down.level c.down.id c.down-test.true c.down.invariant.ranked).ascend
 
-pub child_of-requires-clause-long : goal.child_of-requires-clause-long
-child_of-requires-clause-long c =
+pub child_of-kid-requires-clause-long : goal.child_of-kid-requires-clause-long
+child_of-kid-requires-clause-long c =
     let at = nodes_at c.args.self.now c.args.snap in
     let node_is = ap (λ v. unwrap_or v empty_node) (sym c.read.ensures ∙ ap option_copied c.in-Some.is) in
     rw (← node_is, c.self.view_is) (ranked_lows at (is_long c.args.range.now) c.down.level c.down.id c.down-test.true c.down.invariant.ranked).all

@@ -91,12 +91,13 @@ passed_parts p (x ∷ xs) (suc k) h l = let rest = passed_parts p xs k h.1 (omeg
 -- The children of a range.
 
 pub found_last : (range : Range) (lows behind : List IndexEntry) (k : ℕ) → behind ≡ drop 1 lows → PassesTo (is_not_after range) k behind → k ≤ length behind → k ≡ last_child range lows
-found_last range lows behind k is passes bound = sym (last_passed (is_not_after range) behind k 1 0 passes bound refl) ∙ ap (last_place (is_not_after range) 1 0) is
+found_last range lows behind k is passes bound = let same : k ≡ 0 + k = omega arith in same ∙ sym (last_passed (is_not_after range) behind k 1 0 passes bound refl) ∙ ap (last_place (is_not_after range) 1 0) is
 
 pub found_first : (range : Range) (lows behind front : List IndexEntry) (k last : ℕ) → behind ≡ drop 1 lows → front ≡ take last behind → last ≡ last_child range lows → PassesTo (is_before range) k front → k ≤ length front → k ≡ first_child range lows
 found_first range lows behind front k last is cut at passes bound =
     let front_is : front ≡ take (last_child range lows) (drop 1 lows) = cut ∙ ap (λ (n : ℕ). take n behind) at ∙ ap (take (last_child range lows)) is in
-    sym (last_passed (is_before range) front k 1 0 passes bound refl) ∙ ap (last_place (is_before range) 1 0) front_is
+    let same : k ≡ 0 + k = omega arith in
+    same ∙ sym (last_passed (is_before range) front k 1 0 passes bound refl) ∙ ap (last_place (is_before range) 1 0) front_is
 
 -- A part in front.
 
