@@ -3,3 +3,4 @@ mod Needing
 mod Lists
 mod TextStatements
 mod Takes
+pub mod Keywords
