@@ -37,7 +37,7 @@ of_eight : (name : List ℕ) → length name ≡ 8 → is_keyword name ≡ list_
 of_eight name long = of_length name 8 long
 
 -- every keyword has two to eight letters
-within : List ℕ → Bool
+abbrev within : List ℕ → Bool
 within word = nat_le 2 (length word) && nat_le (length word) 8
 
 of_no_length : (name : List ℕ) → within name ≡ false → is_keyword name ≡ false

@@ -4,3 +4,4 @@ mod Lists
 mod TextStatements
 mod Takes
 pub mod Keywords
+pub mod Kept
