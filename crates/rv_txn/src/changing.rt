@@ -106,7 +106,8 @@ fn lay_one<'a>(
     Ok(rest)
 }
 
-/// The rows with a transaction's changes laid over them where WHERE keeps what these leave.
+/// The rows with a transaction's changes laid over them where WHERE keeps what these leave. Of its changes those of the
+/// table are passed over, and no other.
 fn lay_over(
     alloc: Global,
     rows: &[Record],
@@ -120,7 +121,11 @@ fn lay_over(
 {
     let mut all = Vec::new(alloc);
     let mut rest = rows;
-    'changes: for (key, values) in changes.iter() {
+    'changes: for (key, values) in changes.from_table(table) {
+        if key.table != table {
+            add_rows(alloc, &mut all, rest)?;
+            return Ok(all);
+        }
         rest = lay_one(alloc, &mut all, rest, table, key, values, only)?;
     }
     add_rows(alloc, &mut all, rest)?;
