@@ -116,6 +116,10 @@ impl Store for Paged {
         self.newest
     }
 
+    fn lent(&self, table: u32, snap: u64, n: u32) -> Option<&[Record]> {
+        Some(self.tables[table as usize].records.rows(n, snap))
+    }
+
     fn create_table(&mut self, table: u32, columns: u32) -> Result<(), NoMemory>
         requires { table ≡ (shown_of self.old).tables }
         ensures ok { OnOk result (Created (shown_of self.old) (shown_of self.new) columns) }
