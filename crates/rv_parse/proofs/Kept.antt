@@ -1,5 +1,5 @@
 -- Readings that are kept.
-use Rattle.std.proofs.Common.{◌≡◌, ℕ, ◌<◌, ◌+◌, List, Option, Some, None, Bool, true, false, if◌then◌else◌, refl, ap, sym, ◌∙◌, subst, arith, length, nat_eq, nat_lt, position, ◌⊎◌, bytes_eq, IfSome}
+use Rattle.std.proofs.Common.{◌≡◌, ℕ, ◌<◌, ◌+◌, List, Option, Some, None, Bool, true, false, refl, ap, sym, ◌∙◌, subst, arith, length, nat_eq, nat_lt, position, ◌⊎◌, bytes_eq, IfSome}
 use Rattle.std.proofs.lemmas.Bool.Decides.{nat_tests}
 use Rattle.std.proofs.lemmas.Grind.{common_steps}
 use Rattle.std.proofs.lemmas.List.Quantifiers.{position-Some}
@@ -16,7 +16,7 @@ pub found_reads : (text : List ℕ) (rs : List Reading) (next : ℕ) (found : Op
 found_reads text rs next None kept is = tt
 found_reads text rs next (Some place) kept is =
     let at = position-Some (λ (r : Reading). bytes_eq r.text text) rs place no_reading (sym is) in
-    let same : (reading_at rs place).text ≡ text = (bytes_eq-Decides (reading_at rs place).text text).0 at.1.0 in
+    let same : (reading_at rs place).text ≡ text = (bytes_eq-Decides (reading_at rs place).text text).0 at.1 in
     record { there = at.0; is = kept.read place at.0 ∙ ap statement_of same }
 
 -- one that was read is put in its place

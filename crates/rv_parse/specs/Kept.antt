@@ -15,9 +15,9 @@ abbrev pub AreRead : List Reading → Type 0
 AreRead rs = (place : ℕ) → place < length rs → (reading_at rs place).statement ≡ statement_of (reading_at rs place).text
 
 -- the readings of the last texts, and the place whose turn it is, which is at most the one behind them
-pub record AreKept (rs : List Reading) (next : ℕ) : Type 0 where
+pub record AreKept (rs : List Reading) (turn : ℕ) : Type 0 where
   pub read : AreRead rs
-  pub next : next < length rs + 1
+  pub next : turn < length rs + 1
 
 -- with one in a place, or behind them
 abbrev pub with_reading : List Reading → ℕ → Reading → List Reading

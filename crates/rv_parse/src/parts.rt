@@ -12,17 +12,23 @@ use std::alloc::Global;
 
 /// The words that are no names, by their lengths: those of two letters, and so on up to eight.
 const OF_TWO: [&str; 5] = ["BY", "IN", "IS", "ON", "OR"];
+
 const OF_THREE: [&str; 4] = ["AND", "FOR", "NOT", "SET"];
+
 const OF_FOUR: [&str; 11] = [
     "FAST", "FROM", "INTO", "NULL", "ONLY", "OPEN", "READ", "SHOW", "STEP", "TIME", "WITH",
 ];
+
 const OF_FIVE: [&str; 9] = [
     "BEGIN", "CLOSE", "FETCH", "FIRST", "INDEX", "ORDER", "TABLE", "TOTAL", "WHERE",
 ];
+
 const OF_SIX: [&str; 8] = [
     "BIGINT", "COMMIT", "CREATE", "DELETE", "INSERT", "SELECT", "UPDATE", "VALUES",
 ];
+
 const OF_SEVEN: [&str; 2] = ["BETWEEN", "VARCHAR"];
+
 const OF_EIGHT: [&str; 3] = ["OPTIMIZE", "ROLLBACK", "STARTING"];
 
 /// Whether a word is one of these.

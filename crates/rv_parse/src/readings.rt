@@ -82,7 +82,6 @@ impl Readings {
     }
 
     /// The place of a text, where it stands among those that were read last.
-    #[tactic(auto, using(crate::proofs::Kept::found_reads))]
     fn place(&self, text: &str) -> Option<usize>
         ensures { IfSome result (Reads text.now self.now) }
     {
@@ -125,7 +124,6 @@ impl Readings {
     }
 
     /// The statement in a place. It has the parts that a statement is never without.
-    #[tactic(auto, using(crate::proofs::Kept::kept_parts))]
     pub fn at(&self, place: usize) -> &Option<Statement>
         requires { place < length self.now }
         ensures is { result.now ≡ (reading_at self.now place).statement }

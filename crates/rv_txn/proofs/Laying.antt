@@ -19,7 +19,7 @@ laid only table cs rows = rows_with_changes table (map (kept_change only) cs) ro
 pub laid_from : (only : List (List Atom)) (table : ℕ) (cs : List Change) (rows : List Record) → laid only table (filter (is_from table) cs) rows ≡ laid only table cs rows
 laid_from only table [] rows = refl
 laid_from only table (c ∷ cs) rows = elim (cases_Bool (nat_lt c.table table)) [
-  | inl low ↦ let other : c.table == table ≡ false = grind (arith, nat_tests) in rw (low, other) (laid_from only table cs rows)
+  | inl low ↦ let other : c.table == table ≡ false = grind (arith, nat_tests) in rw (low, rows_with_changes, other) (laid_from only table cs rows)
   | inr from ↦ rw from (laid_from only table cs _)
 ]
 
@@ -49,12 +49,12 @@ above_lay_nothing only table c (d ∷ ds) rows above all =
     let parts = both (is_before c d) (list_all (is_before c) ds) all in
     let first = parts.0 in
     let other : d.table == table ≡ false = grind (arith, nat_tests) in
-    rw other (above_lay_nothing only table c ds rows above parts.1)
+    rw (rows_with_changes, other) (above_lay_nothing only table c ds rows above parts.1)
 
 pub others_lay_nothing : (only : List (List Atom)) (table : ℕ) (c : Change) (cs : List Change) (rows : List Record) → Rise (c ∷ cs) → is_from table c ≡ true → c.table == table ≡ false → laid only table (c ∷ cs) rows ≡ rows
 others_lay_nothing only table c cs rows rise from other =
     let above : nat_lt table c.table ≡ true = grind (arith, nat_tests, from, other) in
-    rw other (above_lay_nothing only table c cs rows above rise.0)
+    rw (rows_with_changes, other) (above_lay_nothing only table c cs rows above rise.0)
 
 -- what was put, and the rows left behind it, are all where only such changes are left
 pub laid_at_last : (only : List (List Atom)) (table : ℕ) (c : Change) (cs : List Change) (left rest all rows : List Record) (changes : List Change) → changes ≡ c ∷ cs → Rise changes → list_all (is_from table) changes ≡ true → c.table == table ≡ false → all ≡ left ++ rest → left ++ laid only table changes rest ≡ rows → all ≡ rows

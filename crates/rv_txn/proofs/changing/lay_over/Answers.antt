@@ -1,4 +1,4 @@
-use Rattle.std.proofs.Common.{◌≡◌, ◌==◌, ap, arith, false, map}
+use Rattle.std.proofs.Common.{◌≡◌, ◌∙◌, ◌==◌, ap, arith, false, map}
 use Rattle.std.specs.Map.Iter.{deref_pair}
 use Rattle.std.proofs.lemmas.Bool.Decides.{nat_tests}
 use Rattle.std.proofs.lemmas.Map.Iter.{rest_more}
@@ -11,10 +11,10 @@ use Rattle.rv_txn.proofs.changing.lay_over.Goals as goal
 
 pub changes-init : goal.changes-init
 changes-init c =
-    let are = c.from_table.ensures.same in
+    let are = ap (map change_at) c.into_iter-key-iterator.ensures.into_iter_gives ∙ c.from_table-key-items.ensures.same in
     record {
       ascend = c.requires.ascend;
-      rise = rw are (from_rises c.args.table c.args.changes.now c.from_table.ensures.rise);
+      rise = rw are (from_rises c.args.table c.args.changes.now c.from_table-key-items.ensures.rise);
       from = rw are (from_all c.args.table c.args.changes.now);
       columns = rw are (from_leave c.args.only.now c.args.table c.args.changes.now c.requires.columns);
       same = rw are (laid_begins c.args.only.now c.args.table c.args.changes.now c.args.rows.now c.new-all.result.items c.new-all.ensures.items);
