@@ -12,6 +12,7 @@ use rv_jscan::{Given, Sieved, Taken};
 use rv_judge::{Judge, Steps, Uncounted};
 use rv_lang::Reply;
 use rv_model::Entry;
+use rv_parse::Readings;
 use rv_reader::{Reader, Store};
 use rv_value::{NoMemory, Text};
 use std::alloc::Global;
@@ -33,6 +34,7 @@ pub enum PartOf {
 pub struct Engine<S: Store + Reader<Ledger = Uncounted> + Drop> {
     alloc: Global,
     database: Database<S>,
+    readings: Readings,
     phase: u32,
     history: Vec<Entry>,
 }
@@ -57,6 +59,7 @@ impl<S: Store + Reader<Ledger = Uncounted> + Drop> Engine<S> {
         Engine {
             alloc,
             database: Database::new(alloc, store),
+            readings: Readings::new(alloc),
             phase: 1,
             history: Vec::new(alloc),
         }
@@ -115,7 +118,15 @@ impl<S: Store + Reader<Ledger = Uncounted> + Drop> Engine<S> {
     {
         let copy = Text::read(self.alloc, text)?;
         self.history.reserve(1)?;
-        let (reply, kept) = answer(self.alloc, &mut self.database, session, text, judge, beside)?;
+        let (reply, kept) = answer(
+            self.alloc,
+            &mut self.database,
+            &mut self.readings,
+            session,
+            text,
+            judge,
+            beside,
+        )?;
         self.database.sweep();
         self.history
             .push(Entry {
@@ -152,6 +163,7 @@ impl<S: Store + Reader<Ledger = Uncounted> + Drop> Engine<S> {
         let (reply, kept) = match answer_step(
             self.alloc,
             &mut self.database,
+            &mut self.readings,
             session,
             text,
             judge,

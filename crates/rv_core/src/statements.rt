@@ -18,7 +18,7 @@ use crate::replies::{answered, refused};
 use rv_catalog::{BindFault, Catalog, Resolved};
 use rv_judge::{Judge, Uncounted};
 use rv_lang::{Refusal, Reply, Statement};
-use rv_parse::read_statement;
+use rv_parse::Readings;
 use rv_reader::{Reader, Store};
 use rv_value::{NoMemory, Text};
 use std::alloc::Global;
@@ -28,6 +28,7 @@ use std::alloc::Global;
 pub fn answer<S: Store + Reader<Ledger = Uncounted> + Drop>(
     alloc: Global,
     database: &mut Database<S>,
+    readings: &mut Readings,
     session: u8,
     text: &str,
     judge: &mut Box<dyn Judge>,
@@ -46,8 +47,9 @@ pub fn answer<S: Store + Reader<Ledger = Uncounted> + Drop>(
     ensures opened { database.new.opened ≤ database.old.opened + 1 }
     ensures unopened { OnErr result (database.new.opened ≡ database.old.opened) }
 {
-    let statement = read_statement(alloc, text)?;
-    execute(alloc, database, session, &statement, judge, beside)
+    let place = readings.keep(text)?;
+    let said = readings.at(place);
+    execute(alloc, database, session, said, judge, beside)
 }
 
 /// One turn's part of a call: the reply to a text, twice, with the step that it makes, or none where it is a FETCH whose
@@ -56,6 +58,7 @@ pub fn answer<S: Store + Reader<Ledger = Uncounted> + Drop>(
 pub fn answer_step<S: Store + Reader<Ledger = Uncounted> + Drop>(
     alloc: Global,
     database: &mut Database<S>,
+    readings: &mut Readings,
     session: u8,
     text: &str,
     judge: &mut Box<dyn Judge>,
@@ -75,8 +78,9 @@ pub fn answer_step<S: Store + Reader<Ledger = Uncounted> + Drop>(
     ensures opened { database.new.opened ≤ database.old.opened + 1 }
     ensures unopened { OnErr result (database.new.opened ≡ database.old.opened) }
 {
-    let statement = read_statement(alloc, text)?;
-    match understand(database.catalog(), &statement) {
+    let place = readings.keep(text)?;
+    let said = readings.at(place);
+    match understand(database.catalog(), said) {
         Ok(asked) => turn(database, session, asked, judge, beside),
         Err(BindFault::Refused(refusal)) => answered(refused(alloc, refusal)),
         Err(BindFault::NoMemory) => Err(NoMemory),

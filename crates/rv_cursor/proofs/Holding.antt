@@ -93,6 +93,13 @@ hand_gives shown c o values hand replies held empty copied made fits =
     let twice : replies.1 ≡ replies.0 = made.1 ∙ sym made.0 in
     rw (held, empty) (gives_least o (to_come shown c) replies least twice first)
 
+-- the row in hand was given, and a copy of it
+pub hand_moves : (shown : Shown) (c : Open) (o : Offer) (copy : List Value) (given hand : Option Offer) (replies : Reply × Reply) → c.hand ≡ Some o → given ≡ c.hand → hand ≡ None → copy ≡ o.returned → IfSome given (λ x. (replies.0 ≡ Row x.returned) × (replies.1 ≡ Row copy)) → CursorFits shown c → TakesOffer (left shown c) replies (left shown (record c { hand = hand }))
+hand_moves shown c o copy given hand replies held took empty copied made fits =
+    let both : (replies.0 ≡ Row o.returned) × (replies.1 ≡ Row copy) = subst (λ (h : Option Offer). IfSome h (λ x. (replies.0 ≡ Row x.returned) × (replies.1 ≡ Row copy))) (took ∙ held) made in
+    let second : replies.1 ≡ Row o.returned = both.1 ∙ ap (λ (vs : List Value). Row vs) copied in
+    hand_gives shown c o o.returned hand replies held empty refl (both.0, second) fits
+
 -- a reader at the same snapshot, with the same view laid over it
 pub seen_stays : (shown : Shown) (old new : Open) → SameCursor old new → seen_by shown new ≡ seen_by shown old
 seen_stays shown old new same = λ i. seen_at shown (same.snap i) (same.frozen i)

@@ -1,5 +1,6 @@
 //! FETCH and STEP of a cursor.
-ghost use Rattle.std.specs.Prelude.{◌≡◌, ◌<◌, ◌≤◌, None, Ok, IfNone, IfOk, IsSome, OnErr, OnOk};
+ghost use Rattle.std.specs.Prelude.{◌≡◌, ◌<◌, ◌≤◌, None, Ok, IfNone, IfOk, IfSome, IsSome, OnErr, OnOk};
+ghost use Rattle.rv_lang.specs.declared.reply.Reply.TheVariants.{Row};
 ghost use Rattle.rv_reader.specs.Shown.{Shown};
 ghost use Rattle.rv_join.specs.Pieces.{counted_up, plan_awaited, plan_pieces};
 ghost use Rattle.rv_cursor.specs.Left.{CursorFits, SameCursor, Stays, TakesOffer, TakesPart, left, seen_by, to_do, work};
@@ -9,11 +10,25 @@ use crate::cursor::{Filled, Open, fill, work_piece};
 use crate::replies::twice;
 use rv_judge::{Judge, Steps};
 use rv_lang::Reply;
+use rv_model::Offer;
 use rv_reader::Reader;
-use rv_value::{Duplicate, NoMemory};
+use rv_value::{Duplicate, NoMemory, Values};
 use std::alloc::Global;
 
-/// Gives the row in hand, twice, and takes it out once both replies are made.
+/// The replies of the offer that was in hand: its row, which moves into the first, and a copy of it.
+fn replies_of(given: Option<Offer>, copy: Values) -> (Reply, Reply)
+    ensures { IfSome given (λ o. (result.0 ≡ Row o.returned) × (result.1 ≡ Row copy)) }
+{
+    match given {
+        Some(offer) => {
+            let Offer { order: _, returned } = offer;
+            (Reply::Row(returned), Reply::Row(copy))
+        }
+        None => (Reply::End, Reply::End),
+    }
+}
+
+/// Gives the row in hand, twice: it is copied once, and taken out when the copy is made.
 fn give(alloc: Global, cursor: &mut Open) -> Result<(Reply, Reply), NoMemory>
     requires held { IsSome cursor.old.hand }
     ensures fits { (shown : Shown) → CursorFits shown cursor.old → CursorFits shown cursor.new }
@@ -26,9 +41,9 @@ fn give(alloc: Global, cursor: &mut Open) -> Result<(Reply, Reply), NoMemory>
     let Some(offer) = &cursor.hand else {
         return twice(alloc, Reply::End);
     };
-    let replies = twice(alloc, Reply::Row(offer.returned.copy(alloc)?))?;
-    let _given = cursor.hand.take();
-    Ok(replies)
+    let kept = offer.returned.copy(alloc)?;
+    let given = cursor.hand.take();
+    Ok(replies_of(given, kept))
 }
 
 /// Up to so many background steps, as long as both sides of some retrieval run.

@@ -1,3 +1,4 @@
 mod Empty
 pub mod Exact
 pub mod Steps
+pub mod Counted

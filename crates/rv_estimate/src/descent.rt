@@ -1,10 +1,11 @@
 ghost use Rattle.std.specs.Prelude.{◌≡◌, ◌<◌, ◌≤◌, length, false};
-ghost use Rattle.rv_reader.specs.Entries.{run, AreLong};
+ghost use Rattle.rv_reader.specs.Entries.{run, AreLong, Ascend};
 ghost use Rattle.rv_reader.specs.Shown.{IsEstimate, IsIndex};
 ghost use Rattle.rv_estimate.specs.Estimates.{estimate, estimate_in, exactly, guess};
 ghost use Rattle.rv_index.specs.Index.{cuts_of, entries_of, level_at, nodes_at, tree_of, whole_at, IsSound};
 
 use rv_index::Tree;
+use rv_node::{children_between, count_before, count_not_after};
 use rv_reader::Estimate;
 use rv_value::{IndexEntry, Range};
 
@@ -36,7 +37,9 @@ pub fn split(tree: &Tree, snap: u64, range: &Range) -> Estimate
 
 /// The estimate of a range that is not empty.
 fn descend(tree: &Tree, snap: u64, range: &Range) -> Estimate
-    requires { IsSound tree.now snap }
+    requires sound { IsSound tree.now snap }
+    requires long { AreLong range.now (entries_of tree.now snap) }
+    requires long_cuts { AreLong range.now (cuts_of tree.now snap) }
     ensures { result ≡ estimate_in (level_at (nodes_at tree.now snap)) range.now (whole_at (nodes_at tree.now snap)).1 }
 {
     let mut id = 0;
@@ -45,11 +48,11 @@ fn descend(tree: &Tree, snap: u64, range: &Range) -> Estimate
         let Some(node) = tree.node(id, snap) else {
             unreachable!()
         };
-        let (first, last) = node.children_for(range);
+        let (first, last) = children_between(node.entries(), range);
         if first != last {
-            return spread(level, first, last);
+            return spread(level, first as u32, last as u32);
         }
-        id = node.children()[first as usize];
+        id = node.children()[first];
         level -= 1;
     }
     match tree.node(id, snap) {
@@ -69,15 +72,12 @@ fn spread(level: u32, first: u32, last: u32) -> Estimate
     }
 }
 
-/// The entries of a leaf that are in a range, counted.
+/// How many entries of a leaf are in a range: those that are not after it, without those before it.
 fn counted(leaf: &[IndexEntry], range: &Range) -> Estimate
+    requires ascend { Ascend leaf.now }
+    requires long { AreLong range.now leaf.now }
     ensures { result ≡ exactly (length (run leaf.now range.now)) }
 {
-    let mut value = 0;
-    'entries: for entry in leaf {
-        if range.holds(&entry.key) {
-            value += 1;
-        }
-    }
+    let value = (count_not_after(leaf, range) - count_before(leaf, range)) as u64;
     Estimate { value, exact: true }
 }

@@ -5,3 +5,4 @@ pub mod Halves
 pub mod Places
 pub mod Rooting
 pub mod Starting
+pub mod Finding

@@ -1,5 +1,5 @@
 -- Places in a node's lists: of an entry, and behind the child of an entry.
-use Rattle.std.proofs.Common.{ℕ, suc, true, false, inl, inr, ◌+◌, ◌<◌, ◌≤◌, ◌≡◌, List, [], ◌∷◌, ◌++◌, length, drop, Option, Some, None, Bool, cond, get_or, refl, ap, arith}
+use Rattle.std.proofs.Common.{ℕ, suc, true, false, inl, inr, ◌<◌, ◌≤◌, ◌≡◌, List, [], ◌∷◌, length, Some, None, Bool, cond, get_or, refl, ap, arith}
 use Rattle.std.specs.List.{insert}
 use Rattle.std.proofs.lemmas.Bool.{cases_Bool}
 use Rattle.rv_value.specs.declared.record.IndexEntry.{IndexEntry}

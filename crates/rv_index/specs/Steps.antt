@@ -1,9 +1,10 @@
 -- What the steps of an insertion and of a deletion do to the nodes of a commit.
-use Rattle.std.specs.Prelude.{◌≡◌, ℕ, suc, ◌+◌, ◌<◌, ◌≤◌, List, [], ◌∷◌, length, Option, Some, None, Bool, if◌then◌else◌, filter, take, drop}
+use Rattle.std.specs.Prelude.{◌≡◌, ℕ, suc, ◌+◌, ◌<◌, ◌≤◌, List, [], ◌∷◌, length, Option, Some, None, Bool, ◌||◌, if◌then◌else◌, filter, take, drop}
 use Rattle.rv_value.specs.declared.record.IndexEntry.{IndexEntry}
 use Rattle.rv_value.specs.declared.range.Range.{Range}
 use Rattle.rv_reader.specs.Entries.{comes_before}
-use Rattle.rv_reader.specs.Leaves.{is_passed}
+use Rattle.rv_value.specs.Ranges.{place}
+use Rattle.rv_reader.specs.Leaves.{before_side, is_passed}
 use Rattle.rv_node.specs.Nodes.{Parts}
 use Rattle.rv_node.specs.Trees.{Tree, differs, shrink, up_to}
 use Rattle.rv_node.specs.Descent.{leaf_in}
@@ -34,6 +35,11 @@ pub record HasParts (node : Parts) (entries : List IndexEntry) (children : List 
 abbrev pub passed_first : (IndexEntry → Bool) → List IndexEntry → ℕ
 passed_first goes [] = 0
 passed_first goes (low ∷ lows) = if goes low then suc (passed_first goes lows) else 0
+
+-- an entry before the range, or before the start
+abbrev pub is_ahead : Range → Option IndexEntry → IndexEntry → Bool
+is_ahead range None e = before_side (place range e.key)
+is_ahead range (Some start) e = comes_before e start || before_side (place range e.key)
 
 -- the place behind the child of an entry: the first child's low entry is not looked at
 abbrev pub behind_child : IndexEntry → List IndexEntry → ℕ

@@ -1,13 +1,14 @@
 ghost use Rattle.std.specs.Prelude.{◌≡◌, ◌<◌, ◌≤◌, length, filter, take, drop, None, IfOk, OnOk};
 ghost use Rattle.std.specs.Option.{option_copied};
-ghost use Rattle.rv_reader.specs.Entries.{comes_before};
+ghost use Rattle.rv_reader.specs.Entries.{AreLong, Ascend, comes_before};
 ghost use Rattle.rv_reader.specs.Leaves.{is_passed, is_wanted, within};
+ghost use Rattle.rv_node.specs.Children.{PassesTo};
 ghost use Rattle.rv_node.specs.Descent.{child_in};
 ghost use Rattle.rv_node.specs.Trees.{differs, placed, up_to};
-ghost use Rattle.rv_index.specs.Steps.{behind_child, passed_first};
+ghost use Rattle.rv_index.specs.Steps.{behind_child, is_ahead, passed_first};
 
-use rv_node::Node;
-use rv_value::{Duplicate, IndexEntry, NoMemory, Range, Side, cmp_entry};
+use rv_node::{Node, count_not_after};
+use rv_value::{Duplicate, IndexEntry, NoMemory, Range, Side, cmp_entry, copy_slice};
 use std::alloc::Global;
 use std::cmp::Ordering;
 
@@ -28,14 +29,39 @@ fn passed(from: Option<&IndexEntry>, range: &Range, cut: &IndexEntry) -> bool
     }
 }
 
-/// Whether an entry is in the range and from the start on.
-fn wanted(from: Option<&IndexEntry>, range: &Range, entry: &IndexEntry) -> bool
-    ensures { result ≡ is_wanted range.now (option_copied from.entry) entry.now }
+/// Whether an entry is before the range, or before the start.
+fn ahead(from: Option<&IndexEntry>, range: &Range, entry: &IndexEntry) -> bool
+    ensures { result ≡ is_ahead range.now (option_copied from.entry) entry.now }
 {
     match from {
-        None => range.holds(&entry.key),
-        Some(start) => !is_less(entry, start) && range.holds(&entry.key),
+        None => range.place(&entry.key) == Side::Before,
+        Some(start) => is_less(entry, start) || range.place(&entry.key) == Side::Before,
     }
+}
+
+/// How many entries of a leaf are before the range, or before the start.
+fn count_ahead(leaf: &[IndexEntry], from: Option<&IndexEntry>, range: &Range) -> usize
+    requires ascend { Ascend leaf.now }
+    requires long { AreLong range.now leaf.now }
+    ensures bound { result ≤ length leaf.now }
+    ensures passes { PassesTo (is_ahead range.now (option_copied from.entry)) result leaf.now }
+{
+    leaf.partition_point(|entry| ahead(from, range, entry))
+}
+
+/// The entries of a leaf that are in the range and from the start on: they stand together, and are found by halves.
+fn wanted_part<'a>(
+    leaf: &'a [IndexEntry],
+    from: Option<&IndexEntry>,
+    range: &Range,
+) -> &'a [IndexEntry]
+    requires ascend { Ascend leaf.now }
+    requires long { AreLong range.now leaf.now }
+    ensures { result.now ≡ filter (is_wanted range.now (option_copied from.entry)) leaf.now }
+{
+    let (_, rest) = leaf.split_at(count_ahead(leaf, from, range));
+    let (part, _) = rest.split_at(count_not_after(rest, range));
+    part
 }
 
 /// Copies of the entries of a leaf that are in the range and from the start on.
@@ -45,15 +71,11 @@ pub fn wanted_of(
     from: Option<&IndexEntry>,
     range: &Range,
 ) -> Result<Vec<IndexEntry>, NoMemory>
+    requires ascend { Ascend leaf.now }
+    requires long { AreLong range.now leaf.now }
     ensures { IfOk result (λ found. found.items ≡ filter (is_wanted range.now (option_copied from.entry)) leaf.now) }
 {
-    let mut found = Vec::new(alloc);
-    'entries: for entry in leaf {
-        if wanted(from, range, entry) {
-            found.push(entry.copy(alloc)?)?;
-        }
-    }
-    Ok(found)
+    copy_slice(alloc, wanted_part(leaf, from, range))
 }
 
 /// A copy of the following cut, none where its key is after the range.
@@ -76,7 +98,17 @@ pub fn next_cut(
     }
 }
 
-/// The child in which a descent goes on, and the cut at which the following one begins.
+/// How many cuts are not behind the leaf in which a reading begins.
+fn count_passed(cuts: &[IndexEntry], from: Option<&IndexEntry>, range: &Range) -> usize
+    requires ascend { Ascend cuts.now }
+    requires long { AreLong range.now cuts.now }
+    ensures bound { result ≤ length cuts.now }
+    ensures passes { PassesTo (is_passed (option_copied from.entry) range.now) result cuts.now }
+{
+    cuts.partition_point(|cut| passed(from, range, cut))
+}
+
+/// The child in which a descent goes on, and the cut at which the following one begins. It is found by halves.
 pub fn child_of<'a>(
     node: &'a Node,
     from: Option<&IndexEntry>,
@@ -85,34 +117,33 @@ pub fn child_of<'a>(
 ) -> (u32, Option<&'a IndexEntry>)
     requires same { length node.now.entries ≡ length node.now.children }
     requires some { 0 < length node.now.children }
+    requires ascend { Ascend (drop 1 node.now.entries) }
+    requires long { AreLong range.now (drop 1 node.now.entries) }
     ensures { (result.0, option_copied result.1) ≡ child_in (is_passed (option_copied from.entry) range.now) node.now.entries node.now.children (option_copied next.entry) }
 {
     let lows = node.entries();
     let ids = node.children();
-    let mut id = ids[0];
-    'kids: for at in 1..lows.len() {
-        if !passed(from, range, &lows[at]) {
-            return (id, Some(&lows[at]));
-        }
-        id = ids[at];
+    let (_, behind) = lows.split_at(1);
+    let at = count_passed(behind, from, range);
+    if at < behind.len() {
+        (ids[at], Some(&behind[at]))
+    } else {
+        (ids[at], next)
     }
-    (id, next)
 }
 
 /// The place of an entry: behind all that come before it, up to the first that does not.
 fn place_of(entries: &[IndexEntry], entry: &IndexEntry) -> usize
+    requires { Ascend entries.now }
     ensures within { result ≤ length entries.now }
     ensures place { result ≡ passed_first (λ x. comes_before x entry.now) entries.now }
 {
-    let mut at = 0;
-    'past: while at < entries.len() && is_less(&entries[at], entry) {
-        at += 1;
-    }
-    at
+    entries.partition_point(|other| is_less(other, entry))
 }
 
 /// Puts an entry into its place.
 pub fn put_entry(entries: &mut Vec<IndexEntry>, entry: IndexEntry) -> Result<(), NoMemory>
+    requires { Ascend entries.old.items }
     ensures { OnOk result (entries.new.items ≡ placed comes_before entry entries.old.items) }
 {
     let at = place_of(entries.as_slice(), &entry);
@@ -134,23 +165,31 @@ pub fn take_entry(entries: &mut Vec<IndexEntry>, entry: &IndexEntry)
     entries.retain(|other| is_other(other, entry));
 }
 
+/// How many low entries an entry does not come before.
+fn count_up_to(lows: &[IndexEntry], entry: &IndexEntry) -> usize
+    requires { Ascend lows.now }
+    ensures bound { result ≤ length lows.now }
+    ensures passed { result ≡ passed_first (up_to comes_before entry.now) lows.now }
+{
+    lows.partition_point(|low| !is_less(entry, low))
+}
+
 /// The place behind the child of an entry.
 fn place_behind(lows: &[IndexEntry], entry: &IndexEntry) -> usize
-    requires { 0 < length lows.now }
+    requires some { 0 < length lows.now }
+    requires ascend { Ascend (drop 1 lows.now) }
     ensures within { result ≤ length lows.now }
     ensures behind { result ≡ behind_child entry.now lows.now }
 {
-    let mut at = 1;
-    'past: while at < lows.len() && !is_less(entry, &lows[at]) {
-        at += 1;
-    }
-    at
+    let (_, behind) = lows.split_at(1);
+    count_up_to(behind, entry) + 1
 }
 
 /// The child of an entry, and the place behind it.
 pub fn child_for(node: &Node, entry: &IndexEntry) -> (u32, usize)
     requires same { length node.now.entries ≡ length node.now.children }
     requires some { 0 < length node.now.children }
+    requires ascend { Ascend (drop 1 node.now.entries) }
     ensures child { result.0 ≡ (child_in (up_to comes_before entry.now) node.now.entries node.now.children None).0 }
     ensures place { result.1 ≡ behind_child entry.now node.now.entries }
 {

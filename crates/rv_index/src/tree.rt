@@ -1,11 +1,12 @@
-ghost use Rattle.std.specs.Prelude.{◌≡◌, ℕ, ◌+◌, ◌-◌, ◌<◌, ◌≤◌, [], ◌∷◌, length, IfOk, OnOk, OnErr, Some, None, unwrap_or, filter, slice_index_or, ◌==◌};
+ghost use Rattle.std.specs.Prelude.{◌≡◌, ℕ, ◌+◌, ◌-◌, ◌<◌, ◌≤◌, [], ◌∷◌, drop, length, IfOk, OnOk, OnErr, Some, None, unwrap_or, filter, slice_index_or, ◌==◌};
 ghost use Rattle.std.specs.Option.{option_copied};
 ghost use Rattle.std.specs.List.{insert};
-ghost use Rattle.rv_reader.specs.Entries.{comes_before, AreLong};
+ghost use Rattle.rv_reader.specs.Entries.{comes_before, AreLong, Ascend};
 ghost use Rattle.rv_reader.specs.Leaves.{is_wanted, IsChunk};
 ghost use Rattle.rv_versions.specs.Chains.{value_of, versions_to, AllChainsBelow};
 ghost use Rattle.rv_node.specs.Nodes.{empty_node, AreParts};
 ghost use Rattle.rv_node.specs.Descent.{child_in};
+ghost use Rattle.rv_node.specs.Ranks.{IsRanked, Ranks, any, is_long};
 ghost use Rattle.rv_node.specs.Sound.{Absent};
 ghost use Rattle.rv_node.specs.Trees.{grow, placed, up_to};
 ghost use Rattle.rv_index.specs.Index.{cuts_of, entries_of, level_at, nodes_at, IsDeleted, IsInserted, IsNew, IsOlderSame, IsOwn, IsSound};
@@ -18,16 +19,21 @@ use rv_value::{Duplicate, IndexEntry, Items, NoMemory, Range};
 use rv_versions::Versions;
 use std::alloc::Global;
 use std::marker::Model;
+use std::mem;
 
 /// A search tree of index entries, of which each node keeps its older versions.
 ///
 /// Each commit has its own tree, of which the nodes are the newest versions not above it. A node has up to 32 entries
 /// or children; one that would have more is split into its first 16 and the rest. The root has the id 0, and keeps it
 /// when it is split: two new nodes take the halves. A deletion leaves the node, even an empty one.
+///
+/// It notes which nodes commits have written anew, so that their older versions can be looked for there. Contracts do not
+/// see the notes, and nothing rests on them.
 #[derive(Drop)]
 pub struct Tree {
     alloc: Global,
     nodes: Versions<Node>,
+    written: Vec<u32>,
 }
 
 impl Model for Tree {
@@ -49,7 +55,11 @@ impl Tree {
     {
         let mut nodes = Versions::new(alloc);
         match nodes.write(0, 0, Node::leaf(alloc)) {
-            Ok(()) => Ok(Tree { alloc, nodes }),
+            Ok(()) => Ok(Tree {
+                alloc,
+                nodes,
+                written: Vec::new(alloc),
+            }),
             Err(_node) => Err(NoMemory),
         }
     }
@@ -94,8 +104,11 @@ impl Tree {
         from: Option<&IndexEntry>,
         range: &Range,
     ) -> (Option<&Node>, Option<&IndexEntry>)
-        requires { IsSound self.now snap }
-        ensures { ((unwrap_or (option_copied result.0) empty_node).entries, option_copied result.1) ≡ leaf_of (nodes_at self.now snap) (option_copied from.entry) range.now }
+        requires sound { IsSound self.now snap }
+        requires long { AreLong range.now (entries_of self.now snap) }
+        requires long_cuts { AreLong range.now (cuts_of self.now snap) }
+        ensures leaf { ((unwrap_or (option_copied result.0) empty_node).entries, option_copied result.1) ≡ leaf_of (nodes_at self.now snap) (option_copied from.entry) range.now }
+        ensures ranks { Ranks (is_long range.now) (unwrap_or (option_copied result.0) empty_node).entries }
     {
         let mut id = 0;
         let mut level = self.level(snap);
@@ -118,6 +131,7 @@ impl Tree {
         from: Option<&IndexEntry>,
         range: &Range,
     ) -> Result<Items<IndexEntry>, NoMemory>
+        requires { Ranks (is_long range.now) (unwrap_or (option_copied leaf) empty_node).entries }
         ensures { IfOk result (λ found. found ≡ filter (is_wanted range.now (option_copied from.entry)) (unwrap_or (option_copied leaf.entry) empty_node).entries) }
     {
         match leaf {
@@ -213,6 +227,20 @@ impl Tree {
         Ok(Some((cut, right)))
     }
 
+    /// Notes that a node is written anew. Where there is no memory for the note, there is none.
+    fn note(&mut self, id: u32)
+        ensures { self.new ≡ self.old }
+    {
+        let _ = self.written.push(id);
+    }
+
+    /// The nodes that were written anew since the last call, each once for each commit. It takes no memory.
+    pub fn take_written(&mut self) -> Vec<u32>
+        ensures { self.new ≡ self.old }
+    {
+        mem::replace(&mut self.written, Vec::new(self.alloc))
+    }
+
     /// Copies of the parts of a node.
     fn copy_parts(&self, id: u32, commit: u64) -> Result<(Vec<IndexEntry>, Vec<u32>), NoMemory>
         ensures { IfOk result (λ parts. HasParts (nodes_at self.now commit id) parts.0.items parts.1.items) }
@@ -232,7 +260,10 @@ impl Tree {
     {
         match self.nodes.take(id, commit) {
             Some(node) => Ok(node.into_parts()),
-            None => self.copy_parts(id, commit),
+            None => {
+                self.note(id);
+                self.copy_parts(id, commit)
+            }
         }
     }
 
@@ -244,6 +275,7 @@ impl Tree {
     ) -> Result<Option<(IndexEntry, u32)>, NoMemory>
         requires there { id < length self.old }
         requires newest { AllChainsBelow (commit + 1) self.old }
+        requires ascend { Ascend (nodes_at self.old commit id).entries }
         ensures ok { IfOk result (λ r. IsStoredIn (length self.old) (length self.new) 0 id (placed comes_before entry (nodes_at self.old commit id).entries) [] r (nodes_at self.old commit) (nodes_at self.new commit)) }
         ensures grows { length self.old ≤ length self.new }
         ensures older { IsOlderKept commit self.old self.new }
@@ -259,6 +291,7 @@ impl Tree {
     fn kid(&self, id: u32, entry: &IndexEntry, commit: u64) -> (u32, usize)
         requires same { length (nodes_at self.now commit id).entries ≡ length (nodes_at self.now commit id).children }
         requires some { 0 < length (nodes_at self.now commit id).children }
+        requires ascend { Ascend (drop 1 (nodes_at self.now commit id).entries) }
         ensures kid { result.0 ≡ (child_in (up_to comes_before entry.now) (nodes_at self.now commit id).entries (nodes_at self.now commit id).children None).0 }
         ensures place { result.1 ≡ behind_child entry.now (nodes_at self.now commit id).entries }
     {
@@ -307,6 +340,7 @@ impl Tree {
     ) -> Result<Option<(IndexEntry, u32)>, NoMemory>
         requires own { IsOwn (length self.old) level id (nodes_at self.old commit) }
         requires newest { AllChainsBelow (commit + 1) self.old }
+        requires ranked { IsRanked (nodes_at self.old commit) any level id }
         ensures ok { IfOk result (λ r. IsGrown (length self.old) (length self.new) level id (grow level comes_before entry) r (nodes_at self.old commit) (nodes_at self.new commit)) }
         ensures grows { length self.old ≤ length self.new }
         ensures older { IsOlderKept commit self.old self.new }
@@ -401,6 +435,7 @@ impl Tree {
     ) -> Result<(), NoMemory>
         requires own { IsOwn (length self.old) level id (nodes_at self.old commit) }
         requires newest { AllChainsBelow (commit + 1) self.old }
+        requires ranked { IsRanked (nodes_at self.old commit) any level id }
         ensures ok { OnOk result (IsGrown (length self.old) (length self.new) level id (shrunken level entry.now) None (nodes_at self.old commit) (nodes_at self.new commit)) }
         ensures len { length self.new ≡ length self.old }
         ensures older { IsOlderKept commit self.old self.new }

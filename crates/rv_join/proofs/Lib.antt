@@ -18,3 +18,4 @@ pub mod Counting
 pub mod OneItem
 pub mod Going
 pub mod Lowering
+pub mod Orders

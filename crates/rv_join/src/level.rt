@@ -73,15 +73,31 @@ fn copy_wide(alloc: Global, row: &Values, need: &[u32]) -> Result<Values, NoMemo
     Ok(Values::from_vec(values))
 }
 
-/// The value that a reference reads in one row for each place, NULL where there is none.
-fn value_at(alloc: Global, rows: &[Values], column: ColRef) -> Result<Value, NoMemory>
-    ensures { IfOk result (λ value. value ≡ rows_reads rows.now column) }
+/// The values in a place: those of a row chosen so far, or of the row behind them; none in a later place.
+fn values_in<'a>(outer: &'a [Values], row: &'a Values, place: usize) -> &'a [Value]
+    ensures { result.now ≡ slice_index_or (outer.now ++ row.now ∷ []) place [] }
 {
-    match rows.get(column.place as usize) {
-        Some(row) => match row.as_slice().get(column.column as usize) {
-            Some(value) => value.copy(alloc),
-            None => Ok(Value::Null),
-        },
+    if place < outer.len() {
+        outer[place].as_slice()
+    } else if place == outer.len() {
+        row.as_slice()
+    } else {
+        &[]
+    }
+}
+
+/// The value that a reference reads in the rows chosen so far and the one behind them, NULL where there is none.
+fn value_at(
+    alloc: Global,
+    outer: &[Values],
+    row: &Values,
+    column: ColRef,
+) -> Result<Value, NoMemory>
+    ensures { IfOk result (λ value. value ≡ rows_reads (outer.now ++ row.now ∷ []) column) }
+{
+    let values = values_in(outer, row, column.place as usize);
+    match values.get(column.column as usize) {
+        Some(value) => value.copy(alloc),
         None => Ok(Value::Null),
     }
 }
@@ -89,26 +105,32 @@ fn value_at(alloc: Global, rows: &[Values], column: ColRef) -> Result<Value, NoM
 fn pick_into(
     alloc: Global,
     columns: &[ColRef],
-    rows: &[Values],
+    outer: &[Values],
+    row: &Values,
     values: &mut Vec<Value>,
 ) -> Result<(), NoMemory>
-    ensures { OnOk result (values.new.items ≡ values.old.items ++ picked_over columns.now rows.now) }
+    ensures { OnOk result (values.new.items ≡ values.old.items ++ picked_over columns.now (outer.now ++ row.now ∷ [])) }
 {
     match columns {
         [] => Ok(()),
         [column, more @ ..] => {
-            values.push(value_at(alloc, rows, *column)?)?;
-            pick_into(alloc, more, rows, values)
+            values.push(value_at(alloc, outer, row, *column)?)?;
+            pick_into(alloc, more, outer, row, values)
         }
     }
 }
 
-/// The values that references read in one row for each place.
-fn pick(alloc: Global, columns: &[ColRef], rows: &[Values]) -> Result<Values, NoMemory>
-    ensures { IfOk result (λ values. values ≡ picked_over columns.now rows.now) }
+/// The values that references read in the rows chosen so far and the one behind them, of which nothing else is copied.
+fn pick(
+    alloc: Global,
+    columns: &[ColRef],
+    outer: &[Values],
+    row: &Values,
+) -> Result<Values, NoMemory>
+    ensures { IfOk result (λ values. values ≡ picked_over columns.now (outer.now ++ row.now ∷ [])) }
 {
     let mut values = Vec::with_capacity(alloc, columns.len())?;
-    pick_into(alloc, columns, rows, &mut values)?;
+    pick_into(alloc, columns, outer, row, &mut values)?;
     Ok(Values::from_vec(values))
 }
 
@@ -206,15 +228,6 @@ impl Level {
         Ok(rows)
     }
 
-    /// The rows chosen so far and this one.
-    fn rows(&self, alloc: Global, row: &Values) -> Result<Items<Values>, NoMemory>
-        ensures { IfOk result (λ rows. rows ≡ self.now.outer ++ row.now ∷ []) }
-    {
-        let mut rows = self.outer.copy(alloc)?;
-        rows.push(row.copy(alloc)?)?;
-        Ok(rows)
-    }
-
     /// Opens the level of the next FROM item over a row that is held.
     #[tactic(auto, using(crate::proofs::Binding::wide_more, crate::proofs::Opening::descends))]
     pub fn inner<R: Reader>(
@@ -245,10 +258,10 @@ impl Level {
     pub fn offer(&self, alloc: Global, asked: &Asked, row: &Values) -> Result<Offer, NoMemory>
         ensures { IfOk result (λ offer. offer ≡ offered asked.now (self.now.outer ++ row.now ∷ [])) }
     {
-        let rows = self.rows(alloc, row)?;
+        let outer = self.outer.as_slice();
         Ok(Offer {
-            order: pick(alloc, asked.order.as_slice(), rows.as_slice())?,
-            returned: pick(alloc, asked.returns.as_slice(), rows.as_slice())?,
+            order: pick(alloc, asked.order.as_slice(), outer, row)?,
+            returned: pick(alloc, asked.returns.as_slice(), outer, row)?,
         })
     }
 }

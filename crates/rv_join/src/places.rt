@@ -245,6 +245,7 @@ pub fn by_index(alloc: Global, select: &Select, indexes: &[IndexDef]) -> Result<
 }
 
 /// The columns by which an item's rows are to come; only the first item is asked for an order.
+#[tactic(auto, using(crate::proofs::Orders::no_order, crate::proofs::Orders::first_alone))]
 fn order_at(
     alloc: Global,
     select: &Select,
@@ -255,8 +256,10 @@ fn order_at(
     requires numbers { length indexes.now < 2 ^ 32 }
     ensures { IfOk result (λ order. order ≡ order_at select.now indexes.now place) }
 {
-    let by_index = by_index(alloc, select, indexes)?;
-    if place == 0 && by_index {
+    if place != 0 || select.order.is_empty() {
+        return Ok(Items::new(alloc));
+    }
+    if by_index(alloc, select, indexes)? {
         numbers_of(alloc, select.order.as_slice())
     } else {
         Ok(Items::new(alloc))

@@ -1,5 +1,5 @@
 //! The lexer: it cuts a text from the left, each time by the longest token.
-ghost use Rattle.std.specs.Prelude.{◌≡◌, ◌<◌, ◌≤◌, ◌+◌, ◌-◌, ◌*◌, ◌^◌, ◌∷◌, ◌++◌, [], true, false, OnOk, Some, None, string_bytes, ℕ, length, pos, neg_ℤ, nat_lt, nat_le, if◌then◌else◌, IfOk, IfErr, IfSome, List, IsUtf8};
+ghost use Rattle.std.specs.Prelude.{◌≡◌, ◌<◌, ◌≤◌, ◌+◌, ◌-◌, ◌*◌, ◌^◌, ◌∷◌, ◌++◌, [], true, false, OnOk, Some, None, string_bytes, ℕ, length, pos, neg_ℤ, nat_lt, nat_le, if◌then◌else◌, IfOk, IfErr, IfSome, List, IsUtf8, map};
 ghost use Rattle.std.specs.Char.{is_ascii_alphabetic, is_ascii_digit, to_ascii_uppercase};
 ghost use Rattle.std.specs.Option.{option_map};
 ghost use Rattle.rv_lang.specs.declared.token.Token.{Token};
@@ -7,6 +7,7 @@ ghost use Rattle.rv_lang.specs.Tokens.{is_word_byte, is_text_byte, is_blank, pas
 ghost use Rattle.rv_lang.specs.Lexing.{run, begins_word, number_of, negative_of, negative_at, symbol_at, word_of, scanned, kept, text_cut, text_at, token_at, tokens_of, Gives, Tracks, IsFault, Lexes};
 
 use crate::token::{LexFault, Symbol, Token};
+use arrayvec::ArrayString;
 use rv_value::{NoMemory, Text};
 use std::alloc::{AllocError, AllocFailed, Global};
 
@@ -61,8 +62,38 @@ fn push_upper(text: &mut String, b: u8) -> Result<(), AllocError>
     text.push(char::from(b.to_ascii_uppercase()))
 }
 
-/// A word that begins with a letter.
-fn word<'a>(alloc: Global, first: u8, bytes: &'a [u8]) -> Result<(Token, &'a [u8]), Stop>
+/// Puts a byte behind others in upper case. Whether there was room.
+fn try_upper(text: &mut ArrayString<16>, b: u8) -> bool
+    requires { b < 128 }
+    ensures { result ≡ true → text.new.bytes ≡ text.old.bytes ++ to_ascii_uppercase b ∷ [] }
+{
+    text.try_push(char::from(b.to_ascii_uppercase())).is_ok()
+}
+
+/// A word of at most 16 bytes that begins with a letter, and the bytes after it; None where it is longer. It takes no memory.
+fn short_word(first: u8, bytes: &[u8]) -> Option<(ArrayString<16>, &[u8])>
+    requires { is_ascii_alphabetic first ≡ true }
+    ensures { IfSome result (λ x. (x.0.bytes ≡ map to_ascii_uppercase (first ∷ run is_word_byte bytes.now)) × (x.1.now ≡ past is_word_byte bytes.now)) }
+{
+    let mut text = ArrayString::new();
+    if !try_upper(&mut text, first) {
+        return None;
+    }
+    let mut rest = bytes;
+    'letters: while let [b, more @ ..] = rest {
+        if !is_word_byte(*b) {
+            break;
+        }
+        if !try_upper(&mut text, *b) {
+            return None;
+        }
+        rest = more;
+    }
+    Some((text, rest))
+}
+
+/// A word of any length that begins with a letter.
+fn long_word<'a>(alloc: Global, first: u8, bytes: &'a [u8]) -> Result<(Token, &'a [u8]), Stop>
     requires { is_ascii_alphabetic first ≡ true }
     ensures { Gives (λ x. (x.0, x.1.now)) result (word_of first bytes.now) }
 {
@@ -77,6 +108,20 @@ fn word<'a>(alloc: Global, first: u8, bytes: &'a [u8]) -> Result<(Token, &'a [u8
         rest = more;
     }
     Ok((Token::Word(Text::read(alloc, text.as_str())?), rest))
+}
+
+/// A word that begins with a letter. Most are short, and take no memory.
+fn word<'a>(alloc: Global, first: u8, bytes: &'a [u8]) -> Result<(Token, &'a [u8]), Stop>
+    requires { is_ascii_alphabetic first ≡ true }
+    ensures { Gives (λ x. (x.0, x.1.now)) result (word_of first bytes.now) }
+{
+    match short_word(first, bytes) {
+        Some((short, rest)) => {
+            let text = Text::read(alloc, short.as_str())?;
+            Ok((Token::Word(text), rest))
+        }
+        None => long_word(alloc, first, bytes),
+    }
 }
 
 /// The bytes after the blanks.

@@ -11,3 +11,5 @@ pub mod Rising
 pub mod Shrinking
 pub mod Storing
 pub mod Whole
+pub mod Parted
+pub mod Ranking

@@ -31,7 +31,7 @@ module _ {E : Type 0} (lt : E → E → Bool) (o : IsStrictWeakOrder lt) where
       let behind : list_all (lt x) ys ≡ true = list_all-of (lt x) ys (All-map (λ y. lt y k ≡ false) (λ y. lt x y ≡ true) ys (λ y f. lt_le lt o x k y below.0 f) from) in
       (rw (list_all-append (lt x) xs ys, rx.0) behind, rising_append k xs ys below.1 from rx.1 ry)
 
-  all_behind : (x y : E) (ys : List E) → lt x y ≡ true → list_all (lt y) ys ≡ true → list_all (lt x) ys ≡ true
+  pub all_behind : (x y : E) (ys : List E) → lt x y ≡ true → list_all (lt y) ys ≡ true → list_all (lt x) ys ≡ true
   all_behind x y ys l all = list_all-of (lt x) ys (All-map (λ z. lt y z ≡ true) (λ z. lt x z ≡ true) ys (λ z m. lt_trans lt o x y z l m) (All-of (lt y) ys all))
 
   leaf_rising : (low high : Option E) (es : List E) → LeafIn lt low high es → Rising lt es

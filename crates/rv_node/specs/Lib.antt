@@ -4,3 +4,4 @@ pub mod Sound
 pub mod Stored
 pub mod Children
 pub mod Descent
+pub mod Ranks

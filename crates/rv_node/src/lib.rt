@@ -2,6 +2,8 @@
 #![tactic(auto)]
 
 mod children;
+mod halving;
 mod node;
 
+pub use halving::{children_between, count_before, count_not_after};
 pub use node::Node;

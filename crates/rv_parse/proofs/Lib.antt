@@ -3,3 +3,5 @@ mod Needing
 mod Lists
 mod TextStatements
 mod Takes
+pub mod Keywords
+pub mod Kept

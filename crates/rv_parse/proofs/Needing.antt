@@ -1,5 +1,5 @@
 -- What a text derives has the parts that a statement is never without.
-use Rattle.std.proofs.Common.{◌≡◌, sym, ℕ, suc, ◌≤◌, List, [], ◌∷◌, Option, Some, None, arith, length, inl, inr}
+use Rattle.std.proofs.Common.{◌≡◌, sym, ℕ, ◌≤◌, List, [], ◌∷◌, Option, Some, None, arith, length, inl, inr}
 use Rattle.std.specs.Prelude.{IfSome}
 use Rattle.rv_lang.specs.declared.token.Token.{Token}
 use Rattle.rv_lang.specs.declared.statement.Statement.{Statement}

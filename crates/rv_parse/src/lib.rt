@@ -7,8 +7,10 @@ pub mod fault;
 pub mod list;
 pub mod parser;
 pub mod parts;
+pub mod readings;
 pub mod selects;
 pub mod statements;
 
 pub use fault::ParseFault;
 pub use parser::{parse, read_statement};
+pub use readings::Readings;

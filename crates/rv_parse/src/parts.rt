@@ -10,13 +10,26 @@ use rv_lang::{RawCol, RawOp, RawOperand, Symbol, Token};
 use rv_value::{Duplicate, Text, Value};
 use std::alloc::Global;
 
-/// The words that are no names.
-const KEYWORDS: [&str; 42] = [
-    "AND", "BEGIN", "BETWEEN", "BIGINT", "BY", "CLOSE", "COMMIT", "CREATE", "DELETE", "FAST",
-    "FETCH", "FIRST", "FOR", "FROM", "IN", "INDEX", "INSERT", "INTO", "IS", "NOT", "NULL", "ON",
-    "ONLY", "OPEN", "OPTIMIZE", "OR", "ORDER", "READ", "ROLLBACK", "SELECT", "SET", "SHOW",
-    "STARTING", "STEP", "TABLE", "TIME", "TOTAL", "UPDATE", "VALUES", "VARCHAR", "WHERE", "WITH",
+/// The words that are no names, by their lengths: those of two letters, and so on up to eight.
+const OF_TWO: [&str; 5] = ["BY", "IN", "IS", "ON", "OR"];
+
+const OF_THREE: [&str; 4] = ["AND", "FOR", "NOT", "SET"];
+
+const OF_FOUR: [&str; 11] = [
+    "FAST", "FROM", "INTO", "NULL", "ONLY", "OPEN", "READ", "SHOW", "STEP", "TIME", "WITH",
 ];
+
+const OF_FIVE: [&str; 9] = [
+    "BEGIN", "CLOSE", "FETCH", "FIRST", "INDEX", "ORDER", "TABLE", "TOTAL", "WHERE",
+];
+
+const OF_SIX: [&str; 8] = [
+    "BIGINT", "COMMIT", "CREATE", "DELETE", "INSERT", "SELECT", "UPDATE", "VALUES",
+];
+
+const OF_SEVEN: [&str; 2] = ["BETWEEN", "VARCHAR"];
+
+const OF_EIGHT: [&str; 3] = ["OPTIMIZE", "ROLLBACK", "STARTING"];
 
 /// Whether a word is one of these.
 fn among(words: &[&str], name: &str) -> bool
@@ -32,12 +45,21 @@ pub fn same(a: &str, b: &str) -> bool
     a == b
 }
 
-/// Whether a word is no name.
-#[tactic(auto, unfolding(rv_lang::specs::Words::is_keyword))]
+/// Whether a word is no name. It is compared with the keywords of its length alone.
+#[tactic(auto, using(crate::proofs::Keywords::by_length))]
 fn is_keyword(name: &str) -> bool
     ensures { result ≡ is_keyword name.now }
 {
-    among(&KEYWORDS, name)
+    match name.len() {
+        2 => among(&OF_TWO, name),
+        3 => among(&OF_THREE, name),
+        4 => among(&OF_FOUR, name),
+        5 => among(&OF_FIVE, name),
+        6 => among(&OF_SIX, name),
+        7 => among(&OF_SEVEN, name),
+        8 => among(&OF_EIGHT, name),
+        _ => false,
+    }
 }
 
 /// The tokens after a keyword.

@@ -5,3 +5,4 @@ pub mod Tabling
 pub mod Turning
 pub mod Standing
 pub mod Placing
+pub mod Owning

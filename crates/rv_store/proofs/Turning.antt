@@ -1,5 +1,5 @@
 -- A page or a node is purged.
-use Rattle.std.proofs.Common.{◌≡◌, ℕ, ◌<◌, ◌≤◌, List, [], refl, arith, length, max, slice_set, length-set}
+use Rattle.std.proofs.Common.{◌≡◌, ℕ, ◌<◌, ◌≤◌, List, [], refl, ◌∙◌, arith, length, max, slice_set, length-set}
 use Rattle.std.proofs.lemmas.List.{get_or_past, get_or-set_same}
 use Rattle.std.specs.List.{slice_index_or}
 use Rattle.rv_versions.specs.Chains.{versions_to}
@@ -53,3 +53,29 @@ node_purged horizon at id indexes new there one = rw (get_or-set_same indexes at
 
 pub node_none : (horizon at id : ℕ) (indexes : List Index) → length indexes ≤ at → IsNodePurged horizon indexes at id
 node_none horizon at id indexes past = rw (get_or_past indexes at no_index past) (omega arith)
+
+-- one after another
+
+pub from_trans : (horizon : ℕ) (a b c : List Table) → AreSameFrom horizon a b → AreSameFrom horizon b c → AreSameFrom horizon a c
+from_trans horizon a b c first second = record {
+  count = second.count ∙ first.count;
+  width = λ t. second.width t ∙ first.width t;
+  horizon_is = λ t. let one = first.horizon_is t in let two = second.horizon_is t in omega (arith, one, two);
+  same = λ t snap h. let one = first.same t snap h in let two = second.same t snap h in record { rows = two.rows ∙ one.rows; pages = two.pages ∙ one.pages };
+  below = λ t high low. second.below t high (first.below t high low);
+}
+
+one_from_trans : (horizon : ℕ) (a b c : Index) → IsSameFrom horizon a b → IsSameFrom horizon b c → IsSameFrom horizon a c
+one_from_trans horizon a b c first second = record {
+  table = second.table ∙ first.table;
+  columns = second.columns ∙ first.columns;
+  count = second.count ∙ first.count;
+  same = λ snap h. second.same snap h ∙ first.same snap h;
+  below = λ high low. second.below high (first.below high low);
+}
+
+pub indexes_from_trans : (horizon : ℕ) (a b c : List Index) → AreIndexesFrom horizon a b → AreIndexesFrom horizon b c → AreIndexesFrom horizon a c
+indexes_from_trans horizon a b c first second = record {
+  count = second.count ∙ first.count;
+  each = λ i. one_from_trans horizon (index_at a i) (index_at b i) (index_at c i) (first.each i) (second.each i);
+}

@@ -1,5 +1,6 @@
-ghost use Rattle.std.specs.Prelude.{◌≡◌, ℕ, ◌+◌, ◌<◌, ◌≤◌, length, IfOk, OnOk};
+ghost use Rattle.std.specs.Prelude.{◌≡◌, ◌==◌, ℕ, ◌+◌, ◌<◌, ◌≤◌, drop, filter, length, nat_le, nat_lt, not, take, IfOk, OnOk};
 ghost use Rattle.std.specs.Option.{option_copied};
+ghost use Rattle.rv_rows.specs.declared.changes.Change.{Change as OneChange};
 ghost use Rattle.rv_rows.specs.Rows.{Ascend};
 ghost use Rattle.rv_rows.specs.Changes.{Rise, rows_with_changes};
 ghost use Rattle.rv_reader.specs.Tables.{row_at};
@@ -141,8 +142,36 @@ fn pass_change(
     change_index(alloc, index, old, change, commit)
 }
 
-/// The entries of an index through the changes of a commit, whose table has the rows before them.
-pub fn index_changes(
+/// How many of the changes of a commit are of tables before one.
+fn count_before(changes: &[Change], table: u32) -> usize
+    requires { Rise changes.now }
+    ensures bound { result ≤ length changes.now }
+    ensures back { drop result changes.now ≡ filter (λ (c : OneChange). not (nat_lt c.table table)) changes.now }
+{
+    changes.partition_point(|change| change.table < table)
+}
+
+/// How many of the changes of a commit are of a table or of tables before it.
+fn count_up_to(changes: &[Change], table: u32) -> usize
+    requires { Rise changes.now }
+    ensures bound { result ≤ length changes.now }
+    ensures front { take result changes.now ≡ filter (λ (c : OneChange). nat_le c.table table) changes.now }
+{
+    changes.partition_point(|change| change.table <= table)
+}
+
+/// The changes of a table among those of a commit. They stand together, and are found by halves.
+fn changes_over(changes: &[Change], table: u32) -> &[Change]
+    requires { Rise changes.now }
+    ensures { result.now ≡ filter (λ (c : OneChange). c.table == table) changes.now }
+{
+    let (_, from) = changes.split_at(count_before(changes, table));
+    let (own, _) = from.split_at(count_up_to(from, table));
+    own
+}
+
+/// The entries of an index through changes of a commit, one after another; its table has the rows before them.
+fn index_part(
     alloc: Global,
     index: &mut Index,
     records: &Records,
@@ -167,6 +196,31 @@ pub fn index_changes(
     }
     let _ids = index.tree.len();
     Ok(())
+}
+
+/// The entries of an index through the changes of a commit, whose table has the rows before them.
+pub fn index_changes(
+    alloc: Global,
+    index: &mut Index,
+    records: &Records,
+    changes: &[Change],
+    commit: u64,
+) -> Result<(), NoMemory>
+    requires some { 1 ≤ length index.old.columns }
+    requires few { length index.old.columns ≤ 4 }
+    requires kept { records.now.horizon ≤ commit }
+    requires ascend { Ascend (rows_at records.now commit) }
+    requires rise { Rise changes.now }
+    requires indexed { IsIndexed index.old.columns (rows_at records.now commit) commit index.old.tree }
+    requires newest { AllChainsBelow (commit + 1) index.old.tree }
+    ensures ok { OnOk result (IsIndexed index.old.columns (rows_with_changes index.old.table changes.now (rows_at records.now commit)) commit index.new.tree) }
+    ensures tree { OnOk result (tree_of index.new.tree commit ≡ tree_through index.old.columns index.old.table changes.now (rows_at records.now commit) (tree_of index.old.tree commit)) }
+    ensures few { OnOk result (length index.new.tree ≤ 4294967296) }
+    ensures same { IsSameIndex commit index.old index.new }
+    ensures newest { AllChainsBelow (commit + 1) index.new.tree }
+{
+    let own = changes_over(changes, index.table);
+    index_part(alloc, index, records, own, commit)
 }
 
 /// The entries of all indexes through the changes of a commit; the tables have the rows before them.

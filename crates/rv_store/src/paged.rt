@@ -10,7 +10,7 @@ ghost use Rattle.rv_store.specs.Places.{next_place, HasAll, IsLonger, IsPurged};
 use crate::indexes::{Index, new_index};
 use crate::places::Places;
 use crate::tables::Table;
-use crate::whole::{add_index, commit_changes, purge_place};
+use crate::whole::{add_index, commit_changes, purge_place, purge_written};
 use rv_estimate::split;
 use rv_judge::{Steps, Uncounted};
 use rv_reader::{Change, Chunk, Estimate, Reader, Sizes, Store};
@@ -22,7 +22,8 @@ use std::marker::Model;
 /// A store of record pages and index trees. Each page and each node keeps its older versions, so that a commit copies
 /// what it changes and no more, and each snapshot reads its own.
 ///
-/// Each sweep takes older versions of one page or node away, in turn, by a list that grows only at its end.
+/// Each sweep takes older versions of one page or node away, in turn, by a list that grows only at its end, and before it
+/// those of the pages and nodes that commits have written since the last sweep: so a place that is written often keeps few.
 #[derive(Drop)]
 pub struct Paged {
     alloc: Global,
@@ -115,6 +116,10 @@ impl Store for Paged {
         self.newest
     }
 
+    fn lent(&self, table: u32, snap: u64, n: u32) -> Option<&[Record]> {
+        Some(self.tables[table as usize].records.rows(n, snap))
+    }
+
     fn create_table(&mut self, table: u32, columns: u32) -> Result<(), NoMemory>
         requires { table ≡ (shown_of self.old).tables }
         ensures ok { OnOk result (Created (shown_of self.old) (shown_of self.new) columns) }
@@ -183,6 +188,12 @@ impl Store for Paged {
         ensures next { self.new.turns.next ≡ next_place self.old.turns.next (length self.old.turns.places) }
         ensures purged { IfSome (slice_get self.old.turns.places self.old.turns.next) (IsPurged horizon self.new.tables self.new.indexes) }
     {
+        purge_written(
+            &mut self.tables,
+            &mut self.indexes,
+            &mut self.places,
+            horizon,
+        );
         let place = self.places.turn();
         purge_place(&mut self.tables, &mut self.indexes, place, horizon);
         self.horizon = horizon;

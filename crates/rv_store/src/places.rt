@@ -11,6 +11,7 @@ use crate::tables::Table;
 use rv_value::NoMemory;
 use std::alloc::Global;
 use std::marker::Model;
+use std::mem;
 
 /// A record page of a table, or a node of an index's tree, which a sweep purges.
 #[derive(Clone, Copy, PartialEq, Eq, Debug)]
@@ -21,6 +22,9 @@ pub enum Place {
 
 /// The record pages and nodes in the order in which they came, and the one that the next sweep purges. The counts are
 /// of the pages of each table and of the nodes of each index that stand in the list.
+///
+/// Beside them stand the pages and nodes that commits have written since the last sweep, which purges them first, out of
+/// turn. Contracts do not see them: the turn comes to each place without them.
 #[derive(Drop)]
 pub struct Places {
     alloc: Global,
@@ -28,6 +32,7 @@ pub struct Places {
     next: usize,
     pages: Vec<usize>,
     nodes: Vec<usize>,
+    written: Vec<Place>,
 }
 
 impl Model for Places {
@@ -49,6 +54,21 @@ fn place_at(places: &[Place], at: usize) -> Option<Place>
     }
 }
 
+/// Whether a place is the last of others.
+fn is_last(places: &[Place], place: Place) -> bool {
+    match places.last() {
+        Some(last) => *last == place,
+        None => false,
+    }
+}
+
+/// Puts a place behind others, where it is not the last of them and there is memory for it.
+fn note_place(places: &mut Vec<Place>, place: Place) {
+    if !is_last(places.as_slice(), place) {
+        let _ = places.push(place);
+    }
+}
+
 impl Places {
     /// No page and no node. It takes no memory.
     pub fn new(alloc: Global) -> Places
@@ -60,7 +80,23 @@ impl Places {
             next: 0,
             pages: Vec::new(alloc),
             nodes: Vec::new(alloc),
+            written: Vec::new(alloc),
         }
+    }
+
+    /// Notes a page or node that was written, where it is not the last one noted. Where there is no memory for the note,
+    /// there is none.
+    pub fn note(&mut self, place: Place)
+        ensures { self.new ≡ self.old }
+    {
+        note_place(&mut self.written, place);
+    }
+
+    /// The pages and nodes that were written since the last call. It takes no memory.
+    pub fn take_written(&mut self) -> Vec<Place>
+        ensures { self.new ≡ self.old }
+    {
+        mem::replace(&mut self.written, Vec::new(self.alloc))
     }
 
     /// The page or node whose turn it is, and the turn moves on by one, from the last to the first.

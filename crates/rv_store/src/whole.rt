@@ -35,9 +35,83 @@ fn write_changes(
     put_changes(alloc, tables, changes, commit)
 }
 
+/// Notes the nodes of an index that were written.
+fn note_nodes(index: &mut Index, number: u32, places: &mut Places)
+    ensures index { index.new ≡ index.old }
+    ensures places { places.new ≡ places.old }
+{
+    let ids = index.tree.take_written();
+    'ids: for id in ids {
+        places.note(Place::Node { index: number, id });
+    }
+}
+
+/// Notes the nodes of all indexes that were written.
+fn note_indexes(indexes: &mut Vec<Index>, places: &mut Places)
+    requires { length indexes.old.items ≤ 4294967296 }
+    ensures indexes { indexes.new.items ≡ indexes.old.items }
+    ensures places { places.new ≡ places.old }
+{
+    'indexes: for at in 0..indexes.len() {
+        note_nodes(&mut indexes[at], at as u32, places);
+    }
+}
+
+/// Notes the page of a changed row, which is not written where no page can have that number.
+fn note_page(change: &Change, places: &mut Places)
+    ensures { places.new ≡ places.old }
+{
+    match u32::try_from(change.row.0 / 32) {
+        Ok(n) => places.note(Place::Page {
+            table: change.table,
+            n,
+        }),
+        Err(_) => {}
+    }
+}
+
+/// Notes the pages of changed rows.
+fn note_pages(changes: &[Change], places: &mut Places)
+    ensures { places.new ≡ places.old }
+{
+    'changes: for change in changes {
+        note_page(change, places);
+    }
+}
+
+/// Makes the changes of a commit in all tables and indexes, or in none, and lists the pages and nodes that came. What was
+/// written is noted for the next sweep.
+pub fn commit_changes(
+    alloc: Global,
+    tables: &mut Vec<Table>,
+    indexes: &mut Vec<Index>,
+    places: &mut Places,
+    changes: &[Change],
+    commit: u64,
+) -> Result<(), NoMemory>
+    requires open { AreOpen commit tables.old.items }
+    requires can { AllByRecursion (CanPut (length tables.old.items)) changes.now }
+    requires each { (index : ℕ) → index < length indexes.old.items → IsOpen commit tables.old.items (index_at indexes.old.items index) }
+    requires rise { Rise changes.now }
+    requires few { length tables.old.items ≤ 4294967296 }
+    requires few_indexes { length indexes.old.items ≤ 4294967296 }
+    ensures ok { OnOk result (AreThrough commit changes.now tables.old.items tables.new.items indexes.old.items indexes.new.items) }
+    ensures err { OnErr result (AreBack commit tables.new.items indexes.new.items) }
+    ensures listed { OnOk result (HasAll places.new.places tables.new.items indexes.new.items) }
+    ensures longer { IsLonger places.old.places places.new.places }
+    ensures next { places.new.next ≡ places.old.next }
+    ensures tables { AreSameBelow commit tables.old.items tables.new.items }
+    ensures indexes { AreSameIndexes commit indexes.old.items indexes.new.items }
+{
+    let done = commit_whole(alloc, tables, indexes, places, changes, commit);
+    note_indexes(indexes, places);
+    note_pages(changes, places);
+    done
+}
+
 /// Makes the changes of a commit in all tables and indexes, or in none, and lists the pages and nodes that came.
 #[tactic(auto, using(crate::proofs::Tabling::same_below_trans, crate::proofs::Listing::same_indexes_trans, crate::proofs::Placing::longer_none))]
-pub fn commit_changes(
+fn commit_whole(
     alloc: Global,
     tables: &mut Vec<Table>,
     indexes: &mut Vec<Index>,
@@ -121,5 +195,22 @@ pub fn purge_place(
         Some(Place::Page { table, n }) => purge_page(tables, table, n, horizon),
         Some(Place::Node { index, id }) => purge_node(indexes, index, id, horizon),
         None => {}
+    }
+}
+
+/// Purges the pages and nodes that were written since the last sweep.
+pub fn purge_written(
+    tables: &mut Vec<Table>,
+    indexes: &mut Vec<Index>,
+    places: &mut Places,
+    horizon: u64,
+)
+    ensures tables { AreSameFrom horizon tables.old.items tables.new.items }
+    ensures indexes { AreIndexesFrom horizon indexes.old.items indexes.new.items }
+    ensures places { places.new ≡ places.old }
+{
+    let written = places.take_written();
+    'written: for place in written {
+        purge_place(tables, indexes, Some(place), horizon);
     }
 }

@@ -3,3 +3,4 @@ pub mod Halving
 pub mod Pages
 pub mod Touching
 pub mod Views
+pub mod Laying

@@ -1,5 +1,5 @@
 //! UPDATE and DELETE: the rows that they change, and the changes that they make.
-ghost use Rattle.std.specs.Prelude.{◌≡◌, ◌++◌, IfOk, IfSome, OnOk, List, filter, length, map, nat_lt, not, slice_set, true, ◌≤◌};
+ghost use Rattle.std.specs.Prelude.{◌≡◌, ◌++◌, ◌∷◌, [], IfOk, IfSome, OnOk, List, filter, length, map, nat_lt, not, slice_set, true, ◌≤◌};
 ghost use Rattle.std.specs.List.{AllByRecursion};
 ghost use Rattle.std.specs.Option.{option_copied};
 ghost use Rattle.rv_rows.specs.Rows.{Ascend};
@@ -9,6 +9,7 @@ ghost use Rattle.rv_restrict.specs.Bind.{passes_home};
 ghost use Rattle.rv_restrict.specs.Truth.{names_only, qualifies};
 ghost use Rattle.rv_catalog.specs.Fits.{is_column};
 ghost use Rattle.rv_reader.specs.Shown.{CanRead};
+ghost use Rattle.rv_reader.specs.Tables.{page_of};
 ghost use Rattle.rv_model.specs.Transactions.{change_of, changed_with, met, new_values, seen, with_sets};
 ghost use Rattle.rv_txn.specs.Changing.{CanChange, HasColumns, HaveColumns, LeavesColumns, kept_change, kept_values};
 
@@ -41,6 +42,65 @@ fn add_kept(kept: &mut Vec<Record>, page: Vec<Record>, only: &Restriction) -> Re
     Ok(())
 }
 
+/// Puts a copy of a row behind others where WHERE keeps it.
+fn add_copy(
+    alloc: Global,
+    kept: &mut Vec<Record>,
+    row: &Record,
+    only: &Restriction,
+) -> Result<(), NoMemory>
+    requires { HasColumns only.now row.now.values }
+    ensures { OnOk result (kept.new.items ≡ kept.old.items ++ filter (λ r. qualifies only.now r.values) (row.now ∷ [])) }
+{
+    if keeps(only, &row.values) {
+        kept.push(row.copy(alloc)?)?;
+    }
+    Ok(())
+}
+
+/// Puts copies of the rows of a lent page that WHERE keeps behind others; no other row is copied.
+fn add_copies(
+    alloc: Global,
+    kept: &mut Vec<Record>,
+    page: &[Record],
+    only: &Restriction,
+) -> Result<(), NoMemory>
+    requires { HaveColumns only.now page.now }
+    ensures { OnOk result (kept.new.items ≡ kept.old.items ++ filter (λ r. qualifies only.now r.values) page.now) }
+{
+    match page {
+        [] => Ok(()),
+        [row, more @ ..] => {
+            add_copy(alloc, kept, row, only)?;
+            add_copies(alloc, kept, more, only)
+        }
+    }
+}
+
+/// Puts the rows of a page of a table that WHERE keeps behind others.
+fn add_page<S: Store + Reader<Ledger = Uncounted>>(
+    alloc: Global,
+    kept: &mut Vec<Record>,
+    store: &S,
+    table: u32,
+    snap: u64,
+    n: u32,
+    only: &Restriction,
+) -> Result<(), NoMemory>
+    requires can { CanRead (S.shown store.now) table snap }
+    requires columns { HaveColumns only.now (page_of ((S.shown store.now).rows table snap) n) }
+    ensures { OnOk result (kept.new.items ≡ kept.old.items ++ filter (λ r. qualifies only.now r.values) (page_of ((S.shown store.now).rows table snap) n)) }
+{
+    match store.lent(table, snap, n) {
+        Some(page) => add_copies(alloc, kept, page, only),
+        None => {
+            let mut steps = Steps::new(Uncounted);
+            let page = store.page(alloc, table, snap, n, &mut steps)?;
+            add_kept(kept, page, only)
+        }
+    }
+}
+
 /// The rows of a table at a snapshot that WHERE keeps, page by page.
 pub fn kept_rows<S: Store + Reader<Ledger = Uncounted>>(
     alloc: Global,
@@ -57,11 +117,9 @@ pub fn kept_rows<S: Store + Reader<Ledger = Uncounted>>(
     // What a store tells with its newest commit holds of all its rows.
     let _newest = store.last();
     let sizes = store.sizes(table, snap);
-    let mut steps = Steps::new(Uncounted);
     let mut kept = Vec::new(alloc);
     'pages: for n in 0..sizes.pages {
-        let page = store.page(alloc, table, snap, n, &mut steps)?;
-        add_kept(&mut kept, page, only)?;
+        add_page(alloc, &mut kept, store, table, snap, n, only)?;
     }
     Ok(kept)
 }
@@ -106,7 +164,8 @@ fn lay_one<'a>(
     Ok(rest)
 }
 
-/// The rows with a transaction's changes laid over them where WHERE keeps what these leave.
+/// The rows with a transaction's changes laid over them where WHERE keeps what these leave. Of its changes those of the
+/// table are passed over, and no other.
 fn lay_over(
     alloc: Global,
     rows: &[Record],
@@ -120,7 +179,11 @@ fn lay_over(
 {
     let mut all = Vec::new(alloc);
     let mut rest = rows;
-    'changes: for (key, values) in changes.iter() {
+    'changes: for (key, values) in changes.from_table(table) {
+        if key.table != table {
+            add_rows(alloc, &mut all, rest)?;
+            return Ok(all);
+        }
         rest = lay_one(alloc, &mut all, rest, table, key, values, only)?;
     }
     add_rows(alloc, &mut all, rest)?;

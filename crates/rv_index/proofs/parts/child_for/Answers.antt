@@ -1,6 +1,11 @@
-use Rattle.std.proofs.Common.{◌-◌, ◌∙◌, ap, arith, slice_index_or}
+use Rattle.std.proofs.Common.{◌-◌, ◌∙◌, List, ap, arith, drop, slice_index_or, subst, sym}
+use Rattle.rv_value.specs.declared.record.IndexEntry.{IndexEntry}
+use Rattle.rv_reader.specs.Entries.{Ascend}
 use Rattle.rv_index.proofs.Places.{child_behind}
 use Rattle.rv_index.proofs.parts.child_for.Goals as goal
+
+pub place_behind-at-requires-clause-ascend : goal.place_behind-at-requires-clause-ascend
+place_behind-at-requires-clause-ascend c = subst (λ (es : List IndexEntry). Ascend (drop 1 es)) (sym c.entries.ensures.same) c.requires.ascend
 
 pub returns-clause-child : goal.returns-clause-child
 returns-clause-child c =

@@ -1,7 +1,11 @@
-use Rattle.std.proofs.Common.{◌∙◌, ap}
+use Rattle.std.proofs.Common.{◌∙◌, ap, subst, sym}
+use Rattle.rv_reader.specs.Entries.{Ascend}
 use Rattle.std.specs.List.{insert}
 use Rattle.rv_index.proofs.Places.{insert_placed}
 use Rattle.rv_index.proofs.parts.put_entry.Goals as goal
+
+pub place_of-at-requires : goal.place_of-at-requires
+place_of-at-requires c = subst Ascend (sym c.as_slice.ensures.value) c.requires
 
 pub returns : goal.returns
 returns c =

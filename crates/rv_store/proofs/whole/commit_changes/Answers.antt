@@ -1,8 +1,23 @@
-use Rattle.rv_store.proofs.Listing.{same_indexes_trans}
+use Rattle.std.proofs.Common.{◌∙◌}
 use Rattle.rv_store.proofs.whole.commit_changes.Goals as goal
 
-pub returns-then-is_err-clause-indexes : goal.returns-then-is_err-clause-indexes
-returns-then-is_err-clause-indexes c = same_indexes_trans c.args.commit c.args.indexes.now.items c.write_changes.new.indexes.items c.take_back.new.indexes.items c.write_changes.ensures.indexes c.take_back.ensures.indexes
+pub note_indexes-requires : goal.note_indexes-requires
+note_indexes-requires c = rw c.commit_whole-done.ensures.indexes.count c.requires.few_indexes
 
-pub returns-then-is_err-2-clause-indexes : goal.returns-then-is_err-2-clause-indexes
-returns-then-is_err-2-clause-indexes c = same_indexes_trans c.args.commit c.args.indexes.now.items c.write_changes.new.indexes.items c.take_back-then-is_err-2.new.indexes.items c.write_changes.ensures.indexes c.take_back-then-is_err-2.ensures.indexes
+pub returns-clause-ok : goal.returns-clause-ok
+returns-clause-ok c = rw c.note_indexes.ensures.indexes c.commit_whole-done.ensures.ok
+
+pub returns-clause-err : goal.returns-clause-err
+returns-clause-err c = rw c.note_indexes.ensures.indexes c.commit_whole-done.ensures.err
+
+pub returns-clause-listed : goal.returns-clause-listed
+returns-clause-listed c = rw (c.note_pages.ensures ∙ c.note_indexes.ensures.places, c.note_indexes.ensures.indexes) c.commit_whole-done.ensures.listed
+
+pub returns-clause-longer : goal.returns-clause-longer
+returns-clause-longer c = rw (c.note_pages.ensures ∙ c.note_indexes.ensures.places) c.commit_whole-done.ensures.longer
+
+pub returns-clause-next : goal.returns-clause-next
+returns-clause-next c = rw (c.note_pages.ensures ∙ c.note_indexes.ensures.places) c.commit_whole-done.ensures.next
+
+pub returns-clause-indexes : goal.returns-clause-indexes
+returns-clause-indexes c = rw c.note_indexes.ensures.indexes c.commit_whole-done.ensures.indexes

@@ -1,4 +1,5 @@
 use Rattle.std.proofs.Common.{◌∙◌, ap, arith, filter, refl}
+use Rattle.rv_reader.specs.Tables.{page_of}
 use Rattle.rv_txn.proofs.Pages.{all_up_to, kept_more, none_up_to}
 use Rattle.rv_txn.proofs.Views.{filter_have, keeps, rows_have}
 use Rattle.rv_txn.proofs.changing.kept_rows.Goals as goal
@@ -6,16 +7,16 @@ use Rattle.rv_txn.proofs.changing.kept_rows.Goals as goal
 pub pages-init : goal.pages-init
 pages-init g c = rw (c.new-kept.ensures.items, none_up_to ((g.S.Reader.shown c.args.store.now).rows c.args.table c.args.snap)) refl
 
-pub add_kept-requires : goal.add_kept-requires
-add_kept-requires g c =
+pub add_page-requires-clause-columns : goal.add_page-requires-clause-columns
+add_page-requires-clause-columns g c =
     let shown = g.S.Reader.shown c.args.store.now in
     let wide = c.last-newest.ensures.stored.wide c.args.table c.args.snap c.requires.can in
-    rw c.in_ok-page.ensures.rows (filter_have c.args.only.now _ (shown.rows c.args.table c.args.snap) (rows_have c.args.only.now (shown.columns c.args.table) (shown.rows c.args.table c.args.snap) c.requires.over wide))
+    filter_have c.args.only.now _ (shown.rows c.args.table c.args.snap) (rows_have c.args.only.now (shown.columns c.args.table) (shown.rows c.args.table c.args.snap) c.requires.over wide)
 
 pub pages-preserved : goal.pages-preserved
 pages-preserved g c =
     let rows = (g.S.Reader.shown c.args.store.now).rows c.args.table c.args.snap in
-    kept_more (keeps c.args.only.now) c.pages.n rows c.pages.kept.items c.in_ok-page.page.items c.add_kept.new.kept.items c.sizes-sizes.ensures.table.ascend c.pages.invariant c.in_ok-page.ensures.rows c.in_ok-add_kept.ensures
+    kept_more (keeps c.args.only.now) c.pages.n rows c.pages.kept.items (page_of rows c.pages.n) c.add_page.new.kept.items c.sizes-sizes.ensures.table.ascend c.pages.invariant refl c.in_ok-add_page.ensures
 
 pub returns-clause-kept : goal.returns-clause-kept
 returns-clause-kept g c =

@@ -1,7 +1,7 @@
-use Rattle.std.proofs.Common.{◌≡◌, ◌++◌, map}
-use Rattle.std.specs.List.{AllByRecursion}
+use Rattle.std.proofs.Common.{◌≡◌, ◌++◌, map, true}
+use Rattle.std.specs.List.{AllByRecursion, list_all}
 use Rattle.rv_rows.specs.Rows.{Ascend}
-use Rattle.rv_rows.specs.Changes.{Rise, change_at, rows_with_changes}
+use Rattle.rv_rows.specs.Changes.{Rise, change_at, is_from, rows_with_changes}
 use Rattle.rv_txn.specs.Changing.{LeavesColumns, kept_change}
 use Rattle.rv_txn.proofs.changing.lay_over.Given as goal
 
@@ -10,6 +10,7 @@ abbrev pub invariant-changes : goal.invariant-changes
 invariant-changes l = record {
   ascend : Ascend l.rest;
   rise : Rise (map change_at l.key-iterator);
+  from : list_all (is_from l.table) (map change_at l.key-iterator) ≡ true;
   columns : AllByRecursion (LeavesColumns l.table l.only) (map change_at l.key-iterator);
   same : l.all.items ++ rows_with_changes l.table (map (kept_change l.only) (map change_at l.key-iterator)) l.rest ≡ rows_with_changes l.table (map (kept_change l.only) l.changes) l.rows;
 }

@@ -5,7 +5,9 @@ use Rattle.rv_value.specs.declared.record.IndexEntry.{IndexEntry}
 use Rattle.rv_reader.specs.Entries.{comes_before}
 use Rattle.rv_node.specs.Trees.{up_to, grow}
 use Rattle.rv_node.specs.Descent.{child_in}
+use Rattle.rv_node.specs.Ranks.{IsRanked, any}
 use Rattle.rv_node.specs.Stored.{kid_lows, kid_ids}
+use Rattle.rv_node.proofs.Ranking.{ranked_kid, ranked_leaf, ranked_lows}
 use Rattle.rv_index.specs.Index.{nodes_at, IsOwn}
 use Rattle.std.specs.List.{insert}
 use Rattle.rv_index.specs.Steps.{behind_child, IsGrown, IsStoredIn}
@@ -20,6 +22,9 @@ IfOk-map (Err e) P Q f h = tt
 pub grow_leaf-requires-clause-there : goal.grow_leaf-requires-clause-there
 grow_leaf-requires-clause-there t c = own_there (length c.args.self.now) c.args.level c.args.id (nodes_at c.args.self.now c.args.commit) c.requires.own
 
+pub grow_leaf-requires-clause-ascend : goal.grow_leaf-requires-clause-ascend
+grow_leaf-requires-clause-ascend t c = (ranked_leaf (nodes_at c.args.self.now c.args.commit) any c.args.level c.args.id (omega arith) c.requires.ranked).ascend
+
 pub returns-then-level-eq0-clause-ok : goal.returns-then-level-eq0-clause-ok
 returns-then-level-eq0-clause-ok t c =
     let len = length c.args.self.now in let len' = length c.grow_leaf.new.self in
@@ -30,12 +35,15 @@ returns-then-level-eq0-clause-ok t c =
     (λ r s. subst (λ v. IsGrown len len' v c.args.id (grow v comes_before c.args.entry) r at at') (sym zero) (grown_leaf c.args.entry len len' c.args.id at at' r own s))
     c.grow_leaf.ensures.ok
 
+pub kid-kid-requires-clause-ascend : goal.kid-kid-requires-clause-ascend
+kid-kid-requires-clause-ascend t c = (ranked_lows (nodes_at c.args.self.now c.args.commit) any c.args.level c.args.id (omega arith) c.requires.ranked).ascend
+
 pub grow-requires : goal.grow-requires
 grow-requires t c =
     let len = length c.args.self.now in let at = nodes_at c.args.self.now c.args.commit in
     let up : c.args.level ≡ suc (c.args.level - 1) = omega arith in
     let own = subst (λ v. IsOwn len v c.args.id at) up c.requires.own in
-    (omega (arith, c.decreases), (subst (λ k. IsOwn len (c.args.level - 1) k at) (sym c.kid-kid.ensures.kid) (own_kid c.args.entry len (c.args.level - 1) c.args.id at own), c.requires.newest))
+    (omega (arith, c.decreases), (subst (λ k. IsOwn len (c.args.level - 1) k at) (sym c.kid-kid.ensures.kid) (own_kid c.args.entry len (c.args.level - 1) c.args.id at own), (c.requires.newest, subst (λ k. IsRanked at any (c.args.level - 1) k) (sym c.kid-kid.ensures.kid) (ranked_kid at any (up_to comes_before c.args.entry) c.args.level (c.args.level - 1) c.args.id None (omega arith) c.requires.own.stored c.requires.ranked))))
 
 pub grow_kids-requires-clause-there : goal.grow_kids-requires-clause-there
 grow_kids-requires-clause-there t c =

@@ -1,10 +1,11 @@
-use Rattle.std.proofs.Common.{refl, ℕ, suc, ◌-◌, ◌≡◌, ◌∙◌, List, [], sym, arith, length, ap, subst, None, Result, Ok, Err, OnOk}
-use Rattle.std.specs.Prelude.{filter}
+use Rattle.std.proofs.Common.{refl, ℕ, suc, ◌-◌, ◌≡◌, sym, arith, length, subst, None, Result, Ok, Err, OnOk}
 use Rattle.rv_node.specs.Nodes.{Parts}
 use Rattle.rv_value.specs.declared.record.IndexEntry.{IndexEntry}
 use Rattle.rv_reader.specs.Entries.{comes_before}
-use Rattle.rv_node.specs.Trees.{up_to, differs}
+use Rattle.rv_node.specs.Trees.{up_to}
 use Rattle.rv_node.specs.Descent.{child_in}
+use Rattle.rv_node.specs.Ranks.{IsRanked, any}
+use Rattle.rv_node.proofs.Ranking.{ranked_kid, ranked_lows}
 use Rattle.rv_index.specs.Index.{nodes_at, IsOwn}
 use Rattle.rv_index.specs.Steps.{leaf_without, IsGrown, IsNodePut, shrunken}
 use Rattle.rv_index.proofs.Growing.{own_there, own_kid, shrunk_none, shrunk_leaf}
@@ -30,12 +31,15 @@ returns-then-level-eq0-clause-ok t c =
     (leaf_case c.args.entry.now (length c.args.self.now) (length c.shrink_leaf.new.self) c.args.level c.args.id at at' c.if-level-eq0.true c.shrink_leaf.ensures.len c.requires.own)
     c.shrink_leaf.ensures.ok
 
+pub kid-kid-requires-clause-ascend : goal.kid-kid-requires-clause-ascend
+kid-kid-requires-clause-ascend t c = (ranked_lows (nodes_at c.args.self.now c.args.commit) any c.args.level c.args.id (omega arith) c.requires.ranked).ascend
+
 pub shrink-requires : goal.shrink-requires
 shrink-requires t c =
     let len = length c.args.self.now in let at = nodes_at c.args.self.now c.args.commit in
     let up : c.args.level ≡ suc (c.args.level - 1) = omega arith in
     let own = subst (λ v. IsOwn len v c.args.id at) up c.requires.own in
-    (omega (arith, c.decreases), (subst (λ k. IsOwn len (c.args.level - 1) k at) (sym c.kid-kid.ensures.kid) (own_kid c.args.entry.now len (c.args.level - 1) c.args.id at own), c.requires.newest))
+    (omega (arith, c.decreases), (subst (λ k. IsOwn len (c.args.level - 1) k at) (sym c.kid-kid.ensures.kid) (own_kid c.args.entry.now len (c.args.level - 1) c.args.id at own), (c.requires.newest, subst (λ k. IsRanked at any (c.args.level - 1) k) (sym c.kid-kid.ensures.kid) (ranked_kid at any (up_to comes_before c.args.entry.now) c.args.level (c.args.level - 1) c.args.id None (omega arith) c.requires.own.stored c.requires.ranked))))
 
 kid_case : (e : IndexEntry) (len len' level down id kid : ℕ) (at at' : ℕ → Parts) → level ≡ suc down → IsOwn len level id at → kid ≡ (child_in (up_to comes_before e) (at id).entries (at id).children None).0 → IsGrown len len' down kid (shrunken down e) None at at'
     → IsGrown len len' level id (shrunken level e) None at at'

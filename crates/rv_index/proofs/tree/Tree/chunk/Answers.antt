@@ -11,4 +11,4 @@ returns c =
     let at = nodes_at c.args.self.now c.args.snap in
     let start = option_copied c.args.from in
     chunk_is (length c.args.self.now) at c.args.range.now start (unwrap_or (option_copied c.leaf.result.0) empty_node).entries c.in_ok-entries.entries (option_copied c.leaf.result.1) c.in_ok-next.next c.requires.sound c.requires.long c.requires.long_cuts
-    c.leaf.ensures c.in_ok-entries.ensures c.in_ok-next.ensures
+    c.leaf.ensures.leaf c.in_ok-entries.ensures c.in_ok-next.ensures

@@ -5,7 +5,7 @@ use Rattle.rv_records.specs.Pages.{rows_at}
 use Rattle.rv_index.specs.Index.{tree_of}
 use Rattle.rv_store.specs.Indexes.{IsSameIndex}
 use Rattle.rv_store.specs.Indexing.{tree_through, IsIndexed}
-use Rattle.rv_store.proofs.indexes.index_changes.Given as goal
+use Rattle.rv_store.proofs.indexes.index_part.Given as goal
 
 -- the changes up to a place have been made, and those from it on make of the tree what all make of the old one
 abbrev pub invariant-changes : goal.invariant-changes

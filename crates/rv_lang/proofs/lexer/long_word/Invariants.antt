@@ -2,7 +2,7 @@ use Rattle.std.proofs.Common.{◌≡◌, ◌∷◌, ◌++◌, length, string_byt
 use Rattle.std.specs.Char.{to_ascii_uppercase}
 use Rattle.rv_lang.specs.Tokens.{is_word_byte, past}
 use Rattle.rv_lang.specs.Lexing.{run}
-use Rattle.rv_lang.proofs.lexer.word.Given as goal
+use Rattle.rv_lang.proofs.lexer.long_word.Given as goal
 
 abbrev pub invariant-letters : goal.invariant-letters
 invariant-letters l = record {

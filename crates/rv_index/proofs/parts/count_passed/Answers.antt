@@ -1,0 +1,12 @@
+use Rattle.std.proofs.Common.{rules}
+use Rattle.std.proofs.lemmas.List.Sorted.{IsPartitionPoint-from_clause}
+use Rattle.std.specs.Option.{option_copied}
+use Rattle.rv_reader.specs.Leaves.{is_passed}
+use Rattle.rv_node.proofs.Parted.{passed_parted, passes_to}
+use Rattle.rv_index.proofs.parts.count_passed.Goals as goal
+
+pub returns-clause-passes : goal.returns-clause-passes
+returns-clause-passes c =
+    let test = is_passed (option_copied c.args.from) c.args.range.now in
+    let at = IsPartitionPoint-from_clause test c.args.cuts.now c.partition_point.result c.partition_point.ensures.partitioned (passed_parted c.args.range.now (option_copied c.args.from) c.args.cuts.now c.requires.ascend c.requires.long) (λ a r f k. search rules) in
+    passes_to test c.args.cuts.now c.partition_point.result c.partition_point.ensures.bound at.0 at.1

@@ -1,0 +1,136 @@
+-- Searches by halves among entries that ascend.
+use Rattle.std.proofs.Common.{◌≡◌, ℕ, zero, suc, ◌+◌, ◌≤◌, List, [], ◌∷◌, Bool, true, false, not, refl, ap, sym, ◌∙◌, inl, inr, subst, arith, length, filter, take, drop, Option, Some, None}
+use Rattle.std.proofs.lemmas.Bool.{cases_Bool}
+use Rattle.std.specs.List.{list_all, AllWithin}
+use Rattle.std.specs.List.Sorted.{IsPartitionedBy}
+use Rattle.rv_value.specs.declared.record.IndexEntry.{IndexEntry}
+use Rattle.rv_value.specs.declared.range.Range.{Range}
+use Rattle.rv_value.specs.Ranges.{place}
+use Rattle.rv_rows.specs.Rising.{Rising}
+use Rattle.rv_rows.proofs.Cuts.{partitioned}
+use Rattle.rv_rows.proofs.Filters.{both}
+use Rattle.rv_reader.specs.Entries.{AreLong, Ascend, comes_before}
+use Rattle.rv_reader.specs.Leaves.{after_side, is_passed}
+use Rattle.rv_reader.proofs.Chunks.{turned_true}
+use Rattle.rv_reader.proofs.Orders.{key_not, one_way, order}
+use Rattle.rv_reader.proofs.Sides.{after_along, before_along}
+use Rattle.rv_node.specs.Children.{PassesTo, first_child, is_before, is_not_after, last_child, last_place}
+use Rattle.rv_node.specs.Ranks.{any, is_long}
+use Rattle.rv_node.specs.Trees.{up_to}
+use Rattle.rv_node.proofs.Orders.{lt_trans}
+
+-- a place up to which a test holds and from which it fails
+pub passes_to : {X : Type 0} (p : X → Bool) (xs : List X) (i : ℕ) → i ≤ length xs → AllWithin (λ y. p y ≡ true) xs 0 i → AllWithin (λ y. p y ≡ false) xs i (length xs) → PassesTo p i xs
+passes_to p [] i h front back = tt
+passes_to p (x ∷ xs) zero h front back =
+    (back 0 x (omega arith) (omega arith), passes_to p xs zero (omega arith) (λ k d l u. absurd (omega arith)) (λ k d l u. back (suc k) d (omega arith) (omega arith)))
+passes_to p (x ∷ xs) (suc i) h front back =
+    (front 0 x (omega arith) (omega arith), passes_to p xs i (omega arith) (λ k d l u. front (suc k) d (omega arith) (omega arith)) (λ k d l u. back (suc k) d (omega arith) (omega arith)))
+
+-- Tests that, once they fail, fail of all that comes after.
+
+pub before_goes : (range : Range) (x y : IndexEntry) → comes_before x y ≡ true → is_long range x ≡ true → is_long range y ≡ true → is_before range y ≡ true → is_before range x ≡ true
+before_goes range x y h lx ly p = before_along range x.key y.key (key_not x y (one_way x y h)) lx ly p
+
+pub before_parted : (range : Range) (es : List IndexEntry) → Ascend es → AreLong range es → IsPartitionedBy (is_before range) es
+before_parted range es ascend long = partitioned comes_before (is_long range) (is_before range) (before_goes range) es ascend long
+
+not_after_goes : (range : Range) (x y : IndexEntry) → comes_before x y ≡ true → is_long range x ≡ true → is_long range y ≡ true → is_not_after range y ≡ true → is_not_after range x ≡ true
+not_after_goes range x y h lx ly p = elim (cases_Bool (after_side (place range x.key))) [
+  | inl t ↦
+      let after = after_along range x.key y.key (key_not x y (one_way x y h)) lx ly t in
+      let no : not (after_side (place range y.key)) ≡ false = rw after refl in
+      cc
+  | inr f ↦ rw f refl
+]
+
+pub not_after_parted : (range : Range) (es : List IndexEntry) → Ascend es → AreLong range es → IsPartitionedBy (is_not_after range) es
+not_after_parted range es ascend long = partitioned comes_before (is_long range) (is_not_after range) (not_after_goes range) es ascend long
+
+up_to_goes : (e x y : IndexEntry) → comes_before x y ≡ true → up_to comes_before e y ≡ true → up_to comes_before e x ≡ true
+up_to_goes e x y h p = rw (order.chain e y x (turned_true (comes_before e y) p) (one_way x y h)) refl
+
+passed_goes : (range : Range) (start : Option IndexEntry) (x y : IndexEntry) → comes_before x y ≡ true → is_long range x ≡ true → is_long range y ≡ true → is_passed start range y ≡ true → is_passed start range x ≡ true
+passed_goes range None x y h lx ly p = before_goes range x y h lx ly p
+passed_goes range (Some s) x y h lx ly p = up_to_goes s x y h p
+
+pub passed_parted : (range : Range) (start : Option IndexEntry) (es : List IndexEntry) → Ascend es → AreLong range es → IsPartitionedBy (is_passed start range) es
+passed_parted range start es ascend long = partitioned comes_before (is_long range) (is_passed start range) (passed_goes range start) es ascend long
+
+pub all_any : (es : List IndexEntry) → list_all any es ≡ true
+all_any [] = refl
+all_any (e ∷ es) = all_any es
+
+pub up_to_parted : (e : IndexEntry) (es : List IndexEntry) → Ascend es → IsPartitionedBy (up_to comes_before e) es
+up_to_parted e es ascend = partitioned comes_before any (up_to comes_before e) (λ x y h a b p. up_to_goes e x y h p) es ascend (all_any es)
+
+pub less_parted : (e : IndexEntry) (es : List IndexEntry) → Ascend es → IsPartitionedBy (λ (x : IndexEntry). comes_before x e) es
+less_parted e es ascend = partitioned comes_before any (λ (x : IndexEntry). comes_before x e) (λ x y h a b p. lt_trans comes_before order x y e h p) es ascend (all_any es)
+
+-- What so many items that pass are.
+
+none_last : {X : Type 0} (p : X → Bool) (xs : List X) (n b : ℕ) → PassesTo p zero xs → last_place p n b xs ≡ b
+none_last p [] n b h = refl
+none_last p (x ∷ xs) n b h = rw h.0 (none_last p xs (n + 1) b h.1)
+
+pub last_passed : {X : Type 0} (p : X → Bool) (xs : List X) (k n b : ℕ) → PassesTo p k xs → k ≤ length xs → b + 1 ≡ n → last_place p n b xs ≡ b + k
+last_passed p xs zero n b h l e = let same : b ≡ b + 0 = omega arith in none_last p xs n b h ∙ same
+last_passed p [] (suc k) n b h l e = absurd (omega arith)
+last_passed p (x ∷ xs) (suc k) n b h l e = let same : n + k ≡ b + suc k = omega (arith, e) in rw h.0 (last_passed p xs k (n + 1) n h.1 (omega arith) refl ∙ same)
+
+pub passed_none : {X : Type 0} (p : X → Bool) (xs : List X) → PassesTo p zero xs → (filter p xs ≡ []) × (filter (λ x. not (p x)) xs ≡ xs)
+passed_none p [] h = (refl, refl)
+passed_none p (x ∷ xs) h = let rest = passed_none p xs h.1 in (rw h.0 rest.0, rw h.0 (ap (λ ys. x ∷ ys) rest.1))
+
+-- those that pass stand in front
+pub passed_parts : {X : Type 0} (p : X → Bool) (xs : List X) (k : ℕ) → PassesTo p k xs → k ≤ length xs → (take k xs ≡ filter p xs) × (drop k xs ≡ filter (λ x. not (p x)) xs)
+passed_parts p xs zero h l = let none = passed_none p xs h in (sym none.0, sym none.1)
+passed_parts p [] (suc k) h l = absurd (omega arith)
+passed_parts p (x ∷ xs) (suc k) h l = let rest = passed_parts p xs k h.1 (omega arith) in (rw h.0 (ap (λ ys. x ∷ ys) rest.0), rw h.0 rest.1)
+
+-- The children of a range.
+
+pub found_last : (range : Range) (lows behind : List IndexEntry) (k : ℕ) → behind ≡ drop 1 lows → PassesTo (is_not_after range) k behind → k ≤ length behind → k ≡ last_child range lows
+found_last range lows behind k is passes bound = let same : k ≡ 0 + k = omega arith in same ∙ sym (last_passed (is_not_after range) behind k 1 0 passes bound refl) ∙ ap (last_place (is_not_after range) 1 0) is
+
+pub found_first : (range : Range) (lows behind front : List IndexEntry) (k last : ℕ) → behind ≡ drop 1 lows → front ≡ take last behind → last ≡ last_child range lows → PassesTo (is_before range) k front → k ≤ length front → k ≡ first_child range lows
+found_first range lows behind front k last is cut at passes bound =
+    let front_is : front ≡ take (last_child range lows) (drop 1 lows) = cut ∙ ap (λ (n : ℕ). take n behind) at ∙ ap (take (last_child range lows)) is in
+    let same : k ≡ 0 + k = omega arith in
+    same ∙ sym (last_passed (is_before range) front k 1 0 passes bound refl) ∙ ap (last_place (is_before range) 1 0) front_is
+
+-- A part in front.
+
+all_take : {X : Type 0} (q : X → Bool) (n : ℕ) (xs : List X) → list_all q xs ≡ true → list_all q (take n xs) ≡ true
+all_take q zero xs all = refl
+all_take q (suc n) [] all = refl
+all_take q (suc n) (x ∷ xs) all = let parts = both (q x) (list_all q xs) all in rw parts.0 (all_take q n xs parts.1)
+
+rising_take : {X : Type 0} (before : X → X → Bool) (n : ℕ) (xs : List X) → Rising before xs → Rising before (take n xs)
+rising_take before zero xs rise = tt
+rising_take before (suc n) [] rise = tt
+rising_take before (suc n) (x ∷ xs) rise = (all_take (before x) n xs rise.0, rising_take before n xs rise.1)
+
+pub ascend_front : (n : ℕ) (lows behind front : List IndexEntry) → behind ≡ drop 1 lows → front ≡ take n behind → Ascend (drop 1 lows) → Ascend front
+ascend_front n lows behind front is cut ascend = subst Ascend (sym (cut ∙ ap (take n) is)) (rising_take comes_before n (drop 1 lows) ascend)
+
+pub long_front : (range : Range) (n : ℕ) (lows behind front : List IndexEntry) → behind ≡ drop 1 lows → front ≡ take n behind → AreLong range (drop 1 lows) → AreLong range front
+long_front range n lows behind front is cut long = subst (AreLong range) (sym (cut ∙ ap (take n) is)) (all_take (is_long range) n (drop 1 lows) long)
+
+-- A part behind.
+
+all_drop : {X : Type 0} (q : X → Bool) (n : ℕ) (xs : List X) → list_all q xs ≡ true → list_all q (drop n xs) ≡ true
+all_drop q zero xs all = all
+all_drop q (suc n) [] all = refl
+all_drop q (suc n) (x ∷ xs) all = all_drop q n xs (both (q x) (list_all q xs) all).1
+
+rising_drop : {X : Type 0} (before : X → X → Bool) (n : ℕ) (xs : List X) → Rising before xs → Rising before (drop n xs)
+rising_drop before zero xs rise = rise
+rising_drop before (suc n) [] rise = tt
+rising_drop before (suc n) (x ∷ xs) rise = rising_drop before n xs rise.1
+
+pub ascend_behind : (n : ℕ) (es rest : List IndexEntry) → rest ≡ drop n es → Ascend es → Ascend rest
+ascend_behind n es rest is ascend = subst Ascend (sym is) (rising_drop comes_before n es ascend)
+
+pub long_behind : (range : Range) (n : ℕ) (es rest : List IndexEntry) → rest ≡ drop n es → AreLong range es → AreLong range rest
+long_behind range n es rest is long = subst (AreLong range) (sym is) (all_drop (is_long range) n es long)

@@ -1,0 +1,68 @@
+-- The changes of a table among those of a commit.
+use Rattle.std.proofs.Common.{◌≡◌, ℕ, List, [], ◌∷◌, Bool, true, not, ◌&&◌, ◌==◌, refl, ap, sym, ◌∙◌, inl, inr, subst, arith, filter, take, drop, nat_le, nat_lt}
+use Rattle.std.proofs.lemmas.Bool.{cases_Bool}
+use Rattle.std.proofs.lemmas.Bool.Decides.{nat_tests}
+use Rattle.std.specs.List.{list_all}
+use Rattle.std.specs.List.Sorted.{IsPartitionedBy}
+use Rattle.rv_value.specs.declared.record.Record.{Record}
+use Rattle.rv_rows.specs.declared.changes.Change.{Change}
+use Rattle.rv_rows.specs.Changes.{Rise, is_before, rows_with_changes}
+use Rattle.rv_rows.proofs.Cuts.{partitioned}
+use Rattle.rv_rows.proofs.Filters.{filter_same, filter_twice}
+use Rattle.rv_rows.proofs.Puts.{rising_filter}
+use Rattle.rv_node.specs.Trees.{Whole}
+use Rattle.rv_value.specs.declared.record.IndexEntry.{IndexEntry}
+use Rattle.rv_store.specs.Indexing.{tree_through}
+
+abbrev pub own : ℕ → Change → Bool
+own table c = c.table == table
+
+abbrev any : Change → Bool
+any c = true
+
+all_any : (cs : List Change) → list_all any cs ≡ true
+all_any [] = refl
+all_any (c ∷ cs) = all_any cs
+
+before_goes : (table : ℕ) (c d : Change) → is_before c d ≡ true → nat_lt d.table table ≡ true → nat_lt c.table table ≡ true
+before_goes table c d h k = grind (arith, nat_tests)
+
+pub before_parted : (table : ℕ) (cs : List Change) → Rise cs → IsPartitionedBy (λ (c : Change). nat_lt c.table table) cs
+before_parted table cs rise = partitioned is_before any (λ (c : Change). nat_lt c.table table) (λ c d h a b k. before_goes table c d h k) cs rise (all_any cs)
+
+up_to_goes : (table : ℕ) (c d : Change) → is_before c d ≡ true → nat_le d.table table ≡ true → nat_le c.table table ≡ true
+up_to_goes table c d h k = grind (arith, nat_tests)
+
+pub up_to_parted : (table : ℕ) (cs : List Change) → Rise cs → IsPartitionedBy (λ (c : Change). nat_le c.table table) cs
+up_to_parted table cs rise = partitioned is_before any (λ (c : Change). nat_le c.table table) (λ c d h a b k. up_to_goes table c d h k) cs rise (all_any cs)
+
+pub rise_behind : (table : ℕ) (cs rest : List Change) (k : ℕ) → Rise cs → rest ≡ drop k cs → drop k cs ≡ filter (λ (c : Change). not (nat_lt c.table table)) cs → Rise rest
+rise_behind table cs rest k rise is back = subst Rise (sym (is ∙ back)) (rising_filter is_before (λ (c : Change). not (nat_lt c.table table)) cs rise)
+
+pub own_is : (table : ℕ) (cs from own_part : List Change) (k n : ℕ) → from ≡ drop k cs → own_part ≡ take n from → drop k cs ≡ filter (λ (c : Change). not (nat_lt c.table table)) cs → take n from ≡ filter (λ (c : Change). nat_le c.table table) from
+    → own_part ≡ filter (own table) cs
+own_is table cs from own_part k n is cut back front =
+    cut ∙ front ∙ ap (filter (λ (c : Change). nat_le c.table table)) (is ∙ back)
+    ∙ filter_twice (λ (c : Change). nat_le c.table table) (λ (c : Change). not (nat_lt c.table table)) cs
+    ∙ filter_same any (λ (c : Change). not (nat_lt c.table table) && nat_le c.table table) (own table) cs (all_any cs) (λ c h. both_is c.table)
+  where
+    both_is : (t : ℕ) → (not (nat_lt t table) && nat_le t table) ≡ (t == table)
+    both_is t = grind (arith, nat_tests)
+
+pub own_rise : (table : ℕ) (cs own_part : List Change) → own_part ≡ filter (own table) cs → Rise cs → Rise own_part
+own_rise table cs own_part is rise = subst Rise (sym is) (rising_filter is_before (own table) cs rise)
+
+-- changes of other tables make nothing of a table's rows, nor of an index of it
+pub own_rows : (table : ℕ) (cs : List Change) (rows : List Record) → rows_with_changes table (filter (own table) cs) rows ≡ rows_with_changes table cs rows
+own_rows table [] rows = refl
+own_rows table (c ∷ cs) rows = elim (cases_Bool (c.table == table)) [
+  | inl here ↦ rw (here, rows_with_changes, here) (own_rows table cs _)
+  | inr other ↦ rw other (own_rows table cs rows)
+]
+
+pub own_tree : (columns : List ℕ) (table : ℕ) (cs : List Change) (rows : List Record) (tree : Whole IndexEntry) → tree_through columns table (filter (own table) cs) rows tree ≡ tree_through columns table cs rows tree
+own_tree columns table [] rows tree = refl
+own_tree columns table (c ∷ cs) rows tree = elim (cases_Bool (c.table == table)) [
+  | inl here ↦ rw (here, here) (own_tree columns table cs _ _)
+  | inr other ↦ rw other (own_tree columns table cs rows tree)
+]

@@ -1,0 +1,65 @@
+-- The changes of a table stand together, from its first one on.
+use Rattle.std.proofs.Common.{◌≡◌, ℕ, List, [], ◌∷◌, ◌++◌, true, false, ◌==◌, nat_lt, refl, ap, sym, ◌∙◌, inl, inr, filter, map, cond, arith}
+use Rattle.std.specs.List.{AllByRecursion, list_all}
+use Rattle.std.proofs.lemmas.Bool.{cases_Bool}
+use Rattle.std.proofs.lemmas.Bool.Decides.{nat_tests}
+use Rattle.rv_value.specs.declared.record.Record.{Record}
+use Rattle.rv_rows.specs.declared.changes.Change.{Change}
+use Rattle.rv_rows.specs.Changes.{Rise, is_before, is_from, rows_with_changes}
+use Rattle.rv_rows.proofs.Filters.{both}
+use Rattle.rv_rows.proofs.Puts.{rising_filter}
+use Rattle.rv_restrict.specs.declared.atom.Atom.{Atom}
+use Rattle.rv_txn.specs.Changing.{LeavesColumns, kept_change}
+
+-- the rows with the changes of a table laid over them, where WHERE keeps what these leave
+abbrev pub laid : List (List Atom) → ℕ → List Change → List Record → List Record
+laid only table cs rows = rows_with_changes table (map (kept_change only) cs) rows
+
+-- changes of tables before it lay nothing
+pub laid_from : (only : List (List Atom)) (table : ℕ) (cs : List Change) (rows : List Record) → laid only table (filter (is_from table) cs) rows ≡ laid only table cs rows
+laid_from only table [] rows = refl
+laid_from only table (c ∷ cs) rows = elim (cases_Bool (nat_lt c.table table)) [
+  | inl low ↦ let other : c.table == table ≡ false = grind (arith, nat_tests) in rw (low, rows_with_changes, other) (laid_from only table cs rows)
+  | inr from ↦ rw from (laid_from only table cs _)
+]
+
+pub laid_begins : (only : List (List Atom)) (table : ℕ) (cs : List Change) (rows all : List Record) → all ≡ [] → all ++ laid only table (filter (is_from table) cs) rows ≡ laid only table cs rows
+laid_begins only table cs rows all none = rw none (laid_from only table cs rows)
+
+pub from_rises : (table : ℕ) (cs : List Change) → Rise cs → Rise (filter (is_from table) cs)
+from_rises table cs rise = rising_filter is_before (is_from table) cs rise
+
+pub from_all : (table : ℕ) (cs : List Change) → list_all (is_from table) (filter (is_from table) cs) ≡ true
+from_all table [] = refl
+from_all table (c ∷ cs) = elim (cases_Bool (nat_lt c.table table)) [
+  | inl low ↦ rw low (from_all table cs)
+  | inr from ↦ rw (from, from) (from_all table cs)
+]
+
+pub from_leave : (only : List (List Atom)) (table : ℕ) (cs : List Change) → AllByRecursion (LeavesColumns table only) cs → AllByRecursion (LeavesColumns table only) (filter (is_from table) cs)
+from_leave only table [] leave = tt
+from_leave only table (c ∷ cs) leave =
+    let rest = from_leave only table cs leave.1 in
+    elim (is_from table c) as (λ b. AllByRecursion (LeavesColumns table only) (cond b (c ∷ filter (is_from table) cs) (filter (is_from table) cs))) [ true ↦ (leave.0, rest) | false ↦ rest ]
+
+-- changes of tables behind it lay nothing
+above_lay_nothing : (only : List (List Atom)) (table : ℕ) (c : Change) (cs : List Change) (rows : List Record) → nat_lt table c.table ≡ true → list_all (is_before c) cs ≡ true → laid only table cs rows ≡ rows
+above_lay_nothing only table c [] rows above all = refl
+above_lay_nothing only table c (d ∷ ds) rows above all =
+    let parts = both (is_before c d) (list_all (is_before c) ds) all in
+    let first = parts.0 in
+    let other : d.table == table ≡ false = grind (arith, nat_tests) in
+    rw (rows_with_changes, other) (above_lay_nothing only table c ds rows above parts.1)
+
+pub others_lay_nothing : (only : List (List Atom)) (table : ℕ) (c : Change) (cs : List Change) (rows : List Record) → Rise (c ∷ cs) → is_from table c ≡ true → c.table == table ≡ false → laid only table (c ∷ cs) rows ≡ rows
+others_lay_nothing only table c cs rows rise from other =
+    let above : nat_lt table c.table ≡ true = grind (arith, nat_tests, from, other) in
+    rw (rows_with_changes, other) (above_lay_nothing only table c cs rows above rise.0)
+
+-- what was put, and the rows left behind it, are all where only such changes are left
+pub laid_at_last : (only : List (List Atom)) (table : ℕ) (c : Change) (cs : List Change) (left rest all rows : List Record) (changes : List Change) → changes ≡ c ∷ cs → Rise changes → list_all (is_from table) changes ≡ true → c.table == table ≡ false → all ≡ left ++ rest → left ++ laid only table changes rest ≡ rows → all ≡ rows
+laid_at_last only table c cs left rest all rows changes is rise from other put same =
+    let rises : Rise (c ∷ cs) = rw is at rise in
+    let begins = both (is_from table c) (list_all (is_from table) cs) (rw is at from) in
+    let nothing : laid only table changes rest ≡ rest = rw is (others_lay_nothing only table c cs rest rises begins.0 other) in
+    put ∙ ap (λ (rs : List Record). left ++ rs) (sym nothing) ∙ same
