@@ -82,7 +82,7 @@ asked_gives : (tables : List TableDef) (indexes : List IndexDef) (s : Statement)
 asked_gives tables indexes (statements.CreateTable name columns) =
     then_any (Among (length tables)) (refuse_if (is_some (table_named tables name)) (refusals.Exists name)) _
     (λ u. then_any (Among (length tables)) (all_differ [] (map (λ (c : List ℕ × RawKind). c.0) columns)) _ (λ v. tt))
-asked_gives tables indexes (statements.CreateIndex name table columns) =
+asked_gives tables indexes (statements.CreateIndex unique name table columns) =
     then_any (Among (length tables)) (table_number tables table) _
     (λ number. then_any (Among (length tables)) (answers (column_number (reach_alone tables table number)) columns) _
     (λ found. then_any (Among (length tables)) (refuse_if (is_some (index_named indexes name)) (refusals.Exists name)) _

@@ -11,11 +11,12 @@ use rv_value::{Duplicate, Text, Value};
 use std::alloc::Global;
 
 /// The words that are no names.
-const KEYWORDS: [&str; 42] = [
+const KEYWORDS: [&str; 43] = [
     "AND", "BEGIN", "BETWEEN", "BIGINT", "BY", "CLOSE", "COMMIT", "CREATE", "DELETE", "FAST",
     "FETCH", "FIRST", "FOR", "FROM", "IN", "INDEX", "INSERT", "INTO", "IS", "NOT", "NULL", "ON",
     "ONLY", "OPEN", "OPTIMIZE", "OR", "ORDER", "READ", "ROLLBACK", "SELECT", "SET", "SHOW",
-    "STARTING", "STEP", "TABLE", "TIME", "TOTAL", "UPDATE", "VALUES", "VARCHAR", "WHERE", "WITH",
+    "STARTING", "STEP", "TABLE", "TIME", "TOTAL", "UNIQUE", "UPDATE", "VALUES", "VARCHAR", "WHERE",
+    "WITH",
 ];
 
 /// Whether a word is one of these.
