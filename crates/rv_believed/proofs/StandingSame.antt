@@ -234,10 +234,10 @@ others_listed session (w ∷ ws) bs = listed_by (transaction_with w (first bs)) 
 passes_later : (session : ℕ) (w : Working) (ws : List Working) (n : ℕ) (o : Option ℕ) (b : Bool) → found b o ≡ Some n → nat_eq w.session session ≡ b
     → ((m : ℕ) → o ≡ Some m → nat_eq (transaction_at ws m).session session ≡ true) → nat_eq (transaction_at (w ∷ ws) n).session session ≡ true
 passes_later session w ws zero o true e p more = p
-passes_later session w ws (suc n) o true e p more = cc
+passes_later session w ws (suc n) o true e p more = let no : 0 ≡ suc n = cc in absurd (omega (arith, no))
 passes_later session w ws n None false e p more = cc
-passes_later session w ws zero (Some m) false e p more = cc
-passes_later session w ws (suc n) (Some m) false e p more = more n cc
+passes_later session w ws zero (Some m) false e p more = let no : suc m ≡ 0 = cc in absurd (omega (arith, no))
+passes_later session w ws (suc n) (Some m) false e p more = let up : suc m ≡ suc n = cc in let same : m ≡ n = omega (arith, up) in more n (ap (λ (k : ℕ). Some k) same)
 
 pub own_passes : (session : ℕ) (ws : List Working) (n : ℕ) → transaction_of ws session ≡ Some n → nat_eq (transaction_at ws n).session session ≡ true
 own_passes session [] n e = let none : None ≡ Some n = sym (position_none (λ (w : Working). w.session == session)) ∙ e in cc

@@ -1,6 +1,6 @@
 ghost use Rattle.std.specs.Prelude.{◌≡◌, ◌<◌, ◌-◌, ◌^◌, Ok, Err, IfOk, IfErr, OnOk, OnErr, IfSome, IsSome, length};
 ghost use Rattle.rv_rows.specs.Changes.{Rise};
-ghost use Rattle.rv_model.specs.Transactions.{began, done, horizon, lowest, no_transactions, transaction_at, transaction_of};
+ghost use Rattle.rv_model.specs.Transactions.{began, done, horizon, lowest, no_transactions, touched_by, transaction_at, transaction_of};
 ghost use Rattle.std.specs.Option.{option_copied, option_map};
 ghost use Rattle.rv_txn.specs.Changing.{CanChange};
 ghost use Rattle.rv_txn.specs.Calls.{IsFault, finished, rolled_back, standing};
@@ -11,7 +11,7 @@ use crate::active::{
 };
 use crate::changing::{changes_of, is_full, met_rows};
 use crate::conflicts::unharmed;
-use crate::touched::{next_row, put_and_take, touch_all};
+use crate::touched::{next_row, put_and_take, touch_all, touched_by};
 use rv_judge::Uncounted;
 use rv_model::{Refusal, Transaction, Transactions, Which};
 use rv_reader::{Reader, Store};
@@ -118,6 +118,20 @@ impl Txns {
             Some(own) => Some(transaction_at(&self.transactions.active, own)),
             None => None,
         }
+    }
+
+    /// The active transactions, in the order in which they began. It takes no memory.
+    pub fn actives(&self) -> &[Transaction]
+        ensures { result.now ≡ self.now.active }
+    {
+        self.transactions.active.as_slice()
+    }
+
+    /// The commit that last wrote a row, 0 where none did. It takes no memory.
+    pub fn written_by(&self, table: u32, row: RowNo) -> u64
+        ensures { result ≡ touched_by self.now.touched table row.0 }
+    {
+        touched_by(&self.transactions.touched, table, row)
     }
 
     /// The number of the row that an INSERT would add. It changes nothing.
