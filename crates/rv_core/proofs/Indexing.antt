@@ -15,7 +15,8 @@ use Rattle.rv_model.specs.declared.state.Cursor.{Cursor}
 use Rattle.rv_model.specs.declared.transactions.Transaction.{Transaction}
 use Rattle.rv_model.specs.declared.transactions.Transactions.{Transactions}
 use Rattle.rv_model.specs.Transactions.{lowest, horizon}
-use Rattle.rv_model.specs.Step.{indexed}
+use Rattle.rv_model.specs.Rivals.{first_equal}
+use Rattle.rv_model.specs.Step.{indexed, rows_differ}
 use Rattle.rv_model.specs.Database.{no_index}
 use Rattle.rv_core.specs.Db.{db_of, stand_of, IsTied}
 use Rattle.rv_core.specs.Doing.{Does}
@@ -92,8 +93,29 @@ indexes_tied old new schema left def txns there room is more tied = rw is (tied_
 pub few_room : (n m : ℕ) → m ≡ n → m ≤ 7 → nat_lt 7 n ≡ false
 few_room n m e h = grind (arith, nat_tests)
 
-pub indexes_does : (old new : Shown) (schema left : Schema) (def : IndexDef) (txns : Transactions) (cursors : List Cursor) → lowest txns.active ≡ None → nat_lt 7 (indexes_over def.table schema.indexes) ≡ false → left ≡ record schema { indexes = schema.indexes ++ def ∷ [] } → Indexed old new def.table def.columns → IsTied old schema txns
+pub indexes_does : (old new : Shown) (schema left : Schema) (def : IndexDef) (txns : Transactions) (cursors : List Cursor) → lowest txns.active ≡ None → nat_lt 7 (indexes_over def.table schema.indexes) ≡ false → left ≡ record schema { indexes = schema.indexes ++ def ∷ [] } → Indexed old new def.table def.columns → rows_differ (db_of old schema txns cursors) def ≡ Ok tt → IsTied old schema txns
     → Does (indexed (db_of old schema txns cursors) def) (stand_of old schema txns cursors) (Created, Created) (stand_of new left txns cursors)
-indexes_does old new schema left def txns cursors idle room is more tied =
+indexes_does old new schema left def txns cursors idle room is more differ tied =
     let stand = stand_indexed old new schema def txns cursors tied more in
-    rw (idle, room, is, stand) (refl, refl, refl)
+    rw (idle, room, differ, is, stand) (refl, refl, refl)
+
+-- whether the rows of the table differ in the index is what is found in the store
+differ_by : (def : IndexDef) (rows : List Record) (o : Option Record) → first_equal def rows ≡ o → None ≡ option_map (λ (r : Record). r.row) o → refuse_at (first_equal def rows) (λ (r : Record). Duplicate r.row View) ≡ Ok tt
+differ_by def rows None e none = ap (λ (o : Option Record). refuse_at o (λ (r : Record). Duplicate r.row View)) e
+differ_by def rows (Some r) e none = cc
+
+equal_by : (def : IndexDef) (rows : List Record) (row : RowNo) (o : Option Record) → first_equal def rows ≡ o → Some row ≡ option_map (λ (r : Record). r.row) o → refuse_at (first_equal def rows) (λ (r : Record). Duplicate r.row View) ≡ Err (Duplicate row View)
+equal_by def rows row None e some = cc
+equal_by def rows row (Some r) e some = let same : row ≡ r.row = cc in ap (λ (o : Option Record). refuse_at o (λ (r : Record). Duplicate r.row View)) e ∙ ap (λ (n : RowNo). Err (Duplicate n View)) (sym same)
+
+pub rows_are_different : (shown : Shown) (schema : Schema) (txns : Transactions) (cursors : List Cursor) (def : IndexDef) → def.table < length schema.tables → None ≡ option_map (λ (r : Record). r.row) (first_equal def (shown.rows def.table shown.newest))
+    → rows_differ (db_of shown schema txns cursors) def ≡ Ok tt
+rows_are_different shown schema txns cursors def there none =
+    ap (λ (rows : List Record). refuse_at (first_equal def rows) (λ (r : Record). Duplicate r.row View)) (image_at shown (length schema.tables) shown.newest def.table there)
+    ∙ differ_by def (shown.rows def.table shown.newest) (first_equal def (shown.rows def.table shown.newest)) refl none
+
+pub rows_are_equal : (shown : Shown) (schema : Schema) (txns : Transactions) (cursors : List Cursor) (def : IndexDef) (row : RowNo) → def.table < length schema.tables → Some row ≡ option_map (λ (r : Record). r.row) (first_equal def (shown.rows def.table shown.newest))
+    → rows_differ (db_of shown schema txns cursors) def ≡ Err (Duplicate row View)
+rows_are_equal shown schema txns cursors def row there some =
+    ap (λ (rows : List Record). refuse_at (first_equal def rows) (λ (r : Record). Duplicate r.row View)) (image_at shown (length schema.tables) shown.newest def.table there)
+    ∙ equal_by def (shown.rows def.table shown.newest) row (first_equal def (shown.rows def.table shown.newest)) refl some
