@@ -1,5 +1,5 @@
 -- CREATE INDEX: what it asks of the store, and what it makes of the database.
-use Rattle.std.proofs.Common.{◌≡◌, ℕ, ◌<◌, ◌≤◌, List, [], ◌∷◌, ◌++◌, refl, ap, ◌∙◌, arith, length, None, Bool, true, false, not, ◌==◌, ◌||◌, ◌&&◌, nat_eq, nat_lt}
+use Rattle.std.proofs.Common.{◌≡◌, ℕ, ◌<◌, ◌≤◌, List, [], ◌∷◌, ◌++◌, refl, ap, sym, ◌∙◌, arith, length, Option, Some, None, Ok, Err, Bool, true, false, not, ◌==◌, ◌||◌, ◌&&◌, nat_eq, nat_lt}
 use Rattle.std.specs.List.{AllByRecursion, IsDistinct, list_any, list_all, slice_index_or}
 use Rattle.std.proofs.Math.Seq.{get_or-append_seam}
 use Rattle.std.proofs.lemmas.Bool.Decides.{nat_tests}
@@ -11,6 +11,12 @@ use Rattle.rv_catalog.specs.Kept.{indexes_over}
 use Rattle.rv_catalog.specs.Schema.{Schema, width}
 use Rattle.rv_reader.specs.Shown.{Shown}
 use Rattle.rv_reader.specs.Storing.{AreColumns, Indexed}
+use Rattle.std.specs.Option.{option_map}
+use Rattle.rv_value.specs.declared.record.Record.{Record}
+use Rattle.rv_value.specs.declared.record.RowNo.{RowNo}
+use Rattle.rv_lang.specs.declared.reply.Refusal.TheVariants.{Duplicate}
+use Rattle.rv_lang.specs.declared.reply.Rival.TheVariants.{View}
+use Rattle.rv_model.specs.Transactions.{refuse_at}
 use Rattle.rv_model.specs.declared.state.Cursor.{Cursor}
 use Rattle.rv_model.specs.declared.transactions.Transaction.{Transaction}
 use Rattle.rv_model.specs.declared.transactions.Transactions.{Transactions}
@@ -22,6 +28,7 @@ use Rattle.rv_core.specs.Db.{db_of, stand_of, IsTied}
 use Rattle.rv_core.specs.Doing.{Does}
 use Rattle.rv_core.proofs.Tied.{none_lowest, tied_indexed}
 use Rattle.rv_core.proofs.Standing.{stand_indexed}
+use Rattle.rv_core.proofs.Images.{image_at}
 
 either_left : (a b : Bool) → (a || b) ≡ false → a ≡ false
 either_left false b h = refl

@@ -1,5 +1,5 @@
 -- What is put into transactions is kept up with in their views, and what is frozen of them.
-use Rattle.std.proofs.Common.{◌≡◌, ℕ, suc, ◌<◌, ◌≤◌, List, [], ◌∷◌, false, not, ◌==◌, Option, Some, None, IfSome, Ok, refl, ap, sym, ◌∙◌, subst, arith, length, map, nat_lt, option_map, filter}
+use Rattle.std.proofs.Common.{◌≡◌, ℕ, suc, ◌<◌, ◌≤◌, List, [], ◌∷◌, false, not, ◌==◌, Option, Some, None, IfSome, Result, Ok, Err, refl, ap, sym, ◌∙◌, subst, arith, length, map, nat_lt, option_map, filter}
 use Rattle.std.specs.Prelude.{slice_get}
 use Rattle.std.specs.List.{AllByRecursion}
 use Rattle.std.proofs.lemmas.Bool.Decides.{nat_tests}
@@ -10,9 +10,11 @@ use Rattle.rv_value.specs.declared.record.Record.{Record}
 use Rattle.rv_value.specs.declared.record.RowNo.{RowNo}
 use Rattle.rv_rows.specs.declared.changes.Change.{Change}
 use Rattle.rv_rows.specs.Changes.{rows_with_changes, with_changes}
+use Rattle.rv_lang.specs.declared.reply.Refusal.{Refusal}
 use Rattle.rv_restrict.specs.declared.atom.Atom.{Atom}
 use Rattle.rv_restrict.specs.Truth.{qualifies}
 use Rattle.rv_catalog.specs.declared.def.IndexDef.{IndexDef}
+use Rattle.rv_catalog.specs.Answers.{◌>>=◌}
 use Rattle.rv_catalog.specs.Schema.{Schema}
 use Rattle.rv_reader.specs.Shown.{Shown, CanRead, IsSnapshot}
 use Rattle.rv_reader.specs.Storing.{IsStored}
@@ -42,6 +44,7 @@ use Rattle.rv_core.proofs.Databases.{own_is}
 use Rattle.rv_core.proofs.Facts.{all_filter, all_map, all_more}
 use Rattle.rv_core.proofs.Standing.{IsRow, base_known, inserted_is, own_within, row_change, rows_same, seen_rows, writer_within}
 use Rattle.rv_core.proofs.Tied.{own_changes}
+use Rattle.rv_core.proofs.Images.{base_at}
 
 -- ---- the session's transaction
 
