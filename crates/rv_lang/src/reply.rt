@@ -60,7 +60,8 @@ pub enum Refusal {
     CursorOpen(Text),
     /// The number is the greatest that is allowed.
     Limit { which: Which, number: u64 },
-    /// A row that equals, in a unique index, one that is written or, at CREATE UNIQUE INDEX, an earlier one.
+    /// A row that equals a written one in a unique index; at CREATE UNIQUE INDEX one that equals
+    /// a lower one.
     Duplicate { row: RowNo, by: Rival },
 }
 

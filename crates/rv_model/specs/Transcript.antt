@@ -58,7 +58,7 @@ limit_word limits.Cursors = codes "cursors"
 limit_word limits.Rows = codes "rows"
 limit_word limits.Pending = codes "pending"
 
--- where a rival is: nothing for one in the transaction's own view, else its commit or its transaction
+-- where a rival is: nothing for one that the transaction sees, else its commit or transaction
 abbrev pub rival_text : Rival → List ℕ
 rival_text rivals.View = []
 rival_text (rivals.Commit commit) = codes " by commit " ++ decimal commit

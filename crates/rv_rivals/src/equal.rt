@@ -1,10 +1,9 @@
 //! Rows that are equal in an index that is to be made.
-ghost use Rattle.std.specs.Prelude.{◌≡◌, ◌≤◌, ◌&&◌, IfOk, find, length, nat_lt};
-ghost use Rattle.std.specs.List.{list_any};
+ghost use Rattle.std.specs.Prelude.{◌≡◌, ◌≤◌, IfOk, find, length};
 ghost use Rattle.std.specs.Option.{option_map};
 ghost use Rattle.rv_reader.specs.Shown.{CanRead};
 ghost use Rattle.rv_rows.specs.Rows.{Ascend};
-ghost use Rattle.rv_model.specs.Rivals.{are_equal, first_equal};
+ghost use Rattle.rv_model.specs.Rivals.{equals_lower, first_equal};
 
 use crate::looking::{has_null, key_of};
 use rv_catalog::IndexDef;
@@ -44,7 +43,7 @@ fn equal_among(
 ) -> Result<Option<RowNo>, NoMemory>
     requires ascend { Ascend rows.now }
     requires few { length columns.now ≤ 4 }
-    ensures { IfOk result (λ row. row ≡ option_map (λ r. r.row) (find (λ r. list_any (λ s. nat_lt s.row.0 r.row.0 && are_equal columns.now s r) rows.now) rows.now)) }
+    ensures { IfOk result (λ row. row ≡ option_map (λ r. r.row) (find (equals_lower columns.now rows.now) rows.now)) }
 {
     let mut seen = BTreeSet::new(alloc);
     'rows: for row in rows {
