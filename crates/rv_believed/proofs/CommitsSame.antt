@@ -1,6 +1,7 @@
 -- Bridge: CREATE, BEGIN, COMMIT and ROLLBACK come to what the working definitions say.
 use Rattle.std.proofs.Common.{◌≡◌, ℕ, ◌+◌, ◌<◌, List, [], ◌∷◌, ◌++◌, Option, Some, None, Result, Ok, Err, Bool, refl, sym, ap, arith, length, min, nat_lt, slice_get}
 use Rattle.std.specs.List.{AllByRecursion}
+use Rattle.rv_value.specs.declared.record.Record.{Record}
 use Rattle.rv_rows.specs.declared.changes.Change.{Change}
 use Rattle.rv_lang.specs.declared.reply.Refusal.TheVariants.{Active, Busy, Duplicate, Limit, NoTransaction}
 use Rattle.rv_lang.specs.declared.reply.Rival.TheVariants.{View}
