@@ -1,5 +1,6 @@
 -- The range of one key, and the lowest row that has it.
 use Rattle.std.specs.Prelude.{◌≡◌, ℕ, List, Bool, false, true, ◌&&◌, Option, Some, filter, find, length, map}
+use Rattle.std.specs.List.{list_any}
 use Rattle.std.specs.Option.{option_map}
 use Rattle.rv_value.specs.declared.value.Value.{Value}
 use Rattle.rv_value.specs.declared.record.Record.{Record}
@@ -7,12 +8,16 @@ use Rattle.rv_value.specs.declared.record.RowNo.{RowNo}
 use Rattle.rv_value.specs.declared.record.IndexEntry.{IndexEntry}
 use Rattle.rv_value.specs.declared.range.Range.{Range}
 use Rattle.rv_rows.specs.Rows.{Ascend}
-use Rattle.rv_reader.specs.Entries.{entries_of, entry_of, run}
+use Rattle.rv_reader.specs.Entries.{entries_of, entry_of, is_in, run}
 use Rattle.rv_model.specs.Rivals.{has_key}
 
 -- the keys that are equal to one: both bounds closed
 abbrev pub point : List Value → Range
 point key = record { low = Some (record { key = key; closed = true }); high = Some (record { key = key; closed = true }); starts = false }
+
+-- whether one of some entries is in the range of a key
+abbrev pub has_entry : List Value → List IndexEntry → Bool
+has_entry key entries = list_any (is_in (point key)) entries
 
 -- of entries the first whose row passes a test
 abbrev pub first_row : (ℕ → Bool) → List IndexEntry → Option RowNo

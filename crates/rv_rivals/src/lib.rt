@@ -5,6 +5,7 @@
 pub mod equal;
 pub mod laws;
 pub mod looking;
+mod near;
 pub mod rivals;
 pub mod rows;
 pub mod statement;

@@ -1,11 +1,20 @@
 //! The rows that a statement writes: which they are, and their entries in a unique index.
-ghost use Rattle.std.specs.Prelude.{◌≡◌, ◌≤◌, ℕ, IfOk, length};
+ghost use Rattle.std.specs.Prelude.{◌≡◌, ◌≤◌, ℕ, List, None, Some, IfOk, OnOk, length};
+ghost use Rattle.std.specs.List.{AllByRecursion};
+ghost use Rattle.rv_value.specs.declared.record.Record.{Record as OneRecord};
+ghost use Rattle.rv_rows.specs.declared.changes.Change.{Change as OneChange};
 ghost use Rattle.rv_rows.specs.Changes.{Rise, has_change};
-ghost use Rattle.rv_reader.specs.Entries.{Ascend};
-ghost use Rattle.rv_rivals.specs.Lookups.{entries_written, is_under_key, lower_row, other_with};
+ghost use Rattle.rv_rows.specs.Rows.{Ascend};
+ghost use Rattle.rv_reader.specs.Entries.{entries_of as entries_are};
+ghost use Rattle.rv_overlay.specs.Keeping.{entry_at, with_some};
+ghost use Rattle.rv_overlay.specs.Rows.{changed_row};
+ghost use Rattle.rv_rivals.specs.Lookups.{AreEntries, entries_written, lower_row, other_than};
+ghost use Rattle.rv_rivals.specs.Points.{lowest_with};
 
-use crate::looking::key_of;
-use rv_blocks::{Blocks, Front};
+use crate::looking::{first_of, key_of, point};
+use crate::rows::But;
+use rv_blocks::Blocks;
+use rv_overlay::fronts::span_of;
 use rv_rows::{Change, Changes};
 use rv_value::{IndexEntry, Key, NoMemory, RowNo};
 use std::alloc::Global;
@@ -25,67 +34,63 @@ pub fn rows_of(alloc: Global, new: &[Change]) -> Result<Changes, NoMemory>
     Ok(rows)
 }
 
+/// Puts the entry of what a change writes in its place, where it writes a row.
+fn put_entry(
+    alloc: Global,
+    entries: &mut Blocks<IndexEntry>,
+    columns: &[u32],
+    change: &Change,
+) -> Result<(), NoMemory>
+    requires some { 1 ≤ length columns.now }
+    requires few { length columns.now ≤ 4 }
+    ensures { OnOk result (entries.new ≡ with_some (entry_at columns.now (changed_row (Some change.now) None)) entries.old) }
+{
+    match &change.values {
+        None => {}
+        Some(values) => {
+            let key = key_of(alloc, values.as_slice(), columns)?;
+            entries.put(IndexEntry {
+                key,
+                row: change.row,
+            })?;
+        }
+    }
+    Ok(())
+}
+
 /// The entries in an index of the rows that a statement writes.
 pub fn entries_of(
     alloc: Global,
     columns: &[u32],
-    table: u32,
     new: &[Change],
 ) -> Result<Blocks<IndexEntry>, NoMemory>
-    requires rise { Rise new.now }
+    requires some { 1 ≤ length columns.now }
     requires few { length columns.now ≤ 4 }
-    ensures { IfOk result (λ entries. entries ≡ entries_written columns.now table new.now) }
+    requires rise { Rise new.now }
+    ensures { IfOk result (λ entries. (table : ℕ) → AllByRecursion (λ (c : OneChange). c.table ≡ table) new.now → entries ≡ entries_written columns.now table new.now) }
 {
     let mut entries = Blocks::new(alloc);
     'changes: for change in new {
-        match &change.values {
-            None => {}
-            Some(values) => {
-                if change.table == table {
-                    entries.put(IndexEntry {
-                        key: key_of(alloc, values.as_slice(), columns)?,
-                        row: change.row,
-                    })?;
-                }
-            }
-        }
+        put_entry(alloc, &mut entries, columns, change)?;
     }
     Ok(entries)
 }
 
-/// The entries before those of a key.
-struct UnderKey<'a> {
-    key: &'a Key,
-}
-
-impl<'a> Front<IndexEntry> for UnderKey<'a> {
-    ghost passes = { λ t e. is_under_key t.key.now e };
-
-    fn passes(&self, entry: &IndexEntry) -> bool {
-        entry.key < *self.key
-    }
-}
-
-/// The row of the entry of a rank, where there is one and it has a key.
-fn row_at(entries: &Blocks<IndexEntry>, rank: usize, key: &Key) -> Option<RowNo> {
-    if rank >= entries.len() {
-        return None;
-    }
-    let entry = entries.get(rank);
-    if entry.key == *key { Some(entry.row) } else { None }
-}
-
-/// Of a statement's entries the first that has the key of one of its rows and is of another row. It takes logarithmic time.
-pub fn other_with(entries: &Blocks<IndexEntry>, key: &Key, row: RowNo) -> Option<RowNo>
-    requires { Ascend entries.now }
-    ensures { result ≡ other_with key.now row.0 entries.now }
+/// Of the rows that a statement writes the lowest other one that has the key of one of them. It takes logarithmic time: of
+/// two entries with the key one at least is of another row.
+pub fn other_with(
+    alloc: Global,
+    entries: &Blocks<IndexEntry>,
+    key: &Key,
+    row: RowNo,
+) -> Result<Option<RowNo>, NoMemory>
+    requires { AreEntries key.now entries.now }
+    ensures { IfOk result (λ found. (columns : List ℕ) (rows : List OneRecord) → Ascend rows → entries.now ≡ entries_are columns rows → length key.now ≡ length columns → found ≡ lowest_with columns key.now (other_than row.0) rows) }
 {
-    let rank = entries.count(&UnderKey { key });
-    match row_at(entries, rank, key) {
-        Some(first) if first != row => Some(first),
-        Some(_own) => row_at(entries, rank + 1, key),
-        None => None,
-    }
+    let range = point(alloc, key)?;
+    let span = span_of(entries, None, None, &range);
+    let run = entries.copy_run(span.at, span.count.min(2))?;
+    Ok(first_of(run.as_slice(), &But { row }))
 }
 
 /// The lower of two rows.
