@@ -73,7 +73,7 @@ owns active session t is = owns_at active session t (transaction_of active sessi
 pub own_at : (active : List Transaction) (session : ℕ) (t : Transaction) (own : Owns active session t) → transaction_of active t.session ≡ Some own.place
 own_at active session t own = ap (transaction_of active) own.owner ∙ own.at
 
-none_is : (active : List Transaction) (o : Option ℕ) → None ≡ option_map (transaction_at active) o → o ≡ None
+pub none_is : (active : List Transaction) (o : Option ℕ) → None ≡ option_map (transaction_at active) o → o ≡ None
 none_is active None e = refl
 none_is active (Some place) e = cc
 
@@ -105,7 +105,7 @@ all_from P [] each = tt
 all_from P (x ∷ xs) each = (each 0 x refl, all_from P xs (λ i y e. each (suc i) y e))
 
 -- the indexes of the schema are those of the store
-are_indexes : (shown : Shown) (schema : Schema) (txns : Transactions) → IsTied shown schema txns → IsStored shown → AreIndexes shown schema.indexes
+pub are_indexes : (shown : Shown) (schema : Schema) (txns : Transactions) → IsTied shown schema txns → IsStored shown → AreIndexes shown schema.indexes
 are_indexes shown schema txns tied stored = record {
   count = tied.indexed;
   over = λ i d is. (has i d is).over ∙ ap (λ (x : IndexDef). x.table) (read_as schema.indexes i d no_index is);
@@ -124,7 +124,7 @@ are_indexes shown schema txns tied stored = record {
     has : (i : ℕ) (d : IndexDef) → slice_get schema.indexes i ≡ Some d → HasIndex shown schema.indexes i
     has i d is = tied.each i (slice_get_within schema.indexes i d is)
 
-can_keep : (shown : Shown) (schema : Schema) (txns : Transactions) (base : ℕ) (c : Change) → IsTied shown schema txns → IsSnapshot shown base → IsOwn shown txns.touched c → CanKeep shown base c
+pub can_keep : (shown : Shown) (schema : Schema) (txns : Transactions) (base : ℕ) (c : Change) → IsTied shown schema txns → IsSnapshot shown base → IsOwn shown txns.touched c → CanKeep shown base c
 can_keep shown schema txns base c tied snap h =
     let taken = h.taken in
     let most = tied.few c.table in

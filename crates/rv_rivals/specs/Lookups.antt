@@ -72,25 +72,19 @@ abbrev pub touching : ℕ → ℕ → List Transaction → List Transaction
 touching table session active =
     filter (λ (t : Transaction). not (t.session == session) && touches table t.changes) active
 
--- each active transaction is the one of its session
-abbrev pub AreApart : List Transaction → Type 0
-AreApart active = (place : ℕ) → place < length active
-    → transaction_of active (transaction_at active place).session ≡ Some place
-
 -- the session's transaction is an active one
 pub record IsPlaced (active : List Transaction) (own : Transaction) : Type 0 where
   pub place : ℕ
   pub found : transaction_of active own.session ≡ Some place
   pub here : transaction_at active place ≡ own
 
--- what is asked: of all active transactions views are kept over the store or may be made, each is alone in its session, and
--- a statement's changes are of rows of one table, the lowest first
+-- what is asked: of all active transactions views are kept over the store or may be made, and a statement's changes are of
+-- rows of one table, the lowest first
 pub record CanLook (shown : Shown) (indexes : List IndexDef) (txns : Transactions) (views : List OwnView)
     (own : Transaction) (table : ℕ) (new : List Change) : Type 0 where
   pub stored : IsStored shown
   pub read : CanRead shown table own.base
   pub placed : IsPlaced txns.active own
-  pub apart : AreApart txns.active
   pub active : AllByRecursion (λ (t : Transaction). CanView shown indexes t []) txns.active
   pub views : AreViews shown txns.active views
   pub rise : Rise new

@@ -4,7 +4,7 @@ ghost use Rattle.std.specs.List.{AllByRecursion};
 ghost use Rattle.rv_rows.specs.Changes.{has_change};
 ghost use Rattle.rv_model.specs.declared.transactions.Transaction.{Transaction as OneTransaction};
 ghost use Rattle.rv_own.specs.Views.{AreOwn, AreViews, CanView, Freezes};
-ghost use Rattle.rv_rivals.specs.Lookups.{AreApart, CanLook, IsPlaced, touching};
+ghost use Rattle.rv_rivals.specs.Lookups.{CanLook, IsPlaced, touching};
 
 use crate::statement::rows_of;
 use rv_catalog::IndexDef;
@@ -70,7 +70,6 @@ fn others_of<'a, S: Store + Reader<Ledger = Uncounted>>(
     session: u8,
     table: u32,
 ) -> Result<Vec<Other<'a>>, NoMemory>
-    requires apart { AreApart txns.now.active }
     requires active { AllByRecursion (λ (t : OneTransaction). CanView (S.shown store.now) indexes.now t []) txns.now.active }
     requires views { AreViews (S.shown store.now) txns.now.active views.old }
     ensures others { IfOk result (λ others. map (λ o. o.transaction.now) others.items ≡ touching table session txns.now.active) }

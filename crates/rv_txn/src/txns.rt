@@ -1,8 +1,9 @@
-ghost use Rattle.std.specs.Prelude.{◌≡◌, ◌<◌, ◌-◌, ◌^◌, Ok, Err, IfOk, IfErr, OnOk, OnErr, IfSome, IsSome, length};
+ghost use Rattle.std.specs.Prelude.{◌≡◌, ◌<◌, ◌-◌, ◌^◌, true, Ok, Err, IfOk, IfErr, OnOk, OnErr, IfSome, IsSome, length};
 ghost use Rattle.rv_rows.specs.Changes.{Rise};
 ghost use Rattle.rv_model.specs.Transactions.{began, done, horizon, lowest, no_transactions, touched_by, transaction_at, transaction_of};
 ghost use Rattle.std.specs.Option.{option_copied, option_map};
 ghost use Rattle.rv_txn.specs.Changing.{CanChange};
+ghost use Rattle.rv_txn.specs.Apart.{are_apart};
 ghost use Rattle.rv_txn.specs.Calls.{IsFault, finished, rolled_back, standing};
 ghost use Rattle.rv_txn.specs.Halves.{changing, inserting, with_new, with_these};
 
@@ -64,11 +65,15 @@ pub struct Txns {
 }
 
 impl Model for Txns {
+    ghost use Rattle.std.specs.Prelude.{◌≡◌, true};
     ghost use Rattle.rv_model.specs.declared.transactions.Transactions.{Transactions};
+    ghost use Rattle.rv_txn.specs.Apart.{are_apart};
 
     ghost Value = { Transactions };
 
     ghost view = { λ t. t.transactions };
+
+    ghost invariant = { λ t. are_apart t.transactions.active ≡ true };
 }
 
 impl Txns {
@@ -87,7 +92,7 @@ impl Txns {
     }
 
     /// BEGIN: the number of a new transaction on a commit.
-    #[tactic(auto, using(rv_value::proofs::Places::put_back, rv_value::proofs::Places::read_as))]
+    #[tactic(auto, using(rv_value::proofs::Places::put_back, rv_value::proofs::Places::read_as, crate::proofs::Apart::apart_more))]
     pub fn begin(&mut self, session: u8, read_only: bool, base: u64) -> Result<u64, TxnFault>
         requires { self.old.next < 2 ^ 64 - 1 }
         ensures ok { IfOk result (λ number. began self.old session read_only base ≡ Ok (number, self.new)) }
@@ -120,9 +125,10 @@ impl Txns {
         }
     }
 
-    /// The active transactions, in the order in which they began. It takes no memory.
+    /// The active transactions, in the order in which they began, each of another session. It takes no memory.
     pub fn actives(&self) -> &[Transaction]
-        ensures { result.now ≡ self.now.active }
+        ensures same { result.now ≡ self.now.active }
+        ensures apart { are_apart result.now ≡ true }
     {
         self.transactions.active.as_slice()
     }
@@ -154,7 +160,7 @@ impl Txns {
     }
 
     /// Puts the row that an INSERT adds to the session's transaction, and takes its number.
-    #[tactic(auto, using(rv_value::proofs::Places::put_back, rv_value::proofs::Places::read_as))]
+    #[tactic(auto, using(rv_value::proofs::Places::put_back, rv_value::proofs::Places::read_as, crate::proofs::Apart::apart_with))]
     pub fn put_new(&mut self, session: u8, change: Change) -> Result<(), NoMemory>
         ensures ok { OnOk result (self.new ≡ with_new self.old (transaction_of self.old.active session) change) }
         ensures err { OnErr result (self.new ≡ self.old) }
@@ -208,7 +214,7 @@ impl Txns {
     }
 
     /// Puts the changes of an UPDATE or DELETE: all, or on `NoMemory` none.
-    #[tactic(auto, using(rv_value::proofs::Places::put_back, rv_value::proofs::Places::read_as))]
+    #[tactic(auto, using(rv_value::proofs::Places::put_back, rv_value::proofs::Places::read_as, crate::proofs::Apart::apart_with))]
     pub fn put_changes(&mut self, session: u8, new: Vec<Change>) -> Result<(), NoMemory>
         ensures ok { OnOk result (self.new ≡ with_these self.old (transaction_of self.old.active session) new.items) }
         ensures err { OnErr result (self.new ≡ self.old) }
@@ -238,7 +244,7 @@ impl Txns {
     }
 
     /// The session's transaction ends, its changes being those of a commit. It takes no memory.
-    #[tactic(auto, using(rv_value::proofs::Places::put_back, rv_value::proofs::Places::read_as))]
+    #[tactic(auto, using(rv_value::proofs::Places::put_back, rv_value::proofs::Places::read_as, crate::proofs::Apart::apart_less))]
     pub fn commit_done(&mut self, session: u8, commit: u64)
         requires { IsSome (transaction_of self.old.active session) }
         ensures { IfSome (transaction_of self.old.active session) (λ own. self.new ≡ done self.old own commit) }
@@ -250,6 +256,7 @@ impl Txns {
     }
 
     /// ROLLBACK. It takes no memory.
+    #[tactic(auto, using(crate::proofs::Apart::apart_less))]
     pub fn rollback(&mut self, session: u8) -> Result<(), Refusal>
         ensures ok { OnOk result (rolled_back self.old session ≡ Ok self.new) }
         ensures fault { IfErr result (λ refusal. rolled_back self.old session ≡ Err refusal) }
