@@ -4,12 +4,14 @@ use Rattle.std.specs.List.{AllByRecursion, IsDistinct, list_any, list_all, slice
 use Rattle.std.proofs.Math.Seq.{get_or-append_seam}
 use Rattle.std.proofs.lemmas.Bool.Decides.{nat_tests}
 use Rattle.std.proofs.lemmas.Map.Keys.{IsDistinct-cons}
-use Rattle.rv_lang.specs.declared.reply.Reply.TheVariants.{Created}
+use Rattle.rv_lang.specs.declared.reply.Reply.{Reply}
+use Rattle.rv_lang.specs.declared.reply.Reply.TheVariants.{Created, Refused}
+use Rattle.rv_lang.specs.declared.reply.Refusal.{Refusal}
 use Rattle.rv_catalog.specs.declared.def.IndexDef.{IndexDef}
 use Rattle.rv_catalog.specs.Fits.{IsNewIndex, all_different, is_column}
 use Rattle.rv_catalog.specs.Kept.{indexes_over}
 use Rattle.rv_catalog.specs.Schema.{Schema, width}
-use Rattle.rv_reader.specs.Shown.{Shown}
+use Rattle.rv_reader.specs.Shown.{Shown, CanRead}
 use Rattle.rv_reader.specs.Storing.{AreColumns, Indexed}
 use Rattle.std.specs.Option.{option_map}
 use Rattle.rv_value.specs.declared.record.Record.{Record}
@@ -18,13 +20,14 @@ use Rattle.rv_lang.specs.declared.reply.Refusal.TheVariants.{Duplicate}
 use Rattle.rv_lang.specs.declared.reply.Rival.TheVariants.{View}
 use Rattle.rv_model.specs.Transactions.{refuse_at}
 use Rattle.rv_model.specs.declared.state.Cursor.{Cursor}
+use Rattle.rv_model.specs.declared.state.State.{State}
 use Rattle.rv_model.specs.declared.transactions.Transaction.{Transaction}
 use Rattle.rv_model.specs.declared.transactions.Transactions.{Transactions}
 use Rattle.rv_model.specs.Transactions.{lowest, horizon}
 use Rattle.rv_model.specs.Rivals.{first_equal}
-use Rattle.rv_model.specs.Step.{indexed, rows_differ}
+use Rattle.rv_model.specs.Step.{Outcome, indexed, reply_of, rows_differ, state_of}
 use Rattle.rv_model.specs.Database.{no_index}
-use Rattle.rv_core.specs.Db.{db_of, stand_of, IsTied}
+use Rattle.rv_core.specs.Db.{Stand, db_of, stand_of, IsTied}
 use Rattle.rv_core.specs.Doing.{Does}
 use Rattle.rv_core.proofs.Tied.{none_lowest, tied_indexed}
 use Rattle.rv_core.proofs.Standing.{stand_indexed}
@@ -83,6 +86,12 @@ index_columns shown schema txns def tied new some = record {
   there = rw (tied.columns def.table new.there) (all_there (width schema.tables def.table) def.columns new.columns);
 }
 
+-- the table can be read at the last commit
+pub newest_read : (shown : Shown) (schema : Schema) (txns : Transactions) (table : ℕ) → IsTied shown schema txns → table < length schema.tables → CanRead shown table shown.newest
+newest_read shown schema txns table tied there =
+    let count = tied.count in
+    record { there = omega (arith, count, there); snapshot = record { kept = tied.standing; known = omega arith } }
+
 -- without a transaction the newest commit is the only snapshot
 pub index_alone : (shown : Shown) (active : List Transaction) → shown.horizon ≡ horizon active shown.newest → lowest active ≡ None → shown.horizon ≡ shown.newest
 index_alone shown active swept idle = swept ∙ ap (λ (ts : List Transaction). horizon ts shown.newest) (none_lowest active idle)
@@ -126,3 +135,11 @@ pub rows_are_equal : (shown : Shown) (schema : Schema) (txns : Transactions) (cu
 rows_are_equal shown schema txns cursors def row there some =
     ap (λ (rows : List Record). refuse_at (first_equal def rows) (λ (r : Record). Duplicate r.row View)) (image_at shown (length schema.tables) shown.newest def.table there)
     ∙ equal_by def (shown.rows def.table shown.newest) row (first_equal def (shown.rows def.table shown.newest)) refl some
+
+-- an index in which two rows are equal is refused
+pub equal_refused : (s : State) (def : IndexDef) (refusal : Refusal) → lowest s.transactions.active ≡ None → nat_lt 7 (indexes_over def.table s.schema.indexes) ≡ false → rows_differ s def ≡ Err refusal → indexed s def ≡ Err refusal
+equal_refused s def refusal idle room equal = rw (idle, room, equal) refl
+
+pub refused_does : (outcome : Outcome) (stand : Stand) (refusal : Refusal) (replies : Reply × Reply) → outcome ≡ Err refusal → (replies.0 ≡ Refused refusal) × (replies.1 ≡ Refused refusal) → Does outcome stand replies stand
+refused_does outcome stand refusal replies is told =
+    (told.1 ∙ sym told.0, told.0 ∙ ap reply_of (sym is), ap (λ (o : Outcome). record stand { db = state_of o stand.db }) (sym is))

@@ -1,10 +1,21 @@
 use Rattle.std.proofs.Common.{◌∙◌, sym}
 use Rattle.rv_catalog.specs.Fits.{IsNewIndex}
 use Rattle.rv_core.proofs.Databases.{idle_sees, indexes_all, indexes_standing, sees_again, stand_again, standing_same}
-use Rattle.rv_core.proofs.Indexing.{few_room, index_alone, index_columns, rows_are_different, rows_are_equal}
-use Rattle.rv_core.specs.Db.{seen}
+use Rattle.rv_core.proofs.Indexing.{equal_refused, few_room, index_alone, index_columns, newest_read, refused_does, rows_are_different, rows_are_equal}
+use Rattle.rv_core.specs.Db.{db_of, seen, stand_of}
+use Rattle.rv_core.proofs.Facts.{if_ok}
 use Rattle.rv_core.proofs.Owning.{views_idle, views_same}
 use Rattle.rv_core.proofs.database.Database.create_index.Goals as goal
+
+pub first_equal-requires-clause-read : goal.first_equal-requires-clause-read
+first_equal-requires-clause-read g c =
+    let new : IsNewIndex c.self.inside.catalog c.args.def = (rw (← c.self.view_is) at c.requires.new) in
+    newest_read (g.S.Reader.shown c.self.inside.store) c.self.inside.catalog c.self.inside.txns c.args.def.table c.self.invariant.standing.tied new.there
+
+pub first_equal-requires-clause-few : goal.first_equal-requires-clause-few
+first_equal-requires-clause-few g c =
+    let new : IsNewIndex c.self.inside.catalog c.args.def = (rw (← c.self.view_is) at c.requires.new) in
+    new.few
 
 pub add_index-requires-clause-columns : goal.add_index-requires-clause-columns
 add_index-requires-clause-columns g c = index_columns (g.S.Reader.shown c.self.inside.store) c.self.inside.catalog c.self.inside.txns c.args.def c.self.invariant.standing.tied (rw (← c.self.view_is) at c.requires.new) c.requires.some
@@ -47,4 +58,8 @@ pub returns-in-Some-row-clause-ok : goal.returns-in-Some-row-clause-ok
 returns-in-Some-row-clause-ok g c =
     let new : IsNewIndex c.self.inside.catalog c.args.def = (rw (← c.self.view_is) at c.requires.new) in
     let shown = g.S.Reader.shown c.self.inside.store in
-    let equal = rows_are_equal shown c.self.inside.catalog c.self.inside.txns (seen shown c.self.inside.cursors) c.args.def c.in-Some-row.row new.there (sym c.in-Some-row.is ∙ c.in-Ok.ensures) in ?
+    let opens = seen shown c.self.inside.cursors in
+    let equal = rows_are_equal shown c.self.inside.catalog c.self.inside.txns opens c.args.def c.in-Some-row.row new.there (sym c.in-Some-row.is ∙ c.in-Ok.ensures) in
+    let room = few_room _ c.count_indexes.result c.count_indexes.ensures c.if-count_indexes-gt7.false in
+    let refusal = equal_refused (db_of shown c.self.inside.catalog c.self.inside.txns opens) c.args.def _ (sym c.active.ensures ∙ c.in_default.is) room equal in
+    rw (← c.self.view_is) (if_ok c.refused.result _ _ (λ replies k. refused_does _ (stand_of shown c.self.inside.catalog c.self.inside.txns opens) _ replies refusal k) c.refused.ensures)
