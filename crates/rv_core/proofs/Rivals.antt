@@ -1,5 +1,5 @@
 -- Rivals are looked for over the store, as the definition looks for them in the database.
-use Rattle.std.proofs.Common.{◌≡◌, ℕ, suc, ◌<◌, List, [], ◌∷◌, true, Option, Some, None, Result, Ok, refl, ap, sym, ◌∙◌, subst, arith, filter, length, map, nat_lt, option_map}
+use Rattle.std.proofs.Common.{◌≡◌, ℕ, ◌<◌, List, [], ◌∷◌, true, Option, None, Result, Ok, refl, ap, sym, ◌∙◌, subst, arith, filter, length, map}
 use Rattle.std.specs.List.{AllByRecursion, list_all}
 use Rattle.std.proofs.lemmas.Bool.Decides.{nat_tests}
 use Rattle.rv_value.specs.declared.value.Value.{Value}
@@ -12,7 +12,6 @@ use Rattle.rv_rows.proofs.Puts.{rising_filter}
 use Rattle.rv_restrict.specs.declared.atom.Atom.{Atom}
 use Rattle.rv_restrict.specs.Truth.{qualifies}
 use Rattle.rv_lang.specs.declared.reply.Refusal.{Refusal}
-use Rattle.rv_catalog.specs.declared.def.IndexDef.{IndexDef}
 use Rattle.rv_catalog.specs.Schema.{Schema}
 use Rattle.rv_reader.specs.Shown.{Shown, CanRead}
 use Rattle.rv_reader.specs.Storing.{IsStored}

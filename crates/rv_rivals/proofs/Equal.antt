@@ -1,18 +1,16 @@
 -- Rows that equal an earlier one.
-use Rattle.std.proofs.Common.{◌≡◌, ℕ, zero, suc, ◌+◌, List, [], ◌∷◌, ◌++◌, Bool, true, false, not, ◌&&◌, ◌||◌, ◌==◌, cond, Option, Some, None, inl, inr, refl, ap, sym, subst, ◌∙◌, find, filter, map, length, take, drop, arith, nat_lt}
+use Rattle.std.proofs.Common.{◌≡◌, ℕ, zero, suc, ◌+◌, List, [], ◌∷◌, ◌++◌, Bool, true, false, not, ◌&&◌, ◌||◌, ◌==◌, cond, Option, Some, inl, inr, refl, ap, sym, subst, ◌∙◌, find, filter, map, length, drop, arith, nat_lt}
 use Rattle.std.specs.Prelude.{slice_get}
 use Rattle.std.proofs.lemmas.Bool.{cases_Bool}
 use Rattle.std.proofs.lemmas.Bool.Decides.{nat_tests}
 use Rattle.std.proofs.lemmas.List.Elements.{filter-append}
 use Rattle.std.specs.List.{list_all, list_any}
-use Rattle.std.specs.Option.{option_map}
 use Rattle.std.specs.Ordering.{is_eq}
 use Rattle.std.specs.Cmp.{tied_itself}
 use Rattle.std.specs.declared.cmp.Ordering.{Ordering}
 use Rattle.std.specs.declared.cmp.Ordering.TheVariants.{Less, Equal, Greater}
 use Rattle.rv_value.specs.declared.value.Value.{Value}
 use Rattle.rv_value.specs.declared.record.Record.{Record}
-use Rattle.rv_value.specs.declared.record.RowNo.{RowNo}
 use Rattle.rv_value.specs.declared.record.IndexEntry.{IndexEntry}
 use Rattle.rv_value.specs.declared.range.Range.{Range}
 use Rattle.rv_value.specs.Order.{value_cmp, values_cmp}
@@ -24,7 +22,7 @@ use Rattle.rv_rows.proofs.Puts.{rising_filter}
 use Rattle.rv_reader.specs.Entries.{comes_before, entries_of, entry_of, is_in, run}
 use Rattle.rv_reader.proofs.Sorting.{lists_same, value_same}
 use Rattle.rv_model.specs.Offers.{same_values}
-use Rattle.rv_model.specs.Rivals.{are_equal, equals_lower, has_key, is_null, key_of}
+use Rattle.rv_model.specs.Rivals.{are_equal, has_key, is_null, key_of}
 use Rattle.rv_rivals.specs.Lookups.{is_whole}
 use Rattle.rv_rivals.specs.Points.{has_entry, point}
 use Rattle.rv_rivals.proofs.Entries.{put_more}

@@ -1,19 +1,18 @@
 -- The first rival of a row is found by look-ups in the three places.
-use Rattle.std.proofs.Common.{◌≡◌, ℕ, List, [], ◌∷◌, ◌++◌, Bool, true, false, not, ◌&&◌, ◌==◌, cond, Option, Some, None, Result, Ok, Err, inl, inr, refl, ap, sym, ◌∙◌, find, filter, map}
+use Rattle.std.proofs.Common.{◌≡◌, ℕ, List, [], ◌∷◌, ◌++◌, Bool, true, false, not, ◌&&◌, ◌==◌, None, inl, inr, refl, ap, ◌∙◌, find, filter, map}
 use Rattle.std.proofs.lemmas.Bool.{cases_Bool}
 use Rattle.std.specs.List.{flat_map, list_any}
 use Rattle.std.specs.Option.{option_map}
 use Rattle.rv_value.specs.declared.value.Value.{Value}
 use Rattle.rv_value.specs.declared.record.Record.{Record}
 use Rattle.rv_value.specs.declared.record.RowNo.{RowNo}
-use Rattle.rv_rows.specs.declared.changes.Change.{Change}
 use Rattle.rv_rows.specs.Changes.{touches}
 use Rattle.rv_lang.specs.declared.reply.Refusal.{Refusal}
 use Rattle.rv_lang.specs.declared.reply.Refusal.TheVariants.{Duplicate}
 use Rattle.rv_lang.specs.declared.reply.Rival.{Rival}
 use Rattle.rv_lang.specs.declared.reply.Rival.TheVariants.{Commit, Txn, View}
 use Rattle.rv_model.specs.declared.transactions.Transaction.{Transaction}
-use Rattle.rv_model.specs.Rivals.{Neighbour, are_equal, has_key, is_null, is_rival, key_of, placed, rows_left, rows_written, written_by_other}
+use Rattle.rv_model.specs.Rivals.{Neighbour, has_key, is_null, is_rival, key_of, placed, rows_written, written_by_other}
 use Rattle.rv_model.specs.Step.{others}
 use Rattle.rv_rivals.specs.Lookups.{first_rival, first_some, other_than, shown_at, touching, written_first}
 use Rattle.rv_rivals.specs.Points.{lowest_with}

@@ -1,5 +1,5 @@
 -- The range of a key.
-use Rattle.std.proofs.Common.{◌≡◌, ℕ, suc, ◌<◌, List, [], ◌∷◌, Bool, true, false, not, ◌&&◌, cond, inl, inr, refl, ap, sym, subst, ◌∙◌, filter, map, length, arith, nat_lt}
+use Rattle.std.proofs.Common.{◌≡◌, ℕ, suc, List, [], ◌∷◌, Bool, true, false, not, cond, inl, inr, refl, ap, sym, ◌∙◌, filter, map, length, arith, nat_lt}
 use Rattle.std.proofs.lemmas.Bool.{cases_Bool}
 use Rattle.std.proofs.lemmas.Bool.Decides.{nat_tests}
 use Rattle.std.specs.List.{list_all}
@@ -9,7 +9,6 @@ use Rattle.std.specs.declared.cmp.Ordering.TheVariants.{Less, Equal, Greater}
 use Rattle.rv_value.specs.declared.value.Value.{Value}
 use Rattle.rv_value.specs.declared.record.Record.{Record}
 use Rattle.rv_value.specs.declared.record.IndexEntry.{IndexEntry}
-use Rattle.rv_value.specs.Entries.{entry_cmp}
 use Rattle.rv_value.specs.Order.{prefix_cmp, value_cmp, values_cmp}
 use Rattle.rv_value.specs.Ranges.{falls_under, goes_over, in_side, place}
 use Rattle.rv_rows.specs.Rows as rows_by_number

@@ -1,10 +1,8 @@
 -- What a reader tells of an index over the table that a statement writes: the store, and the store under a view.
-use Rattle.std.proofs.Common.{◌≡◌, ℕ, zero, suc, ◌<◌, List, [], ◌∷◌, ◌++◌, Bool, true, false, cond, Option, Some, None, refl, ap, sym, subst, ◌∙◌, filter, length, arith, nat_eq}
+use Rattle.std.proofs.Common.{◌≡◌, ℕ, zero, suc, ◌<◌, List, [], ◌∷◌, ◌++◌, Bool, true, false, cond, Option, Some, None, ap, sym, subst, ◌∙◌, filter, length, arith, nat_eq}
 use Rattle.std.proofs.lemmas.Bool.Decides.{nat_tests}
 use Rattle.std.specs.Prelude.{slice_get}
-use Rattle.rv_value.specs.declared.record.Record.{Record}
 use Rattle.rv_value.specs.declared.record.IndexEntry.{IndexEntry}
-use Rattle.rv_rows.specs.declared.changes.Change.{Change}
 use Rattle.rv_rows.specs.Changes.{rows_with_changes}
 use Rattle.rv_catalog.specs.declared.def.IndexDef.{IndexDef}
 use Rattle.rv_reader.specs.Entries.{comes_before, entries_of}

@@ -1,4 +1,4 @@
-use Rattle.std.proofs.Common.{◌∙◌, subst, sym}
+use Rattle.std.proofs.Common.{subst, sym}
 use Rattle.rv_reader.specs.Entries.{AreLong, Ascend}
 use Rattle.rv_reader.proofs.Sorting.{entries_ascend}
 use Rattle.rv_rivals.proofs.Equal.{counted_any}
