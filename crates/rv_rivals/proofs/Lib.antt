@@ -6,3 +6,4 @@ pub mod Places
 pub mod Points
 pub mod Rows
 pub mod Telling
+pub mod Testing

@@ -1,20 +1,26 @@
 -- The first rival of a row is found by look-ups in the three places.
-use Rattle.std.proofs.Common.{◌≡◌, ℕ, List, [], ◌∷◌, ◌++◌, Bool, true, false, not, ◌&&◌, ◌==◌, None, inl, inr, refl, ap, ◌∙◌, find, filter, map}
+use Rattle.std.proofs.Common.{◌≡◌, ℕ, List, [], ◌∷◌, ◌++◌, Bool, true, false, not, ◌&&◌, ◌==◌, Option, Some, None, Result, Ok, inl, inr, refl, ap, sym, ◌∙◌, find, filter, map}
 use Rattle.std.proofs.lemmas.Bool.{cases_Bool}
 use Rattle.std.specs.List.{flat_map, list_any}
 use Rattle.std.specs.Option.{option_map}
 use Rattle.rv_value.specs.declared.value.Value.{Value}
 use Rattle.rv_value.specs.declared.record.Record.{Record}
 use Rattle.rv_value.specs.declared.record.RowNo.{RowNo}
-use Rattle.rv_rows.specs.Changes.{touches}
+use Rattle.rv_rows.specs.declared.changes.Change.{Change}
+use Rattle.rv_rows.specs.Changes.{rows_with_changes, touches, with_changes}
 use Rattle.rv_lang.specs.declared.reply.Refusal.{Refusal}
 use Rattle.rv_lang.specs.declared.reply.Refusal.TheVariants.{Duplicate}
 use Rattle.rv_lang.specs.declared.reply.Rival.{Rival}
 use Rattle.rv_lang.specs.declared.reply.Rival.TheVariants.{Commit, Txn, View}
+use Rattle.rv_catalog.specs.declared.def.IndexDef.{IndexDef}
+use Rattle.rv_catalog.specs.Answers.{◌>>=◌, all_pass}
+use Rattle.rv_reader.specs.Shown.{Shown}
 use Rattle.rv_model.specs.declared.transactions.Transaction.{Transaction}
-use Rattle.rv_model.specs.Rivals.{Neighbour, has_key, is_null, is_rival, key_of, placed, rows_written, written_by_other}
+use Rattle.rv_model.specs.declared.transactions.Transactions.{Transactions}
+use Rattle.rv_model.specs.Rivals.{Neighbour, all_alone, alone, has_key, is_null, is_rival, key_of, placed, rows_left, rows_written, written_by_other}
 use Rattle.rv_model.specs.Step.{others}
-use Rattle.rv_rivals.specs.Lookups.{first_rival, first_some, other_than, shown_at, touching, written_first}
+use Rattle.rv_model.specs.Transactions.{refuse_at, touched_by}
+use Rattle.rv_rivals.specs.Lookups.{all_none, first_equal_to, first_rival, first_some, neighbours_in, other_than, shown_at, touching, written_first}
 use Rattle.rv_rivals.specs.Points.{lowest_with}
 use Rattle.rv_rivals.proofs.Finding.{find_same}
 use Rattle.rv_rivals.proofs.Rows.{none_written}
@@ -104,3 +110,42 @@ first_found columns r table session seen left written_by active whole =
     ∙ ap (λ o. first_some o (option_map shown (find p theirs))) (in_place columns r (λ row. Commit (written_by row.0)) left whole)
     ∙ ap (first_some (shown_at (λ row. Commit (written_by row.0)) (lowest_with columns (key_of columns r.values) (other_than r.row.0) left)))
     (in_others columns r table (filter (λ (t : Transaction). not (t.session == session)) active) whole ∙ those_touching columns (key_of columns r.values) r.row.0 table session active))
+
+-- What is found by look-ups is what the definition shows, for each row and index.
+
+pub found_is : (shown : Shown) (txns : Transactions) (own : Transaction) (table : ℕ) (new : List Change) (columns : List ℕ) (r : Record)
+    → first_equal_to shown (touched_by txns.touched table) columns (key_of columns r.values) r.row.0 table own new (touching table own.session txns.active) ≡ first_rival columns r (neighbours_in shown txns own table new)
+found_is shown txns own table new columns r = elim (cases_Bool (list_any is_null (key_of columns r.values))) [
+  | inl null ↦ rw null (sym (null_alone columns r (neighbours_in shown txns own table new) null))
+  | inr whole ↦ rw whole (sym (first_found columns r table own.session (rows_with_changes table (with_changes new own.changes) (shown.rows table own.base)) (rows_left table (with_changes new own.changes) (shown.rows table shown.newest)) (touched_by txns.touched table) txns.active whole))
+]
+
+refused_same : {A : Type 0} (o : Option A) (f : A → Refusal) → refuse_at (option_map f o) (λ (refusal : Refusal). refusal) ≡ refuse_at o f
+refused_same None f = refl
+refused_same (Some x) f = refl
+
+all_passing : {A B : Type 0} (f : B → Result (Unit {0}) Refusal) (h : A → Result (Unit {0}) Refusal) (g : A → B) (xs : List A) → ((x : A) → f (g x) ≡ h x) → all_pass f (map g xs) ≡ all_pass h xs
+all_passing f h g [] same = refl
+all_passing f h g (x ∷ xs) same = λ i. same x i >>= (λ passed. all_passing f h g xs same i)
+
+passing_same : {A : Type 0} (f h : A → Result (Unit {0}) Refusal) (xs : List A) → ((x : A) → f x ≡ h x) → all_pass f xs ≡ all_pass h xs
+passing_same f h [] same = refl
+passing_same f h (x ∷ xs) same = λ i. same x i >>= (λ passed. passing_same f h xs same i)
+
+-- THE TEST OF ALL ROWS
+pub all_are : (shown : Shown) (txns : Transactions) (own : Transaction) (table : ℕ) (new : List Change) (indexes : List IndexDef) (rows : List Record)
+    → all_none (λ (r : Record) (columns : List ℕ). first_equal_to shown (touched_by txns.touched table) columns (key_of columns r.values) r.row.0 table own new (touching table own.session txns.active)) (map (λ (d : IndexDef). d.columns) indexes) rows
+    ≡ all_alone indexes (neighbours_in shown txns own table new) rows
+all_are shown txns own table new indexes rows = passing_same _ _ rows (λ r.
+    all_passing _ (alone (neighbours_in shown txns own table new) r) (λ (d : IndexDef). d.columns) indexes (λ d.
+    ap (λ o. refuse_at o (λ (refusal : Refusal). refusal)) (found_is shown txns own table new d.columns r)
+    ∙ refused_same (find (λ (n : Neighbour). is_rival d.columns r n.row) (neighbours_in shown txns own table new)) (λ (n : Neighbour). Duplicate n.row.row n.at)))
+
+-- without a unique index all pass
+pub none_unique : (near : List Neighbour) (rows : List Record) → all_alone [] near rows ≡ Ok tt
+none_unique near [] = refl
+none_unique near (r ∷ rows) = none_unique near rows
+
+pub no_columns : (indexes : List IndexDef) → [] ≡ map (λ (d : IndexDef). d.columns) indexes → indexes ≡ []
+no_columns [] h = refl
+no_columns (d ∷ ds) h = cc

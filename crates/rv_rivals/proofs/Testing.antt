@@ -1,0 +1,56 @@
+-- A row and a place more were tested.
+use Rattle.std.proofs.Common.{◌≡◌, ℕ, zero, suc, List, [], ◌∷◌, ◌++◌, Option, Some, None, Result, Ok, Err, refl, ap, sym, ◌∙◌, drop}
+use Rattle.std.specs.Prelude.{slice_get}
+use Rattle.rv_lang.specs.declared.reply.Refusal.{Refusal}
+use Rattle.rv_lang.specs.declared.reply.Rival.{Rival}
+use Rattle.rv_value.specs.declared.value.Value.{Value}
+use Rattle.rv_value.specs.declared.record.Record.{Record}
+use Rattle.rv_value.specs.declared.record.RowNo.{RowNo}
+use Rattle.rv_rows.specs.declared.changes.Change.{Change}
+use Rattle.rv_rows.specs.Merging.{values_row}
+use Rattle.rv_catalog.specs.Answers.{◌>>=◌, all_pass}
+use Rattle.rv_model.specs.Transactions.{refuse_at}
+use Rattle.rv_rivals.specs.Lookups.{first_some, shown_at}
+use Rattle.rv_rivals.proofs.Entries.{given}
+
+-- The places, one after another.
+
+pub some_here : (at : RowNo → Rival) (row : RowNo) (place : Option RowNo) (rest : Option Refusal) → Some row ≡ place → shown_at at (Some row) ≡ first_some (shown_at at place) rest
+some_here at row place rest is = ap (λ o. first_some (shown_at at o) rest) is
+
+pub none_here : (at : RowNo → Rival) (place : Option RowNo) (rest : Option Refusal) → None ≡ place → rest ≡ first_some (shown_at at place) rest
+none_here at place rest is = ap (λ o. first_some (shown_at at o) rest) is
+
+-- The items of a list, one after another: what is tested so far passes.
+
+pub passes_next : {A : Type 0} (f : A → Result (Unit {0}) Refusal) (xs : List A) (k : ℕ) (x : A) (whole : Result (Unit {0}) Refusal) → slice_get xs k ≡ Some x → f x ≡ Ok tt → all_pass f (drop k xs) ≡ whole → all_pass f (drop (suc k) xs) ≡ whole
+passes_next f [] k x whole is pass h = cc
+passes_next f (y ∷ ys) zero x whole is pass h =
+    let own : y ≡ x = cc in
+    sym (ap (λ r. r >>= (λ passed. all_pass f ys)) (ap f own ∙ pass)) ∙ h
+passes_next f (y ∷ ys) (suc k) x whole is pass h = passes_next f ys k x whole is pass h
+
+pub fails_here : {A : Type 0} (f : A → Result (Unit {0}) Refusal) (xs : List A) (k : ℕ) (x : A) (e : Refusal) (whole : Result (Unit {0}) Refusal) → slice_get xs k ≡ Some x → f x ≡ Err e → all_pass f (drop k xs) ≡ whole → whole ≡ Err e
+fails_here f [] k x e whole is fail h = cc
+fails_here f (y ∷ ys) zero x e whole is fail h =
+    let own : y ≡ x = cc in
+    sym h ∙ ap (λ r. r >>= (λ passed. all_pass f ys)) (ap f own ∙ fail)
+fails_here f (y ∷ ys) (suc k) x e whole is fail h = fails_here f ys k x e whole is fail h
+
+-- The rows that changes write: those of one change, and of those behind it.
+
+one_front : (f : Record → Result (Unit {0}) Refusal) (number : ℕ) (values : Option (List Value)) (rows : List Record) → all_pass f (values_row number values) ≡ Ok tt → all_pass f (values_row number values ++ rows) ≡ all_pass f rows
+one_front f number None rows pass = refl
+one_front f number (Some vs) rows pass = by (f (record { row = record { 0 = number }; values = vs })) pass
+  where
+    by : (r : Result (Unit {0}) Refusal) → (r >>= (λ passed. Ok tt)) ≡ Ok tt → (r >>= (λ passed. all_pass f rows)) ≡ all_pass f rows
+    by (Ok u) h = refl
+    by (Err e) h = cc
+
+pub row_passes : (f : Record → Result (Unit {0}) Refusal) (cs : List Change) (k : ℕ) (c : Change) (whole : Result (Unit {0}) Refusal) → slice_get cs k ≡ Some c → all_pass f (values_row c.row.0 c.values) ≡ Ok tt
+    → all_pass f (given (drop k cs)) ≡ whole → all_pass f (given (drop (suc k) cs)) ≡ whole
+row_passes f [] k c whole is pass h = cc
+row_passes f (d ∷ ds) zero c whole is pass h =
+    let own : d ≡ c = cc in
+    sym (one_front f d.row.0 d.values (given ds) (ap (λ (x : Change). all_pass f (values_row x.row.0 x.values)) own ∙ pass)) ∙ h
+row_passes f (d ∷ ds) (suc k) c whole is pass h = row_passes f ds k c whole is pass h
