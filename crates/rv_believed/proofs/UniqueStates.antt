@@ -10,7 +10,6 @@ use Rattle.std.specs.declared.cmp.Ordering.TheVariants.{Less, Equal, Greater}
 use Rattle.rv_value.specs.declared.value.Value.{Value}
 use Rattle.rv_value.specs.declared.value.Value.TheVariants.{Null, Int, Str}
 use Rattle.rv_value.specs.declared.record.Record.{Record}
-use Rattle.rv_value.specs.declared.record.RowNo.{RowNo}
 use Rattle.rv_value.specs.Order.{value_cmp, values_cmp}
 use Rattle.rv_value.specs.Orders.{values_cmp_total}
 use Rattle.rv_restrict.specs.declared.atom.Atom.{Atom}
@@ -35,22 +34,21 @@ use Rattle.rv_model.specs.declared.transactions.Transaction.{Transaction as Work
 use Rattle.rv_model.specs.Database.{cursor_named, empty as empty_state}
 use Rattle.rv_model.specs.History.{after_from, stepped}
 use Rattle.rv_model.specs.Offers.{same_values}
-use Rattle.rv_model.specs.Rivals.{Neighbour, alone, are_equal, equals_lower, first_equal, is_null, is_rival, key_of, neighbours, placed, rows_left, rows_written, unique_over, written_by_other}
+use Rattle.rv_model.specs.Rivals.{Neighbour, alone, are_equal, equals_lower, first_equal, is_null, is_rival, key_of, placed, rows_left, rows_written, unique_over, written_by_other}
 use Rattle.rv_model.specs.Step as step
 use Rattle.rv_model.specs.Transactions.{refuse_at}
 use Rattle.rv_believed.specs.Answers.{Test}
 use Rattle.rv_believed.specs.Changing.{change, change_of, changes_by, few_changes, insert, neighbours_of, no_holder, no_later_commit, no_rivals, writer}
-use Rattle.rv_believed.specs.Cursors.{close_cursor, open_cursor}
-use Rattle.rv_believed.specs.Database.{Database, Transaction, others, transaction_of, view, with_changed}
+use Rattle.rv_believed.specs.Database.{Database, Transaction, others, transaction_of, view}
 use Rattle.rv_believed.specs.Orderly.{BeginsBefore, EachTwo}
 use Rattle.rv_believed.specs.Standing.{IsSound, database, first, outcome_of, rest, transaction_with, with_bases}
 use Rattle.rv_believed.specs.Transactions.{Outcome, begin, commit, commit_of, create_index, create_table, new_transaction, rollback}
-use Rattle.rv_believed.specs.Unique.{IsUnique, KeepsApart, NoRivals, StaysUnique}
-use Rattle.rv_believed.proofs.OrderlyStates.{Any, Gives, any_gives, then_gives}
+use Rattle.rv_believed.specs.Unique.{KeepsApart, NoRivals, StaysUnique}
+use Rattle.rv_believed.proofs.OrderlyStates.{Gives, then_gives}
 use Rattle.rv_believed.proofs.Pairs.{all_last, two_filter, two_last}
 use Rattle.rv_believed.proofs.StatementsStand.{begin_stands, change_stands, commit_stands, index_stands, insert_stands, rollback_stands, table_stands}
 use Rattle.rv_believed.proofs.TablesThere.{empty_sound, stepped_sound}
-use Rattle.rv_believed.proofs.UniqueRows.{In, applied_more, commit_in, in_back, in_filter, in_front, in_kept, left_further, none_elsewhere, rise_further, view_further, written_further, written_there}
+use Rattle.rv_believed.proofs.UniqueRows.{In, commit_in, in_back, in_filter, in_front, in_kept, left_further, none_elsewhere, rise_further, view_further, written_further, written_there}
 
 -- ---- lists
 

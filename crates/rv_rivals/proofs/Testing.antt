@@ -9,7 +9,6 @@ use Rattle.rv_value.specs.declared.record.RowNo.{RowNo}
 use Rattle.rv_rows.specs.declared.changes.Change.{Change}
 use Rattle.rv_rows.specs.Merging.{values_row}
 use Rattle.rv_catalog.specs.Answers.{◌>>=◌, all_pass}
-use Rattle.rv_model.specs.Transactions.{refuse_at}
 use Rattle.rv_rivals.specs.Lookups.{first_some, shown_at}
 use Rattle.rv_rivals.proofs.Entries.{given}
 
