@@ -218,13 +218,13 @@ others_pass session f g e (w ∷ ws) bs = passes_by f g (transaction_with w (fir
 -- ---- the other sessions' transactions, with their numbers and changes
 
 listed_by : (t : Transaction) (w : Working) (ts : List Transaction) (ws : List Working) → (t.number ≡ w.number) → (t.changes ≡ w.changes)
-    → map (λ (u : Transaction). (u.number, u.changes)) ts ≡ map (λ (u : Working). (u.number, u.changes)) ws → (b : Bool)
-    → map (λ (u : Transaction). (u.number, u.changes)) (cond b (t ∷ ts) ts) ≡ map (λ (u : Working). (u.number, u.changes)) (cond b (w ∷ ws) ws)
+    → map {B = ℕ × List Change} (λ (u : Transaction). (u.number, u.changes)) ts ≡ map {B = ℕ × List Change} (λ (u : Working). (u.number, u.changes)) ws → (b : Bool)
+    → map {B = ℕ × List Change} (λ (u : Transaction). (u.number, u.changes)) (cond b (t ∷ ts) ts) ≡ map {B = ℕ × List Change} (λ (u : Working). (u.number, u.changes)) (cond b (w ∷ ws) ws)
 listed_by t w ts ws n c more true = λ k. (n k, c k) ∷ more k
 listed_by t w ts ws n c more false = more
 
 pub others_listed : (session : ℕ) (ws : List Working) (bs : List (List (List Record)))
-    → map (λ (u : Transaction). (u.number, u.changes)) (filter (is_other session) (with_bases ws bs)) ≡ step.others ws session
+    → map {B = ℕ × List Change} (λ (u : Transaction). (u.number, u.changes)) (filter (is_other session) (with_bases ws bs)) ≡ step.others ws session
 others_listed session [] bs = refl
 others_listed session (w ∷ ws) bs = listed_by (transaction_with w (first bs)) w (filter (is_other session) (with_bases ws (rest bs)))
     (filter (λ (v : Working). not (v.session == session)) ws) refl refl (others_listed session ws (rest bs)) (not (w.session == session))

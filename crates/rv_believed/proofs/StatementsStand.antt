@@ -159,7 +159,7 @@ rivals_same : (s : State) (session n table : ℕ) (new : List Change) → (trans
     → believed.no_rivals (database s) (own_of s.transactions.active s.bases n) table new ≡ step.no_rivals s session n table new
 rivals_same s session n table new owner =
     let own = transaction_at s.transactions.active n in
-    let theirs = ap (λ (who : ℕ). map (λ (u : Transaction). (u.number, u.changes)) (filter (λ (t : Transaction). not (t.session == who)) (with_bases s.transactions.active s.bases))) owner
+    let theirs = ap (λ (who : ℕ). map {B = ℕ × List Change} (λ (u : Transaction). (u.number, u.changes)) (filter (λ (t : Transaction). not (t.session == who)) (with_bases s.transactions.active s.bases))) owner
     ∙ others_listed session s.transactions.active s.bases in
     ap (λ (others : List (ℕ × List Change)). all_alone (unique_over table s.schema.indexes)
     (neighbours table (with_changes new own.changes) (rows_at (slice_index_or s.bases n []) table) (rows_at s.rows table) (touched_by s.transactions.touched table) others)

@@ -176,15 +176,15 @@ WroteIn table r (c ∷ cs) = WroteOne table r c ⊎ WroteIn table r cs
 
 wrote_in : (table : ℕ) (cs : List Change) (r : Record) → In r (rows_written table cs) → WroteIn table r cs
 wrote_in table [] r h = absurd h
-wrote_in table (c ∷ cs) r h = by (applied_in table cs (one table c []) r h)
+wrote_in table (c ∷ cs) r h = by (wrote_in table cs r) (applied_in table cs (one table c []) r h)
   where
     here : WroteOne table r c ⊎ (In r [] × (is_of table r.row.0 c ≡ false)) → WroteIn table r (c ∷ cs)
     here (inl wrote) = inl wrote
     here (inr none) = absurd none.0
 
-    by : In r (rows_written table cs) ⊎ (In r (one table c []) × (has_change table r.row.0 cs ≡ false)) → WroteIn table r (c ∷ cs)
-    by (inl wrote) = inr (wrote_in table cs r wrote)
-    by (inr k) = here (one_in table c [] r k.0)
+    by : (In r (rows_written table cs) → WroteIn table r cs) → In r (rows_written table cs) ⊎ (In r (one table c []) × (has_change table r.row.0 cs ≡ false)) → WroteIn table r (c ∷ cs)
+    by rest (inl wrote) = inr (rest wrote)
+    by rest (inr k) = here (one_in table c [] r k.0)
 
 later_none : (table number : ℕ) (c : Change) (cs : List Change) → (c.table == table) ≡ true → number ≡ c.row.0 → list_all (is_before c) cs ≡ true → has_change table number cs ≡ false
 later_none table number c [] t is all = refl
@@ -210,13 +210,13 @@ wrote_joined table r (x ∷ xs) ys (inr more) = behind (wrote_joined table r xs 
 wrote_filtered : (table : ℕ) (r : Record) (c : Change) (p : Change → Bool) (cs : List Change) → ((d : Change) → p d ≡ true → WroteOne table r d → is_of table r.row.0 c ≡ false) → WroteIn table r (filter p cs) → WroteIn table r cs × (is_of table r.row.0 c ≡ false)
 wrote_filtered table r c p [] apart h = absurd h
 wrote_filtered table r c p (d ∷ ds) apart h = elim (cases_Bool (p d)) [
-  | inl t ↦ here t (subst (λ b. WroteIn table r (cond b (d ∷ filter p ds) (filter p ds))) t h)
+  | inl t ↦ here (wrote_filtered table r c p ds apart) t (subst (λ b. WroteIn table r (cond b (d ∷ filter p ds) (filter p ds))) t h)
   | inr f ↦ (let k = wrote_filtered table r c p ds apart (subst (λ b. WroteIn table r (cond b (d ∷ filter p ds) (filter p ds))) f h) in (inr k.0, k.1))
 ]
   where
-    here : p d ≡ true → WroteIn table r (d ∷ filter p ds) → WroteIn table r (d ∷ ds) × (is_of table r.row.0 c ≡ false)
-    here t (inl wrote) = (inl wrote, apart d t wrote)
-    here t (inr more) = (let k = wrote_filtered table r c p ds apart more in (inr k.0, k.1))
+    here : (WroteIn table r (filter p ds) → WroteIn table r ds × (is_of table r.row.0 c ≡ false)) → p d ≡ true → WroteIn table r (d ∷ filter p ds) → WroteIn table r (d ∷ ds) × (is_of table r.row.0 c ≡ false)
+    here rest t (inl wrote) = (inl wrote, apart d t wrote)
+    here rest t (inr more) = (let k = rest more in (inr k.0, k.1))
 
 apart_before : (table : ℕ) (r : Record) (c d : Change) → is_before d c ≡ true → WroteOne table r d → is_of table r.row.0 c ≡ false
 apart_before table r c d before wrote = (let t = wrote.0 in let is = row_is r d.row.0 d.values wrote.1 in grind (arith, nat_tests, t, is, before))

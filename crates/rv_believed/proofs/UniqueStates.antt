@@ -105,12 +105,12 @@ none_of : {X : Type 0} (p : X → Bool) (xs : List X) (x : X) → find p xs ≡ 
 none_of p [] x is h = absurd h
 none_of p (y ∷ ys) x is h = elim (cases_Bool (p y)) [
   | inl t ↦ (let no : Some y ≡ None = sym (ap (λ b. cond b (Some y) (find p ys)) t) ∙ is in cc)
-  | inr f ↦ by f (sym (ap (λ b. cond b (Some y) (find p ys)) f) ∙ is) h
+  | inr f ↦ by f (none_of p ys x (sym (ap (λ b. cond b (Some y) (find p ys)) f) ∙ is)) h
 ]
   where
-    by : p y ≡ false → find p ys ≡ None → In x (y ∷ ys) → p x ≡ false
+    by : p y ≡ false → (In x ys → p x ≡ false) → In x (y ∷ ys) → p x ≡ false
     by f left (inl here) = ap p here ∙ f
-    by f left (inr more) = none_of p ys x left more
+    by f left (inr more) = left more
 
 none_any : {X : Type 0} (p : X → Bool) (xs : List X) → ((x : X) → In x xs → p x ≡ false) → list_any p xs ≡ false
 none_any p [] none = refl
@@ -120,12 +120,12 @@ any_none : {X : Type 0} (p : X → Bool) (xs : List X) (x : X) → list_any p xs
 any_none p [] x none h = absurd h
 any_none p (y ∷ ys) x none h = elim (cases_Bool (p y)) [
   | inl t ↦ (let no : true ≡ false = sym (ap (λ b. b || list_any p ys) t) ∙ none in cc)
-  | inr f ↦ by f (sym (ap (λ b. b || list_any p ys) f) ∙ none) h
+  | inr f ↦ by f (any_none p ys x (sym (ap (λ b. b || list_any p ys) f) ∙ none)) h
 ]
   where
-    by : p y ≡ false → list_any p ys ≡ false → In x (y ∷ ys) → p x ≡ false
+    by : p y ≡ false → (In x ys → p x ≡ false) → In x (y ∷ ys) → p x ≡ false
     by f left (inl here) = ap p here ∙ f
-    by f left (inr more) = any_none p ys x left more
+    by f left (inr more) = left more
 
 -- ---- rivals are rivals of each other
 
@@ -166,7 +166,7 @@ equal_turned columns r s = elim (cases_Bool (same_values (key_of columns s.value
   | inl t ↦
       let null = null_same (key_of columns s.values) (key_of columns r.values) t in
       let back : same_values (key_of columns r.values) (key_of columns s.values) ≡ true = same_turned (key_of columns r.values) (key_of columns s.values) ∙ t in
-      (λ i. not (null (~ i)) && t i) ∙ sym (ap (λ b. not (list_any is_null (key_of columns s.values)) && b) back)
+      (λ i. not (sym null i) && t i) ∙ sym (ap (λ b. not (list_any is_null (key_of columns s.values)) && b) back)
   | inr f ↦
       let back : same_values (key_of columns r.values) (key_of columns s.values) ≡ false = same_turned (key_of columns r.values) (key_of columns s.values) ∙ f in
       ap (λ b. not (list_any is_null (key_of columns r.values)) && b) f ∙ and_false (not (list_any is_null (key_of columns r.values)))
@@ -262,7 +262,7 @@ in_placed at (r ∷ rows) s (inl here) = inl (ap (λ (x : Record). record { row 
 in_placed at (r ∷ rows) s (inr more) = inr (in_placed at rows s more)
 
 in_theirs : (table : ℕ) (us : List Transaction) (u : Transaction) (s : Record) → In u us → In s (rows_written table u.changes)
-    → In (record { row = s; at = rivals.Txn u.number }) (flat_map (written_by_other table) (map (λ (v : Transaction). (v.number, v.changes)) us))
+    → In (record { row = s; at = rivals.Txn u.number }) (flat_map (written_by_other table) (map {B = ℕ × List Change} (λ (v : Transaction). (v.number, v.changes)) us))
 in_theirs table [] u s h k = absurd h
 in_theirs table (v ∷ us) u s (inl here) k =
     in_front _ (placed (λ (r : Record). rivals.Txn v.number) (rows_written table v.changes)) _
@@ -289,13 +289,14 @@ tested_here d t table new i passed h =
     let seen = placed (λ (r : Record). rivals.View) (rows_with_changes table changes (t.rows table)) in
     let at : Record → Rival = λ r. rivals.Commit (d.written_by table r.row.0) in
     let committed = placed at (rows_left table changes (d.rows table)) in
+    let theirs = flat_map (written_by_other table) (map {B = ℕ × List Change} (λ (u : Transaction). (u.number, u.changes)) (others d t.session)) in
     record {
       sees = λ r s w v. no_rival d t table new i r (record { row = s; at = rivals.View }) passed h w
-          (in_front _ seen _ (in_placed (λ (x : Record). rivals.View) (rows_with_changes table changes (t.rows table)) s v));
+          (in_front _ (seen ++ committed) theirs (in_front _ seen committed (in_placed (λ (x : Record). rivals.View) (rows_with_changes table changes (t.rows table)) s v)));
       left = λ r s w v. no_rival d t table new i r (record { row = s; at = at s }) passed h w
-          (in_back _ seen _ (in_front _ committed _ (in_placed at (rows_left table changes (d.rows table)) s v)));
+          (in_front _ (seen ++ committed) theirs (in_back _ seen committed (in_placed at (rows_left table changes (d.rows table)) s v)));
       beside = λ u own r s w v. no_rival d t table new i r (record { row = s; at = rivals.Txn u.number }) passed h w
-          (in_back _ seen _ (in_back _ committed _ (in_theirs table (others d t.session) u s own v)));
+          (in_back _ (seen ++ committed) theirs (in_theirs table (others d t.session) u s own v));
     }
 
 other_tables : (table other : ℕ) (new : List Change) → (other == table) ≡ false → AllByRecursion (λ (c : Change). c.table ≡ table) new → AllByRecursion (λ (c : Change). (c.table == other) ≡ false) new

@@ -66,7 +66,7 @@ lone_is shown schema txns session table t new there own =
         all_alone (unique_over table schema.indexes) (neighbours table (with_changes new u.changes) rows last (touched_by txns.touched table) (others txns.active who)) (rows_written table new) in
     ap (λ (o : Option ℕ). no_rivals_of (db_of shown schema txns []) session o table (λ own. new)) own.at
     ∙ (λ i. base (base_at shown (length schema.tables) table txns.active own.place within there i) (image_at shown (length schema.tables) shown.newest table there i) (transaction_at txns.active own.place) session)
-    ∙ (λ i. base (shown.rows table (own.here i).base) (shown.rows table shown.newest) (own.here i) (own.owner (~ i)))
+    ∙ (λ i. base (shown.rows table (own.here i).base) (shown.rows table shown.newest) (own.here i) (sym own.owner i))
 
 pub lone_none : (shown : Shown) (schema : Schema) (txns : Transactions) (session table : ℕ) (new : List Change) → transaction_of txns.active session ≡ None → lone_over shown schema txns session table new ≡ Ok tt
 lone_none shown schema txns session table new none = ap (λ (o : Option ℕ). no_rivals_of (db_of shown schema txns []) session o table (λ own. new)) none

@@ -73,11 +73,11 @@ found_joined p (x ∷ xs) ys = elim (cases_Bool (p x)) [ inl t ↦ rw t refl | i
 
 -- the other transactions, and those of them that have changed rows of the table
 in_others : (columns : List ℕ) (r : Record) (table : ℕ) (ts : List Transaction) → list_any is_null (key_of columns r.values) ≡ false
-    → option_map shown (find (λ (n : Neighbour). is_rival columns r n.row) (flat_map (written_by_other table) (map (λ (t : Transaction). (t.number, t.changes)) ts))) ≡ written_first columns (key_of columns r.values) r.row.0 table ts
+    → option_map shown (find (λ (n : Neighbour). is_rival columns r n.row) (flat_map (written_by_other table) (map {B = ℕ × List Change} (λ (t : Transaction). (t.number, t.changes)) ts))) ≡ written_first columns (key_of columns r.values) r.row.0 table ts
 in_others columns r table [] whole = refl
 in_others columns r table (t ∷ ts) whole =
-    found_joined (λ (n : Neighbour). is_rival columns r n.row) (placed (λ (s : Record). Txn t.number) (rows_written table t.changes)) (flat_map (written_by_other table) (map (λ (u : Transaction). (u.number, u.changes)) ts))
-    ∙ ap (λ o. first_some o (option_map shown (find (λ (n : Neighbour). is_rival columns r n.row) (flat_map (written_by_other table) (map (λ (u : Transaction). (u.number, u.changes)) ts))))) (in_place columns r (λ row. Txn t.number) (rows_written table t.changes) whole)
+    found_joined (λ (n : Neighbour). is_rival columns r n.row) (placed (λ (s : Record). Txn t.number) (rows_written table t.changes)) (flat_map (written_by_other table) (map {B = ℕ × List Change} (λ (u : Transaction). (u.number, u.changes)) ts))
+    ∙ ap (λ o. first_some o (option_map shown (find (λ (n : Neighbour). is_rival columns r n.row) (flat_map (written_by_other table) (map {B = ℕ × List Change} (λ (u : Transaction). (u.number, u.changes)) ts))))) (in_place columns r (λ row. Txn t.number) (rows_written table t.changes) whole)
     ∙ ap (first_some (shown_at (λ row. Txn t.number) (lowest_with columns (key_of columns r.values) (other_than r.row.0) (rows_written table t.changes)))) (in_others columns r table ts whole)
 
 those_touching : (columns : List ℕ) (key : List Value) (row table session : ℕ) (active : List Transaction)
@@ -102,14 +102,19 @@ pub first_found : (columns : List ℕ) (r : Record) (table session : ℕ) (seen 
 first_found columns r table session seen left written_by active whole =
     let p : Neighbour → Bool = λ n. is_rival columns r n.row in
     let theirs = flat_map (written_by_other table) (others active session) in
+    let viewed = placed (λ (s : Record). View) seen in
     let committed = placed (λ (s : Record). Commit (written_by s.row.0)) left in
-    found_joined p (placed (λ (s : Record). View) seen) (committed ++ theirs)
-    ∙ ap (λ o. first_some o (option_map shown (find p (committed ++ theirs)))) (in_place columns r (λ row. View) seen whole)
-    ∙ ap (first_some (shown_at (λ row. View) (lowest_with columns (key_of columns r.values) (other_than r.row.0) seen)))
-    (found_joined p committed theirs
-    ∙ ap (λ o. first_some o (option_map shown (find p theirs))) (in_place columns r (λ row. Commit (written_by row.0)) left whole)
-    ∙ ap (first_some (shown_at (λ row. Commit (written_by row.0)) (lowest_with columns (key_of columns r.values) (other_than r.row.0) left)))
-    (in_others columns r table (filter (λ (t : Transaction). not (t.session == session)) active) whole ∙ those_touching columns (key_of columns r.values) r.row.0 table session active))
+    found_joined p (viewed ++ committed) theirs
+    ∙ ap (λ o. first_some o (option_map shown (find p theirs))) (found_joined p viewed committed)
+    ∙ three (option_map shown (find p viewed)) (option_map shown (find p committed)) (option_map shown (find p theirs))
+    ∙ ap (λ o. first_some o (first_some (option_map shown (find p committed)) (option_map shown (find p theirs)))) (in_place columns r (λ row. View) seen whole)
+    ∙ ap (λ o. first_some (shown_at (λ row. View) (lowest_with columns (key_of columns r.values) (other_than r.row.0) seen)) (first_some o (option_map shown (find p theirs)))) (in_place columns r (λ row. Commit (written_by row.0)) left whole)
+    ∙ ap (λ o. first_some (shown_at (λ row. View) (lowest_with columns (key_of columns r.values) (other_than r.row.0) seen)) (first_some (shown_at (λ row. Commit (written_by row.0)) (lowest_with columns (key_of columns r.values) (other_than r.row.0) left)) o))
+    (in_others columns r table (filter (λ (t : Transaction). not (t.session == session)) active) whole ∙ those_touching columns (key_of columns r.values) r.row.0 table session active)
+  where
+    three : (a b c : Option Refusal) → first_some (first_some a b) c ≡ first_some a (first_some b c)
+    three None b c = refl
+    three (Some x) b c = refl
 
 -- What is found by look-ups is what the definition shows, for each row and index.
 
