@@ -1,6 +1,6 @@
 -- Transactions of different sessions, where one changes rows, begins or ends; each stands in the place of its session.
-use Rattle.std.proofs.Common.{◌≡◌, ℕ, zero, suc, ◌<◌, ◌≤◌, List, [], ◌∷◌, ◌++◌, Bool, true, false, not, ◌||◌, ◌==◌, Some, None, is_some, inl, inr, refl, ap, ◌∙◌, arith, length, find, nat_lt, remove}
-use Rattle.std.specs.Prelude.{position, slice_get}
+use Rattle.std.proofs.Common.{◌≡◌, ℕ, zero, suc, ◌<◌, ◌≤◌, List, [], ◌∷◌, ◌++◌, Bool, true, false, not, ◌||◌, ◌==◌, Some, None, is_some, inl, inr, refl, ap, sym, ◌∙◌, arith, length, find, nat_lt, remove}
+use Rattle.std.specs.Prelude.{position, slice_get, slice_set}
 use Rattle.std.specs.List.{list_any, position_or_len}
 use Rattle.std.proofs.lemmas.Bool.{cases_Bool}
 use Rattle.std.proofs.lemmas.Bool.Decides.{nat_tests}
@@ -9,6 +9,7 @@ use Rattle.std.proofs.lemmas.List.Folds.{find_at}
 use Rattle.std.proofs.lemmas.List.Sums.{position_or_len_is}
 use Rattle.rv_rows.specs.declared.changes.Change.{Change}
 use Rattle.rv_rows.proofs.Filters.{both}
+use Rattle.rv_value.proofs.Places.{read_as}
 use Rattle.rv_model.specs.declared.transactions.Transaction.{Transaction}
 use Rattle.rv_model.specs.Transactions.{no_transaction, transaction_at, transaction_of, with_own}
 use Rattle.rv_txn.specs.Apart.{are_apart}
@@ -30,6 +31,11 @@ apart_with (t ∷ ts) zero changes apart = apart
 apart_with (t ∷ ts) (suc own) changes apart =
     let parts = both (not (list_any (λ (u : Transaction). u.session == t.session) ts)) (are_apart ts) apart in
     rw (any_set (λ (u : Transaction). u.session == t.session) ts own changes (λ u. refl), parts.0) (apart_with ts own changes parts.1)
+
+-- the same of the transaction that was read in its place
+pub apart_at : (active : List Transaction) (own : ℕ) (t : Transaction) (changes : List Change) → slice_get active own ≡ Some t → are_apart active ≡ true → are_apart (slice_set active own (record t { changes = changes })) ≡ true
+apart_at active own t changes e apart =
+    ap (λ (u : Transaction). are_apart (slice_set active own (record u { changes = changes }))) (sym (read_as active own t no_transaction e)) ∙ apart_with active own changes apart
 
 -- A transaction of a session that has none.
 

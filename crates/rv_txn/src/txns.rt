@@ -160,7 +160,7 @@ impl Txns {
     }
 
     /// Puts the row that an INSERT adds to the session's transaction, and takes its number.
-    #[tactic(auto, using(rv_value::proofs::Places::put_back, rv_value::proofs::Places::read_as, crate::proofs::Apart::apart_with))]
+    #[tactic(auto, using(rv_value::proofs::Places::put_back, rv_value::proofs::Places::read_as))]
     pub fn put_new(&mut self, session: u8, change: Change) -> Result<(), NoMemory>
         ensures ok { OnOk result (self.new ≡ with_new self.old (transaction_of self.old.active session) change) }
         ensures err { OnErr result (self.new ≡ self.old) }
@@ -214,7 +214,7 @@ impl Txns {
     }
 
     /// Puts the changes of an UPDATE or DELETE: all, or on `NoMemory` none.
-    #[tactic(auto, using(rv_value::proofs::Places::put_back, rv_value::proofs::Places::read_as, crate::proofs::Apart::apart_with))]
+    #[tactic(auto, using(rv_value::proofs::Places::put_back, rv_value::proofs::Places::read_as))]
     pub fn put_changes(&mut self, session: u8, new: Vec<Change>) -> Result<(), NoMemory>
         ensures ok { OnOk result (self.new ≡ with_these self.old (transaction_of self.old.active session) new.items) }
         ensures err { OnErr result (self.new ≡ self.old) }
