@@ -51,7 +51,7 @@ can_look shown schema txns session table t new views tied stored there own rise 
   read = own_read shown schema txns session table t tied there own;
   placed = record { place = own.place; found = own_at txns.active session t own; here = own.here };
   active = all_view shown schema txns tied stored;
-  views = all;
+  kept = all;
   rise = rise;
   of_table = of;
 }

@@ -39,7 +39,7 @@ take_next (y ∷ ys) (suc k) x is = ap (λ zs. y ∷ zs) (take_next ys k x is)
 
 -- The rows that changes write, in their order.
 
-pub given : List Change → List Record
+abbrev pub given : List Change → List Record
 given [] = []
 given (c ∷ cs) = values_row c.row.0 c.values ++ given cs
 
@@ -110,10 +110,11 @@ or_false false = refl
 
 one_entry : (columns : List ℕ) (rows : List Record) (r : Record) (e : IndexEntry) → rows_by_number.Ascend (rows ++ r ∷ [])
     → (is_eq (entry_cmp (entry_of columns r) e) || is_entry columns (row_at rows e.row.0) e) ≡ is_entry columns (cond (r.row.0 == e.row.0) (Some r) (row_at rows e.row.0)) e
-one_entry columns rows r e ascend = elim (cases_Bool (r.row.0 == e.row.0)) [
-  | inl t ↦ rw (t, none_last rows r e.row.0 ascend t) (or_false (is_eq (entry_cmp (entry_of columns r) e)))
-  | inr f ↦ rw (f, row_other columns r e f) refl
-]
+one_entry columns rows r e ascend = by (r.row.0 == e.row.0) refl
+  where
+    by : (b : Bool) → (r.row.0 == e.row.0) ≡ b → (is_eq (entry_cmp (entry_of columns r) e) || is_entry columns (row_at rows e.row.0) e) ≡ is_entry columns (cond b (Some r) (row_at rows e.row.0)) e
+    by true t = ap (λ o. is_eq (entry_cmp (entry_of columns r) e) || is_entry columns o e) (none_last rows r e.row.0 ascend t) ∙ or_false (is_eq (entry_cmp (entry_of columns r) e))
+    by false f = ap (λ b. b || is_entry columns (row_at rows e.row.0) e) (row_other columns r e f)
 
 front_ascends : (rows : List Record) (r : Record) → rows_by_number.Ascend (rows ++ r ∷ []) → rows_by_number.Ascend rows
 front_ascends [] r ascend = tt

@@ -100,12 +100,12 @@ entries_long columns rows key long = long_all (length columns) key (entries_of c
 -- Two entries are enough to find one of another row.
 
 pub take_few : {X : Type 0} (n : ℕ) (xs : List X) → take (min n 2) xs ≡ take 2 (take n xs)
-take_few zero xs = (let none : min zero 2 ≡ zero = omega arith in rw none refl)
-take_few (suc zero) [] = (let one : min (suc zero) 2 ≡ suc zero = omega arith in rw one refl)
-take_few (suc zero) (x ∷ xs) = (let one : min (suc zero) 2 ≡ suc zero = omega arith in rw one refl)
-take_few (suc (suc n)) [] = (let two : min (suc (suc n)) 2 ≡ 2 = omega arith in rw two refl)
-take_few (suc (suc n)) (x ∷ []) = (let two : min (suc (suc n)) 2 ≡ 2 = omega arith in rw two refl)
-take_few (suc (suc n)) (x ∷ y ∷ xs) = (let two : min (suc (suc n)) 2 ≡ 2 = omega arith in rw two refl)
+take_few zero xs = (let none : min zero 2 ≡ zero = omega arith in ap (λ k. take k xs) none)
+take_few (suc zero) [] = (let one : min (suc zero) 2 ≡ suc zero = omega arith in ap (λ k. take k []) one)
+take_few (suc zero) (x ∷ xs) = (let one : min (suc zero) 2 ≡ suc zero = omega arith in ap (λ k. take k (x ∷ xs)) one)
+take_few (suc (suc n)) [] = (let two : min (suc (suc n)) 2 ≡ 2 = omega arith in ap (λ k. take k []) two)
+take_few (suc (suc n)) (x ∷ []) = (let two : min (suc (suc n)) 2 ≡ 2 = omega arith in ap (λ k. take k (x ∷ [])) two)
+take_few (suc (suc n)) (x ∷ y ∷ xs) = (let two : min (suc (suc n)) 2 ≡ 2 = omega arith in ap (λ k. take k (x ∷ y ∷ xs)) two)
 
 two_enough : (columns : List ℕ) (row : ℕ) (rows : List Record) → Ascend rows → first_row (other_than row) (take 2 (map (entry_of columns) rows)) ≡ first_row (other_than row) (map (entry_of columns) rows)
 two_enough columns row [] ascend = refl

@@ -1,9 +1,9 @@
 pub mod Entries
-pub mod Equal
+pub mod Equals
 pub mod Finding
 pub mod Neighbours
 pub mod Places
 pub mod Points
-pub mod Rows
+pub mod Numbers
 pub mod Telling
 pub mod Testing

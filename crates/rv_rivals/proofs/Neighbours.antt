@@ -1,5 +1,5 @@
 -- The first rival of a row is found by look-ups in the three places.
-use Rattle.std.proofs.Common.{◌≡◌, ℕ, List, [], ◌∷◌, ◌++◌, Bool, true, false, not, ◌&&◌, ◌==◌, Option, Some, None, Result, Ok, inl, inr, refl, ap, sym, ◌∙◌, find, filter, map}
+use Rattle.std.proofs.Common.{◌≡◌, ℕ, List, [], ◌∷◌, ◌++◌, Bool, true, false, not, ◌&&◌, ◌==◌, cond, Option, Some, None, Result, Ok, inl, inr, refl, ap, sym, ◌∙◌, find, filter, map}
 use Rattle.std.proofs.lemmas.Bool.{cases_Bool}
 use Rattle.std.specs.List.{flat_map, list_any}
 use Rattle.std.specs.Option.{option_map}
@@ -20,10 +20,10 @@ use Rattle.rv_model.specs.declared.transactions.Transactions.{Transactions}
 use Rattle.rv_model.specs.Rivals.{Neighbour, all_alone, alone, has_key, is_null, is_rival, key_of, placed, rows_left, rows_written, written_by_other}
 use Rattle.rv_model.specs.Step.{others}
 use Rattle.rv_model.specs.Transactions.{refuse_at, touched_by}
-use Rattle.rv_rivals.specs.Lookups.{all_none, first_equal_to, first_rival, first_some, neighbours_in, other_than, shown_at, touching, written_first}
+use Rattle.rv_rivals.specs.Lookups.{all_none, first_equal_to, first_rival, first_some, first_with, neighbours_in, other_than, shown_at, touching, written_first}
 use Rattle.rv_rivals.specs.Points.{lowest_with}
 use Rattle.rv_rivals.proofs.Finding.{find_same}
-use Rattle.rv_rivals.proofs.Rows.{none_written}
+use Rattle.rv_rivals.proofs.Numbers.{none_written}
 
 -- A row with NULL in its key has no rival.
 
@@ -43,7 +43,7 @@ null_alone columns r near null = ap (option_map (λ (n : Neighbour). Duplicate n
 
 -- Of a row without NULL.
 
-shown : Neighbour → Refusal
+abbrev shown : Neighbour → Refusal
 shown n = Duplicate n.row.row n.at
 
 rival_is : (columns : List ℕ) (r n : Record) → list_any is_null (key_of columns r.values) ≡ false → is_rival columns r n ≡ (has_key columns (key_of columns r.values) n && other_than r.row.0 n.row.0)
@@ -120,10 +120,12 @@ first_found columns r table session seen left written_by active whole =
 
 pub found_is : (shown : Shown) (txns : Transactions) (own : Transaction) (table : ℕ) (new : List Change) (columns : List ℕ) (r : Record)
     → first_equal_to shown (touched_by txns.touched table) columns (key_of columns r.values) r.row.0 table own new (touching table own.session txns.active) ≡ first_rival columns r (neighbours_in shown txns own table new)
-found_is shown txns own table new columns r = elim (cases_Bool (list_any is_null (key_of columns r.values))) [
-  | inl null ↦ rw null (sym (null_alone columns r (neighbours_in shown txns own table new) null))
-  | inr whole ↦ rw whole (sym (first_found columns r table own.session (rows_with_changes table (with_changes new own.changes) (shown.rows table own.base)) (rows_left table (with_changes new own.changes) (shown.rows table shown.newest)) (touched_by txns.touched table) txns.active whole))
-]
+found_is shown txns own table new columns r =
+    let found = first_with shown (touched_by txns.touched table) columns (key_of columns r.values) r.row.0 table own new (touching table own.session txns.active) in
+    elim (cases_Bool (list_any is_null (key_of columns r.values))) [
+      | inl null ↦ ap (λ b. cond b None found) null ∙ sym (null_alone columns r (neighbours_in shown txns own table new) null)
+      | inr whole ↦ ap (λ b. cond b None found) whole ∙ sym (first_found columns r table own.session (rows_with_changes table (with_changes new own.changes) (shown.rows table own.base)) (rows_left table (with_changes new own.changes) (shown.rows table shown.newest)) (touched_by txns.touched table) txns.active whole)
+    ]
 
 refused_same : {A : Type 0} (o : Option A) (f : A → Refusal) → refuse_at (option_map f o) (λ (refusal : Refusal). refusal) ≡ refuse_at o f
 refused_same None f = refl

@@ -18,7 +18,7 @@ use Rattle.rv_own.specs.Views.{Freezes}
 use Rattle.rv_rivals.specs.Lookups.{AreEntries, HaveRows, IsStatement, entries_written, lower_row, other_than}
 use Rattle.rv_rivals.specs.Points.{lowest_with}
 use Rattle.rv_rivals.proofs.Finding.{find_same}
-use Rattle.rv_rivals.proofs.Rows.{left_lowest, view_lowest, written_lowest}
+use Rattle.rv_rivals.proofs.Numbers.{left_lowest, view_lowest, written_lowest}
 
 -- the last commit is a snapshot
 pub newest_at : (shown : Shown) → IsStored shown → IsSnapshot shown shown.newest

@@ -19,7 +19,8 @@ use Rattle.rv_reader.proofs.Orders.{order, one_way}
 use Rattle.rv_value.specs.Orders.{values_cmp_total}
 use Rattle.std.specs.Cmp.{tied_itself}
 use Rattle.rv_value.specs.declared.range.Side.TheVariants.{Before, In, After}
-use Rattle.rv_reader.proofs.Sorting.{entries_ascend, lists_same, value_same}
+use Rattle.rv_reader.proofs.Sorting.{entries_ascend}
+use Rattle.rv_overlay.proofs.Placing.{equal_same}
 use Rattle.rv_model.specs.Rivals.{has_key}
 use Rattle.rv_rivals.specs.Points.{point}
 
@@ -89,8 +90,11 @@ eq_is Less h = cc
 eq_is Equal h = refl
 eq_is Greater h = cc
 
-values_same : (xs ys : List Value) → is_eq (values_cmp xs ys) ≡ true → xs ≡ ys
-values_same xs ys h = lists_same value_cmp value_same xs ys (eq_is (values_cmp xs ys) h)
+pub values_same : (xs ys : List Value) → is_eq (values_cmp xs ys) ≡ true → xs ≡ ys
+values_same xs ys h =
+    let one : IndexEntry = record { key = xs; row = record { 0 = 0 } } in
+    let other : IndexEntry = record { key = ys; row = record { 0 = 0 } } in
+    ap (λ (e : IndexEntry). e.key) (equal_same one other (ap (λ o. is_eq (ordering_then o (nat_cmp 0 0))) (eq_is (values_cmp xs ys) h)))
 
 values_itself : (xs : List Value) → values_cmp xs xs ≡ Equal
 values_itself xs = tied_itself values_cmp_total xs

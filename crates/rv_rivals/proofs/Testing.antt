@@ -40,7 +40,7 @@ fails_here f (y ∷ ys) (suc k) x e whole is fail h = fails_here f ys k x e whol
 
 one_front : (f : Record → Result (Unit {0}) Refusal) (number : ℕ) (values : Option (List Value)) (rows : List Record) → all_pass f (values_row number values) ≡ Ok tt → all_pass f (values_row number values ++ rows) ≡ all_pass f rows
 one_front f number None rows pass = refl
-one_front f number (Some vs) rows pass = by (f (record { row = record { 0 = number }; values = vs })) pass
+one_front f number (Some vs) rows pass = (let r : Record = record { row = record { 0 = number }; values = vs } in by (f r) pass)
   where
     by : (r : Result (Unit {0}) Refusal) → (r >>= (λ passed. Ok tt)) ≡ Ok tt → (r >>= (λ passed. all_pass f rows)) ≡ all_pass f rows
     by (Ok u) h = refl

@@ -86,7 +86,7 @@ pub record CanLook (shown : Shown) (indexes : List IndexDef) (txns : Transaction
   pub read : CanRead shown table own.base
   pub placed : IsPlaced txns.active own
   pub active : AllByRecursion (λ (t : Transaction). CanView shown indexes t []) txns.active
-  pub views : AreViews shown txns.active views
+  pub kept : AreViews shown txns.active views
   pub rise : Rise new
   pub of_table : AllByRecursion (λ (c : Change). c.table ≡ table) new
 
@@ -108,7 +108,7 @@ pub record IsStatement (table row : ℕ) (rows : List Change) (columns : List �
     (new : List Change) : Type 0 where
   pub rise : Rise new
   pub same : (n : ℕ) → has_change table n rows ≡ has_change table n new
-  pub entries : entries ≡ entries_written columns table new
+  pub told : entries ≡ entries_written columns table new
   pub has : has_change table row new ≡ true
 
 -- entries are those of some rows, which ascend

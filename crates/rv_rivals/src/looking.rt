@@ -1,5 +1,5 @@
 //! The lowest row with a key, found in an index.
-ghost use Rattle.std.specs.Prelude.{◌≡◌, ◌≤◌, ℕ, List, Some, IfOk, length};
+ghost use Rattle.std.specs.Prelude.{◌≡◌, ◌≤◌, ℕ, List, Some, true, IfOk, length};
 ghost use Rattle.std.specs.List.{list_any};
 ghost use Rattle.rv_value.specs.declared.record.Record.{Record as OneRecord};
 ghost use Rattle.rv_reader.specs.Entries.{column_of, run};

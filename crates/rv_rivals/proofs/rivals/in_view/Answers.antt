@@ -39,5 +39,5 @@ returns g c new st =
     in_view_is shown own c.args.near.now.view table c.args.row.0 columns c.args.key.now base c.args.near.now.new new c.args.index.now.entries c.in_ok-found.found c.in_ok-other.other c.lower_row.result
     (store_tells shown table c.args.index.now.number own.base columns can.stored can.index can.at).ascend can.freezes st
     (c.in_ok-found.ensures columns (rows_with_changes table own.changes base) tells c.requires.long)
-    (c.in_ok-other.ensures columns (rows_written table new) (applied_ascends table new [] tt) st.entries c.requires.long)
+    (c.in_ok-other.ensures columns (rows_written table new) (applied_ascends table new [] tt) st.told c.requires.long)
     c.lower_row.ensures

@@ -1,6 +1,7 @@
 use Rattle.std.proofs.Common.{◌∙◌, ap, subst, sym, take}
 use Rattle.rv_reader.specs.Entries.{AreLong, Ascend, run}
 use Rattle.rv_reader.proofs.Sorting.{entries_ascend}
+use Rattle.rv_rivals.specs.Points.{point}
 use Rattle.rv_overlay.proofs.Runs.{in_range}
 use Rattle.rv_rivals.proofs.Finding.{entries_long, other_is}
 use Rattle.rv_rivals.proofs.statement.other_with.Goals as goal
@@ -11,7 +12,7 @@ span_of-span-requires-clause-ascend c = subst Ascend (sym c.requires.are) (entri
 pub span_of-span-requires-clause-long : goal.span_of-span-requires-clause-long
 span_of-span-requires-clause-long c =
     subst (λ r. AreLong r c.args.entries.now) (sym c.in_ok-range.ensures)
-    (subst (AreLong _) (sym c.requires.are) (entries_long c.requires.columns c.requires.rows c.args.key.now c.requires.long))
+    (subst (AreLong (point c.args.key.now)) (sym c.requires.are) (entries_long c.requires.columns c.requires.rows c.args.key.now c.requires.long))
 
 pub returns : goal.returns
 returns c columns rows ascend are long =

@@ -20,23 +20,17 @@ use Rattle.rv_rows.specs.Rows.{Ascend, comes_below}
 use Rattle.rv_rows.proofs.Filters.{both}
 use Rattle.rv_rows.proofs.Puts.{rising_filter}
 use Rattle.rv_reader.specs.Entries.{comes_before, entries_of, entry_of, is_in, run}
-use Rattle.rv_reader.proofs.Sorting.{lists_same, value_same}
 use Rattle.rv_model.specs.Offers.{same_values}
 use Rattle.rv_model.specs.Rivals.{are_equal, has_key, is_null, key_of}
 use Rattle.rv_rivals.specs.Lookups.{is_whole}
 use Rattle.rv_rivals.specs.Points.{has_entry, point}
 use Rattle.rv_rivals.proofs.Entries.{put_more}
-use Rattle.rv_rivals.proofs.Points.{many, point_runs}
+use Rattle.rv_rivals.proofs.Points.{many, point_runs, values_same}
 
 -- Equal keys.
 
-eq_is : (o : Ordering) → is_eq o ≡ true → o ≡ Equal
-eq_is Less h = cc
-eq_is Equal h = refl
-eq_is Greater h = cc
-
 keys_same : (xs ys : List Value) → same_values xs ys ≡ true → xs ≡ ys
-keys_same xs ys h = lists_same value_cmp value_same xs ys (eq_is (values_cmp xs ys) h)
+keys_same xs ys h = values_same xs ys h
 
 key_itself : (xs : List Value) → same_values xs xs ≡ true
 key_itself xs = ap is_eq (tied_itself values_cmp_total xs)
@@ -165,9 +159,17 @@ find_here p (x ∷ xs) zero r whole is t h =
 find_here p (x ∷ xs) (suc k) r whole is t h = find_here p xs k r whole is t h
 
 -- a count of entries in the range of a key
+
+none_zero : (n : ℕ) → not (suc n == 0) ≡ true
+none_zero n = (let some : (suc n == 0) ≡ false = grind (arith, nat_tests) in ap not some)
+
+step : {X : Type 0} (p : X → Bool) (x : X) (xs : List X) (b : Bool) → not (length (filter p xs) == 0) ≡ list_any p xs → not (length (cond b (x ∷ filter p xs) (filter p xs)) == 0) ≡ (b || list_any p xs)
+step p x xs true rest = none_zero (length (filter p xs))
+step p x xs false rest = rest
+
 pub counted_any : (key : List Value) (range : Range) (entries : List IndexEntry) (n : ℕ) → range ≡ point key → n ≡ length (run entries range) → not (n == 0) ≡ has_entry key entries
 counted_any key range entries n is count = ap (λ m. not (m == 0)) (count ∙ ap (λ r. length (run entries r)) is) ∙ some_counted (is_in (point key)) entries
   where
     some_counted : (p : IndexEntry → Bool) (xs : List IndexEntry) → not (length (filter p xs) == 0) ≡ list_any p xs
     some_counted p [] = refl
-    some_counted p (x ∷ xs) = elim (cases_Bool (p x)) [ inl t ↦ rw t refl | inr f ↦ rw f (some_counted p xs) ]
+    some_counted p (x ∷ xs) = step p x xs (p x) (some_counted p xs)

@@ -136,7 +136,7 @@ found_in t p (r ∷ rows) x all is =
       | inr f ↦ found_in t p rows x parts.1 (rw f at is)
     ]
 
-number : Record → RowNo
+abbrev pub number : Record → RowNo
 number r = r.row
 
 first_before : (r : Record) (found : Option Record) → ((x : Record) → found ≡ Some x → comes_below r x ≡ true) → Some r.row ≡ lower_row (Some r.row) (option_map number found)
