@@ -116,7 +116,7 @@ one_entry columns rows r e ascend = by (r.row.0 == e.row.0) refl
     by true t = ap (λ o. is_eq (entry_cmp (entry_of columns r) e) || is_entry columns o e) (none_last rows r e.row.0 ascend t) ∙ or_false (is_eq (entry_cmp (entry_of columns r) e))
     by false f = ap (λ b. b || is_entry columns (row_at rows e.row.0) e) (row_other columns r e f)
 
-front_ascends : (rows : List Record) (r : Record) → rows_by_number.Ascend (rows ++ r ∷ []) → rows_by_number.Ascend rows
+pub front_ascends : (rows : List Record) (r : Record) → rows_by_number.Ascend (rows ++ r ∷ []) → rows_by_number.Ascend rows
 front_ascends [] r ascend = tt
 front_ascends (s ∷ rows) r ascend = (all_front rows ascend.0, front_ascends rows r ascend.1)
   where

@@ -1,5 +1,5 @@
 -- Rows that equal an earlier one.
-use Rattle.std.proofs.Common.{◌≡◌, ℕ, zero, suc, ◌+◌, List, [], ◌∷◌, ◌++◌, Bool, true, false, not, ◌&&◌, ◌||◌, ◌==◌, cond, Option, Some, inl, inr, refl, ap, sym, subst, ◌∙◌, find, filter, map, length, drop, arith, nat_lt}
+use Rattle.std.proofs.Common.{◌≡◌, ℕ, zero, suc, ◌+◌, List, [], ◌∷◌, ◌++◌, Bool, true, false, not, ◌&&◌, ◌||◌, ◌==◌, cond, Option, Some, inl, inr, refl, ap, sym, subst, ◌∙◌, find, filter, map, length, drop, arith, nat_lt, None, Result, Ok, Err, IfOk, take}
 use Rattle.std.specs.Prelude.{slice_get}
 use Rattle.std.proofs.lemmas.Bool.{cases_Bool}
 use Rattle.std.proofs.lemmas.Bool.Decides.{nat_tests}
@@ -15,16 +15,20 @@ use Rattle.rv_value.specs.declared.record.IndexEntry.{IndexEntry}
 use Rattle.rv_value.specs.declared.range.Range.{Range}
 use Rattle.rv_value.specs.Order.{value_cmp, values_cmp}
 use Rattle.rv_value.specs.Orders.{values_cmp_total}
+use Rattle.std.specs.Option.{option_map}
+use Rattle.rv_value.specs.declared.record.RowNo.{RowNo}
+use Rattle.rv_catalog.specs.declared.def.IndexDef.{IndexDef}
 use Rattle.rv_rows.specs.Rising.{put_in}
 use Rattle.rv_rows.specs.Rows.{Ascend, comes_below}
 use Rattle.rv_rows.proofs.Filters.{both}
 use Rattle.rv_rows.proofs.Puts.{rising_filter}
 use Rattle.rv_reader.specs.Entries.{comes_before, entries_of, entry_of, is_in, run}
 use Rattle.rv_model.specs.Offers.{same_values}
-use Rattle.rv_model.specs.Rivals.{are_equal, has_key, is_null, key_of}
+use Rattle.rv_model.specs.Rivals.{are_equal, equals_lower, first_equal, has_key, is_null, key_of}
 use Rattle.rv_rivals.specs.Lookups.{is_whole}
 use Rattle.rv_rivals.specs.Points.{has_entry, point}
 use Rattle.rv_rivals.proofs.Entries.{put_more}
+use Rattle.rv_rivals.proofs.Finding.{find_same}
 use Rattle.rv_rivals.proofs.Points.{many, point_runs, values_same}
 
 -- Equal keys.
@@ -173,3 +177,54 @@ counted_any key range entries n is count = ap (λ m. not (m == 0)) (count ∙ ap
     some_counted : (p : IndexEntry → Bool) (xs : List IndexEntry) → not (length (filter p xs) == 0) ≡ list_any p xs
     some_counted p [] = refl
     some_counted p (x ∷ xs) = step p x xs (p x) (some_counted p xs)
+
+-- ---- steps of the functions
+
+pub null_key : (columns : List ℕ) (values key : List Value) (b : Bool) → key ≡ key_of columns values → b ≡ list_any is_null key → list_any is_null (key_of columns values) ≡ b
+null_key columns values key b is told = ap (list_any is_null) (sym is) ∙ sym told
+
+all_taken : {X : Type 0} (p : X → Bool) (k : ℕ) (xs : List X) → list_all p xs ≡ true → list_all p (take k xs) ≡ true
+all_taken p zero xs all = refl
+all_taken p (suc k) [] all = refl
+all_taken p (suc k) (x ∷ xs) all = (let parts = both (p x) (list_all p xs) all in (λ i. parts.0 i && all_taken p k xs parts.1 i))
+
+pub ascend_taken : (k : ℕ) (rows : List Record) → Ascend rows → Ascend (take k rows)
+ascend_taken zero rows ascend = tt
+ascend_taken (suc k) [] ascend = tt
+ascend_taken (suc k) (r ∷ rows) ascend = (all_taken (comes_below r) k rows ascend.0, ascend_taken k rows ascend.1)
+
+split_at : (rows : List Record) (k : ℕ) (r : Record) → slice_get rows k ≡ Some r → rows ≡ take k rows ++ r ∷ drop (suc k) rows
+split_at [] k r is = cc
+split_at (x ∷ xs) zero r is = (let own : x ≡ r = cc in λ i. own i ∷ xs)
+split_at (x ∷ xs) (suc k) r is = ap (λ ys. x ∷ ys) (split_at xs k r is)
+
+pub lower_at : (columns : List ℕ) (rows : List Record) (k : ℕ) (r : Record) → Ascend rows → slice_get rows k ≡ Some r → equals_lower columns rows r ≡ list_any (λ (s : Record). are_equal columns s r) (take k rows)
+lower_at columns rows k r ascend is =
+    let split = split_at rows k r is in
+    ap (λ xs. list_any (λ (s : Record). nat_lt s.row.0 r.row.0 && are_equal columns s r) xs) split
+    ∙ lower_front (λ (s : Record). are_equal columns s r) (take k rows) r (drop (suc k) rows) (subst Ascend split ascend)
+
+none_unless : (p : Record → Bool) (b : Bool) (rows : List Record) → b ≡ false → find (λ (r : Record). b && p r) rows ≡ None
+none_unless p b [] off = refl
+none_unless p b (r ∷ rows) off = ap (λ c. cond (c && p r) (Some r) (find (λ (s : Record). b && p s) rows)) off ∙ none_unless p b rows off
+
+turned_off : (b : Bool) → not b ≡ true → b ≡ false
+turned_off true h = cc
+turned_off false h = refl
+
+pub not_unique : (def : IndexDef) (rows : List Record) → not def.unique ≡ true → None ≡ option_map (λ (r : Record). r.row) (first_equal def rows)
+not_unique def rows off = ap (option_map (λ (r : Record). r.row)) (sym (none_unless (equals_lower def.columns rows) def.unique rows (turned_off def.unique off)))
+
+pub equal_found : (def : IndexDef) (rows seen : List Record) (columns : List ℕ) (row : Option RowNo) → not def.unique ≡ false → columns ≡ def.columns → seen ≡ rows → row ≡ option_map (λ (r : Record). r.row) (find (equals_lower columns seen) seen)
+    → row ≡ option_map (λ (r : Record). r.row) (first_equal def rows)
+equal_found def rows seen columns row on is same found =
+    found ∙ (λ i. option_map (λ (r : Record). r.row) (find (equals_lower (is i) (same i)) (same i)))
+    ∙ ap (option_map (λ (r : Record). r.row)) (find_same (equals_lower def.columns rows) (λ r. def.unique && equals_lower def.columns rows r) rows (λ r. sym (ap (λ b. b && equals_lower def.columns rows r) (turned_on def.unique on))))
+  where
+    turned_on : (b : Bool) → not b ≡ false → b ≡ true
+    turned_on true h = refl
+    turned_on false h = cc
+
+pub if_ok : {A E : Type 0} (r : Result A E) (P Q : A → Type 0) → ((a : A) → P a → Q a) → IfOk r P → IfOk r Q
+if_ok (Ok a) P Q more h = more a h
+if_ok (Err e) P Q more h = tt

@@ -42,7 +42,7 @@ one_front : (f : Record → Result (Unit {0}) Refusal) (number : ℕ) (values : 
 one_front f number None rows pass = refl
 one_front f number (Some vs) rows pass = (let r : Record = record { row = record { 0 = number }; values = vs } in by (f r) pass)
   where
-    by : (r : Result (Unit {0}) Refusal) → (r >>= (λ passed. Ok tt)) ≡ Ok tt → (r >>= (λ passed. all_pass f rows)) ≡ all_pass f rows
+    by : (r : Result (Unit {0}) Refusal) → (r >>= (λ passed. all_pass f [])) ≡ all_pass f [] → (r >>= (λ passed. all_pass f rows)) ≡ all_pass f rows
     by (Ok u) h = refl
     by (Err e) h = cc
 

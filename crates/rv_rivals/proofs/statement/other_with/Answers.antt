@@ -17,5 +17,5 @@ span_of-span-requires-clause-long c =
 pub returns : goal.returns
 returns c columns rows ascend are long =
     c.first_of.ensures
-    ∙ other_is columns c.args.key.now c.args.row.0 c.span_of-span.result.count rows c.in_ok-run.run.items _ _ c.args.entries.now ascend long are
+    ∙ other_is columns c.args.key.now c.args.row.0 c.span_of-span.result.count rows c.in_ok-run.run'.items _ _ c.args.entries.now ascend long are
     (c.span_of-span.ensures.span ∙ in_range c.in_ok-range.range c.args.entries.now ∙ ap (λ r. run c.args.entries.now r) c.in_ok-range.ensures) (c.in_ok-run.ensures ∙ ap (λ n. take n _) c.min.ensures) c.as_slice.ensures.value
