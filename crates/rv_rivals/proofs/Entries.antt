@@ -20,7 +20,7 @@ use Rattle.rv_rows.proofs.Merges.{passes_put}
 use Rattle.rv_reader.specs.Entries.{Ascend, comes_before, entries_of, entry_of}
 use Rattle.rv_reader.specs.Tables.{row_at}
 use Rattle.rv_reader.proofs.Sorting.{entries_ascend}
-use Rattle.rv_model.specs.Rivals.{rows_written}
+use Rattle.rv_model.specs.Rivals.{key_of, rows_written}
 use Rattle.rv_overlay.specs.Keeping.{entry_at, with_some}
 use Rattle.rv_overlay.specs.Rows.{changed_row}
 use Rattle.rv_overlay.specs.Views.{is_entry}
@@ -165,3 +165,8 @@ pub rows_next : (table row k : ℕ) (c d : Change) (new rows next : List Change)
     → has_change table row rows ≡ has_change table row (take k new) → has_change table row next ≡ (is_of table row d || has_change table row rows) → has_change table row next ≡ has_change table row (take (suc k) new)
 rows_next table row k c d new rows next is tables rows_same before put =
     put ∙ (λ i. ((tables i == table) && ((rows_same i).0 == row)) || before i) ∙ has_last table row c (take k new) ∙ ap (has_change table row) (sym (take_next new k c is))
+
+pub put_is : (columns : List ℕ) (c : Change) (values key : List Value) (old new : List IndexEntry) → c.values ≡ Some values → key ≡ key_of columns values → new ≡ put_in comes_before (record { key = key; row = c.row }) old → new ≡ with_some (entry_at columns (changed_row (Some c) None)) old
+put_is columns c values key old new has is put =
+    put ∙ ap (λ k. (let e : IndexEntry = record { key = k; row = c.row } in put_in comes_before e old)) is
+    ∙ sym (ap (λ v. with_some (entry_at columns (changed_row (Some (record c { values = v })) None)) old) has)

@@ -208,22 +208,14 @@ none_unless : (p : Record → Bool) (b : Bool) (rows : List Record) → b ≡ fa
 none_unless p b [] off = refl
 none_unless p b (r ∷ rows) off = ap (λ c. cond (c && p r) (Some r) (find (λ (s : Record). b && p s) rows)) off ∙ none_unless p b rows off
 
-turned_off : (b : Bool) → not b ≡ true → b ≡ false
-turned_off true h = cc
-turned_off false h = refl
+pub not_unique : (def : IndexDef) (rows : List Record) → def.unique ≡ false → None ≡ option_map (λ (r : Record). r.row) (first_equal def rows)
+not_unique def rows off = ap (option_map (λ (r : Record). r.row)) (sym (none_unless (equals_lower def.columns rows) def.unique rows off))
 
-pub not_unique : (def : IndexDef) (rows : List Record) → not def.unique ≡ true → None ≡ option_map (λ (r : Record). r.row) (first_equal def rows)
-not_unique def rows off = ap (option_map (λ (r : Record). r.row)) (sym (none_unless (equals_lower def.columns rows) def.unique rows (turned_off def.unique off)))
-
-pub equal_found : (def : IndexDef) (rows seen : List Record) (columns : List ℕ) (row : Option RowNo) → not def.unique ≡ false → columns ≡ def.columns → seen ≡ rows → row ≡ option_map (λ (r : Record). r.row) (find (equals_lower columns seen) seen)
+pub equal_found : (def : IndexDef) (rows seen : List Record) (columns : List ℕ) (row : Option RowNo) → def.unique ≡ true → columns ≡ def.columns → seen ≡ rows → row ≡ option_map (λ (r : Record). r.row) (find (equals_lower columns seen) seen)
     → row ≡ option_map (λ (r : Record). r.row) (first_equal def rows)
 equal_found def rows seen columns row on is same found =
     found ∙ (λ i. option_map (λ (r : Record). r.row) (find (equals_lower (is i) (same i)) (same i)))
-    ∙ ap (option_map (λ (r : Record). r.row)) (find_same (equals_lower def.columns rows) (λ r. def.unique && equals_lower def.columns rows r) rows (λ r. sym (ap (λ b. b && equals_lower def.columns rows r) (turned_on def.unique on))))
-  where
-    turned_on : (b : Bool) → not b ≡ false → b ≡ true
-    turned_on true h = refl
-    turned_on false h = cc
+    ∙ ap (option_map (λ (r : Record). r.row)) (find_same (equals_lower def.columns rows) (λ r. def.unique && equals_lower def.columns rows r) rows (λ r. sym (ap (λ b. b && equals_lower def.columns rows r) on)))
 
 pub if_ok : {A E : Type 0} (r : Result A E) (P Q : A → Type 0) → ((a : A) → P a → Q a) → IfOk r P → IfOk r Q
 if_ok (Ok a) P Q more h = more a h

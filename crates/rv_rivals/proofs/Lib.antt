@@ -1,6 +1,7 @@
 pub mod Entries
 pub mod Equals
 pub mod Finding
+pub mod Nearing
 pub mod Neighbours
 pub mod Places
 pub mod Points

@@ -1,8 +1,9 @@
 //! What stands beside the rows that a statement writes.
-ghost use Rattle.std.specs.Prelude.{◌≡◌, ℕ, List, IfOk, OnOk, ◌++◌, map, ◌∷◌, []};
+ghost use Rattle.std.specs.Prelude.{◌≡◌, ℕ, List, true, IfOk, OnOk, ◌++◌, map, ◌∷◌, []};
 ghost use Rattle.std.specs.List.{AllByRecursion};
 ghost use Rattle.rv_rows.specs.Changes.{has_change};
 ghost use Rattle.rv_model.specs.declared.transactions.Transaction.{Transaction as OneTransaction};
+ghost use Rattle.rv_txn.specs.Apart.{are_apart};
 ghost use Rattle.rv_own.specs.Views.{AreOwn, AreViews, CanView, Freezes};
 ghost use Rattle.rv_rivals.specs.Lookups.{CanLook, IsPlaced, touching};
 
@@ -65,19 +66,20 @@ fn others_of<'a, S: Store + Reader<Ledger = Uncounted>>(
     alloc: Global,
     store: &S,
     indexes: &[IndexDef],
-    txns: &'a Txns,
+    active: &'a [Transaction],
     views: &mut Views,
     session: u8,
     table: u32,
 ) -> Result<Vec<Other<'a>>, NoMemory>
-    requires active { AllByRecursion (λ (t : OneTransaction). CanView (S.shown store.now) indexes.now t []) txns.now.active }
-    requires views { AreViews (S.shown store.now) txns.now.active views.old }
-    ensures others { IfOk result (λ others. map (λ o. o.transaction.now) others.items ≡ touching table session txns.now.active) }
+    requires apart { are_apart active.now ≡ true }
+    requires can { AllByRecursion (λ (t : OneTransaction). CanView (S.shown store.now) indexes.now t []) active.now }
+    requires views { AreViews (S.shown store.now) active.now views.old }
+    ensures others { IfOk result (λ others. map (λ o. o.transaction.now) others.items ≡ touching table session active.now) }
     ensures each { IfOk result (λ others. AllByRecursion (λ o. Freezes (S.shown store.now) o.transaction.now o.view) others.items) }
-    ensures views { AreViews (S.shown store.now) txns.now.active views.new }
+    ensures views { AreViews (S.shown store.now) active.now views.new }
 {
     let mut others = Vec::new(alloc);
-    'active: for transaction in txns.actives() {
+    'active: for transaction in active {
         add_other(store, indexes, views, &mut others, transaction, session, table)?;
     }
     Ok(others)
@@ -105,7 +107,8 @@ pub fn near_of<'a, S: Store + Reader<Ledger = Uncounted>>(
 {
     let new = rows_of(alloc, new)?;
     let view = views.freeze(store, indexes, own)?;
-    let others = others_of(alloc, store, indexes, txns, views, own.session, table)?;
+    let active = txns.actives();
+    let others = others_of(alloc, store, indexes, active, views, own.session, table)?;
     Ok(Near {
         table,
         own,

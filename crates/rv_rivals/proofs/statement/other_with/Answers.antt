@@ -1,4 +1,4 @@
-use Rattle.std.proofs.Common.{◌∙◌, ap, subst, sym, take}
+use Rattle.std.proofs.Common.{◌∙◌, ap, drop, subst, sym, take}
 use Rattle.rv_reader.specs.Entries.{AreLong, Ascend, run}
 use Rattle.rv_reader.proofs.Sorting.{entries_ascend}
 use Rattle.rv_rivals.specs.Points.{point}
@@ -18,4 +18,4 @@ pub returns : goal.returns
 returns c columns rows ascend are long =
     c.first_of.ensures
     ∙ other_is columns c.args.key.now c.args.row.0 c.span_of-span.result.count rows c.in_ok-run.run'.items _ _ c.args.entries.now ascend long are
-    (c.span_of-span.ensures.span ∙ in_range c.in_ok-range.range c.args.entries.now ∙ ap (λ r. run c.args.entries.now r) c.in_ok-range.ensures) (c.in_ok-run.ensures ∙ ap (λ n. take n _) c.min.ensures) c.as_slice.ensures.value
+    (c.span_of-span.ensures.span ∙ in_range c.in_ok-range.range c.args.entries.now ∙ ap (λ r. run c.args.entries.now r) c.in_ok-range.ensures) (c.in_ok-run.ensures ∙ ap (λ n. take n (drop c.span_of-span.result.at c.args.entries.now)) c.min.ensures) c.as_slice.ensures.value
