@@ -1,5 +1,5 @@
 -- A row and a place more were tested.
-use Rattle.std.proofs.Common.{◌≡◌, ℕ, zero, suc, List, [], ◌∷◌, ◌++◌, Option, Some, None, Result, Ok, Err, refl, ap, sym, ◌∙◌, drop}
+use Rattle.std.proofs.Common.{◌≡◌, ℕ, zero, suc, ◌≤◌, List, [], ◌∷◌, ◌++◌, Option, Some, None, Result, Ok, Err, refl, ap, sym, ◌∙◌, arith, drop, length, map}
 use Rattle.std.specs.Prelude.{slice_get}
 use Rattle.rv_lang.specs.declared.reply.Refusal.{Refusal}
 use Rattle.rv_lang.specs.declared.reply.Rival.{Rival}
@@ -53,3 +53,25 @@ row_passes f (d ∷ ds) zero c whole is pass h =
     let own : d ≡ c = cc in
     sym (one_front f d.row.0 d.values (given ds) (ap (λ (x : Change). all_pass f (values_row x.row.0 x.values)) own ∙ pass)) ∙ h
 row_passes f (d ∷ ds) (suc k) c whole is pass h = row_passes f ds k c whole is pass h
+
+-- The same through a function.
+
+pub passes_mapped : {A B : Type 0} (f : B → Result (Unit {0}) Refusal) (h : A → B) (xs : List A) (k : ℕ) (x : A) (whole : Result (Unit {0}) Refusal) → slice_get xs k ≡ Some x → f (h x) ≡ Ok tt → all_pass f (map h (drop k xs)) ≡ whole → all_pass f (map h (drop (suc k) xs)) ≡ whole
+passes_mapped f h [] k x whole is pass inv = cc
+passes_mapped f h (y ∷ ys) zero x whole is pass inv =
+    let own : y ≡ x = cc in
+    sym (ap (λ r. r >>= (λ passed. all_pass f (map h ys))) (ap (λ z. f (h z)) own ∙ pass)) ∙ inv
+passes_mapped f h (y ∷ ys) (suc k) x whole is pass inv = passes_mapped f h ys k x whole is pass inv
+
+pub fails_mapped : {A B : Type 0} (f : B → Result (Unit {0}) Refusal) (h : A → B) (xs : List A) (k : ℕ) (x : A) (e : Refusal) (whole : Result (Unit {0}) Refusal) → slice_get xs k ≡ Some x → f (h x) ≡ Err e → all_pass f (map h (drop k xs)) ≡ whole → whole ≡ Err e
+fails_mapped f h [] k x e whole is fail inv = cc
+fails_mapped f h (y ∷ ys) zero x e whole is fail inv =
+    let own : y ≡ x = cc in
+    sym inv ∙ ap (λ r. r >>= (λ passed. all_pass f (map h ys))) (ap (λ z. f (h z)) own ∙ fail)
+fails_mapped f h (y ∷ ys) (suc k) x e whole is fail inv = fails_mapped f h ys k x e whole is fail inv
+
+pub dropped_all : {A : Type 0} (k : ℕ) (xs : List A) → length xs ≤ k → drop k xs ≡ []
+dropped_all zero [] past = refl
+dropped_all zero (x ∷ xs) past = absurd (omega (arith, past))
+dropped_all (suc k) [] past = refl
+dropped_all (suc k) (x ∷ xs) past = dropped_all k xs (omega (arith, past))

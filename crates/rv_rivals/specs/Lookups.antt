@@ -1,5 +1,5 @@
 -- What rivals are looked up in, and what is asked of it.
-use Rattle.std.specs.Prelude.{◌≡◌, ℕ, ◌<◌, ◌≤◌, ◌==◌, List, [], ◌∷◌, Bool, true, not, ◌&&◌, nat_lt, Option, Some, None, Result, filter, find, length, slice_get, if◌then◌else◌}
+use Rattle.std.specs.Prelude.{◌≡◌, ℕ, ◌<◌, ◌≤◌, ◌^◌, ◌==◌, List, [], ◌∷◌, Bool, true, not, ◌&&◌, nat_lt, Option, Some, None, Result, filter, find, length, slice_get, if◌then◌else◌}
 use Rattle.std.specs.List.{AllByRecursion, list_any}
 use Rattle.std.specs.Option.{option_map}
 use Rattle.rv_value.specs.declared.value.Value.{Value}
@@ -87,6 +87,7 @@ pub record CanLook (shown : Shown) (indexes : List IndexDef) (txns : Transaction
   pub placed : IsPlaced txns.active own
   pub active : AllByRecursion (λ (t : Transaction). CanView shown indexes t []) txns.active
   pub kept : AreViews shown txns.active views
+  pub numbers : length indexes < 2 ^ 32
   pub rise : Rise new
   pub of_table : AllByRecursion (λ (c : Change). c.table ≡ table) new
 

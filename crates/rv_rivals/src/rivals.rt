@@ -1,5 +1,5 @@
 //! The first rival of the rows that a statement writes.
-ghost use Rattle.std.specs.Prelude.{◌≡◌, ◌≤◌, ℕ, List, [], ◌∷◌, ◌++◌, Some, IfErr, IfOk, OnOk, Ok, map, length, slice_get};
+ghost use Rattle.std.specs.Prelude.{◌≡◌, ◌<◌, ◌≤◌, ◌^◌, ℕ, List, [], ◌∷◌, ◌++◌, Some, IfErr, IfOk, OnOk, Ok, map, length, slice_get};
 ghost use Rattle.std.specs.List.{AllByRecursion};
 ghost use Rattle.rv_value.specs.declared.record.Record.{Record as OneRecord};
 ghost use Rattle.rv_rows.specs.declared.changes.Change.{Change as OneChange};
@@ -99,6 +99,7 @@ fn unique_over<'a>(
     table: u32,
     new: &[Change],
 ) -> Result<Vec<Unique<'a>>, NoMemory>
+    requires numbers { length indexes.now < 2 ^ 32 }
     requires columns { AllByRecursion (λ (d : OneIndex). (1 ≤ length d.columns) × (length d.columns ≤ 4)) indexes.now }
     requires rise { Rise new.now }
     requires of_table { AllByRecursion (λ (c : OneChange). c.table ≡ table) new.now }

@@ -38,3 +38,11 @@ active-preserved g c =
       each = c.in_ok-add_other.ensures.each c.active.invariant.each;
       views = c.add_other.ensures.views active (placed_at active k item c.requires.apart is) c.active.invariant.views;
     }
+
+pub returns-in_err-add_other-clause-views : goal.returns-in_err-add_other-clause-views
+returns-in_err-add_other-clause-views g c =
+    let active = c.args.active.now in
+    let k = c.active.transaction-index in
+    let item = c.transaction-item.result in
+    let is : slice_get active k ≡ Some item = slice_get_read active (length active) k item refl c.active-test.true c.transaction-item.is in
+    c.add_other.ensures.views active (placed_at active k item c.requires.apart is) c.active.invariant.views
