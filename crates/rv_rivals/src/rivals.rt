@@ -3,6 +3,7 @@ ghost use Rattle.std.specs.Prelude.{◌≡◌, ◌<◌, ◌≤◌, ◌^◌, ℕ,
 ghost use Rattle.std.specs.List.{AllByRecursion};
 ghost use Rattle.rv_value.specs.declared.record.Record.{Record as OneRecord};
 ghost use Rattle.rv_rows.specs.declared.changes.Change.{Change as OneChange};
+ghost use Rattle.rv_rows.specs.Merging.{values_row};
 ghost use Rattle.rv_rows.specs.Changes.{Rise, has_change, rows_with_changes, with_changes};
 ghost use Rattle.rv_catalog.specs.declared.def.IndexDef.{IndexDef as OneIndex};
 ghost use Rattle.rv_reader.specs.Storing.{IsStored};
@@ -135,12 +136,29 @@ fn test_rows<S: Store + Reader<Ledger = Uncounted>>(
     ensures fault { IfErr result (λ fault. IsFault (all_none (λ (r : OneRecord) (columns : List ℕ). first_equal_to (S.shown store.now) (touched_by txns.now.touched near.now.table) columns (key_of columns r.values) r.row.0 near.now.table near.now.own.now new.now (map (λ o. o.transaction.now) near.now.others.items)) (map (λ u. u.columns.now) unique.now) (rows_written near.now.table new.now)) fault) }
 {
     'rows: for change in new {
-        match &change.values {
-            None => {}
-            Some(values) => test_row(alloc, store, txns, unique, near, change.row, values)?,
-        }
+        test_change(alloc, store, txns, unique, near, change)?;
     }
     Ok(())
+}
+
+/// Tests the row that a change writes, where it writes one.
+fn test_change<S: Store + Reader<Ledger = Uncounted>>(
+    alloc: Global,
+    store: &S,
+    txns: &Txns,
+    unique: &[Unique<'_>],
+    near: &Near<'_>,
+    change: &Change,
+) -> Result<(), TxnFault>
+    requires can { AllByRecursion (λ u. CanTest (S.shown store.now) near.now.table u.number u.columns.now near.now.own.now near.now.view u.entries) unique.now }
+    requires others { AllByRecursion (λ o. CanTestOther (S.shown store.now) o.transaction.now o.view) near.now.others.items }
+    ensures ok { OnOk result ((new : List OneChange) → AllByRecursion (λ u. IsStatement near.now.table change.now.row.0 near.now.new u.columns.now u.entries new) unique.now → all_none (λ (r : OneRecord) (columns : List ℕ). first_equal_to (S.shown store.now) (touched_by txns.now.touched near.now.table) columns (key_of columns r.values) r.row.0 near.now.table near.now.own.now new (map (λ o. o.transaction.now) near.now.others.items)) (map (λ u. u.columns.now) unique.now) (values_row change.now.row.0 change.now.values) ≡ Ok tt) }
+    ensures fault { IfErr result (λ fault. (new : List OneChange) → AllByRecursion (λ u. IsStatement near.now.table change.now.row.0 near.now.new u.columns.now u.entries new) unique.now → IsFault (all_none (λ (r : OneRecord) (columns : List ℕ). first_equal_to (S.shown store.now) (touched_by txns.now.touched near.now.table) columns (key_of columns r.values) r.row.0 near.now.table near.now.own.now new (map (λ o. o.transaction.now) near.now.others.items)) (map (λ u. u.columns.now) unique.now) (values_row change.now.row.0 change.now.values)) fault) }
+{
+    match &change.values {
+        None => Ok(()),
+        Some(values) => test_row(alloc, store, txns, unique, near, change.row, values),
+    }
 }
 
 /// Tests a row in each unique index.

@@ -1,4 +1,4 @@
-use Rattle.std.proofs.Common.{◌≡◌, ◌+◌, ◌×◌, ◌≤◌, ◌∙◌, ◌++◌, ◌∷◌, [], suc, Some, ap, arith, length, map, refl, subst, sym, take}
+use Rattle.std.proofs.Common.{◌≡◌, ◌+◌, ◌≤◌, ◌∙◌, ◌++◌, ◌∷◌, [], suc, Some, ap, arith, length, map, refl, subst, sym, take}
 use Rattle.std.specs.Prelude.{slice_get}
 use Rattle.std.proofs.lemmas.Option.{slice_get_read}
 use Rattle.rv_catalog.specs.declared.def.IndexDef.{IndexDef}
