@@ -1,15 +1,21 @@
 -- A row and a place more were tested.
-use Rattle.std.proofs.Common.{◌≡◌, ℕ, zero, suc, ◌≤◌, List, [], ◌∷◌, ◌++◌, Option, Some, None, Result, Ok, Err, refl, ap, sym, ◌∙◌, arith, drop, length, map}
+use Rattle.std.proofs.Common.{◌≡◌, ℕ, zero, suc, ◌≤◌, List, [], ◌∷◌, ◌++◌, Option, Some, None, Result, Ok, Err, refl, ap, sym, ◌∙◌, arith, drop, length, map, Bool, true, false, ◌&&◌, ◌||◌, ◌==◌, IfErr, OnOk}
 use Rattle.std.specs.Prelude.{slice_get}
+use Rattle.std.specs.List.{AllByRecursion}
+use Rattle.std.proofs.lemmas.Bool.Decides.{nat_tests}
 use Rattle.rv_lang.specs.declared.reply.Refusal.{Refusal}
 use Rattle.rv_lang.specs.declared.reply.Rival.{Rival}
 use Rattle.rv_value.specs.declared.value.Value.{Value}
 use Rattle.rv_value.specs.declared.record.Record.{Record}
 use Rattle.rv_value.specs.declared.record.RowNo.{RowNo}
 use Rattle.rv_rows.specs.declared.changes.Change.{Change}
+use Rattle.rv_rows.specs.Changes.{has_change}
 use Rattle.rv_rows.specs.Merging.{values_row}
+use Rattle.rv_txn.specs.declared.txns.TxnFault.{TxnFault}
+use Rattle.rv_txn.specs.declared.txns.TxnFault.TheVariants.{Refused, NoMemory}
+use Rattle.rv_txn.specs.Calls.{IsFault}
 use Rattle.rv_catalog.specs.Answers.{◌>>=◌, all_pass}
-use Rattle.rv_rivals.specs.Lookups.{first_some, shown_at}
+use Rattle.rv_rivals.specs.Lookups.{all_none, first_some, none_in, shown_at}
 use Rattle.rv_rivals.proofs.Entries.{given}
 
 -- The places, one after another.
@@ -75,3 +81,61 @@ dropped_all zero [] past = refl
 dropped_all zero (x ∷ xs) past = absurd (omega (arith, past))
 dropped_all (suc k) [] past = refl
 dropped_all (suc k) (x ∷ xs) past = dropped_all k xs (omega (arith, past))
+
+-- One change.
+
+pub one_row : (found : Record → List ℕ → Option Refusal) (columns : List (List ℕ)) (number : ℕ) (values : List Value) (given_values : Option (List Value)) (r : Record) → r ≡ record { row = record { 0 = number }; values = values } → given_values ≡ Some values
+    → none_in (found r) columns ≡ Ok tt → all_none found columns (values_row number given_values) ≡ Ok tt
+one_row found columns number values given_values r same is pass =
+    ap (λ v. all_none found columns (values_row number v)) is ∙ ap (λ x. x >>= (λ passed. all_none found columns [])) (ap (λ (x : Record). none_in (found x) columns) (sym same) ∙ pass)
+
+pub one_fails : (found : Record → List ℕ → Option Refusal) (columns : List (List ℕ)) (number : ℕ) (values : List Value) (given_values : Option (List Value)) (r : Record) (fault : TxnFault) → r ≡ record { row = record { 0 = number }; values = values } → given_values ≡ Some values
+    → IsFault (none_in (found r) columns) fault → IsFault (all_none found columns (values_row number given_values)) fault
+one_fails found columns number values given_values r (Refused refusal) same is fail =
+    ap (λ v. all_none found columns (values_row number v)) is ∙ ap (λ x. x >>= (λ passed. all_none found columns [])) (ap (λ (x : Record). none_in (found x) columns) (sym same) ∙ fail)
+one_fails found columns number values given_values r NoMemory same is fail = tt
+
+front_fails : (f : Record → Result (Unit {0}) Refusal) (number : ℕ) (values : Option (List Value)) (rows : List Record) (e : Refusal) → all_pass f (values_row number values) ≡ Err e → all_pass f (values_row number values ++ rows) ≡ Err e
+front_fails f number None rows e fail = cc
+front_fails f number (Some vs) rows e fail = (let r : Record = record { row = record { 0 = number }; values = vs } in fails_by f rows e (f r) fail)
+  where
+    fails_by : (g : Record → Result (Unit {0}) Refusal) (more : List Record) (d : Refusal) (r : Result (Unit {0}) Refusal) → (r >>= (λ passed. all_pass g [])) ≡ Err d → (r >>= (λ passed. all_pass g more)) ≡ Err d
+    fails_by g more d (Ok u) h = cc
+    fails_by g more d (Err x) h = h
+
+pub row_faults : (f : Record → Result (Unit {0}) Refusal) (cs : List Change) (k : ℕ) (c : Change) (fault : TxnFault) (whole : Result (Unit {0}) Refusal) → slice_get cs k ≡ Some c → IsFault (all_pass f (values_row c.row.0 c.values)) fault
+    → all_pass f (given (drop k cs)) ≡ whole → IsFault whole fault
+row_faults f cs k c NoMemory whole is fail h = tt
+row_faults f [] k c (Refused e) whole is fail h = cc
+row_faults f (d ∷ ds) zero c (Refused e) whole is fail h =
+    let own : d ≡ c = cc in
+    sym h ∙ front_fails f d.row.0 d.values (given ds) e (ap (λ (x : Change). all_pass f (values_row x.row.0 x.values)) own ∙ fail)
+row_faults f (d ∷ ds) (suc k) c (Refused e) whole is fail h = row_faults f ds k c (Refused e) whole is fail h
+
+-- The change in a place is one of those that were given.
+
+pub has_at : (table : ℕ) (cs : List Change) (k : ℕ) (c : Change) → slice_get cs k ≡ Some c → AllByRecursion (λ (d : Change). d.table ≡ table) cs → has_change table c.row.0 cs ≡ true
+has_at table [] k c is of = cc
+has_at table (d ∷ ds) zero c is of =
+    let own : d ≡ c = cc in
+    let rows : d.row.0 ≡ c.row.0 = ap (λ (x : Change). x.row.0) own in
+    let tables = of.0 in
+    let here : ((d.table == table) && (d.row.0 == c.row.0)) ≡ true = grind (arith, nat_tests, rows, tables) in
+    ap (λ b. b || has_change table c.row.0 ds) here
+has_at table (d ∷ ds) (suc k) c is of = ap (λ b. ((d.table == table) && (d.row.0 == c.row.0)) || b) (has_at table ds k c is of.1) ∙ or_true ((d.table == table) && (d.row.0 == c.row.0))
+  where
+    or_true : (b : Bool) → (b || true) ≡ true
+    or_true true = refl
+    or_true false = refl
+
+pub ok_more : {A E : Type 0} (r : Result A E) (P Q : Type 0) → (P → Q) → OnOk r P → OnOk r Q
+ok_more (Ok a) P Q more h = more h
+ok_more (Err e) P Q more h = tt
+
+pub if_err : {A E : Type 0} (r : Result A E) (P Q : E → Type 0) → ((e : E) → P e → Q e) → IfErr r P → IfErr r Q
+if_err (Ok a) P Q more h = tt
+if_err (Err e) P Q more h = more e h
+
+pub all_more : {X : Type 0} (P Q : X → Type 0) → ((x : X) → P x → Q x) → (xs : List X) → AllByRecursion P xs → AllByRecursion Q xs
+all_more P Q more [] a = tt
+all_more P Q more (x ∷ xs) a = (more x a.0, all_more P Q more xs a.1)

@@ -136,7 +136,10 @@ fn test_rows<S: Store + Reader<Ledger = Uncounted>>(
     ensures fault { IfErr result (λ fault. IsFault (all_none (λ (r : OneRecord) (columns : List ℕ). first_equal_to (S.shown store.now) (touched_by txns.now.touched near.now.table) columns (key_of columns r.values) r.row.0 near.now.table near.now.own.now new.now (map (λ o. o.transaction.now) near.now.others.items)) (map (λ u. u.columns.now) unique.now) (rows_written near.now.table new.now)) fault) }
 {
     'rows: for change in new {
-        test_change(alloc, store, txns, unique, near, change)?;
+        match test_change(alloc, store, txns, unique, near, change) {
+            Ok(()) => {}
+            Err(fault) => return Err(fault),
+        }
     }
     Ok(())
 }
