@@ -13,7 +13,10 @@ use Rattle.rv_rivals.proofs.Testing.{all_more, has_at, row_faults, row_passes}
 use Rattle.rv_rivals.proofs.rivals.test_rows.Goals as goal
 
 pub rows-init : goal.rows-init
-rows-init g c = ap (all_none _ _) (sym (written_given _ c.args.new.now c.requires.rise c.requires.of_table))
+rows-init g c =
+    let found : Record → List ℕ → Option Refusal = λ r columns. first_equal_to (g.S.Reader.shown c.args.store.now) (touched_by c.args.txns.now.touched c.args.near.now.table) columns (key_of columns r.values) r.row.0 c.args.near.now.table c.args.near.now.own.now c.args.new.now (map (λ (o : Other). o.transaction.now) c.args.near.now.others.items) in
+    let columns = map (λ (u : Unique). u.columns.now) c.args.unique.now in
+    ap (all_none found columns) (sym (written_given _ c.args.new.now c.requires.rise c.requires.of_table))
 
 pub rows-preserved : goal.rows-preserved
 rows-preserved g c =
