@@ -17,7 +17,7 @@ use Rattle.rv_catalog.specs.Answers.{◌>>=◌, all_pass}
 use Rattle.rv_reader.specs.Shown.{Shown}
 use Rattle.rv_model.specs.declared.transactions.Transaction.{Transaction}
 use Rattle.rv_model.specs.declared.transactions.Transactions.{Transactions}
-use Rattle.rv_model.specs.Rivals.{Neighbour, all_alone, alone, has_key, is_null, is_rival, key_of, placed, rows_left, rows_written, written_by_other}
+use Rattle.rv_model.specs.Rivals.{Neighbour, all_alone, alone, has_key, is_null, is_rival, key_of, placed, rows_left, rows_written, unique_over, written_by_other}
 use Rattle.rv_model.specs.Step.{others}
 use Rattle.rv_model.specs.Transactions.{refuse_at, touched_by}
 use Rattle.rv_rivals.specs.Lookups.{all_none, first_equal_to, first_rival, first_some, first_with, neighbours_in, other_than, shown_at, touching, written_first}
@@ -156,3 +156,12 @@ none_unique near (r ∷ rows) = none_unique near rows
 pub no_columns : (indexes : List IndexDef) → [] ≡ map (λ (d : IndexDef). d.columns) indexes → indexes ≡ []
 no_columns [] h = refl
 no_columns (d ∷ ds) h = cc
+
+-- what was tested beside a transaction is what the definition tests
+pub assembled : (shown : Shown) (txns : Transactions) (own near_own : Transaction) (table near_table : ℕ) (new : List Change) (indexes : List IndexDef) (theirs : List Transaction) (columns : List (List ℕ)) → near_table ≡ table → near_own ≡ own
+    → theirs ≡ touching table own.session txns.active → columns ≡ map (λ (d : IndexDef). d.columns) (unique_over table indexes)
+    → all_none (λ (r : Record) (cs : List ℕ). first_equal_to shown (touched_by txns.touched near_table) cs (key_of cs r.values) r.row.0 near_table near_own new theirs) columns (rows_written near_table new)
+    ≡ all_alone (unique_over table indexes) (neighbours_in shown txns own table new) (rows_written table new)
+assembled shown txns own near_own table near_table new indexes theirs columns tables owns others_are are =
+    (λ i. all_none (λ (r : Record) (cs : List ℕ). first_equal_to shown (touched_by txns.touched (tables i)) cs (key_of cs r.values) r.row.0 (tables i) (owns i) new (others_are i)) (are i) (rows_written (tables i) new))
+    ∙ all_are shown txns own table new (unique_over table indexes) (rows_written table new)
