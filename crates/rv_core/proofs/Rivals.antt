@@ -1,5 +1,5 @@
 -- Rivals are looked for over the store, as the definition looks for them in the database.
-use Rattle.std.proofs.Common.{◌≡◌, ℕ, ◌<◌, List, [], ◌∷◌, true, Option, None, Result, Ok, refl, ap, sym, ◌∙◌, subst, arith, filter, length, map}
+use Rattle.std.proofs.Common.{◌≡◌, ℕ, ◌<◌, ◌≤◌, List, [], ◌∷◌, true, Option, None, Result, Ok, refl, ap, sym, ◌∙◌, subst, arith, filter, length, map}
 use Rattle.std.specs.List.{AllByRecursion, list_all}
 use Rattle.std.proofs.lemmas.Bool.Decides.{nat_tests}
 use Rattle.rv_value.specs.declared.value.Value.{Value}
@@ -44,14 +44,15 @@ all_view shown schema txns tied stored =
       new_ones = tt;
     }) txns.active tied.active
 
-pub can_look : (shown : Shown) (schema : Schema) (txns : Transactions) (session table : ℕ) (t : Transaction) (new : List Change) (views : List OwnView) → IsTied shown schema txns → IsStored shown → table < length schema.tables → Owns txns.active session t
+pub can_look : (shown : Shown) (schema : Schema) (txns : Transactions) (session table : ℕ) (t : Transaction) (new : List Change) (views : List OwnView) → IsTied shown schema txns → IsStored shown → length schema.indexes ≤ 512 → table < length schema.tables → Owns txns.active session t
     → Rise new → AllByRecursion (λ (c : Change). c.table ≡ table) new → AreViews shown txns.active views → CanLook shown schema.indexes txns views t table new
-can_look shown schema txns session table t new views tied stored there own rise of all = record {
+can_look shown schema txns session table t new views tied stored most there own rise of all = record {
   stored = stored;
   read = own_read shown schema txns session table t tied there own;
   placed = record { place = own.place; found = own_at txns.active session t own; here = own.here };
   active = all_view shown schema txns tied stored;
   kept = all;
+  numbers = omega (arith, most);
   rise = rise;
   of_table = of;
 }

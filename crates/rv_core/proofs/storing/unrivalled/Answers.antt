@@ -13,7 +13,7 @@ no_rivals-requires g c =
     let shown = g.S.Reader.shown c.args.store.now in
     let own = owns c.args.txns.now.active c.args.session c.in-Some.own.now c.in-Some.ensures in
     subst (λ (ds : List IndexDef). CanLook shown ds c.args.txns.now c.args.views.now c.in-Some.own.now c.args.table c.args.new.now) (sym c.indexes.ensures.same)
-    (can_look shown c.args.catalog.now c.args.txns.now c.args.session c.args.table c.in-Some.own.now c.args.new.now c.args.views.now c.requires.tied c.requires.stored c.requires.there own c.requires.rise c.requires.of_table c.requires.views)
+    (can_look shown c.args.catalog.now c.args.txns.now c.args.session c.args.table c.in-Some.own.now c.args.new.now c.args.views.now c.requires.tied c.requires.stored c.indexes.ensures.room c.requires.there own c.requires.rise c.requires.of_table c.requires.views)
 
 pub returns-in-None-clause-ok : goal.returns-in-None-clause-ok
 returns-in-None-clause-ok g c = lone_none (g.S.Reader.shown c.args.store.now) c.args.catalog.now c.args.txns.now c.args.session c.args.table c.args.new.now (none_is c.args.txns.now.active _ c.in-None.ensures)
