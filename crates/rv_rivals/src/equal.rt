@@ -76,11 +76,7 @@ fn meets(
 }
 
 /// The first of rows whose key, without NULL, an earlier one has.
-fn equal_among(
-    alloc: Global,
-    columns: &[u32],
-    rows: &[Record],
-) -> Result<Option<RowNo>, NoMemory>
+fn equal_among(alloc: Global, columns: &[u32], rows: &[Record]) -> Result<Option<RowNo>, NoMemory>
     requires ascend { Ascend rows.now }
     requires some { 1 ≤ length columns.now }
     requires few { length columns.now ≤ 4 }

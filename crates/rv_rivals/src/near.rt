@@ -80,7 +80,15 @@ fn others_of<'a, S: Store + Reader<Ledger = Uncounted>>(
 {
     let mut others = Vec::new(alloc);
     'active: for transaction in active {
-        add_other(store, indexes, views, &mut others, transaction, session, table)?;
+        add_other(
+            store,
+            indexes,
+            views,
+            &mut others,
+            transaction,
+            session,
+            table,
+        )?;
     }
     Ok(others)
 }

@@ -232,7 +232,15 @@ fn first_with<S: Store + Reader<Ledger = Uncounted>>(
         let by = Rival::Commit(txns.written_by(near.table, row));
         return Ok(Some(Refusal::Duplicate { row, by }));
     }
-    in_others(alloc, store, index, near.table, near.others.as_slice(), key, row)
+    in_others(
+        alloc,
+        store,
+        index,
+        near.table,
+        near.others.as_slice(),
+        key,
+        row,
+    )
 }
 
 /// The lowest other row with a key that the transaction sees, with the statement's rows: of those that it sees now and the
@@ -254,7 +262,15 @@ fn in_view<S: Store + Reader<Ledger = Uncounted>>(
         new: &near.new,
     };
     let base = near.own.base;
-    let found = lowest_seen(alloc, store, &near.view, index.number, base, key, &unchanged)?;
+    let found = lowest_seen(
+        alloc,
+        store,
+        &near.view,
+        index.number,
+        base,
+        key,
+        &unchanged,
+    )?;
     let other = other_with(alloc, &index.entries, key, row)?;
     Ok(lower_row(found, other))
 }

@@ -19,7 +19,7 @@ returns g c =
     let shown = g.S.Reader.shown c.args.store.now in
     let none : c.from_groups-all.result ≡ [] = search rules in
     let rows = c.as_slice-2.ensures.value ∙ c.in_ok-rows.ensures.kept
-        ∙ ap (λ (o : List (List Atom)). filter (λ (r : Record). qualifies o r.values) (shown.rows c.args.def.now.table c.last-last.result)) none
-        ∙ all_kept (shown.rows c.args.def.now.table c.last-last.result)
-        ∙ ap (shown.rows c.args.def.now.table) c.last-last.ensures.newest in
+    ∙ ap (λ (o : List (List Atom)). filter (λ (r : Record). qualifies o r.values) (shown.rows c.args.def.now.table c.last-last.result)) none
+    ∙ all_kept (shown.rows c.args.def.now.table c.last-last.result)
+    ∙ ap (shown.rows c.args.def.now.table) c.last-last.ensures.newest in
     if_ok c.equal_among.result _ _ (λ row k. equal_found c.args.def.now (shown.rows c.args.def.now.table shown.newest) c.as_slice-2.result.now c.as_slice.result.now row c.if-not-def.false c.as_slice.ensures rows k) c.equal_among.ensures

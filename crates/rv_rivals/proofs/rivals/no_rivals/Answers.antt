@@ -32,8 +32,8 @@ test_rows-requires-clause-can g c =
     let shown = g.S.Reader.shown c.args.store.now in
     let are = (own_has (λ t. CanView shown c.args.indexes.now t []) c.args.txns.now.active c.args.own.now c.requires.placed c.requires.active).indexed in
     let here = all_both (λ (u : Unique). IsPlace c.args.indexes.now c.args.table u.number u.columns.now) (λ (u : Unique). u.entries ≡ entries_written u.columns.now c.args.table c.args.new.now) (λ (u : Unique). CanTest shown c.args.table u.number u.columns.now c.args.own.now c.in_ok-near.near.view u.entries)
-        (λ u place told. can_test shown c.args.indexes.now c.args.table u.number u.columns.now c.args.own.now c.in_ok-near.near.view u.entries c.args.new.now c.requires.stored are place c.requires.read.snapshot c.in_ok-near.ensures.view told)
-        c.in_ok-unique.unique.items c.in_ok-unique.ensures.each c.in_ok-unique.ensures.entries in
+    (λ u place told. can_test shown c.args.indexes.now c.args.table u.number u.columns.now c.args.own.now c.in_ok-near.near.view u.entries c.args.new.now c.requires.stored are place c.requires.read.snapshot c.in_ok-near.ensures.view told)
+    c.in_ok-unique.unique.items c.in_ok-unique.ensures.each c.in_ok-unique.ensures.entries in
     subst (λ us. AllByRecursion (λ (u : Unique). CanTest shown c.in_ok-near.near.table u.number u.columns.now c.in_ok-near.near.own.now c.in_ok-near.near.view u.entries) us) (sym c.as_slice.ensures.value)
     (subst (λ n. AllByRecursion (λ (u : Unique). CanTest shown n u.number u.columns.now c.in_ok-near.near.own.now c.in_ok-near.near.view u.entries) c.in_ok-unique.unique.items) (sym c.in_ok-near.ensures.table)
     (subst (λ t. AllByRecursion (λ (u : Unique). CanTest shown c.args.table u.number u.columns.now t c.in_ok-near.near.view u.entries) c.in_ok-unique.unique.items) (sym c.in_ok-near.ensures.own) here))

@@ -27,7 +27,7 @@ rows-preserved g c =
     let item = c.change-item.result in
     let is : slice_get new k ≡ Some item = slice_get_read new (length new) k item refl c.rows-test.true c.change-item.is in
     let all = all_more (λ (u : Unique). u.entries ≡ entries_written u.columns.now c.args.near.now.table new) (λ (u : Unique). IsStatement c.args.near.now.table item.row.0 c.args.near.now.new u.columns.now u.entries new)
-        (λ u told. record { rise = c.requires.rise; same = c.requires.same; told = told; has = has_at c.args.near.now.table new k item is c.requires.of_table }) c.args.unique.now c.requires.entries in
+    (λ u told. record { rise = c.requires.rise; same = c.requires.same; told = told; has = has_at c.args.near.now.table new k item is c.requires.of_table }) c.args.unique.now c.requires.entries in
     let more : suc k ≡ k + 1 = omega arith in
     ap (λ n. all_none found columns (given (drop n new))) (sym more)
     ∙ row_passes (λ (r : Record). none_in (found r) columns) new k item _ is (c.in-Ok.ensures.ok new all) c.rows.invariant
@@ -41,5 +41,5 @@ returns-in-Err-clause-fault g c =
     let item = c.change-item.result in
     let is : slice_get new k ≡ Some item = slice_get_read new (length new) k item refl c.rows-test.true c.change-item.is in
     let all = all_more (λ (u : Unique). u.entries ≡ entries_written u.columns.now c.args.near.now.table new) (λ (u : Unique). IsStatement c.args.near.now.table item.row.0 c.args.near.now.new u.columns.now u.entries new)
-        (λ u told. record { rise = c.requires.rise; same = c.requires.same; told = told; has = has_at c.args.near.now.table new k item is c.requires.of_table }) c.args.unique.now c.requires.entries in
+    (λ u told. record { rise = c.requires.rise; same = c.requires.same; told = told; has = has_at c.args.near.now.table new k item is c.requires.of_table }) c.args.unique.now c.requires.entries in
     row_faults (λ (r : Record). none_in (found r) columns) new k item c.in-Err.fault _ is (c.in-Err.ensures.fault new all) c.rows.invariant
