@@ -64,7 +64,7 @@ pub lone_is : (shown : Shown) (schema : Schema) (txns : Transactions) (session t
 lone_is shown schema txns session table t new there own =
     let within = own_within txns.active session own.place own.at in
     let base : List Record → List Record → Transaction → ℕ → Result (Unit {0}) Refusal = λ rows last u who.
-        all_alone (unique_over table schema.indexes) (neighbours table (with_changes new u.changes) rows last (touched_by txns.touched table) (others txns.active who)) (rows_written table new) in
+    all_alone (unique_over table schema.indexes) (neighbours table (with_changes new u.changes) rows last (touched_by txns.touched table) (others txns.active who)) (rows_written table new) in
     ap (λ (o : Option ℕ). no_rivals_of (db_of shown schema txns []) session o table (λ own. new)) own.at
     ∙ (λ i. base (base_at shown (length schema.tables) table txns.active own.place within there i) (image_at shown (length schema.tables) shown.newest table there i) (transaction_at txns.active own.place) session)
     ∙ (λ i. base (shown.rows table (own.here i).base) (shown.rows table shown.newest) (own.here i) (sym own.owner i))

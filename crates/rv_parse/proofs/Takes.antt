@@ -278,9 +278,14 @@ create_index_takes : (unique : Bool) (tokens : List Token) → Finds (create_ind
 unfolding create_index_at
 create_index_takes unique tokens =
     then (word_takes (codes "INDEX") tokens) (λ n s. then (name_takes n) (λ i u. then (word_takes (codes "ON") i.1) (λ a v. then (name_takes a) (λ t w. then (open_takes t.1) (λ b x. then (list_of_takes name_at name IsName separators.Comma name_takes b) (λ l y. then (close_takes l.1) (λ d z.
-    done (u.0, w.0, y.0, let e = u.1 in let f = w.1 in let g = y.1 in
-    let behind : tokens ≡ INDEX ∷ Word i.0 ∷ ON ∷ Word t.0 ∷ LPAREN ∷ listed COMMA name l.0 (RPAREN ∷ d) = cc in
-    ap (λ ts. CREATE ∷ unique_word unique ts) behind))))))))
+    done (
+      u.0,
+      w.0,
+      y.0,
+      let e = u.1 in let f = w.1 in let g = y.1 in
+          let behind : tokens ≡ INDEX ∷ Word i.0 ∷ ON ∷ Word t.0 ∷ LPAREN ∷ listed COMMA name l.0 (RPAREN ∷ d) = cc in
+          ap (λ ts. CREATE ∷ unique_word unique ts) behind,
+    ))))))))
 
 index_takes : (tokens : List Token) → Finds (index_at tokens) (λ x. IsBody x.0 (CREATE ∷ tokens) x.1)
 unfolding index_at

@@ -157,11 +157,7 @@ fn write_duplicate<K: Sink>(
 }
 
 /// Nothing for a rival in the transaction's own view, else its commit or its transaction.
-fn write_rival<K: Sink>(
-    sink: &mut K,
-    sofar: Result<(), Failed>,
-    by: Rival,
-) -> Result<(), Failed>
+fn write_rival<K: Sink>(sink: &mut K, sofar: Result<(), Failed>, by: Rival) -> Result<(), Failed>
     ensures { Goes sofar (K.written sink.old) (K.written sink.new) (K.faults sink.old) (K.faults sink.new) result (rival_text by) }
 {
     match by {
