@@ -27,6 +27,7 @@ REPLIES = [
     b"trace fast-first building scan I full background stop final-table pages 0 leaves 0 fetches 1",
     b"syntax", b"unknown T_1", b"exists A", b"kind B9", b"active 2", b"no transaction", b"busy 1", b"read only",
     b"changed 3 by 4", b"held 3 by 4", b"no cursor C", b"cursor open C", b"limit atoms 65",
+    b"duplicate 0", b"duplicate 12 by commit 3", b"duplicate 18446744073709551615 by txn 2",
 ]  # fmt: skip
 
 OTHERS = [
@@ -35,6 +36,8 @@ OTHERS = [
     b"row 'a'b'", b"row 'a\x1f'", b"row '\xff'", b"row null", b"unknown t", b"unknown ", b"kind 1A", b"limit rows", b"limit ROWS 1",
     b"changed 3 by ", b"trace table pages 0 leaves 0", b"trace table pages 0 leaves 0 fetches 0 ",
     b"trace tables pages 0 leaves 0 fetches 0", b"trace table scan pages 0 leaves 0 fetches 0", b"pending C", b"not built",
+    b"duplicate", b"duplicate ", b"duplicate 1 ", b"duplicate 1 by 2", b"duplicate 1 by commit", b"duplicate 1 by commit 02",
+    b"duplicate 1 by txn 2 ", b"duplicate 1 by Txn 2", b"duplicate 1 by commit 18446744073709551616", b"duplicate -1",
 ]  # fmt: skip
 
 WHOLE = [b"1 \n= end\n", b"8 A\r\n= end\n", b"1 = end\n= end\n", b"2 A\x00\x1f\xc3\xa4\n= end\n", b"1 A\n= created\n2 B\n= syntax\n"]

@@ -4,7 +4,7 @@
 It finds the first token that fits no statement, with what could stand there; keywords used as names; limits of a
 statement; names of tables, columns, indexes and cursors that are unknown or in use; values of the wrong kind, too many
 and too few. Names are followed through the script as its calls would make them. Rows are not: so what depends on them
-(held, changed) is not told, and neither are calls in a wrong state (no transaction, active, busy, read only),
+(held, changed, duplicate) is not told, and neither are calls in a wrong state (no transaction, active, busy, read only),
 which a script may well mean to show."""
 from __future__ import annotations
 
@@ -36,8 +36,8 @@ INSTEAD = {
     "INT": "the kinds are BIGINT and VARCHAR(n)",
     "INTEGER": "the kinds are BIGINT and VARCHAR(n)",
     "TEXT": "the kinds are BIGINT and VARCHAR(n)",
-    "UNIQUE": "the kinds of indexes have no UNIQUE here",
-    "PRIMARY": "there are no keys: CREATE INDEX name ON table (column) makes an index",
+    "UNIQUE": "columns have no UNIQUE: CREATE UNIQUE INDEX name ON table (column) lets no two rows be equal there",
+    "PRIMARY": "there are no keys: CREATE UNIQUE INDEX name ON table (column) lets no two rows be equal there",
     "DROP": "nothing is dropped",
     "ALTER": "nothing is altered",
     "SELECT": "a query begins with a cursor: OPEN C SELECT .., and FETCH C gives its rows",
@@ -77,6 +77,12 @@ class Names(Database):
         return "end"
 
     def given(self, statement, reply):
+        pass
+
+    def need_different(self, rows, columns):
+        pass
+
+    def need_no_rival(self, name, written):
         pass
 
 

@@ -80,7 +80,11 @@ STATEMENTS = [
     ),
     (
         ["CREATE INDEX I ON T (B, A)", "\tCreate Index i On t(b,a);"],
-        written("CreateIndex", name=text("I"), table=text("T"), columns=items(text("B"), text("A"))),
+        written("CreateIndex", unique="false", name=text("I"), table=text("T"), columns=items(text("B"), text("A"))),
+    ),
+    (
+        ["CREATE UNIQUE INDEX I ON T (A)", "create  unique\tindex i on t(a) ;"],
+        written("CreateIndex", unique="true", name=text("I"), table=text("T"), columns=items(text("A"))),
     ),
     (["BEGIN", "begin;"], written("Begin", read_only="false")),
     (["BEGIN READ ONLY", "begin read only ;"], written("Begin", read_only="true")),
@@ -175,6 +179,10 @@ NOTHING = [
     "CREATE TABLE T (A VARCHAR('4'))",
     "CREATE INDEX ON T (A)",
     "CREATE INDEX I ON T",
+    "CREATE UNIQUE I ON T (A)",
+    "CREATE INDEX UNIQUE ON T (A)",
+    "UNIQUE INDEX I ON T (A)",
+    "CREATE UNIQUE UNIQUE INDEX I ON T (A)",
     "INSERT INTO T VALUES ()",
     "INSERT INTO T VALUES (A)",
     "INSERT INTO T VALUES (9223372036854775808)",

@@ -11,6 +11,9 @@ store), runs each script too. Both are replayed, and their transcripts are equal
 STEP, whose replies depend on the store's leaves and estimates, and which row a FETCH gives. There both give a row or both
 `end`, and when a cursor comes to its end both gave the same rows.
 
+With --unique about half of the indexes are unique, values are spread so that about half of the INSERTs have no rival, and up to
+eight sessions write at once; at the end of each script no two rows of the evaluation are equal in a unique index.
+
 Prints the scripts that differ, with the first line at which they do, and ends with status 1 where one did."""
 import argparse
 import random
@@ -18,7 +21,7 @@ import subprocess
 
 from ending import end
 from model.course import Seen
-from model.database import COMPARISONS, Database, shown
+from model.database import COMPARISONS, Database, shown, whole_key
 from model.program import run
 
 
@@ -63,8 +66,8 @@ class Checked(Database):
 class Maker:
     """Makes a script of random statements and spells it. It follows what they do, so that most are answered well."""
 
-    def __init__(self, rng):
-        self.rng = rng
+    def __init__(self, rng, unique=False):
+        self.rng, self.unique = rng, unique
         self.database = Database()
         self.large = rng.random() < 0.4  # the table T has many rows, so that trees have several leaves
         self.huge = self.large and rng.random() < 0.06  # so many that what was given is remembered no more
@@ -94,6 +97,10 @@ class Maker:
             return None
         if width == "any":
             width = rng.choice([None, 4])
+        if self.unique and rng.random() < 0.8:
+            if width is None:
+                return rng.randint(0, 300 if self.large else 24)
+            return "".join(rng.choice("abcdefgh") for _ in range(rng.randint(1, min(width, 3 if self.large else 2) or 1)))
         if width is None:
             if self.large:
                 return rng.choice([rng.randint(0, 60), rng.randint(0, 60), rng.randint(0, 9)])
@@ -143,7 +150,9 @@ class Maker:
             columns = self.rng.sample(names, count)
         else:
             columns = [self.column(table) for _ in range(count)]
-        return ("index", name, table, columns), self.spelled("CREATE", "INDEX", name, "ON", table, "(" + ", ".join(columns) + ")")
+        unique = self.unique and self.rng.random() < 0.5
+        words = ["CREATE", "UNIQUE", "INDEX"] if unique else ["CREATE", "INDEX"]
+        return ("index", name, table, columns, unique), self.spelled(*words, name, "ON", table, "(" + ", ".join(columns) + ")")
 
     def insert(self, table=None):
         table = table or self.table()
@@ -284,6 +293,13 @@ class Maker:
         text = self.spelled("UPDATE", table, "SET") + " " + ", ".join(f"{c} = {shown(v)}" for c, v in sets) + where
         return ("change", table, sets, groups), text
 
+    def replaced(self, table):
+        """An UPDATE of the few rows that have one value."""
+        column, by, items = self.column(table), self.column(table), [(table, table)]
+        value, key = (self.value(self.width(items, (None, name))) for name in (column, by))
+        text = self.spelled("UPDATE", table, "SET") + f" {column} = {shown(value)} WHERE {by} = {shown(key)}"
+        return ("change", table, [(column, value)], [[("compare", (None, by), "=", key)]]), text
+
     def delete(self):
         table = self.table()
         groups, where = self.where([(table, table)])
@@ -316,6 +332,8 @@ class Maker:
         way = rng.random()
         if way < 0.03 or (not self.known and way < 0.3):
             return self.create() if rng.random() < 0.3 else self.index()
+        if self.unique and way < 0.6:
+            return self.insert() if way < 0.4 else self.update()
         if way < 0.05:
             return self.begin()
         if way < 0.14:
@@ -337,7 +355,7 @@ class Maker:
     def calls(self):
         """Sessions, statements and their spellings."""
         rng = self.rng
-        sessions = [rng.randint(1, 8) for _ in range(rng.randint(1, 4))]
+        sessions = [rng.randint(1, 8) for _ in range(rng.randint(2, 8) if self.unique else rng.randint(1, 4))]
         if rng.random() < 0.95:
             yield from ((1, *made) for made in self.filled())
             sessions.append(1)
@@ -352,6 +370,8 @@ class Maker:
                 yield from self.conflict(session, rng.randint(1, 8))
             if rng.random() < 0.05:
                 yield from self.changing(session)
+            if self.unique and rng.random() < 0.1:
+                yield from self.crowd()
             statement, text = self.statement(session)
             yield session, statement, text
             if statement[0] in ("open", "fetch") and rng.random() < 0.3:
@@ -380,6 +400,21 @@ class Maker:
         end = "commit" if self.rng.random() < 0.7 else "rollback"
         yield first, (end,), self.spelled(end.upper())
         yield second, *change
+
+    def crowd(self):
+        """Sessions write rows of one table beside each other, and some of them end between."""
+        rng, table = self.rng, self.table()
+        sessions = rng.sample(range(1, 9), rng.randint(2, 8))
+        for _ in range(rng.randint(6, 30)):
+            session = rng.choice(sessions)
+            if session not in self.database.active:
+                yield session, ("begin", False), "BEGIN"
+            way = rng.random()
+            if way < 0.14:
+                end = "commit" if way < 0.1 else "rollback"
+                yield session, (end,), self.spelled(end.upper())
+            else:
+                yield session, *(self.insert(table) if way < 0.7 else self.replaced(table) if way < 0.95 else self.delete())
 
     def changing(self, session):
         """A session changes rows, opens a cursor, changes rows while it is open, and opens another one."""
@@ -474,6 +509,26 @@ def differs(ran, script, calls, broken, words, exact):
         database.given(statement, reply[2:])
         if exact and reply[2:] != sure[at]:
             return f"line {2 * at + 2}: {text!r} has {reply!r} for {sure[at]!r}"
+    return equal_rows(database)
+
+
+def equal_rows(database):
+    """Where two rows are equal in a unique index that are not allowed to be, or None: rows of the last commit, rows that one
+    transaction sees, or what one has written and another one or the last commit has."""
+    for name, index in database.indexes.items():
+        if not index.unique:
+            continue
+        last = database.tables[index.table].rows
+        written = {own: {n: values for (table, n), values in own.new.items() if table == index.table} for own in database.active.values()}
+        seen = [last]
+        for own, new in written.items():
+            seen += [{**own.rows[index.table], **new}, {**last, **new}]
+            seen += [{**other, **new} for at, other in written.items() if at is not own]
+        for rows in seen:
+            keys = [whole_key(values, index.columns) for values in rows.values() if values is not None]
+            keys = [key for key in keys if key is not None]
+            if len(keys) != len(set(keys)):
+                return f"two rows are equal in {name}"
     return None
 
 
@@ -511,10 +566,11 @@ def main():
     how = parser.add_mutually_exclusive_group()
     how.add_argument("--exact", action="store_true", help="each transcript is the one of the slow model")
     how.add_argument("--beside", metavar="PROGRAM", help="compare with this program too")
+    parser.add_argument("--unique", action="store_true", help="with unique indexes, in up to eight sessions")
     asked = parser.parse_args()
     count, seed, wrong = asked.count, asked.seed, 0
     for number in range(count):
-        script, calls, broken, words = Maker(random.Random(seed * 1_000_000 + number)).script()
+        script, calls, broken, words = Maker(random.Random(seed * 1_000_000 + number), asked.unique).script()
         ran = transcript(asked.program, script, words)
         difference = differs(ran, script, calls, broken, words, asked.exact)
         if difference is None and asked.beside is not None:

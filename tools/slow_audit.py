@@ -32,6 +32,7 @@ REPLY = re.compile(
     f"|(?:began|inserted|touched|committed|stepped|active|busy) {NUMBER}"
     f"|(?:unknown|exists|kind|no cursor|cursor open) {NAME}"
     f"|(?:changed|held) {NUMBER} by {NUMBER}"
+    f"|duplicate {NUMBER}(?: by (?:commit|txn) {NUMBER})?"
     f"|limit (?:{'|'.join(LIMITS.split())}) {NUMBER}"
     f"|row (?:{VALUE}(?:, {VALUE})*)?"
     f"|trace (?:table|background-only|fast-first|sorted|index-only)(?: {EVENT})*"

@@ -1,7 +1,7 @@
 """The database of one thread, evaluated slowly: rows in dictionaries, conditions in three truths, the rows of a cursor as
 the list of all combinations that qualify. It shares no code with the program. A statement is a tuple:
 
-("create", name, [(column, None or width)])    ("index", name, table, [column])      ("begin", read_only)
+("create", name, [(column, None or width)])    ("index", name, table, [column], unique)  ("begin", read_only)
 ("insert", table, [value])                     ("change", table, [(column, value)] or None, groups)
 ("commit",)  ("rollback",)  ("syntax",)        ("fetch", cursor)  ("show", cursor)  ("close", cursor)  ("step", cursor, n)
 ("open", cursor, [reference] or None, [(table, second name or None)], groups, [reference], soon)
@@ -85,8 +85,14 @@ class Table:
 
 
 class Index:
-    def __init__(self, table, columns):
-        self.table, self.columns = table, columns
+    def __init__(self, table, columns, unique=False):
+        self.table, self.columns, self.unique = table, columns, unique
+
+
+def whole_key(values, columns):
+    """The key of a row in an index; None where some value of it is NULL, since such a row is equal to none."""
+    key = tuple(values[column] for column in columns)
+    return None if None in key else key
 
 
 class Owned:
@@ -206,7 +212,7 @@ class Database:
         self.tables[name] = Table(columns)
         return "created"
 
-    def index(self, name, table, columns):
+    def index(self, name, table, columns, unique=False):
         places = [self.fit((None, column), [(table, self.table(table))])[1] for column in columns]
         if name in self.indexes:
             raise Refused("exists", name)
@@ -214,8 +220,19 @@ class Database:
         self.need_quiet()
         if sum(index.table == table for index in self.indexes.values()) >= 8:
             raise Refused("limit indexes 8")
-        self.indexes[name] = Index(table, places)
+        if unique:
+            self.need_different(self.tables[table].rows, places)
+        self.indexes[name] = Index(table, places, unique)
         return "created"
+
+    def need_different(self, rows, columns):
+        """Refuses where two rows are equal in a unique index that is to be made."""
+        seen = set()
+        for number in sorted(rows):
+            key = whole_key(rows[number], columns)
+            if key in seen:
+                raise Refused(f"duplicate {number}")
+            seen.update([] if key is None else [key])
 
     def begin(self, read_only):
         if self.own is not None:
@@ -237,6 +254,7 @@ class Database:
             raise Refused("limit rows 1000000")
         if len(self.own.new) >= 100_000:
             raise Refused("limit pending 100000")
+        self.need_no_rival(name, {table.next: values})
         table.next += 1
         self.own.new[name, table.next - 1] = values
         return f"inserted {table.next - 1}"
@@ -256,14 +274,46 @@ class Database:
         view = self.view(name)
         hit = [n for n in sorted(view) if qualifies(placed, lambda p: view[n][p[1]])]
         self.may_change(name, hit)
+        written = {}
+        for number in hit if sets is not None else []:
+            written[number] = list(view[number])
+            for (_, value), at in zip(sets, places):
+                written[number][at] = value
+        self.need_no_rival(name, written)
         for number in hit:
-            values = None
-            if sets is not None:
-                values = list(view[number])
-                for (_, value), at in zip(sets, places):
-                    values[at] = value
-            self.own.new[name, number] = values
+            self.own.new[name, number] = written.get(number)
         return f"touched {len(hit)}"
+
+    def need_no_rival(self, name, written):
+        """Refuses where one of the rows to be written, by number, has a rival: another row that equals it in a unique index,
+        out of the view as it will be, the last commit without what the transaction changes, or other transactions' changes."""
+        indexes = [index for index in self.indexes.values() if index.unique and index.table == name]
+        if not indexes:
+            return
+        view = {**self.view(name), **written}
+        changed = {number for table, number in self.own.new if table == name} | set(written)
+        last = {number: values for number, values in self.tables[name].rows.items() if number not in changed}
+        others = sorted((own for own in self.active.values() if own is not self.own), key=lambda own: own.number)
+        for number in sorted(written):
+            for index in indexes:
+                self.need_alone(name, number, index, whole_key(written[number], index.columns), view, last, others)
+
+    def need_alone(self, name, number, index, key, view, last, others):
+        """Refuses where another row than that of a number has the key."""
+
+        def first(rows):
+            return min((n for n, values in rows.items() if n != number and whole_key(values, index.columns) == key), default=None)
+
+        if key is None:
+            return
+        if (rival := first(view)) is not None:
+            raise Refused(f"duplicate {rival}")
+        if (rival := first(last)) is not None:
+            raise Refused(f"duplicate {rival} by commit {self.touched[name, rival]}")
+        for other in others:
+            rows = {n: values for (table, n), values in other.new.items() if table == name and values is not None}
+            if (rival := first(rows)) is not None:
+                raise Refused(f"duplicate {rival} by txn {other.number}")
 
     def view(self, name):
         """The rows of a table at the transaction's base, with its changes."""

@@ -230,8 +230,8 @@ class Engine(Database):
     def rule(self, projected, guaranteed):
         return self.judges[self.judge].rule(projected, guaranteed)
 
-    def index(self, name, table, columns):
-        reply = super().index(name, table, columns)
+    def index(self, name, table, columns, unique=False):
+        reply = super().index(name, table, columns, unique)
         entries = self.empty()
         for number, values in sorted(self.tables[table].rows.items()):
             entries = entries.put((self.key(name, values), number))

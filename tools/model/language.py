@@ -7,8 +7,8 @@ from typing import Callable, Iterator, TypeVar
 
 KEYWORDS = set(
     """AND BEGIN BETWEEN BIGINT BY CLOSE COMMIT CREATE DELETE FAST FETCH FIRST FOR FROM IN INDEX INSERT INTO IS NOT NULL ON
-    ONLY OPEN OPTIMIZE OR ORDER READ ROLLBACK SELECT SET SHOW STARTING STEP TABLE TIME TOTAL UPDATE VALUES VARCHAR WHERE
-    WITH""".split()
+    ONLY OPEN OPTIMIZE OR ORDER READ ROLLBACK SELECT SET SHOW STARTING STEP TABLE TIME TOTAL UNIQUE UPDATE VALUES VARCHAR
+    WHERE WITH""".split()
 )
 TOKEN = re.compile(
     r"""(?P<word>[A-Za-z][A-Za-z0-9_]*)|(?P<int>-?[0-9]+(?![A-Za-z0-9_]))|'(?P<text>(?:[^'\x00-\x1f\x7f]|'')*)'"""
@@ -239,10 +239,11 @@ class Reader:
     def body(self) -> tuple:
         if self.skip("CREATE", "TABLE"):
             return ("create", self.name(), self.listed(self.column))
-        if self.skip("CREATE", "INDEX"):
+        unique = self.skip("CREATE", "UNIQUE", "INDEX")
+        if unique or self.skip("CREATE", "INDEX"):
             name = self.name()
             self.want("ON")
-            return ("index", name, self.name(), self.listed(self.name))
+            return ("index", name, self.name(), self.listed(self.name), unique)
         if self.skip("BEGIN"):
             return ("begin", self.skip("READ", "ONLY"))
         if self.skip("INSERT", "INTO"):

@@ -6,7 +6,7 @@ from typing import Iterable, Iterator
 from .engine import Engine
 from .language import Call, Mark, calls_of, statement
 
-REFUSALS = frozenset("syntax unknown exists kind active no busy read changed held cursor limit".split())
+REFUSALS = frozenset("syntax unknown exists kind active no busy read changed held cursor limit duplicate".split())
 
 
 def is_refusal(reply: str) -> bool:

@@ -28,7 +28,7 @@ class CheckScript(unittest.TestCase):
         self.assertEqual(found(*lines), [])
 
     def test_token_that_fits_no_statement(self):
-        self.told("1 CREATE TABEL T (A BIGINT)", 10, "`TABEL` does not fit", "`TABLE` or `INDEX`")
+        self.told("1 CREATE TABEL T (A BIGINT)", 10, "`TABEL` does not fit", "`TABLE`, `UNIQUE` or `INDEX`")
         self.told("1 CREATE TABLE T (A VARCHAR(4) B BIGINT)", 32, "`B` does not fit", "`,` or `)`")
         self.told("1 UPDATE PARTS SET WEIGHT = WEIGHT", 29, "`NULL`, an integer or a text")
 

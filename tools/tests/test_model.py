@@ -14,7 +14,7 @@ class Language(unittest.TestCase):
             self.assertIn(what, raised.exception.wanted)
 
     def test_place_of_the_first_token_that_does_not_fit(self):
-        self.fails("CREATE VIEW", 7, "TABLE", "INDEX")
+        self.fails("CREATE VIEW", 7, "TABLE", "UNIQUE", "INDEX")
         self.fails("COMMIT ; ;", 9, END)
         self.fails("OPEN C SELECT A FROM T WHERE (A = 1 OR B = 2 AND C = 3)", 45, ")", "OR")
         self.fails("OPEN C SELECT A FROM T ORDER", 28, "BY")

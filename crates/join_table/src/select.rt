@@ -134,6 +134,7 @@ fn index_def(alloc: Global, index: u32) -> Result<IndexDef, NoMemory>
         name: Text::read(alloc, "I")?,
         table: table_of(index),
         columns: columns_of(alloc, index)?,
+        unique: false,
     })
 }
 

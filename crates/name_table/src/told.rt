@@ -36,7 +36,8 @@ pub fn told_refusal(alloc: Global, refusal: &Refusal) -> Result<String, NoMemory
 
 pub fn told_index(alloc: Global, def: &IndexDef) -> Result<String, NoMemory> {
     let columns = numbers(alloc, def.columns.as_slice())?;
-    Ok(format!(in alloc; "on {} columns{columns}", def.table)?)
+    let unique = if def.unique { " unique" } else { "" };
+    Ok(format!(in alloc; "on {} columns{columns}{unique}", def.table)?)
 }
 
 /// Each number behind a space.

@@ -48,7 +48,7 @@ fn main(rt: HostRuntime) -> io::Result<()> {
     'answers: for number in 0..12 {
         write(&rt, told_answer(rt.alloc(), number))?;
     }
-    'refusals: for number in 0..13 {
+    'refusals: for number in 0..16 {
         write(&rt, told_refusal(rt.alloc(), number))?;
     }
     Ok(())

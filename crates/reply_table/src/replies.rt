@@ -1,6 +1,6 @@
 //! A reply of each kind, by its number.
 use rv_judge::{Control, Strategy};
-use rv_model::{Refusal, Reply, Shown, ShownEvent, Which};
+use rv_model::{Refusal, Reply, Rival, Shown, ShownEvent, Which};
 use rv_value::{Items, NoMemory, RowNo, Text, Value, Values};
 use std::alloc::Global;
 
@@ -48,6 +48,10 @@ pub fn answer(alloc: Global, number: u32) -> Result<Reply, NoMemory> {
     }
 }
 
+fn duplicate(by: Rival) -> Refusal {
+    Refusal::Duplicate { row: RowNo(5), by }
+}
+
 /// Why a statement was refused.
 pub fn refusal(alloc: Global, number: u32) -> Result<Refusal, NoMemory> {
     match number {
@@ -69,9 +73,12 @@ pub fn refusal(alloc: Global, number: u32) -> Result<Refusal, NoMemory> {
         }),
         10 => Ok(Refusal::NoCursor(Text::read(alloc, "C")?)),
         11 => Ok(Refusal::CursorOpen(Text::read(alloc, "C")?)),
-        _ => Ok(Refusal::Limit {
+        12 => Ok(Refusal::Limit {
             which: Which::Joined,
             number: 2,
         }),
+        13 => Ok(duplicate(Rival::View)),
+        14 => Ok(duplicate(Rival::Commit(6))),
+        _ => Ok(duplicate(Rival::Txn(7))),
     }
 }

@@ -1,5 +1,5 @@
 -- INSERT, UPDATE and DELETE in believed words over the working state: a transaction is named by its place.
-use Rattle.std.specs.Prelude.{ℕ, List, [], Option, Some, Ok, not, ◌==◌, nat_lt, length, filter, map, slice_set}
+use Rattle.std.specs.Prelude.{ℕ, List, [], ◌∷◌, Option, Some, Ok, not, ◌==◌, nat_lt, length, filter, map, slice_set}
 use Rattle.std.specs.List.{slice_index_or}
 use Rattle.rv_value.specs.declared.value.Value.{Value}
 use Rattle.rv_value.specs.declared.record.Record.{Record}
@@ -13,7 +13,7 @@ use Rattle.rv_lang.specs.declared.reply.Reply.TheVariants.{Inserted, Touched}
 use Rattle.rv_catalog.specs.Answers.{◌>>=◌, all_pass, refuse_if}
 use Rattle.rv_model.specs.declared.state.State.{State}
 use Rattle.rv_model.specs.declared.transactions.Transaction.{Transaction}
-use Rattle.rv_model.specs.Step.{Outcome}
+use Rattle.rv_model.specs.Step.{Outcome, no_rivals}
 use Rattle.rv_model.specs.Transactions.{next_row, touched_by, transaction_at, with_number, writer}
 use Rattle.rv_believed.specs.Answers.{Test}
 use Rattle.rv_believed.specs.Changing.{change_of, few_changes}
@@ -36,7 +36,9 @@ insert s session table vs = do
   let row = next_row now.touched table
   numbers ← refuse_if (nat_lt 999999 row) (Limit Rows 1000000)
   few ← refuse_if (nat_lt 99999 (length old)) (Limit Pending 100000)
-  let new = with_change (record { table = table; row = record { 0 = row }; values = Some vs }) old
+  let c : Change = record { table = table; row = record { 0 = row }; values = Some vs }
+  alone ← no_rivals s session own table (c ∷ [])
+  let new = with_change c old
   Ok (Inserted (record { 0 = row }), with_changed s own new (with_number now.touched table))
 
 -- the rows of a table at the base of the transaction in a place
@@ -75,4 +77,5 @@ change s session table sets only = do
   few ← few_changes t.changes new
   unchanged ← all_pass (no_later_commit s t.base) new
   free ← all_pass (no_holder s session) new
+  alone ← no_rivals s session own table new
   Ok (Touched (length new), with_changed s own (with_changes new t.changes) s.transactions.touched)

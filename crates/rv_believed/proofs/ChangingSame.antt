@@ -17,7 +17,7 @@ use Rattle.rv_catalog.specs.Answers.{◌>>=◌, all_pass, ok_or, refuse_if}
 use Rattle.rv_model.specs.declared.state.State.{State}
 use Rattle.rv_model.specs.declared.transactions.Transaction.{Transaction}
 use Rattle.rv_model.specs.declared.transactions.Transactions.{Transactions}
-use Rattle.rv_model.specs.Step.{Outcome, changed, inserted, rows_seen}
+use Rattle.rv_model.specs.Step.{Outcome, changed, changes_met, inserted, new_change, no_rivals, no_rivals_of, rows_seen}
 use Rattle.rv_model.specs.Transactions as working
 use Rattle.rv_model.specs.Transactions.{changed_refusal, changed_rows, changed_with, first_changed, first_held, held_by, held_refusal, holder, met, next_row, no_record, refuse_at, row_in, touched_by, transaction_at, transaction_of, with_number, with_own, writer}
 use Rattle.rv_believed.specs.Answers.{Test}
@@ -178,39 +178,44 @@ touched_to s n t = Ok (Touched n, record s { transactions = t })
 abbrev counted_to : ℕ → Transactions → Result (ℕ × Transactions) Refusal
 counted_to n t = Ok (n, t)
 
-abbrev touched_by_these : State → ℕ × Transactions → Outcome
-touched_by_these s done = Ok (Touched done.0, record s { transactions = done.1 })
+-- the last test, and what follows it
+abbrev touched_by_these : State → Test → ℕ × Transactions → Outcome
+touched_by_these s alone done = alone >>= (λ u. Ok (Touched done.0, record s { transactions = done.1 }))
 
-three_tests : (s : State) (a b c : Test) (n : ℕ) (t : Transactions)
-    → (a >>= (λ u. b >>= (λ v. c >>= (λ w. touched_to s n t))))
-    ≡ ((a >>= (λ u. (b >>= (λ v. c)) >>= (λ w. counted_to n t))) >>= touched_by_these s)
-three_tests s (Ok u) (Ok v) (Ok w) n t = refl
-three_tests s (Ok u) (Ok v) (Err e) n t = refl
-three_tests s (Ok u) (Err e) c n t = refl
-three_tests s (Err e) b c n t = refl
+four_tests : (s : State) (a b c d : Test) (n : ℕ) (t : Transactions)
+    → (a >>= (λ u. b >>= (λ v. c >>= (λ w. d >>= (λ x. touched_to s n t)))))
+    ≡ ((a >>= (λ u. (b >>= (λ v. c)) >>= (λ w. counted_to n t))) >>= touched_by_these s d)
+four_tests s (Ok u) (Ok v) (Ok w) d n t = refl
+four_tests s (Ok u) (Ok v) (Err e) d n t = refl
+four_tests s (Ok u) (Err e) c d n t = refl
+four_tests s (Err e) b c d n t = refl
 
 abbrev transactions_with : State → ℕ → List Change → Transactions
 transactions_with s own new = record s.transactions {
   active = with_own s.transactions.active own (with_changes new (transaction_at s.transactions.active own).changes);
 }
 
-abbrev changing : State → ℕ → ℕ → List Change → Outcome
-changing s session own new = few_changes (transaction_at s.transactions.active own).changes new
+abbrev changing : State → ℕ → ℕ → ℕ → List Change → Outcome
+changing s session own table new = few_changes (transaction_at s.transactions.active own).changes new
     >>= (λ u. all_pass (no_later_commit s (transaction_at s.transactions.active own).base) new
     >>= (λ v. all_pass (no_holder s session) new
-    >>= (λ w. touched_to s (length new) (transactions_with s own new))))
+    >>= (λ w. no_rivals s session own table new
+    >>= (λ x. touched_to s (length new) (transactions_with s own new)))))
 
 rows_same : (s : State) (session own table : ℕ) (sets : Option (List (ℕ × Value))) (rows : List Record)
-    → changing s session own (map (change_of table sets) rows)
-    ≡ (changed_rows s.transactions session own table sets rows >>= touched_by_these s)
+    → changing s session own table (map (change_of table sets) rows)
+    ≡ (changed_rows s.transactions session own table sets rows
+    >>= touched_by_these s (no_rivals s session own table (map (working.change_of table sets) rows)))
 rows_same s session own table sets rows =
     (λ k. few_same (transaction_at s.transactions.active own).changes table sets rows k
     >>= (λ u. later_same s (transaction_at s.transactions.active own).base table sets rows k
     >>= (λ v. held_same s session table sets rows k
-    >>= (λ w. touched_to s (map_length (change_of table sets) rows k)
-    (transactions_with s own (map_same (change_of table sets) (working.change_of table sets) (change_of_same table sets) rows k))))))
-    ∙ three_tests s (few_test (transaction_at s.transactions.active own).changes table rows)
-    (later_test s (transaction_at s.transactions.active own).base table rows) (held_test s session table rows) (length rows)
+    >>= (λ w. no_rivals s session own table (map_same (change_of table sets) (working.change_of table sets) (change_of_same table sets) rows k)
+    >>= (λ x. touched_to s (map_length (change_of table sets) rows k)
+    (transactions_with s own (map_same (change_of table sets) (working.change_of table sets) (change_of_same table sets) rows k)))))))
+    ∙ four_tests s (few_test (transaction_at s.transactions.active own).changes table rows)
+    (later_test s (transaction_at s.transactions.active own).base table rows) (held_test s session table rows)
+    (no_rivals s session own table (map (working.change_of table sets) rows)) (length rows)
     (transactions_with s own (map (working.change_of table sets) rows))
 
 abbrev writer_by : State → Option ℕ → Result ℕ Refusal
@@ -220,17 +225,19 @@ abbrev rows_met : State → ℕ → List (List Atom) → Option ℕ → ℕ → 
 rows_met s table only o own = met (transaction_at s.transactions.active own) table only (λ base. rows_seen s o table)
 
 change_at : (s : State) (session table : ℕ) (sets : Option (List (ℕ × Value))) (only : List (List Atom)) (own : ℕ) (b : Bool)
-    → ((refuse_if b ReadOnly >>= (λ u. Ok own)) >>= (λ o. changing s session o (changes_by s o table sets only)))
-    ≡ (((refuse_if b ReadOnly >>= (λ u. Ok own)) >>= (λ o. changed_rows s.transactions session o table sets (rows_met s table only (Some own) o))) >>= touched_by_these s)
+    → ((refuse_if b ReadOnly >>= (λ u. Ok own)) >>= (λ o. changing s session o table (changes_by s o table sets only)))
+    ≡ (((refuse_if b ReadOnly >>= (λ u. Ok own)) >>= (λ o. changed_rows s.transactions session o table sets (rows_met s table only (Some own) o)))
+    >>= touched_by_these s (no_rivals s session own table (changes_met s table sets only own)))
 change_at s session table sets only own true = refl
-change_at s session table sets only own false = ap (λ (rows : List Record). changing s session own (map (change_of table sets) rows))
+change_at s session table sets only own false = ap (λ (rows : List Record). changing s session own table (map (change_of table sets) rows))
     (filter_same (λ (r : Record). keeps (row_reads r.values) only) (λ (r : Record). qualifies only r.values)
     (λ (r : Record). keeps_same (row_reads r.values) only) (view s own table))
     ∙ rows_same s session own table sets (filter (λ (r : Record). qualifies only r.values) (view s own table))
 
 change_by : (s : State) (session table : ℕ) (sets : Option (List (ℕ × Value))) (only : List (List Atom)) (o : Option ℕ)
-    → (writer_by s o >>= (λ own. changing s session own (changes_by s own table sets only)))
-    ≡ ((writer_by s o >>= (λ own. changed_rows s.transactions session own table sets (rows_met s table only o own))) >>= touched_by_these s)
+    → (writer_by s o >>= (λ own. changing s session own table (changes_by s own table sets only)))
+    ≡ ((writer_by s o >>= (λ own. changed_rows s.transactions session own table sets (rows_met s table only o own)))
+    >>= touched_by_these s (no_rivals_of s session o table (changes_met s table sets only)))
 change_by s session table sets only None = refl
 change_by s session table sets only (Some own) = change_at s session table sets only own (transaction_at s.transactions.active own).read_only
 
@@ -246,25 +253,39 @@ inserted_to s row t = Ok (Inserted row, record s { transactions = t })
 abbrev row_to : RowNo → Transactions → Result (RowNo × Transactions) Refusal
 row_to row t = Ok (row, t)
 
-abbrev inserted_by : State → RowNo × Transactions → Outcome
-inserted_by s more = Ok (Inserted more.0, record s { transactions = more.1 })
+-- the last test of the row that is added, and what follows it
+abbrev inserted_by : State → (RowNo → Test) → RowNo × Transactions → Outcome
+inserted_by s alone more = alone more.0 >>= (λ u. Ok (Inserted more.0, record s { transactions = more.1 }))
 
-two_tests : (s : State) (a b : Test) (row : RowNo) (t : Transactions)
-    → (a >>= (λ u. b >>= (λ v. inserted_to s row t))) ≡ ((a >>= (λ u. b >>= (λ v. row_to row t))) >>= inserted_by s)
-two_tests s (Ok u) (Ok v) row t = refl
-two_tests s (Ok u) (Err e) row t = refl
-two_tests s (Err e) b row t = refl
+insert_tests : (s : State) (a b : Test) (alone : RowNo → Test) (row : RowNo) (t : Transactions)
+    → (a >>= (λ u. b >>= (λ v. alone row >>= (λ w. inserted_to s row t))))
+    ≡ ((a >>= (λ u. b >>= (λ v. row_to row t))) >>= inserted_by s alone)
+insert_tests s (Ok u) (Ok v) alone row t = refl
+insert_tests s (Ok u) (Err e) alone row t = refl
+insert_tests s (Err e) b alone row t = refl
 
-insert_by : (s : State) (a : Test) (b : ℕ → Test) (row : RowNo) (t : ℕ → Transactions) (r : Result ℕ Refusal)
-    → (r >>= (λ own. a >>= (λ u. b own >>= (λ v. inserted_to s row (t own)))))
-    ≡ ((r >>= (λ own. a >>= (λ u. b own >>= (λ v. row_to row (t own))))) >>= inserted_by s)
-insert_by s a b row t (Ok own) = two_tests s a (b own) row (t own)
-insert_by s a b row t (Err e) = refl
+-- whether the row that a transaction adds has no rival
+abbrev added_alone : State → ℕ → ℕ → List Value → ℕ → RowNo → Test
+added_alone s session table values own row = no_rivals s session own table (new_change table row values ∷ [])
+
+insert_at : (s : State) (session table : ℕ) (values : List Value) (a : Test) (b : ℕ → Test) (row : RowNo) (t : ℕ → Transactions) (own : ℕ) (reads : Bool)
+    → ((refuse_if reads ReadOnly >>= (λ u. Ok own)) >>= (λ o. a >>= (λ u. b o >>= (λ v. added_alone s session table values o row >>= (λ w. inserted_to s row (t o))))))
+    ≡ (((refuse_if reads ReadOnly >>= (λ u. Ok own)) >>= (λ o. a >>= (λ u. b o >>= (λ v. row_to row (t o)))))
+    >>= inserted_by s (added_alone s session table values own))
+insert_at s session table values a b row t own true = refl
+insert_at s session table values a b row t own false = insert_tests s a (b own) (added_alone s session table values own) row (t own)
+
+insert_by : (s : State) (session table : ℕ) (values : List Value) (a : Test) (b : ℕ → Test) (row : RowNo) (t : ℕ → Transactions) (o : Option ℕ)
+    → (writer_by s o >>= (λ own. a >>= (λ u. b own >>= (λ v. added_alone s session table values own row >>= (λ w. inserted_to s row (t own))))))
+    ≡ ((writer_by s o >>= (λ own. a >>= (λ u. b own >>= (λ v. row_to row (t own)))))
+    >>= inserted_by s (λ (r : RowNo). no_rivals_of s session o table (λ own. new_change table r values ∷ [])))
+insert_by s session table values a b row t None = refl
+insert_by s session table values a b row t (Some own) = insert_at s session table values a b row t own (transaction_at s.transactions.active own).read_only
 
 pub insert_same : (s : State) (session table : ℕ) (values : List Value)
     → insert s session table values ≡ inserted s session table values
-insert_same s session table values = insert_by s (refuse_if (nat_lt 999999 (next_row s.transactions.touched table)) (Limit Rows 1000000))
+insert_same s session table values = insert_by s session table values (refuse_if (nat_lt 999999 (next_row s.transactions.touched table)) (Limit Rows 1000000))
     (λ own. refuse_if (nat_lt 99999 (length (transaction_at s.transactions.active own).changes)) (Limit Pending 100000))
     (record { 0 = next_row s.transactions.touched table })
     (λ own. working.with_row s.transactions own table values (record { 0 = next_row s.transactions.touched table }))
-    (writer s.transactions.active session)
+    (transaction_of s.transactions.active session)

@@ -1,8 +1,10 @@
 -- Bridge: CREATE, BEGIN, COMMIT and ROLLBACK come to what the working definitions say.
 use Rattle.std.proofs.Common.{◌≡◌, ℕ, ◌+◌, ◌<◌, List, [], ◌∷◌, ◌++◌, Option, Some, None, Result, Ok, Err, Bool, refl, sym, ap, arith, length, min, nat_lt, slice_get}
 use Rattle.std.specs.List.{AllByRecursion}
+use Rattle.rv_value.specs.declared.record.Record.{Record}
 use Rattle.rv_rows.specs.declared.changes.Change.{Change}
-use Rattle.rv_lang.specs.declared.reply.Refusal.TheVariants.{Active, Busy, Limit, NoTransaction}
+use Rattle.rv_lang.specs.declared.reply.Refusal.TheVariants.{Active, Busy, Duplicate, Limit, NoTransaction}
+use Rattle.rv_lang.specs.declared.reply.Rival.TheVariants.{View}
 use Rattle.rv_lang.specs.declared.reply.Refusal.{Refusal}
 use Rattle.rv_lang.specs.declared.reply.Which.TheVariants as which
 use Rattle.rv_lang.specs.declared.reply.Reply.{Reply}
@@ -13,6 +15,8 @@ use Rattle.rv_catalog.specs.Answers.{◌>>=◌, ok_or, refuse_if}
 use Rattle.rv_catalog.specs.Kept.{indexes_over}
 use Rattle.rv_model.specs.declared.state.State.{State}
 use Rattle.rv_model.specs.declared.transactions.Transaction.{Transaction}
+use Rattle.rv_model.specs.Database.{rows_at}
+use Rattle.rv_model.specs.Rivals.{first_equal}
 use Rattle.rv_model.specs.Step.{Outcome, began, committed, committed_with, created, ended, indexed, rolled_back, tables_changed}
 use Rattle.rv_model.specs.Transactions as working
 use Rattle.rv_model.specs.Transactions.{lower_of, lowest, refuse_at, touch_all, transaction_at, transaction_of}
@@ -52,7 +56,8 @@ table_same s def h = λ k. idle_same s.transactions.active h.active k >>= (λ u.
 
 pub index_same : (s : State) (def : IndexDef) → IsOrderly s → create_index s def ≡ indexed s def
 index_same s def h = λ k. idle_same s.transactions.active h.active k >>= (λ u. refuse_if (nat_lt 7 (indexes_over def.table s.schema.indexes)) (Limit which.Indexes 8)
-    >>= (λ v. Ok (Created, record s { schema = record s.schema { indexes = s.schema.indexes ++ def ∷ [] } })))
+    >>= (λ v. refuse_at (first_equal def (rows_at s.rows def.table)) (λ (r : Record). Duplicate r.row View)
+    >>= (λ w. Ok (Created, record s { schema = record s.schema { indexes = s.schema.indexes ++ def ∷ [] } }))))
 
 -- one test, and what follows it
 abbrev begun_by : State → ℕ × Transactions → Outcome

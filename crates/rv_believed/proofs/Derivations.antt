@@ -1,5 +1,5 @@
 -- Bridge: the believed grammar derives what the working one derives.
-use Rattle.std.proofs.Common.{◌≡◌, ◌≢◌, ℕ, List, [], ◌∷◌, Option, Some, None, true, false, refl, sym, ◌∙◌, subst, inl, inr}
+use Rattle.std.proofs.Common.{◌≡◌, ◌≢◌, ℕ, List, [], ◌∷◌, Option, Some, None, Bool, true, false, refl, ap, sym, ◌∙◌, subst, inl, inr}
 use Rattle.std.specs.List.{AllByRecursion}
 use Rattle.rv_value.specs.declared.value.Value.{Value}
 use Rattle.rv_value.specs.declared.value.Value.TheVariants as values
@@ -21,7 +21,7 @@ use Rattle.rv_lang.specs.declared.statement.Statement.{Statement}
 use Rattle.rv_lang.specs.declared.statement.Statement.TheVariants.{CreateTable, CreateIndex, Begin, Insert, Update, Delete, Commit, Rollback, Open, Fetch, Show, Close, Step}
 use Rattle.rv_lang.specs.Words as words
 use Rattle.rv_lang.specs.Grammar as today
-use Rattle.rv_believed.specs.Grammar.{IsName, key, LPAREN, RPAREN, more_tokens, list_tokens, AreSome, literal, qualifier, column, MayBeName, IsColumn, compare, operand, IsOperand, atom, IsAtom, IsGroup, bare, in_parens, AreGroups, one, more, IsCond, lone, groups, IsWhere, no_where, where_cond, name, kind, column_def, set, IsNamed, select_list, IsSelectList, second_name, from_item, IsItem, order_by, IsGoal, no_goal, total_time, fast_first, IsBody, Derives}
+use Rattle.rv_believed.specs.Grammar.{IsName, key, LPAREN, RPAREN, more_tokens, list_tokens, AreSome, literal, qualifier, column, MayBeName, IsColumn, compare, operand, IsOperand, atom, IsAtom, IsGroup, bare, in_parens, AreGroups, one, more, IsCond, lone, groups, IsWhere, no_where, where_cond, name, kind, column_def, set, unique_word, IsNamed, select_list, IsSelectList, second_name, from_item, IsItem, order_by, IsGoal, no_goal, total_time, fast_first, IsBody, Derives}
 
 -- ---- names, and lists of parts
 
@@ -276,11 +276,22 @@ create_table_same : (table : List ℕ) (columns : List (List ℕ × RawKind)) (r
 create_table_same table columns rest = λ i. key "CREATE" ∷ key "TABLE" ∷ Word table ∷ LPAREN
     ∷ list_same (Symbol Comma) column_def today.column_def column_def_same columns (RPAREN ∷ rest) i
 
-create_index_same : (index table : List ℕ) (columns : List (List ℕ)) (rest : List Token)
-    → (key "CREATE" ∷ key "INDEX" ∷ Word index ∷ key "ON" ∷ Word table ∷ LPAREN ∷ list_tokens (Symbol Comma) name columns (RPAREN ∷ rest))
-    ≡ (words.CREATE ∷ words.INDEX ∷ Word index ∷ words.ON ∷ Word table ∷ today.LPAREN ∷ today.listed today.COMMA today.name columns (today.RPAREN ∷ rest))
-create_index_same index table columns rest = λ i. key "CREATE" ∷ key "INDEX" ∷ Word index ∷ key "ON" ∷ Word table ∷ LPAREN
+unique_same : (unique : Bool) (rest : List Token) → unique_word unique rest ≡ today.unique_word unique rest
+unique_same false rest = refl
+unique_same true rest = refl
+
+index_same : (index table : List ℕ) (columns : List (List ℕ)) (rest : List Token)
+    → (key "INDEX" ∷ Word index ∷ key "ON" ∷ Word table ∷ LPAREN ∷ list_tokens (Symbol Comma) name columns (RPAREN ∷ rest))
+    ≡ (words.INDEX ∷ Word index ∷ words.ON ∷ Word table ∷ today.LPAREN ∷ today.listed today.COMMA today.name columns (today.RPAREN ∷ rest))
+index_same index table columns rest = λ i. key "INDEX" ∷ Word index ∷ key "ON" ∷ Word table ∷ LPAREN
     ∷ list_same (Symbol Comma) name today.name name_same columns (RPAREN ∷ rest) i
+
+create_index_same : (unique : Bool) (index table : List ℕ) (columns : List (List ℕ)) (rest : List Token)
+    → (key "CREATE" ∷ unique_word unique (key "INDEX" ∷ Word index ∷ key "ON" ∷ Word table ∷ LPAREN ∷ list_tokens (Symbol Comma) name columns (RPAREN ∷ rest)))
+    ≡ (words.CREATE ∷ today.unique_word unique (words.INDEX ∷ Word index ∷ words.ON ∷ Word table ∷ today.LPAREN ∷ today.listed today.COMMA today.name columns (today.RPAREN ∷ rest)))
+create_index_same unique index table columns rest =
+    ap (λ (ts : List Token). key "CREATE" ∷ unique_word unique ts) (index_same index table columns rest)
+    ∙ ap (λ (ts : List Token). key "CREATE" ∷ ts) (unique_same unique (words.INDEX ∷ Word index ∷ words.ON ∷ Word table ∷ today.LPAREN ∷ today.listed today.COMMA today.name columns (today.RPAREN ∷ rest)))
 
 insert_same : (table : List ℕ) (vs : List Value) (rest : List Token)
     → (key "INSERT" ∷ key "INTO" ∷ Word table ∷ key "VALUES" ∷ LPAREN ∷ list_tokens (Symbol Comma) literal vs (RPAREN ∷ rest))
@@ -302,8 +313,8 @@ open_same cursor columns items after = λ i. key "OPEN" ∷ Word cursor ∷ key 
 body_to : (s : Statement) (tokens rest : List Token) → IsBody s tokens rest → today.IsBody s tokens rest
 body_to (CreateTable table columns) tokens rest h =
     (name_to table h.0, some_to IsNamed today.IsColumnDef (λ (x : List ℕ × RawKind). named_to x) columns h.1, h.2 ∙ create_table_same table columns rest)
-body_to (CreateIndex index table columns) tokens rest h =
-    (name_to index h.0, name_to table h.1, some_to IsName words.IsName name_to columns h.2, h.3 ∙ create_index_same index table columns rest)
+body_to (CreateIndex unique index table columns) tokens rest h =
+    (name_to index h.0, name_to table h.1, some_to IsName words.IsName name_to columns h.2, h.3 ∙ create_index_same unique index table columns rest)
 body_to (Begin false) tokens rest h = h
 body_to (Begin true) tokens rest h = h
 body_to (Insert table vs) tokens rest h = (name_to table h.0, literals_to vs h.1, h.2 ∙ insert_same table vs rest)
@@ -335,8 +346,8 @@ body_to (Step cursor n) tokens rest h = (name_to cursor h.0, h.1)
 body_from : (s : Statement) (tokens rest : List Token) → today.IsBody s tokens rest → IsBody s tokens rest
 body_from (CreateTable table columns) tokens rest h =
     (name_from table h.0, some_from IsNamed today.IsColumnDef (λ (x : List ℕ × RawKind). named_from x) columns h.1, h.2 ∙ sym (create_table_same table columns rest))
-body_from (CreateIndex index table columns) tokens rest h =
-    (name_from index h.0, name_from table h.1, some_from IsName words.IsName name_from columns h.2, h.3 ∙ sym (create_index_same index table columns rest))
+body_from (CreateIndex unique index table columns) tokens rest h =
+    (name_from index h.0, name_from table h.1, some_from IsName words.IsName name_from columns h.2, h.3 ∙ sym (create_index_same unique index table columns rest))
 body_from (Begin false) tokens rest h = h
 body_from (Begin true) tokens rest h = h
 body_from (Insert table vs) tokens rest h = (name_from table h.0, literals_from vs h.1, h.2 ∙ sym (insert_same table vs rest))

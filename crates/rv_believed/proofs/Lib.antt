@@ -32,3 +32,5 @@ mod Texts
 mod Told
 mod TransactionsOfState
 mod TruthSame
+mod UniqueRows
+mod UniqueStates

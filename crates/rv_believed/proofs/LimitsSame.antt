@@ -246,8 +246,8 @@ limits_same (CreateTable name columns) = both_tests
     (ap (λ b. today.is_long name || b) (any_map today.is_long (λ (c : List ℕ × RawKind). c.0) columns)))
     (both_tests (all_by kind_fits (λ (c : List ℕ × RawKind). today.is_no_kind c.1) (Limit which.Text 255) kind_test columns)
     (sym (test_end (at_most 16 which.Columns columns))))
-limits_same (CreateIndex name table columns) = both_tests
-    (names_test (name ∷ table ∷ columns) (today.has_long_name (CreateIndex name table columns))
+limits_same (CreateIndex unique name table columns) = both_tests
+    (names_test (name ∷ table ∷ columns) (today.has_long_name (CreateIndex unique name table columns))
     (sym (or_assoc (today.is_long name) (today.is_long table) (list_any today.is_long columns))))
     (sym (test_end (at_most 4 which.Key columns)))
 limits_same (Begin read_only) = refl

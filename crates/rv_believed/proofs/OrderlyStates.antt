@@ -29,7 +29,7 @@ use Rattle.rv_model.specs.Database.{cursor_at, cursor_named, empty, no_cursor}
 use Rattle.rv_model.specs.History.{after_from, stepped}
 use Rattle.rv_model.specs.Offering.{offers_over}
 use Rattle.rv_model.specs.Offers.{offers_in_order}
-use Rattle.rv_model.specs.Step.{Outcome, began, changed, closed, committed, committed_with, created, ended, fetched, indexed, inserted, next_asked, offers_after, opened, opening, own_cursors, rolled_back, rows_seen, state_of, table_of, understood, view_rows}
+use Rattle.rv_model.specs.Step.{Outcome, began, changed, closed, committed, committed_with, created, ended, fetched, indexed, inserted, next_asked, offers_after, opened, opening, own_cursors, rolled_back, row_alone, rows_alone, rows_differ, rows_seen, state_of, table_of, understood, view_rows}
 use Rattle.rv_model.specs.Transactions as transactions
 use Rattle.rv_model.specs.Transactions.{no_transaction, refuse_at, transaction_at, transaction_of}
 use Rattle.rv_believed.specs.Orderly.{BeginsBefore, EachTwo, IsOrderly, IsOther, StaysOrderly}
@@ -124,7 +124,8 @@ indexed_orderly s def h = then_gives Any Done (refuse_at (transactions.lowest s.
     (any_gives (refuse_at (transactions.lowest s.transactions.active) refusals.Busy))
     (λ u p. then_gives Any Done (refuse_if (nat_lt 7 (indexes_over def.table s.schema.indexes)) (refusals.Limit which.Indexes 8)) _
     (any_gives (refuse_if (nat_lt 7 (indexes_over def.table s.schema.indexes)) (refusals.Limit which.Indexes 8)))
-    (λ v q. record { active = h.active; below = h.below; bases = h.bases; cursors = h.cursors }))
+    (λ v q. then_gives Any Done (rows_differ s def) _ (any_gives (rows_differ s def))
+    (λ w r. record { active = h.active; below = h.below; bases = h.bases; cursors = h.cursors })))
 
 same_number : (n : ℕ) → nat_eq n n ≡ true
 same_number n = grind (arith, nat_tests)
@@ -180,13 +181,15 @@ began_orderly s session read_only h = then_gives (λ (b : ℕ × Transactions). 
 inserted_orderly : (s : State) (session table : ℕ) (vs : List Value) → IsOrderly s → Gives Done (inserted s session table vs)
 inserted_orderly s session table vs h = then_gives (λ (b : RowNo × Transactions). Keeps s.transactions b.1) Done
     (transactions.inserted s.transactions session table vs) _ (insert_keeps s.transactions session table vs h.active h.below)
-    (λ b p. record { active = p.active; below = p.below; bases = h.bases ∙ sym p.count; cursors = h.cursors })
+    (λ b p. then_gives Any Done (row_alone s session table vs b.0) _ (any_gives (row_alone s session table vs b.0))
+    (λ u q. record { active = p.active; below = p.below; bases = h.bases ∙ sym p.count; cursors = h.cursors }))
 
 changed_orderly : (s : State) (session table : ℕ) (sets : Option (List (ℕ × Value))) (only : List (List Atom)) → IsOrderly s → Gives Done (changed s session table sets only)
 changed_orderly s session table sets only h = then_gives (λ (b : ℕ × Transactions). Keeps s.transactions b.1) Done
     (transactions.changed s.transactions session table only sets (λ base. rows_seen s (transaction_of s.transactions.active session) table)) _
     (change_keeps s.transactions session table only sets (λ base. rows_seen s (transaction_of s.transactions.active session) table) h.active h.below)
-    (λ b p. record { active = p.active; below = p.below; bases = h.bases ∙ sym p.count; cursors = h.cursors })
+    (λ b p. then_gives Any Done (rows_alone s session table sets only) _ (any_gives (rows_alone s session table sets only))
+    (λ u q. record { active = p.active; below = p.below; bases = h.bases ∙ sym p.count; cursors = h.cursors }))
 
 -- the transaction in a place and the cursors of its session are gone
 ended_orderly : (s : State) (own session : ℕ) (left : Transactions) (rows : List (List Record)) (last : ℕ) → IsOrderly s

@@ -298,7 +298,7 @@ asked_comes tables indexes h (statements.CreateTable name columns) p =
     (λ u q. then_comes Any (IsPlainAsked tables) (all_differ [] (map (λ (c : List ℕ × RawKind). c.0) columns)) _
     (differ_comes [] (map (λ (c : List ℕ × RawKind). c.0) columns) (all_map IsPlainDef IsPlainName (λ (c : List ℕ × RawKind). c.0) (λ c r. r) columns p.1))
     (λ v r. record { name = p.0; columns = all_map IsPlainDef IsPlainColumnDef column_def def_plain columns p.1; some = some_mapped column_def columns p.2 }))
-asked_comes tables indexes h (statements.CreateIndex name table columns) p =
+asked_comes tables indexes h (statements.CreateIndex unique name table columns) p =
     then_comes (IsThere tables) (IsPlainAsked tables) (table_number tables table) _ (table_comes tables table h p.1)
     (λ number q. then_comes (AllByRecursion Any) (IsPlainAsked tables) (answers (column_number (reach_alone tables table number)) columns) _
     (answers_come IsPlainName Any (column_number (reach_alone tables table number)) (number_comes (reach_alone tables table number) (alone_plain tables table number h)) columns p.2)

@@ -1,6 +1,6 @@
 -- Each call leaves a plain database, and its reply is plain.
 use Rattle.std.proofs.Common.{◌≡◌, ℕ, ◌+◌, List, [], ◌∷◌, ◌++◌, Option, Some, None, Result, Ok, Err, Bool, true, false, ◌&&◌, refl, sym, subst, map, filter, is_some, nat_eq, nat_lt, length, not, if◌then◌else◌}
-use Rattle.std.specs.Prelude.{IfSome, IsSome, slice_set, remove}
+use Rattle.std.specs.Prelude.{IfSome, IsSome, find, slice_set, remove}
 use Rattle.std.specs.List.{AllByRecursion, slice_index_or, range_with_len}
 use Rattle.std.specs.Ordering.{is_eq, is_lt}
 use Rattle.std.specs.declared.cmp.Ordering.{Ordering}
@@ -17,6 +17,7 @@ use Rattle.rv_rows.specs.Changes.{rows_with_changes, with_change, with_changes, 
 use Rattle.rv_rows.specs.Rows.{with_values, comes_below}
 use Rattle.rv_lang.specs.declared.reply.Refusal.{Refusal}
 use Rattle.rv_lang.specs.declared.reply.Refusal.TheVariants as refusals
+use Rattle.rv_lang.specs.declared.reply.Rival.TheVariants as rivals
 use Rattle.rv_lang.specs.declared.reply.Which.TheVariants as which
 use Rattle.rv_lang.specs.declared.reply.Reply.{Reply}
 use Rattle.rv_lang.specs.declared.reply.Reply.TheVariants as replies
@@ -25,7 +26,7 @@ use Rattle.rv_catalog.specs.declared.def.Resolved.{Resolved}
 use Rattle.rv_catalog.specs.declared.def.Resolved.TheVariants as asked
 use Rattle.rv_catalog.specs.declared.def.Select.{Select}
 use Rattle.rv_catalog.specs.declared.def.TableDef.{TableDef}
-use Rattle.rv_catalog.specs.Answers.{ok_or, refuse_if}
+use Rattle.rv_catalog.specs.Answers.{all_pass, ok_or, refuse_if}
 use Rattle.rv_catalog.specs.Kept.{indexes_over}
 use Rattle.rv_model.specs.declared.state.State.{State}
 use Rattle.rv_model.specs.declared.state.Cursor.{Cursor}
@@ -37,9 +38,11 @@ use Rattle.rv_model.specs.Transactions.{refuse_at, no_transaction, transaction_a
 use Rattle.rv_model.specs.Database.{base_rows, cursor_at, cursor_named, no_cursor, rows_at}
 use Rattle.rv_model.specs.Offers.{offer_cmp, offers_in_order, place_of, same_values, with_offer, without}
 use Rattle.rv_model.specs.Offering.{choices, is_kept, offer_over, offers_over, picked_over}
-use Rattle.rv_model.specs.Step.{Outcome, AllowsFetch, AllowsShow, AllowsStep, Offers, AllowsAsked, next_asked, began, closed, changed, committed, committed_with, created, ended, fetched, indexed, inserted, offers_after, opened, opening, own_cursors, reply_of, rolled_back, rows_seen, state_of, tables_changed, view_rows}
+use Rattle.rv_model.specs.Rivals.{Neighbour, all_alone, alone, first_equal, is_rival, rows_written, unique_over}
+use Rattle.rv_model.specs.Step.{Outcome, AllowsFetch, AllowsShow, AllowsStep, Offers, AllowsAsked, next_asked, began, closed, changed, committed, committed_with, created, changes_met, ended, fetched, indexed, inserted, neighbours_of, new_change, no_rivals_of, offers_after, opened, opening, own_cursors, reply_of, rolled_back, row_alone, rows_alone, rows_differ, rows_seen, state_of, tables_changed, view_rows}
 use Rattle.rv_model.specs.Transcript.{IsName as IsPlainName}
 use Rattle.rv_model.proofs.Same.{values_same}
+use Rattle.rv_believed.specs.Answers.{Test}
 use Rattle.rv_believed.specs.Plain.{IsPlainValue, IsPlainRefusal, IsPlainReply}
 use Rattle.rv_believed.proofs.PlainLists.{all_append, all_map, all_map_any, all_filter, all_flat, all_remove, all_set, or_all, passing}
 use Rattle.rv_believed.proofs.PlainNames.{Comes, Any, then_comes, refuse_comes, ok_or_comes, IsPlainTable, ArePlainTables, IsPlainAsked}
@@ -169,7 +172,9 @@ indexed_plain s def h p = then_comes Any IsPlainDone (refuse_at (transactions.lo
     (refuse_at_comes (transactions.lowest s.transactions.active) refusals.Busy (λ a. tt))
     (λ u q. then_comes Any IsPlainDone (refuse_if (nat_lt 7 (indexes_over def.table s.schema.indexes)) (refusals.Limit which.Indexes 8)) _
     (refuse_comes (nat_lt 7 (indexes_over def.table s.schema.indexes)) (refusals.Limit which.Indexes 8) tt)
-    (λ v r. (
+    (λ v r. then_comes Any IsPlainDone (rows_differ s def) _
+    (refuse_at_comes (first_equal def (rows_at s.rows def.table)) (λ (x : Record). refusals.Duplicate x.row rivals.View) (λ x. tt))
+    (λ w q. (
       tt,
       record {
         tables = h.tables;
@@ -179,7 +184,7 @@ indexed_plain s def h p = then_comes Any IsPlainDone (refuse_at (transactions.lo
         bases = h.bases;
         cursors = h.cursors;
       },
-    )))
+    ))))
 
 abbrev NewTransaction : ℕ × Transactions → Type 0
 NewTransaction b = ArePlainTransactions b.1.active
@@ -214,6 +219,22 @@ writer_comes active session = then_comes Any Any (ok_or (transaction_of active s
     (λ own q. then_comes Any Any (refuse_if (transaction_at active own).read_only refusals.ReadOnly) _
     (refuse_comes (transaction_at active own).read_only refusals.ReadOnly tt) (λ u r. tt))
 
+-- a row with a rival is refused without a name
+
+alone_comes : (near : List Neighbour) (r : Record) (d : IndexDef) → Comes Any (alone near r d)
+alone_comes near r d = refuse_at_comes (find (λ (n : Neighbour). is_rival d.columns r n.row) near) (λ (n : Neighbour). refusals.Duplicate n.row.row n.at) (λ n. tt)
+
+each_comes : {A : Type 0} (t : A → Test) → ((a : A) → Comes Any (t a)) → (xs : List A) → Comes Any (all_pass t xs)
+each_comes t holds [] = tt
+each_comes t holds (x ∷ xs) = then_comes Any Any (t x) (λ u. all_pass t xs) (holds x) (λ u p. each_comes t holds xs)
+
+all_alone_comes : (indexes : List IndexDef) (near : List Neighbour) (rows : List Record) → Comes Any (all_alone indexes near rows)
+all_alone_comes indexes near rows = each_comes (λ (r : Record). all_pass (alone near r) indexes) (λ r. each_comes (alone near r) (alone_comes near r) indexes) rows
+
+rivals_come : (s : State) (session table : ℕ) (new : ℕ → List Change) (o : Option ℕ) → Comes Any (no_rivals_of s session o table new)
+rivals_come s session table new None = tt
+rivals_come s session table new (Some own) = all_alone_comes (unique_over table s.schema.indexes) (neighbours_of s session own table (new own)) (rows_written table (new own))
+
 abbrev NewRow : RowNo × Transactions → Type 0
 NewRow b = ArePlainTransactions b.1.active
 
@@ -231,7 +252,8 @@ insert_plain t session table vs h p = then_comes Any NewRow (transactions.writer
 inserted_plain : (s : State) (session table : ℕ) (vs : List Value) → IsPlainState s → ArePlainValues vs → Comes IsPlainDone (inserted s session table vs)
 inserted_plain s session table vs h p = then_comes NewRow IsPlainDone (transactions.inserted s.transactions session table vs) _
     (insert_plain s.transactions session table vs h.active p)
-    (λ b q. (tt, record { tables = h.tables; indexes = h.indexes; rows = h.rows; active = q; bases = h.bases; cursors = h.cursors }))
+    (λ b q. then_comes Any IsPlainDone (row_alone s session table vs b.0) _ (rivals_come s session table (λ own. new_change table b.0 vs ∷ []) (transaction_of s.transactions.active session))
+    (λ u r. (tt, record { tables = h.tables; indexes = h.indexes; rows = h.rows; active = q; bases = h.bases; cursors = h.cursors })))
 
 abbrev ArePlainSets : List (ℕ × Value) → Type 0
 ArePlainSets = AllByRecursion (λ (s : ℕ × Value). IsPlainValue s.1)
@@ -281,7 +303,8 @@ changed_plain s session table sets only h p = then_comes NewChanges IsPlainDone
     (transactions.changed s.transactions session table only sets (λ base. rows_seen s (transaction_of s.transactions.active session) table)) _
     (change_plain s.transactions session table only sets (λ base. rows_seen s (transaction_of s.transactions.active session) table) h.active p
     (λ base. seen_plain s (transaction_of s.transactions.active session) table h))
-    (λ b q. (tt, record { tables = h.tables; indexes = h.indexes; rows = h.rows; active = q; bases = h.bases; cursors = h.cursors }))
+    (λ b q. then_comes Any IsPlainDone (rows_alone s session table sets only) _ (rivals_come s session table (changes_met s table sets only) (transaction_of s.transactions.active session))
+    (λ u r. (tt, record { tables = h.tables; indexes = h.indexes; rows = h.rows; active = q; bases = h.bases; cursors = h.cursors })))
 
 -- ---- COMMIT and ROLLBACK
 

@@ -21,7 +21,7 @@ use Rattle.rv_lang.specs.Tokens.{Cuts, IsToken, IsWord, is_text_byte, is_word_by
 use Rattle.rv_model.specs.Transcript.{IsName as IsPlainName, is_capital, is_name_byte}
 use Rattle.rv_model.proofs.Cuts.{and_parts}
 use Rattle.rv_model.proofs.Values.{passes_more}
-use Rattle.rv_believed.specs.Grammar.{Says, Derives, key, LPAREN, RPAREN, more_tokens, list_tokens, literal, qualifier, column, compare, operand, atom, IsGroup, bare, in_parens, AreGroups, one, more, IsCond, lone, groups, IsWhere, no_where, where_cond, name, kind, column_def, set, select_list, second_name, from_item, order_by, IsBody}
+use Rattle.rv_believed.specs.Grammar.{Says, Derives, key, LPAREN, RPAREN, more_tokens, list_tokens, literal, qualifier, column, compare, operand, atom, IsGroup, bare, in_parens, AreGroups, one, more, IsCond, lone, groups, IsWhere, no_where, where_cond, name, kind, column_def, set, unique_word, select_list, second_name, from_item, order_by, IsBody}
 use Rattle.rv_believed.specs.Plain.{IsPlainValue}
 
 -- ---- tokens
@@ -106,7 +106,7 @@ IsPlainSet s = IsPlainName s.0 × IsPlainValue s.1
 -- the names that may be shown of a statement, and the values that it writes
 abbrev pub IsPlainStatement : Statement → Type 0
 IsPlainStatement (CreateTable table columns) = IsPlainName table × AllByRecursion IsPlainDef columns × (columns ≢ [])
-IsPlainStatement (CreateIndex index table columns) = IsPlainName index × IsPlainName table × AllByRecursion IsPlainName columns
+IsPlainStatement (CreateIndex unique index table columns) = IsPlainName index × IsPlainName table × AllByRecursion IsPlainName columns
 IsPlainStatement (Begin read_only) = Unit {0}
 IsPlainStatement (Insert table vs) = IsPlainName table × AllByRecursion IsPlainValue vs
 IsPlainStatement (Update table sets only) = IsPlainName table × AllByRecursion IsPlainSet sets × ArePlainAtoms only
@@ -217,13 +217,18 @@ order_plain : TellsPart order_by (AllByRecursion IsPlainColumn)
 order_plain [] rest h = (tt, h)
 order_plain (c ∷ cs) rest h = list_plain column IsPlainColumn column_plain (Symbol Comma) (c ∷ cs) rest h.1.1
 
+unique_plain : (unique : Bool) (rest : List Token) → ArePlain (unique_word unique rest) → ArePlain rest
+unique_plain false rest h = h
+unique_plain true rest h = h.1
+
 body_plain : (s : Statement) (tokens rest : List Token) → IsBody s tokens rest → ArePlain tokens → IsPlainStatement s
 body_plain (CreateTable table columns) tokens rest is h =
     let p = subst ArePlain is.2 h in
     (p.1.1.0, (list_plain column_def IsPlainDef column_def_plain (Symbol Comma) columns (RPAREN ∷ rest) p.1.1.1.1).0, is.1.0)
-body_plain (CreateIndex index table columns) tokens rest is h =
+body_plain (CreateIndex unique index table columns) tokens rest is h =
     let p = subst ArePlain is.3 h in
-    (p.1.1.0, p.1.1.1.1.0, (list_plain name IsPlainName name_plain (Symbol Comma) columns (RPAREN ∷ rest) p.1.1.1.1.1.1).0)
+    let q = unique_plain unique (key "INDEX" ∷ Word index ∷ key "ON" ∷ Word table ∷ LPAREN ∷ list_tokens (Symbol Comma) name columns (RPAREN ∷ rest)) p.1 in
+    (q.1.0, q.1.1.1.0, (list_plain name IsPlainName name_plain (Symbol Comma) columns (RPAREN ∷ rest) q.1.1.1.1.1).0)
 body_plain (Begin false) tokens rest is h = tt
 body_plain (Begin true) tokens rest is h = tt
 body_plain (Insert table vs) tokens rest is h =

@@ -163,22 +163,22 @@ set_same : (tables : List TableDef) (item : List ℕ) (table : ℕ) (s : List �
     → today.set_column tables table s ≡ set_of (reach_alone tables item table) s
 set_same tables item table s = ap (λ r. r >>= (λ column. Ok (column, s.1))) (own_same tables item table s.0)
 
-index_same : (schema : Schema) (name table : List ℕ) (names : List (List ℕ))
-    → today.new_index schema name table names ≡ asked_in schema.tables schema.indexes (statements.CreateIndex name table names)
-index_same schema name table names = same_after (table_number schema.tables table)
+index_same : (schema : Schema) (unique : Bool) (name table : List ℕ) (names : List (List ℕ))
+    → today.new_index schema unique name table names ≡ asked_in schema.tables schema.indexes (statements.CreateIndex unique name table names)
+index_same schema unique name table names = same_after (table_number schema.tables table)
     (λ number. collected (columns.own_column schema.tables number) [] names >>= (λ found.
     refuse_if (is_some (index_named schema.indexes name)) (Exists name) >>= (λ fresh.
     refuse_some (today.first_repeat today.itself [] names) Exists >>= (λ once.
-    Ok (asked.CreateIndex (record { name = name; table = number; columns = found }))))))
+    Ok (asked.CreateIndex (record { name = name; table = number; columns = found; unique = unique }))))))
     (λ number. answers (column_number (reach_alone schema.tables table number)) names >>= (λ found.
     refuse_if (is_some (index_named schema.indexes name)) (Exists name) >>= (λ fresh.
     all_differ [] names >>= (λ once.
-    Ok (asked.CreateIndex (record { name = name; table = number; columns = found }))))))
+    Ok (asked.CreateIndex (record { name = name; table = number; columns = found; unique = unique }))))))
     (λ number. λ k. collected_same (columns.own_column schema.tables number) (column_number (reach_alone schema.tables table number))
     (own_same schema.tables table number) names k >>= (λ found.
     refuse_if (is_some (index_named schema.indexes name)) (Exists name) >>= (λ fresh.
     (sym (differ_same today.itself names) ∙ ap (all_differ []) (map_itself names)) k >>= (λ once.
-    Ok (asked.CreateIndex (record { name = name; table = number; columns = found }))))))
+    Ok (asked.CreateIndex (record { name = name; table = number; columns = found; unique = unique }))))))
 
 insert_same : (schema : Schema) (table : List ℕ) (vs : List Value)
     → today.inserted schema table vs ≡ asked_in schema.tables schema.indexes (statements.Insert table vs)
@@ -376,7 +376,7 @@ form_same : (schema : Schema) (s : Statement) → within_limits s ≡ Ok tt → 
 form_same schema (statements.CreateTable name cs) e =
     let rest = (then_is (names_fit (name ∷ map (λ (c : List ℕ × RawKind). c.0) cs)) (all_pass kind_fits cs >>= (λ u. at_most 16 which.Columns cs)) tt e).1 in
     table_same schema name cs (then_is (all_pass kind_fits cs) (at_most 16 which.Columns cs) tt rest).0
-form_same schema (statements.CreateIndex name table names) e = index_same schema name table names
+form_same schema (statements.CreateIndex unique name table names) e = index_same schema unique name table names
 form_same schema (statements.Begin read_only) e = refl
 form_same schema (statements.Insert table vs) e = insert_same schema table vs
 form_same schema (statements.Update table sets only) e = update_same schema table sets only

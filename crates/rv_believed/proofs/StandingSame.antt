@@ -30,6 +30,11 @@ pub outcome_thrice : (a b c : Test) (done : Reply × State)
 outcome_thrice (Ok u) b c done = outcome_twice b c done
 outcome_thrice (Err e) b c done = refl
 
+pub outcome_four : (a b c d : Test) (done : Reply × State)
+    → outcome_of (a >>= (λ u. b >>= (λ v. c >>= (λ w. d >>= (λ x. Ok done))))) ≡ (a >>= (λ u. b >>= (λ v. c >>= (λ w. d >>= (λ x. Ok (done.0, database done.1))))))
+outcome_four (Ok u) b c d done = outcome_thrice b c d done
+outcome_four (Err e) b c d done = refl
+
 -- ---- the session's transaction
 
 abbrev pub own_of : List Working → List (List (List Record)) → ℕ → Transaction
@@ -97,7 +102,7 @@ writer_then session ws bs F G e =
 
 -- ---- another session's transactions
 
-is_equal : (a b : ℕ) → nat_eq a b ≡ true → a ≡ b
+pub is_equal : (a b : ℕ) → nat_eq a b ≡ true → a ≡ b
 is_equal a b h = grind (arith, nat_tests)
 
 abbrev Differs : ℕ → Working → Type 0
@@ -209,3 +214,32 @@ pub others_pass : (session : ℕ) (f : Transaction → Test) (g : Working → Te
 others_pass session f g e [] bs = refl
 others_pass session f g e (w ∷ ws) bs = passes_by f g (transaction_with w (first bs)) w (filter (is_other session) (with_bases ws (rest bs)))
     (filter (λ (v : Working). not (v.session == session)) ws) (e w (first bs)) (others_pass session f g e ws (rest bs)) (not (w.session == session))
+
+-- ---- the other sessions' transactions, with their numbers and changes
+
+listed_by : (t : Transaction) (w : Working) (ts : List Transaction) (ws : List Working) → (t.number ≡ w.number) → (t.changes ≡ w.changes)
+    → map {B = ℕ × List Change} (λ (u : Transaction). (u.number, u.changes)) ts ≡ map {B = ℕ × List Change} (λ (u : Working). (u.number, u.changes)) ws → (b : Bool)
+    → map {B = ℕ × List Change} (λ (u : Transaction). (u.number, u.changes)) (cond b (t ∷ ts) ts) ≡ map {B = ℕ × List Change} (λ (u : Working). (u.number, u.changes)) (cond b (w ∷ ws) ws)
+listed_by t w ts ws n c more true = λ k. (n k, c k) ∷ more k
+listed_by t w ts ws n c more false = more
+
+pub others_listed : (session : ℕ) (ws : List Working) (bs : List (List (List Record)))
+    → map {B = ℕ × List Change} (λ (u : Transaction). (u.number, u.changes)) (filter (is_other session) (with_bases ws bs)) ≡ step.others ws session
+others_listed session [] bs = refl
+others_listed session (w ∷ ws) bs = listed_by (transaction_with w (first bs)) w (filter (is_other session) (with_bases ws (rest bs)))
+    (filter (λ (v : Working). not (v.session == session)) ws) refl refl (others_listed session ws (rest bs)) (not (w.session == session))
+
+-- ---- what is found for a session
+
+passes_later : (session : ℕ) (w : Working) (ws : List Working) (n : ℕ) (o : Option ℕ) (b : Bool) → found b o ≡ Some n → nat_eq w.session session ≡ b
+    → ((m : ℕ) → o ≡ Some m → nat_eq (transaction_at ws m).session session ≡ true) → nat_eq (transaction_at (w ∷ ws) n).session session ≡ true
+passes_later session w ws zero o true e p more = p
+passes_later session w ws (suc n) o true e p more = let no : 0 ≡ suc n = cc in absurd (omega (arith, no))
+passes_later session w ws n None false e p more = cc
+passes_later session w ws zero (Some m) false e p more = let no : suc m ≡ 0 = cc in absurd (omega (arith, no))
+passes_later session w ws (suc n) (Some m) false e p more = let up : suc m ≡ suc n = cc in let same : m ≡ n = omega (arith, up) in more n (ap (λ (k : ℕ). Some k) same)
+
+pub own_passes : (session : ℕ) (ws : List Working) (n : ℕ) → transaction_of ws session ≡ Some n → nat_eq (transaction_at ws n).session session ≡ true
+own_passes session [] n e = let none : None ≡ Some n = sym (position_none (λ (w : Working). w.session == session)) ∙ e in cc
+own_passes session (w ∷ ws) n e = passes_later session w ws n (transaction_of ws session) (nat_eq w.session session)
+    (sym (position_step (λ (v : Working). v.session == session) w ws) ∙ e) refl (own_passes session ws)

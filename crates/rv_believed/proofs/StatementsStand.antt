@@ -8,7 +8,8 @@ use Rattle.rv_restrict.specs.declared.atom.Atom.{Atom}
 use Rattle.rv_rows.specs.declared.changes.Change.{Change}
 use Rattle.rv_rows.specs.Changes.{has_change, rows_with_changes, with_change, with_changes}
 use Rattle.rv_rows.specs.Rows.{with_values}
-use Rattle.rv_lang.specs.declared.reply.Refusal.TheVariants.{Active, Busy, CursorOpen, Held, Limit, NoCursor}
+use Rattle.rv_lang.specs.declared.reply.Refusal.TheVariants.{Active, Busy, CursorOpen, Duplicate, Held, Limit, NoCursor}
+use Rattle.rv_lang.specs.declared.reply.Rival.TheVariants.{View}
 use Rattle.rv_lang.specs.declared.reply.Which.TheVariants as which
 use Rattle.rv_lang.specs.declared.reply.Reply.{Reply}
 use Rattle.rv_lang.specs.declared.reply.Reply.TheVariants.{Began, Closed, Committed, Created, Inserted, Opened, RolledBack, Touched}
@@ -20,8 +21,9 @@ use Rattle.rv_model.specs.declared.state.State.{State}
 use Rattle.rv_model.specs.declared.state.Cursor.{Cursor}
 use Rattle.rv_model.specs.declared.transactions.Transaction.{Transaction as Working}
 use Rattle.rv_model.specs.Database.{cursor_named, rows_at}
+use Rattle.rv_model.specs.Rivals.{all_alone, first_equal, neighbours, rows_written, unique_over}
 use Rattle.rv_model.specs.Step as step
-use Rattle.rv_model.specs.Transactions.{next_row, refuse_at, transaction_at, transaction_of, with_number}
+use Rattle.rv_model.specs.Transactions.{next_row, refuse_at, touched_by, transaction_at, transaction_of, with_number}
 use Rattle.rv_believed.specs.Answers.{Test}
 use Rattle.rv_believed.specs.Changing as believed
 use Rattle.rv_believed.specs.Changing.{few_changes}
@@ -38,7 +40,7 @@ use Rattle.rv_believed.proofs.ChangingSame.{change_same, insert_same, pass_same}
 use Rattle.rv_believed.proofs.CommitsSame.{begin_same, commit_same, index_same, rollback_same, table_same}
 use Rattle.rv_believed.proofs.CursorsSame.{close_same, open_same}
 use Rattle.rv_believed.proofs.Growing.{number_next, number_touched, touch_all_by, within}
-use Rattle.rv_believed.proofs.StandingSame.{drop_at, own_dropped, own_found, own_of, own_put, own_then, others_pass, outcome_thrice, outcome_twice, put_at, writer_then}
+use Rattle.rv_believed.proofs.StandingSame.{drop_at, is_equal, others_listed, outcome_four, own_dropped, own_found, own_of, own_passes, own_put, own_then, others_pass, outcome_thrice, outcome_twice, put_at, writer_then}
 use Rattle.rv_believed.proofs.TakenStates.{own_taken, touch_all_same}
 
 -- ---- CREATE
@@ -77,9 +79,11 @@ index_on : (s : State) (def : IndexDef) → transactions.create_index (database 
 index_on s def =
     (λ k. idle_stands s.transactions.active s.bases k
     >>= (λ u. refuse_if (nat_lt 7 (length (filter (λ (i : IndexDef). i.table == def.table) s.schema.indexes))) (Limit which.Indexes 8)
-    >>= (λ v. Ok (Created, record (database s) { indexes = s.schema.indexes ++ def ∷ [] }))))
-    ∙ sym (outcome_twice (refuse_at (slice_get s.transactions.active 0) (λ (w : Working). Busy w.number))
+    >>= (λ v. refuse_at (first_equal def (rows_at s.rows def.table)) (λ (r : Record). Duplicate r.row View)
+    >>= (λ w. Ok (Created, record (database s) { indexes = s.schema.indexes ++ def ∷ [] })))))
+    ∙ sym (outcome_thrice (refuse_at (slice_get s.transactions.active 0) (λ (w : Working). Busy w.number))
     (refuse_if (nat_lt 7 (length (filter (λ (i : IndexDef). i.table == def.table) s.schema.indexes))) (Limit which.Indexes 8))
+    (refuse_at (first_equal def (rows_at s.rows def.table)) (λ (r : Record). Duplicate r.row View))
     (Created, record s { schema = record s.schema { indexes = s.schema.indexes ++ def ∷ [] } }))
 
 pub index_stands : (s : State) (def : IndexDef) → IsSound s → transactions.create_index (database s) def ≡ outcome_of (step.indexed s def)
@@ -140,9 +144,26 @@ put_place : (s : State) (session n : ℕ) (cs : List Change) → IsSound s → t
 put_place s session n cs h e = own_put session cs s.transactions.active s.bases h.orderly.active
     ∙ ap (λ o. with_bases (put_at o cs s.transactions.active) s.bases) e
 
+abbrev new_row_change : State → ℕ → List Value → Change
+new_row_change s table vs = record { table = table; row = record { 0 = next_row s.transactions.touched table }; values = Some vs }
+
 abbrev new_row : State → ℕ → ℕ → List Value → List Change
-new_row s own table vs = with_change (record { table = table; row = record { 0 = next_row s.transactions.touched table }; values = Some vs })
-    (transaction_at s.transactions.active own).changes
+new_row s own table vs = with_change (new_row_change s table vs) (transaction_at s.transactions.active own).changes
+
+-- the transaction that is found for a session is of this session
+owner_is : (session : ℕ) (ws : List Working) (n : ℕ) → transaction_of ws session ≡ Some n → (transaction_at ws n).session ≡ session
+owner_is session ws n e = is_equal (transaction_at ws n).session session (own_passes session ws n e)
+
+-- rivals are looked for among the same rows
+rivals_same : (s : State) (session n table : ℕ) (new : List Change) → (transaction_at s.transactions.active n).session ≡ session
+    → believed.no_rivals (database s) (own_of s.transactions.active s.bases n) table new ≡ step.no_rivals s session n table new
+rivals_same s session n table new owner =
+    let own = transaction_at s.transactions.active n in
+    let theirs = ap (λ (who : ℕ). map {B = ℕ × List Change} (λ (u : Transaction). (u.number, u.changes)) (filter (λ (t : Transaction). not (t.session == who)) (with_bases s.transactions.active s.bases))) owner
+    ∙ others_listed session s.transactions.active s.bases in
+    ap (λ (others : List (ℕ × List Change)). all_alone (unique_over table s.schema.indexes)
+    (neighbours table (with_changes new own.changes) (rows_at (slice_index_or s.bases n []) table) (rows_at s.rows table) (touched_by s.transactions.touched table) others)
+    (rows_written table new)) theirs
 
 insert_at : (s : State) (session table : ℕ) (vs : List Value) (n : ℕ) → IsSound s → transaction_of s.transactions.active session ≡ Some n
     → record (with_changed (database s) session (new_row s n table vs)) {
@@ -158,9 +179,11 @@ insert_on : (s : State) (session table : ℕ) (vs : List Value) → IsSound s �
 insert_on s session table vs h = writer_then session s.transactions.active s.bases _ _ (λ n e.
     (λ k. refuse_if (nat_lt 999999 (next_row s.transactions.touched table)) (Limit which.Rows 1000000)
     >>= (λ u. refuse_if (nat_lt 99999 (length (transaction_at s.transactions.active n).changes)) (Limit which.Pending 100000)
-    >>= (λ v. Ok (Inserted (record { 0 = next_row s.transactions.touched table }), insert_at s session table vs n h e k))))
-    ∙ sym (outcome_twice (refuse_if (nat_lt 999999 (next_row s.transactions.touched table)) (Limit which.Rows 1000000))
-    (refuse_if (nat_lt 99999 (length (transaction_at s.transactions.active n).changes)) (Limit which.Pending 100000)) (
+    >>= (λ v. rivals_same s session n table (new_row_change s table vs ∷ []) (owner_is session s.transactions.active n e) k
+    >>= (λ w. Ok (Inserted (record { 0 = next_row s.transactions.touched table }), insert_at s session table vs n h e k)))))
+    ∙ sym (outcome_thrice (refuse_if (nat_lt 999999 (next_row s.transactions.touched table)) (Limit which.Rows 1000000))
+    (refuse_if (nat_lt 99999 (length (transaction_at s.transactions.active n).changes)) (Limit which.Pending 100000))
+    (step.no_rivals s session n table (new_row_change s table vs ∷ [])) (
       Inserted (record { 0 = next_row s.transactions.touched table }),
       changing.with_changed s n (new_row s n table vs) (with_number s.transactions.touched table),
     )))
@@ -173,33 +196,37 @@ holder_same : (s : State) (session : ℕ) (c : Change) → believed.no_holder (d
 holder_same s session c = others_pass session (λ (t : Transaction). refuse_if (has_change c.table c.row.0 t.changes) (Held c.row t.number))
     (λ (w : Working). refuse_if (has_change c.table c.row.0 w.changes) (Held c.row w.number)) (λ w b. refl) s.transactions.active s.bases
 
-change_at : (s : State) (session n : ℕ) (new : List Change) → IsSound s → transaction_of s.transactions.active session ≡ Some n
+change_at : (s : State) (session n table : ℕ) (new : List Change) → IsSound s → transaction_of s.transactions.active session ≡ Some n
     → (few_changes (transaction_at s.transactions.active n).changes new
     >>= (λ u. all_pass (believed.no_later_commit (database s) (transaction_at s.transactions.active n).base) new
     >>= (λ v. all_pass (believed.no_holder (database s) session) new
-    >>= (λ w. Ok (Touched (length new), with_changed (database s) session (with_changes new (transaction_at s.transactions.active n).changes))))))
+    >>= (λ w. believed.no_rivals (database s) (own_of s.transactions.active s.bases n) table new
+    >>= (λ x. Ok (Touched (length new), with_changed (database s) session (with_changes new (transaction_at s.transactions.active n).changes)))))))
     ≡ outcome_of (few_changes (transaction_at s.transactions.active n).changes new
     >>= (λ u. all_pass (changing.no_later_commit s (transaction_at s.transactions.active n).base) new
     >>= (λ v. all_pass (changing.no_holder s session) new
-    >>= (λ w. Ok (Touched (length new), changing.with_changed s n (with_changes new (transaction_at s.transactions.active n).changes) s.transactions.touched)))))
-change_at s session n new h e =
+    >>= (λ w. step.no_rivals s session n table new
+    >>= (λ x. Ok (Touched (length new), changing.with_changed s n (with_changes new (transaction_at s.transactions.active n).changes) s.transactions.touched))))))
+change_at s session n table new h e =
     (λ k. few_changes (transaction_at s.transactions.active n).changes new
     >>= (λ u. all_pass (changing.no_later_commit s (transaction_at s.transactions.active n).base) new
     >>= (λ v. pass_same (believed.no_holder (database s) session) (changing.no_holder s session) (holder_same s session) new k
-    >>= (λ w. Ok (
+    >>= (λ w. rivals_same s session n table new (owner_is session s.transactions.active n e) k
+    >>= (λ x. Ok (
       Touched (length new),
       record (database s) {
         active = put_place s session n (with_changes new (transaction_at s.transactions.active n).changes) h e k;
       },
-    )))))
-    ∙ sym (outcome_thrice (few_changes (transaction_at s.transactions.active n).changes new)
+    ))))))
+    ∙ sym (outcome_four (few_changes (transaction_at s.transactions.active n).changes new)
     (all_pass (changing.no_later_commit s (transaction_at s.transactions.active n).base) new) (all_pass (changing.no_holder s session) new)
+    (step.no_rivals s session n table new)
     (Touched (length new), changing.with_changed s n (with_changes new (transaction_at s.transactions.active n).changes) s.transactions.touched))
 
 change_on : (s : State) (session table : ℕ) (sets : Option (List (ℕ × Value))) (only : List (List Atom)) → IsSound s
     → believed.change (database s) session table sets only ≡ outcome_of (changing.change s session table sets only)
 change_on s session table sets only h = writer_then session s.transactions.active s.bases _ _
-    (λ n e. change_at s session n (changing.changes_by s n table sets only) h e)
+    (λ n e. change_at s session n table (changing.changes_by s n table sets only) h e)
 
 pub change_stands : (s : State) (session table : ℕ) (sets : Option (List (ℕ × Value))) (only : List (List Atom)) → IsSound s
     → believed.change (database s) session table sets only ≡ outcome_of (step.changed s session table sets only)

@@ -28,7 +28,7 @@ use Rattle.rv_model.specs.declared.entry.Entry.{Entry}
 use Rattle.rv_model.specs.declared.state.State.{State}
 use Rattle.rv_model.specs.Database.{cursor_named, empty}
 use Rattle.rv_model.specs.History.{after_from, stepped}
-use Rattle.rv_model.specs.Step.{Outcome, began, changed, closed, committed, committed_with, created, fetched, indexed, inserted, next_asked, opened, opening, rolled_back, state_of, understood}
+use Rattle.rv_model.specs.Step.{Outcome, began, changed, closed, committed, committed_with, created, fetched, indexed, inserted, next_asked, no_rivals, opened, opening, rolled_back, rows_differ, state_of, understood}
 use Rattle.rv_model.specs.Transactions as transactions
 use Rattle.rv_model.specs.Transactions.{next_row, refuse_at, touch_all, touch, touched_in, transaction_at, transaction_of, empty_lists, with_number, writer}
 use Rattle.rv_believed.specs.Answers.{answers}
@@ -82,7 +82,7 @@ asked_gives : (tables : List TableDef) (indexes : List IndexDef) (s : Statement)
 asked_gives tables indexes (statements.CreateTable name columns) =
     then_any (Among (length tables)) (refuse_if (is_some (table_named tables name)) (refusals.Exists name)) _
     (λ u. then_any (Among (length tables)) (all_differ [] (map (λ (c : List ℕ × RawKind). c.0) columns)) _ (λ v. tt))
-asked_gives tables indexes (statements.CreateIndex name table columns) =
+asked_gives tables indexes (statements.CreateIndex unique name table columns) =
     then_any (Among (length tables)) (table_number tables table) _
     (λ number. then_any (Among (length tables)) (answers (column_number (reach_alone tables table number)) columns) _
     (λ found. then_any (Among (length tables)) (refuse_if (is_some (index_named indexes name)) (refusals.Exists name)) _
@@ -177,7 +177,7 @@ created_there s def h = then_any Done (refuse_at (transactions.lowest s.transact
 indexed_there : (s : State) (def : IndexDef) → IsOfTables s → Gives Done (indexed s def)
 indexed_there s def h = then_any Done (refuse_at (transactions.lowest s.transactions.active) refusals.Busy) _
     (λ u. then_any Done (refuse_if (nat_lt 7 (indexes_over def.table s.schema.indexes)) (refusals.Limit which.Indexes 8)) _
-    (λ v. record { rows = h.rows; touched = h.touched }))
+    (λ v. then_any Done (rows_differ s def) _ (λ w. record { rows = h.rows; touched = h.touched })))
 
 began_there : (s : State) (session : ℕ) (read_only : Bool) → IsOfTables s → Gives Done (began s session read_only)
 began_there s session read_only h = subst (Gives Done) (begin_same s session read_only)
@@ -189,10 +189,11 @@ inserted_there s session table vs lt h = subst (Gives Done) (insert_same s sessi
     (then_any Done (writer s.transactions.active session) _
     (λ own. then_any Done (refuse_if (nat_lt 999999 (next_row s.transactions.touched table)) (refusals.Limit which.Rows 1000000)) _
     (λ u. then_any Done (refuse_if (nat_lt 99999 (length (transaction_at s.transactions.active own).changes)) (refusals.Limit which.Pending 100000)) _
-    (λ v. record {
+    (λ v. then_any Done (no_rivals s session own table (record { table = table; row = record { 0 = next_row s.transactions.touched table }; values = Some vs } ∷ [])) _
+    (λ w. record {
       rows = h.rows;
       touched = number_length s.transactions.touched table (length s.schema.tables) (nat_lt table (length s.transactions.touched)) refl h.touched lt;
-    }))))
+    })))))
 
 changed_there : (s : State) (session table : ℕ) (sets : Option (List (ℕ × Value))) (only : List (List Atom)) → IsOfTables s → Gives Done (changed s session table sets only)
 changed_there s session table sets only h = subst (Gives Done) (change_same s session table sets only)
@@ -200,7 +201,8 @@ changed_there s session table sets only h = subst (Gives Done) (change_same s se
     (λ own. then_any Done (few_changes (transaction_at s.transactions.active own).changes (changes_by s own table sets only)) _
     (λ u. then_any Done (all_pass (no_later_commit s (transaction_at s.transactions.active own).base) (changes_by s own table sets only)) _
     (λ v. then_any Done (all_pass (no_holder s session) (changes_by s own table sets only)) _
-    (λ w. record { rows = h.rows; touched = h.touched })))))
+    (λ w. then_any Done (no_rivals s session own table (changes_by s own table sets only)) _
+    (λ x. record { rows = h.rows; touched = h.touched }))))))
 
 ended_there : (s : State) (session own : ℕ) (cs : List Change) → IsOfTables s → Done (committed_with cs s session own)
 ended_there s session own [] h = record {

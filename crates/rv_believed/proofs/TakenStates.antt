@@ -28,7 +28,7 @@ use Rattle.rv_model.specs.declared.transactions.Transaction.{Transaction}
 use Rattle.rv_model.specs.declared.transactions.Transactions.{Transactions}
 use Rattle.rv_model.specs.Database.{cursor_named, empty, rows_at}
 use Rattle.rv_model.specs.History.{after_from, stepped}
-use Rattle.rv_model.specs.Step.{Outcome, began, changed, closed, committed, committed_with, created, ended, fetched, indexed, inserted, next_asked, opened, opening, rolled_back, rows_seen, state_of, tables_changed, understood}
+use Rattle.rv_model.specs.Step.{Outcome, began, changed, closed, committed, committed_with, created, ended, fetched, indexed, inserted, next_asked, opened, opening, rolled_back, row_alone, rows_alone, rows_differ, rows_seen, state_of, tables_changed, understood}
 use Rattle.rv_model.specs.Transactions as transactions
 use Rattle.rv_model.specs.Transactions.{empty_lists, next_row, no_transaction, refuse_at, touch, touch_all, touched_in, transaction_at, transaction_of, with_number}
 use Rattle.rv_believed.specs.Taken.{AreTaken, ChangesTaken, HasTaken, StaysTaken, TablesTaken}
@@ -280,7 +280,8 @@ indexed_taken s def h = then_gives Any Done (refuse_at (transactions.lowest s.tr
     (any_gives (refuse_at (transactions.lowest s.transactions.active) refusals.Busy))
     (λ u p. then_gives Any Done (refuse_if (nat_lt 7 (indexes_over def.table s.schema.indexes)) (refusals.Limit which.Indexes 8)) _
     (any_gives (refuse_if (nat_lt 7 (indexes_over def.table s.schema.indexes)) (refusals.Limit which.Indexes 8)))
-    (λ v q. record { rows = h.rows; bases = h.bases; changes = h.changes }))
+    (λ v q. then_gives Any Done (rows_differ s def) _ (any_gives (rows_differ s def))
+    (λ w r. record { rows = h.rows; bases = h.bases; changes = h.changes })))
 
 begin_keeps : (t : Transactions) (session : ℕ) (read_only : Bool) (base : ℕ) → AllByRecursion (Takes (next_row t.touched)) t.active
     → Gives (λ (b : ℕ × Transactions). Keeps t b.1) (transactions.began t session read_only base)
@@ -306,22 +307,22 @@ began_taken s session read_only h = then_gives (λ (b : ℕ × Transactions). Ke
 inserted_taken : (s : State) (session table : ℕ) (vs : List Value) → HasTaken s → Gives Done (inserted s session table vs)
 inserted_taken s session table vs h = then_gives (λ (b : RowNo × Transactions). Keeps s.transactions b.1) Done
     (transactions.inserted s.transactions session table vs) _ (insert_keeps s.transactions session table vs h.changes)
-    (λ b p. record {
+    (λ b p. then_gives Any Done (row_alone s session table vs b.0) _ (any_gives (row_alone s session table vs b.0)) (λ u q. record {
       rows = tables_more (next_row s.transactions.touched) (next_row b.1.touched) s.rows p.rises h.rows;
       bases = bases_more (next_row s.transactions.touched) (next_row b.1.touched) s.bases p.rises h.bases;
       changes = p.changes;
-    })
+    }))
 
 changed_taken : (s : State) (session table : ℕ) (sets : Option (List (ℕ × Value))) (only : List (List Atom)) → HasTaken s → Gives Done (changed s session table sets only)
 changed_taken s session table sets only h = then_gives (λ (b : ℕ × Transactions). Keeps s.transactions b.1) Done
     (transactions.changed s.transactions session table only sets (λ base. rows_seen s (transaction_of s.transactions.active session) table)) _
     (change_keeps s.transactions session table only sets (λ base. rows_seen s (transaction_of s.transactions.active session) table) h.changes
     (λ base. seen_taken s (transaction_of s.transactions.active session) table h))
-    (λ b p. record {
+    (λ b p. then_gives Any Done (rows_alone s session table sets only) _ (any_gives (rows_alone s session table sets only)) (λ u q. record {
       rows = tables_more (next_row s.transactions.touched) (next_row b.1.touched) s.rows p.rises h.rows;
       bases = bases_more (next_row s.transactions.touched) (next_row b.1.touched) s.bases p.rises h.bases;
       changes = p.changes;
-    })
+    }))
 
 same : (m a : ℕ) → m ≡ a + 0 → a ≡ m
 same m a e = omega (arith, e)

@@ -3,6 +3,8 @@ use Rattle.std.proofs.Common.{List, [], ◌∷◌}
 use Rattle.std.specs.List.{AllByRecursion}
 use Rattle.rv_value.specs.declared.value.Value.{Value}
 use Rattle.rv_value.specs.declared.value.Value.TheVariants.{Null, Int, Str}
+use Rattle.rv_lang.specs.declared.reply.Rival.{Rival}
+use Rattle.rv_lang.specs.declared.reply.Rival.TheVariants as rivals
 use Rattle.rv_lang.specs.declared.reply.Refusal.{Refusal}
 use Rattle.rv_lang.specs.declared.reply.Refusal.TheVariants as refusals
 use Rattle.rv_lang.specs.declared.reply.ShownEvent.{ShownEvent}
@@ -12,7 +14,7 @@ use Rattle.rv_lang.specs.declared.reply.Reply.TheVariants as replies
 use Rattle.rv_model.specs.declared.entry.Entry.{Entry}
 use Rattle.rv_model.specs.Transcript as working
 use Rattle.rv_model.specs.Transcript.{text}
-use Rattle.rv_believed.specs.Held.{IsHeldValue, IsHeldRefusal, IsHeldEvent, IsHeldReply, IsOfProgram, TranscriptTells}
+use Rattle.rv_believed.specs.Held.{IsHeldValue, IsHeldRival, IsHeldRefusal, IsHeldEvent, IsHeldReply, IsOfProgram, TranscriptTells}
 use Rattle.rv_believed.specs.Plain.{IsPlain, IsPlainEvent, IsPlainRefusal, IsPlainReply, IsPlainValue}
 use Rattle.rv_believed.proofs.PlainHistories.{plain_entries}
 
@@ -24,6 +26,11 @@ value_works (Str t) p h = p
 values_work : (vs : List Value) → AllByRecursion IsPlainValue vs → AllByRecursion IsHeldValue vs → AllByRecursion working.IsPlainValue vs
 values_work [] p h = tt
 values_work (v ∷ vs) p h = (value_works v p.0 h.0, values_work vs p.1 h.1)
+
+rival_works : (by : Rival) → IsHeldRival by → working.IsPlainRival by
+rival_works rivals.View h = tt
+rival_works (rivals.Commit commit) h = h
+rival_works (rivals.Txn txn) h = h
 
 refusal_works : (r : Refusal) → IsPlainRefusal r → IsHeldRefusal r → working.IsPlainRefusal r
 refusal_works refusals.Syntax p h = tt
@@ -39,6 +46,7 @@ refusal_works (refusals.Held row txn) p h = (h.0, h.1)
 refusal_works (refusals.NoCursor name) p h = p
 refusal_works (refusals.CursorOpen name) p h = p
 refusal_works (refusals.Limit which n) p h = h
+refusal_works (refusals.Duplicate row by) p h = (h.0, rival_works by h.1)
 
 event_works : (e : ShownEvent) → IsPlainEvent e → IsHeldEvent e → working.IsPlainEvent e
 event_works (events.At control) p h = tt

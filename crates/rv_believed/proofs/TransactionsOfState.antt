@@ -1,9 +1,11 @@
 -- CREATE, BEGIN, COMMIT and ROLLBACK in believed words over the working state.
 use Rattle.std.specs.Prelude.{ℕ, ◌+◌, List, [], ◌∷◌, ◌++◌, Ok, Bool, not, ◌==◌, nat_lt, length, filter, map, remove, slice_get}
 use Rattle.std.specs.List.{range_with_len, slice_index_or}
+use Rattle.rv_value.specs.declared.record.Record.{Record}
 use Rattle.rv_rows.specs.declared.changes.Change.{Change}
 use Rattle.rv_rows.specs.Changes.{rows_with_changes}
-use Rattle.rv_lang.specs.declared.reply.Refusal.TheVariants.{Active, Busy, Limit, NoTransaction}
+use Rattle.rv_lang.specs.declared.reply.Refusal.TheVariants.{Active, Busy, Duplicate, Limit, NoTransaction}
+use Rattle.rv_lang.specs.declared.reply.Rival.TheVariants.{View}
 use Rattle.rv_lang.specs.declared.reply.Which.TheVariants.{Indexes, Tables}
 use Rattle.rv_lang.specs.declared.reply.Reply.{Reply}
 use Rattle.rv_lang.specs.declared.reply.Reply.TheVariants.{Began, Committed, Created, RolledBack}
@@ -12,6 +14,7 @@ use Rattle.rv_catalog.specs.declared.def.TableDef.{TableDef}
 use Rattle.rv_catalog.specs.Answers.{◌>>=◌, ok_or, refuse_if}
 use Rattle.rv_model.specs.declared.state.State.{State}
 use Rattle.rv_model.specs.declared.state.Cursor.{Cursor}
+use Rattle.rv_model.specs.Rivals.{first_equal}
 use Rattle.rv_model.specs.Step.{Outcome}
 use Rattle.rv_model.specs.declared.transactions.Transaction.{Transaction}
 use Rattle.rv_model.specs.Transactions.{refuse_at, touch_all, transaction_at, transaction_of}
@@ -24,12 +27,15 @@ create_table s def = do
   let tables = s.schema.tables ++ def ∷ []
   Ok (Created, record s { schema = record s.schema { tables = tables }; rows = s.rows ++ [] ∷ [] })
 
--- CREATE INDEX: not while a transaction is active, and at most 8 indexes over a table
+-- CREATE INDEX: not while a transaction is active, at most 8 indexes over a table, and a unique one
+-- not where two rows are equal in it
 abbrev pub create_index : State → IndexDef → Outcome
 create_index s def = do
   idle ← refuse_at (slice_get s.transactions.active 0) (λ (t : Transaction). Busy t.number)
   let others = filter (λ (i : IndexDef). i.table == def.table) s.schema.indexes
   room ← refuse_if (nat_lt 7 (length others)) (Limit Indexes 8)
+  let rows = slice_index_or s.rows def.table []
+  differ ← refuse_at (first_equal def rows) (λ (r : Record). Duplicate r.row View)
   Ok (Created, record s { schema = record s.schema { indexes = s.schema.indexes ++ def ∷ [] } })
 
 -- BEGIN: not while the session has a transaction; one of the next number, on the last commit

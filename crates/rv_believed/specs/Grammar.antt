@@ -3,7 +3,7 @@
 -- Where a part has one spelling, a function gives its tokens, followed by the tokens `rest`, and a
 -- fact `Is..` says which values are spelled so. Where the grammar leaves a choice, a relation says
 -- that `tokens` spell the part and are followed by `rest`.
-use Rattle.std.specs.Prelude.{◌≡◌, ◌≢◌, ℕ, List, [], ◌∷◌, Option, Some, None, true, false, bytes_eq, codes, length, map, ◌<◌, ◌⊎◌}
+use Rattle.std.specs.Prelude.{◌≡◌, ◌≢◌, ℕ, List, [], ◌∷◌, Option, Some, None, Bool, true, false, bytes_eq, codes, length, map, ◌<◌, ◌⊎◌}
 use Prim.Native.String.{String}
 use Rattle.std.specs.List.{list_any, AllByRecursion}
 use Rattle.rv_value.specs.declared.value.Value.{Value}
@@ -34,7 +34,7 @@ keywords = map codes ("AND" ∷ "BEGIN" ∷ "BETWEEN" ∷ "BIGINT" ∷ "BY" ∷ 
     ∷ "DELETE" ∷ "FAST" ∷ "FETCH" ∷ "FIRST" ∷ "FOR" ∷ "FROM" ∷ "IN" ∷ "INDEX" ∷ "INSERT" ∷ "INTO"
     ∷ "IS" ∷ "NOT" ∷ "NULL" ∷ "ON" ∷ "ONLY" ∷ "OPEN" ∷ "OPTIMIZE" ∷ "OR" ∷ "ORDER" ∷ "READ"
     ∷ "ROLLBACK" ∷ "SELECT" ∷ "SET" ∷ "SHOW" ∷ "STARTING" ∷ "STEP" ∷ "TABLE" ∷ "TIME" ∷ "TOTAL"
-    ∷ "UPDATE" ∷ "VALUES" ∷ "VARCHAR" ∷ "WHERE" ∷ "WITH" ∷ [])
+    ∷ "UNIQUE" ∷ "UPDATE" ∷ "VALUES" ∷ "VARCHAR" ∷ "WHERE" ∷ "WITH" ∷ [])
 
 -- no keyword
 abbrev pub IsName : List ℕ → Type 0
@@ -186,6 +186,11 @@ column_def d rest = Word d.0 ∷ kind d.1 rest
 abbrev pub set : Spelling (List ℕ × Value)
 set s rest = Word s.0 ∷ Symbol Equal ∷ literal s.1 rest
 
+-- [UNIQUE]
+abbrev pub unique_word : Spelling Bool
+unique_word false rest = rest
+unique_word true rest = key "UNIQUE" ∷ rest
+
 -- the first part is a name
 abbrev pub IsNamed : {X : Type 0} → List ℕ × X → Type 0
 IsNamed x = IsName x.0
@@ -227,7 +232,7 @@ pub data IsGoal : RawGoal → List Token → List Token → Type 0 where
       → IsGoal FastFirst (key "OPTIMIZE" ∷ key "FOR" ∷ key "FAST" ∷ key "FIRST" ∷ rest) rest
 
 -- body = CREATE TABLE name ( column {, column} )
---      | CREATE INDEX name ON name ( name {, name} )
+--      | CREATE [UNIQUE] INDEX name ON name ( name {, name} )
 --      | BEGIN [READ ONLY]
 --      | INSERT INTO name VALUES ( literal {, literal} )
 --      | UPDATE name SET name = literal {, name = literal} [WHERE cond]
@@ -240,10 +245,10 @@ abbrev pub IsBody : Statement → List Token → List Token → Type 0
 IsBody (CreateTable table columns) tokens rest = IsName table × AreSome IsNamed columns
     × (tokens ≡ key "CREATE" ∷ key "TABLE" ∷ Word table ∷ LPAREN
     ∷ list_tokens (Symbol Comma) column_def columns (RPAREN ∷ rest))
-IsBody (CreateIndex index table columns) tokens rest =
+IsBody (CreateIndex unique index table columns) tokens rest =
     IsName index × IsName table × AreSome IsName columns
-    × (tokens ≡ key "CREATE" ∷ key "INDEX" ∷ Word index ∷ key "ON"
-    ∷ Word table ∷ LPAREN ∷ list_tokens (Symbol Comma) name columns (RPAREN ∷ rest))
+    × (tokens ≡ key "CREATE" ∷ unique_word unique (key "INDEX" ∷ Word index ∷ key "ON"
+    ∷ Word table ∷ LPAREN ∷ list_tokens (Symbol Comma) name columns (RPAREN ∷ rest)))
 IsBody (Begin false) tokens rest = tokens ≡ key "BEGIN" ∷ rest
 IsBody (Begin true) tokens rest = tokens ≡ key "BEGIN" ∷ key "READ" ∷ key "ONLY" ∷ rest
 IsBody (Insert table values) tokens rest = IsName table × (values ≢ [])

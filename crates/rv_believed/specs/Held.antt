@@ -5,6 +5,8 @@ use Rattle.std.specs.Int.Signed.{mag}
 use Rattle.std.specs.List.{AllByRecursion}
 use Rattle.rv_value.specs.declared.value.Value.{Value}
 use Rattle.rv_value.specs.declared.value.Value.TheVariants.{Int}
+use Rattle.rv_lang.specs.declared.reply.Rival.{Rival}
+use Rattle.rv_lang.specs.declared.reply.Rival.TheVariants as rivals
 use Rattle.rv_lang.specs.declared.reply.Refusal.{Refusal}
 use Rattle.rv_lang.specs.declared.reply.Refusal.TheVariants as refusals
 use Rattle.rv_lang.specs.declared.reply.Shown.{Shown}
@@ -26,6 +28,12 @@ abbrev pub IsHeldValue : Value → Type 0
 IsHeldValue (Int z) = mag z < 2 ^ 63
 IsHeldValue v = Unit {0}
 
+-- the number behind a rival, where one is shown
+abbrev pub IsHeldRival : Rival → Type 0
+IsHeldRival rivals.View = Unit {0}
+IsHeldRival (rivals.Commit commit) = IsHeld commit
+IsHeldRival (rivals.Txn txn) = IsHeld txn
+
 -- the numbers that a refusal shows
 abbrev pub IsHeldRefusal : Refusal → Type 0
 IsHeldRefusal (refusals.Active txn) = IsHeld txn
@@ -33,6 +41,7 @@ IsHeldRefusal (refusals.Busy txn) = IsHeld txn
 IsHeldRefusal (refusals.Changed row commit) = IsHeld row.0 × IsHeld commit
 IsHeldRefusal (refusals.Held row txn) = IsHeld row.0 × IsHeld txn
 IsHeldRefusal (refusals.Limit which n) = IsHeld n
+IsHeldRefusal (refusals.Duplicate row by) = IsHeld row.0 × IsHeldRival by
 IsHeldRefusal refusal = Unit {0}
 
 -- how many keys a list has

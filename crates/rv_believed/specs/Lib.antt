@@ -17,3 +17,4 @@ pub mod Step
 pub mod Taken
 pub mod Transactions
 pub mod Truth
+pub mod Unique

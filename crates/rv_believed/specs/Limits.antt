@@ -108,7 +108,7 @@ within_limits (CreateTable name columns) = do
   names ← names_fit (name ∷ map (λ (c : List ℕ × RawKind). c.0) columns)
   widths ← all_pass kind_fits columns
   at_most 16 limits.Columns columns
-within_limits (CreateIndex name table columns) = do
+within_limits (CreateIndex unique name table columns) = do
   names ← names_fit (name ∷ table ∷ columns)
   at_most 4 limits.Key columns
 within_limits (Insert table values) = do

@@ -251,12 +251,13 @@ asked_in tables indexes (statements.CreateTable name columns) = do
   fresh ← refuse_if (is_some (table_named tables name)) (Exists name)
   differ ← all_differ [] (map (λ (c : List ℕ × RawKind). c.0) columns)
   Ok (asked.CreateTable (record { name = name; columns = map column_def columns }))
-asked_in tables indexes (statements.CreateIndex name table columns) = do
+asked_in tables indexes (statements.CreateIndex unique name table columns) = do
   number ← table_number tables table
   found ← answers (column_number (reach_alone tables table number)) columns
   fresh ← refuse_if (is_some (index_named indexes name)) (Exists name)
   differ ← all_differ [] columns
-  Ok (asked.CreateIndex (record { name = name; table = number; columns = found }))
+  let def : IndexDef = record { name = name; table = number; columns = found; unique = unique }
+  Ok (asked.CreateIndex def)
 asked_in tables indexes (statements.Insert table values) = do
   number ← table_number tables table
   right ← row_kinds [] (reach_alone tables table number) values

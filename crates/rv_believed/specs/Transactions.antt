@@ -1,15 +1,18 @@
 -- Believed: CREATE, BEGIN, COMMIT and ROLLBACK.
 use Rattle.std.specs.Prelude.{ℕ, ◌+◌, List, [], ◌∷◌, ◌++◌, Result, Ok, Bool, ◌==◌, nat_lt, length, filter, slice_get, if◌then◌else◌}
+use Rattle.rv_value.specs.declared.record.Record.{Record}
 use Rattle.rv_rows.specs.declared.changes.Change.{Change}
 use Rattle.rv_rows.specs.Changes.{has_change, rows_with_changes}
 use Rattle.rv_lang.specs.declared.reply.Refusal.{Refusal}
-use Rattle.rv_lang.specs.declared.reply.Refusal.TheVariants.{Active, Busy, Limit, NoTransaction}
+use Rattle.rv_lang.specs.declared.reply.Refusal.TheVariants.{Active, Busy, Duplicate, Limit, NoTransaction}
+use Rattle.rv_lang.specs.declared.reply.Rival.TheVariants.{View}
 use Rattle.rv_lang.specs.declared.reply.Which.TheVariants.{Indexes, Tables}
 use Rattle.rv_lang.specs.declared.reply.Reply.{Reply}
 use Rattle.rv_lang.specs.declared.reply.Reply.TheVariants.{Began, Committed, Created, RolledBack}
 use Rattle.rv_catalog.specs.declared.def.IndexDef.{IndexDef}
 use Rattle.rv_catalog.specs.declared.def.TableDef.{TableDef}
 use Rattle.rv_catalog.specs.Answers.{◌>>=◌, ok_or, refuse_if}
+use Rattle.rv_model.specs.Rivals.{first_equal}
 use Rattle.rv_model.specs.Transactions.{refuse_at}
 use Rattle.rv_believed.specs.Database.{Database, Transaction, transaction_of, without_session}
 
@@ -24,12 +27,15 @@ create_table d def = do
   room ← refuse_if (nat_lt 63 (length d.tables)) (Limit Tables 64)
   Ok (Created, record d { tables = d.tables ++ def ∷ [] })
 
--- CREATE INDEX: not while a transaction is active, and at most 8 indexes over a table
+-- CREATE INDEX: not while a transaction is active, at most 8 indexes over a table, and a unique one
+-- not where two rows are equal in it
 abbrev pub create_index : Database → IndexDef → Outcome
 create_index d def = do
   idle ← refuse_at (slice_get d.active 0) (λ (t : Transaction). Busy t.number)
   let over = filter (λ (i : IndexDef). i.table == def.table) d.indexes
   room ← refuse_if (nat_lt 7 (length over)) (Limit Indexes 8)
+  let rows = d.rows def.table
+  differ ← refuse_at (first_equal def rows) (λ (r : Record). Duplicate r.row View)
   Ok (Created, record d { indexes = d.indexes ++ def ∷ [] })
 
 -- a transaction of the next number, on the last commit and its rows

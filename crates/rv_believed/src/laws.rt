@@ -32,6 +32,7 @@ ghost use Rattle.rv_believed.specs.Runs.{Shows};
 ghost use Rattle.rv_believed.specs.Standing.{IsSound, StaysSound, database, outcome_of};
 ghost use Rattle.rv_believed.specs.Taken.{StaysTaken};
 ghost use Rattle.rv_believed.specs.Transactions.{begin, commit, create_index, create_table, rollback};
+ghost use Rattle.rv_believed.specs.Unique.{StaysUnique};
 
 use rv_model::laws::text_tells;
 use rv_parse::parser::statement_as_function;
@@ -103,6 +104,12 @@ pub fn stays_orderly()
 /// gave.
 pub fn stays_taken()
     ensures { StaysTaken }
+{}
+
+/// A law: after every history no two rows are equal in a unique index: in the last commit, in what a transaction sees, and
+/// between what one has written and what others have, or what stays of the last commit.
+pub fn stays_unique()
+    ensures { StaysUnique }
 {}
 
 /// A law: every entry of a legal history whose text is a line is plain.

@@ -48,8 +48,8 @@ number_there tables name n h = (position-Some (λ (t : TableDef). bytes_eq name 
 good_table : (schema : Schema) (name : List ℕ) (columns : List (List ℕ × RawKind)) (r : Resolved) → length columns ≤ 16 → new_table schema name columns ≡ Ok r → IsGood schema (length columns) r
 good_table schema name columns r few h = let def : TableDef = record { name = name; columns = map column_def columns } in let s = bind_ok (refuse_if (is_some (table_named schema.tables name)) (Exists name)) (λ fresh. refuse_some (first_repeat column_name [] columns) Exists >>= (λ once. Ok (NewTable def))) r h in let t = bind_ok (refuse_some (first_repeat column_name [] columns) Exists) (λ once. Ok (NewTable def)) r s.2 in let len : length (map column_def columns) ≡ length columns = length-map columns column_def in rw (← ok_is (NewTable def) r t.2) (record { fits = record { fresh = was_none (table_named schema.tables name) (not_refused (is_some (table_named schema.tables name)) (Exists name) s.0 s.1); narrow = omega (arith, len, few) }; whole = len })
 
-good_index : (schema : Schema) (name table : List ℕ) (columns : List (List ℕ)) (r : Resolved) → length columns ≤ 4 → new_index schema name table columns ≡ Ok r → IsGood schema (length columns) r
-good_index schema name table columns r few h = let a = bind_ok (table_number schema.tables table) (λ number. collected (own_column schema.tables number) [] columns >>= (λ found. refuse_if (is_some (index_named schema.indexes name)) (Exists name) >>= (λ fresh. refuse_some (first_repeat itself [] columns) Exists >>= (λ once. Ok (NewIndex (record { name = name; table = number; columns = found })))))) r h in let b = bind_ok (collected (own_column schema.tables a.0) [] columns) (λ found. refuse_if (is_some (index_named schema.indexes name)) (Exists name) >>= (λ fresh. refuse_some (first_repeat itself [] columns) Exists >>= (λ once. Ok (NewIndex (record { name = name; table = a.0; columns = found }))))) r a.2 in let def : IndexDef = record { name = name; table = a.0; columns = b.0 } in let c = bind_ok (refuse_if (is_some (index_named schema.indexes name)) (Exists name)) (λ fresh. refuse_some (first_repeat itself [] columns) Exists >>= (λ once. Ok (NewIndex def))) r b.2 in let d = bind_ok (refuse_some (first_repeat itself [] columns) Exists) (λ once. Ok (NewIndex def)) r c.2 in let len : length b.0 ≡ length columns = let l = collected_len (own_column schema.tables a.0) [] columns b.0 b.1 in omega (arith, l) in rw (← ok_is (NewIndex def) r d.2) (record {
+good_index : (schema : Schema) (unique : Bool) (name table : List ℕ) (columns : List (List ℕ)) (r : Resolved) → length columns ≤ 4 → new_index schema unique name table columns ≡ Ok r → IsGood schema (length columns) r
+good_index schema unique name table columns r few h = let a = bind_ok (table_number schema.tables table) (λ number. collected (own_column schema.tables number) [] columns >>= (λ found. refuse_if (is_some (index_named schema.indexes name)) (Exists name) >>= (λ fresh. refuse_some (first_repeat itself [] columns) Exists >>= (λ once. Ok (NewIndex (record { name = name; table = number; columns = found; unique = unique })))))) r h in let b = bind_ok (collected (own_column schema.tables a.0) [] columns) (λ found. refuse_if (is_some (index_named schema.indexes name)) (Exists name) >>= (λ fresh. refuse_some (first_repeat itself [] columns) Exists >>= (λ once. Ok (NewIndex (record { name = name; table = a.0; columns = found; unique = unique }))))) r a.2 in let def : IndexDef = record { name = name; table = a.0; columns = b.0; unique = unique } in let c = bind_ok (refuse_if (is_some (index_named schema.indexes name)) (Exists name)) (λ fresh. refuse_some (first_repeat itself [] columns) Exists >>= (λ once. Ok (NewIndex def))) r b.2 in let d = bind_ok (refuse_some (first_repeat itself [] columns) Exists) (λ once. Ok (NewIndex def)) r c.2 in let len : length b.0 ≡ length columns = let l = collected_len (own_column schema.tables a.0) [] columns b.0 b.1 in omega (arith, l) in rw (← ok_is (NewIndex def) r d.2) (record {
   fits = record {
     fresh = was_none (index_named schema.indexes name) (not_refused (is_some (index_named schema.indexes name)) (Exists name) c.0 c.1);
     there = number_there schema.tables table a.0 a.1;
@@ -116,7 +116,7 @@ good_open schema cursor returned items only order goal r few h = let s = bind_ok
 
 good_form : (schema : Schema) (s : Statement) (r : Resolved) → columns_count s ≤ 16 → key_count s ≤ 4 → joined_count s ≤ 4 → form schema s ≡ Ok r → IsGood schema (parts_of s) r
 good_form schema (CreateTable name columns) r n k j h = good_table schema name columns r n h
-good_form schema (CreateIndex name table columns) r n k j h = good_index schema name table columns r k h
+good_form schema (CreateIndex unique name table columns) r n k j h = good_index schema unique name table columns r k h
 good_form schema (Begin read_only) r n k j h = rw (← ok_is (Begins read_only) r h) (record { fits = tt; whole = refl })
 good_form schema (Insert table values) r n k j h = good_row schema table values r h
 good_form schema (Update table sets only) r n k j h = good_change schema table sets only r h

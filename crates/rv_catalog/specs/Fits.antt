@@ -80,7 +80,7 @@ FitsSchema schema (Steps cursor n) = Unit {0}
 
 abbrev pub parts_of : Statement → ℕ
 parts_of (CreateTable name columns) = length columns
-parts_of (CreateIndex name table columns) = length columns
+parts_of (CreateIndex unique name table columns) = length columns
 parts_of (Open cursor returned items only order goal) = length items
 parts_of other = 0
 

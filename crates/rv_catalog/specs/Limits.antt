@@ -50,7 +50,7 @@ has_long_refs (Some refs) = list_any is_long_ref refs
 
 abbrev pub has_long_name : Statement → Bool
 has_long_name (CreateTable name columns) = is_long name || list_any (λ (c : List ℕ × RawKind). is_long c.0) columns
-has_long_name (CreateIndex name table columns) = is_long name || is_long table || list_any is_long columns
+has_long_name (CreateIndex unique name table columns) = is_long name || is_long table || list_any is_long columns
 has_long_name (Insert table values) = is_long table
 has_long_name (Update table sets only) = is_long table || list_any (λ (s : List ℕ × Value). is_long s.0) sets || has_long_names only
 has_long_name (Delete table only) = is_long table || has_long_names only
@@ -113,7 +113,7 @@ columns_count other = 0
 
 -- columns of CREATE INDEX
 abbrev pub key_count : Statement → ℕ
-key_count (CreateIndex name table columns) = length columns
+key_count (CreateIndex unique name table columns) = length columns
 key_count other = 0
 
 -- the groups of WHERE

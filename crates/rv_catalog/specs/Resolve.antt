@@ -72,13 +72,13 @@ new_table schema name columns = do
   once ← refuse_some (first_repeat column_name [] columns) Exists
   Ok (NewTable (record { name = name; columns = map column_def columns }))
 
-abbrev pub new_index : Schema → List ℕ → List ℕ → List (List ℕ) → Result Resolved Refusal
-new_index schema name table columns = do
+abbrev pub new_index : Schema → Bool → List ℕ → List ℕ → List (List ℕ) → Result Resolved Refusal
+new_index schema unique name table columns = do
   number ← table_number schema.tables table
   found ← collected (own_column schema.tables number) [] columns
   fresh ← refuse_if (is_some (index_named schema.indexes name)) (Exists name)
   once ← refuse_some (first_repeat itself [] columns) Exists
-  Ok (NewIndex (record { name = name; table = number; columns = found }))
+  Ok (NewIndex (record { name = name; table = number; columns = found; unique = unique }))
 
 -- INSERT, UPDATE and DELETE. A condition may name the table's columns with or without the table's name.
 
@@ -161,7 +161,7 @@ steps_of (negsuc n) = 0
 
 abbrev pub form : Schema → Statement → Result Resolved Refusal
 form schema (CreateTable name columns) = new_table schema name columns
-form schema (CreateIndex name table columns) = new_index schema name table columns
+form schema (CreateIndex unique name table columns) = new_index schema unique name table columns
 form schema (Begin read_only) = Ok (Begins read_only)
 form schema (Insert table values) = inserted schema table values
 form schema (Update table sets only) = updated schema table sets only

@@ -11,13 +11,14 @@ pub struct TableDef {
     pub columns: Items<(Text, Kind)>,
 }
 
-/// An index: its name, the number of its table, and the numbers of its columns in the order of its
-/// keys.
+/// An index: its name, the number of its table, the numbers of its columns in the order of its
+/// keys, and whether two rows may not be equal in it.
 #[derive(Drop, Debug, PartialEq, Eq)]
 pub struct IndexDef {
     pub name: Text,
     pub table: u32,
     pub columns: Items<u32>,
+    pub unique: bool,
 }
 
 /// What a retrieval is to be good at.

@@ -169,6 +169,7 @@ fn any_long_name(statement: &Statement) -> bool
             long(name) || any_long_column(columns.as_slice())
         }
         Statement::CreateIndex {
+            unique: _,
             name,
             table,
             columns,

@@ -48,10 +48,11 @@ fn resolve_form(
             resolve_table(alloc, catalog, name, columns.as_slice())
         }
         Statement::CreateIndex {
+            unique,
             name,
             table,
             columns,
-        } => resolve_index(alloc, catalog, name, table, columns.as_slice()),
+        } => resolve_index(alloc, catalog, *unique, name, table, columns.as_slice()),
         Statement::Begin { read_only } => Ok(Resolved::Begin {
             read_only: *read_only,
         }),
@@ -234,11 +235,12 @@ fn width(n: i64) -> u8
 fn resolve_index(
     alloc: Global,
     catalog: &Catalog,
+    unique: bool,
     name: &Text,
     table: &Text,
     columns: &[Text],
 ) -> Result<Resolved, BindFault>
-    ensures { Gives result (new_index catalog.now name.now table.now columns.now) }
+    ensures { Gives result (new_index catalog.now unique name.now table.now columns.now) }
 {
     let number = number_of(alloc, catalog, table)?;
     let found = find_numbers(alloc, catalog, number, columns)?;
@@ -250,6 +252,7 @@ fn resolve_index(
         name: name.copy(alloc)?,
         table: number,
         columns: Items::from_vec(found),
+        unique,
     }))
 }
 

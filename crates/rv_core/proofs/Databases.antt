@@ -30,7 +30,7 @@ use Rattle.rv_model.specs.declared.transactions.Transaction.{Transaction}
 use Rattle.rv_model.specs.declared.transactions.Transactions.{Transactions}
 use Rattle.rv_model.specs.Transactions as calls
 use Rattle.rv_model.specs.Transactions.{done, horizon, lowest, no_transaction, no_transactions, transaction_at, transaction_of, with_own}
-use Rattle.rv_model.specs.Step.{committed, created, indexed, rolled_back, rows_seen}
+use Rattle.rv_model.specs.Step.{committed, created, indexed, rolled_back, rows_differ, rows_seen}
 use Rattle.rv_txn.specs.Calls.{finished, rolled_back as undone}
 use Rattle.rv_cursor.specs.declared.cursor.Open.{Open}
 use Rattle.rv_core.specs.Db.{base_of, own_opens, AreListed, IsOpen, IsStanding, IsTied, db_of, seen, stand_of, whole_of}
@@ -110,11 +110,11 @@ indexes_standing old new schema left def txns cs n idle there room is more h = r
   listed = h.listed;
 }
 
-pub indexes_all : (old new : Shown) (schema left : Schema) (def : IndexDef) (txns : Transactions) (cs : List Open) (n : ℕ) → lowest txns.active ≡ None → nat_lt 7 (indexes_over def.table schema.indexes) ≡ false → left ≡ record schema { indexes = schema.indexes ++ def ∷ [] } → IndexedIn old new def.table def.columns → IsStanding old schema txns cs n
+pub indexes_all : (old new : Shown) (schema left : Schema) (def : IndexDef) (txns : Transactions) (cs : List Open) (n : ℕ) → lowest txns.active ≡ None → nat_lt 7 (indexes_over def.table schema.indexes) ≡ false → left ≡ record schema { indexes = schema.indexes ++ def ∷ [] } → IndexedIn old new def.table def.columns → rows_differ (db_of old schema txns (seen old cs)) def ≡ Ok tt → IsStanding old schema txns cs n
     → Does (indexed (db_of old schema txns (seen old cs)) def) (stand_of old schema txns (seen old cs)) (Created, Created) (stand_of new left txns (seen new cs))
-indexes_all old new schema left def txns cs n idle room is more h =
+indexes_all old new schema left def txns cs n idle room is more differ h =
     let again = idle_seen old new schema txns.active cs idle h.opens in
-    rw again (indexes_does old new schema left def txns (seen old cs) idle room is more h.tied)
+    rw again (indexes_does old new schema left def txns (seen old cs) idle room is more differ h.tied)
 
 -- Calls on the transactions.
 

@@ -1,5 +1,5 @@
 -- Facts of all items of a list.
-use Rattle.std.proofs.Common.{ℕ, zero, suc, List, [], ◌∷◌, ◌++◌, Bool, true, false, cond, filter, map, take, drop, remove, slice_get, slice_set, length, ◌<◌, ◌≡◌, refl, arith, Result, Ok, Err, IfOk, OnOk, OnErr, Some, subst}
+use Rattle.std.proofs.Common.{ℕ, zero, suc, List, [], ◌∷◌, ◌++◌, Bool, true, false, cond, filter, map, take, drop, remove, slice_get, slice_set, length, ◌<◌, ◌≡◌, refl, arith, Result, Ok, Err, IfOk, IfErr, OnOk, OnErr, Some, subst}
 use Rattle.std.specs.List.{AllByRecursion, slice_index_or}
 use Rattle.rv_rows.specs.Rising.{put_in}
 
@@ -86,3 +86,11 @@ on_ok (Err e) P Q more h = tt
 pub on_err : {A E : Type 0} (r : Result A E) (P : Type 0) → P → OnErr r P
 on_err (Ok a) P h = tt
 on_err (Err e) P h = h
+
+pub ok_more : {A E : Type 0} (r : Result A E) (P Q : Type 0) → (P → Q) → OnOk r P → OnOk r Q
+ok_more (Ok a) P Q more h = more h
+ok_more (Err e) P Q more h = tt
+
+pub if_err : {A E : Type 0} (r : Result A E) (P Q : E → Type 0) → ((e : E) → P e → Q e) → IfErr r P → IfErr r Q
+if_err (Ok a) P Q more h = tt
+if_err (Err e) P Q more h = more e h

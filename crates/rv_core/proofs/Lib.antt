@@ -8,6 +8,7 @@ pub mod Owning
 pub mod Planning
 pub mod Plans
 pub mod Putting
+pub mod Rivals
 pub mod Facts
 pub mod Few
 pub mod Handling

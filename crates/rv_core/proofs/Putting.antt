@@ -1,5 +1,5 @@
 -- What is put into transactions is kept up with in their views, and what is frozen of them.
-use Rattle.std.proofs.Common.{◌≡◌, ℕ, suc, ◌<◌, ◌≤◌, List, [], ◌∷◌, false, not, ◌==◌, Option, Some, None, IfSome, Ok, refl, ap, sym, ◌∙◌, subst, arith, length, map, nat_lt, option_map}
+use Rattle.std.proofs.Common.{◌≡◌, ℕ, suc, ◌<◌, ◌≤◌, List, [], ◌∷◌, false, not, ◌==◌, Option, Some, None, IfSome, Result, Ok, Err, refl, ap, sym, ◌∙◌, subst, arith, length, map, nat_lt, option_map, filter}
 use Rattle.std.specs.Prelude.{slice_get}
 use Rattle.std.specs.List.{AllByRecursion}
 use Rattle.std.proofs.lemmas.Bool.Decides.{nat_tests}
@@ -10,9 +10,11 @@ use Rattle.rv_value.specs.declared.record.Record.{Record}
 use Rattle.rv_value.specs.declared.record.RowNo.{RowNo}
 use Rattle.rv_rows.specs.declared.changes.Change.{Change}
 use Rattle.rv_rows.specs.Changes.{rows_with_changes, with_changes}
+use Rattle.rv_lang.specs.declared.reply.Refusal.{Refusal}
 use Rattle.rv_restrict.specs.declared.atom.Atom.{Atom}
 use Rattle.rv_restrict.specs.Truth.{qualifies}
 use Rattle.rv_catalog.specs.declared.def.IndexDef.{IndexDef}
+use Rattle.rv_catalog.specs.Answers.{◌>>=◌}
 use Rattle.rv_catalog.specs.Schema.{Schema}
 use Rattle.rv_reader.specs.Shown.{Shown, CanRead, IsSnapshot}
 use Rattle.rv_reader.specs.Storing.{IsStored}
@@ -21,7 +23,7 @@ use Rattle.rv_model.specs.declared.state.Cursor.{Cursor}
 use Rattle.rv_model.specs.declared.transactions.Transaction.{Transaction}
 use Rattle.rv_model.specs.declared.transactions.Transactions.{Transactions}
 use Rattle.rv_model.specs.Database.{no_index}
-use Rattle.rv_model.specs.Step.{rows_viewed}
+use Rattle.rv_model.specs.Step.{changes_met, no_rivals_of, row_alone, rows_alone, rows_viewed}
 use Rattle.rv_model.specs.Transactions as calls
 use Rattle.rv_model.specs.Transactions.{transaction_at, transaction_of}
 use Rattle.rv_overlay.specs.declared.frozen.Frozen.{Frozen}
@@ -36,11 +38,13 @@ use Rattle.rv_txn.specs.Halves.{changing, inserting, with_new, with_these}
 use Rattle.rv_txn.proofs.Halving.{changed_by, changing_is, changing_refused, inserted_by, inserting_refused}
 use Rattle.rv_core.specs.Db.{HasIndex, IsOwn, IsTied, IsViewed, db_of}
 use Rattle.rv_core.specs.Doing.{opening_base}
+use Rattle.rv_core.specs.Storing.{changed_alone, changed_over, inserted_alone, lone_over}
 use Rattle.rv_core.proofs.Calling.{opening_is, view_read}
 use Rattle.rv_core.proofs.Databases.{own_is}
 use Rattle.rv_core.proofs.Facts.{all_filter, all_map, all_more}
-use Rattle.rv_core.proofs.Standing.{IsRow, base_known, inserted_is, own_within, row_change, seen_rows, writer_within}
+use Rattle.rv_core.proofs.Standing.{IsRow, base_known, inserted_is, own_within, row_change, rows_same, seen_rows, writer_within}
 use Rattle.rv_core.proofs.Tied.{own_changes}
+use Rattle.rv_core.proofs.Images.{base_at}
 
 -- ---- the session's transaction
 
@@ -69,7 +73,7 @@ owns active session t is = owns_at active session t (transaction_of active sessi
 pub own_at : (active : List Transaction) (session : ℕ) (t : Transaction) (own : Owns active session t) → transaction_of active t.session ≡ Some own.place
 own_at active session t own = ap (transaction_of active) own.owner ∙ own.at
 
-none_is : (active : List Transaction) (o : Option ℕ) → None ≡ option_map (transaction_at active) o → o ≡ None
+pub none_is : (active : List Transaction) (o : Option ℕ) → None ≡ option_map (transaction_at active) o → o ≡ None
 none_is active None e = refl
 none_is active (Some place) e = cc
 
@@ -101,7 +105,7 @@ all_from P [] each = tt
 all_from P (x ∷ xs) each = (each 0 x refl, all_from P xs (λ i y e. each (suc i) y e))
 
 -- the indexes of the schema are those of the store
-are_indexes : (shown : Shown) (schema : Schema) (txns : Transactions) → IsTied shown schema txns → IsStored shown → AreIndexes shown schema.indexes
+pub are_indexes : (shown : Shown) (schema : Schema) (txns : Transactions) → IsTied shown schema txns → IsStored shown → AreIndexes shown schema.indexes
 are_indexes shown schema txns tied stored = record {
   count = tied.indexed;
   over = λ i d is. (has i d is).over ∙ ap (λ (x : IndexDef). x.table) (read_as schema.indexes i d no_index is);
@@ -120,7 +124,7 @@ are_indexes shown schema txns tied stored = record {
     has : (i : ℕ) (d : IndexDef) → slice_get schema.indexes i ≡ Some d → HasIndex shown schema.indexes i
     has i d is = tied.each i (slice_get_within schema.indexes i d is)
 
-can_keep : (shown : Shown) (schema : Schema) (txns : Transactions) (base : ℕ) (c : Change) → IsTied shown schema txns → IsSnapshot shown base → IsOwn shown txns.touched c → CanKeep shown base c
+pub can_keep : (shown : Shown) (schema : Schema) (txns : Transactions) (base : ℕ) (c : Change) → IsTied shown schema txns → IsSnapshot shown base → IsOwn shown txns.touched c → CanKeep shown base c
 can_keep shown schema txns base c tied snap h =
     let taken = h.taken in
     let most = tied.few c.table in
@@ -213,9 +217,29 @@ insert_keeps shown schema txns session table values row these tied there due is 
         let snap = base_known shown txns.touched txns.active own (own_within txns.active session own e) tied.active in
         subst (AllByRecursion (CanKeep shown (transaction_at txns.active own).base)) (sym is) (record { read = record { there = omega (arith, count, there); snapshot = snap }; low = low }, tt)
 
-pub insert_fault : (t : Transactions) (session table : ℕ) (values : List Value) (fault : TxnFault) → IsFault (inserting t session table) fault → IsFault (calls.inserted t session table values) fault
-insert_fault t session table values (Refused refusal) h = inserting_refused t session table values refusal h
-insert_fault t session table values NoMemory h = tt
+-- a refusal of the first step of a chain is that of the chain
+first_refused : {A B : Type 0} (r : Result A Refusal) (f : A → Result B Refusal) (e : Refusal) → r ≡ Err e → (r >>= f) ≡ Err e
+first_refused r f e h = ap (λ x. x >>= f) h
+
+-- so is that of its last test
+last_refused : {A : Type 0} (r : Result A Refusal) (test : A → Result (Unit {0}) Refusal) (a : A) (e : Refusal) → r ≡ Ok a → test a ≡ Err e → (r >>= (λ x. test x >>= (λ u. Ok x))) ≡ Err e
+last_refused r test a e is no = ap (λ x. x >>= (λ y. test y >>= (λ u. Ok y))) is ∙ ap (λ x. x >>= (λ u. Ok a)) no
+
+pub insert_fault : (shown : Shown) (schema : Schema) (t : Transactions) (session table : ℕ) (values : List Value) (fault : TxnFault) → IsFault (inserting t session table) fault → IsFault (inserted_alone shown schema t session table values) fault
+insert_fault shown schema t session table values (Refused refusal) h = first_refused (calls.inserted t session table values) _ refusal (inserting_refused t session table values refusal h)
+insert_fault shown schema t session table values NoMemory h = tt
+
+-- what is tested of the row that is due
+pub due_alone : (shown : Shown) (schema : Schema) (t : Transactions) (session table : ℕ) (values : List Value) (row : RowNo) (these : List Change) (r : Result (Unit {0}) Refusal) → these ≡ record { table = table; row = row; values = Some values } ∷ []
+    → lone_over shown schema t session table these ≡ r → row_alone (db_of shown schema t []) session table values row ≡ r
+due_alone shown schema t session table values row these r is h = ap (λ (cs : List Change). lone_over shown schema t session table cs) (sym is) ∙ h
+
+pub rival_fault : (shown : Shown) (schema : Schema) (t : Transactions) (session table : ℕ) (values : List Value) (row : RowNo) (these : List Change) (fault : TxnFault) → these ≡ record { table = table; row = row; values = Some values } ∷ [] → inserting t session table ≡ Ok row
+    → IsFault (lone_over shown schema t session table these) fault → IsFault (inserted_alone shown schema t session table values) fault
+rival_fault shown schema t session table values row these (Refused refusal) is due h =
+    last_refused (calls.inserted t session table values) (λ (more : RowNo × Transactions). row_alone (db_of shown schema t []) session table values more.0) _ refusal
+    (inserted_by t session table values row due) (due_alone shown schema t session table values row these (Err refusal) is h)
+rival_fault shown schema t session table values row these NoMemory is due h = tt
 
 pub insert_done : (t new : Transactions) (session table : ℕ) (values : List Value) (row : RowNo) → inserting t session table ≡ Ok row → new ≡ with_new t (transaction_of t.active session) (record { table = table; row = row; values = Some values }) → calls.inserted t session table values ≡ Ok (row, new)
 insert_done t new session table values row due is = inserted_by t session table values row due ∙ ap (λ (x : Transactions). Ok (row, x)) (sym is)
@@ -239,9 +263,37 @@ change_keeps shown schema txns session table only sets new these tied stored the
     subst (λ (o : Option ℕ). IfSome o (λ own. AllByRecursion (CanKeep shown (transaction_at txns.active own).base) these)) (sym b.3)
     (subst (AllByRecursion (CanKeep shown t.base)) (sym (is ∙ b.2)) all)
 
-pub change_fault : (t : Transactions) (session table : ℕ) (only : List (List Atom)) (sets : Option (List (ℕ × Value))) (rows : ℕ → List Record) (fault : TxnFault) → IsFault (changing t session table only sets rows) fault → IsFault (calls.changed t session table only sets rows) fault
-change_fault t session table only sets rows (Refused refusal) h = changing_refused t session table only sets rows refusal h
-change_fault t session table only sets rows NoMemory h = tt
+pub change_fault : (shown : Shown) (schema : Schema) (t : Transactions) (session table : ℕ) (only : List (List Atom)) (sets : Option (List (ℕ × Value))) (fault : TxnFault) → table < length schema.tables → IsFault (changing t session table only sets (shown.rows table)) fault → IsFault (changed_alone shown schema t session table sets only) fault
+change_fault shown schema t session table only sets (Refused refusal) there h =
+    first_refused (changed_over shown schema t session table sets only) _ refusal
+    (rows_same shown schema t [] session table only sets (transaction_of t.active session) there refl ∙ changing_refused t session table only sets (shown.rows table) refusal h)
+change_fault shown schema t session table only sets NoMemory there h = tt
+
+-- the changes that are due are those of the rows that the session's transaction meets in the database
+met_same : (shown : Shown) (schema : Schema) (t : Transactions) (table own : ℕ) (only : List (List Atom)) (sets : Option (List (ℕ × Value))) → table < length schema.tables → own < length t.active
+    → changes_met (db_of shown schema t []) table sets only own ≡ map (calls.change_of table sets) (calls.met (transaction_at t.active own) table only (shown.rows table))
+met_same shown schema t table own only sets there within =
+    ap (λ (rows : List Record). map (calls.change_of table sets) (filter (λ (r : Record). qualifies only r.values) (rows_with_changes table (transaction_at t.active own).changes rows)))
+    (base_at shown (length schema.tables) table t.active own within there)
+
+-- what is tested of them
+pub these_alone : (shown : Shown) (schema : Schema) (t : Transactions) (session table : ℕ) (only : List (List Atom)) (sets : Option (List (ℕ × Value))) (new these : List Change) (r : Result (Unit {0}) Refusal) → table < length schema.tables → these ≡ new
+    → changing t session table only sets (shown.rows table) ≡ Ok new → lone_over shown schema t session table these ≡ r → rows_alone (db_of shown schema t []) session table sets only ≡ r
+these_alone shown schema t session table only sets new these r there is due h =
+    let b = changing_is t session table only sets (shown.rows table) new due in
+    let same : changes_met (db_of shown schema t []) table sets only b.0 ≡ these = met_same shown schema t table b.0 only sets there (writer_within t.active session b.0 b.1) ∙ sym b.2 ∙ sym is in
+    ap (λ (o : Option ℕ). no_rivals_of (db_of shown schema t []) session o table (changes_met (db_of shown schema t []) table sets only)) b.3
+    ∙ ap (λ (cs : List Change). no_rivals_of (db_of shown schema t []) session (Some b.0) table (λ own. cs)) same
+    ∙ ap (λ (o : Option ℕ). no_rivals_of (db_of shown schema t []) session o table (λ own. these)) (sym b.3)
+    ∙ h
+
+pub rivals_fault : (shown : Shown) (schema : Schema) (t : Transactions) (session table : ℕ) (only : List (List Atom)) (sets : Option (List (ℕ × Value))) (new these : List Change) (fault : TxnFault) → table < length schema.tables → these ≡ new
+    → changing t session table only sets (shown.rows table) ≡ Ok new → IsFault (lone_over shown schema t session table these) fault → IsFault (changed_alone shown schema t session table sets only) fault
+rivals_fault shown schema t session table only sets new these (Refused refusal) there is due h =
+    last_refused (changed_over shown schema t session table sets only) (λ (done : ℕ × Transactions). rows_alone (db_of shown schema t []) session table sets only) _ refusal
+    (rows_same shown schema t [] session table only sets (transaction_of t.active session) there refl ∙ changed_by t session table only sets (shown.rows table) new due)
+    (these_alone shown schema t session table only sets new these (Err refusal) there is due h)
+rivals_fault shown schema t session table only sets new these NoMemory there is due h = tt
 
 pub change_done : (t left : Transactions) (session table count : ℕ) (only : List (List Atom)) (sets : Option (List (ℕ × Value))) (rows : ℕ → List Record) (new : List Change) → changing t session table only sets rows ≡ Ok new → count ≡ length new → left ≡ with_these t (transaction_of t.active session) new
     → calls.changed t session table only sets rows ≡ Ok (count, left)

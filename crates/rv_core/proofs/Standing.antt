@@ -31,7 +31,7 @@ use Rattle.rv_model.specs.declared.transactions.Transactions.{Transactions}
 use Rattle.rv_model.specs.Transactions as calls
 use Rattle.rv_model.specs.Database.{empty}
 use Rattle.rv_model.specs.Transactions.{no_transaction, no_transactions, transaction_of, transaction_at, refuse_at, next_row, with_number, with_own, done, without, horizon, lowest}
-use Rattle.rv_model.specs.Step.{Outcome, began, inserted, changed, committed, committed_with, rolled_back, other_cursors, rows_seen}
+use Rattle.rv_model.specs.Step.{Outcome, began, inserted, row_alone, rows_alone, changed, committed, committed_with, rolled_back, other_cursors, rows_seen}
 use Rattle.rv_txn.specs.declared.txns.TxnFault.{TxnFault}
 use Rattle.rv_txn.specs.Calls.{finished, rolled_back as undone}
 use Rattle.rv_txn.specs.Changing.{CanChange, IsWide}
@@ -87,14 +87,14 @@ inserted_is t session table values row new h =
     let e = pair_is _ row _ new p.2 in
     (w.0, w.1, not_refused (nat_lt 999999 (calls.next_row t.touched table)) _ n.0 n.1, sym e.0, sym e.1 ∙ ap (λ (r : RowNo). calls.with_row t w.0 table values r) e.0)
 
-pub db_inserted : (shown : Shown) (schema : Schema) (txns new : Transactions) (cursors : List Cursor) (session table : ℕ) (values : List Value) (row : RowNo) → calls.inserted txns session table values ≡ Ok (row, new)
+pub db_inserted : (shown : Shown) (schema : Schema) (txns new : Transactions) (cursors : List Cursor) (session table : ℕ) (values : List Value) (row : RowNo) → calls.inserted txns session table values ≡ Ok (row, new) → row_alone (db_of shown schema txns []) session table values row ≡ Ok tt
     → Does (inserted (db_of shown schema txns cursors) session table values) (stand_of shown schema txns cursors) (Inserted row, Inserted row) (stand_of shown schema new cursors)
-db_inserted shown schema txns new cursors session table values row h =
+db_inserted shown schema txns new cursors session table values row h alone =
     let b = inserted_is txns session table values row new h in
     let tables = length schema.tables in
     let bases : bases_of shown tables new.active ≡ bases_of shown tables txns.active = ap (λ (t : Transactions). bases_of shown tables t.active) b.4 ∙ own_bases shown tables txns.active b.0 _ in
     let same : record (db_of shown schema txns cursors) { transactions = new } ≡ db_of shown schema new cursors = cc in
-    let is : inserted (db_of shown schema txns cursors) session table values ≡ Ok (Inserted row, db_of shown schema new cursors) = rw (h, same) refl in
+    let is : inserted (db_of shown schema txns cursors) session table values ≡ Ok (Inserted row, db_of shown schema new cursors) = rw (h, alone, same) refl in
     does (inserted (db_of shown schema txns cursors) session table values) (stand_of shown schema txns cursors) (db_of shown schema new cursors) (Inserted row) is
 
 -- the place of the session's transaction is one
@@ -125,14 +125,14 @@ changed_is t session table only sets rows k new h =
     let e = pair_is _ k _ new f.2 in
     (w.0, w.1, sym e.1)
 
-pub db_changed : (shown : Shown) (schema : Schema) (txns new : Transactions) (cursors : List Cursor) (session table : ℕ) (only : List (List Atom)) (sets : Option (List (ℕ × Value))) (k : ℕ) → changed_over shown schema txns session table sets only ≡ Ok (k, new)
+pub db_changed : (shown : Shown) (schema : Schema) (txns new : Transactions) (cursors : List Cursor) (session table : ℕ) (only : List (List Atom)) (sets : Option (List (ℕ × Value))) (k : ℕ) → changed_over shown schema txns session table sets only ≡ Ok (k, new) → rows_alone (db_of shown schema txns []) session table sets only ≡ Ok tt
     → Does (changed (db_of shown schema txns cursors) session table sets only) (stand_of shown schema txns cursors) (Touched k, Touched k) (stand_of shown schema new cursors)
-db_changed shown schema txns new cursors session table only sets k h =
+db_changed shown schema txns new cursors session table only sets k h alone =
     let b = changed_is txns session table only sets (λ base. rows_seen (db_of shown schema txns []) (transaction_of txns.active session) table) k new h in
     let tables = length schema.tables in
     let bases : bases_of shown tables new.active ≡ bases_of shown tables txns.active = ap (λ (t : Transactions). bases_of shown tables t.active) b.2 ∙ own_bases shown tables txns.active b.0 _ in
     let same : record (db_of shown schema txns cursors) { transactions = new } ≡ db_of shown schema new cursors = cc in
-    let is : changed (db_of shown schema txns cursors) session table sets only ≡ Ok (Touched k, db_of shown schema new cursors) = rw (h, same) refl in
+    let is : changed (db_of shown schema txns cursors) session table sets only ≡ Ok (Touched k, db_of shown schema new cursors) = rw (h, alone, same) refl in
     does (changed (db_of shown schema txns cursors) session table sets only) (stand_of shown schema txns cursors) (db_of shown schema new cursors) (Touched k) is
 
 -- COMMIT

@@ -1,12 +1,11 @@
 -- A query can be planned over what a transaction sees, where it can be planned over the transaction's snapshot.
-use Rattle.std.proofs.Common.{◌≡◌, ℕ, zero, suc, ◌<◌, List, [], ◌∷◌, ◌++◌, Bool, true, false, not, ◌&&◌, ◌==◌, cond, if◌then◌else◌, Option, Some, None, IfSome, refl, ap, sym, ◌∙◌, subst, arith, inl, inr, filter, length, nat_eq, nat_lt}
+use Rattle.std.proofs.Common.{◌≡◌, ℕ, ◌<◌, List, [], ◌∷◌, ◌++◌, Bool, true, false, not, ◌&&◌, ◌==◌, cond, if◌then◌else◌, Option, Some, None, IfSome, refl, ap, sym, ◌∙◌, subst, arith, inl, inr, filter, length, nat_eq, nat_lt}
 use Rattle.std.specs.List.{AllByRecursion, list_all}
 use Rattle.std.proofs.lemmas.Bool.{cases_Bool}
 use Rattle.std.proofs.lemmas.List.Folds.{list_all-append}
 use Rattle.std.proofs.lemmas.Bool.Decides.{nat_tests}
 use Rattle.rv_value.specs.declared.value.Value.{Value}
 use Rattle.rv_value.specs.declared.record.Record.{Record}
-use Rattle.rv_value.specs.declared.record.IndexEntry.{IndexEntry}
 use Rattle.rv_rows.specs.declared.changes.Change.{Change}
 use Rattle.rv_rows.specs.Changes.{rows_with_changes}
 use Rattle.rv_rows.specs.Rows.{comes_below, with_values}
@@ -15,19 +14,19 @@ use Rattle.rv_restrict.specs.declared.atom.ColRef.{ColRef}
 use Rattle.rv_catalog.specs.declared.def.IndexDef.{IndexDef}
 use Rattle.rv_catalog.specs.declared.def.Select.{Select}
 use Rattle.rv_catalog.specs.Schema.{Schema}
-use Rattle.rv_reader.specs.Entries.{comes_before}
 use Rattle.rv_reader.specs.Shown.{Shown, CanRead, IsSnapshot}
 use Rattle.rv_reader.specs.Storing.{AreKeys, IsStored}
 use Rattle.rv_model.specs.declared.transactions.Transactions.{Transactions}
 use Rattle.rv_overlay.specs.declared.frozen.Frozen.{Frozen}
 use Rattle.rv_overlay.specs.Freezing.{KeepsSize}
-use Rattle.rv_overlay.specs.Laying.{laid, marks, sixteenths, with_all}
+use Rattle.rv_overlay.specs.Laying.{laid, sixteenths}
 use Rattle.rv_overlay.specs.Overlaid.{Lays, LaysIndex, LaysTable, overlaid, part_at, size_of}
 use Rattle.rv_overlay.proofs.Tabling.{applied_ascends}
 use Rattle.rv_overlay.proofs.Viewing.{view_is}
 use Rattle.rv_view.specs.Making.{Keeps, KeepsPart}
 use Rattle.rv_view.specs.Sights.{LaysSome}
 use Rattle.rv_view.proofs.Laying.{lays_kept}
+use Rattle.rv_rivals.proofs.Telling.{keys_all, keys_marks}
 use Rattle.rv_snapshot.specs.Alone.{alone}
 use Rattle.rv_snapshot.proofs.Staying.{can_read, can_scan, reads_alone, same_cuts, same_entries, same_pages, same_rows}
 use Rattle.rv_join.specs.Asking.{CanPlan, have_column, index_at, select_uses, table_at}
@@ -92,28 +91,6 @@ seen_view shown snap table None can at = same_rows shown snap table snap (reads_
 seen_view shown snap table (Some f) can at =
     let here : nat_eq snap f.base ≡ true = grind (arith, nat_tests) in
     rw here (ap (rows_with_changes table f.changes) (same_rows shown snap table snap (reads_alone shown snap table can)))
-
--- Keys of the view's cuts.
-
-keys_filter : (n : ℕ) (p : IndexEntry → Bool) (es : List IndexEntry) → AreKeys n es → AreKeys n (filter p es)
-keys_filter n p [] all = all
-keys_filter n p (e ∷ es) all =
-    let rest = keys_filter n p es all.1 in
-    elim (p e) as (λ b. AreKeys n (cond b (e ∷ filter p es) (filter p es))) [ true ↦ (all.0, rest) | false ↦ rest ]
-
-keys_joined : (n : ℕ) (xs ys : List IndexEntry) → AreKeys n xs → AreKeys n ys → AreKeys n (xs ++ ys)
-keys_joined n [] ys first more = more
-keys_joined n (x ∷ xs) ys first more = (first.0, keys_joined n xs ys first.1 more)
-
-keys_all : (n : ℕ) (es cuts : List IndexEntry) → AreKeys n es → AreKeys n cuts → AreKeys n (with_all es cuts)
-keys_all n [] cuts more all = all
-keys_all n (e ∷ es) cuts more all = keys_all n es _ more.1
-    (keys_joined n (filter (λ x. comes_before x e) cuts) (e ∷ filter (λ x. comes_before e x) cuts) (keys_filter n _ cuts all) (more.0, keys_filter n _ cuts all))
-
-keys_marks : (n left : ℕ) (es : List IndexEntry) → AreKeys n es → AreKeys n (marks left es)
-keys_marks n left [] all = tt
-keys_marks n zero (e ∷ es) all = (all.0, keys_marks n 15 es all.1)
-keys_marks n (suc left) (e ∷ es) all = keys_marks n left es all.1
 
 -- The view's rows have a column where the rows and the changes have it.
 

@@ -25,10 +25,11 @@ use rv_catalog::{Catalog, IndexDef, Select, TableDef};
 use rv_cursor::{Open, twice};
 use rv_jscan::{Given, Sieved, Taken};
 use rv_judge::{Judge, Steps, Uncounted};
-use rv_lang::{Refusal, Reply, Which};
+use rv_lang::{Refusal, Reply, Rival, Which};
 use rv_own::Views;
 use rv_reader::{Reader, Store};
 use rv_restrict::Restriction;
+use rv_rivals::first_equal;
 use rv_txn::{TxnFault, Txns, viewed_rows};
 use rv_value::{Items, NoMemory, Record, Text, Value, Values};
 use std::alloc::Global;
@@ -154,6 +155,14 @@ impl<S: Store + Reader<Ledger = Uncounted> + Drop> Database<S> {
         if self.catalog.count_indexes(def.table) > 7 {
             return refused(self.alloc, limit(Which::Indexes, 8));
         }
+        let equal = match first_equal(self.alloc, &self.store, &def) {
+            Ok(equal) => equal,
+            Err(NoMemory) => return Err(NoMemory),
+        };
+        if let Some(row) = equal {
+            let by = Rival::View;
+            return refused(self.alloc, Refusal::Duplicate { row, by });
+        }
         match add_index(&mut self.catalog, &mut self.store, def) {
             Ok(()) => {}
             Err(NoMemory) => return Err(NoMemory),
@@ -196,6 +205,7 @@ impl<S: Store + Reader<Ledger = Uncounted> + Drop> Database<S> {
         ensures opens { self.new.opens ≡ self.old.opens }
     {
         let row = match insert_row(
+            self.alloc,
             &self.catalog,
             &self.store,
             &mut self.txns,
@@ -229,6 +239,7 @@ impl<S: Store + Reader<Ledger = Uncounted> + Drop> Database<S> {
         ensures opens { self.new.opens ≡ self.old.opens }
     {
         let count = match change_rows(
+            self.alloc,
             &self.catalog,
             &self.store,
             &mut self.txns,

@@ -10,19 +10,24 @@ ghost use Rattle.rv_txn.specs.Calls.{IsFault};
 ghost use Rattle.rv_txn.specs.Halves.{with_these};
 ghost use Rattle.rv_model.specs.Database.{no_index};
 ghost use Rattle.rv_model.specs.Transactions.{inserted, transaction_at, transaction_of};
+ghost use Rattle.rv_rows.specs.declared.changes.Change.{Change as OneChange};
+ghost use Rattle.rv_rows.specs.Changes.{Rise};
 ghost use Rattle.rv_own.specs.Views.{AreViews, CanKeep, Freezes};
-ghost use Rattle.rv_core.specs.Db.{IsTied};
-ghost use Rattle.rv_core.specs.Storing.{CommitsTo, changed_over};
+ghost use Rattle.rv_core.specs.Db.{IsTied, db_of};
+ghost use Rattle.rv_model.specs.Step.{row_alone, rows_alone};
+ghost use Rattle.rv_core.specs.Storing.{CommitsTo, changed_alone, changed_over, inserted_alone, lone_over};
 
 use rv_catalog::{Catalog, IndexDef, TableDef};
 use rv_judge::Uncounted;
 use rv_own::Views;
 use rv_reader::{Reader, Store};
 use rv_restrict::Restriction;
+use rv_rivals::no_rivals;
 use rv_rows::Change;
 use rv_txn::{Finished, TxnFault, Txns};
 use rv_value::{NoMemory, RowNo, Value, Values};
 use rv_view::View;
+use std::alloc::Global;
 
 /// A table more in both. Without memory neither has it.
 pub fn add_table<S: Store + Reader<Ledger = Uncounted>>(
@@ -133,8 +138,47 @@ fn keep_up<S: Store + Reader<Ledger = Uncounted>>(
     }
 }
 
-/// INSERT: the number of the new row. What is kept of the transaction's view is kept up with it.
+/// Tests that no row which changes of the session's transaction are about to write has a rival in a unique index. What is
+/// kept of views may be made anew for it.
+fn unrivalled<S: Store + Reader<Ledger = Uncounted>>(
+    alloc: Global,
+    catalog: &Catalog,
+    store: &S,
+    txns: &Txns,
+    views: &mut Views,
+    session: u8,
+    table: u32,
+    new: &[Change],
+) -> Result<(), TxnFault>
+    requires tied { IsTied (S.shown store.now) catalog.now txns.now }
+    requires stored { IsStored (S.shown store.now) }
+    requires there { table < length catalog.now.tables }
+    requires can { IfSome (transaction_of txns.now.active session) (λ own. AllByRecursion (CanKeep (S.shown store.now) (transaction_at txns.now.active own).base) new.now) }
+    requires rise { Rise new.now }
+    requires of_table { AllByRecursion (λ (c : OneChange). c.table ≡ table) new.now }
+    requires views { AreViews (S.shown store.now) txns.now.active views.old }
+    ensures ok { OnOk result (lone_over (S.shown store.now) catalog.now txns.now session table new.now ≡ Ok tt) }
+    ensures fault { IfErr result (λ fault. IsFault (lone_over (S.shown store.now) catalog.now txns.now session table new.now) fault) }
+    ensures views { AreViews (S.shown store.now) txns.now.active views.new }
+{
+    match txns.own(session) {
+        None => Ok(()),
+        Some(own) => no_rivals(
+            alloc,
+            store,
+            catalog.indexes(),
+            txns,
+            views,
+            own,
+            table,
+            new,
+        ),
+    }
+}
+
+/// INSERT: the number of the new row, which has no rival. What is kept of the transaction's view is kept up with it.
 pub fn insert_row<S: Store + Reader<Ledger = Uncounted>>(
+    alloc: Global,
     catalog: &Catalog,
     store: &S,
     txns: &mut Txns,
@@ -147,7 +191,8 @@ pub fn insert_row<S: Store + Reader<Ledger = Uncounted>>(
     requires row { IsRowOf catalog.now table values }
     requires views { AreViews (S.shown store.now) txns.old.active views.old }
     ensures ok { IfOk result (λ row. inserted txns.old session table values ≡ Ok (row, txns.new)) }
-    ensures fault { IfErr result (λ fault. IsFault (inserted txns.old session table values) fault) }
+    ensures alone { IfOk result (λ row. row_alone (db_of (S.shown store.now) catalog.now txns.old []) session table values row ≡ Ok tt) }
+    ensures fault { IfErr result (λ fault. IsFault (inserted_alone (S.shown store.now) catalog.now txns.old session table values) fault) }
     ensures err { OnErr result (txns.new ≡ txns.old) }
     ensures views { AreViews (S.shown store.now) txns.new.active views.new }
 {
@@ -162,14 +207,12 @@ pub fn insert_row<S: Store + Reader<Ledger = Uncounted>>(
         row,
         values: Some(values),
     };
-    keep_up(
-        catalog,
-        store,
-        txns,
-        views,
-        session,
-        std::slice::from_ref(&change),
-    );
+    let new = std::slice::from_ref(&change);
+    match unrivalled(alloc, catalog, store, txns, views, session, table, new) {
+        Ok(()) => {}
+        Err(fault) => return Err(fault),
+    }
+    keep_up(catalog, store, txns, views, session, new);
     match txns.put_new(session, change) {
         Ok(()) => Ok(row),
         Err(NoMemory) => {
@@ -179,9 +222,10 @@ pub fn insert_row<S: Store + Reader<Ledger = Uncounted>>(
     }
 }
 
-/// UPDATE, which sets columns, and DELETE, which sets none: how many rows are changed. What is kept of the transaction's view
-/// is kept up with them.
+/// UPDATE, which sets columns, and DELETE, which sets none: how many rows are changed, none of which has a rival then. What is
+/// kept of the transaction's view is kept up with them.
 pub fn change_rows<S: Store + Reader<Ledger = Uncounted>>(
+    alloc: Global,
     catalog: &Catalog,
     store: &S,
     txns: &mut Txns,
@@ -196,7 +240,8 @@ pub fn change_rows<S: Store + Reader<Ledger = Uncounted>>(
     requires over { is_over_table catalog.now.tables table only.now ≡ true }
     requires views { AreViews (S.shown store.now) txns.old.active views.old }
     ensures ok { IfOk result (λ count. changed_over (S.shown store.now) catalog.now txns.old session table (option_copied sets.entry) only.now ≡ Ok (count, txns.new)) }
-    ensures fault { IfErr result (λ fault. IsFault (changed_over (S.shown store.now) catalog.now txns.old session table (option_copied sets.entry) only.now) fault) }
+    ensures alone { OnOk result (rows_alone (db_of (S.shown store.now) catalog.now txns.old []) session table (option_copied sets.entry) only.now ≡ Ok tt) }
+    ensures fault { IfErr result (λ fault. IsFault (changed_alone (S.shown store.now) catalog.now txns.old session table (option_copied sets.entry) only.now) fault) }
     ensures err { OnErr result (txns.new ≡ txns.old) }
     ensures tied { IsTied (S.shown store.now) catalog.now txns.new }
     ensures views { AreViews (S.shown store.now) txns.new.active views.new }
@@ -207,6 +252,19 @@ pub fn change_rows<S: Store + Reader<Ledger = Uncounted>>(
         Ok(new) => new,
         Err(fault) => return Err(fault),
     };
+    match unrivalled(
+        alloc,
+        catalog,
+        store,
+        txns,
+        views,
+        session,
+        table,
+        new.as_slice(),
+    ) {
+        Ok(()) => {}
+        Err(fault) => return Err(fault),
+    }
     keep_up(catalog, store, txns, views, session, new.as_slice());
     let count = new.len() as u64;
     match txns.put_changes(session, new) {

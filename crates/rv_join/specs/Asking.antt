@@ -138,7 +138,7 @@ abbrev pub have_column : ℕ → List Record → Bool
 have_column c rows = list_all (λ (r : Record). nat_lt c (length r.values)) rows
 
 abbrev pub no_index : IndexDef
-no_index = record { name = []; table = 0; columns = [] }
+no_index = record { name = []; table = 0; columns = []; unique = false }
 
 abbrev pub index_at : List IndexDef → ℕ → IndexDef
 index_at indexes i = slice_index_or indexes i no_index

@@ -3,7 +3,7 @@
 -- Where a part has one spelling, a function gives it: the tokens of the part, followed by the tokens `rest`; a fact `Is..`
 -- says which values are spelled so. Where the grammar leaves a choice, a relation says that `tokens` spell the part and are
 -- followed by `rest`. Keywords and symbols in capitals stand for their tokens.
-use Rattle.std.specs.Prelude.{◌≡◌, ℕ, List, [], ◌∷◌, Option, Some, None, true, false, length, ◌<◌, ◌⊎◌}
+use Rattle.std.specs.Prelude.{◌≡◌, ℕ, List, [], ◌∷◌, Option, Some, None, Bool, true, false, length, ◌<◌, ◌⊎◌}
 use Rattle.rv_value.specs.declared.value.Value.{Value}
 use Rattle.rv_value.specs.declared.value.Value.TheVariants as values
 use Rattle.rv_lang.specs.declared.token.Token.{Token}
@@ -22,7 +22,7 @@ use Rattle.rv_lang.specs.declared.statement.RawOperand.{RawOperand}
 use Rattle.rv_lang.specs.declared.statement.RawOperand.TheVariants as operands
 use Rattle.rv_lang.specs.declared.statement.RawAtom.{RawAtom}
 use Rattle.rv_lang.specs.declared.statement.RawAtom.TheVariants.{Compare, Between, Among, IsNull, Starts}
-use Rattle.rv_lang.specs.Words.{IsName, AND, BEGIN, BETWEEN, BIGINT, BY, CLOSE, COMMIT, CREATE, DELETE, FAST, FETCH, FIRST, FOR, FROM, IN, INDEX, INSERT, INTO, IS, NOT, NULL, ON, ONLY, OPEN, OPTIMIZE, OR, ORDER, READ, ROLLBACK, SELECT, SET, SHOW, STARTING, STEP, TABLE, TIME, TOTAL, UPDATE, VALUES, VARCHAR, WHERE, WITH}
+use Rattle.rv_lang.specs.Words.{IsName, AND, BEGIN, BETWEEN, BIGINT, BY, CLOSE, COMMIT, CREATE, DELETE, FAST, FETCH, FIRST, FOR, FROM, IN, INDEX, INSERT, INTO, IS, NOT, NULL, ON, ONLY, OPEN, OPTIMIZE, OR, ORDER, READ, ROLLBACK, SELECT, SET, SHOW, STARTING, STEP, TABLE, TIME, TOTAL, UNIQUE, UPDATE, VALUES, VARCHAR, WHERE, WITH}
 
 abbrev pub LPAREN : Token
 LPAREN = Symbol symbols.LeftParen
@@ -188,6 +188,11 @@ set s rest = Word s.0 ∷ EQUAL ∷ literal s.1 rest
 abbrev pub IsSet : List ℕ × Value → Type 0
 IsSet s = IsName s.0
 
+-- [UNIQUE]
+abbrev pub unique_word : Bool → List Token → List Token
+unique_word false rest = rest
+unique_word true rest = UNIQUE ∷ rest
+
 -- returned = * | colref {, colref}
 abbrev pub returned : Option (List RawCol) → List Token → List Token
 returned None rest = STAR ∷ rest
@@ -228,7 +233,7 @@ pub record IsSelectEnd (only : List (List RawAtom)) (by : List RawCol) (goal : R
   pub goal_is : IsGoal goal after_order rest
 
 -- body = CREATE TABLE name ( column {, column} )
---      | CREATE INDEX name ON name ( name {, name} )
+--      | CREATE [UNIQUE] INDEX name ON name ( name {, name} )
 --      | BEGIN [READ ONLY]
 --      | INSERT INTO name VALUES ( literal {, literal} )
 --      | UPDATE name SET name = literal {, name = literal} [WHERE cond]
@@ -240,8 +245,8 @@ pub record IsSelectEnd (only : List (List RawAtom)) (by : List RawCol) (goal : R
 abbrev pub IsBody : Statement → List Token → List Token → Type 0
 IsBody (CreateTable table columns) tokens rest = IsName table × AreSome IsColumnDef columns
     × (tokens ≡ CREATE ∷ TABLE ∷ Word table ∷ LPAREN ∷ listed COMMA column_def columns (RPAREN ∷ rest))
-IsBody (CreateIndex index table columns) tokens rest = IsName index × IsName table × AreSome IsName columns
-    × (tokens ≡ CREATE ∷ INDEX ∷ Word index ∷ ON ∷ Word table ∷ LPAREN ∷ listed COMMA name columns (RPAREN ∷ rest))
+IsBody (CreateIndex unique index table columns) tokens rest = IsName index × IsName table × AreSome IsName columns
+    × (tokens ≡ CREATE ∷ unique_word unique (INDEX ∷ Word index ∷ ON ∷ Word table ∷ LPAREN ∷ listed COMMA name columns (RPAREN ∷ rest)))
 IsBody (Begin false) tokens rest = tokens ≡ BEGIN ∷ rest
 IsBody (Begin true) tokens rest = tokens ≡ BEGIN ∷ READ ∷ ONLY ∷ rest
 IsBody (Insert table values) tokens rest = IsName table × AreSome AnyLiteral values

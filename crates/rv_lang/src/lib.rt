@@ -7,6 +7,6 @@ pub mod statement;
 pub mod token;
 
 pub use lexer::lex;
-pub use reply::{Refusal, Reply, Shown, ShownEvent, Which};
+pub use reply::{Refusal, Reply, Rival, Shown, ShownEvent, Which};
 pub use statement::{RawAtom, RawCol, RawGoal, RawKind, RawOp, RawOperand, Statement};
 pub use token::{LexFault, Symbol, Token};

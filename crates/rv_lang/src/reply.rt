@@ -24,6 +24,17 @@ pub enum Which {
     Pending,
 }
 
+/// Where a row that equals a written one in a unique index was found.
+#[derive(Clone, Copy, Debug, PartialEq, Eq)]
+pub enum Rival {
+    /// In the view of the transaction itself.
+    View,
+    /// At the last commit; shown is the commit that last wrote the row.
+    Commit(u64),
+    /// Among the changes of another active transaction, which is shown.
+    Txn(u64),
+}
+
 /// Why a call was refused. A refused call changes nothing but the history.
 #[derive(Drop, Debug, PartialEq, Eq)]
 pub enum Refusal {
@@ -49,6 +60,9 @@ pub enum Refusal {
     CursorOpen(Text),
     /// The number is the greatest that is allowed.
     Limit { which: Which, number: u64 },
+    /// A row that equals a written one in a unique index; at CREATE UNIQUE INDEX one that equals
+    /// a lower one.
+    Duplicate { row: RowNo, by: Rival },
 }
 
 /// An event of a trace, a scan being named by its index.
@@ -151,6 +165,7 @@ impl Duplicate for Refusal {
                 which: *which,
                 number: *number,
             },
+            Refusal::Duplicate { row, by } => Refusal::Duplicate { row: *row, by: *by },
         })
     }
 }

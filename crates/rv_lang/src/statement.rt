@@ -9,6 +9,7 @@ pub enum Statement {
         columns: Items<(Text, RawKind)>,
     },
     CreateIndex {
+        unique: bool,
         name: Text,
         table: Text,
         columns: Items<Text>,

@@ -53,7 +53,7 @@ module _ (u : Under) (session : ℕ) (old new : Plans) where
 
   form_fetched : (schema : Schema) (s : Statement) → W (form schema s) → Fetched s
   form_fetched schema (says.CreateTable name columns) w = through (refuse_if (is_some (table_named schema.tables name)) (Exists name)) (λ fresh. refuse_some (first_repeat column_name [] columns) Exists >>= (λ once. Ok (asks.CreateTable (record { name = name; columns = map column_def columns })))) (λ fresh w. through (refuse_some (first_repeat column_name [] columns) Exists) (λ once. Ok (asks.CreateTable (record { name = name; columns = map column_def columns }))) (λ once w. absurd w) w) w
-  form_fetched schema (says.CreateIndex name table columns) w = through (table_number schema.tables table) (λ number. collected (own_column schema.tables number) [] columns >>= (λ found. refuse_if (is_some (index_named schema.indexes name)) (Exists name) >>= (λ fresh. refuse_some (first_repeat itself [] columns) Exists >>= (λ once. Ok (asks.CreateIndex (record { name = name; table = number; columns = found })))))) (λ number w. through (collected (own_column schema.tables number) [] columns) (λ found. refuse_if (is_some (index_named schema.indexes name)) (Exists name) >>= (λ fresh. refuse_some (first_repeat itself [] columns) Exists >>= (λ once. Ok (asks.CreateIndex (record { name = name; table = number; columns = found }))))) (λ found w. through (refuse_if (is_some (index_named schema.indexes name)) (Exists name)) (λ fresh. refuse_some (first_repeat itself [] columns) Exists >>= (λ once. Ok (asks.CreateIndex (record { name = name; table = number; columns = found })))) (λ fresh w. through (refuse_some (first_repeat itself [] columns) Exists) (λ once. Ok (asks.CreateIndex (record { name = name; table = number; columns = found }))) (λ once w. absurd w) w) w) w) w
+  form_fetched schema (says.CreateIndex unique name table columns) w = through (table_number schema.tables table) (λ number. collected (own_column schema.tables number) [] columns >>= (λ found. refuse_if (is_some (index_named schema.indexes name)) (Exists name) >>= (λ fresh. refuse_some (first_repeat itself [] columns) Exists >>= (λ once. Ok (asks.CreateIndex (record { name = name; table = number; columns = found; unique = unique })))))) (λ number w. through (collected (own_column schema.tables number) [] columns) (λ found. refuse_if (is_some (index_named schema.indexes name)) (Exists name) >>= (λ fresh. refuse_some (first_repeat itself [] columns) Exists >>= (λ once. Ok (asks.CreateIndex (record { name = name; table = number; columns = found; unique = unique }))))) (λ found w. through (refuse_if (is_some (index_named schema.indexes name)) (Exists name)) (λ fresh. refuse_some (first_repeat itself [] columns) Exists >>= (λ once. Ok (asks.CreateIndex (record { name = name; table = number; columns = found; unique = unique })))) (λ fresh w. through (refuse_some (first_repeat itself [] columns) Exists) (λ once. Ok (asks.CreateIndex (record { name = name; table = number; columns = found; unique = unique }))) (λ once w. absurd w) w) w) w) w
   form_fetched schema (says.Begin read_only) w = absurd w
   form_fetched schema (says.Insert table values) w = through (table_number schema.tables table) (λ number. row_kinds [] (columns_of schema.tables number) values >>= (λ right. Ok (asks.Insert number values))) (λ number w. through (row_kinds [] (columns_of schema.tables number) values) (λ right. Ok (asks.Insert number values)) (λ right w. absurd w) w) w
   form_fetched schema (says.Update table sets only) w = through (table_number schema.tables table) (λ number. collected (set_column schema.tables number) [] sets >>= (λ found. groups schema.tables (alone table number) only >>= (λ where_true. refuse_some (first_repeat set_name [] sets) Exists >>= (λ once. all_pass (set_kind schema.tables number) found >>= (λ held. kinds schema.tables (alone table number) where_true >>= (λ right. Ok (asks.Update number found where_true))))))) (λ number w. through (collected (set_column schema.tables number) [] sets) (λ found. groups schema.tables (alone table number) only >>= (λ where_true. refuse_some (first_repeat set_name [] sets) Exists >>= (λ once. all_pass (set_kind schema.tables number) found >>= (λ held. kinds schema.tables (alone table number) where_true >>= (λ right. Ok (asks.Update number found where_true)))))) (λ found w. through (groups schema.tables (alone table number) only) (λ where_true. refuse_some (first_repeat set_name [] sets) Exists >>= (λ once. all_pass (set_kind schema.tables number) found >>= (λ held. kinds schema.tables (alone table number) where_true >>= (λ right. Ok (asks.Update number found where_true))))) (λ where_true w. through (refuse_some (first_repeat set_name [] sets) Exists) (λ once. all_pass (set_kind schema.tables number) found >>= (λ held. kinds schema.tables (alone table number) where_true >>= (λ right. Ok (asks.Update number found where_true)))) (λ once w. through (all_pass (set_kind schema.tables number) found) (λ held. kinds schema.tables (alone table number) where_true >>= (λ right. Ok (asks.Update number found where_true))) (λ held w. through (kinds schema.tables (alone table number) where_true) (λ right. Ok (asks.Update number found where_true)) (λ right w. absurd w) w) w) w) w) w) w

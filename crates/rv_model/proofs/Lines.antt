@@ -10,6 +10,8 @@ use Rattle.rv_value.specs.declared.value.Value.TheVariants.{Null, Int, Str}
 use Rattle.rv_model.specs.declared.entry.Entry.{Entry}
 use Rattle.rv_lang.specs.declared.reply.Which.{Which}
 use Rattle.rv_lang.specs.declared.reply.Which.TheVariants as limits
+use Rattle.rv_lang.specs.declared.reply.Rival.{Rival}
+use Rattle.rv_lang.specs.declared.reply.Rival.TheVariants as rivals
 use Rattle.rv_lang.specs.declared.reply.Refusal.{Refusal}
 use Rattle.rv_lang.specs.declared.reply.Refusal.TheVariants as refusals
 use Rattle.rv_lang.specs.declared.reply.ShownEvent.{ShownEvent}
@@ -22,7 +24,7 @@ use Rattle.rv_judge.specs.declared.events.Strategy.TheVariants as strategies
 use Rattle.rv_judge.specs.declared.events.Control.{Control}
 use Rattle.rv_judge.specs.declared.events.Control.TheVariants as controls
 use Rattle.rv_lang.specs.Tokens.{quotes_twice}
-use Rattle.rv_model.specs.Transcript.{limit_word, strategy_word, control_word, event_words, count_words, trace_words, words_text, IsName, is_name_byte, is_capital, IsPlainEvent, IsPlainTrace, value_text, more_text, values_text, reply_text, refusal_text, entry_text, text, IsLine, IsPlainValue, IsPlainReply, IsPlainRefusal, IsPlain, SameButPhase, AllSameButPhase}
+use Rattle.rv_model.specs.Transcript.{limit_word, strategy_word, control_word, event_words, count_words, trace_words, words_text, IsName, is_name_byte, is_capital, IsPlainEvent, IsPlainTrace, value_text, more_text, values_text, reply_text, refusal_text, rival_text, entry_text, text, IsLine, IsPlainValue, IsPlainReply, IsPlainRefusal, IsPlainRival, IsPlain, SameButPhase, AllSameButPhase}
 use Rattle.rv_model.proofs.Cuts.{Stops, cut, and_parts}
 use Rattle.rv_model.proofs.Values.{numeric, decimal_pass, signed_pass, passes_more}
 use Rattle.rv_model.proofs.Replies.{reply_same}
@@ -101,6 +103,11 @@ limit_line limits.Pending = refl
 two_line : (n m : ℕ) → n < 2 ^ 64 → m < 2 ^ 64 → list_all no_lf (decimal n ++ codes " by " ++ decimal m) ≡ true
 two_line n m fn fm = joined (decimal n ++ codes " by ") (decimal m) (joined (decimal n) (codes " by ") (decimal_line n fn) refl) (decimal_line m fm)
 
+rival_line : (by : Rival) → IsPlainRival by → list_all no_lf (rival_text by) ≡ true
+rival_line rivals.View p = refl
+rival_line (rivals.Commit commit) p = decimal_line commit p
+rival_line (rivals.Txn txn) p = decimal_line txn p
+
 refusal_line : (r : Refusal) → IsPlainRefusal r → list_all no_lf (refusal_text r) ≡ true
 refusal_line refusals.Syntax p = refl
 refusal_line (refusals.Unknown name) p = name_line name p
@@ -115,6 +122,7 @@ refusal_line (refusals.Held row txn) p = two_line row.0 txn p.0 p.1
 refusal_line (refusals.NoCursor name) p = name_line name p
 refusal_line (refusals.CursorOpen name) p = name_line name p
 refusal_line (refusals.Limit which number) p = joined (limit_word which) (32 ∷ decimal number) (limit_line which) (decimal_line number p)
+refusal_line (refusals.Duplicate row by) p = joined (decimal row.0) (rival_text by) (decimal_line row.0 p.0) (rival_line by p.1)
 
 -- words that are lines
 abbrev AreLines : List (List ℕ) → Type 0

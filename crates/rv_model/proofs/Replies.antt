@@ -8,13 +8,15 @@ use Rattle.rv_value.specs.declared.value.Value.{Value}
 use Rattle.rv_value.specs.declared.record.RowNo.{RowNo}
 use Rattle.rv_lang.specs.declared.reply.Which.{Which}
 use Rattle.rv_lang.specs.declared.reply.Which.TheVariants as limits
+use Rattle.rv_lang.specs.declared.reply.Rival.{Rival}
+use Rattle.rv_lang.specs.declared.reply.Rival.TheVariants as rivals
 use Rattle.rv_lang.specs.declared.reply.Refusal.{Refusal}
 use Rattle.rv_lang.specs.declared.reply.Refusal.TheVariants as refusals
 use Rattle.rv_lang.specs.declared.reply.Shown.{Shown}
 use Rattle.rv_lang.specs.declared.reply.Reply.{Reply}
 use Rattle.rv_lang.specs.declared.reply.Reply.TheVariants as replies
-use Rattle.rv_model.specs.Transcript.{values_text, reply_text, refusal_text, limit_word, words_text, trace_words, IsPlainValue, IsPlainReply, IsPlainRefusal, IsPlainTrace}
-use Rattle.rv_model.proofs.Cuts.{cut}
+use Rattle.rv_model.specs.Transcript.{values_text, reply_text, refusal_text, rival_text, limit_word, words_text, trace_words, IsPlainValue, IsPlainReply, IsPlainRefusal, IsPlainRival, IsPlainTrace}
+use Rattle.rv_model.proofs.Cuts.{Stops, cut}
 use Rattle.rv_model.proofs.Values.{values_same, numeric, decimal_pass}
 use Rattle.rv_model.proofs.Traces.{trace_same, no_space}
 
@@ -56,7 +58,8 @@ read t =
     (or_else (after (codes "no cursor ") t) (λ d. replies.Refused (refusals.NoCursor d))
     (or_else (after (codes "cursor open ") t) (λ d. replies.Refused (refusals.CursorOpen d))
     (or_else (after (codes "limit ") t) (λ _. replies.Refused (refusals.Limit limits.Name 0))
-    replies.End)))))))))))))))))))))))))
+    (or_else (after (codes "duplicate ") t) (λ _. replies.Refused (refusals.Duplicate (record { 0 = 0 }) rivals.View))
+    replies.End))))))))))))))))))))))))))
 
 -- a reply without those parts
 abbrev shape : Reply → Reply
@@ -65,6 +68,7 @@ shape (replies.Trace shown) = replies.End
 shape (replies.Refused (refusals.Changed row commit)) = replies.Refused (refusals.Changed (record { 0 = 0 }) 0)
 shape (replies.Refused (refusals.Held row txn)) = replies.Refused (refusals.Held (record { 0 = 0 }) 0)
 shape (replies.Refused (refusals.Limit which number)) = replies.Refused (refusals.Limit limits.Name 0)
+shape (replies.Refused (refusals.Duplicate row by)) = replies.Refused (refusals.Duplicate (record { 0 = 0 }) rivals.View)
 shape reply = reply
 
 value_back : (n : ℕ) → n < 2 ^ 64 → digits_value 10 (decimal n) ≡ n
@@ -96,6 +100,7 @@ read_is (replies.Refused (refusals.Held row txn)) p = refl
 read_is (replies.Refused (refusals.NoCursor name)) p = refl
 read_is (replies.Refused (refusals.CursorOpen name)) p = refl
 read_is (replies.Refused (refusals.Limit which number)) p = refl
+read_is (replies.Refused (refusals.Duplicate row by)) p = refl
 
 abbrev row_of : Reply → List Value
 row_of (replies.Row vs) = vs
@@ -114,6 +119,10 @@ abbrev trace_of : Reply → Option Shown
 trace_of (replies.Trace shown) = Some shown
 trace_of reply = None
 
+abbrev duplicate_of : Reply → Option (ℕ × Rival)
+duplicate_of (replies.Refused (refusals.Duplicate row by)) = Some (row.0, by)
+duplicate_of reply = None
+
 abbrev pair_text : Option (ℕ × ℕ) → List ℕ
 pair_text None = []
 pair_text (Some p) = decimal p.0 ++ codes " by " ++ decimal p.1
@@ -125,6 +134,11 @@ limit_text (Some p) = limit_word p.0 ++ 32 ∷ decimal p.1
 abbrev trace_text : Option Shown → List ℕ
 trace_text None = []
 trace_text (Some shown) = words_text (trace_words shown)
+
+-- (behind a space, so that it is no empty text)
+abbrev duplicate_text : Option (ℕ × Rival) → List ℕ
+duplicate_text None = []
+duplicate_text (Some p) = 32 ∷ decimal p.0 ++ rival_text p.1
 
 -- the bytes of the part that a reply has
 abbrev row_part : List ℕ → List ℕ
@@ -138,6 +152,9 @@ limit_part t = or_else (after (codes "limit ") t) (λ d. d) []
 
 abbrev trace_part : List ℕ → List ℕ
 trace_part t = or_else (after (codes "trace") t) (λ d. d) []
+
+abbrev duplicate_part : List ℕ → List ℕ
+duplicate_part t = or_else (after (codes "duplicate ") t) (λ d. 32 ∷ d) []
 
 row_part_is : (r : Reply) → row_part (reply_text r) ≡ values_text (row_of r)
 row_part_is replies.Created = refl
@@ -165,6 +182,7 @@ row_part_is (replies.Refused (refusals.Held row txn)) = refl
 row_part_is (replies.Refused (refusals.NoCursor name)) = refl
 row_part_is (replies.Refused (refusals.CursorOpen name)) = refl
 row_part_is (replies.Refused (refusals.Limit which number)) = refl
+row_part_is (replies.Refused (refusals.Duplicate row by)) = refl
 
 pair_part_is : (r : Reply) → pair_part (reply_text r) ≡ pair_text (pair_of r)
 pair_part_is replies.Created = refl
@@ -192,6 +210,7 @@ pair_part_is (replies.Refused (refusals.Held row txn)) = refl
 pair_part_is (replies.Refused (refusals.NoCursor name)) = refl
 pair_part_is (replies.Refused (refusals.CursorOpen name)) = refl
 pair_part_is (replies.Refused (refusals.Limit which number)) = refl
+pair_part_is (replies.Refused (refusals.Duplicate row by)) = refl
 
 limit_part_is : (r : Reply) → limit_part (reply_text r) ≡ limit_text (limit_of r)
 limit_part_is replies.Created = refl
@@ -219,6 +238,7 @@ limit_part_is (replies.Refused (refusals.Held row txn)) = refl
 limit_part_is (replies.Refused (refusals.NoCursor name)) = refl
 limit_part_is (replies.Refused (refusals.CursorOpen name)) = refl
 limit_part_is (replies.Refused (refusals.Limit which number)) = refl
+limit_part_is (replies.Refused (refusals.Duplicate row by)) = refl
 
 trace_part_is : (r : Reply) → trace_part (reply_text r) ≡ trace_text (trace_of r)
 trace_part_is replies.Created = refl
@@ -246,6 +266,35 @@ trace_part_is (replies.Refused (refusals.Held row txn)) = refl
 trace_part_is (replies.Refused (refusals.NoCursor name)) = refl
 trace_part_is (replies.Refused (refusals.CursorOpen name)) = refl
 trace_part_is (replies.Refused (refusals.Limit which number)) = refl
+trace_part_is (replies.Refused (refusals.Duplicate row by)) = refl
+
+duplicate_part_is : (r : Reply) → duplicate_part (reply_text r) ≡ duplicate_text (duplicate_of r)
+duplicate_part_is replies.Created = refl
+duplicate_part_is (replies.Began n) = refl
+duplicate_part_is (replies.Inserted row) = refl
+duplicate_part_is (replies.Touched n) = refl
+duplicate_part_is (replies.Committed n) = refl
+duplicate_part_is replies.RolledBack = refl
+duplicate_part_is replies.Opened = refl
+duplicate_part_is (replies.Row vs) = refl
+duplicate_part_is replies.End = refl
+duplicate_part_is replies.Closed = refl
+duplicate_part_is (replies.Stepped n) = refl
+duplicate_part_is (replies.Trace shown) = refl
+duplicate_part_is (replies.Refused refusals.Syntax) = refl
+duplicate_part_is (replies.Refused (refusals.Unknown name)) = refl
+duplicate_part_is (replies.Refused (refusals.Exists name)) = refl
+duplicate_part_is (replies.Refused (refusals.Kind name)) = refl
+duplicate_part_is (replies.Refused (refusals.Active txn)) = refl
+duplicate_part_is (replies.Refused refusals.NoTransaction) = refl
+duplicate_part_is (replies.Refused (refusals.Busy txn)) = refl
+duplicate_part_is (replies.Refused refusals.ReadOnly) = refl
+duplicate_part_is (replies.Refused (refusals.Changed row commit)) = refl
+duplicate_part_is (replies.Refused (refusals.Held row txn)) = refl
+duplicate_part_is (replies.Refused (refusals.NoCursor name)) = refl
+duplicate_part_is (replies.Refused (refusals.CursorOpen name)) = refl
+duplicate_part_is (replies.Refused (refusals.Limit which number)) = refl
+duplicate_part_is (replies.Refused (refusals.Duplicate row by)) = refl
 
 -- the plainness of the parts
 plain_row : (r : Reply) → IsPlainReply r → AllByRecursion IsPlainValue (row_of r)
@@ -274,6 +323,7 @@ plain_row (replies.Refused (refusals.Held row txn)) p = tt
 plain_row (replies.Refused (refusals.NoCursor name)) p = tt
 plain_row (replies.Refused (refusals.CursorOpen name)) p = tt
 plain_row (replies.Refused (refusals.Limit which number)) p = tt
+plain_row (replies.Refused (refusals.Duplicate row by)) p = tt
 
 abbrev FitsPair : Option (ℕ × ℕ) → Type 0
 FitsPair None = Unit {0}
@@ -313,6 +363,7 @@ plain_pair (replies.Refused (refusals.Held row txn)) p = p
 plain_pair (replies.Refused (refusals.NoCursor name)) p = tt
 plain_pair (replies.Refused (refusals.CursorOpen name)) p = tt
 plain_pair (replies.Refused (refusals.Limit which number)) p = tt
+plain_pair (replies.Refused (refusals.Duplicate row by)) p = tt
 
 plain_limit : (r : Reply) → IsPlainReply r → FitsLimit (limit_of r)
 plain_limit replies.Created p = tt
@@ -340,6 +391,7 @@ plain_limit (replies.Refused (refusals.Held row txn)) p = tt
 plain_limit (replies.Refused (refusals.NoCursor name)) p = tt
 plain_limit (replies.Refused (refusals.CursorOpen name)) p = tt
 plain_limit (replies.Refused (refusals.Limit which number)) p = p
+plain_limit (replies.Refused (refusals.Duplicate row by)) p = tt
 
 plain_trace : (r : Reply) → IsPlainReply r → FitsTrace (trace_of r)
 plain_trace replies.Created p = tt
@@ -367,6 +419,39 @@ plain_trace (replies.Refused (refusals.Held row txn)) p = tt
 plain_trace (replies.Refused (refusals.NoCursor name)) p = tt
 plain_trace (replies.Refused (refusals.CursorOpen name)) p = tt
 plain_trace (replies.Refused (refusals.Limit which number)) p = tt
+plain_trace (replies.Refused (refusals.Duplicate row by)) p = tt
+
+abbrev FitsDuplicate : Option (ℕ × Rival) → Type 0
+FitsDuplicate None = Unit {0}
+FitsDuplicate (Some p) = (p.0 < 2 ^ 64) × IsPlainRival p.1
+
+plain_duplicate : (r : Reply) → IsPlainReply r → FitsDuplicate (duplicate_of r)
+plain_duplicate replies.Created p = tt
+plain_duplicate (replies.Began n) p = tt
+plain_duplicate (replies.Inserted row) p = tt
+plain_duplicate (replies.Touched n) p = tt
+plain_duplicate (replies.Committed n) p = tt
+plain_duplicate replies.RolledBack p = tt
+plain_duplicate replies.Opened p = tt
+plain_duplicate (replies.Row vs) p = tt
+plain_duplicate replies.End p = tt
+plain_duplicate replies.Closed p = tt
+plain_duplicate (replies.Stepped n) p = tt
+plain_duplicate (replies.Trace shown) p = tt
+plain_duplicate (replies.Refused refusals.Syntax) p = tt
+plain_duplicate (replies.Refused (refusals.Unknown name)) p = tt
+plain_duplicate (replies.Refused (refusals.Exists name)) p = tt
+plain_duplicate (replies.Refused (refusals.Kind name)) p = tt
+plain_duplicate (replies.Refused (refusals.Active txn)) p = tt
+plain_duplicate (replies.Refused refusals.NoTransaction) p = tt
+plain_duplicate (replies.Refused (refusals.Busy txn)) p = tt
+plain_duplicate (replies.Refused refusals.ReadOnly) p = tt
+plain_duplicate (replies.Refused (refusals.Changed row commit)) p = tt
+plain_duplicate (replies.Refused (refusals.Held row txn)) p = tt
+plain_duplicate (replies.Refused (refusals.NoCursor name)) p = tt
+plain_duplicate (replies.Refused (refusals.CursorOpen name)) p = tt
+plain_duplicate (replies.Refused (refusals.Limit which number)) p = tt
+plain_duplicate (replies.Refused (refusals.Duplicate row by)) p = p
 
 -- the limit of a word
 abbrev which_of : List ℕ → Which
@@ -441,6 +526,33 @@ limit_same (Some p) (Some q) fp fq e =
     let number = decimal_injective p.1 q.1 fp fq digits in
     λ i. Some (which i, number i)
 
+-- where a rival is, read back
+abbrev rival_read : List ℕ → Rival
+rival_read t =
+    or_else (after (codes " by commit ") t) (λ d. rivals.Commit (digits_value 10 d))
+    (or_else (after (codes " by txn ") t) (λ d. rivals.Txn (digits_value 10 d)) rivals.View)
+
+rival_back : (by : Rival) → IsPlainRival by → rival_read (rival_text by) ≡ by
+rival_back rivals.View p = refl
+rival_back (rivals.Commit commit) p = ap (λ (m : ℕ). rivals.Commit m) (value_back commit p)
+rival_back (rivals.Txn txn) p = ap (λ (m : ℕ). rivals.Txn m) (value_back txn p)
+
+rival_stops : (by : Rival) → Stops numeric (rival_text by)
+rival_stops rivals.View = tt
+rival_stops (rivals.Commit commit) = refl
+rival_stops (rivals.Txn txn) = refl
+
+duplicate_same : (p q : Option (ℕ × Rival)) → FitsDuplicate p → FitsDuplicate q → duplicate_text p ≡ duplicate_text q → p ≡ q
+duplicate_same None None fp fq e = refl
+duplicate_same None (Some q) fp fq e = cc
+duplicate_same (Some p) None fp fq e = cc
+duplicate_same (Some p) (Some q) fp fq e =
+    let behind : decimal p.0 ++ rival_text p.1 ≡ decimal q.0 ++ rival_text q.1 = cc e in
+    let r = cut numeric (decimal p.0) (decimal q.0) (rival_text p.1) (rival_text q.1) (decimal_pass p.0 fp.0) (decimal_pass q.0 fq.0) (rival_stops p.1) (rival_stops q.1) behind in
+    let row = decimal_injective p.0 q.0 fp.0 fq.0 r.0 in
+    let by : p.1 ≡ q.1 = sym (rival_back p.1 fp.1) ∙ ap rival_read r.1 ∙ rival_back q.1 fq.1 in
+    λ i. Some (row i, by i)
+
 trace_part_same : (p q : Option Shown) → FitsTrace p → FitsTrace q → trace_text p ≡ trace_text q → p ≡ q
 trace_part_same None None fp fq e = refl
 trace_part_same None (Some q) fp fq e = cc
@@ -461,11 +573,11 @@ abbrev with_row : Reply → List Value → Reply
 with_row (replies.Row _) vs = replies.Row vs
 with_row r vs = r
 
-abbrev rebuilt : Reply → List Value → Option (ℕ × ℕ) → Option (Which × ℕ) → Option Shown → Reply
-rebuilt shape vs pair limit trace =
-    or_shape trace (λ shown. replies.Trace shown) (or_shape limit (λ p. replies.Refused (refusals.Limit p.0 p.1)) (with_pair (with_row shape vs) pair))
+abbrev rebuilt : Reply → List Value → Option (ℕ × ℕ) → Option (Which × ℕ) → Option (ℕ × Rival) → Option Shown → Reply
+rebuilt shape vs pair limit duplicate trace =
+    or_shape trace (λ shown. replies.Trace shown) (or_shape duplicate (λ p. replies.Refused (refusals.Duplicate (record { 0 = p.0 }) p.1)) (or_shape limit (λ p. replies.Refused (refusals.Limit p.0 p.1)) (with_pair (with_row shape vs) pair)))
 
-rebuilt_is : (r : Reply) → rebuilt (shape r) (row_of r) (pair_of r) (limit_of r) (trace_of r) ≡ r
+rebuilt_is : (r : Reply) → rebuilt (shape r) (row_of r) (pair_of r) (limit_of r) (duplicate_of r) (trace_of r) ≡ r
 rebuilt_is replies.Created = refl
 rebuilt_is (replies.Began n) = refl
 rebuilt_is (replies.Inserted row) = refl
@@ -491,6 +603,7 @@ rebuilt_is (replies.Refused (refusals.Held row txn)) = refl
 rebuilt_is (replies.Refused (refusals.NoCursor name)) = refl
 rebuilt_is (replies.Refused (refusals.CursorOpen name)) = refl
 rebuilt_is (replies.Refused (refusals.Limit which number)) = refl
+rebuilt_is (replies.Refused (refusals.Duplicate row by)) = refl
 
 pub reply_same : (r q : Reply) → IsPlainReply r → IsPlainReply q → reply_text r ≡ reply_text q → r ≡ q
 reply_same r q pr pq e =
@@ -498,5 +611,6 @@ reply_same r q pr pq e =
     let rows : row_of r ≡ row_of q = values_same (row_of r) (row_of q) (plain_row r pr) (plain_row q pq) (sym (row_part_is r) ∙ ap row_part e ∙ row_part_is q) in
     let pairs : pair_of r ≡ pair_of q = pair_same (pair_of r) (pair_of q) (plain_pair r pr) (plain_pair q pq) (sym (pair_part_is r) ∙ ap pair_part e ∙ pair_part_is q) in
     let limit_parts : limit_of r ≡ limit_of q = limit_same (limit_of r) (limit_of q) (plain_limit r pr) (plain_limit q pq) (sym (limit_part_is r) ∙ ap limit_part e ∙ limit_part_is q) in
+    let duplicates : duplicate_of r ≡ duplicate_of q = duplicate_same (duplicate_of r) (duplicate_of q) (plain_duplicate r pr) (plain_duplicate q pq) (sym (duplicate_part_is r) ∙ ap duplicate_part e ∙ duplicate_part_is q) in
     let traces : trace_of r ≡ trace_of q = trace_part_same (trace_of r) (trace_of q) (plain_trace r pr) (plain_trace q pq) (sym (trace_part_is r) ∙ ap trace_part e ∙ trace_part_is q) in
-    sym (rebuilt_is r) ∙ (λ i. rebuilt (shapes i) (rows i) (pairs i) (limit_parts i) (traces i)) ∙ rebuilt_is q
+    sym (rebuilt_is r) ∙ (λ i. rebuilt (shapes i) (rows i) (pairs i) (limit_parts i) (duplicates i) (traces i)) ∙ rebuilt_is q

@@ -1,5 +1,5 @@
 -- How things are found in the state of the database.
-use Rattle.std.specs.Prelude.{ℕ, List, [], Option, ◌==◌, ◌&&◌, position, bytes_eq}
+use Rattle.std.specs.Prelude.{ℕ, List, [], Option, false, ◌==◌, ◌&&◌, position, bytes_eq}
 use Rattle.std.specs.List.{slice_index_or}
 use Rattle.rv_value.specs.declared.record.Record.{Record}
 use Rattle.rv_catalog.specs.declared.def.IndexDef.{IndexDef}
@@ -35,7 +35,7 @@ base_rows s own table = rows_at (slice_index_or s.bases own []) table
 
 -- what stands behind the last index
 abbrev pub no_index : IndexDef
-no_index = record { name = []; table = 0; columns = [] }
+no_index = record { name = []; table = 0; columns = []; unique = false }
 
 -- an index's number is its position
 abbrev pub index_at : List IndexDef → ℕ → IndexDef

@@ -3,6 +3,7 @@ pub mod History
 pub mod OfferOrder
 pub mod Offering
 pub mod Offers
+pub mod Rivals
 pub mod Showing
 pub mod Standing
 pub mod Step

@@ -3,12 +3,14 @@ use Rattle.std.specs.Prelude.{◌≡◌, ◌≤◌, ℕ, ◌+◌, List, [], ◌�
 use Rattle.std.specs.List.{slice_index_or, range_with_len}
 use Rattle.rv_value.specs.declared.value.Value.{Value}
 use Rattle.rv_value.specs.declared.record.Record.{Record}
+use Rattle.rv_value.specs.declared.record.RowNo.{RowNo}
 use Rattle.rv_rows.specs.declared.changes.Change.{Change}
-use Rattle.rv_rows.specs.Changes.{rows_with_changes}
+use Rattle.rv_rows.specs.Changes.{rows_with_changes, with_changes}
 use Rattle.rv_lang.specs.declared.statement.Statement.{Statement}
 use Rattle.rv_lang.specs.declared.reply.Which.TheVariants.{Tables, Indexes, Cursors}
 use Rattle.rv_lang.specs.declared.reply.Refusal.{Refusal}
-use Rattle.rv_lang.specs.declared.reply.Refusal.TheVariants.{Syntax, NoTransaction, Busy, NoCursor, CursorOpen, Limit}
+use Rattle.rv_lang.specs.declared.reply.Refusal.TheVariants.{Syntax, NoTransaction, Busy, NoCursor, CursorOpen, Limit, Duplicate}
+use Rattle.rv_lang.specs.declared.reply.Rival.TheVariants.{View}
 use Rattle.rv_lang.specs.declared.reply.Reply.{Reply}
 use Rattle.rv_lang.specs.declared.reply.Reply.TheVariants.{Created, Began, Inserted, Touched, Committed, RolledBack, Opened, Row, End, Closed, Stepped, Trace, Refused}
 use Rattle.rv_restrict.specs.declared.atom.Atom.{Atom}
@@ -27,10 +29,11 @@ use Rattle.rv_model.specs.declared.state.Offer.{Offer}
 use Rattle.rv_model.specs.declared.transactions.Transaction.{Transaction}
 use Rattle.rv_model.specs.declared.transactions.Transactions.{Transactions}
 use Rattle.rv_model.specs.Transactions as transactions
-use Rattle.rv_model.specs.Transactions.{transaction_of, transaction_at, refuse_at}
+use Rattle.rv_model.specs.Transactions.{change_of, met, refuse_at, touched_by, transaction_of, transaction_at}
 use Rattle.rv_model.specs.Database.{cursor_named, cursor_at, rows_at, base_rows}
 use Rattle.rv_model.specs.Offers.{offers_in_order, place_of, without}
 use Rattle.rv_model.specs.Offering.{offers_over}
+use Rattle.rv_model.specs.Rivals.{Neighbour, all_alone, first_equal, neighbours, rows_written, unique_over}
 use Rattle.rv_model.specs.Showing.{ShowsTrace}
 
 -- the reply and the state after it, or why the statement is refused
@@ -50,11 +53,17 @@ created s def = do
   room ← refuse_if (nat_lt 63 (length s.schema.tables)) (Limit Tables 64)
   Ok (Created, record s { schema = record s.schema { tables = s.schema.tables ++ def ∷ [] }; rows = s.rows ++ [] ∷ [] })
 
--- CREATE INDEX: not while a transaction is active, and at most 8 indexes over a table.
+-- a unique index is not made over two rows that are equal in it: the lowest that equals a lower one is shown
+abbrev pub rows_differ : State → IndexDef → Result (Unit {0}) Refusal
+rows_differ s def = refuse_at (first_equal def (rows_at s.rows def.table)) (λ (r : Record). Duplicate r.row View)
+
+-- CREATE INDEX: not while a transaction is active, at most 8 indexes over a table, and a unique one not where two rows are
+-- equal in it.
 abbrev pub indexed : State → IndexDef → Outcome
 indexed s def = do
   idle ← refuse_at (transactions.lowest s.transactions.active) Busy
   room ← refuse_if (nat_lt 7 (indexes_over def.table s.schema.indexes)) (Limit Indexes 8)
+  differ ← rows_differ s def
   Ok (Created, record s { schema = record s.schema { indexes = s.schema.indexes ++ def ∷ [] } })
 
 -- BEGIN: a transaction on the last commit and its tables.
@@ -63,10 +72,38 @@ began s session read_only = do
   begun ← transactions.began s.transactions session read_only s.last
   Ok (Began begun.0, record s { transactions = begun.1; bases = s.bases ++ s.rows ∷ [] })
 
--- INSERT
+-- the other sessions' transactions, with their numbers and changes
+abbrev pub others : List Transaction → ℕ → List (ℕ × List Change)
+others active session = map (λ (t : Transaction). (t.number, t.changes)) (filter (λ (t : Transaction). not (t.session == session)) active)
+
+-- where rivals of rows of the transaction in a place are looked for, with further changes of it
+abbrev pub neighbours_of : State → ℕ → ℕ → ℕ → List Change → List Neighbour
+neighbours_of s session own table new = neighbours table (with_changes new (transaction_at s.transactions.active own).changes)
+    (base_rows s own table) (rows_at s.rows table) (touched_by s.transactions.touched table) (others s.transactions.active session)
+
+-- no row that further changes of it write has a rival
+abbrev pub no_rivals : State → ℕ → ℕ → ℕ → List Change → Result (Unit {0}) Refusal
+no_rivals s session own table new =
+    all_alone (unique_over table s.schema.indexes) (neighbours_of s session own table new) (rows_written table new)
+
+-- the same of the session's transaction, where it has one
+abbrev pub no_rivals_of : State → ℕ → Option ℕ → ℕ → (ℕ → List Change) → Result (Unit {0}) Refusal
+no_rivals_of s session None table new = Ok tt
+no_rivals_of s session (Some own) table new = no_rivals s session own table (new own)
+
+-- the change that adds a row
+abbrev pub new_change : ℕ → RowNo → List Value → Change
+new_change table row values = record { table = table; row = row; values = Some values }
+
+-- the row that the session's transaction adds has no rival
+abbrev pub row_alone : State → ℕ → ℕ → List Value → RowNo → Result (Unit {0}) Refusal
+row_alone s session table values row = no_rivals_of s session (transaction_of s.transactions.active session) table (λ own. new_change table row values ∷ [])
+
+-- INSERT: a row that has no rival
 abbrev pub inserted : State → ℕ → ℕ → List Value → Outcome
 inserted s session table values = do
   more ← transactions.inserted s.transactions session table values
+  alone ← row_alone s session table values more.0
   Ok (Inserted more.0, record s { transactions = more.1 })
 
 -- the rows of a table at the base of the transaction in a place, where there is one
@@ -82,10 +119,19 @@ abbrev pub rows_viewed : State → Option ℕ → ℕ → List Record
 rows_viewed s None table = []
 rows_viewed s (Some own) table = view_rows s own table
 
--- UPDATE, which sets columns, and DELETE, which sets none
+-- the changes of the rows that the transaction in a place meets
+abbrev pub changes_met : State → ℕ → Option (List (ℕ × Value)) → List (List Atom) → ℕ → List Change
+changes_met s table sets only own = map (change_of table sets) (met (transaction_at s.transactions.active own) table only (λ base. base_rows s own table))
+
+-- the rows that the session's transaction changes have no rivals then
+abbrev pub rows_alone : State → ℕ → ℕ → Option (List (ℕ × Value)) → List (List Atom) → Result (Unit {0}) Refusal
+rows_alone s session table sets only = no_rivals_of s session (transaction_of s.transactions.active session) table (changes_met s table sets only)
+
+-- UPDATE, which sets columns, and DELETE, which sets none: no row is written that has a rival
 abbrev pub changed : State → ℕ → ℕ → Option (List (ℕ × Value)) → List (List Atom) → Outcome
 changed s session table sets only = do
   done ← transactions.changed s.transactions session table only sets (λ base. rows_seen s (transaction_of s.transactions.active session) table)
+  alone ← rows_alone s session table sets only
   Ok (Touched done.0, record s { transactions = done.1 })
 
 -- each table's rows with the changes of them applied

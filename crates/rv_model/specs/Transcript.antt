@@ -12,6 +12,8 @@ use Rattle.rv_judge.specs.declared.events.Control.TheVariants as controls
 use Rattle.rv_lang.specs.Tokens.{quotes_twice}
 use Rattle.rv_lang.specs.declared.reply.Which.{Which}
 use Rattle.rv_lang.specs.declared.reply.Which.TheVariants as limits
+use Rattle.rv_lang.specs.declared.reply.Rival.{Rival}
+use Rattle.rv_lang.specs.declared.reply.Rival.TheVariants as rivals
 use Rattle.rv_lang.specs.declared.reply.Refusal.{Refusal}
 use Rattle.rv_lang.specs.declared.reply.Refusal.TheVariants as refusals
 use Rattle.rv_lang.specs.declared.reply.ShownEvent.{ShownEvent}
@@ -56,6 +58,12 @@ limit_word limits.Cursors = codes "cursors"
 limit_word limits.Rows = codes "rows"
 limit_word limits.Pending = codes "pending"
 
+-- where a rival is: nothing for one that the transaction sees, else its commit or transaction
+abbrev pub rival_text : Rival → List ℕ
+rival_text rivals.View = []
+rival_text (rivals.Commit commit) = codes " by commit " ++ decimal commit
+rival_text (rivals.Txn txn) = codes " by txn " ++ decimal txn
+
 -- how a refusal is written
 abbrev pub refusal_text : Refusal → List ℕ
 refusal_text refusals.Syntax = codes "syntax"
@@ -72,6 +80,7 @@ refusal_text (refusals.Held row txn) = codes "held " ++ decimal row.0 ++ codes "
 refusal_text (refusals.NoCursor name) = codes "no cursor " ++ name
 refusal_text (refusals.CursorOpen name) = codes "cursor open " ++ name
 refusal_text (refusals.Limit which n) = codes "limit " ++ limit_word which ++ 32 ∷ decimal n
+refusal_text (refusals.Duplicate row by) = codes "duplicate " ++ decimal row.0 ++ rival_text by
 
 -- the word for a strategy
 abbrev pub strategy_word : Strategy → List ℕ
@@ -158,6 +167,11 @@ IsPlainValue Null = Unit {0}
 IsPlainValue (Int z) = mag z < 2 ^ 63
 IsPlainValue (Str t) = list_all (nat_le 32) t ≡ true
 
+abbrev pub IsPlainRival : Rival → Type 0
+IsPlainRival rivals.View = Unit {0}
+IsPlainRival (rivals.Commit commit) = commit < 2 ^ 64
+IsPlainRival (rivals.Txn txn) = txn < 2 ^ 64
+
 abbrev pub IsPlainRefusal : Refusal → Type 0
 IsPlainRefusal refusals.Syntax = Unit {0}
 IsPlainRefusal (refusals.Unknown name) = IsName name
@@ -172,6 +186,7 @@ IsPlainRefusal (refusals.Held row txn) = (row.0 < 2 ^ 64) × (txn < 2 ^ 64)
 IsPlainRefusal (refusals.NoCursor name) = IsName name
 IsPlainRefusal (refusals.CursorOpen name) = IsName name
 IsPlainRefusal (refusals.Limit which number) = number < 2 ^ 64
+IsPlainRefusal (refusals.Duplicate row by) = (row.0 < 2 ^ 64) × IsPlainRival by
 
 abbrev pub IsPlainEvent : ShownEvent → Type 0
 IsPlainEvent (events.At control) = Unit {0}

@@ -10,6 +10,6 @@ pub mod transactions;
 
 pub use entry::Entry;
 pub use queue::Queue;
-pub use rv_lang::{Refusal, Reply, Shown, ShownEvent, Which};
+pub use rv_lang::{Refusal, Reply, Rival, Shown, ShownEvent, Which};
 pub use state::{Cursor, Offer, State};
 pub use transactions::{Transaction, Transactions};

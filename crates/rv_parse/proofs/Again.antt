@@ -20,11 +20,11 @@ use Rattle.rv_lang.specs.declared.statement.RawOperand.{RawOperand}
 use Rattle.rv_lang.specs.declared.statement.RawOperand.TheVariants as operands
 use Rattle.rv_lang.specs.declared.statement.RawAtom.{RawAtom}
 use Rattle.rv_lang.specs.declared.statement.RawAtom.TheVariants.{Compare, Between, Among, IsNull, Starts}
-use Rattle.rv_lang.specs.Words.{is_keyword, IsName, AND, BETWEEN, FOR, FROM, IN, INDEX, INTO, IS, NOT, NULL, ON, ONLY, OPTIMIZE, OR, ORDER, READ, SELECT, SET, STARTING, TABLE, TIME, TOTAL, VALUES, WHERE, WITH}
-use Rattle.rv_lang.specs.Grammar.{literal, column, compare, operand, atom, closed, others, listed, AnyLiteral, AreAll, AreSome, IsColumn, IsOperand, IsAtom, COMMA, LPAREN, RPAREN, SEMICOLON, IsBare, IsGroup, AreGroups, IsLone, IsWhere, column_def, IsColumnDef, returned, AreReturned, item, IsItem, order, IsGoal, IsSelectEnd, IsBody, Derives, name, set, IsSet}
+use Rattle.rv_lang.specs.Words.{is_keyword, IsName, AND, BETWEEN, FOR, FROM, IN, INDEX, INTO, IS, NOT, NULL, ON, ONLY, OPTIMIZE, OR, ORDER, READ, SELECT, SET, STARTING, TABLE, TIME, TOTAL, UNIQUE, VALUES, WHERE, WITH}
+use Rattle.rv_lang.specs.Grammar.{literal, column, compare, operand, atom, closed, others, listed, AnyLiteral, AreAll, AreSome, IsColumn, IsOperand, IsAtom, COMMA, LPAREN, RPAREN, SEMICOLON, IsBare, IsGroup, AreGroups, IsLone, IsWhere, column_def, IsColumnDef, returned, AreReturned, item, IsItem, order, IsGoal, IsSelectEnd, IsBody, Derives, name, set, IsSet, unique_word}
 use Rattle.rv_parse.specs.declared.list.Separator.{Separator}
 use Rattle.rv_parse.specs.declared.list.Separator.TheVariants as separators
-use Rattle.rv_parse.specs.Reading.{Read, word_at, name_at, literal_at, dot_at, op_at, column_at, operand_at, separator_at, list_at, list_of, between_at, among_at, is_null_at, starts_at, compare_at, atom_rest, atom_at, closed_at, group_at, open_at, comma_at, groups_at, bare_end, cond_at, where_at, star_at, kind_at, column_def_at, create_table_at, insert_at, delete_at, begin_at, returned_at, item_at, order_at, named_goal_at, goal_at, open_cursor_at, create_at, create_index_at, set_at, update_at, fetch_at, show_at, close_cursor_at, step_at, cursor_at, body_at, parse_of}
+use Rattle.rv_parse.specs.Reading.{Read, word_at, name_at, literal_at, dot_at, op_at, column_at, operand_at, separator_at, list_at, list_of, between_at, among_at, is_null_at, starts_at, compare_at, atom_rest, atom_at, closed_at, group_at, open_at, comma_at, groups_at, bare_end, cond_at, where_at, star_at, kind_at, column_def_at, create_table_at, insert_at, delete_at, begin_at, returned_at, item_at, order_at, named_goal_at, goal_at, open_cursor_at, create_at, create_index_at, index_at, set_at, update_at, fetch_at, show_at, close_cursor_at, step_at, cursor_at, body_at, parse_of}
 use Rattle.rv_parse.proofs.Takes.{mark}
 
 -- what a column may stand before
@@ -292,17 +292,18 @@ create_table_again name columns rest named are = rw (named, list_of_again column
 name_longer : (n : List ℕ) (rest : List Token) → length rest < length (name n rest)
 name_longer n rest = omega arith
 
-create_index_again : (index table : List ℕ) (columns : List (List ℕ)) (rest : List Token) → IsName index → IsName table → AreSome IsName columns → create_index_at (Word index ∷ ON ∷ Word table ∷ LPAREN ∷ listed COMMA name columns (RPAREN ∷ rest)) ≡ Some (CreateIndex index table columns, rest)
+create_index_again : (unique : Bool) (index table : List ℕ) (columns : List (List ℕ)) (rest : List Token) → IsName index → IsName table → AreSome IsName columns → create_index_at unique (INDEX ∷ Word index ∷ ON ∷ Word table ∷ LPAREN ∷ listed COMMA name columns (RPAREN ∷ rest)) ≡ Some (CreateIndex unique index table columns, rest)
 unfolding create_index_at
-create_index_again index table columns rest named on are = rw (named, on, list_of_again name_at name IsName (λ rest. Unit {0}) separators.Comma (λ x rest is e. name_again x rest is) (λ rest. tt) (λ rest. refl) name_longer columns (RPAREN ∷ rest) are tt refl) refl
+create_index_again unique index table columns rest named on are = rw (named, on, list_of_again name_at name IsName (λ rest. Unit {0}) separators.Comma (λ x rest is e. name_again x rest is) (λ rest. tt) (λ rest. refl) name_longer columns (RPAREN ∷ rest) are tt refl) refl
 
 create_table_first : (tokens : List Token) → create_at (TABLE ∷ tokens) ≡ create_table_at tokens
 unfolding create_at
 create_table_first tokens = refl
 
-create_index_first : (tokens : List Token) → create_at (INDEX ∷ tokens) ≡ create_index_at tokens
-unfolding create_at
-create_index_first tokens = refl
+create_index_first : (unique : Bool) (tokens : List Token) → create_at (unique_word unique (INDEX ∷ tokens)) ≡ create_index_at unique (INDEX ∷ tokens)
+unfolding create_at index_at
+create_index_first false tokens = refl
+create_index_first true tokens = refl
 
 set_again : (s : List ℕ × Value) (rest : List Token) → IsSet s → set_at (set s rest) ≡ Some (s, rest)
 unfolding set_at
@@ -438,7 +439,7 @@ open_cursor_again cursor columns items only by goal after rest named are_columns
 pub body_again : (s : Statement) (tokens rest : List Token) → IsBody s tokens rest → IsEnd rest → body_at tokens ≡ Some (s, rest)
 unfolding body_at cursor_at
 body_again (CreateTable table columns) tokens rest h end = rw (h.2, create_table_first (Word table ∷ LPAREN ∷ listed COMMA column_def columns (RPAREN ∷ rest)), create_table_again table columns rest h.0 h.1) refl
-body_again (CreateIndex index table columns) tokens rest h end = rw (h.3, create_index_first (Word index ∷ ON ∷ Word table ∷ LPAREN ∷ listed COMMA name columns (RPAREN ∷ rest)), create_index_again index table columns rest h.0 h.1 h.2) refl
+body_again (CreateIndex unique index table columns) tokens rest h end = rw (h.3, create_index_first unique (Word index ∷ ON ∷ Word table ∷ LPAREN ∷ listed COMMA name columns (RPAREN ∷ rest)), create_index_again unique index table columns rest h.0 h.1 h.2) refl
 body_again (Begin false) tokens rest h end = rw (h, begin_plain rest (end.no_word (codes "READ"))) refl
 body_again (Begin true) tokens rest h end = rw (h, begin_read_only rest) refl
 body_again (Insert table values) tokens rest h end = rw (h.2, insert_again table values rest h.0 h.1) refl

@@ -15,7 +15,7 @@ some_long Is (x ∷ xs) h = omega arith
 
 body_parts : (s : Statement) (tokens rest : List Token) → IsBody s tokens rest → HasParts s
 body_parts (CreateTable table columns) tokens rest h = some_long _ columns h.1
-body_parts (CreateIndex index table columns) tokens rest h = some_long _ columns h.2
+body_parts (CreateIndex unique index table columns) tokens rest h = some_long _ columns h.2
 body_parts (Begin read_only) tokens rest h = tt
 body_parts (Insert table values) tokens rest h = some_long _ values h.1
 body_parts (Update table sets only) tokens rest h = some_long _ sets h.2

@@ -9,11 +9,11 @@ use Rattle.rv_lang.specs.declared.token.Symbol.TheVariants as symbols
 use Rattle.rv_lang.specs.declared.statement.RawCol.{RawCol}
 use Rattle.rv_lang.specs.declared.statement.RawAtom.{RawAtom}
 use Rattle.rv_lang.specs.declared.statement.Statement.{Statement}
-use Rattle.rv_lang.specs.Words.{is_keyword, IsName, AND, BEGIN, BETWEEN, BY, CLOSE, CREATE, DELETE, FETCH, IN, INDEX, INSERT, IS, OPEN, OR, ORDER, SHOW, STARTING, STEP, TABLE, UPDATE, WHERE}
-use Rattle.rv_lang.specs.Grammar.{literal, column, compare, operand, atom, closed, others, listed, AnyLiteral, AreAll, AreSome, IsColumn, IsOperand, IsAtom, DOT, COMMA, LPAREN, IsGroup, AreGroups, IsCond, IsWhere, kind, column_def, IsColumnDef, returned, AreReturned, item, IsItem, order, IsGoal, IsBody, Derives, name, set, IsSet, EQUAL}
+use Rattle.rv_lang.specs.Words.{is_keyword, IsName, AND, BEGIN, BETWEEN, BY, CLOSE, CREATE, DELETE, FETCH, IN, INDEX, INSERT, IS, ON, OPEN, OR, ORDER, SHOW, STARTING, STEP, TABLE, UNIQUE, UPDATE, WHERE}
+use Rattle.rv_lang.specs.Grammar.{literal, column, compare, operand, atom, closed, others, listed, AnyLiteral, AreAll, AreSome, IsColumn, IsOperand, IsAtom, DOT, COMMA, LPAREN, RPAREN, IsGroup, AreGroups, IsCond, IsWhere, kind, column_def, IsColumnDef, returned, AreReturned, item, IsItem, order, IsGoal, IsBody, Derives, name, set, IsSet, EQUAL, unique_word}
 use Rattle.rv_parse.specs.declared.list.Separator.{Separator}
 use Rattle.rv_parse.specs.declared.list.Separator.TheVariants as separators
-use Rattle.rv_parse.specs.Reading.{◌>>=◌, ◌<|>◌, choose, Read, word_at, name_at, text_at, literal_at, dot_at, open_at, close_at, comma_at, op_at, column_rest, column_at, operand_at, separator_at, list_end, list_at, list_of, between_at, among_at, is_null_at, starts_at, compare_at, atom_rest, atom_at, closed_at, group_at, groups_at, bare_end, cond_at, where_at, integer_at, star_at, kind_at, column_def_at, create_table_at, insert_at, delete_at, begin_at, returned_at, item_at, order_at, named_goal_at, goal_at, open_cursor_at, create_at, create_index_at, set_at, update_at, equal_at, fetch_at, show_at, close_cursor_at, step_at, cursor_at, body_at, ended, parse_of}
+use Rattle.rv_parse.specs.Reading.{◌>>=◌, ◌<|>◌, choose, Read, word_at, name_at, text_at, literal_at, dot_at, open_at, close_at, comma_at, op_at, column_rest, column_at, operand_at, separator_at, list_end, list_at, list_of, between_at, among_at, is_null_at, starts_at, compare_at, atom_rest, atom_at, closed_at, group_at, groups_at, bare_end, cond_at, where_at, integer_at, star_at, kind_at, column_def_at, create_table_at, insert_at, delete_at, begin_at, returned_at, item_at, order_at, named_goal_at, goal_at, open_cursor_at, create_at, create_index_at, index_at, set_at, update_at, equal_at, fetch_at, show_at, close_cursor_at, step_at, cursor_at, body_at, ended, parse_of}
 
 -- what is found, if anything is, is so
 pub record Finds {A : Type 0} (found : Option A) (P : A → Type 0) : Type 0 where
@@ -274,15 +274,26 @@ unfolding create_table_at
 create_table_takes tokens =
     then (name_takes tokens) (λ n u. then (open_takes n.1) (λ a v. then (list_of_takes column_def_at column_def IsColumnDef separators.Comma column_def_takes a) (λ l w. then (close_takes l.1) (λ b x. done (u.0, w.0, let e = u.1 in let f = w.1 in cc)))))
 
-create_index_takes : (tokens : List Token) → Finds (create_index_at tokens) (λ x. IsBody x.0 (CREATE ∷ INDEX ∷ tokens) x.1)
+create_index_takes : (unique : Bool) (tokens : List Token) → Finds (create_index_at unique tokens) (λ x. IsBody x.0 (CREATE ∷ unique_word unique tokens) x.1)
 unfolding create_index_at
-create_index_takes tokens =
-    then (name_takes tokens) (λ i u. then (word_takes (codes "ON") i.1) (λ a v. then (name_takes a) (λ t w. then (open_takes t.1) (λ b x. then (list_of_takes name_at name IsName separators.Comma name_takes b) (λ l y. then (close_takes l.1) (λ d z.
-    done (u.0, w.0, y.0, let e = u.1 in let f = w.1 in let g = y.1 in cc)))))))
+create_index_takes unique tokens =
+    then (word_takes (codes "INDEX") tokens) (λ n s. then (name_takes n) (λ i u. then (word_takes (codes "ON") i.1) (λ a v. then (name_takes a) (λ t w. then (open_takes t.1) (λ b x. then (list_of_takes name_at name IsName separators.Comma name_takes b) (λ l y. then (close_takes l.1) (λ d z.
+    done (
+      u.0,
+      w.0,
+      y.0,
+      let e = u.1 in let f = w.1 in let g = y.1 in
+          let behind : tokens ≡ INDEX ∷ Word i.0 ∷ ON ∷ Word t.0 ∷ LPAREN ∷ listed COMMA name l.0 (RPAREN ∷ d) = cc in
+          ap (λ ts. CREATE ∷ unique_word unique ts) behind,
+    ))))))))
+
+index_takes : (tokens : List Token) → Finds (index_at tokens) (λ x. IsBody x.0 (CREATE ∷ tokens) x.1)
+unfolding index_at
+index_takes tokens = either (word_takes (codes "UNIQUE") tokens) (λ a t. rw t (create_index_takes true a)) (create_index_takes false tokens)
 
 create_takes : (tokens : List Token) → Finds (create_at tokens) (λ x. IsBody x.0 (CREATE ∷ tokens) x.1)
 unfolding create_at
-create_takes tokens = either (word_takes (codes "TABLE") tokens) (λ a t. rw t (create_table_takes a)) (then (word_takes (codes "INDEX") tokens) (λ a t. rw t (create_index_takes a)))
+create_takes tokens = either (word_takes (codes "TABLE") tokens) (λ a t. rw t (create_table_takes a)) (index_takes tokens)
 
 insert_takes : (tokens : List Token) → Finds (insert_at tokens) (λ x. IsBody x.0 (INSERT ∷ tokens) x.1)
 unfolding insert_at

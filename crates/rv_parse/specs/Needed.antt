@@ -6,7 +6,7 @@ use Rattle.rv_lang.specs.declared.statement.Statement.TheVariants.{CreateTable, 
 -- columns of CREATE, values of INSERT, what UPDATE sets, items of FROM
 abbrev pub HasParts : Statement → Type 0
 HasParts (CreateTable table columns) = 1 ≤ length columns
-HasParts (CreateIndex index table columns) = 1 ≤ length columns
+HasParts (CreateIndex unique index table columns) = 1 ≤ length columns
 HasParts (Insert table values) = 1 ≤ length values
 HasParts (Update table sets only) = 1 ≤ length sets
 HasParts (Open cursor columns items only by goal) = 1 ≤ length items

@@ -243,18 +243,22 @@ create_table_at tokens = do
   rest ← close_at columns.1
   Some (statements.CreateTable name.0 columns.0, rest)
 
-unfoldable pub create_index_at : List Token → Read Statement
-create_index_at tokens = do
-  index ← name_at tokens
+unfoldable pub create_index_at : Bool → List Token → Read Statement
+create_index_at unique tokens = do
+  rest ← word_at (codes "INDEX") tokens
+  index ← name_at rest
   rest ← word_at (codes "ON") index.1
   table ← name_at rest
   rest ← open_at table.1
   columns ← list_of name_at separators.Comma rest
   rest ← close_at columns.1
-  Some (statements.CreateIndex index.0 table.0 columns.0, rest)
+  Some (statements.CreateIndex unique index.0 table.0 columns.0, rest)
+
+unfoldable pub index_at : List Token → Read Statement
+index_at tokens = choose (word_at (codes "UNIQUE") tokens) (create_index_at true) (create_index_at false tokens)
 
 unfoldable pub create_at : List Token → Read Statement
-create_at tokens = choose (word_at (codes "TABLE") tokens) create_table_at (word_at (codes "INDEX") tokens >>= create_index_at)
+create_at tokens = choose (word_at (codes "TABLE") tokens) create_table_at (index_at tokens)
 
 unfoldable pub insert_at : List Token → Read Statement
 insert_at tokens = do

@@ -23,8 +23,8 @@ const OF_FIVE: [&str; 9] = [
     "BEGIN", "CLOSE", "FETCH", "FIRST", "INDEX", "ORDER", "TABLE", "TOTAL", "WHERE",
 ];
 
-const OF_SIX: [&str; 8] = [
-    "BIGINT", "COMMIT", "CREATE", "DELETE", "INSERT", "SELECT", "UPDATE", "VALUES",
+const OF_SIX: [&str; 9] = [
+    "BIGINT", "COMMIT", "CREATE", "DELETE", "INSERT", "SELECT", "UNIQUE", "UPDATE", "VALUES",
 ];
 
 const OF_SEVEN: [&str; 2] = ["BETWEEN", "VARCHAR"];

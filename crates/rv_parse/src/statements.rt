@@ -1,6 +1,6 @@
 //! The forms of a statement.
 ghost use Rattle.std.specs.Prelude.{◌≡◌};
-ghost use Rattle.rv_parse.specs.Reading.{Gives, name_at, kind_at, column_def_at, create_table_at, create_index_at, create_at, insert_at, set_at, update_at, delete_at, begin_at, fetch_at, show_at, close_cursor_at, step_at, cursor_at, body_at};
+ghost use Rattle.rv_parse.specs.Reading.{Gives, name_at, kind_at, column_def_at, create_table_at, create_index_at, index_at, create_at, insert_at, set_at, update_at, delete_at, begin_at, fetch_at, show_at, close_cursor_at, step_at, cursor_at, body_at};
 
 use crate::conditions::only;
 use crate::fault::ParseFault;
@@ -75,11 +75,13 @@ impl Part for Text {
 #[tactic(auto, unfolding(crate::specs::Reading::create_index_at))]
 fn create_index<'a>(
     alloc: Global,
+    unique: bool,
     tokens: &'a [Token],
 ) -> Result<(Statement, &'a [Token]), ParseFault>
-    ensures { Gives (λ x. (x.0, x.1.now)) result (create_index_at tokens.now) }
+    ensures { Gives (λ x. (x.0, x.1.now)) result (create_index_at unique tokens.now) }
 {
-    let (index, rest) = name(alloc, tokens)?;
+    let rest = need(word(tokens, "INDEX"))?;
+    let (index, rest) = name(alloc, rest)?;
     let rest = need(word(rest, "ON"))?;
     let (table, rest) = name(alloc, rest)?;
     let rest = need(open(rest))?;
@@ -87,6 +89,7 @@ fn create_index<'a>(
     let rest = need(close(rest))?;
     Ok((
         Statement::CreateIndex {
+            unique,
             name: index,
             table,
             columns,
@@ -95,16 +98,24 @@ fn create_index<'a>(
     ))
 }
 
+/// An index, with UNIQUE before it or without.
+#[tactic(auto, unfolding(crate::specs::Reading::index_at))]
+fn index<'a>(alloc: Global, tokens: &'a [Token]) -> Result<(Statement, &'a [Token]), ParseFault>
+    ensures { Gives (λ x. (x.0, x.1.now)) result (index_at tokens.now) }
+{
+    match word(tokens, "UNIQUE") {
+        Some(rest) => create_index(alloc, true, rest),
+        None => create_index(alloc, false, tokens),
+    }
+}
+
 #[tactic(auto, unfolding(crate::specs::Reading::create_at))]
 fn create<'a>(alloc: Global, tokens: &'a [Token]) -> Result<(Statement, &'a [Token]), ParseFault>
     ensures { Gives (λ x. (x.0, x.1.now)) result (create_at tokens.now) }
 {
     match word(tokens, "TABLE") {
         Some(rest) => create_table(alloc, rest),
-        None => {
-            let rest = need(word(tokens, "INDEX"))?;
-            create_index(alloc, rest)
-        }
+        None => index(alloc, tokens),
     }
 }
 

@@ -18,7 +18,7 @@ use Rattle.rv_catalog.specs.Answers.{◌>>=◌, ok_or, refuse_if}
 use Rattle.rv_model.specs.declared.state.Cursor.{Cursor}
 use Rattle.rv_model.specs.declared.state.State.{State}
 use Rattle.rv_model.specs.declared.transactions.Transactions.{Transactions}
-use Rattle.rv_model.specs.Step.{Outcome, began, changed, committed, committed_with, created, ended, indexed, inserted, other_cursors, reply_of, rolled_back, rows_seen, state_of}
+use Rattle.rv_model.specs.Step.{Outcome, began, changed, changes_met, committed, committed_with, created, ended, indexed, inserted, new_change, no_rivals_of, other_cursors, reply_of, rolled_back, row_alone, rows_alone, rows_differ, rows_seen, state_of}
 use Rattle.rv_model.specs.Transactions as transactions
 use Rattle.rv_model.specs.Transactions.{lowest, refuse_at, transaction_at, transaction_of}
 use Rattle.rv_core.specs.Db.{Stand}
@@ -54,19 +54,21 @@ created_by s c def None false = refl
 pub created_with : (s : State) (c : List Cursor) (def : TableDef) → created (with_cursors s c) def ≡ outcome_with c (created s def)
 created_with s c def = created_by s c def (lowest s.transactions.active) (nat_lt 63 (length s.schema.tables))
 
-abbrev pub indexes : State → IndexDef → Option ℕ → Bool → Outcome
-indexes s def busy full = do
+abbrev pub indexes : State → IndexDef → Option ℕ → Bool → Result (Unit {0}) Refusal → Outcome
+indexes s def busy full differ = do
   idle ← refuse_at busy Busy
   room ← refuse_if full (Limit Indexes 8)
+  different ← differ
   Ok (Created, record s { schema = record s.schema { indexes = s.schema.indexes ++ def ∷ [] } })
 
-indexed_by : (s : State) (c : List Cursor) (def : IndexDef) (busy : Option ℕ) (full : Bool) → indexes (with_cursors s c) def busy full ≡ outcome_with c (indexes s def busy full)
-indexed_by s c def (Some n) full = refl
-indexed_by s c def None true = refl
-indexed_by s c def None false = refl
+indexed_by : (s : State) (c : List Cursor) (def : IndexDef) (busy : Option ℕ) (full : Bool) (differ : Result (Unit {0}) Refusal) → indexes (with_cursors s c) def busy full differ ≡ outcome_with c (indexes s def busy full differ)
+indexed_by s c def (Some n) full differ = refl
+indexed_by s c def None true differ = refl
+indexed_by s c def None false (Ok u) = refl
+indexed_by s c def None false (Err e) = refl
 
 indexed_with : (s : State) (c : List Cursor) (def : IndexDef) → indexed (with_cursors s c) def ≡ outcome_with c (indexed s def)
-indexed_with s c def = indexed_by s c def (lowest s.transactions.active) (nat_lt 7 (indexes_over def.table s.schema.indexes))
+indexed_with s c def = indexed_by s c def (lowest s.transactions.active) (nat_lt 7 (indexes_over def.table s.schema.indexes)) (rows_differ s def)
 
 -- CREATE INDEX after a sweep
 pub indexed_done : (old mid new : Stand) (replies : Reply × Reply) (c : List Cursor) (def : IndexDef) → mid.db ≡ old.db → Does (indexed mid.db def) mid replies new → Done (indexed (with_cursors old.db c) def) (with_cursors old.db c) replies.0 (with_cursors new.db c)
@@ -84,26 +86,42 @@ began_by s c (Err e) = refl
 pub began_with : (s : State) (c : List Cursor) (session : ℕ) (read_only : Bool) → began (with_cursors s c) session read_only ≡ outcome_with c (began s session read_only)
 began_with s c session read_only = began_by s c (transactions.began s.transactions session read_only s.last)
 
-abbrev pub inserts : State → Result (RowNo × Transactions) Refusal → Outcome
-inserts s r = do
+-- a last test, and what follows it
+tested_with : (s : State) (c : List Cursor) (alone : Result (Unit {0}) Refusal) (reply : Reply) (new : Transactions)
+    → (alone >>= (λ u. Ok (reply, record (with_cursors s c) { transactions = new }))) ≡ outcome_with c (alone >>= (λ u. Ok (reply, record s { transactions = new })))
+tested_with s c (Ok u) reply new = refl
+tested_with s c (Err e) reply new = refl
+
+-- cursors are no rivals
+rivals_with : (s : State) (c : List Cursor) (session table : ℕ) (new : ℕ → List Change) (own : Option ℕ) → no_rivals_of (with_cursors s c) session own table new ≡ no_rivals_of s session own table new
+rivals_with s c session table new None = refl
+rivals_with s c session table new (Some own) = refl
+
+abbrev pub inserts : State → Result (RowNo × Transactions) Refusal → (RowNo → Result (Unit {0}) Refusal) → Outcome
+inserts s r alone = do
   more ← r
+  lone ← alone more.0
   Ok (Inserted more.0, record s { transactions = more.1 })
 
-inserted_by : (s : State) (c : List Cursor) (r : Result (RowNo × Transactions) Refusal) → inserts (with_cursors s c) r ≡ outcome_with c (inserts s r)
-inserted_by s c (Ok more) = refl
-inserted_by s c (Err e) = refl
+inserted_by : (s : State) (c : List Cursor) (r : Result (RowNo × Transactions) Refusal) (alone : RowNo → Result (Unit {0}) Refusal) → inserts (with_cursors s c) r alone ≡ outcome_with c (inserts s r alone)
+inserted_by s c (Ok more) alone = tested_with s c (alone more.0) (Inserted more.0) more.1
+inserted_by s c (Err e) alone = refl
 
 pub inserted_with : (s : State) (c : List Cursor) (session table : ℕ) (values : List Value) → inserted (with_cursors s c) session table values ≡ outcome_with c (inserted s session table values)
-inserted_with s c session table values = inserted_by s c (transactions.inserted s.transactions session table values)
+inserted_with s c session table values =
+    (λ i. inserts (with_cursors s c) (transactions.inserted s.transactions session table values)
+    (λ (row : RowNo). rivals_with s c session table (λ own. new_change table row values ∷ []) (transaction_of s.transactions.active session) i))
+    ∙ inserted_by s c (transactions.inserted s.transactions session table values) (row_alone s session table values)
 
-abbrev pub changes : State → Result (ℕ × Transactions) Refusal → Outcome
-changes s r = do
+abbrev pub changes : State → Result (ℕ × Transactions) Refusal → Result (Unit {0}) Refusal → Outcome
+changes s r alone = do
   done ← r
+  lone ← alone
   Ok (Touched done.0, record s { transactions = done.1 })
 
-changed_by : (s : State) (c : List Cursor) (r : Result (ℕ × Transactions) Refusal) → changes (with_cursors s c) r ≡ outcome_with c (changes s r)
-changed_by s c (Ok done) = refl
-changed_by s c (Err e) = refl
+changed_by : (s : State) (c : List Cursor) (r : Result (ℕ × Transactions) Refusal) (alone : Result (Unit {0}) Refusal) → changes (with_cursors s c) r alone ≡ outcome_with c (changes s r alone)
+changed_by s c (Ok done) alone = tested_with s c alone (Touched done.0) done.1
+changed_by s c (Err e) alone = refl
 
 seen_with : (s : State) (c : List Cursor) (own : Option ℕ) (table : ℕ) → rows_seen (with_cursors s c) own table ≡ rows_seen s own table
 seen_with s c None table = refl
@@ -111,8 +129,9 @@ seen_with s c (Some own) table = refl
 
 pub changed_with : (s : State) (c : List Cursor) (session table : ℕ) (sets : Option (List (ℕ × Value))) (only : List (List Atom)) → changed (with_cursors s c) session table sets only ≡ outcome_with c (changed s session table sets only)
 changed_with s c session table sets only =
-    ap (λ (rows : List Record). changes (with_cursors s c) (transactions.changed s.transactions session table only sets (λ base. rows))) (seen_with s c (transaction_of s.transactions.active session) table)
-    ∙ changed_by s c (transactions.changed s.transactions session table only sets (λ base. rows_seen s (transaction_of s.transactions.active session) table))
+    (λ i. changes (with_cursors s c) (transactions.changed s.transactions session table only sets (λ base. seen_with s c (transaction_of s.transactions.active session) table i))
+    (rivals_with s c session table (changes_met s table sets only) (transaction_of s.transactions.active session) i))
+    ∙ changed_by s c (transactions.changed s.transactions session table only sets (λ base. rows_seen s (transaction_of s.transactions.active session) table)) (rows_alone s session table sets only)
 
 -- ---- COMMIT and ROLLBACK, which close the session's cursors
 

@@ -8,7 +8,7 @@ use Rattle.rv_lang.specs.declared.reply.Refusal.{Refusal}
 use Rattle.rv_lang.specs.declared.reply.Refusal.TheVariants.{Limit, NoCursor}
 use Rattle.rv_lang.specs.declared.reply.Which.TheVariants.{Name, Text as TextBytes, Columns, Key, List as Listed, Atoms, Groups, Joined, Returned, Order, Steps}
 use Rattle.rv_lang.specs.declared.reply.Reply.{Reply}
-use Rattle.rv_lang.specs.declared.reply.Reply.TheVariants.{Closed, Opened}
+use Rattle.rv_lang.specs.declared.reply.Reply.TheVariants.{Closed, Inserted, Opened, Touched}
 use Rattle.rv_value.specs.declared.record.RowNo.{RowNo}
 use Rattle.rv_parse.specs.Reading.{statement_of}
 use Rattle.rv_catalog.specs.declared.def.IndexDef.{IndexDef}
@@ -31,7 +31,7 @@ use Rattle.rv_model.specs.declared.entry.Entry.{Entry}
 use Rattle.rv_model.specs.declared.state.State.{State}
 use Rattle.rv_model.specs.Database.{cursor_named, empty}
 use Rattle.rv_model.specs.History.{after, after_from, stepped}
-use Rattle.rv_model.specs.Step.{committed_with, fetched, next_asked, opening, rows_seen, state_of, table_of, view_rows, understood}
+use Rattle.rv_model.specs.Step.{committed_with, fetched, next_asked, opening, row_alone, rows_alone, rows_differ, rows_seen, state_of, table_of, view_rows, understood}
 use Rattle.rv_model.specs.Transactions as transactions
 use Rattle.rv_model.specs.Transactions.{lowest, transaction_at, transaction_of}
 use Rattle.rv_decide.specs.Naming.{AreNamedApart, is_named}
@@ -143,22 +143,27 @@ created_apart s def (Some n) full apart = apart
 created_apart s def None true apart = apart
 created_apart s def None false apart = apart
 
-indexed_apart : (s : State) (def : IndexDef) (busy : Option ℕ) (full : Bool) → index_named s.schema.indexes def.name ≡ None → Apart s → Apart (state_of (indexes s def busy full) s)
-indexed_apart s def (Some n) full fresh apart = apart
-indexed_apart s def None true fresh apart = apart
-indexed_apart s def None false fresh apart = pushed s.schema.indexes def apart (none_any (λ (i : IndexDef). bytes_eq def.name i.name) s.schema.indexes fresh)
+indexed_apart : (s : State) (def : IndexDef) (busy : Option ℕ) (full : Bool) (differ : Result (Unit {0}) Refusal) → index_named s.schema.indexes def.name ≡ None → Apart s → Apart (state_of (indexes s def busy full differ) s)
+indexed_apart s def (Some n) full differ fresh apart = apart
+indexed_apart s def None true differ fresh apart = apart
+indexed_apart s def None false (Err e) fresh apart = apart
+indexed_apart s def None false (Ok u) fresh apart = pushed s.schema.indexes def apart (none_any (λ (i : IndexDef). bytes_eq def.name i.name) s.schema.indexes fresh)
 
 began_apart : (s : State) (r : Result (ℕ × Transactions) Refusal) → Apart s → Apart (state_of (begins s r) s)
 began_apart s (Ok begun) apart = apart
 began_apart s (Err e) apart = apart
 
-inserted_apart : (s : State) (r : Result (RowNo × Transactions) Refusal) → Apart s → Apart (state_of (inserts s r) s)
-inserted_apart s (Ok more) apart = apart
-inserted_apart s (Err e) apart = apart
+tested_apart : (s : State) (alone : Result (Unit {0}) Refusal) (reply : Reply) (new : Transactions) → Apart s → Apart (state_of (alone >>= (λ u. Ok (reply, record s { transactions = new }))) s)
+tested_apart s (Ok u) reply new apart = apart
+tested_apart s (Err e) reply new apart = apart
 
-changed_apart : (s : State) (r : Result (ℕ × Transactions) Refusal) → Apart s → Apart (state_of (changes s r) s)
-changed_apart s (Ok done) apart = apart
-changed_apart s (Err e) apart = apart
+inserted_apart : (s : State) (r : Result (RowNo × Transactions) Refusal) (alone : RowNo → Result (Unit {0}) Refusal) → Apart s → Apart (state_of (inserts s r alone) s)
+inserted_apart s (Ok more) alone apart = tested_apart s (alone more.0) (Inserted more.0) more.1 apart
+inserted_apart s (Err e) alone apart = apart
+
+changed_apart : (s : State) (r : Result (ℕ × Transactions) Refusal) (alone : Result (Unit {0}) Refusal) → Apart s → Apart (state_of (changes s r alone) s)
+changed_apart s (Ok done) alone apart = tested_apart s alone (Touched done.0) done.1 apart
+changed_apart s (Err e) alone apart = apart
 
 with_apart : (made : List Change) (s : State) (session own : ℕ) → Apart s → Apart (committed_with made s session own).1
 with_apart [] s session own apart = apart
@@ -185,11 +190,11 @@ asked_apart : (asked : Result Resolved Refusal) (s : State) (session : ℕ) (rep
 asked_apart (Err refusal) s session reply fits apart = apart
 asked_apart (Ok (asks.Fetch name)) s session reply fits apart = fetched_apart (cursor_named s.cursors session name) s reply apart
 asked_apart (Ok (asks.CreateTable def)) s session reply fits apart = created_apart s def (lowest s.transactions.active) (nat_lt 63 (length s.schema.tables)) apart
-asked_apart (Ok (asks.CreateIndex def)) s session reply fits apart = indexed_apart s def (lowest s.transactions.active) (nat_lt 7 (indexes_over def.table s.schema.indexes)) (fits (asks.CreateIndex def) refl).fresh apart
+asked_apart (Ok (asks.CreateIndex def)) s session reply fits apart = indexed_apart s def (lowest s.transactions.active) (nat_lt 7 (indexes_over def.table s.schema.indexes)) (rows_differ s def) (fits (asks.CreateIndex def) refl).fresh apart
 asked_apart (Ok (asks.Begin read_only)) s session reply fits apart = began_apart s (transactions.began s.transactions session read_only s.last) apart
-asked_apart (Ok (asks.Insert table values)) s session reply fits apart = inserted_apart s (transactions.inserted s.transactions session table values) apart
-asked_apart (Ok (asks.Update table sets only)) s session reply fits apart = changed_apart s (transactions.changed s.transactions session table only (Some sets) (λ base. rows_seen s (transaction_of s.transactions.active session) table)) apart
-asked_apart (Ok (asks.Delete table only)) s session reply fits apart = changed_apart s (transactions.changed s.transactions session table only None (λ base. rows_seen s (transaction_of s.transactions.active session) table)) apart
+asked_apart (Ok (asks.Insert table values)) s session reply fits apart = inserted_apart s (transactions.inserted s.transactions session table values) (row_alone s session table values) apart
+asked_apart (Ok (asks.Update table sets only)) s session reply fits apart = changed_apart s (transactions.changed s.transactions session table only (Some sets) (λ base. rows_seen s (transaction_of s.transactions.active session) table)) (rows_alone s session table (Some sets) only) apart
+asked_apart (Ok (asks.Delete table only)) s session reply fits apart = changed_apart s (transactions.changed s.transactions session table only None (λ base. rows_seen s (transaction_of s.transactions.active session) table)) (rows_alone s session table None only) apart
 asked_apart (Ok asks.Commit) s session reply fits apart = committed_apart s session (transaction_of s.transactions.active session) apart
 asked_apart (Ok asks.Rollback) s session reply fits apart = rolled_apart s session (transaction_of s.transactions.active session) apart
 asked_apart (Ok (asks.Open cursor select)) s session reply fits apart = cursors_apart s (opening s.transactions.active s.cursors session cursor) Opened (λ own. s.cursors ++ record { session = session; name = cursor; table = table_of select; offers = offers_in_order (offers_over select (view_rows s own)) } ∷ []) apart

@@ -2,7 +2,7 @@
 ghost use Rattle.std.specs.Prelude.{◌≡◌, ◌↔◌, IsTrue};
 
 use rv_judge::{Control, Strategy};
-use rv_lang::{Refusal, Reply, Shown, ShownEvent, Which};
+use rv_lang::{Refusal, Reply, Rival, Shown, ShownEvent, Which};
 use rv_value::{RowNo, Text, Value};
 
 /// Whether two replies are the same; here NULL is NULL.
@@ -55,8 +55,17 @@ pub fn same_refusal(a: &Refusal, b: &Refusal) -> bool
                 number: n,
             },
         ) => { same_which(*which, *w) && *number == *n }
+        (Refusal::Duplicate { row, by }, Refusal::Duplicate { row: r, by: b }) => {
+            same_row(*row, *r) && same_rival(*by, *b)
+        }
         _ => false,
     }
+}
+
+fn same_rival(a: Rival, b: Rival) -> bool
+    ensures { IsTrue result ↔ (a ≡ b) }
+{
+    a == b
 }
 
 fn same_trace(a: &Shown, b: &Shown) -> bool

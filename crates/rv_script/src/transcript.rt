@@ -1,12 +1,12 @@
 ghost use Rattle.std.specs.Prelude.{◌≡◌, ◌++◌, ◌∷◌, [], codes, decimal, Ok};
 ghost use Rattle.rv_io.specs.Pieces.{Goes};
-ghost use Rattle.rv_model.specs.Transcript.{text, entry_text, reply_text, refusal_text, limit_word};
+ghost use Rattle.rv_model.specs.Transcript.{text, entry_text, reply_text, refusal_text, rival_text, limit_word};
 
 use crate::traces::write_trace;
 use crate::values::write_row;
 use itoa::Buffer;
 use rv_io::{Failed, Sink, write_next};
-use rv_model::{Entry, Refusal, Reply, Which};
+use rv_model::{Entry, Refusal, Reply, Rival, Which};
 
 /// Appends the transcript of entries: two lines for each, the session's number, a space and the text as
 /// given, then `= ` and the text of the reply. Each line takes at least one write. After a write that
@@ -113,6 +113,7 @@ fn write_refusal<K: Sink>(
             write_two(sink, sofar, b"cursor open ", name.as_str().as_bytes())
         }
         Refusal::Limit { which, number } => write_limit(sink, sofar, *which, *number),
+        Refusal::Duplicate { row, by } => write_duplicate(sink, sofar, row.0, *by),
     }
 }
 
@@ -140,6 +141,30 @@ fn write_limit<K: Sink>(
 {
     let front = write_two(sink, sofar, b"limit ", limit_word(which));
     write_number(sink, front, b" ", number)
+}
+
+/// A row, and where it was found.
+fn write_duplicate<K: Sink>(
+    sink: &mut K,
+    sofar: Result<(), Failed>,
+    row: u64,
+    by: Rival,
+) -> Result<(), Failed>
+    ensures { Goes sofar (K.written sink.old) (K.written sink.new) (K.faults sink.old) (K.faults sink.new) result (codes "duplicate " ++ decimal row ++ rival_text by) }
+{
+    let front = write_number(sink, sofar, b"duplicate ", row);
+    write_rival(sink, front, by)
+}
+
+/// Nothing for a rival in the transaction's own view, else its commit or its transaction.
+fn write_rival<K: Sink>(sink: &mut K, sofar: Result<(), Failed>, by: Rival) -> Result<(), Failed>
+    ensures { Goes sofar (K.written sink.old) (K.written sink.new) (K.faults sink.old) (K.faults sink.new) result (rival_text by) }
+{
+    match by {
+        Rival::View => sofar,
+        Rival::Commit(commit) => write_number(sink, sofar, b" by commit ", commit),
+        Rival::Txn(txn) => write_number(sink, sofar, b" by txn ", txn),
+    }
 }
 
 fn limit_word(which: Which) -> &'static [u8]

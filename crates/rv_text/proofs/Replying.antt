@@ -1,5 +1,5 @@
 -- Replies are read as they are written, both ways.
-use Rattle.std.proofs.Common.{◌≡◌, ℕ, ◌<◌, ◌^◌, List, [], ◌∷◌, ◌++◌, Option, Some, None, Bool, true, not, codes, inl, inr, refl, ap, sym, ◌∙◌, arith, bytes_eq, nat_le, eqb, append_assoc}
+use Rattle.std.proofs.Common.{◌≡◌, ℕ, ◌<◌, ◌^◌, List, [], ◌∷◌, ◌++◌, Option, Some, None, Bool, true, not, codes, inl, inr, refl, ap, sym, ◌∙◌, arith, bytes_eq, nat_le, eqb, append_assoc, append-nil}
 use Rattle.std.proofs.lemmas.Bool.{cases_Bool}
 use Rattle.std.proofs.lemmas.Bool.Decides.{nat_tests}
 use Rattle.std.proofs.lemmas.List.Folds.{list_all-append}
@@ -9,21 +9,23 @@ use Rattle.rv_value.specs.declared.value.Value.{Value}
 use Rattle.rv_value.specs.declared.value.Value.TheVariants.{Null, Int, Str}
 use Rattle.rv_lang.specs.declared.reply.Which.{Which}
 use Rattle.rv_lang.specs.declared.reply.Which.TheVariants as limits
+use Rattle.rv_lang.specs.declared.reply.Rival.{Rival}
+use Rattle.rv_lang.specs.declared.reply.Rival.TheVariants as rivals
 use Rattle.rv_lang.specs.declared.reply.Refusal.{Refusal}
 use Rattle.rv_lang.specs.declared.reply.Refusal.TheVariants as refusals
 use Rattle.rv_lang.specs.declared.reply.Shown.{Shown}
 use Rattle.rv_lang.specs.declared.reply.Reply.{Reply}
 use Rattle.rv_lang.specs.declared.reply.Reply.TheVariants as replies
 use Rattle.rv_lang.specs.Tokens.{quotes_twice}
-use Rattle.rv_model.specs.Transcript.{limit_word, more_text, refusal_text, reply_text, words_text, trace_words, value_text, values_text, IsLine, IsName, IsPlainRefusal, IsPlainReply, IsPlainValue}
+use Rattle.rv_model.specs.Transcript.{limit_word, more_text, refusal_text, reply_text, rival_text, words_text, trace_words, value_text, values_text, IsLine, IsName, IsPlainRefusal, IsPlainReply, IsPlainRival, IsPlainValue}
 use Rattle.rv_model.proofs.Values.{numeric, decimal_pass, signed_pass, passes_more}
 use Rattle.rv_text.specs.Lines.{cut}
 use Rattle.rv_text.specs.Reading.{CanHoldReply}
 use Rattle.rv_text.specs.Values.{number_at, values_at}
 use Rattle.rv_text.specs.Traces.{is_name, trace_at}
-use Rattle.rv_text.specs.Replies.{after, both_of, first_of, limits_all, limit_at, lone_at, made, named_at, name_at, name_behind, numbered_at, number_behind, paired_at, pair_at, read_behind, reply_at, row_at, shown_at, which_at, word_is, Pair}
+use Rattle.rv_text.specs.Replies.{after, both_of, duplicate_at, first_of, limits_all, limit_at, lone_at, made, named_at, name_at, name_behind, numbered_at, number_behind, paired_at, pair_at, read_behind, reply_at, rival_at, rival_of, row_at, shown_at, which_at, word_is, Pair}
 use Rattle.rv_text.proofs.Leaves.{both, is_a_name, joined, name_is, number_again, number_takes, same_bytes, some_is, tested}
-use Rattle.rv_text.proofs.Cutting.{behind, cut_whole, cut_word}
+use Rattle.rv_text.proofs.Cutting.{behind, cut_all, cut_whole, cut_word}
 use Rattle.rv_text.proofs.Rowing.{values_again, values_takes}
 use Rattle.rv_text.proofs.Tracing.{decimal_wordy, find_passes, name_wordy, trace_again, trace_takes, trace_wordy, unspaced, wordy, AreWordy}
 
@@ -100,6 +102,11 @@ spaced_printed : (ws : List (List ℕ)) → AreWordy ws → list_all printed (wo
 spaced_printed [] p = refl
 spaced_printed (w ∷ ws) p = all_printed w (words_text ws) (passes_more wordy printed wordy_printed w p.0) (spaced_printed ws p.1)
 
+rival_printed : (by : Rival) → IsPlainRival by → list_all printed (rival_text by) ≡ true
+rival_printed rivals.View p = refl
+rival_printed (rivals.Commit commit) p = decimal_printed commit p
+rival_printed (rivals.Txn txn) p = decimal_printed txn p
+
 refusal_printed : (r : Refusal) → IsPlainRefusal r → list_all printed (refusal_text r) ≡ true
 refusal_printed refusals.Syntax p = refl
 refusal_printed (refusals.Unknown name) p = name_printed name p
@@ -114,6 +121,7 @@ refusal_printed (refusals.Held row txn) p = pair_printed row.0 txn p.0 p.1
 refusal_printed (refusals.NoCursor name) p = name_printed name p
 refusal_printed (refusals.CursorOpen name) p = name_printed name p
 refusal_printed (refusals.Limit which number) p = limit_printed which number p
+refusal_printed (refusals.Duplicate row by) p = all_printed (decimal row.0) (rival_text by) (decimal_printed row.0 p.0) (rival_printed by p.1)
 
 reply_printed : (r : Reply) → IsPlainReply r → list_all printed (reply_text r) ≡ true
 reply_printed replies.Created p = refl
@@ -162,6 +170,15 @@ limit_again : (w : Which) (n : ℕ) → n < 2 ^ 64 → limit_at (limit_word w ++
 limit_again w n small =
     rw (cut_word 32 (limit_word w) (decimal n) (unspaced (limit_word w) (limit_wordy w))) (rw (which_again w, number_again n small) refl)
 
+duplicate_again : (n : ℕ) (by : Rival) → n < 2 ^ 64 → IsPlainRival by → duplicate_at (decimal n ++ rival_text by) ≡ Some (record { first = n; second = by })
+duplicate_again n rivals.View fn p =
+    ap duplicate_at (append-nil (decimal n))
+    ∙ rw (cut_all 32 (decimal n) (unspaced (decimal n) (decimal_wordy n fn))) (rw (number_again n fn) refl)
+duplicate_again n (rivals.Commit commit) fn p =
+    rw (cut_word 32 (decimal n) (codes "by commit " ++ decimal commit) (unspaced (decimal n) (decimal_wordy n fn))) (rw (number_again n fn, number_again commit p) refl)
+duplicate_again n (rivals.Txn txn) fn p =
+    rw (cut_word 32 (decimal n) (codes "by txn " ++ decimal txn) (unspaced (decimal n) (decimal_wordy n fn))) (rw (number_again n fn, number_again txn p) refl)
+
 pub reply_again : (r : Reply) → IsPlainReply r → CanHoldReply r → reply_at (reply_text r) ≡ Some r
 reply_again replies.Created p h = refl
 reply_again (replies.Began n) p h = rw (number_again n p) refl
@@ -188,6 +205,7 @@ reply_again (replies.Refused (refusals.Held row txn)) p h = rw (pair_again row.0
 reply_again (replies.Refused (refusals.NoCursor name)) p h = rw (is_a_name name p) refl
 reply_again (replies.Refused (refusals.CursorOpen name)) p h = rw (is_a_name name p) refl
 reply_again (replies.Refused (refusals.Limit which number)) p h = rw (limit_again which number p) refl
+reply_again (replies.Refused (refusals.Duplicate row by)) p h = rw (duplicate_again row.0 by p.0 p.1) refl
 
 -- What is read was written.
 
@@ -386,18 +404,66 @@ limit_takes text p e =
     let second = second_number (cut 32 text).more p.second parts.second_is in
     record { is = (λ i. first i ++ sym second.is i) ∙ cut_whole 32 text; second = second.small }
 
+-- a number behind a word
+record NumberIs (word rest : List ℕ) (n : ℕ) : Type 0 where
+  is : word ++ decimal n ≡ rest
+  small : n < 2 ^ 64
+
+number_is : (word rest : List ℕ) (n : ℕ) → number_behind word rest ≡ Some n → NumberIs word rest n
+number_is word rest n e = by (after word rest) refl e
+  where
+    by : (o : Option (List ℕ)) → after word rest ≡ o → read_behind o (λ digits. number_at digits) ≡ Some n → NumberIs word rest n
+    by None at e = cc
+    by (Some digits) at e =
+        let number = number_takes digits n e in
+        let behind_it = after_takes word rest digits at in
+        record { is = (λ i. word ++ number.0 i) ∙ sym behind_it; small = number.1 }
+
+record RivalIs (more : Option (List ℕ)) (by : Rival) : Type 0 where
+  is : rival_text by ≡ behind 32 more
+  plain : IsPlainRival by
+
+rival_takes : (more : Option (List ℕ)) (by : Rival) → rival_at more ≡ Some by → RivalIs more by
+rival_takes None by e = rw (sym (some_is rivals.View by e)) (record { is = refl; plain = tt })
+rival_takes (Some rest) by e = which (number_behind (codes "by commit ") rest) (number_behind (codes "by txn ") rest) refl refl e
+  where
+    which : (commit txn : Option ℕ) → number_behind (codes "by commit ") rest ≡ commit → number_behind (codes "by txn ") rest ≡ txn → rival_of commit txn ≡ Some by → RivalIs (Some rest) by
+    which (Some commit) txn c t e =
+        let found = number_is (codes "by commit ") rest commit c in
+        rw (sym (some_is (rivals.Commit commit) by e)) (record { is = λ i. 32 ∷ found.is i; plain = found.small })
+    which None (Some txn) c t e =
+        let found = number_is (codes "by txn ") rest txn t in
+        rw (sym (some_is (rivals.Txn txn) by e)) (record { is = λ i. 32 ∷ found.is i; plain = found.small })
+    which None None c t e = cc
+
+record DuplicateIs (text : List ℕ) (p : Pair ℕ Rival) : Type 0 where
+  is : decimal p.first ++ rival_text p.second ≡ text
+  first : p.first < 2 ^ 64
+  second : IsPlainRival p.second
+
+duplicate_takes : (text : List ℕ) (p : Pair ℕ Rival) → duplicate_at text ≡ Some p → DuplicateIs text p
+duplicate_takes text p e =
+    let parts = both_parts (number_at (cut 32 text).word) (rival_at (cut 32 text).more) p e in
+    let first = number_takes (cut 32 text).word p.first parts.first_is in
+    let second = rival_takes (cut 32 text).more p.second parts.second_is in
+    record { is = (λ i. first.0 i ++ second.is i) ∙ cut_whole 32 text; first = first.1; second = second.plain }
+
 paired_takes : (text : List ℕ) → Taken text (paired_at text)
 paired_takes text = first_takes text (
     made (λ (p : Pair ℕ ℕ). replies.Refused (refusals.Changed (record { 0 = p.first }) p.second)) (read_behind (after (codes "changed ") text) (λ rest. pair_at rest))
     ∷ made (λ (p : Pair ℕ ℕ). replies.Refused (refusals.Held (record { 0 = p.first }) p.second)) (read_behind (after (codes "held ") text) (λ rest. pair_at rest))
     ∷ made (λ (p : Pair Which ℕ). replies.Refused (refusals.Limit p.first p.second)) (read_behind (after (codes "limit ") text) (λ rest. limit_at rest))
+    ∷ made (λ (p : Pair ℕ Rival). replies.Refused (refusals.Duplicate (record { 0 = p.first }) p.second)) (read_behind (after (codes "duplicate ") text) (λ rest. duplicate_at rest))
     ∷ []) (
       behind_takes (codes "changed ") text (λ rest. pair_at rest) (λ (p : Pair ℕ ℕ). replies.Refused (refusals.Changed (record { 0 = p.first }) p.second)) (λ rest p e. (let found = pair_takes rest p e in record { plain = (found.first, found.second); held = tt; is = λ i. codes "changed " ++ found.is i })),
       (
         behind_takes (codes "held ") text (λ rest. pair_at rest) (λ (p : Pair ℕ ℕ). replies.Refused (refusals.Held (record { 0 = p.first }) p.second)) (λ rest p e. (let found = pair_takes rest p e in record { plain = (found.first, found.second); held = tt; is = λ i. codes "held " ++ found.is i })),
         (
           behind_takes (codes "limit ") text (λ rest. limit_at rest) (λ (p : Pair Which ℕ). replies.Refused (refusals.Limit p.first p.second)) (λ rest p e. (let found = limit_takes rest p e in record { plain = found.second; held = tt; is = λ i. codes "limit " ++ found.is i })),
-          tt,
+          (
+            behind_takes (codes "duplicate ") text (λ rest. duplicate_at rest) (λ (p : Pair ℕ Rival). replies.Refused (refusals.Duplicate (record { 0 = p.first }) p.second)) (λ rest p e. (let found = duplicate_takes rest p e in record { plain = (found.first, found.second); held = tt; is = λ i. codes "duplicate " ++ found.is i })),
+            tt,
+          ),
         ),
       ),
     )

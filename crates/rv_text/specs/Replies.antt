@@ -3,6 +3,8 @@ use Rattle.std.specs.Prelude.{ℕ, List, [], ◌∷◌, ◌==◌, Option, Some, 
 use Rattle.rv_value.specs.declared.value.Value.{Value}
 use Rattle.rv_lang.specs.declared.reply.Which.{Which}
 use Rattle.rv_lang.specs.declared.reply.Which.TheVariants as limits
+use Rattle.rv_lang.specs.declared.reply.Rival.{Rival}
+use Rattle.rv_lang.specs.declared.reply.Rival.TheVariants as rivals
 use Rattle.rv_lang.specs.declared.reply.Refusal.TheVariants as refusals
 use Rattle.rv_lang.specs.declared.reply.Shown.{Shown}
 use Rattle.rv_lang.specs.declared.reply.Reply.{Reply}
@@ -103,12 +105,28 @@ which_at word = find (λ w. bytes_eq (limit_word w) word) limits_all
 abbrev pub limit_at : List ℕ → Option (Pair Which ℕ)
 limit_at text = both_of (which_at (cut 32 text).word) (read_behind (cut 32 text).more (λ rest. number_at rest))
 
+-- the commit or else the transaction of a rival
+abbrev pub rival_of : Option ℕ → Option ℕ → Option Rival
+rival_of (Some commit) txn = Some (rivals.Commit commit)
+rival_of None (Some txn) = Some (rivals.Txn txn)
+rival_of None None = None
+
+-- what stands behind a rival's row and a space; nothing behind one in the transaction's own view
+abbrev pub rival_at : Option (List ℕ) → Option Rival
+rival_at None = Some rivals.View
+rival_at (Some rest) = rival_of (number_behind (codes "by commit ") rest) (number_behind (codes "by txn ") rest)
+
+-- a number, and where the rival of this row is
+abbrev pub duplicate_at : List ℕ → Option (Pair ℕ Rival)
+duplicate_at text = both_of (number_at (cut 32 text).word) (rival_at (cut 32 text).more)
+
 -- refusals of a word and two things
 abbrev pub paired_at : List ℕ → Option Reply
 paired_at text = first_of (
     made (λ (p : Pair ℕ ℕ). replies.Refused (refusals.Changed (record { 0 = p.first }) p.second)) (read_behind (after (codes "changed ") text) (λ rest. pair_at rest))
     ∷ made (λ (p : Pair ℕ ℕ). replies.Refused (refusals.Held (record { 0 = p.first }) p.second)) (read_behind (after (codes "held ") text) (λ rest. pair_at rest))
     ∷ made (λ (p : Pair Which ℕ). replies.Refused (refusals.Limit p.first p.second)) (read_behind (after (codes "limit ") text) (λ rest. limit_at rest))
+    ∷ made (λ (p : Pair ℕ Rival). replies.Refused (refusals.Duplicate (record { 0 = p.first }) p.second)) (read_behind (after (codes "duplicate ") text) (λ rest. duplicate_at rest))
     ∷ [])
 
 abbrev pub row_at : List ℕ → Option Reply

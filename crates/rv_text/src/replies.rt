@@ -2,14 +2,14 @@
 ghost use Rattle.std.specs.Prelude.{◌≡◌, Some, None, IfOk, bytes_eq, codes, find, option_map};
 ghost use Rattle.std.specs.Option.{option_copied};
 ghost use Rattle.rv_model.specs.Transcript.{limit_word};
-ghost use Rattle.rv_text.specs.Pairs.{limit_by, pair_by};
-ghost use Rattle.rv_text.specs.Replies.{after, limit_at, lone_at, named_at, name_behind, numbered_at, number_behind, paired_at, pair_at, read_behind, reply_at, row_at, shown_at};
+ghost use Rattle.rv_text.specs.Pairs.{duplicate_by, limit_by, pair_by};
+ghost use Rattle.rv_text.specs.Replies.{after, duplicate_at, limit_at, lone_at, named_at, name_behind, numbered_at, number_behind, paired_at, pair_at, read_behind, reply_at, rival_at, row_at, shown_at};
 
 use crate::cuts::{after, cut_at};
 use crate::traces::{name, trace};
 use crate::values::{number, values};
 use crate::words::limit_word;
-use rv_model::{Refusal, Reply, Which};
+use rv_model::{Refusal, Reply, Rival, Which};
 use rv_value::{NoMemory, RowNo, Text};
 use std::alloc::Global;
 
@@ -206,6 +206,54 @@ fn limit_behind(text: &[u8]) -> Option<(Which, u64)>
     }
 }
 
+/// Where a rival is: in the transaction's own view where nothing stands behind its row, else at a commit or among the
+/// changes of a transaction.
+fn rival(more: Option<&[u8]>) -> Option<Rival>
+    ensures { result ≡ rival_at (option_copied more.entry) }
+{
+    match more {
+        None => Some(Rival::View),
+        Some(rest) => rival_behind(rest),
+    }
+}
+
+/// A rival's commit, or its transaction.
+fn rival_behind(rest: &[u8]) -> Option<Rival>
+    ensures { result ≡ rival_at (Some rest.now) }
+{
+    if let Some(commit) = number_behind(b"by commit ", rest) {
+        return Some(Rival::Commit(commit));
+    }
+    if let Some(txn) = number_behind(b"by txn ", rest) {
+        return Some(Rival::Txn(txn));
+    }
+    None
+}
+
+/// A number, and where the rival of this row is.
+fn duplicate(text: &[u8]) -> Option<(u64, Rival)>
+    ensures { option_map duplicate_by result ≡ duplicate_at text.now }
+{
+    let (row, more) = cut_at(b' ', text);
+    match number(row) {
+        Some(row) => match rival(more) {
+            Some(by) => Some((row, by)),
+            None => None,
+        },
+        None => None,
+    }
+}
+
+/// The row and the rival that stand behind the word for them.
+fn duplicate_behind(text: &[u8]) -> Option<(u64, Rival)>
+    ensures { option_map duplicate_by result ≡ read_behind (after (codes "duplicate ") text.now) (λ rest. duplicate_at rest) }
+{
+    match after(b"duplicate ", text) {
+        Some(rest) => duplicate(rest),
+        None => None,
+    }
+}
+
 /// A refusal of a word and two things.
 fn paired(text: &[u8]) -> Option<Reply>
     ensures { result ≡ paired_at text.now }
@@ -224,6 +272,12 @@ fn paired(text: &[u8]) -> Option<Reply>
     }
     if let Some((which, number)) = limit_behind(text) {
         return Some(Reply::Refused(Refusal::Limit { which, number }));
+    }
+    if let Some((row, by)) = duplicate_behind(text) {
+        return Some(Reply::Refused(Refusal::Duplicate {
+            row: RowNo(row),
+            by,
+        }));
     }
     None
 }

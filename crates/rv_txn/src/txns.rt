@@ -1,8 +1,9 @@
-ghost use Rattle.std.specs.Prelude.{◌≡◌, ◌<◌, ◌-◌, ◌^◌, Ok, Err, IfOk, IfErr, OnOk, OnErr, IfSome, IsSome, length};
+ghost use Rattle.std.specs.Prelude.{◌≡◌, ◌<◌, ◌-◌, ◌^◌, true, Ok, Err, IfOk, IfErr, OnOk, OnErr, IfSome, IsSome, length};
 ghost use Rattle.rv_rows.specs.Changes.{Rise};
-ghost use Rattle.rv_model.specs.Transactions.{began, done, horizon, lowest, no_transactions, transaction_at, transaction_of};
+ghost use Rattle.rv_model.specs.Transactions.{began, done, horizon, lowest, no_transactions, touched_by, transaction_at, transaction_of};
 ghost use Rattle.std.specs.Option.{option_copied, option_map};
 ghost use Rattle.rv_txn.specs.Changing.{CanChange};
+ghost use Rattle.rv_txn.specs.Apart.{are_apart};
 ghost use Rattle.rv_txn.specs.Calls.{IsFault, finished, rolled_back, standing};
 ghost use Rattle.rv_txn.specs.Halves.{changing, inserting, with_new, with_these};
 
@@ -11,7 +12,7 @@ use crate::active::{
 };
 use crate::changing::{changes_of, is_full, met_rows};
 use crate::conflicts::unharmed;
-use crate::touched::{next_row, put_and_take, touch_all};
+use crate::touched::{next_row, put_and_take, touch_all, touched_by};
 use rv_judge::Uncounted;
 use rv_model::{Refusal, Transaction, Transactions, Which};
 use rv_reader::{Reader, Store};
@@ -64,11 +65,15 @@ pub struct Txns {
 }
 
 impl Model for Txns {
+    ghost use Rattle.std.specs.Prelude.{◌≡◌, true};
     ghost use Rattle.rv_model.specs.declared.transactions.Transactions.{Transactions};
+    ghost use Rattle.rv_txn.specs.Apart.{are_apart};
 
     ghost Value = { Transactions };
 
     ghost view = { λ t. t.transactions };
+
+    ghost invariant = { λ t. are_apart t.transactions.active ≡ true };
 }
 
 impl Txns {
@@ -87,7 +92,7 @@ impl Txns {
     }
 
     /// BEGIN: the number of a new transaction on a commit.
-    #[tactic(auto, using(rv_value::proofs::Places::put_back, rv_value::proofs::Places::read_as))]
+    #[tactic(auto, using(rv_value::proofs::Places::put_back, rv_value::proofs::Places::read_as, crate::proofs::Apart::apart_more))]
     pub fn begin(&mut self, session: u8, read_only: bool, base: u64) -> Result<u64, TxnFault>
         requires { self.old.next < 2 ^ 64 - 1 }
         ensures ok { IfOk result (λ number. began self.old session read_only base ≡ Ok (number, self.new)) }
@@ -118,6 +123,21 @@ impl Txns {
             Some(own) => Some(transaction_at(&self.transactions.active, own)),
             None => None,
         }
+    }
+
+    /// The active transactions, in the order in which they began, each of another session. It takes no memory.
+    pub fn actives(&self) -> &[Transaction]
+        ensures same { result.now ≡ self.now.active }
+        ensures apart { are_apart result.now ≡ true }
+    {
+        self.transactions.active.as_slice()
+    }
+
+    /// The commit that last wrote a row, 0 where none did. It takes no memory.
+    pub fn written_by(&self, table: u32, row: RowNo) -> u64
+        ensures { result ≡ touched_by self.now.touched table row.0 }
+    {
+        touched_by(&self.transactions.touched, table, row)
     }
 
     /// The number of the row that an INSERT would add. It changes nothing.
@@ -224,7 +244,7 @@ impl Txns {
     }
 
     /// The session's transaction ends, its changes being those of a commit. It takes no memory.
-    #[tactic(auto, using(rv_value::proofs::Places::put_back, rv_value::proofs::Places::read_as))]
+    #[tactic(auto, using(rv_value::proofs::Places::put_back, rv_value::proofs::Places::read_as, crate::proofs::Apart::apart_less))]
     pub fn commit_done(&mut self, session: u8, commit: u64)
         requires { IsSome (transaction_of self.old.active session) }
         ensures { IfSome (transaction_of self.old.active session) (λ own. self.new ≡ done self.old own commit) }
@@ -236,6 +256,7 @@ impl Txns {
     }
 
     /// ROLLBACK. It takes no memory.
+    #[tactic(auto, using(crate::proofs::Apart::apart_less))]
     pub fn rollback(&mut self, session: u8) -> Result<(), Refusal>
         ensures ok { OnOk result (rolled_back self.old session ≡ Ok self.new) }
         ensures fault { IfErr result (λ refusal. rolled_back self.old session ≡ Err refusal) }

@@ -38,6 +38,7 @@ fn index(alloc: Global) -> Result<IndexDef, NoMemory>
         name: Text::read(alloc, "i")?,
         table: 0,
         columns: Items::from_vec(vec![in alloc; 0]?),
+        unique: false,
     })
 }
 

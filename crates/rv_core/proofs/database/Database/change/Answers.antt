@@ -12,4 +12,4 @@ invariant_of-self-2 g c =
     }
 
 pub returns-clause-ok : goal.returns-clause-ok
-returns-clause-ok g c = rw (← c.self.view_is) (db_changed (g.S.Reader.shown c.self.inside.store) c.self.inside.catalog c.self.inside.txns c.change_rows.new.txns (seen (g.S.Reader.shown c.self.inside.store) c.self.inside.cursors) c.args.session c.args.table c.args.only.now (option_copied c.args.sets) c.in-Ok.count c.in-Ok.ensures.ok)
+returns-clause-ok g c = rw (← c.self.view_is) (db_changed (g.S.Reader.shown c.self.inside.store) c.self.inside.catalog c.self.inside.txns c.change_rows.new.txns (seen (g.S.Reader.shown c.self.inside.store) c.self.inside.cursors) c.args.session c.args.table c.args.only.now (option_copied c.args.sets) c.in-Ok.count c.in-Ok.ensures.ok c.in-Ok.ensures.alone)

@@ -12,4 +12,4 @@ invariant_of-self-2 g c =
     }
 
 pub returns-clause-ok : goal.returns-clause-ok
-returns-clause-ok g c = rw (← c.self.view_is) (db_inserted (g.S.Reader.shown c.self.inside.store) c.self.inside.catalog c.self.inside.txns c.insert_row.new.txns (seen (g.S.Reader.shown c.self.inside.store) c.self.inside.cursors) c.args.session c.args.table c.args.values c.in-Ok.row c.in-Ok.ensures.ok)
+returns-clause-ok g c = rw (← c.self.view_is) (db_inserted (g.S.Reader.shown c.self.inside.store) c.self.inside.catalog c.self.inside.txns c.insert_row.new.txns (seen (g.S.Reader.shown c.self.inside.store) c.self.inside.cursors) c.args.session c.args.table c.args.values c.in-Ok.row c.in-Ok.ensures.ok c.in-Ok.ensures.alone)

@@ -1,0 +1,10 @@
+pub mod Entries
+pub mod Equals
+pub mod Finding
+pub mod Nearing
+pub mod Neighbours
+pub mod Places
+pub mod Points
+pub mod Numbers
+pub mod Telling
+pub mod Testing

@@ -1,0 +1,163 @@
+//! The lowest row with a key, found in an index.
+ghost use Rattle.std.specs.Prelude.{◌≡◌, ◌≤◌, ℕ, List, Some, true, IfOk, length};
+ghost use Rattle.std.specs.List.{list_any};
+ghost use Rattle.rv_value.specs.declared.record.Record.{Record as OneRecord};
+ghost use Rattle.rv_reader.specs.Entries.{column_of, run};
+ghost use Rattle.rv_reader.specs.Shown.{CanScan, Suits};
+ghost use Rattle.rv_model.specs.Rivals.{is_null, key_of};
+ghost use Rattle.rv_view.specs.Sights.{LaysSome, laid_over};
+ghost use Rattle.rv_rivals.specs.Lookups.{Tells};
+ghost use Rattle.rv_rivals.specs.Points.{first_row, lowest_with, point};
+
+use crate::rows::RowTest;
+use rv_judge::{Steps, Uncounted};
+use rv_reader::{Chunk, Reader, Store};
+use rv_value::{Bound, Duplicate, IndexEntry, Key, NoMemory, Range, RowNo, Value};
+use rv_view::{Seen, View};
+use std::alloc::Global;
+
+/// The value of a column, NULL where there is none.
+fn column_value(alloc: Global, values: &[Value], column: u32) -> Result<Value, NoMemory>
+    ensures { IfOk result (λ value. value ≡ column_of values.now column) }
+{
+    match values.get(column as usize) {
+        Some(value) => value.copy(alloc),
+        None => Ok(Value::Null),
+    }
+}
+
+fn key_values(alloc: Global, values: &[Value], columns: &[u32]) -> Result<Vec<Value>, NoMemory>
+    ensures { IfOk result (λ key. key.items ≡ key_of columns.now values.now) }
+{
+    let mut key = Vec::with_capacity(alloc, columns.len())?;
+    'columns: for column in columns {
+        key.push(column_value(alloc, values, *column)?)?;
+    }
+    Ok(key)
+}
+
+/// The key of values in an index of these columns.
+pub fn key_of(alloc: Global, values: &[Value], columns: &[u32]) -> Result<Key, NoMemory>
+    requires some { 1 ≤ length columns.now }
+    requires few { length columns.now ≤ 4 }
+    ensures { IfOk result (λ key. key ≡ key_of columns.now values.now) }
+{
+    let key = key_values(alloc, values, columns)?;
+    Ok(Key::from_vec(key))
+}
+
+fn is_null(value: &Value) -> bool
+    ensures { result ≡ is_null value.now }
+{
+    matches!(value, Value::Null)
+}
+
+/// Whether some value of a key is NULL: a row with such a key is equal to none.
+pub fn has_null(key: &Key) -> bool
+    ensures { result ≡ list_any is_null key.now }
+{
+    key.as_slice().iter().any(is_null)
+}
+
+fn closed(alloc: Global, key: &Key) -> Result<Option<Bound>, NoMemory>
+    ensures { IfOk result (λ bound. bound ≡ Some (record { key = key.now; closed = true })) }
+{
+    Ok(Some(Bound {
+        key: key.copy(alloc)?,
+        closed: true,
+    }))
+}
+
+/// The range of one key.
+pub fn point(alloc: Global, key: &Key) -> Result<Range, NoMemory>
+    ensures { IfOk result (λ range. range ≡ point key.now) }
+{
+    Ok(Range {
+        low: closed(alloc, key)?,
+        high: closed(alloc, key)?,
+        starts: false,
+    })
+}
+
+/// The first of entries whose row passes a test.
+pub fn first_of<T: RowTest>(entries: &[IndexEntry], test: &T) -> Option<RowNo>
+    ensures { result ≡ first_row (T.keeps test.now) entries.now }
+{
+    match entries.iter().find(|entry| test.keeps(entry.row)) {
+        Some(entry) => Some(entry.row),
+        None => None,
+    }
+}
+
+/// The first entry of a range whose row passes a test, leaf by leaf.
+fn first_in<R: Reader<Ledger = Uncounted>, T: RowTest>(
+    alloc: Global,
+    reader: &R,
+    index: u32,
+    snap: u64,
+    range: &Range,
+    test: &T,
+) -> Result<Option<RowNo>, NoMemory>
+    requires can { CanScan (R.shown reader.now) index snap }
+    requires suits { Suits (R.shown reader.now) index snap range.now }
+    ensures { IfOk result (λ row. row ≡ first_row (T.keeps test.now) (run ((R.shown reader.now).entries index snap) range.now)) }
+{
+    let mut steps = Steps::new(Uncounted);
+    let mut from = None;
+    'leaves: loop {
+        let Chunk { entries, next } = reader.chunk(
+            alloc,
+            index,
+            snap,
+            from.as_ref(),
+            range,
+            &mut steps,
+        )?;
+        match first_of(entries.as_slice(), test) {
+            Some(row) => return Ok(Some(row)),
+            None => {}
+        }
+        match next {
+            Some(cut) => from = Some(cut),
+            None => return Ok(None),
+        }
+    }
+}
+
+/// The lowest row with a key that passes a test: one look-up in the index, whatever else is in it.
+pub fn lowest_with<R: Reader<Ledger = Uncounted>, T: RowTest>(
+    alloc: Global,
+    reader: &R,
+    index: u32,
+    snap: u64,
+    key: &Key,
+    test: &T,
+) -> Result<Option<RowNo>, NoMemory>
+    requires can { CanScan (R.shown reader.now) index snap }
+    requires suits { Suits (R.shown reader.now) index snap (point key.now) }
+    ensures { IfOk result (λ row. (columns : List ℕ) (rows : List OneRecord) → Tells (R.shown reader.now) index snap columns rows → length key.now ≡ length columns → row ≡ lowest_with columns key.now (T.keeps test.now) rows) }
+{
+    let range = point(alloc, key)?;
+    let row = first_in(alloc, reader, index, snap, &range, test)?;
+    Ok(row)
+}
+
+/// The same in what a transaction sees: a store, with its view laid over it where it has changes.
+pub fn lowest_seen<S: Store + Reader<Ledger = Uncounted>, T: RowTest>(
+    alloc: Global,
+    store: &S,
+    view: &Option<View>,
+    index: u32,
+    snap: u64,
+    key: &Key,
+    test: &T,
+) -> Result<Option<RowNo>, NoMemory>
+    requires lays { LaysSome (S.shown store.now) view.now }
+    requires can { CanScan (laid_over (S.shown store.now) view.now) index snap }
+    requires suits { Suits (laid_over (S.shown store.now) view.now) index snap (point key.now) }
+    ensures { IfOk result (λ row. (columns : List ℕ) (rows : List OneRecord) → Tells (laid_over (S.shown store.now) view.now) index snap columns rows → length key.now ≡ length columns → row ≡ lowest_with columns key.now (T.keeps test.now) rows) }
+{
+    let seen = Seen::new(store, view);
+    let row = lowest_with(alloc, &seen, index, snap, key, test)?;
+    Ok(row)
+}
