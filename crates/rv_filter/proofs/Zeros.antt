@@ -1,5 +1,5 @@
 -- Words that are 0, and the bits of such words.
-use Rattle.std.proofs.Common.{◌≡◌, ℕ, ◌+◌, ◌<◌, ◌≤◌, ◌%◌, ◌/◌, ◌==◌, List, length, true, false, slice_index_or, slice_set, inl, inr, ap, ◌∙◌, arith}
+use Rattle.std.proofs.Common.{◌≡◌, ℕ, ◌+◌, ◌<◌, ◌≤◌, ◌%◌, ◌/◌, ◌==◌, List, length, length-set, nat_lt, true, false, slice_index_or, slice_set, inl, inr, ap, ◌∙◌, arith}
 use Rattle.std.specs.Int.{bit_at}
 use Rattle.std.proofs.Math.ListN.{get_or-eq_default}
 use Rattle.std.proofs.lemmas.Bool.{cases_Bool, cases_eq}
@@ -14,31 +14,31 @@ one_more_zero words i zero at below = elim (cases_eq at i) [
   | inr other ↦ get_or-set_other words i at 0 0 other ∙ zero at (omega arith)
 ]
   where
-    by : at ≡ i → slice_index_or (slice_set words i 0) at 0 ≡ 0
-    by e = ap (λ (k : ℕ). slice_index_or (slice_set words i 0) k 0) e ∙ set_zero
+    less : nat_lt i (length words) ≡ true → i < length words
+    less h = grind (arith, nat_tests)
+
+    long : nat_lt i (length words) ≡ false → length (slice_set words i 0) ≤ i
+    long h = let same = length-set words i 0 in grind (arith, nat_tests)
 
     set_zero : slice_index_or (slice_set words i 0) i 0 ≡ 0
-    set_zero = elim (cases_Bool (Rattle.std.specs.Prelude.nat_lt i (length words))) [
+    set_zero = elim (cases_Bool (nat_lt i (length words))) [
       | inl within ↦ get_or-set_same words i 0 0 (less within)
       | inr outside ↦ get_or-eq_default (slice_set words i 0) 0 {i} (long outside)
     ]
-      where
-        less : Rattle.std.specs.Prelude.nat_lt i (length words) ≡ true → i < length words
-        less h = grind (arith, nat_tests)
 
-        long : Rattle.std.specs.Prelude.nat_lt i (length words) ≡ false → length (slice_set words i 0) ≤ i
-        long h = let same = Rattle.std.proofs.Common.length-set words i 0 in grind (arith, nat_tests)
+    by : at ≡ i → slice_index_or (slice_set words i 0) at 0 ≡ 0
+    by e = ap (λ (k : ℕ). slice_index_or (slice_set words i 0) k 0) e ∙ set_zero
 
 pub all_zero : (words : List ℕ) (i : ℕ) → ((at : ℕ) → at < i → slice_index_or words at 0 ≡ 0) → length words ≤ i → (at : ℕ) → slice_index_or words at 0 ≡ 0
-all_zero words i zero long at = elim (cases_Bool (Rattle.std.specs.Prelude.nat_lt at i)) [
+all_zero words i zero long at = elim (cases_Bool (nat_lt at i)) [
   | inl below ↦ zero at (less below)
   | inr behind ↦ get_or-eq_default words 0 {at} (above behind)
 ]
   where
-    less : Rattle.std.specs.Prelude.nat_lt at i ≡ true → at < i
+    less : nat_lt at i ≡ true → at < i
     less h = grind (arith, nat_tests)
 
-    above : Rattle.std.specs.Prelude.nat_lt at i ≡ false → length words ≤ at
+    above : nat_lt at i ≡ false → length words ≤ at
     above h = grind (arith, nat_tests)
 
 -- no bit of such words is set

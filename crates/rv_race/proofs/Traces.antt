@@ -122,23 +122,22 @@ chain_more before between index h keys own ends low ts comes turn c e =
       ∙ c.stands
     )
 
+left_true : (a b : Bool) → (a && b) ≡ true → a ≡ true
+left_true a b h = grind arith
+
+right_true : (a b : Bool) → (a && b) ≡ true → b ≡ true
+right_true a b h = grind arith
+
 chain : (before : Option ℕ) (ends : List Ended) (low : ℕ) → keyed before ≡ true → list_all is_keyed ends ≡ true → Chain before ends low
 chain before [] low k ks = record { run = tt; told = refl; stands = refl }
-chain before (e ∷ ends) low k ks = by e.keys ks
+chain before (e ∷ ends) low k ks = by e.keys (left_true (is_keyed e) (list_all is_keyed ends) ks) (λ between some. chain between ends low some (right_true (is_keyed e) (list_all is_keyed ends) ks))
   where
-    right : (a b : Bool) → (a && b) ≡ true → b ≡ true
-    right a b h = grind arith
-
-    left : (a b : Bool) → (a && b) ≡ true → a ≡ true
-    left a b h = grind arith
-
-    by : (keys : Option ℕ) → (keyed keys && list_all is_keyed ends) ≡ true → Chain before (record { index = e.index; keys = keys } ∷ ends) low
-    by None h =
-        let all = chain_more before before e.index (Ruled AbandonScan true (is_some before)) 0 (Drop e.index) ends low (turns_of before ends) (refl, more_left ends low before k, refl) (drop_turn e.index (ended_indexes ends ++ low ∷ []) before (is_some before)) (chain before ends low k (right true (list_all is_keyed ends) h)) refl in
+    by : (keys : Option ℕ) → keyed keys ≡ true → ((between : Option ℕ) → keyed between ≡ true → Chain between ends low) → Chain before (record { index = e.index; keys = keys } ∷ ends) low
+    by None some rest =
+        let all = chain_more before before e.index (Ruled AbandonScan true (is_some before)) 0 (Drop e.index) ends low (turns_of before ends) (refl, more_left ends low before k, refl) (drop_turn e.index (ended_indexes ends ++ low ∷ []) before (is_some before)) (rest before k) refl in
         record { run = all.0; told = all.1; stands = all.2 }
-    by (Some n) h =
-        let some = left (nat_lt 0 n) (list_all is_keyed ends) h in
-        let all = chain_more before (Some n) e.index (ScanEnded true true) n (ListOf e.index n) ends low (turns_of (Some n) ends) (refl, more_left ends low (Some n) some, refl) (list_turn e.index (ended_indexes ends ++ low ∷ []) before n) (chain (Some n) ends low some (right (nat_lt 0 n) (list_all is_keyed ends) h)) refl in
+    by (Some n) some rest =
+        let all = chain_more before (Some n) e.index (ScanEnded true true) n (ListOf e.index n) ends low (turns_of (Some n) ends) (refl, more_left ends low (Some n) some, refl) (list_turn e.index (ended_indexes ends ++ low ∷ []) before n) (rest (Some n) some) refl in
         record { run = all.0; told = all.1; stands = all.2 }
 
 first_at : (ends : List Ended) (low : ℕ) → (begins BackgroundAlone (ended_indexes ends ++ low ∷ []) None).control ≡ BackgroundAlone
@@ -234,8 +233,16 @@ once_apart (x ∷ xs) a ys o = both_off (nat_eq x a) (has_index a xs) (flips x a
     both_off a b h i = grind arith
 
 -- an index that is not among those of the scans that are over was not dropped
-pub undropped : (i : ℕ) (ends : List Ended) (low : ℕ) → has_index i (ended_indexes ends) ≡ false → was_dropped i (so_far ends ++ Scan low ∷ []) ≡ false
-undropped i ends low h = by ends h
+one_undropped : (i index : ℕ) (keys : Option ℕ) (events : List Event) → nat_eq index i ≡ false → was_dropped i events ≡ false → was_dropped i (Scan index ∷ outcome index keys ∷ events) ≡ false
+one_undropped i index None events other rest = both_off (nat_eq index i) (was_dropped i events) other rest
+  where
+    both_off : (a b : Bool) → a ≡ false → b ≡ false → (a || b) ≡ false
+    both_off a b h k = grind arith
+one_undropped i index (Some n) events other rest = rest
+
+ends_undropped : (i : ℕ) (ends : List Ended) (low : ℕ) → has_index i (ended_indexes ends) ≡ false → was_dropped i (told_ends ends ++ Scan low ∷ []) ≡ false
+ends_undropped i [] low h = refl
+ends_undropped i (e ∷ ends) low h = one_undropped i e.index e.keys (told_ends ends ++ Scan low ∷ []) (left_off (nat_eq e.index i) (has_index i (ended_indexes ends)) h) (ends_undropped i ends low (right_off (nat_eq e.index i) (has_index i (ended_indexes ends)) h))
   where
     left_off : (a b : Bool) → (a || b) ≡ false → a ≡ false
     left_off a b h = grind arith
@@ -243,10 +250,5 @@ undropped i ends low h = by ends h
     right_off : (a b : Bool) → (a || b) ≡ false → b ≡ false
     right_off a b h = grind arith
 
-    by : (ends : List Ended) → has_index i (ended_indexes ends) ≡ false → was_dropped i (told_ends ends ++ Scan low ∷ []) ≡ false
-    by [] h = refl
-    by (e ∷ ends) h = one e.keys
-      where
-        one : (keys : Option ℕ) → was_dropped i (Scan e.index ∷ outcome e.index keys ∷ (told_ends ends ++ Scan low ∷ [])) ≡ false
-        one None = rw (left_off (nat_eq e.index i) (has_index i (ended_indexes ends)) h) (by ends (right_off (nat_eq e.index i) (has_index i (ended_indexes ends)) h))
-        one (Some n) = by ends (right_off (nat_eq e.index i) (has_index i (ended_indexes ends)) h)
+pub undropped : (i : ℕ) (ends : List Ended) (low : ℕ) → has_index i (ended_indexes ends) ≡ false → was_dropped i (so_far ends ++ Scan low ∷ []) ≡ false
+undropped i ends low h = ends_undropped i ends low h
