@@ -16,9 +16,9 @@ use Rattle.rv_jscan.specs.declared.jscan.Given.{Given}
 use Rattle.rv_jscan.specs.Pieces.{Pieced}
 use Rattle.rv_final.specs.Rest.{Steps}
 use Rattle.rv_final.specs.Work.{Falls, Tries}
-use Rattle.rv_race.specs.Effort.{effort}
-use Rattle.rv_race.specs.Given.{Answers, piece_read}
-use Rattle.rv_race.specs.Opened.{Does, DoesAs, DoesStep, EndsIn, MayRead, Steady, StepsAs}
+use Rattle.rv_race.specs.Effort.{effort, keys_work}
+use Rattle.rv_race.specs.Given.{Answers, TakesLeaf, holding, piece_read, turn_lane}
+use Rattle.rv_race.specs.Opened.{Does, DoesAs, DoesStep, EndsIn, MayRead, OnlyTakes, Steady, StepsAs}
 use Rattle.rv_race.specs.Raced.{RaceFits, Raced, rest}
 use Rattle.rv_race.specs.Rulings.{GivesOn}
 use Rattle.rv_race.proofs.Finals.{done_rest}
@@ -111,4 +111,42 @@ counts_rise old mid new c d s e = subst (λ (x : Raced). CountsRise old.trace x.
   pages = ap (λ (n : ℕ). raised n (d.pages - c.pages)) s.pages;
   leaves = ap (λ (n : ℕ). raised n (d.leaves - c.leaves)) s.leaves;
   fetches = ap (λ (n : ℕ). raised n (d.records - c.records)) s.fetches;
+}
+
+-- What a step leaves that found no memory.
+
+pub only_itself : (r : Raced) → OnlyTakes r r
+only_itself r = record { same = refl; events = refl; fewer = omega arith }
+
+pub only_if : {X E : Type 0} (x : Result X E) (old new : Raced) → OnErr x (new ≡ old) → OnErr x (OnlyTakes old new)
+only_if (Ok y) old new e = tt
+only_if (Err y) old new e = subst (OnlyTakes old) (sym e) (only_itself old)
+
+-- the awaited leaf was taken, or it was tried
+pub only_took : (old mid : Raced) → TakesLeaf old mid → mid.trace ≡ old.trace → OnlyTakes old mid
+only_took old mid t e = record {
+  same = subst (λ (x : Raced). x ≡ record (holding (turn_lane x).held old) { counts = x.counts; at = x.at; trace = x.trace }) (sym t.same) refl;
+  events = ap (λ (x : Trace). x.events) e;
+  fewer = subst (λ (n : ℕ). n ≤ keys_work old) (sym (ap keys_work t.same)) (omega arith);
+}
+
+pub only_gave : {X E : Type 0} (x : Result X E) (old mid new : Raced) → TakesLeaf old mid → mid.trace ≡ old.trace → OnErr x (new ≡ mid) → OnErr x (OnlyTakes old new)
+only_gave (Ok y) old mid new t e n = tt
+only_gave (Err y) old mid new t e n = subst (OnlyTakes old) (sym n) (only_took old mid t e)
+
+-- keys may have been passed
+pub only_at_keys : (old new : Raced) (c d : Counts) → new ≡ record old { at = new.at } → Tries c d (keys_work old) (keys_work new) → OnlyTakes old new
+only_at_keys old new c d e t = record {
+  same = subst (λ (x : Raced). x ≡ record (holding (turn_lane x).held old) { counts = x.counts; at = x.at; trace = x.trace }) (sym e) refl;
+  events = ap (λ (x : Raced). x.trace.events) e;
+  fewer = t.less;
+}
+
+-- what was read is counted
+pub only_counted : {X E : Type 0} (x : Result X E) (old mid new : Raced) (c d : Counts) → new ≡ record mid { trace = counted mid.trace c d } → OnErr x (OnlyTakes old mid) → OnErr x (OnlyTakes old new)
+only_counted (Ok y) old mid new c d e o = tt
+only_counted (Err y) old mid new c d e o = record {
+  same = subst (λ (x : Raced). x ≡ record (holding (turn_lane x).held old) { counts = x.counts; at = x.at; trace = x.trace }) (sym e) (ap (λ (x : Raced). record x { trace = counted mid.trace c d }) o.same);
+  events = ap (λ (x : Raced). x.trace.events) e ∙ o.events;
+  fewer = subst (λ (n : ℕ). n ≤ keys_work old) (sym (ap keys_work e)) o.fewer;
 }

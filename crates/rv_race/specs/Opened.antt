@@ -1,5 +1,5 @@
 -- What a race is opened over, what it then is, and what its steps do.
-use Rattle.std.specs.Prelude.{◌≡◌, ℕ, ◌+◌, List, [], length, None}
+use Rattle.std.specs.Prelude.{◌≡◌, ℕ, ◌+◌, ◌≤◌, List, [], length, None}
 use Rattle.rv_rows.specs.Rows.{Ascend}
 use Rattle.rv_value.specs.declared.record.Record.{Record}
 use Rattle.rv_judge.specs.declared.counting.Counts.{Counts}
@@ -28,7 +28,8 @@ use Rattle.rv_jscan.specs.Pieces.{Pieced}
 use Rattle.rv_jscan.specs.Steps.{eight}
 use Rattle.rv_final.specs.Rest.{Steps, qualifies_at}
 use Rattle.rv_final.specs.Stage.{FetchesKey, Unbegun, first_key}
-use Rattle.rv_race.specs.Given.{Awaits, TakesLeaf, piece_read}
+use Rattle.rv_race.specs.Effort.{keys_work}
+use Rattle.rv_race.specs.Given.{Awaits, TakesLeaf, holding, piece_read, turn_lane}
 use Rattle.rv_race.specs.Raced.{PlansFit, RaceFits, Raced, SameRace, rest, rows_of}
 use Rattle.rv_race.specs.Rulings.{GivesOn, gone}
 use Rattle.rv_race.specs.Runs.{Tells, indexes_of}
@@ -127,6 +128,12 @@ MayRead BackgroundAlone r c d = d ≡ piece_read r c
 MayRead FinalList r c d = OneAtMost record_read c d
 MayRead FinalTable r c d = OneAtMost page_read c d
 MayRead Done r c d = d ≡ c
+
+-- WHAT A STEP LEAVES THAT FOUND NO MEMORY: the awaited leaf may have been taken. No piece is accepted and no scan ends.
+pub record OnlyTakes (old new : Raced) : Type 0 where
+  pub same : new ≡ record (holding (turn_lane new).held old) { counts = new.counts; at = new.at; trace = new.trace }
+  pub events : new.trace.events ≡ old.trace.events
+  pub fewer : keys_work new ≤ keys_work old
 
 -- what it does, and then what it read is counted
 pub record StepsAs (would : ℕ → Facts → Ruling) (state after : ℕ) (shown : Shown) (c d : Counts) (s : Scanned) (old new : Raced) : Type 0 where

@@ -4,7 +4,7 @@ ghost use Rattle.rv_judge.specs.declared.judging.Facts.{Facts};
 ghost use Rattle.rv_judge.specs.Verdicts.{Ruling};
 ghost use Rattle.rv_final.specs.Work.{Falls, Tries};
 ghost use Rattle.rv_race.specs.Effort.{Spends, effort};
-ghost use Rattle.rv_race.specs.Opened.{Does, DoesStep, EndsIn, MayRead, Steady, StepsAs};
+ghost use Rattle.rv_race.specs.Opened.{Does, DoesStep, EndsIn, MayRead, OnlyTakes, Steady, StepsAs};
 ghost use Rattle.rv_race.specs.Raced.{RaceFits, SameRace, rest};
 ghost use Rattle.rv_race.specs.Runs.{Tells};
 
@@ -31,6 +31,7 @@ impl Race {
         ensures step { IfOk result (DoesStep self.old self.new (R.shown reader.now)) }
         ensures ends { IfOk result (EndsIn self.new) }
         ensures err { OnErr result (rest self.new (R.shown reader.now) ≡ rest self.old (R.shown reader.now)) }
+        ensures still { OnErr result (OnlyTakes self.old self.new) }
         ensures quiet { OnErr result (state judge.new ≡ state judge.old) }
         ensures stays { would judge.new ≡ would judge.old }
         ensures may_read { MayRead self.old.control self.old steps.old steps.new }
@@ -59,6 +60,7 @@ impl Race {
         ensures step { IfOk result (DoesStep self.old self.new (R.shown reader.now)) }
         ensures ends { IfOk result (EndsIn self.new) }
         ensures err { OnErr result (rest self.new (R.shown reader.now) ≡ rest self.old (R.shown reader.now)) }
+        ensures still { OnErr result (OnlyTakes self.old self.new) }
         ensures may_read { MayRead self.old.control self.old steps.old steps.new }
         ensures tries { Tries steps.old steps.new (effort self.old (R.shown reader.now)) (effort self.new (R.shown reader.now)) }
         ensures falls { IfOk result (λ s. Falls s steps.old steps.new (effort self.old (R.shown reader.now)) (effort self.new (R.shown reader.now))) }
@@ -86,6 +88,7 @@ impl Race {
         ensures step { IfOk result (DoesStep self.old self.new (R.shown reader.now)) }
         ensures ends { IfOk result (EndsIn self.new) }
         ensures err { OnErr result (rest self.new (R.shown reader.now) ≡ rest self.old (R.shown reader.now)) }
+        ensures still { OnErr result (OnlyTakes self.old self.new) }
         ensures may_read { MayRead self.old.control self.old steps.old steps.new }
         ensures tries { Tries steps.old steps.new (effort self.old (R.shown reader.now)) (effort self.new (R.shown reader.now)) }
         ensures falls { IfOk result (λ s. Falls s steps.old steps.new (effort self.old (R.shown reader.now)) (effort self.new (R.shown reader.now))) }
@@ -114,6 +117,7 @@ impl Race {
         ensures ends { IfOk result (EndsIn self.new) }
         ensures again { self.old.control ≡ Control.Done → result ≡ Ok Scanned.End }
         ensures err { OnErr result (rest self.new (R.shown reader.now) ≡ rest self.old (R.shown reader.now)) }
+        ensures still { OnErr result (OnlyTakes self.old self.new) }
         ensures quiet { OnErr result (state judge.new ≡ state judge.old) }
         ensures stays { would judge.new ≡ would judge.old }
         ensures may_read { MayRead self.old.control self.old steps.old steps.new }
@@ -147,6 +151,7 @@ impl Race {
         ensures ends { IfOk result (EndsIn self.new) }
         ensures again { self.old.control ≡ Control.Done → result ≡ Ok Scanned.End }
         ensures err { OnErr result (rest self.new (R.shown reader.now) ≡ rest self.old (R.shown reader.now)) }
+        ensures still { OnErr result (OnlyTakes self.old self.new) }
         ensures same { SameRace self.old self.new }
         ensures tells { Tells self.old → Tells self.new }
         ensures quiet { OnErr result (state judge.new ≡ state judge.old) }

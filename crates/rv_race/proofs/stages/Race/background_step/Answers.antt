@@ -1,8 +1,9 @@
-use Rattle.std.proofs.Common.{◌≡◌, ◌∙◌, ap, false, sym, true}
+use Rattle.std.proofs.Common.{◌≡◌, ◌∙◌, ap, false, refl, subst, sym, true}
+use Rattle.rv_race.specs.Opened.{OnlyTakes}
 use Rattle.rv_race.specs.Raced.{Raced, racing}
 use Rattle.rv_race.proofs.Efforts.{gives_less, leaf_spends, piece_falls, tries_on}
 use Rattle.rv_race.proofs.Finals.{accepted_piece, one_piece}
-use Rattle.rv_race.proofs.Stepped.{background_read, below, gave_steady, kept_if_not}
+use Rattle.rv_race.proofs.Stepped.{only_took, background_read, below, gave_steady, kept_if_not}
 use Rattle.rv_race.proofs.Gives.{gives_stay}
 use Rattle.rv_race.proofs.Takes.{took_parts, took_rest, took_steady}
 use Rattle.rv_race.proofs.stages.Race.background_step.Goals as goal
@@ -80,3 +81,9 @@ returns-in_err-_given-in-Piece-clause-tries g c =
     let shown = g.R.Reader.shown c.args.reader.now in
     let mid = c.take_piece.new.self in
     tries_on _ _ _ _ _ _ (leaf_spends c.args.self.now mid shown c.args.steps.now c.take_piece.new.steps c.take_piece.ensures.leaves c.take_piece.ensures.reads) refl (gives_less c.give_piece.result _ _ _ c.sieve.result mid c.give_piece.new.self shown c.give_piece.ensures.given c.give_piece.ensures.obeys c.give_piece.ensures.err c.take_piece.ensures.fits)
+
+pub returns-in_err-piece-clause-still : goal.returns-in_err-piece-clause-still
+returns-in_err-piece-clause-still g c = kept_if_not _ _ (only_took c.args.self.now c.take_piece.new.self c.take_piece.ensures.leaves c.take_piece.ensures.told)
+
+pub returns-in_err-_given-in-Piece-clause-still : goal.returns-in_err-_given-in-Piece-clause-still
+returns-in_err-_given-in-Piece-clause-still g c = kept_if_not _ _ (subst (OnlyTakes c.args.self.now) (sym c.in_err-_given-in-Piece.ensures.err) (only_took c.args.self.now c.take_piece.new.self c.take_piece.ensures.leaves c.take_piece.ensures.told))

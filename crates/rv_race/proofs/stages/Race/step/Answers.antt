@@ -1,5 +1,5 @@
 use Rattle.rv_race.proofs.Efforts.{spends_by}
-use Rattle.rv_race.proofs.Stepped.{counted_does, counted_tries, counts_rise, ends_if, falls_if, rest_if, step_if}
+use Rattle.rv_race.proofs.Stepped.{only_counted, counted_does, counted_tries, counts_rise, ends_if, falls_if, rest_if, step_if}
 use Rattle.rv_race.proofs.Takes.{counted_fits, counted_race, counted_tells}
 use Rattle.rv_race.proofs.stages.Race.step.Goals as goal
 
@@ -32,3 +32,6 @@ returns-clause-tries g c = counted_tries _ _ _ c.stage_step-stepped.new.self c.c
 
 pub returns-clause-spends : goal.returns-clause-spends
 returns-clause-spends g c = spends_by c.stage_step-stepped.result _ _ _ _ (returns-clause-tries g c) (falls_if c.stage_step-stepped.result _ _ _ c.stage_step-stepped.new.self c.count.new.self _ (g.R.Reader.shown c.args.reader.now) c.count.ensures c.stage_step-stepped.ensures.falls)
+
+pub returns-clause-still : goal.returns-clause-still
+returns-clause-still g c = only_counted c.stage_step-stepped.result c.args.self.now c.stage_step-stepped.new.self c.count.new.self _ _ c.count.ensures c.stage_step-stepped.ensures.still

@@ -3,7 +3,7 @@ use Rattle.rv_judge.specs.declared.events.Control.TheVariants.{FinalTable}
 use Rattle.rv_scan.specs.declared.skip.Scanned.TheVariants.{Found, Working, End}
 use Rattle.rv_race.specs.Raced.{Raced}
 use Rattle.rv_race.proofs.Finals.{ended_steady, ended_step, ended_tries, ends_done, table_does, table_falls, table_over, table_scanned, table_steady, table_tries}
-use Rattle.rv_race.proofs.Stepped.{table_read}
+use Rattle.rv_race.proofs.Stepped.{only_if, table_read}
 use Rattle.rv_race.proofs.stages.Race.table_step.Goals as goal
 
 pub returns-in-Found-clause-does : goal.returns-in-Found-clause-does
@@ -83,3 +83,6 @@ returns-in_err-found-clause-tries g c = table_tries c.args.self.now c.scan_last.
 
 pub returns-in_err-found-clause-may_read : goal.returns-in_err-found-clause-may_read
 returns-in_err-found-clause-may_read g c = table_read c.args.self.now _ _ c.requires.control c.scan_last.ensures.may_read
+
+pub returns-in_err-found-clause-still : goal.returns-in_err-found-clause-still
+returns-in_err-found-clause-still g c = only_if _ c.args.self.now c.scan_last.new.self c.scan_last.ensures.err
