@@ -1,0 +1,37 @@
+use Rattle.std.proofs.Common.{ap}
+use Rattle.rv_access.specs.declared.access.Access.TheVariants.{Competing}
+use Rattle.rv_access.proofs.Accesses.{race_answers, raced_number, raced_plans, retrieval_answers, retrieval_number, retrieval_plans, same_race, same_retrieval}
+use Rattle.rv_access.proofs.access.Access.give.Goals as goal
+
+pub returns-in-Competing-clause-given : goal.returns-in-Competing-clause-given
+returns-in-Competing-clause-given g c = retrieval_answers c.give.result _ _ c.args.sieved c.give.ensures.given
+
+pub returns-in-Racing-clause-given : goal.returns-in-Racing-clause-given
+returns-in-Racing-clause-given g c = race_answers c.give.result _ _ c.args.sieved c.give.ensures.same c.give.ensures.given
+
+pub returns-in-Competing-clause-number : goal.returns-in-Competing-clause-number
+returns-in-Competing-clause-number g c = retrieval_number c.give.result _ _ _ c.args.sieved _ _ c.give.ensures.obeys
+
+pub returns-in-Racing-clause-number : goal.returns-in-Racing-clause-number
+returns-in-Racing-clause-number g c = raced_number c.give.result _ _ _ c.args.sieved _ _ c.give.ensures.obeys
+
+pub returns-in-Competing-clause-plans : goal.returns-in-Competing-clause-plans
+returns-in-Competing-clause-plans g c = retrieval_plans c.give.result _ _ _ c.args.sieved _ _ c.give.ensures.obeys c.give.ensures.err
+
+pub returns-in-Racing-clause-plans : goal.returns-in-Racing-clause-plans
+returns-in-Racing-clause-plans g c = raced_plans c.give.result _ _ _ c.args.sieved _ _ c.give.ensures.obeys c.give.ensures.err
+
+pub returns-in-Competing-clause-err : goal.returns-in-Competing-clause-err
+returns-in-Competing-clause-err g c = same_retrieval c.give.result _ _ c.give.ensures.err
+
+pub returns-in-Racing-clause-err : goal.returns-in-Racing-clause-err
+returns-in-Racing-clause-err g c = same_race c.give.result _ _ c.give.ensures.err
+
+pub returns-in-Competing-clause-fits : goal.returns-in-Competing-clause-fits
+returns-in-Competing-clause-fits g c shown f = c.give.ensures.keeps.fits shown f
+
+pub returns-in-Competing-clause-rest : goal.returns-in-Competing-clause-rest
+returns-in-Competing-clause-rest g c shown f = c.give.ensures.keeps.rest shown f
+
+pub returns-in-Competing-clause-settled : goal.returns-in-Competing-clause-settled
+returns-in-Competing-clause-settled g c s = (ap Competing (c.give.ensures.settled s).0, (c.give.ensures.settled s).1)

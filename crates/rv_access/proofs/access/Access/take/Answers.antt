@@ -1,0 +1,34 @@
+use Rattle.rv_access.proofs.Accesses.{race_takes, race_undropped, retrieval_takes, retrieval_undropped, settled_take}
+use Rattle.rv_access.proofs.Races.{leaf_pieces, leaf_plans}
+use Rattle.rv_access.proofs.Shapes.{take_plans, take_same}
+use Rattle.rv_access.proofs.access.Access.take.Goals as goal
+
+pub returns-in-Competing-clause-taken : goal.returns-in-Competing-clause-taken
+returns-in-Competing-clause-taken g c = retrieval_takes c.take.result _ c.take.ensures.taken
+
+pub returns-in-Racing-clause-taken : goal.returns-in-Racing-clause-taken
+returns-in-Racing-clause-taken g c = race_takes c.take.result _ c.take.ensures.taken
+
+pub returns-in-Competing-clause-leaves : goal.returns-in-Competing-clause-leaves
+returns-in-Competing-clause-leaves g c = record { same = c.take.ensures.same; leaves = c.take.ensures.leaves }
+
+pub returns-in-Competing-clause-plans : goal.returns-in-Competing-clause-plans
+returns-in-Competing-clause-plans g c = take_plans _ _ c.take.ensures.same c.take.ensures.leaves
+
+pub returns-in-Racing-clause-plans : goal.returns-in-Racing-clause-plans
+returns-in-Racing-clause-plans g c = leaf_plans _ _ c.take.ensures.leaves
+
+pub returns-in-Competing-clause-pieces : goal.returns-in-Competing-clause-pieces
+returns-in-Competing-clause-pieces g c = take_same _ _ c.take.ensures.same c.take.ensures.leaves
+
+pub returns-in-Racing-clause-pieces : goal.returns-in-Racing-clause-pieces
+returns-in-Racing-clause-pieces g c = leaf_pieces _ _ c.take.ensures.leaves c.take.ensures.awaits
+
+pub returns-in-Competing-clause-undropped : goal.returns-in-Competing-clause-undropped
+returns-in-Competing-clause-undropped g c t = retrieval_undropped c.take.result _ (c.take.ensures.undropped t)
+
+pub returns-in-Racing-clause-undropped : goal.returns-in-Racing-clause-undropped
+returns-in-Racing-clause-undropped g c t = race_undropped c.take.result _ (c.take.ensures.undropped t)
+
+pub returns-in-Competing-clause-settled : goal.returns-in-Competing-clause-settled
+returns-in-Competing-clause-settled g c s = settled_take (g.R.Reader.shown c.args.reader.now) _ _ _ _ c.take.ensures.same c.take.ensures.leaves s (c.take.ensures.settled s)
