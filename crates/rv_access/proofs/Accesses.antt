@@ -16,7 +16,7 @@ use Rattle.rv_retrieval.specs.Given.{Answers as RetrievalAnswers, TakesLeaf as R
 use Rattle.rv_retrieval.specs.Opens.{GivesStep as RetrievalGivesStep}
 use Rattle.rv_retrieval.specs.Rulings.{GivesOn as RetrievalGives}
 use Rattle.rv_retrieval.specs.Runs.{IsOfUndropped as RetrievalUndropped, indexes_asked}
-use Rattle.rv_retrieval.specs.Shape.{Shape, is_background}
+use Rattle.rv_retrieval.specs.Shape.{Keeps as ShapeKeeps, Shape, is_background}
 use Rattle.rv_retrieval.specs.Short.{Settled as RetrievalSettled}
 use Rattle.rv_retrieval.proofs.Tellings.{allowed as retrieval_allowed}
 use Rattle.rv_race.specs.Given.{Answers as RaceAnswers, TakesPiece as RaceTakesPiece}
@@ -26,7 +26,7 @@ use Rattle.rv_race.proofs.Tellings.{allowed as race_allowed}
 use Rattle.rv_access.specs.declared.access.Access.{Access}
 use Rattle.rv_access.specs.declared.access.Access.TheVariants.{Competing, Racing}
 use Rattle.rv_access.specs.declared.racing.RacedQuery.{RacedQuery}
-use Rattle.rv_access.specs.Accesses.{SamePlans, Tells, query_of, trace_of}
+use Rattle.rv_access.specs.Accesses.{Keeps, SamePlans, Tells, query_of, trace_of}
 use Rattle.rv_access.specs.Given.{Answers, AwaitsPiece, CountsPiece, IsOfUndropped, RacedGives, TakesPiece, awaited, piece_read}
 use Rattle.rv_access.specs.Stepping.{GivesStep, RacedGivesStep, SameCourse, SettledTake, StepsAs}
 use Rattle.rv_access.proofs.Shapes.{ShapePlans, course_plans as shape_course, given_number as shape_number, given_plans as shape_given, none_read as shape_none, piece_awaited as shape_awaited, settled_back, settled_fetches, settled_joint, steps_plans as shape_steps}
@@ -119,6 +119,9 @@ same_retrieval (Err x) v w e = ap Competing e
 pub same_race : {X E : Type 0} (r : Result X E) (old new : RacedQuery) → OnErr r (new ≡ old) → OnErr r (Racing new ≡ Racing old)
 same_race (Ok x) old new e = tt
 same_race (Err x) old new e = ap Racing e
+
+pub retrieval_keeps : (v w : Shape) → ShapeKeeps v w → Keeps (Competing v) (Competing w)
+retrieval_keeps v w keeps = record { query = keeps.query; fits = keeps.fits; rest = keeps.rest }
 
 -- A TAKE where a short index was scanned at opening
 

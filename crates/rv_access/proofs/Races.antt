@@ -28,10 +28,10 @@ use Rattle.rv_choice.specs.declared.query.Query.{Query}
 use Rattle.rv_final.proofs.Marks.{unordered}
 use Rattle.rv_retrieval.specs.declared.steps.Fg.{Fg}
 use Rattle.rv_retrieval.specs.declared.steps.Fg.TheVariants.{Row, Working as FgWorking, End as FgEnd}
-use Rattle.rv_retrieval.specs.Effort.{FgSpends}
+use Rattle.rv_retrieval.specs.Effort.{FgSpends, GiveSpends as RetrievalSpends}
 use Rattle.rv_retrieval.specs.Opens.{fg_of}
 use Rattle.rv_retrieval.specs.Runs.{indexes_asked}
-use Rattle.rv_race.specs.Effort.{Spends}
+use Rattle.rv_race.specs.Effort.{GiveSpends, Spends}
 use Rattle.rv_race.specs.Given.{Awaits, awaited, piece_read, turn_lane, turn_scan}
 use Rattle.rv_race.specs.Opened.{DoesAs, DoesStep, EndsIn, OnlyTakes, ended_by}
 use Rattle.rv_race.specs.Raced.{RaceFits, Raced, SameRace, racing, rest}
@@ -40,7 +40,7 @@ use Rattle.rv_race.specs.Runs.{Tells, indexes_of}
 use Rattle.rv_race.proofs.Switches.{over_as}
 use Rattle.rv_access.specs.declared.access.Access.TheVariants.{Racing}
 use Rattle.rv_access.specs.declared.racing.RacedQuery.{RacedQuery}
-use Rattle.rv_access.specs.Accesses.{IsOver, RacedFits, RacedTells, SamePlans}
+use Rattle.rv_access.specs.Accesses.{IsOver, Keeps, RacedFits, RacedTells, SamePlans}
 use Rattle.rv_access.specs.Given.{CountsPiece, RacedGives, RacedLeaf, SamePieces}
 use Rattle.rv_access.specs.Stepping.{RacedCourse, RacedGivesStep, RacedSteps}
 
@@ -186,6 +186,9 @@ leaf_plans old new leaf = record {
   plans = ap (λ (r : Raced). r.plans) leaf.leaves.same;
 }
 
+pub leaf_query : (old new : RacedQuery) → RacedLeaf old new → new.query ≡ old.query
+leaf_query old new leaf = ap (λ (r : RacedQuery). r.query) leaf.same
+
 pub leaf_pieces : (old new : RacedQuery) → RacedLeaf old new → awaited new.race ≡ awaited old.race → SamePieces (Racing old) (Racing new)
 leaf_pieces old new leaf same = record { awaited = same; number = ap (λ (r : Raced). r.number) leaf.leaves.same }
 
@@ -230,3 +233,11 @@ gives_as_raced (Err x) would state after piece old new gives turns = tt
 pub same_if : {X E : Type 0} (r : Result X E) (old : RacedQuery) (new : Raced) → OnErr r (new ≡ old.race) → OnErr r (record old { race = new } ≡ old)
 same_if (Ok x) old new e = tt
 same_if (Err x) old new e = ap (λ (race : Raced). record old { race = race }) e
+
+pub raced_keeps : (old new : RacedQuery) → new ≡ record old { race = new.race } → ((shown : Shown) → RacedFits old shown → RacedFits new shown) → ((shown : Shown) → RacedFits old shown → rest new.race shown ≡ rest old.race shown) → Keeps (Racing old) (Racing new)
+raced_keeps old new same fits left = record { query = ap (λ (r : RacedQuery). r.query) same; fits = fits; rest = left }
+
+pub gives_spends : {E : Type 0} (r : Result Given E) (old new : ℕ) → IfOk r (λ g. GiveSpends g old new) → IfOk r (λ g. RetrievalSpends g old new)
+gives_spends (Ok Accepted) old new spends = spends
+gives_spends (Ok (Stale asked now)) old new spends = spends
+gives_spends (Err x) old new spends = tt

@@ -114,6 +114,12 @@ pub record SamePlans (old new : Access) : Type 0 where
   pub strategy : strategy_of new ≡ strategy_of old
   pub plans : planned_of new ≡ planned_of old
 
+-- the query, the fit and the rest stay, of whatever a reader shows
+pub record Keeps (old new : Access) : Type 0 where
+  pub query : query_of new ≡ query_of old
+  pub fits : (shown : Shown) → AccessFits old shown → AccessFits new shown
+  pub rest : (shown : Shown) → AccessFits old shown → rest new shown ≡ rest old shown
+
 -- said of two accesses of one kind
 abbrev pub Alike : (Shape → Shape → Type 0) → (RacedQuery → RacedQuery → Type 0) → Access → Access → Type 0
 Alike P Q (Competing v) (Competing w) = P v w

@@ -9,7 +9,7 @@ ghost use Rattle.rv_final.specs.Work.{Tries};
 ghost use Rattle.rv_retrieval.specs.Effort.{FgSpends, GiveSpends, life_of};
 ghost use Rattle.rv_retrieval.specs.Runs.{indexes_asked};
 ghost use Rattle.rv_retrieval.specs.Short.{OnlyLeaves, has_short};
-ghost use Rattle.rv_access.specs.Accesses.{AccessFits, Awaiting, SamePlans, Settled, Tells, control_of, effort, fetches_left, held_of, number_of, query_of, rest, trace_of};
+ghost use Rattle.rv_access.specs.Accesses.{AccessFits, Awaiting, Keeps, SamePlans, Settled, Tells, control_of, effort, fetches_left, held_of, number_of, query_of, rest, trace_of};
 ghost use Rattle.rv_access.specs.Given.{Answers, CountsPiece, GivesOn, IsOfUndropped, SamePieces, TakesLeaf, TakesPiece, awaited, piece_read};
 ghost use Rattle.rv_access.specs.Opened.{Begins, Competes, IsShort, Opened, Races, is_background_only, is_each, is_race, races, restricted};
 ghost use Rattle.rv_access.specs.Stepping.{GivesStep, MayReadIts, OnlyTakes, SameCourse, SettledTake, StepsAs};
@@ -274,6 +274,7 @@ impl Access {
         requires fits { AccessFits self.old (R.shown reader.now) }
         ensures counts { CountsRise (trace_of self.old) (trace_of self.new) steps.old steps.new }
         ensures taken { IfOk result (TakesPiece self.new) }
+        ensures query { query_of self.new ≡ query_of self.old }
         ensures leaves { TakesLeaf self.old self.new }
         ensures plans { SamePlans self.old self.new }
         ensures pieces { SamePieces self.old self.new }
@@ -310,8 +311,7 @@ impl Access {
         ensures quiet { OnErr result (state judge.new ≡ state judge.old) }
         ensures stays { would judge.new ≡ would judge.old }
         ensures counts { SameCounts (trace_of self.old) (trace_of self.new) }
-        ensures fits { (shown : Shown) → AccessFits self.old shown → AccessFits self.new shown }
-        ensures rest { (shown : Shown) → AccessFits self.old shown → rest self.new shown ≡ rest self.old shown }
+        ensures keeps { Keeps self.old self.new }
         ensures tells { Tells self.old → Tells self.new }
         ensures less { (shown : Shown) → AccessFits self.old shown → effort self.new shown ≤ effort self.old shown }
         ensures spends { (shown : Shown) → AccessFits self.old shown → IfOk result (λ g. GiveSpends g (effort self.old shown) (effort self.new shown)) }

@@ -1,6 +1,7 @@
 use Rattle.std.proofs.Common.{ap}
 use Rattle.rv_access.specs.declared.access.Access.TheVariants.{Competing}
-use Rattle.rv_access.proofs.Accesses.{race_answers, raced_number, raced_plans, retrieval_answers, retrieval_number, retrieval_plans, same_race, same_retrieval}
+use Rattle.rv_access.proofs.Accesses.{race_answers, raced_number, raced_plans, retrieval_answers, retrieval_keeps, retrieval_number, retrieval_plans, same_race, same_retrieval}
+use Rattle.rv_access.proofs.Races.{gives_spends, raced_keeps}
 use Rattle.rv_access.proofs.access.Access.give.Goals as goal
 
 pub returns-in-Competing-clause-given : goal.returns-in-Competing-clause-given
@@ -27,11 +28,14 @@ returns-in-Competing-clause-err g c = same_retrieval c.give.result _ _ c.give.en
 pub returns-in-Racing-clause-err : goal.returns-in-Racing-clause-err
 returns-in-Racing-clause-err g c = same_race c.give.result _ _ c.give.ensures.err
 
-pub returns-in-Competing-clause-fits : goal.returns-in-Competing-clause-fits
-returns-in-Competing-clause-fits g c shown f = c.give.ensures.keeps.fits shown f
+pub returns-in-Competing-clause-keeps : goal.returns-in-Competing-clause-keeps
+returns-in-Competing-clause-keeps g c = retrieval_keeps _ _ c.give.ensures.keeps
 
-pub returns-in-Competing-clause-rest : goal.returns-in-Competing-clause-rest
-returns-in-Competing-clause-rest g c shown f = c.give.ensures.keeps.rest shown f
+pub returns-in-Racing-clause-keeps : goal.returns-in-Racing-clause-keeps
+returns-in-Racing-clause-keeps g c = raced_keeps _ _ c.give.ensures.same c.give.ensures.fits c.give.ensures.rest
+
+pub returns-in-Racing-clause-spends : goal.returns-in-Racing-clause-spends
+returns-in-Racing-clause-spends g c shown f = gives_spends c.give.result _ _ (c.give.ensures.spends shown f)
 
 pub returns-in-Competing-clause-settled : goal.returns-in-Competing-clause-settled
 returns-in-Competing-clause-settled g c s = (ap Competing (c.give.ensures.settled s).0, (c.give.ensures.settled s).1)

@@ -1,5 +1,5 @@
 use Rattle.rv_access.proofs.Accesses.{race_takes, race_undropped, retrieval_takes, retrieval_undropped, settled_take}
-use Rattle.rv_access.proofs.Races.{leaf_pieces, leaf_plans}
+use Rattle.rv_access.proofs.Races.{leaf_pieces, leaf_plans, leaf_query}
 use Rattle.rv_access.proofs.Shapes.{take_plans, take_same}
 use Rattle.rv_access.proofs.access.Access.take.Goals as goal
 
@@ -11,6 +11,9 @@ returns-in-Racing-clause-taken g c = race_takes c.take.result _ c.take.ensures.t
 
 pub returns-in-Competing-clause-leaves : goal.returns-in-Competing-clause-leaves
 returns-in-Competing-clause-leaves g c = record { same = c.take.ensures.same; leaves = c.take.ensures.leaves }
+
+pub returns-in-Racing-clause-query : goal.returns-in-Racing-clause-query
+returns-in-Racing-clause-query g c = leaf_query _ _ c.take.ensures.leaves
 
 pub returns-in-Competing-clause-plans : goal.returns-in-Competing-clause-plans
 returns-in-Competing-clause-plans g c = take_plans _ _ c.take.ensures.same c.take.ensures.leaves
