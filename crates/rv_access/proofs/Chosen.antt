@@ -1,5 +1,5 @@
 -- What was chosen can race, and what a race and a retrieval are where they begin.
-use Rattle.std.proofs.Common.{◌≡◌, ℕ, ◌+◌, ◌-◌, ◌<◌, ◌≤◌, List, [], length, filter, map, Bool, true, false, ◌&&◌, nat_le, refl, ap, sym, ◌∙◌, arith, subst, Result, Ok, Err, IfOk}
+use Rattle.std.proofs.Common.{◌∷◌, cond, ◌≡◌, ℕ, ◌+◌, ◌-◌, ◌<◌, ◌≤◌, List, [], length, filter, map, Bool, true, false, ◌&&◌, nat_le, refl, ap, sym, ◌∙◌, arith, subst, Result, Ok, Err, IfOk}
 use Rattle.std.specs.List.{list_all}
 use Rattle.std.proofs.lemmas.Bool.Decides.{nat_tests}
 use Rattle.std.proofs.lemmas.List.{length-map}
@@ -83,6 +83,13 @@ not_one (One index) e o = sym e
 not_one Each e o = sym o
 not_one (EachBut index) e o = sym o
 
+each_restricted : (cs : List Candidate) → filter (is_scanned Each) cs ≡ filter (λ (c : Candidate). c.restricted) cs
+each_restricted [] = refl
+each_restricted (c ∷ cs) = elim c.restricted as (λ b. cond b (c ∷ filter (is_scanned Each) cs) (filter (is_scanned Each) cs) ≡ cond b (c ∷ filter (λ (x : Candidate). x.restricted) cs) (filter (λ (x : Candidate). x.restricted) cs)) [
+  | true ↦ ap (λ (xs : List Candidate). c ∷ xs) (each_restricted cs)
+  | false ↦ each_restricted cs
+]
+
 -- at least two scans are planned
 pub two_scans : (choice : Choice) (cs : List Candidate) (only : List (List Atom)) (scans : List ScanPlan) → races choice cs ≡ true → AreScans only cs choice.background scans → 2 ≤ length scans
 two_scans choice cs only scans r s =
@@ -90,6 +97,7 @@ two_scans choice cs only scans r s =
     let each = subst (λ (b : Background). AreScans only cs b scans) (is_the_each choice.background (each_chosen choice cs r)) s in
     let same = length_permutation (map (plan_of only) (filter (is_scanned Each) cs)) scans each.these in
     let mapped = length-map (filter (is_scanned Each) cs) (plan_of only) in
+    let these = ap (λ (xs : List Candidate). length xs) (each_restricted cs) in
     omega arith
 
 pub unordered : (query : Query) (shown : Shown) (choice : Choice) (cs : List Candidate) → cs ≡ candidates_of query shown → CanAsk query shown → IsChosen query.order query.goal cs choice → races choice cs ≡ true → query.order ≡ []

@@ -11,7 +11,7 @@ use Rattle.rv_choice.specs.declared.choosing.Background.{Background}
 use Rattle.rv_choice.specs.declared.choosing.Background.TheVariants.{Nothing, One, Each, EachBut}
 use Rattle.rv_choice.specs.declared.choosing.Candidate.{Candidate}
 use Rattle.rv_choice.specs.declared.choosing.Choice.{Choice}
-use Rattle.rv_choice.specs.Choice.{AreScans, IsChosen, candidates_of, is_scanned}
+use Rattle.rv_choice.specs.Choice.{AreScans, IsChosen, candidates_of}
 use Rattle.rv_final.specs.Rest.{qualifying}
 use Rattle.rv_retrieval.specs.Effort.{life_of}
 use Rattle.rv_retrieval.specs.Opened.{Opened as RetrievalOpened}
@@ -38,7 +38,7 @@ is_each (EachBut index) = false
 
 -- how many indexes are restricted
 abbrev pub restricted : List Candidate → ℕ
-restricted cs = length (filter (is_scanned Each) cs)
+restricted cs = length (filter (λ (c : Candidate). c.restricted) cs)
 
 -- WHERE INDEXES CAN RACE: only a background is chosen, which scans each restricted index, and there are at least two
 abbrev pub races : Choice → List Candidate → Bool
