@@ -64,6 +64,17 @@ two_chosen choice cs r = number (restricted cs) (right_true (is_each choice.back
     number : (n : ℕ) → nat_le 2 n ≡ true → 2 ≤ n
     number n h = grind (arith, nat_tests)
 
+is_the_background : (s : Strategy) → is_background_only s ≡ true → BackgroundOnly ≡ s
+is_the_background Table h = no_way (sym h)
+is_the_background BackgroundOnly h = refl
+is_the_background FastFirst h = no_way (sym h)
+is_the_background Sorted h = no_way (sym h)
+is_the_background IndexOnly h = no_way (sym h)
+
+-- where indexes race the strategy is that of a background alone
+pub raced_strategy : (race : Bool) (choice : Choice) (cs : List Candidate) → (race && races choice cs) ≡ true → BackgroundOnly ≡ choice.strategy
+raced_strategy race choice cs h = is_the_background choice.strategy (alone_chosen choice cs (right_true race _ h))
+
 unsorted : (s : Strategy) → is_background_only s ≡ true → is_sorted s ≡ false
 unsorted Table h = refl
 unsorted BackgroundOnly h = refl
