@@ -1,5 +1,5 @@
 -- What the calls of an access leave, by its kinds.
-use Rattle.std.proofs.Common.{ap, ◌≡◌, ℕ, Some, None, Result, Ok, Err, IfOk, OnErr, refl, sym, ◌∙◌, subst}
+use Rattle.std.proofs.Common.{◌≤◌, arith, ap, ◌≡◌, ℕ, Some, None, Result, Ok, Err, IfOk, OnErr, refl, sym, ◌∙◌, subst}
 use Rattle.rv_judge.specs.declared.counting.Counts.{Counts}
 use Rattle.rv_judge.specs.declared.judging.Facts.{Facts}
 use Rattle.rv_judge.specs.Runs.{Allowed}
@@ -122,6 +122,11 @@ same_race (Err x) old new e = ap Racing e
 
 pub retrieval_keeps : (v w : Shape) → ShapeKeeps v w → Keeps (Competing v) (Competing w)
 retrieval_keeps v w keeps = record { query = keeps.query; fits = keeps.fits; rest = keeps.rest }
+
+-- a race has nothing that a short index leaves
+pub none_fewer : {X E : Type 0} (r : Result X E) → OnErr r (0 ≤ 0)
+none_fewer (Ok x) = tt
+none_fewer (Err x) = omega arith
 
 -- A TAKE where a short index was scanned at opening
 

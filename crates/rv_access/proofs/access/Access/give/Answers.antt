@@ -39,3 +39,6 @@ returns-in-Racing-clause-spends g c shown f = gives_spends c.give.result _ _ (c.
 
 pub returns-in-Competing-clause-settled : goal.returns-in-Competing-clause-settled
 returns-in-Competing-clause-settled g c s = (ap Competing (c.give.ensures.settled s).0, (c.give.ensures.settled s).1)
+
+pub returns-in-Racing-clause-settled : goal.returns-in-Racing-clause-settled
+returns-in-Racing-clause-settled g c s = absurd s

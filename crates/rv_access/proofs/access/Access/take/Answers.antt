@@ -35,3 +35,6 @@ returns-in-Racing-clause-undropped g c t = race_undropped c.take.result _ (c.tak
 
 pub returns-in-Competing-clause-settled : goal.returns-in-Competing-clause-settled
 returns-in-Competing-clause-settled g c s = settled_take (g.R.Reader.shown c.args.reader.now) _ _ _ _ c.take.ensures.same c.take.ensures.leaves s (c.take.ensures.settled s)
+
+pub returns-in-Racing-clause-settled : goal.returns-in-Racing-clause-settled
+returns-in-Racing-clause-settled g c s = absurd s
