@@ -23,7 +23,7 @@ one_more_zero words i zero at below = elim (cases_eq at i) [
     set_zero : slice_index_or (slice_set words i 0) i 0 ≡ 0
     set_zero = elim (cases_Bool (nat_lt i (length words))) [
       | inl within ↦ get_or-set_same words i 0 0 (less within)
-      | inr outside ↦ get_or-eq_default (slice_set words i 0) 0 {i} (long outside)
+      | inr outside ↦ get_or-eq_default (slice_set words i 0) 0 {n = i} (long outside)
     ]
 
     by : at ≡ i → slice_index_or (slice_set words i 0) at 0 ≡ 0
@@ -32,7 +32,7 @@ one_more_zero words i zero at below = elim (cases_eq at i) [
 pub all_zero : (words : List ℕ) (i : ℕ) → ((at : ℕ) → at < i → slice_index_or words at 0 ≡ 0) → length words ≤ i → (at : ℕ) → slice_index_or words at 0 ≡ 0
 all_zero words i zero long at = elim (cases_Bool (nat_lt at i)) [
   | inl below ↦ zero at (less below)
-  | inr behind ↦ get_or-eq_default words 0 {at} (above behind)
+  | inr behind ↦ get_or-eq_default words 0 {n = at} (above behind)
 ]
   where
     less : nat_lt at i ≡ true → at < i

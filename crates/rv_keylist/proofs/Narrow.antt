@@ -1,8 +1,8 @@
 -- Some keys of a list stay.
-use Rattle.std.proofs.Common.{◌≡◌, ℕ, ◌+◌, ◌<◌, ◌≤◌, ◌++◌, ◌∷◌, [], List, length, filter, take, nat_eq, Bool, true, false, cond, ◌||◌, slice_index_or, refl, sym, ap, subst, ◌∙◌, inl, inr, arith, append-nil, Option, Some, IfSome, IsSome}
+use Rattle.std.proofs.Common.{◌≡◌, ℕ, ◌+◌, ◌<◌, ◌≤◌, ◌++◌, ◌∷◌, [], List, length, filter, nat_eq, Bool, true, false, cond, ◌||◌, refl, sym, ap, subst, ◌∙◌, inl, inr, arith, append-nil, Option, IfSome, IsSome}
 use Rattle.std.proofs.lemmas.Bool.{cases_Bool}
 use Rattle.std.proofs.lemmas.Bool.Decides.{nat_tests}
-use Rattle.std.proofs.lemmas.List.{length-append, nil_from_length, take_more}
+use Rattle.std.proofs.lemmas.List.{length-append, nil_from_length}
 use Rattle.std.proofs.lemmas.List.Elements.{filter-append}
 use Rattle.rv_keys.specs.Keys.{has_key, Once}
 use Rattle.rv_keys.proofs.Onces.{Once-nil, Once-cons, Once-head, Once-tail}
@@ -25,9 +25,9 @@ none_stays p n (x ∷ xs) h =
 
 -- a key for which the test is true stays
 pub it_stays : (p : ℕ → Bool) (n : ℕ) (xs : List ℕ) → p n ≡ true → has_key n (filter p xs) ≡ has_key n xs
-it_stays p n [] yes = refl
-it_stays p n (x ∷ xs) yes =
-    let tail = it_stays p n xs yes in
+it_stays p n [] so = refl
+it_stays p n (x ∷ xs) so =
+    let tail = it_stays p n xs so in
     elim (p x) as (λ b. p x ≡ b → has_key n (cond b (x ∷ filter p xs) (filter p xs)) ≡ has_key n (x ∷ xs)) [
       | true ↦ λ e. ap (λ (b : Bool). nat_eq n x || b) tail
       | false ↦ λ e. tail ∙ other (nat_eq n x) (has_key n xs) (differs e)
@@ -38,7 +38,7 @@ it_stays p n (x ∷ xs) yes =
 
     differs : p x ≡ false → nat_eq n x ≡ false
     differs e = elim (cases_Bool (nat_eq n x)) [
-      | inl here ↦ absurd (let bad : true ≡ false = sym yes ∙ ap p (number n x here) ∙ e in cc)
+      | inl here ↦ absurd (let bad : true ≡ false = sym so ∙ ap p (number n x here) ∙ e in cc)
       | inr off ↦ off
     ]
 
@@ -54,18 +54,6 @@ once_stays p (x ∷ xs) once =
       | false ↦ tail
     ]
 
--- One key more of the fixed buffer.
-
-pub kept_more : (list keys : List ℕ) (i key : ℕ) (kept new : List ℕ) → kept ≡ filter (λ k. may_key k list) (take i keys) → new ≡ kept ++ filter (λ k. may_key k list) (key ∷ []) → i < length keys → slice_index_or keys i key ≡ key → new ≡ filter (λ k. may_key k list) (take (i + 1) keys)
-kept_more list keys i key kept new was is below here =
-    is ∙ ap (λ (x : List ℕ). x ++ filter (λ k. may_key k list) (key ∷ [])) was ∙ sym (filter-append (λ k. may_key k list) (take i keys) (key ∷ [])) ∙ ap (filter (λ k. may_key k list)) (ap (λ (k : ℕ). take i keys ++ k ∷ []) (sym here) ∙ sym (take_more keys i key below))
-
-pub kept_few : (list : List ℕ) (key : ℕ) (kept new : List ℕ) (i : ℕ) → new ≡ kept ++ filter (λ k. may_key k list) (key ∷ []) → length kept ≤ i → length new ≤ i + 1
-kept_few list key kept new i is few =
-    let one = few_stay (λ k. may_key k list) (key ∷ []) in
-    let long = ap length is ∙ length-append kept (filter (λ k. may_key k list) (key ∷ [])) in
-    omega arith
-
 -- Where the keys stand.
 
 nothing : (xs : List ℕ) → length xs ≡ 0 → xs ≡ []
@@ -76,6 +64,14 @@ still_moved list few many few' many' placed f m some =
     let fewer = few_stay (λ k. may_key k list) many in
     let same = ap length m in
     f ∙ ap (filter (λ k. may_key k list)) (placed.moved (omega arith))
+
+-- the fixed buffer takes them all
+pub few_fit : (few many : List ℕ) → length few ≤ 20 → (0 < length many → few ≡ []) → length many ≤ 20 → length few + length many ≤ 20
+few_fit few [] held moved short = omega arith
+few_fit few (x ∷ many) held moved short = let none = ap length (moved (omega arith)) in omega arith
+
+pub few_moved : (few many few' : List ℕ) → few' ≡ few ++ many → length few + length many ≤ 20 → length few' ≤ 20
+few_moved few many few' is fit = let long = ap length is ∙ length-append few many in omega arith
 
 pub moved_few : (few many : List ℕ) (capacity : ℕ) (few' many' : List ℕ) (capacity' : ℕ) → few' ≡ few ++ many → many' ≡ [] → Moves few many capacity few' many' capacity'
 moved_few few many capacity few' many' capacity' f m = record {

@@ -62,7 +62,8 @@ pub fn move_back(few: &mut ArrayVec<u64, 20>, many: &mut Vec<u64>)
     ensures moves { Moves few.old.items many.old.items (vec_capacity many.old) few.new.items many.new.items (vec_capacity many.new) }
     ensures short { length few.new.items ≤ 20 }
 {
-    if many.len() <= FEW && !many.is_empty() {
+    let _held = few.len();
+    if many.len() <= FEW {
         move_few(few, many);
     }
 }

@@ -1,4 +1,4 @@
-use Rattle.std.proofs.Common.{◌∙◌, length-set}
+use Rattle.std.proofs.Common.{◌∙◌, arith, length-set, rules}
 use Rattle.rv_filter.proofs.Zeros.{all_zero, one_more_zero}
 use Rattle.rv_filter.proofs.clear_words.Goals as goal
 
@@ -10,4 +10,4 @@ words-preserved c = record {
 }
 
 pub returns-clause-zero : goal.returns-clause-zero
-returns-clause-zero c = all_zero c.words.words.items c.words.i c.words.invariant.zero
+returns-clause-zero c = all_zero c.words.words.items c.words.i c.words.invariant.zero (search rules)
