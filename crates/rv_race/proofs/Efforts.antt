@@ -40,7 +40,7 @@ use Rattle.rv_race.specs.declared.running.Running.{Running}
 use Rattle.rv_race.specs.Effort.{GiveSpends, Spends, effort, effort_by, keys_work, lane_work, other_work, planned_work, racing_work, runner_work, running_work, table_work, to_read}
 use Rattle.rv_race.specs.Given.{Answers, Awaits, TakesLeaf, TakesPiece, counts_read, holding, piece_read, reads_leaf, turn_lane, turn_plan, turn_scan}
 use Rattle.rv_race.specs.Raced.{RaceFits, Raced, ahead, racing}
-use Rattle.rv_race.specs.Rulings.{GivesOn, Obeys, accepted, going_on, gone, index_at, list_len, listed, more, narrowed_by, over, passed_on, ruled, stopped, told_over}
+use Rattle.rv_race.specs.Rulings.{GivesOn, Obeys, accepted, facts_of, going_on, gone, index_at, list_len, listed, more, narrowed_by, over, passed_on, ruled, stopped, told_over}
 use Rattle.rv_race.specs.Ways.{advanced, begun, followed, followed_by, has_next, turned, turned_to}
 use Rattle.rv_race.proofs.Fits.{ahead_split}
 use Rattle.rv_race.proofs.Switches.{Leads, dropped_leads, ended_leads, is_racing, over_as, stopped_leads}
@@ -208,7 +208,7 @@ obeyed_work would state after piece old new shown (Some cut) a e o f =
     let was = effort_racing old shown a.under_way in
     let less = accepted_work old piece cut shown a e f in
     let rules = ap (λ (x : Raced). effort x shown) o.0 in
-    let ruling = ruled_work _ mid shown a.under_way (f.unbegun a.under_way) refl in
+    let ruling = ruled_work (would state (facts_of mid)).verdict mid shown a.under_way (f.unbegun a.under_way) refl in
     omega arith
 obeyed_work would state after piece old new shown None a e o f =
     let mid = listed o.0.keys (accepted piece true old) in

@@ -48,13 +48,13 @@ covered_may (Some keys) owed c n o = may_key-never_denies n keys (c n o)
 
 -- what stands in the list with what is kept of the leaf, or behind the leaf
 builds_on : (plan : ScanPlan) (shown : Shown) (snap : ℕ) (l : Laned) (piece : Pieced) (admits : ℕ → Bool) (after : List IndexEntry) (n : ℕ) → piece.part ≡ plan.part → ahead plan shown snap l ≡ piece.entries ++ after → admits n ≡ true → (has_key n l.building || has_entry n (passing plan.part (ahead plan shown snap l))) ≡ true → (has_key n (l.building ++ kept_by admits piece.part piece.entries) || has_entry n (passing plan.part after)) ≡ true
-builds_on plan shown snap l piece admits after n part parts yes b =
+builds_on plan shown snap l piece admits after n part parts admitted b =
     let split : (has_key n l.building || has_entry n (passing plan.part (piece.entries ++ after))) ≡ true = subst (λ (es : List IndexEntry). (has_key n l.building || has_entry n (passing plan.part es)) ≡ true) parts b in
-    subst (λ (p : Parted). (has_key n (l.building ++ kept_by admits p piece.entries) || has_entry n (passing plan.part after)) ≡ true) (sym part) (found_or_ahead l.building admits plan.part n piece.entries after split yes)
+    subst (λ (p : Parted). (has_key n (l.building ++ kept_by admits p piece.entries) || has_entry n (passing plan.part after)) ≡ true) (sym part) (found_or_ahead l.building admits plan.part n piece.entries after split admitted)
 
 -- one that is not the last of its scan
 pub passed_fits : (plans : List ScanPlan) (owed : ℕ → Bool) (shown : Shown) (snap : ℕ) (run : Runner) (admits : ℕ → Bool) (piece : Pieced) (cut : IndexEntry) → RunnerFits plans owed shown snap run → piece.part ≡ (plan_at plans run.scan).part → HasEntries run.lane.held piece.entries → held_next run.lane.held ≡ Some cut → ((n : ℕ) → owed n ≡ true → admits n ≡ true) → RunnerFits plans owed shown snap (record run { lane = passed admits piece run.lane })
-passed_fits plans owed shown snap run admits piece cut f part has next yes =
+passed_fits plans owed shown snap run admits piece cut f part has next admitted =
     let plan = plan_at plans run.scan in
     let all = shown.entries plan.index snap in
     let after = run_from all plan.range (Some cut) in
@@ -67,7 +67,7 @@ passed_fits plans owed shown snap run admits piece cut f part has next yes =
         fresh = fresh_after run.lane.building admits piece.part piece.entries after (subst Apart parts (Apart-run all plan.range run.lane.place f.lane.apart)) (subst (Disjoint run.lane.building) parts f.lane.fresh);
         drawn = tt;
       };
-      builds = λ n o. builds_on plan shown snap run.lane piece admits after n part parts (yes n o) (f.builds n o);
+      builds = λ n o. builds_on plan shown snap run.lane piece admits after n part parts (admitted n o) (f.builds n o);
     } in
     subst (λ (place : Option IndexEntry). RunnerFits plans owed shown snap (record run { lane = record { place = place; held = None; building = built } })) (sym next) fits
 
@@ -76,12 +76,12 @@ or_false b h = grind arith
 
 -- the last of its scan: the list has each row that is owed
 pub passed_all : (plans : List ScanPlan) (owed : ℕ → Bool) (shown : Shown) (snap : ℕ) (run : Runner) (admits : ℕ → Bool) (piece : Pieced) (keys : List ℕ) → RunnerFits plans owed shown snap run → piece.part ≡ (plan_at plans run.scan).part → HasEntries run.lane.held piece.entries → held_next run.lane.held ≡ None → ((n : ℕ) → owed n ≡ true → admits n ≡ true) → IsPermutation (run.lane.building ++ kept_by admits piece.part piece.entries) keys → Covers owed keys
-passed_all plans owed shown snap run admits piece keys f part has next yes perm n o =
+passed_all plans owed shown snap run admits piece keys f part has next admitted perm n o =
     let plan = plan_at plans run.scan in
     let all = shown.entries plan.index snap in
     let built = run.lane.building ++ kept_by admits piece.part piece.entries in
     let parts : ahead plan shown snap run.lane ≡ piece.entries ++ [] = ahead_split plan shown snap run.lane.place run.lane.held piece.entries has f.lane.drawn ∙ ap (λ (c : Option IndexEntry). piece.entries ++ run_after all plan.range c) next in
-    let b = builds_on plan shown snap run.lane piece admits [] n part parts (yes n o) (f.builds n o) in
+    let b = builds_on plan shown snap run.lane piece admits [] n part parts (admitted n o) (f.builds n o) in
     sym (list_any-IsPermutation (nat_eq n) built keys perm) ∙ or_false (has_key n built) b
 
 -- A list that covers what is owed narrows what another scan has.

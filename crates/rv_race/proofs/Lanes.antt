@@ -82,6 +82,10 @@ completes_by old c n r l t new some made en er el et e = by c.list some made
     }
 
 -- What becomes of the scan of an accepted piece.
+-- what stands on the right of an equation
+abbrev pub right_of : {A : Type 0} {x y : A} → x ≡ y → A
+right_of {A} {x} {y} p = y
+
 pub obeys_by : (would : ℕ → Facts → Ruling) (state after : ℕ) (piece : Pieced) (old mid new : Raced) (last : Bool) (next : Option IndexEntry) → is_some next ≡ not last → mid ≡ accepted piece last old → (last ≡ true → Completes mid new × (after ≡ state)) → (last ≡ false → IsRuled (would state (facts_of mid)) after mid new) → Obeys would state after piece next old new
 obeys_by would state after piece old mid new true None n m over rules = let done = over refl in (subst (λ (x : Raced). Completes x new) m done.0, done.1)
 obeys_by would state after piece old mid new false (Some cut) n m over rules = subst (λ (x : Raced). IsRuled (would state (facts_of x)) after x new) m (rules refl)

@@ -83,11 +83,11 @@ one_more planned events turns s to h keys es w comes l =
 
 -- THE SCANS THAT ARE OVER, and one behind them
 
-pub turn_by : Option ℕ → Option ℕ → Turn
+abbrev pub turn_by : Option ℕ → Option ℕ → Turn
 turn_by before None = record { happening = Ruled AbandonScan true (is_some before); keys = 0 }
 turn_by before (Some keys) = record { happening = ScanEnded true true; keys = keys }
 
-pub turns_of : Option ℕ → List Ended → List Turn
+abbrev pub turns_of : Option ℕ → List Ended → List Turn
 turns_of before [] = []
 turns_of before (e ∷ ends) = turn_by before e.keys ∷ turns_of (later before e.keys) ends
 

@@ -1,4 +1,4 @@
-use Rattle.std.proofs.Common.{◌<◌, length, subst}
+use Rattle.std.proofs.Common.{◌≡◌, ◌<◌, length, subst}
 use Rattle.rv_race.specs.Raced.{Raced}
 use Rattle.rv_race.specs.Ways.{lower}
 use Rattle.rv_race.proofs.Lanes.{lower_within}

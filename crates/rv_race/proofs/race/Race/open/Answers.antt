@@ -15,5 +15,5 @@ returns-clause-tells g c = opened_tells c.args.table c.args.snap c.args.only c.a
 pub returns-clause-life : goal.returns-clause-life
 returns-clause-life g c =
     let shown = g.R.Reader.shown c.args.reader.now in
-    let o = subst (λ (pages : _). Opened c.args.table c.args.snap c.args.only c.args.scans.items c.args.cursor c.args.opening pages c.make.result) c.sizes.ensures.pages c.make.ensures in
-    opened_life c.args.table c.args.snap c.args.only c.args.scans.items c.args.cursor c.args.opening c.make.result shown o c.sizes.ensures.table c.requires.two c.requires.few
+    let o = subst (λ (pages : _). Opened c.args.table c.args.snap c.args.only c.args.scans.items c.args.cursor c.args.opening pages c.make.result) c.sizes-pages.ensures.pages c.make.ensures in
+    opened_life c.args.table c.args.snap c.args.only c.args.scans.items c.args.cursor c.args.opening c.make.result shown o c.sizes-pages.ensures.table c.requires.two c.requires.few

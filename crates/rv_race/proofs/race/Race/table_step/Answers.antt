@@ -1,10 +1,11 @@
-use Rattle.std.proofs.Common.{◌≡◌, ◌∙◌, ap, inr}
+use Rattle.std.proofs.Common.{◌≡◌, ◌∙◌, ap, inr, subst, sym}
 use Rattle.rv_judge.specs.declared.events.Control.TheVariants.{FinalTable}
 use Rattle.rv_scan.specs.declared.skip.Scanned.TheVariants.{Found, Working, End}
+use Rattle.rv_race.specs.Opened.{OnlyTakes}
 use Rattle.rv_race.specs.Raced.{Raced}
 use Rattle.rv_race.proofs.Finals.{ended_steady, ended_step, ended_tries, ends_done, table_does, table_falls, table_over, table_scanned, table_steady, table_tries}
-use Rattle.rv_race.proofs.Stepped.{only_if, table_read}
-use Rattle.rv_race.proofs.stages.Race.table_step.Goals as goal
+use Rattle.rv_race.proofs.Stepped.{kept_if_not, only_itself, table_read}
+use Rattle.rv_race.proofs.race.Race.table_step.Goals as goal
 
 pub returns-in-Found-clause-does : goal.returns-in-Found-clause-does
 returns-in-Found-clause-does g c rules stands = table_does rules stands c.args.self.now c.scan_last.new.self (g.R.Reader.shown c.args.reader.now) c.args.steps.now c.scan_last.new.steps (Found c.in-Found.found) c.requires.control (rw c.in-Found.is at c.in_ok-found.ensures.reads) c.scan_last.ensures.same
@@ -85,4 +86,4 @@ pub returns-in_err-found-clause-may_read : goal.returns-in_err-found-clause-may_
 returns-in_err-found-clause-may_read g c = table_read c.args.self.now _ _ c.requires.control c.scan_last.ensures.may_read
 
 pub returns-in_err-found-clause-still : goal.returns-in_err-found-clause-still
-returns-in_err-found-clause-still g c = only_if _ c.args.self.now c.scan_last.new.self c.scan_last.ensures.err
+returns-in_err-found-clause-still g c = kept_if_not _ _ (subst (OnlyTakes c.args.self.now) (sym c.in_err-found.ensures.err) (only_itself c.args.self.now))

@@ -1,5 +1,5 @@
 use Rattle.rv_race.proofs.Takes.{took_can, took_err, took_fits, took_lane, took_leaves, took_reads, took_taken, took_trace}
-use Rattle.rv_race.proofs.taking.Race.take_awaited.Goals as goal
+use Rattle.rv_race.proofs.race.Race.take_awaited.Goals as goal
 
 pub take_lane-requires-clause-can : goal.take_lane-requires-clause-can
 take_lane-requires-clause-can g c = took_can c.args.self.now c.count_read.new.self (g.R.Reader.shown c.args.reader.now) c.count_read.ensures c.requires.fits

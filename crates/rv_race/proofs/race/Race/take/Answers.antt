@@ -5,7 +5,7 @@ use Rattle.rv_race.specs.Given.{awaited}
 use Rattle.rv_race.proofs.Efforts.{leaf_spends, take_spends}
 use Rattle.rv_race.proofs.Takes.{counted_fits, counted_leaves, counted_race, counted_tells, took_awaits, took_race, took_rest, took_tells}
 use Rattle.rv_race.proofs.Tellings.{undropped_piece}
-use Rattle.rv_race.proofs.taking.Race.take.Goals as goal
+use Rattle.rv_race.proofs.race.Race.take.Goals as goal
 
 pub returns-clause-leaves : goal.returns-clause-leaves
 returns-clause-leaves g c = counted_leaves c.args.self.now c.take_piece-taken.new.self c.count.new.self _ c.count.ensures c.take_piece-taken.ensures.leaves

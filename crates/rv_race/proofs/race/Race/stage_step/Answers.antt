@@ -1,10 +1,13 @@
-use Rattle.std.proofs.Common.{◌≡◌, ◌∙◌, ap, false, sym, true}
+use Rattle.std.proofs.Common.{◌≡◌, ◌∙◌, ap, false, inl, inr, sym, true}
 use Rattle.rv_race.specs.Raced.{of_race}
 use Rattle.rv_race.proofs.Stepped.{done_does, done_read, done_rest_twice, done_tries, stays_steady}
-use Rattle.rv_race.proofs.stages.Race.stage_step.Goals as goal
+use Rattle.rv_race.proofs.race.Race.stage_step.Goals as goal
 
 pub unreachable-requires : goal.unreachable-requires
-unreachable-requires g c = absurd (let bad : true ≡ false = sym c.requires.fits.stands ∙ ap of_race (sym c.control.ensures ∙ c.in-Building.is) in cc)
+unreachable-requires g c = elim c.in-Building.is [
+  | inl building ↦ absurd (let bad : true ≡ false = sym c.requires.fits.stands ∙ ap of_race (sym c.control.ensures ∙ building) in cc)
+  | inr alone ↦ absurd (let bad : true ≡ false = sym c.requires.fits.stands ∙ ap of_race (sym c.control.ensures ∙ alone) in cc)
+]
 
 pub returns-in-Done-clause-does : goal.returns-in-Done-clause-does
 returns-in-Done-clause-does g c = done_does _ _ c.args.self.now (g.R.Reader.shown c.args.reader.now) c.args.steps.now (sym c.control.ensures ∙ c.in-Done.is)

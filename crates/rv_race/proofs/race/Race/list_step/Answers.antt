@@ -4,7 +4,7 @@ use Rattle.rv_scan.specs.declared.skip.Scanned.TheVariants.{Found, Working, End}
 use Rattle.rv_race.specs.Raced.{Raced}
 use Rattle.rv_race.proofs.Finals.{ended_steady, ended_step, ended_tries, ends_done, list_does, list_falls, list_over, list_scanned, list_steady, list_tries, passed_rest}
 use Rattle.rv_race.proofs.Stepped.{only_at_keys, kept_if_not, list_read}
-use Rattle.rv_race.proofs.stages.Race.list_step.Goals as goal
+use Rattle.rv_race.proofs.race.Race.list_step.Goals as goal
 
 pub returns-in-Found-clause-does : goal.returns-in-Found-clause-does
 returns-in-Found-clause-does g c rules stands = list_does rules stands c.args.self.now c.scan_list.new.self (g.R.Reader.shown c.args.reader.now) c.args.steps.now c.scan_list.new.steps (Found c.in-Found.row) c.requires.control (rw c.in-Found.is at c.in_ok-row.ensures.fetches) c.scan_list.ensures.same
