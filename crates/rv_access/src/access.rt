@@ -64,9 +64,7 @@ fn restricted(candidates: &[Candidate]) -> usize
 pub fn races(choice: Choice, candidates: &[Candidate]) -> bool
     ensures { result ≡ races choice candidates.now }
 {
-    is_background_only(choice.strategy)
-        && is_each(choice.background)
-        && restricted(candidates) >= 2
+    is_background_only(choice.strategy) && is_each(choice.background) && restricted(candidates) >= 2
 }
 
 impl Access {

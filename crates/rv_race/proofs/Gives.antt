@@ -1,5 +1,5 @@
 -- What a give leaves: an accepted piece, and then the end of its scan, or the verdict on it.
-use Rattle.std.proofs.Common.{◌≡◌, ℕ, List, length, Bool, true, false, not, refl, ap, sym, ◌∙◌, subst, Option, Some, None, is_some, IfSome, IsPermutation, Result, Ok, Err, IfOk, OnErr, inl, inr}
+use Rattle.std.proofs.Common.{◌≡◌, ℕ, List, length, Bool, true, false, refl, ap, sym, ◌∙◌, subst, Option, Some, None, is_some, IfSome, IsPermutation, Result, Ok, Err, IfOk, OnErr, inl, inr}
 use Rattle.rv_value.specs.declared.record.IndexEntry.{IndexEntry}
 use Rattle.rv_judge.specs.declared.events.Control.{Control}
 use Rattle.rv_judge.specs.declared.events.Happening.{Happening}
@@ -20,7 +20,7 @@ use Rattle.rv_jscan.specs.Steps.{held_next}
 use Rattle.rv_race.specs.declared.running.Runner.{Runner}
 use Rattle.rv_race.specs.declared.running.Running.{Running}
 use Rattle.rv_race.specs.Given.{Answers, Awaits, turn_lane, turn_scan}
-use Rattle.rv_race.specs.Raced.{Keeps, RaceFits, Raced, SameRace, owed, racing, rest}
+use Rattle.rv_race.specs.Raced.{Keeps, RaceFits, Raced, SameRace, owed, racing}
 use Rattle.rv_race.specs.Rulings.{GivesOn, HasNextTurn, Obeys, accepted, dropped, ended, going_on, index_at, listed, more, narrowed_by, over, passed_on, ruled, stopped, told_over}
 use Rattle.rv_race.specs.Ways.{advanced, lower, turned, turned_to}
 use Rattle.rv_race.proofs.Fits.{advanced_running, begun_fits, covered_may, narrowed_fits, narrowed_unheld, passed_all, passed_fits, turned_running}

@@ -1,5 +1,5 @@
 -- What the calls on the scan of the turn do to the race.
-use Rattle.std.proofs.Common.{◌≡◌, ◌↔◌, ℕ, ◌+◌, ◌-◌, ◌<◌, ◌++◌, List, length, length-append, Bool, true, false, not, ◌&&◌, refl, ap, sym, ◌∙◌, arith, subst, Option, Some, None, is_some, IsSome, IfSome, IsPermutation, IsTrue, min, slice_set, Result, Ok, Err, OnErr}
+use Rattle.std.proofs.Common.{◌≡◌, ◌↔◌, ℕ, ◌-◌, ◌<◌, ◌++◌, List, length, length-append, Bool, true, false, not, ◌&&◌, refl, ap, sym, ◌∙◌, arith, subst, Option, Some, None, is_some, IsSome, IfSome, IsPermutation, IsTrue, min, slice_set, Result, Ok, Err, OnErr}
 use Rattle.std.specs.List.Sorted.{IsStrictlyIncreasing}
 use Rattle.rv_value.specs.declared.record.IndexEntry.{IndexEntry}
 use Rattle.rv_judge.specs.declared.judging.Facts.{Facts}

@@ -89,35 +89,41 @@ in_list None owed n s c o = absurd (cc)
 in_list (Some keys) owed n s c o = c n o
 
 to_list : (r : Raced) (t : Trace) (shown : Shown) → racing r.control ≡ true → IsSome r.list → RaceFits r shown → RaceFits (record r { control = FinalList; trace = t }) shown × (rest (record r { control = FinalList; trace = t }) shown ≡ rest r shown)
-to_list r t shown back some f = (record {
-  ascend = f.ascend;
-  read = f.read;
-  columns = f.columns;
-  plans = f.plans;
-  running = f.running;
-  covers = f.covers;
-  last = f.last;
-  unbegun = λ h. absurd (cc);
-  listed = λ h. some;
-  stands = refl;
-}, same_rest r.only (rows_of r shown) (λ n. true) (λ n. list_left r.list None r.at n) each ∙ sym (rest_racing r shown back))
+to_list r t shown back some f = (
+  record {
+    ascend = f.ascend;
+    read = f.read;
+    columns = f.columns;
+    plans = f.plans;
+    running = f.running;
+    covers = f.covers;
+    last = f.last;
+    unbegun = λ h. absurd (cc);
+    listed = λ h. some;
+    stands = refl;
+  },
+  same_rest r.only (rows_of r shown) (λ n. true) (λ n. list_left r.list None r.at n) each ∙ sym (rest_racing r shown back),
+)
   where
     each : (n : ℕ) → qualifies_at r.only (rows_of r shown) n ≡ true → list_left r.list None r.at n ≡ true
     each n q = and_true (has_key n (keys_left r.list r.at)) (ap (λ (i : ℕ). has_key n (keys_left r.list i)) (f.unbegun back).keys ∙ in_list r.list (owed r shown) n some f.covers q)
 
 to_table : (r : Raced) (t : Trace) (shown : Shown) → racing r.control ≡ true → RaceFits r shown → RaceFits (record r { control = FinalTable; trace = t }) shown × (rest (record r { control = FinalTable; trace = t }) shown ≡ rest r shown)
-to_table r t shown back f = (record {
-  ascend = f.ascend;
-  read = f.read;
-  columns = f.columns;
-  plans = f.plans;
-  running = f.running;
-  covers = f.covers;
-  last = f.last;
-  unbegun = λ h. absurd (cc);
-  listed = λ h. absurd (cc);
-  stands = refl;
-}, same_rest r.only (rows_of r shown) (λ n. true) (λ n. table_left r.last (rows_of r shown) None n) each ∙ sym (rest_racing r shown back))
+to_table r t shown back f = (
+  record {
+    ascend = f.ascend;
+    read = f.read;
+    columns = f.columns;
+    plans = f.plans;
+    running = f.running;
+    covers = f.covers;
+    last = f.last;
+    unbegun = λ h. absurd (cc);
+    listed = λ h. absurd (cc);
+    stands = refl;
+  },
+  same_rest r.only (rows_of r shown) (λ n. true) (λ n. table_left r.last (rows_of r shown) None n) each ∙ sym (rest_racing r shown back),
+)
   where
     each : (n : ℕ) → qualifies_at r.only (rows_of r shown) n ≡ true → table_left r.last (rows_of r shown) None n ≡ true
     each n q = and_true (has_row n (unseen r.last (rows_of r shown))) (ap (has_row n) ((f.unbegun back).pages (rows_of r shown)) ∙ row_there r.only (rows_of r shown) n q)

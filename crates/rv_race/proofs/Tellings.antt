@@ -1,5 +1,5 @@
 -- A race's trace goes on telling a run of the course, with each piece, each end of a scan and each verdict.
-use Rattle.std.proofs.Common.{◌≡◌, ◌⊎◌, ◌∙◌, ℕ, ◌+◌, ◌-◌, ◌<◌, ◌≤◌, List, [], ◌∷◌, ◌++◌, Bool, true, false, not, ◌&&◌, ◌||◌, Option, Some, None, is_some, IfSome, length, map, drop, take, min, nat_lt, nat_eq, refl, ap, sym, subst, arith, append_assoc, length-append, zero, suc, inl, inr, Result, Ok, Err, IfOk, OnErr}
+use Rattle.std.proofs.Common.{◌≡◌, ◌⊎◌, ◌∙◌, ℕ, ◌+◌, ◌-◌, ◌<◌, ◌≤◌, List, [], ◌∷◌, ◌++◌, Bool, true, false, not, ◌&&◌, ◌||◌, Option, Some, None, is_some, IfSome, length, drop, take, min, nat_lt, nat_eq, refl, ap, sym, subst, arith, append_assoc, length-append, zero, suc, inl, inr, Result, Ok, Err, IfOk, OnErr}
 use Rattle.std.specs.List.{list_all}
 use Rattle.std.proofs.lemmas.Bool.{cases_Bool}
 use Rattle.std.proofs.lemmas.Bool.Decides.{nat_tests}
@@ -34,7 +34,7 @@ use Rattle.rv_race.specs.declared.running.Runner.{Runner}
 use Rattle.rv_race.specs.declared.running.Running.{Running}
 use Rattle.rv_race.specs.Given.{Answers, TakesPiece, turn_lane, turn_scan}
 use Rattle.rv_race.specs.Raced.{Raced, racing}
-use Rattle.rv_race.specs.Rulings.{GivesOn, Obeys, accepted, dropped, ended, going_on, gone, index_at, listed, more, narrowed_by, over, passed_on, ruled, stopped, told_over}
+use Rattle.rv_race.specs.Rulings.{GivesOn, Obeys, accepted, dropped, ended, going_on, gone, index_at, listed, more, narrowed_by, passed_on, ruled, stopped, told_over}
 use Rattle.rv_race.specs.Runs.{Ended, IsOfUndropped, Placed, Tells, TellsBy, TellsOver, TellsRacing, ended_indexes, events_left, indexes_of, is_keyed, keyed, later, left_by, left_of, list_length, listed_by, outcome, told_ends, was_dropped}
 use Rattle.rv_race.specs.Ways.{advanced, followed, followed_by, has_next, joined, lower, lower_of, turned, turned_to}
 use Rattle.rv_race.proofs.Switches.{is_racing, over_as}
@@ -393,11 +393,11 @@ closed_off r new keys h n c to t k leads final left comes turn at =
     let short = ap length closed in
     let sum = length-append (so_far t.ends) (Scan i ∷ outcome i keys ∷ []) in
     let items : (gone h new).trace.events.items ≡ (so_far t.ends ++ Scan i ∷ []) ++ outcome i keys ∷ At c ∷ [] =
-        with_room new.trace.events.items (At (next_control BackgroundOnly new.control h) ∷ []) (omega arith)
-        ∙ ap (λ (x : Control). new.trace.events.items ++ At x ∷ []) leads
-        ∙ ap (λ (es : List Event). es ++ At c ∷ []) closed
-        ∙ append_assoc (so_far t.ends) (Scan i ∷ outcome i keys ∷ []) (At c ∷ [])
-        ∙ sym (append_assoc (so_far t.ends) (Scan i ∷ []) (outcome i keys ∷ At c ∷ [])) in
+    with_room new.trace.events.items (At (next_control BackgroundOnly new.control h) ∷ []) (omega arith)
+    ∙ ap (λ (x : Control). new.trace.events.items ++ At x ∷ []) leads
+    ∙ ap (λ (es : List Event). es ++ At c ∷ []) closed
+    ∙ append_assoc (so_far t.ends) (Scan i ∷ outcome i keys ∷ []) (At c ∷ [])
+    ∙ sym (append_assoc (so_far t.ends) (Scan i ∷ []) (outcome i keys ∷ At c ∷ [])) in
     finished r (gone h new) t i n (outcome i keys) h c to k.plans leads left items (turn_once r t) (index_known r.plans r.running.turn.scan t.placed.turn_planned) comes turn at
 
 next_final : (h : Happening) (r : Raced) (c : Control) → racing r.control ≡ true → next_control BackgroundOnly BackgroundAlone h ≡ c → next_control BackgroundOnly r.control h ≡ c
@@ -441,7 +441,7 @@ dropped_tells piece old back t =
     over_as Tells (λ b. Ruled AbandonScan b (is_some old.list)) r
     (λ m. racing_tells (going_on r) back t.named (closed_on old r None v c refl (left_of_both _ _ m)))
     (λ m. final_tells (gone (Ruled AbandonScan false (is_some old.list)) r) (final_of (is_some old.list)) (next_final (Ruled AbandonScan false (is_some old.list)) r (final_of (is_some old.list)) back (leads (is_some old.list))) (final_is (is_some old.list)) t.named
-      (closed_off old r None (Ruled AbandonScan false (is_some old.list)) 0 (final_of (is_some old.list)) _ v c (next_final (Ruled AbandonScan false (is_some old.list)) r (final_of (is_some old.list)) back (leads (is_some old.list))) (final_is (is_some old.list)) (left_final (is_some old.list)) (refl, refl, says) (drop_last (index_at old (turn_scan old)) (listed_by None v.ends) (is_some old.list)) (stood (is_some old.list))))
+    (closed_off old r None (Ruled AbandonScan false (is_some old.list)) 0 (final_of (is_some old.list)) _ v c (next_final (Ruled AbandonScan false (is_some old.list)) r (final_of (is_some old.list)) back (leads (is_some old.list))) (final_is (is_some old.list)) (left_final (is_some old.list)) (refl, refl, says) (drop_last (index_at old (turn_scan old)) (listed_by None v.ends) (is_some old.list)) (stood (is_some old.list))))
   where
     leads : (b : Bool) → next_control BackgroundOnly BackgroundAlone (Ruled AbandonScan false b) ≡ final_of b
     leads true = refl
@@ -479,7 +479,7 @@ ended_tells piece keys old back t =
     over_as Tells (λ b. ScanEnded b true) r
     (λ m. racing_tells (going_on r) back t.named (closed_on old r (Some (length keys)) v c (some_key keys (right_of_both (has_next (length r.plans) r.running) _ m)) (left_of_both _ _ m)))
     (λ m. final_tells (gone (ScanEnded false true) r) FinalList (next_final (ScanEnded false true) r FinalList back refl) (inl refl) t.named
-      (closed_off old r (Some (length keys)) (ScanEnded false true) (length keys) FinalList _ v c (next_final (ScanEnded false true) r FinalList back refl) (inl refl) (left_final true) (refl, refl, refl) (list_last (index_at old (turn_scan old)) (listed_by None v.ends) (length keys)) refl))
+    (closed_off old r (Some (length keys)) (ScanEnded false true) (length keys) FinalList _ v c (next_final (ScanEnded false true) r FinalList back refl) (inl refl) (left_final true) (refl, refl, refl) (list_last (index_at old (turn_scan old)) (listed_by None v.ends) (length keys)) refl))
   where
     right_of_both : (a b : Bool) → (a && b) ≡ true → b ≡ true
     right_of_both a b h = grind arith
@@ -506,10 +506,10 @@ stopped_tells piece old back t =
     let one = length-append (so_far v.ends ++ Scan i ∷ []) (Drop i ∷ []) in
     let drops : with_events old.trace.events.items (Drop (index_at r (lower r.running)) ∷ []) ≡ (so_far v.ends ++ Scan i ∷ []) ++ Drop i ∷ [] = with_room old.trace.events.items (Drop (index_at r (lower r.running)) ∷ []) (omega arith) ∙ ap (λ (es : List Event). es ++ Drop (index_at r (lower r.running)) ∷ []) v.told ∙ ap (λ (k : ℕ). (so_far v.ends ++ Scan i ∷ []) ++ Drop (index_at old k) ∷ []) low in
     let items : (stopped r).trace.events.items ≡ (so_far v.ends ++ Scan i ∷ []) ++ Drop i ∷ At (final_of b) ∷ [] =
-        ap (λ (es : List Event). with_events es (At (next_control BackgroundOnly r.control h) ∷ [])) drops
-        ∙ with_room ((so_far v.ends ++ Scan i ∷ []) ++ Drop i ∷ []) (At (next_control BackgroundOnly r.control h) ∷ []) (omega arith)
-        ∙ append_assoc (so_far v.ends ++ Scan i ∷ []) (Drop i ∷ []) (At (next_control BackgroundOnly r.control h) ∷ [])
-        ∙ ap (λ (x : Control). (so_far v.ends ++ Scan i ∷ []) ++ Drop i ∷ At x ∷ []) leads in
+    ap (λ (es : List Event). with_events es (At (next_control BackgroundOnly r.control h) ∷ [])) drops
+    ∙ with_room ((so_far v.ends ++ Scan i ∷ []) ++ Drop i ∷ []) (At (next_control BackgroundOnly r.control h) ∷ []) (omega arith)
+    ∙ append_assoc (so_far v.ends ++ Scan i ∷ []) (Drop i ∷ []) (At (next_control BackgroundOnly r.control h) ∷ [])
+    ∙ ap (λ (x : Control). (so_far v.ends ++ Scan i ∷ []) ++ Drop i ∷ At x ∷ []) leads in
     let says : b ≡ is_some (listed_by None v.ends) = sym (some_list old.list) ∙ ap is_some (sym v.listed) in
     final_tells (stopped r) (final_of b) leads (final_is b) t.named
     (finished old (stopped r) v i 0 (Drop i) (Ruled AbandonBackground false b) (final_of b) _ refl leads (left_final b) items (lower_once old v) (index_known old.plans (lower old.running) (lower_planned old v)) (refl, refl, says) (stop_last i (listed_by None v.ends) b) (stood b))

@@ -1,6 +1,6 @@
 -- The runs of which a race's trace tells: the scans that are over, one after another, and then one under way.
 use Rattle.std.proofs.Common.{◌≡◌, ◌∙◌, ℕ, ◌+◌, ◌*◌, ◌-◌, ◌<◌, ◌≤◌, List, [], ◌∷◌, ◌++◌, Bool, true, false, ◌&&◌, ◌||◌, Option, Some, None, is_some, length, take, nat_lt, nat_eq, refl, ap, sym, subst, arith, append_assoc, append-nil, length-append}
-use Rattle.std.specs.List.{list_all, list_any}
+use Rattle.std.specs.List.{list_all}
 use Rattle.std.proofs.Math.Seq.{take-append_seam}
 use Rattle.std.proofs.lemmas.Bool.Decides.{nat_tests}
 use Rattle.std.proofs.lemmas.List.Folds.{list_any-append}
@@ -110,16 +110,15 @@ chain_more before between index h keys own ends low ts comes turn c e =
     let s = begins BackgroundAlone (index ∷ rest) before in
     let to = begins BackgroundAlone rest between in
     let t : Turn = record { happening = h; keys = keys } in
-    let sc = scan_events to.scan in
-    (
+    let sc = scan_events to.scan in (
       (comes, subst (λ (x : Standing). IsRun BackgroundOnly x ts) (sym turn.moves) (subst (IsRun BackgroundOnly to) (sym e) c.run)),
       ap (λ (x : List Event). Scan index ∷ (x ++ run_events BackgroundOnly (after BackgroundOnly s t) ts)) turn.told
-      ∙ ap (λ (x : Standing). Scan index ∷ own ∷ (sc ++ run_events BackgroundOnly x ts)) turn.moves
-      ∙ ap (λ (x : List Turn). Scan index ∷ own ∷ (sc ++ run_events BackgroundOnly to x)) e
-      ∙ ap (λ (x : List Event). Scan index ∷ own ∷ x) c.told,
+          ∙ ap (λ (x : Standing). Scan index ∷ own ∷ (sc ++ run_events BackgroundOnly x ts)) turn.moves
+          ∙ ap (λ (x : List Turn). Scan index ∷ own ∷ (sc ++ run_events BackgroundOnly to x)) e
+          ∙ ap (λ (x : List Event). Scan index ∷ own ∷ x) c.told,
       ap (λ (x : Standing). run_end BackgroundOnly x ts) turn.moves
-      ∙ ap (run_end BackgroundOnly to) e
-      ∙ c.stands
+          ∙ ap (run_end BackgroundOnly to) e
+          ∙ c.stands,
     )
 
 left_true : (a b : Bool) → (a && b) ≡ true → a ≡ true

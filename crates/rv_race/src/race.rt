@@ -155,9 +155,7 @@ impl Race {
         ensures unread { _steps.new ≡ _steps.old }
     {
         let pages = reader.sizes(table, snap).pages;
-        Ok(Race::make(
-            alloc, table, snap, only, scans, cursor, opening, pages,
-        ))
+        Ok(Race::make(alloc, table, snap, only, scans, cursor, opening, pages))
     }
 
     /// Which side runs: the background alone, one of the final stages, or nothing.

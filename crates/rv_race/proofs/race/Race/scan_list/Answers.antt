@@ -25,4 +25,3 @@ pub returns-clause-passed : goal.returns-clause-passed
 returns-clause-passed g c =
     let at = c.list_step.new.self.at in
     subst (λ (r : Raced). OnErr c.list_step.result (PassesKeys r.list None r.at at)) c.self.view_is (rw c.as_ref.ensures.value at c.list_step.ensures.passed)
-
