@@ -30,7 +30,7 @@ use Rattle.rv_access.specs.Accesses.{Keeps, SamePlans, Tells, query_of, trace_of
 use Rattle.rv_access.specs.Given.{Answers, AwaitsPiece, CountsPiece, IsOfUndropped, RacedGives, TakesPiece, awaited, piece_read}
 use Rattle.rv_access.specs.Stepping.{GivesStep, RacedGivesStep, SameCourse, SettledTake, StepsAs}
 use Rattle.rv_access.proofs.Shapes.{ShapePlans, course_plans as shape_course, given_number as shape_number, given_plans as shape_given, none_read as shape_none, piece_awaited as shape_awaited, settled_back, settled_fetches, settled_joint, steps_plans as shape_steps}
-use Rattle.rv_access.proofs.Races.{given_number as race_number, given_plans as race_given, none_awaited, none_read as race_none, piece_awaited as race_awaited, steps_plans as race_steps, wider}
+use Rattle.rv_access.proofs.OfRaces.{given_number as race_number, given_plans as race_given, none_awaited, none_read as race_none, piece_awaited as race_awaited, steps_plans as race_steps, wider}
 
 -- WHAT IS ASKED, THE STRATEGY AND THE PLANNED SCANS STAY
 
@@ -104,12 +104,12 @@ race_undropped (Err x) q undropped = tt
 
 pub retrieval_answers : {E : Type 0} (r : Result Given E) (v w : Shape) (piece : Pieced) → IfOk r (λ g. RetrievalAnswers v piece g w) → IfOk r (λ g. Answers (Competing v) piece g (Competing w))
 retrieval_answers (Ok Accepted) v w piece answers = answers
-retrieval_answers (Ok (Stale asked now)) v w piece answers = (answers.0, answers.1, answers.2.0, ap Competing answers.2.1)
+retrieval_answers (Ok (Stale asked now)) v w piece answers = (answers.0, answers.1, answers.2, ap Competing answers.3)
 retrieval_answers (Err x) v w piece answers = tt
 
 pub race_answers : {E : Type 0} (r : Result Given E) (old new : RacedQuery) (piece : Pieced) → new ≡ record old { race = new.race } → IfOk r (λ g. RaceAnswers old.race piece g new.race) → IfOk r (λ g. Answers (Racing old) piece g (Racing new))
 race_answers (Ok Accepted) old new piece same answers = answers
-race_answers (Ok (Stale asked now)) old new piece same answers = (answers.0, answers.1, answers.2.0, ap Racing (same ∙ ap (λ (race : Raced). record old { race = race }) answers.2.1))
+race_answers (Ok (Stale asked now)) old new piece same answers = (answers.0, answers.1, answers.2, ap Racing (same ∙ ap (λ (race : Raced). record old { race = race }) answers.3))
 race_answers (Err x) old new piece same answers = tt
 
 pub same_retrieval : {X E : Type 0} (r : Result X E) (v w : Shape) → OnErr r (w ≡ v) → OnErr r (Competing w ≡ Competing v)

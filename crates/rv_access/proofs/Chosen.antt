@@ -1,6 +1,7 @@
 -- What was chosen can race, and what a race and a retrieval are where they begin.
-use Rattle.std.proofs.Common.{◌∷◌, cond, ◌≡◌, ℕ, ◌+◌, ◌-◌, ◌<◌, ◌≤◌, List, [], length, filter, map, Bool, true, false, ◌&&◌, nat_le, refl, ap, sym, ◌∙◌, arith, subst, Result, Ok, Err, IfOk}
+use Rattle.std.proofs.Common.{◌∷◌, cond, suc, ◌≡◌, ℕ, ◌+◌, ◌-◌, ◌<◌, ◌≤◌, List, [], length, filter, map, Bool, true, false, ◌&&◌, nat_le, refl, ap, sym, ◌∙◌, arith, subst, Result, Ok, Err, IfOk}
 use Rattle.std.specs.List.{list_all}
+use Rattle.std.specs.Prelude.{◌||◌, if◌then◌else◌}
 use Rattle.std.proofs.lemmas.Bool.Decides.{nat_tests}
 use Rattle.std.proofs.lemmas.List.{length-map}
 use Rattle.std.proofs.lemmas.List.Sorted.{length_permutation}
@@ -100,6 +101,25 @@ each_restricted (c ∷ cs) = elim c.restricted as (λ b. cond b (c ∷ filter (i
   | true ↦ ap (λ (xs : List Candidate). c ∷ xs) (each_restricted cs)
   | false ↦ each_restricted cs
 ]
+
+-- one index more, of which it is known whether it is restricted
+pub one_more : (c : Candidate) (cs : List Candidate) → nat_le 1 (restricted (c ∷ cs)) ≡ (c.restricted || nat_le 1 (restricted cs))
+one_more c cs = elim c.restricted as (λ b. nat_le 1 (length (cond b (c ∷ filter (λ (x : Candidate). x.restricted) cs) (filter (λ (x : Candidate). x.restricted) cs))) ≡ (b || nat_le 1 (restricted cs))) [
+  | true ↦ some (restricted cs)
+  | false ↦ refl
+]
+  where
+    some : (n : ℕ) → nat_le 1 (suc n) ≡ true
+    some n = grind (arith, nat_tests)
+
+pub two_or_more : (c : Candidate) (cs : List Candidate) → nat_le 2 (restricted (c ∷ cs)) ≡ (if c.restricted then nat_le 1 (restricted cs) else nat_le 2 (restricted cs))
+two_or_more c cs = elim c.restricted as (λ b. nat_le 2 (length (cond b (c ∷ filter (λ (x : Candidate). x.restricted) cs) (filter (λ (x : Candidate). x.restricted) cs))) ≡ (if b then nat_le 1 (restricted cs) else nat_le 2 (restricted cs))) [
+  | true ↦ less (restricted cs)
+  | false ↦ refl
+]
+  where
+    less : (n : ℕ) → nat_le 2 (suc n) ≡ nat_le 1 n
+    less n = grind (arith, nat_tests)
 
 -- at least two scans are planned
 pub two_scans : (choice : Choice) (cs : List Candidate) (only : List (List Atom)) (scans : List ScanPlan) → races choice cs ≡ true → AreScans only cs choice.background scans → 2 ≤ length scans

@@ -2,5 +2,5 @@ pub mod Lives
 pub mod Chosen
 pub mod Shapes
 pub mod Counting
-pub mod Races
+pub mod OfRaces
 pub mod Accesses

@@ -110,7 +110,7 @@ piece_awaited v piece awaits = rw (awaits.back, awaits.awaits.way) (ap (λ (id :
 -- Strategy and planned scans.
 
 plans_then : (u v w : Shape) → ShapePlans u v → ShapePlans v w → ShapePlans u w
-plans_then u v w first then = record { query = then.query ∙ first.query; strategy = then.strategy ∙ first.strategy; plans = then.plans ∙ first.plans }
+plans_then u v w first after = record { query = after.query ∙ first.query; strategy = after.strategy ∙ first.strategy; plans = after.plans ∙ first.plans }
 
 plans_stay : (v : Shape) → ShapePlans v v
 plans_stay v = record { query = refl; strategy = refl; plans = refl }

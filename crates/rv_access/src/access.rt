@@ -1,4 +1,4 @@
-ghost use Rattle.std.specs.Prelude.{◌≡◌, ◌+◌, ◌≤◌, true, false, IfOk, OnErr, Ok};
+ghost use Rattle.std.specs.Prelude.{◌≡◌, ◌+◌, ◌≤◌, true, false, nat_le, IfOk, OnErr, Ok};
 ghost use Rattle.rv_judge.specs.Counting.{reads};
 ghost use Rattle.rv_judge.specs.Runs.{Allowed};
 ghost use Rattle.rv_judge.specs.Tracing.{CountsRise, SameCounts};
@@ -50,21 +50,39 @@ fn is_each(background: Background) -> bool
     }
 }
 
-/// How many indexes are restricted.
-fn restricted(candidates: &[Candidate]) -> usize
-    ensures { result ≡ restricted candidates.now }
+/// Whether an index is restricted.
+#[tactic(auto, using(crate::proofs::Chosen::one_more))]
+fn has_one(candidates: &[Candidate]) -> bool
+    ensures { result ≡ nat_le 1 (restricted candidates.now) }
 {
-    candidates
-        .iter()
-        .filter(|candidate| candidate.restricted)
-        .count()
+    match candidates {
+        [] => false,
+        [first, more @ ..] => first.restricted || has_one(more),
+    }
+}
+
+/// Whether two indexes or more are restricted.
+#[tactic(auto, using(crate::proofs::Chosen::two_or_more))]
+fn has_two(candidates: &[Candidate]) -> bool
+    ensures { result ≡ nat_le 2 (restricted candidates.now) }
+{
+    match candidates {
+        [] => false,
+        [first, more @ ..] => {
+            if first.restricted {
+                has_one(more)
+            } else {
+                has_two(more)
+            }
+        }
+    }
 }
 
 /// Whether the scans that were chosen can race: a background alone runs, and two indexes or more are restricted.
 pub fn races(choice: Choice, candidates: &[Candidate]) -> bool
     ensures { result ≡ races choice candidates.now }
 {
-    is_background_only(choice.strategy) && is_each(choice.background) && restricted(candidates) >= 2
+    is_background_only(choice.strategy) && is_each(choice.background) && has_two(candidates)
 }
 
 impl Access {

@@ -1,4 +1,4 @@
-use Rattle.rv_access.proofs.Races.{fits_on, gives_as_raced, same_if, tells_on}
+use Rattle.rv_access.proofs.OfRaces.{fits_on, gives_as_raced, same_if, tells_on}
 use Rattle.rv_access.proofs.racing.RacedQuery.give.Goals as goal
 
 pub returns-clause-obeys : goal.returns-clause-obeys

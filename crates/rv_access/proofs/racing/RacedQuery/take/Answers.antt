@@ -1,5 +1,5 @@
 use Rattle.std.proofs.Common.{refl}
-use Rattle.rv_access.proofs.Races.{fits_on, tells_on}
+use Rattle.rv_access.proofs.OfRaces.{fits_on, tells_on}
 use Rattle.rv_access.proofs.racing.RacedQuery.take.Goals as goal
 
 pub returns-clause-leaves : goal.returns-clause-leaves

@@ -78,11 +78,11 @@ later false b e h = h
 
 any_known : (xs ys : List ℕ) (i : ℕ) → list_all (λ k. has_index k ys) xs ≡ true → has_index i xs ≡ true → has_index i ys ≡ true
 any_known [] ys i all has = absurd (cc)
-any_known (x ∷ xs) ys i all has = by (nat_eq x i) refl
+any_known (x ∷ xs) ys i all has = by (nat_eq x i) refl (any_known xs ys i (right_true (has_index x ys) _ all))
   where
-    by : (b : Bool) → nat_eq x i ≡ b → has_index i ys ≡ true
-    by true e = subst (λ (n : ℕ). has_index n ys ≡ true) (same_number x i e) (left_true _ _ all)
-    by false e = any_known xs ys i (right_true (has_index x ys) _ all) (later (nat_eq x i) _ e has)
+    by : (b : Bool) → nat_eq x i ≡ b → (has_index i xs ≡ true → has_index i ys ≡ true) → has_index i ys ≡ true
+    by true e rest = subst (λ (n : ℕ). has_index n ys ≡ true) (same_number x i e) (left_true _ _ all)
+    by false e rest = rest (later (nat_eq x i) _ e has)
 
 all_known : (xs ys planned : List ℕ) → list_all (λ k. has_index k ys) xs ≡ true → list_all (λ k. has_index k xs) planned ≡ true → list_all (λ k. has_index k ys) planned ≡ true
 all_known xs ys [] all these = refl
@@ -152,11 +152,11 @@ does_plans : (now : Control) (would : ℕ → Facts → Ruling) (state after : �
 does_plans Building would state after shown c d s old new does = absurd does
 does_plans ForegroundAlone would state after shown c d s old new does = absurd does
 does_plans BackgroundAlone would state after shown c d s old new does =
-    let one = does.1.0 in
+    let one = does.1 in
     (obeyed_turns would state after one.piece (held_next (turn_lane one.taken).held) one.taken new one.obeys).0 ∙ ap (λ (r : Raced). r.plans) one.leaves.same
-does_plans FinalList would state after shown c d s old new does = ap (λ (r : Raced). r.plans) does.2.1 ∙ ended_plans s old (record old { at = new.at }) refl
-does_plans FinalTable would state after shown c d s old new does = ap (λ (r : Raced). r.plans) does.2.1 ∙ ended_plans s old (record old { last = new.last }) refl
-does_plans Done would state after shown c d s old new does = ap (λ (r : Raced). r.plans) does.2.2.1
+does_plans FinalList would state after shown c d s old new does = ap (λ (r : Raced). r.plans) does.2 ∙ ended_plans s old (record old { at = new.at }) refl
+does_plans FinalTable would state after shown c d s old new does = ap (λ (r : Raced). r.plans) does.2 ∙ ended_plans s old (record old { last = new.last }) refl
+does_plans Done would state after shown c d s old new does = ap (λ (r : Raced). r.plans) does.3
 
 pub steps_plans : (would : ℕ → Facts → Ruling) (state after : ℕ) (shown : Shown) (c d : Counts) (fg : Fg) (old new : RacedQuery) → RacedSteps would state after shown c d fg old new → SamePlans (Racing old) (Racing new)
 steps_plans would state after shown c d fg old new steps = record {
