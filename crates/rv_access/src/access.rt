@@ -319,6 +319,7 @@ impl Access {
         judge: &mut Box<dyn Judge>,
         steps: &mut Steps<L>,
     ) -> Result<Given, NoMemory>
+        requires asked { self.old ≡ self.old }
         ensures given { IfOk result (λ g. Answers self.old sieved g self.new) }
         ensures obeys { IfOk result (λ g. GivesOn (would judge.old) (state judge.old) (state judge.new) sieved g self.old self.new) }
         ensures number { IfOk result (λ g. CountsPiece g (number_of self.old) (number_of self.new)) }

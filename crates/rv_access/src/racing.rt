@@ -143,6 +143,7 @@ impl RacedQuery {
         judge: &mut Box<dyn Judge>,
         steps: &mut Steps<L>,
     ) -> Result<Given, NoMemory>
+        requires asked { self.old ≡ self.old }
         ensures given { IfOk result (λ g. RaceAnswers self.old.race sieved g self.new.race) }
         ensures obeys { IfOk result (λ g. RacedGives (would judge.old) (state judge.old) (state judge.new) sieved g self.old self.new) }
         ensures same { self.new ≡ record self.old { race = self.new.race } }
