@@ -5,7 +5,7 @@ While no scan has completed, the first two scans that are not over are under way
 first one that is not over. Their pieces come in turn. Here that is told of one piece at a time, from what was done before:
 which scans are over, and which one was given the last accepted piece."""
 
-from model.retrieval import KeyList, Ruling, Scan, project
+from .retrieval import KeyList, Ruling, Scan, project
 
 TOGETHER = 2
 
@@ -63,6 +63,9 @@ class Race:
         return told + self.last
 
     # Pieces.
+
+    def awaits(self):
+        return self.turn() is not None
 
     def take(self):
         scan = self.turn()

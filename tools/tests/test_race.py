@@ -2,6 +2,7 @@
 second at least 10."""
 import unittest
 
+from model.program import run
 from retrieval_table import IA, IC, MUCH, Asked, Table, access, in_turn, patient, threshold
 
 
@@ -28,6 +29,15 @@ class Races(unittest.TestCase):
 
     def test_the_end_shows_the_lower_scan(self):
         self.tells(in_turn(["go on", "end"], False), "scan IC drop IC final-table", "pages 2 leaves 2 fetches 0")
+
+    def test_program(self):
+        lines = ["1 CREATE TABLE S (A BIGINT, B BIGINT)", "1 CREATE INDEX IA ON S (A)", "1 CREATE INDEX IB ON S (B)", "1 BEGIN"]
+        lines += [f"1 INSERT INTO S VALUES ({i % 4}, {i})" for i in range(40)] + ["1 COMMIT", "2 BEGIN READ ONLY"]
+        lines += ["2 OPEN C SELECT * FROM S WHERE A >= 1 AND B >= 10"] + 24 * ["2 FETCH C"] + ["2 SHOW C"]
+        replies = [reply for _, _, reply in run("".join(line + "\n" for line in lines), judge=1, steps=0, race=True)]
+        self.assertEqual(replies[-25:-2], [f"row {n % 4}, {n}" for n in range(10, 40) if n % 4])
+        told = "background-only background scan IA list IA 30 scan IB list IB 23 final-list done pages 0 leaves 4 fetches 23"
+        self.assertEqual(replies[-2:], ["end", "trace " + told])
 
 
 if __name__ == "__main__":
