@@ -63,6 +63,7 @@ pub fn open_cursor<R: Reader>(
     name: Text,
     number: u64,
     snap: u64,
+    race: bool,
     frozen: Option<View>,
     steps: &mut Steps<R::Ledger>,
 ) -> Result<Open, NoMemory>
@@ -71,6 +72,7 @@ pub fn open_cursor<R: Reader>(
     ensures fits { IfOk result (CursorFits (R.shown reader.now)) }
     ensures left { IfOk result (λ c. left (R.shown reader.now) c ≡ offers_in_order (offers_over select.now (table_rows (seen_at (R.shown reader.now) snap frozen) snap))) }
     ensures asked { IfOk result (λ c. IsAsked select.now indexes.now snap number c.plan.asked) }
+    ensures race { IfOk result (λ c. c.plan.asked.race ≡ race) }
     ensures leads { IfOk result (λ c. LeadsWith (seen_at (R.shown reader.now) snap frozen) c.plan) }
     ensures stage { IfOk result (λ c. c.plan.stage ≡ stage_of select.now indexes.now) }
     ensures work { IfOk result (λ c. plan_work (seen_at (R.shown reader.now) snap frozen) c.plan ≤ row_cost (seen_at (R.shown reader.now) snap frozen) snap c.plan.asked.items) }
@@ -95,6 +97,7 @@ pub fn open_cursor<R: Reader>(
         indexes,
         snap,
         number,
+        race,
         steps,
     )?;
     Ok(Open {

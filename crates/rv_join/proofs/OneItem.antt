@@ -1,5 +1,5 @@
 -- A plan over one FROM item: what its one retrieval does, and what the first item's retrieval keeps.
-use Rattle.std.proofs.Common.{◌≡◌, ℕ, ◌+◌, ◌-◌, ◌^◌, ◌<◌, ◌≤◌, List, [], ◌∷◌, ◌++◌, length, true, false, Option, Some, None, is_some, refl, ap, sym, ◌∙◌, arith, subst, inl, inr, zero, suc, slice_index_or, slice_set, Result, Ok, Err, IfOk, OnOk, OnErr}
+use Rattle.std.proofs.Common.{Bool, ◌&&◌, ◌≡◌, ℕ, ◌+◌, ◌-◌, ◌^◌, ◌<◌, ◌≤◌, List, [], ◌∷◌, ◌++◌, length, true, false, Option, Some, None, is_some, refl, ap, sym, ◌∙◌, arith, subst, inl, inr, zero, suc, slice_index_or, slice_set, Result, Ok, Err, IfOk, OnOk, OnErr}
 use Rattle.rv_value.specs.declared.value.Value.{Value}
 use Rattle.rv_judge.specs.Counting.{reads, raised}
 use Rattle.rv_judge.specs.declared.counting.Counts.{Counts}
@@ -16,9 +16,10 @@ use Rattle.rv_judge.specs.Tracing.{CountsAll}
 use Rattle.rv_access.specs.declared.access.Access.{Access}
 use Rattle.rv_access.specs.declared.access.Access.TheVariants.{Competing, Racing}
 use Rattle.rv_access.specs.Accesses.{SamePlans, Settled, effort, fetches_left, query_of, trace_of}
-use Rattle.rv_access.specs.Opened.{Begins, IsShort, Opened}
+use Rattle.rv_access.specs.Opened.{Begins, IsShort, Opened, OpenedBy, races}
 use Rattle.rv_access.specs.Stepping.{MayReadIts, OnlyTakes, SameCourse, SettledTake, StepsAs}
 use Rattle.rv_access.proofs.Accesses.{course_plans, plans_stay, steps_plans}
+use Rattle.rv_access.proofs.Chosen.{raced_strategy}
 use Rattle.rv_access.proofs.Counting.{OneUp, may_up, same_up}
 use Rattle.rv_join.specs.declared.level.Caught.TheVariants.{Ready}
 use Rattle.rv_join.specs.declared.level.Level.{Level}
@@ -31,6 +32,9 @@ use Rattle.rv_catalog.specs.declared.def.IndexDef.{IndexDef}
 use Rattle.rv_catalog.specs.declared.def.Select.{Select}
 use Rattle.rv_model.specs.declared.state.Offer.{Offer}
 use Rattle.rv_choice.specs.declared.query.Query.{Query}
+use Rattle.rv_choice.specs.declared.choosing.Choice.{Choice}
+use Rattle.rv_choice.specs.Choice.{IsChosen, candidates_of}
+use Rattle.rv_judge.specs.declared.events.Strategy.TheVariants.{BackgroundOnly}
 use Rattle.rv_join.specs.declared.places.Asked.{Asked}
 use Rattle.rv_join.specs.Asking.{Asks, IsAsked}
 use Rattle.rv_join.specs.Levels.{StackFits, Stacked, down, first_in, first_of, used}
@@ -306,9 +310,9 @@ begins_life s indexes shown snap cursor a v c d some asked asks none life =
 
 -- what is said of the query that was asked is said of that of the access
 
-pub opened_as : {E : Type 0} (r : Result Access E) (q : Query) (shown : Shown) (cursor opening : ℕ) (c d : Counts) → IfOk r (Begins q shown c d) → IfOk r (Opened false q shown cursor opening) → IfOk r (λ v. Opened false (query_of v) shown cursor opening v)
-opened_as (Ok v) q shown cursor opening c d begins opened = subst (λ (x : Query). Opened false x shown cursor opening v) (sym begins.asked) opened
-opened_as (Err e) q shown cursor opening c d begins opened = tt
+pub opened_as : {E : Type 0} (r : Result Access E) (race : Bool) (q : Query) (shown : Shown) (cursor opening : ℕ) (c d : Counts) → IfOk r (Begins q shown c d) → IfOk r (Opened race q shown cursor opening) → IfOk r (λ v. Opened race (query_of v) shown cursor opening v)
+opened_as (Ok v) race q shown cursor opening c d begins opened = subst (λ (x : Query). Opened race x shown cursor opening v) (sym begins.asked) opened
+opened_as (Err e) race q shown cursor opening c d begins opened = tt
 
 pub opened_counts : {E : Type 0} (r : Result Access E) (q : Query) (shown : Shown) (c d : Counts) → IfOk r (Begins q shown c d) → IfOk r (λ v. CountsAll (trace_of v) c d)
 opened_counts (Ok v) q shown c d begins = begins.counts
@@ -322,6 +326,11 @@ pub opened_short : {E : Type 0} (r : Result Access E) (q : Query) (shown : Shown
 opened_short (Ok v) q shown c d begins short = λ e. (let is = short (subst (λ (x : Query). has_short x shown ≡ true) begins.asked e) in (is.settled, is.few))
 opened_short (Err e) q shown c d begins short = tt
 
-pub opened_rules : (shown : Shown) (cursor opening : ℕ) (v : Access) → Opened false (query_of v) shown cursor opening v → IsByRules shown v
-opened_rules shown cursor opening (Competing v) opened = let is = opened.opened in record { choice = is.choice; chosen = is.chosen; strategy = is.made.strategy; scans = is.made.scans }
-opened_rules shown cursor opening (Racing r) opened = absurd opened.opened
+opened_by : (race : Bool) (shown : Shown) (cursor opening : ℕ) (choice : Choice) (v : Access) → IsChosen (query_of v).order (query_of v).goal (candidates_of (query_of v) shown) choice → (race ≡ true → BackgroundOnly ≡ choice.strategy) → OpenedBy race (query_of v) shown cursor opening choice v → IsByRules shown v
+opened_by false shown cursor opening choice (Competing v) chosen alone is = record { choice = is.choice; chosen = is.chosen; strategy = is.made.strategy; scans = is.made.scans }
+opened_by false shown cursor opening choice (Racing r) chosen alone is = absurd is
+opened_by true shown cursor opening choice (Competing v) chosen alone is = absurd is
+opened_by true shown cursor opening choice (Racing r) chosen alone is = record { choice = choice; chosen = chosen; strategy = alone refl; scans = is.scans }
+
+pub opened_rules : (race : Bool) (shown : Shown) (cursor opening : ℕ) (v : Access) → Opened race (query_of v) shown cursor opening v → IsByRules shown v
+opened_rules race shown cursor opening v opened = opened_by (race && races opened.choice (candidates_of (query_of v) shown)) shown cursor opening opened.choice v opened.chosen (raced_strategy race opened.choice (candidates_of (query_of v) shown)) opened.opened

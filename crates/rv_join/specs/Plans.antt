@@ -127,7 +127,7 @@ pub record PlanStays (shown : Shown) (old new : Planned) : Type 0 where
 pub record LeadsWith (shown : Shown) (p : Planned) : Type 0 where
   pub above : p.stack.above ≡ []
   pub asks : Asks p.asked [] (query_of p.stack.at.here)
-  pub opened : Opened false (query_of p.stack.at.here) shown p.asked.cursor 1 p.stack.at.here
+  pub opened : Opened p.asked.race (query_of p.stack.at.here) shown p.asked.cursor 1 p.stack.at.here
   pub counted : AreReads (trace_of p.stack.at.here) p.reads
 
 -- a step of the nested loops as the plan's answer

@@ -31,7 +31,8 @@ pub struct Item {
     pub order: Items<u32>,
 }
 
-/// What a plan is asked: its FROM items, the rest of the select, the snapshot and the cursor's number.
+/// What a plan is asked: its FROM items, the rest of the select, the snapshot, the cursor's number, and whether indexes may
+/// race.
 #[derive(Drop, Debug)]
 pub struct Asked {
     pub items: Items<Item>,
@@ -41,6 +42,8 @@ pub struct Asked {
     pub goal: Goal2,
     pub snap: u64,
     pub cursor: u64,
+    /// Whether indexes may race.
+    pub race: bool,
 }
 
 impl Asked {
@@ -304,10 +307,12 @@ pub fn ask(
     indexes: &[IndexDef],
     snap: u64,
     cursor: u64,
+    race: bool,
 ) -> Result<Asked, NoMemory>
     requires joined { length select.now.tables ≤ 4 }
     requires numbers { length indexes.now < 2 ^ 32 }
-    ensures { IfOk result (λ asked. IsAsked select.now indexes.now snap cursor asked) }
+    ensures asked { IfOk result (λ asked. IsAsked select.now indexes.now snap cursor asked) }
+    ensures race { IfOk result (λ asked. asked.race ≡ race) }
 {
     Ok(Asked {
         items: Items::from_vec(items(alloc, select, indexes)?),
@@ -317,6 +322,7 @@ pub fn ask(
         goal: goal_of(select.goal),
         snap,
         cursor,
+        race,
     })
 }
 
@@ -354,7 +360,7 @@ pub fn open_item<R: Reader>(
     requires inside { length outer.now < length asked.now.items }
     requires wide { AreWide asked.now outer.now }
     ensures opens { IfOk result (OpensItem asked.now (R.shown reader.now) outer.now) }
-    ensures opened { IfOk result (λ v. Opened false (query_of v) (R.shown reader.now) asked.now.cursor opening v) }
+    ensures opened { IfOk result (λ v. Opened asked.now.race (query_of v) (R.shown reader.now) asked.now.cursor opening v) }
     ensures counts { IfOk result (λ v. CountsAll (trace_of v) steps.old steps.new) }
     ensures life { IfOk result (λ v. reads steps.new + effort v (R.shown reader.now) ≤ reads steps.old + life_of (query_of v) (R.shown reader.now)) }
     ensures short { IfOk result (λ v. has_short (query_of v) (R.shown reader.now) ≡ true → Settled v × (fetches_left v (R.shown reader.now) ≤ 20)) }
@@ -365,7 +371,7 @@ pub fn open_item<R: Reader>(
         alloc,
         reader,
         query,
-        false,
+        asked.race,
         asked.cursor,
         opening,
         steps,

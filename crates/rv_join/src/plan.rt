@@ -4,6 +4,7 @@ ghost use Rattle.std.specs.List.Sorted.{IsPermutation};
 ghost use Rattle.rv_judge.specs.Runs.{Allowed};
 ghost use Rattle.rv_reader.specs.Shown.{Shown};
 ghost use Rattle.rv_access.specs.Accesses.{AccessFits, SamePlans, Settled, fetches_left, held_of, query_of, trace_of};
+ghost use Rattle.rv_access.specs.Opened.{is_race};
 ghost use Rattle.rv_access.specs.Given.{Answers, CountsPiece, GivesOn, TakesPiece, awaited, piece_read};
 ghost use Rattle.rv_judge.specs.Tracing.{CountsAll, CountsRise, SameCounts};
 ghost use Rattle.rv_jscan.specs.declared.piece.PieceId.{PieceId as Id};
@@ -102,12 +103,14 @@ impl Plan {
         indexes: &[IndexDef],
         snap: u64,
         cursor: u64,
+        race: bool,
         steps: &mut Steps<R::Ledger>,
     ) -> Result<Plan, NoMemory>
         requires { CanPlan select.now indexes.now (R.shown reader.now) snap }
         ensures fits { IfOk result (PlanFits (R.shown reader.now)) }
         ensures rest { IfOk result (λ p. plan_rest (R.shown reader.now) p ≡ offers_over select.now (table_rows (R.shown reader.now) snap)) }
         ensures asked { IfOk result (λ p. IsAsked select.now indexes.now snap cursor p.asked) }
+        ensures race { IfOk result (λ p. p.asked.race ≡ race) }
         ensures leads { IfOk result (LeadsWith (R.shown reader.now)) }
         ensures work { IfOk result (λ p. plan_work (R.shown reader.now) p ≤ row_cost (R.shown reader.now) p.asked.snap p.asked.items) }
         ensures counts { IfOk result (λ p. CountsAll (plan_trace p) steps.old steps.new) }
@@ -117,7 +120,7 @@ impl Plan {
         ensures only { OnlyLeaves steps.old steps.new }
     {
         let stage = first_stage(alloc, select, indexes)?;
-        let asked = ask(alloc, select, indexes, snap, cursor)?;
+        let asked = ask(alloc, select, indexes, snap, cursor, race)?;
         let stack = open(alloc, reader, &asked, steps)?;
         let reads = reads_of(&stack.first_trace());
         Ok(Plan {
@@ -128,6 +131,13 @@ impl Plan {
             stage,
             reads,
         })
+    }
+
+    /// Whether indexes race for the first FROM item.
+    pub fn raced(&self) -> bool
+        ensures { result ≡ is_race (first_of self.now.stack).here }
+    {
+        self.stack.first_raced()
     }
 
     /// What it did so far: the strategy and the events of the first FROM item's retrieval, with the counts of all its

@@ -18,7 +18,7 @@ ghost use Rattle.rv_retrieval.specs.Short.{OnlyLeaves, has_short};
 ghost use Rattle.rv_retrieval.specs.Shape.{is_building};
 ghost use Rattle.rv_access.specs.Accesses.{AccessFits, SamePlans, Settled, control_of, effort, fetches_left, held_of, query_of, trace_of};
 ghost use Rattle.rv_access.specs.Given.{Answers, CountsPiece, GivesOn, SamePieces, TakesPiece, piece_read};
-ghost use Rattle.rv_access.specs.Opened.{Opened};
+ghost use Rattle.rv_access.specs.Opened.{Opened, is_race};
 ghost use Rattle.rv_judge.specs.Tracing.{CountsAll, CountsRise, SameCounts};
 
 use crate::level::{Caught, Level};
@@ -83,7 +83,7 @@ pub fn open<R: Reader>(
     requires { CanRun asked.now (R.shown reader.now) }
     ensures starts { IfOk result (Starts asked.now (R.shown reader.now)) }
     ensures asks { IfOk result (λ s. Asks asked.now [] (query_of s.at.here)) }
-    ensures opened { IfOk result (λ s. Opened false (query_of s.at.here) (R.shown reader.now) asked.now.cursor 1 s.at.here) }
+    ensures opened { IfOk result (λ s. Opened asked.now.race (query_of s.at.here) (R.shown reader.now) asked.now.cursor 1 s.at.here) }
     ensures counts { IfOk result (λ s. CountsAll (trace_of s.at.here) steps.old steps.new) }
     ensures life { IfOk result (λ s. reads steps.new + effort s.at.here (R.shown reader.now) ≤ reads steps.old + life_of (query_of s.at.here) (R.shown reader.now)) }
     ensures short { IfOk result (λ s. has_short (query_of s.at.here) (R.shown reader.now) ≡ true → Settled s.at.here × (fetches_left s.at.here (R.shown reader.now) ≤ 20)) }
@@ -237,6 +237,19 @@ impl Stack {
         match self.above.first() {
             Some(level) => level.here.trace().copy(),
             None => self.at.here.trace().copy(),
+        }
+    }
+}
+
+/// The access of the first FROM item.
+impl Stack {
+    /// Whether indexes race for the first FROM item.
+    pub fn first_raced(&self) -> bool
+        ensures { result ≡ is_race (first_of self.now).here }
+    {
+        match self.above.first() {
+            Some(level) => level.here.is_race(),
+            None => self.at.here.is_race(),
         }
     }
 }

@@ -6,7 +6,7 @@ pub returns-clause-opens : goal.returns-clause-opens
 returns-clause-opens g c = opens_if c.open.result c.args.asked.now (g.R.Reader.shown c.args.reader.now) c.args.outer.now c.in_ok-query.query _ _ c.in_ok-query.ensures c.open.ensures.begins
 
 pub returns-clause-opened : goal.returns-clause-opened
-returns-clause-opened g c = opened_as c.open.result c.in_ok-query.query (g.R.Reader.shown c.args.reader.now) c.args.asked.now.cursor c.args.opening _ _ c.open.ensures.begins c.open.ensures.opened
+returns-clause-opened g c = opened_as c.open.result c.args.asked.now.race c.in_ok-query.query (g.R.Reader.shown c.args.reader.now) c.args.asked.now.cursor c.args.opening _ _ c.open.ensures.begins c.open.ensures.opened
 
 pub returns-clause-counts : goal.returns-clause-counts
 returns-clause-counts g c = opened_counts c.open.result c.in_ok-query.query (g.R.Reader.shown c.args.reader.now) _ _ c.open.ensures.begins
