@@ -13,11 +13,13 @@ halves. An entry belongs to the last child that does not begin above it. An esti
 may have the range; where k > 1 children may, at level l, it is (k - 1) * 16 ** l, and not exact.
 
 A retrieval is asked for the rows whose columns lie in spans, by some of the indexes, with some columns, in the order of
-the third column or in any, the first rows soon or all rows soon. How it goes is written in model/retrieval.py."""
+the third column or in any, the first rows soon or all rows soon. How it goes is written in model/retrieval.py. Where a race
+is asked and indexes can race, how they do is written in model/race.py."""
 
 import argparse
 import sys
 
+from model.race import Race, can_race
 from model.retrieval import LEAF, PAGE, Counts, Retrieval
 from model.trees import Tree
 
@@ -61,12 +63,12 @@ class Table:
 
 
 class Asked:
-    def __init__(self, spans, uses, whole=True, ordered=False, soon=False):
+    def __init__(self, spans, uses, whole=True, ordered=False, soon=False, race=False):
         self.spans = spans  # column -> (low, high)
         self.uses = uses
         self.needed = {0, 2} | ({1} if whole or 1 in spans else set())
         self.ordered = ordered and any(COLUMNS[i][0] == 2 for i in uses)
-        self.soon = soon
+        self.soon, self.race = soon, race
 
     def qualifies(self, row):
         return all(in_span(row[c], span) for c, span in self.spans.items())
@@ -158,13 +160,12 @@ JUDGES = [
 ]
 
 
-class Drive(Retrieval):
-    """A retrieval of what is asked of a table, under a judge."""
+class Driven:
+    """What is asked of a table, under a judge."""
 
-    def __init__(self, table, asked, judge):
+    def __init__(self, table, asked, judge, *more):
         self.table, self.asked, self.judge = table, asked, judge
-        indexes = [Index(table, asked, number) for number in asked.uses]
-        super().__init__(indexes, table.pages, (2,) if asked.ordered else (), asked.soon, Counts())
+        super().__init__(*more)
 
     def is_wanted(self, number):
         return self.asked.qualifies(self.table.rows[number])
@@ -178,6 +179,23 @@ class Drive(Retrieval):
     def trace(self):
         counts = f"pages {self.counts.pages} leaves {self.counts.leaves} fetches {self.counts.fetches}"
         return " ".join([self.strategy] + self.events + [counts])
+
+
+class Competing(Driven, Retrieval):
+    pass
+
+
+class Racing(Driven, Race):
+    pass
+
+
+def access(table, asked, judge):
+    """A retrieval, or two indexes that race where that is asked and they can."""
+    indexes = [Index(table, asked, number) for number in asked.uses]
+    order = (2,) if asked.ordered else ()
+    if asked.race and can_race(indexes, order, asked.soon):
+        return Racing(table, asked, judge, indexes, table.pages, Counts())
+    return Competing(table, asked, judge, indexes, table.pages, order, asked.soon, Counts())
 
 
 class Way:
@@ -220,7 +238,7 @@ def rows_text(rows):
 
 
 def outcome(table, asked, judge, way):
-    retrieval = Drive(table, asked, judge)
+    retrieval = access(table, asked, judge)
     rows, hand = [], []
     while True:
         found = retrieval.step()
@@ -280,6 +298,10 @@ def singles():
     many = Table(1100, "zero", paged=True)
     assert [len(leaf) for leaf in many.leaves[IA]] == [16] * 67 + [28]
     yield "paged, full buffer", many, Asked({0: (0, MUCH)}, [IA], soon=True), patient, Way(0)
+    two = Asked({0: (10, MUCH), 2: (1, 3)}, [IA, IC], race=True)
+    yield "paged, race", fourths, two, patient, Way(0)
+    yield "paged, race drops", fourths, two, in_turn(["go on", "drop"], False), Way(0)
+    yield "paged, race loses", fourths, two, threshold, Way(0)
 
 
 def kinds():
@@ -307,11 +329,27 @@ def kinds():
     yield "crossed", Asked({0: (40, 10), 2: (10, 29)}, [IA])
 
 
-def main(out):
-    for name, table, asked, judge, way in singles():
-        out.write(f"{name}: {outcome(table, asked, judge, way)}\n")
-    table = Table(400, "same")
-    for name, asked in kinds():
+def races():
+    """Where indexes can race, and where they cannot."""
+    wide = {0: (60, 300), 1: (120, 380), 2: (10, 12)}
+    narrow = {0: (100, 140), 1: (50, 350), 2: (10, 14)}
+    equal = {0: (100, 160), 1: (90, 150), 2: (10, 19)}
+    many = {0: (60, 300), 1: (120, 380), 2: (3, 40)}
+    apart = {0: (0, 150), 1: (200, 390)}
+    yield "race", Asked(wide, [IA, IB], race=True)
+    yield "race, narrow", Asked(narrow, [IB, ICA], race=True)
+    yield "race, equal", Asked(equal, [IA, IB], race=True)
+    yield "race of four", Asked(many, [IA, IB, ICA, IC], race=True)
+    yield "race without a row", Asked(apart, [IA, IB], race=True)
+
+
+def no_races():
+    yield "no race, fast first", Asked({0: (60, 300), 1: (120, 380)}, [IA, IB], soon=True, race=True)
+    yield "no race of one", Asked({0: (60, 300)}, [IA, IB], race=True)
+
+
+def write_kinds(out, table, some):
+    for name, asked in some:
         out.write(name + "\n")
         for ruling, judge in JUDGES:
             before = ""
@@ -319,6 +357,13 @@ def main(out):
                 told = outcome(table, asked, judge(), way)
                 out.write(f"  {ruling}, {pace}: {'the same' if told == before else told}\n")
                 before = told
+
+
+def main(out):
+    for name, table, asked, judge, way in singles():
+        out.write(f"{name}: {outcome(table, asked, judge, way)}\n")
+    write_kinds(out, Table(400, "same"), [*kinds(), *races(), *no_races()])
+    write_kinds(out, Table(400, "same", paged=True), [("paged, " + name, asked) for name, asked in races()])
 
 
 if __name__ == "__main__":

@@ -33,17 +33,18 @@ def add_run_options(parser: argparse.ArgumentParser) -> None:
 def main() -> int:
     parser = argparse.ArgumentParser(description=__doc__, formatter_class=argparse.RawDescriptionHelpFormatter)
     add_run_options(parser)
+    parser.add_argument("--race", action="store_true", help="two indexes race where they can")
     parser.add_argument("--gen", type=number_up_to(2**32 - 1), metavar="SEED", help="read nothing, and run the workload of this seed")
     words = parser.parse_args()
     if words.gen is not None:
-        sys.stdout.write(summary(reply for _, _, reply in run(generated(words.gen), words.judge, words.steps, words.plain)))
+        sys.stdout.write(summary(reply for _, _, reply in run(generated(words.gen), words.judge, words.steps, words.plain, words.race)))
         return 0
     data = sys.stdin.buffer.read()
     fault = fault_of(data)
     if fault is not None:
         print(fault[1], file=sys.stderr)
         return fault[0]
-    sys.stdout.write(transcript(run(data.decode(), words.judge, words.steps, words.plain)))
+    sys.stdout.write(transcript(run(data.decode(), words.judge, words.steps, words.plain, words.race)))
     return 0
 
 

@@ -3,6 +3,7 @@ in the order in which the program gives them, and STEP and SHOW have their one r
 database.py with such cursors. The rules stand in docs/LANGUAGE.md; it shares no code with the program."""
 from .database import Database, atom_truth, offer, place, places_of, qualifies
 from .ranges import NULL, range_for
+from .race import Race, can_race
 from .retrieval import PAGE, Counts, Retrieval, begins_with
 from .trees import Overlaid, Sorted, Tree
 
@@ -108,13 +109,12 @@ class Query:
         self.need, self.order, self.soon = need, order, soon
 
 
-class Asked(Retrieval):
-    """A retrieval of a query, at an item of FROM. It writes what happens into a log, if there is one."""
+class Asked:
+    """What a query is asked, at an item of FROM. It writes what happens into a log, if there is one."""
 
-    def __init__(self, query, item, judges, counts, log):
+    def __init__(self, query, item, judges, log, *more):
         self.query, self.item, self.judges, self.log = query, item, judges, log
-        indexes = [Used(*index, query.groups, query.need) for index in query.indexes]
-        super().__init__(indexes, query.pages, query.order, query.soon, counts)
+        super().__init__(*more)
 
     def is_wanted(self, number):
         return qualifies(self.query.groups, lambda column: self.query.rows[number][column])
@@ -130,14 +130,31 @@ class Asked(Retrieval):
             self.log.append((self.item, kind, (what.name, what.last_read) if kind == "leaf" else what))
 
 
+class Competing(Asked, Retrieval):
+    pass
+
+
+class Racing(Asked, Race):
+    pass
+
+
+def access(query, item, judges, counts, log, race):
+    """A retrieval, or two indexes that race where that is asked and they can."""
+    indexes = [Used(*index, query.groups, query.need) for index in query.indexes]
+    if race and can_race(indexes, query.order, query.soon):
+        return Racing(query, item, judges, log, indexes, query.pages, counts)
+    return Competing(query, item, judges, log, indexes, query.pages, query.order, query.soon, counts)
+
+
 # Joins and cursors.
 
 
 class Plan:
     """Retrievals in loops, one inside the other. It has the calls of database.py's Cursor."""
 
-    def __init__(self, select, tables, judges, steps, log):
+    def __init__(self, select, tables, judges, steps, log, race=False):
         self.select, self.tables, self.judges, self.steps, self.log = select, tables, judges, steps, log
+        self.race = race
         self.counts, self.open, self.rows, self.gathered = Counts(), [], [], None
         order = select.order
         first = [c for _, c in order]
@@ -155,7 +172,7 @@ class Plan:
         need = {c for at, c in self.select.returns + named + self.select.order if at == item}
         order = [c for _, c in self.select.order] if self.ordered and item == 0 else []
         query = Query(rows, pages, indexes, groups, need, order, self.select.soon)
-        self.open.append(Asked(query, item, self.judges, self.counts, self.log))
+        self.open.append(access(query, item, self.judges, self.counts, self.log, self.race))
 
     def step(self):
         """An offer, None where none came yet, or "end"."""
@@ -219,9 +236,9 @@ class Engine(Database):
     """The database with cursors over plans. A log, if one is given, is a list to which each retrieval of any cursor adds
     (item of FROM, kind, what) as `Retrieval.note` has them."""
 
-    def __init__(self, judge=0, steps=1, plain=False, log=None):
+    def __init__(self, judge=0, steps=1, plain=False, log=None, race=False):
         super().__init__()
-        self.log = log
+        self.log, self.race = log, race
         self.judges, self.judge, self.steps = [Threshold(), Patient(), Contrary()], judge, steps
         self.empty = Sorted if plain else Tree
         self.entries = {}  # of each index, at the last commit
@@ -264,7 +281,7 @@ class Engine(Database):
         for name in select.tables:
             indexes = [(i, made.columns, self.viewed(i)) for i, made in self.indexes.items() if made.table == name]
             tables.append((self.view(name), self.view_pages(name), indexes))
-        return Plan(select, tables, self, self.steps, self.log)
+        return Plan(select, tables, self, self.steps, self.log, self.race)
 
     def view_pages(self, name):
         """The pages of a table at the transaction's base, or up to the highest row that its changes give values."""

@@ -38,7 +38,7 @@ fn planned<R: Reader<Ledger = Uncounted>>(
     ensures { IfOk result (λ found. found.0.ended ≡ true → IsPermutation (offers_over select.now (table_rows (R.shown reader.now) snap)) found.0.offers.items) }
 {
     let mut steps = Steps::new(Uncounted);
-    let mut plan = Plan::open(alloc, reader, select, indexes, snap, 1, &mut steps)?;
+    let mut plan = Plan::open(alloc, reader, select, indexes, snap, 1, false, &mut steps)?;
     let driven = drive(alloc, reader, &mut plan, judge, so_many, &mut steps)?;
     Ok((driven, plan.trace()))
 }

@@ -6,22 +6,23 @@ use Rattle.std.proofs.lemmas.List.Sorted.{IsPermutation-append_right, IsPermutat
 use Rattle.rv_value.specs.declared.record.Record.{Record}
 use Rattle.rv_reader.specs.Shown.{Shown}
 use Rattle.rv_final.specs.Rest.{TakesOut}
-use Rattle.rv_retrieval.specs.Shape.{Keeps, RetrievalFits, Shape, rest}
+use Rattle.rv_access.specs.declared.access.Access.{Access}
+use Rattle.rv_access.specs.Accesses.{AccessFits, Keeps, rest}
 use Rattle.retrieval_table.specs.Driving.{Gives, Stays, numbers_of}
 
-pub stays_begun : (shown : Shown) (v : Shape) → RetrievalFits v shown → Stays shown v v
+pub stays_begun : (shown : Shown) (v : Access) → AccessFits v shown → Stays shown v v
 stays_begun shown v fits = record { fits = fits; rest = refl; query = refl }
 
-pub stays_through : (shown : Shown) (a b c : Shape) → Stays shown a b → Stays shown b c → Stays shown a c
+pub stays_through : (shown : Shown) (a b c : Access) → Stays shown a b → Stays shown b c → Stays shown a c
 stays_through shown a b c first then = record { fits = then.fits; rest = then.rest ∙ first.rest; query = then.query ∙ first.query }
 
-pub stays_kept : (shown : Shown) (old new : Shape) → Keeps old new → RetrievalFits old shown → Stays shown old new
+pub stays_kept : (shown : Shown) (old new : Access) → Keeps old new → AccessFits old shown → Stays shown old new
 stays_kept shown old new keeps fits = record { fits = keeps.fits shown fits; rest = keeps.rest shown fits; query = keeps.query }
 
-pub gives_begun : (shown : Shown) (v : Shape) → RetrievalFits v shown → Gives shown (rest v shown) [] v
+pub gives_begun : (shown : Shown) (v : Access) → AccessFits v shown → Gives shown (rest v shown) [] v
 gives_begun shown v fits = record { fits = fits; once = IsPermutation-refl (numbers_of (rest v shown)) }
 
-pub gives_stays : (shown : Shown) (due given : List Record) (old new : Shape) → Gives shown due given old → RetrievalFits new shown → rest new shown ≡ rest old shown → Gives shown due given new
+pub gives_stays : (shown : Shown) (due given : List Record) (old new : Access) → Gives shown due given old → AccessFits new shown → rest new shown ≡ rest old shown → Gives shown due given new
 gives_stays shown due given old new gives fits same = record {
   fits = fits;
   once = subst (λ (left : List Record). IsPermutation (numbers_of due) (numbers_of (given ++ left))) (sym same) gives.once;
@@ -48,7 +49,7 @@ numbers_taken given front behind r =
     ∙ ap (λ l. l ++ numbers_of (front ++ behind)) (map-append (λ (x : Record). x.row.0) given (r ∷ []))
     ∙ ap (λ l. (numbers_of given ++ r.row.0 ∷ []) ++ l) (map-append (λ (x : Record). x.row.0) front behind)
 
-pub gives_row : (shown : Shown) (due given : List Record) (need : List ℕ) (old new : Shape) (r : Record) → Gives shown due given old → RetrievalFits new shown → TakesOut need r (rest old shown) (rest new shown) → Gives shown due (given ++ r ∷ []) new
+pub gives_row : (shown : Shown) (due given : List Record) (need : List ℕ) (old new : Access) (r : Record) → Gives shown due given old → AccessFits new shown → TakesOut need r (rest old shown) (rest new shown) → Gives shown due (given ++ r ∷ []) new
 gives_row shown due given need old new r gives fits takes =
     let f = takes.front in
     let b = takes.behind in
@@ -61,5 +62,5 @@ gives_row shown due given need old new r gives fits takes =
       once = subst (IsPermutation (numbers_of due)) (sym (ap (λ (left : List Record). numbers_of ((given ++ r ∷ []) ++ left)) takes.after ∙ numbers_taken given f b r)) after;
     }
 
-pub gives_all : (shown : Shown) (due given : List Record) (v : Shape) → Gives shown due given v → rest v shown ≡ [] → IsPermutation (numbers_of due) (numbers_of given)
+pub gives_all : (shown : Shown) (due given : List Record) (v : Access) → Gives shown due given v → rest v shown ≡ [] → IsPermutation (numbers_of due) (numbers_of given)
 gives_all shown due given v gives none = subst (λ (all : List Record). IsPermutation (numbers_of due) (numbers_of all)) (ap (λ left. given ++ left) none ∙ append-nil given) gives.once

@@ -35,6 +35,8 @@ pub struct Asked {
     pub whole: bool,
     pub sorted: bool,
     pub goal: Goal2,
+    /// Whether indexes may race.
+    pub race: bool,
 }
 
 impl Asked {

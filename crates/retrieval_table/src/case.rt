@@ -1,4 +1,4 @@
-//! A retrieval for what is asked of a store that was loaded, and the line that tells of it.
+//! An access for what is asked of a store that was loaded, and the line that tells of it.
 ghost use Rattle.std.specs.Prelude.{◌≡◌, ◌≤◌, IfOk, IsPermutation, true};
 ghost use Rattle.rv_final.specs.Rest.{qualifying};
 ghost use Rattle.retrieval_table.specs.Asking.{spans_of};
@@ -12,9 +12,9 @@ use crate::judges::{Ruling, verdicts};
 use crate::lines::rows_text;
 use crate::load::Loaded;
 use crate::trace::trace_text;
+use rv_access::Access;
 use rv_judge::{Contrary, Judge, Listed, Patient, Steps, Threshold, Uncounted};
 use rv_reader::Reader;
-use rv_retrieval::Retrieval;
 use rv_value::NoMemory;
 use std::alloc::Global;
 
@@ -31,19 +31,19 @@ fn told(
     loaded: Loaded,
     asked: &Asked,
     driven: &Driven,
-    retrieval: &Retrieval,
+    access: &Access,
 ) -> Result<String, NoMemory>
     requires { loaded.rows ≤ 1000000 }
 {
     let rows = driven.rows.as_slice();
     let right = is_right(alloc, asked, rows, loaded.rows, loaded.filling)?;
     let rows = rows_text(alloc, rows)?;
-    let trace = trace_text(alloc, retrieval.trace())?;
+    let trace = trace_text(alloc, access.trace())?;
     let word = verdict_word(right, driven.ended);
     Ok(format!(in alloc; "{word}, {}; {}", rows.as_str(), trace.as_str())?)
 }
 
-/// Opens a retrieval for what is asked, and drives it to its end. The rows of one that ended are those of the snapshot
+/// Opens an access for what is asked, and drives it to its end. The rows of one that ended are those of the snapshot
 /// that qualify, each once.
 fn retrieve<R: Reader<Ledger = Uncounted>>(
     alloc: Global,
@@ -52,7 +52,7 @@ fn retrieve<R: Reader<Ledger = Uncounted>>(
     asked: &Asked,
     ruling: Ruling,
     way: Way,
-) -> Result<(Driven, Retrieval), NoMemory>
+) -> Result<(Driven, Access), NoMemory>
     requires { Stands (R.shown reader.now) loaded }
     ensures { IfOk result (λ found. found.0.ended ≡ true → IsPermutation (numbers_of (qualifying (spans_of asked.now) ((R.shown reader.now).rows 0 loaded.snap))) (numbers_of found.0.rows.items)) }
 {
@@ -65,15 +65,16 @@ fn retrieve<R: Reader<Ledger = Uncounted>>(
         | Ruling::EndsSecond
         | Ruling::DropsThenStops
         | Ruling::EndsFourth
-        | Ruling::DropsThird => Box::new(alloc, Listed::new(verdicts(alloc, ruling)?))?,
+        | Ruling::DropsThird
+        | Ruling::DropsSecond => Box::new(alloc, Listed::new(verdicts(alloc, ruling)?))?,
     };
     let mut steps = Steps::new(Uncounted);
-    let mut retrieval = Retrieval::open(alloc, reader, query, 1, 1, &mut steps)?;
-    let driven = drive(alloc, reader, &mut retrieval, &mut judge, way, &mut steps)?;
-    Ok((driven, retrieval))
+    let mut access = Access::open(alloc, reader, query, asked.race, 1, 1, &mut steps)?;
+    let driven = drive(alloc, reader, &mut access, &mut judge, way, &mut steps)?;
+    Ok((driven, access))
 }
 
-/// What comes of a retrieval.
+/// What comes of an access.
 pub fn outcome<R: Reader<Ledger = Uncounted>>(
     alloc: Global,
     reader: &R,
@@ -84,6 +85,6 @@ pub fn outcome<R: Reader<Ledger = Uncounted>>(
 ) -> Result<String, NoMemory>
     requires { Stands (R.shown reader.now) loaded }
 {
-    let (driven, retrieval) = retrieve(alloc, reader, loaded, asked, ruling, way)?;
-    told(alloc, loaded, asked, &driven, &retrieval)
+    let (driven, access) = retrieve(alloc, reader, loaded, asked, ruling, way)?;
+    told(alloc, loaded, asked, &driven, &access)
 }

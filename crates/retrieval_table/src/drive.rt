@@ -1,13 +1,14 @@
-//! A retrieval, driven to its end.
+//! An access, driven to its end.
 ghost use Rattle.std.specs.Prelude.{◌≡◌, List, [], IfOk, OnOk, Ok, IsPermutation, true};
 ghost use Rattle.rv_value.specs.declared.record.Record.{Record as OneRecord};
-ghost use Rattle.rv_retrieval.specs.Shape.{RetrievalFits, rest};
+ghost use Rattle.rv_access.specs.Accesses.{AccessFits, rest};
 ghost use Rattle.retrieval_table.specs.Driving.{Gives, Stays, numbers_of};
 
+use rv_access::Access;
 use rv_jscan::{Given, Piece, Taken, sieve};
 use rv_judge::{Judge, Steps};
 use rv_reader::Reader;
-use rv_retrieval::{Fg, Retrieval};
+use rv_retrieval::Fg;
 use rv_value::{Duplicate, NoMemory, Record};
 use std::alloc::Global;
 
@@ -34,19 +35,19 @@ pub struct Driven {
 fn give<R: Reader>(
     alloc: Global,
     _reader: &R,
-    retrieval: &mut Retrieval,
+    access: &mut Access,
     judge: &mut Box<dyn Judge>,
     piece: &Piece,
     times: u32,
     steps: &mut Steps<R::Ledger>,
 ) -> Result<bool, NoMemory>
-    requires { RetrievalFits retrieval.old (R.shown _reader.now) }
-    ensures { Stays (R.shown _reader.now) retrieval.old retrieval.new }
+    requires { AccessFits access.old (R.shown _reader.now) }
+    ensures { Stays (R.shown _reader.now) access.old access.new }
 {
     let mut stale = true;
     'times: for _time in 0..times {
         let copy = piece.copy(alloc)?;
-        if retrieval.give(sieve(copy), judge, steps)? == Given::Accepted {
+        if access.give(sieve(copy), judge, steps)? == Given::Accepted {
             stale = false;
         }
     }
@@ -56,14 +57,14 @@ fn give<R: Reader>(
 /// Takes the awaited piece into the hand; whether one was awaited.
 fn take<R: Reader>(
     reader: &R,
-    retrieval: &mut Retrieval,
+    access: &mut Access,
     hand: &mut Vec<Piece>,
     steps: &mut Steps<R::Ledger>,
 ) -> Result<bool, NoMemory>
-    requires { RetrievalFits retrieval.old (R.shown reader.now) }
-    ensures { Stays (R.shown reader.now) retrieval.old retrieval.new }
+    requires { AccessFits access.old (R.shown reader.now) }
+    ensures { Stays (R.shown reader.now) access.old access.new }
 {
-    match retrieval.take(reader, steps)? {
+    match access.take(reader, steps)? {
         Taken::Piece(piece) => {
             hand.push(piece)?;
             Ok(true)
@@ -76,19 +77,19 @@ fn take<R: Reader>(
 fn work<R: Reader>(
     alloc: Global,
     reader: &R,
-    retrieval: &mut Retrieval,
+    access: &mut Access,
     judge: &mut Box<dyn Judge>,
     way: Way,
     hand: &mut Vec<Piece>,
     steps: &mut Steps<R::Ledger>,
 ) -> Result<(), NoMemory>
-    requires { RetrievalFits retrieval.old (R.shown reader.now) }
-    ensures { Stays (R.shown reader.now) retrieval.old retrieval.new }
+    requires { AccessFits access.old (R.shown reader.now) }
+    ensures { Stays (R.shown reader.now) access.old access.new }
 {
-    let awaited = take(reader, retrieval, hand, steps)?;
+    let awaited = take(reader, access, hand, steps)?;
     if !hand.is_empty() && (!awaited || hand.len() > way.late) {
         let oldest = hand.remove(0);
-        give(alloc, reader, retrieval, judge, &oldest, way.times, steps)?;
+        give(alloc, reader, access, judge, &oldest, way.times, steps)?;
     }
     Ok(())
 }
@@ -105,18 +106,18 @@ fn steps_after(way: Way, rows: usize) -> u32 {
 fn background<R: Reader>(
     alloc: Global,
     reader: &R,
-    retrieval: &mut Retrieval,
+    access: &mut Access,
     judge: &mut Box<dyn Judge>,
     way: Way,
     rows: usize,
     hand: &mut Vec<Piece>,
     steps: &mut Steps<R::Ledger>,
 ) -> Result<(), NoMemory>
-    requires { RetrievalFits retrieval.old (R.shown reader.now) }
-    ensures { Stays (R.shown reader.now) retrieval.old retrieval.new }
+    requires { AccessFits access.old (R.shown reader.now) }
+    ensures { Stays (R.shown reader.now) access.old access.new }
 {
     'steps: for _step in 0..steps_after(way, rows) {
-        work(alloc, reader, retrieval, judge, way, hand, steps)?;
+        work(alloc, reader, access, judge, way, hand, steps)?;
     }
     Ok(())
 }
@@ -124,16 +125,16 @@ fn background<R: Reader>(
 /// A foreground step, whose row is put to the others; whether it was the end.
 fn forward<R: Reader>(
     reader: &R,
-    retrieval: &mut Retrieval,
+    access: &mut Access,
     judge: &mut Box<dyn Judge>,
     rows: &mut Vec<Record>,
     steps: &mut Steps<R::Ledger>,
 ) -> Result<bool, NoMemory>
-    requires { RetrievalFits retrieval.old (R.shown reader.now) }
-    ensures gives { (due : List OneRecord) → Gives (R.shown reader.now) due rows.old.items retrieval.old → OnOk result (Gives (R.shown reader.now) due rows.new.items retrieval.new) }
-    ensures ends { result ≡ Ok true → rest retrieval.new (R.shown reader.now) ≡ [] }
+    requires { AccessFits access.old (R.shown reader.now) }
+    ensures gives { (due : List OneRecord) → Gives (R.shown reader.now) due rows.old.items access.old → OnOk result (Gives (R.shown reader.now) due rows.new.items access.new) }
+    ensures ends { result ≡ Ok true → rest access.new (R.shown reader.now) ≡ [] }
 {
-    match retrieval.fg_step(reader, judge, steps)? {
+    match access.fg_step(reader, judge, steps)? {
         Fg::Row(row) => {
             rows.push(row)?;
             Ok(false)
@@ -147,48 +148,48 @@ fn forward<R: Reader>(
 fn stays_ended<R: Reader>(
     alloc: Global,
     reader: &R,
-    retrieval: &mut Retrieval,
+    access: &mut Access,
     judge: &mut Box<dyn Judge>,
     hand: &mut Vec<Piece>,
     steps: &mut Steps<R::Ledger>,
 ) -> Result<bool, NoMemory>
-    requires { RetrievalFits retrieval.old (R.shown reader.now) }
+    requires { AccessFits access.old (R.shown reader.now) }
 {
-    let mut quiet = !take(reader, retrieval, hand, steps)? && retrieval.awaited().is_none();
+    let mut quiet = !take(reader, access, hand, steps)? && access.awaited().is_none();
     'hand: for piece in hand.as_slice() {
-        if !give(alloc, reader, retrieval, judge, piece, 1, steps)? {
+        if !give(alloc, reader, access, judge, piece, 1, steps)? {
             quiet = false;
         }
     }
-    match retrieval.fg_step(reader, judge, steps)? {
+    match access.fg_step(reader, judge, steps)? {
         Fg::End => Ok(quiet),
         Fg::Row(_) | Fg::Working => Ok(false),
     }
 }
 
-/// Drives a retrieval to its end, in at most 1,000,000 foreground steps. The rows of a drive that ended are those that
+/// Drives an access to its end, in at most 1,000,000 foreground steps. The rows of a drive that ended are those that
 /// were to be given, each once.
 pub fn drive<R: Reader>(
     alloc: Global,
     reader: &R,
-    retrieval: &mut Retrieval,
+    access: &mut Access,
     judge: &mut Box<dyn Judge>,
     way: Way,
     steps: &mut Steps<R::Ledger>,
 ) -> Result<Driven, NoMemory>
-    requires { RetrievalFits retrieval.old (R.shown reader.now) }
-    ensures { IfOk result (λ driven. driven.ended ≡ true → IsPermutation (numbers_of (rest retrieval.old (R.shown reader.now))) (numbers_of driven.rows.items)) }
+    requires { AccessFits access.old (R.shown reader.now) }
+    ensures { IfOk result (λ driven. driven.ended ≡ true → IsPermutation (numbers_of (rest access.old (R.shown reader.now))) (numbers_of driven.rows.items)) }
 {
     let mut rows = Vec::new(alloc);
     let mut hand = Vec::new(alloc);
     'steps: for _step in 0..1000000u32 {
-        if forward(reader, retrieval, judge, &mut rows, steps)? {
-            let ended = stays_ended(alloc, reader, retrieval, judge, &mut hand, steps)?;
+        if forward(reader, access, judge, &mut rows, steps)? {
+            let ended = stays_ended(alloc, reader, access, judge, &mut hand, steps)?;
             return Ok(Driven { rows, ended });
         }
         let so_far = rows.len();
         background(
-            alloc, reader, retrieval, judge, way, so_far, &mut hand, steps,
+            alloc, reader, access, judge, way, so_far, &mut hand, steps,
         )?;
     }
     Ok(Driven { rows, ended: false })

@@ -20,6 +20,8 @@ pub enum Ruling {
     EndsFourth,
     /// It drops the scans at the third and the fourth.
     DropsThird,
+    /// It drops the scan at the second.
+    DropsSecond,
 }
 
 impl Ruling {
@@ -33,6 +35,7 @@ impl Ruling {
             Ruling::DropsThenStops => "drops, then stops",
             Ruling::EndsFourth => "ends fourth",
             Ruling::DropsThird => "drops third",
+            Ruling::DropsSecond => "drops second",
         }
     }
 }
@@ -58,5 +61,6 @@ pub fn verdicts(alloc: Global, ruling: Ruling) -> Result<Vec<Verdict>, NoMemory>
             Verdict::AbandonScan,
             Verdict::AbandonScan,
         ]?),
+        Ruling::DropsSecond => Ok(vec![in alloc; Verdict::Continue, Verdict::AbandonScan]?),
     }
 }

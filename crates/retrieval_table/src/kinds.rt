@@ -6,9 +6,11 @@ use crate::asked::{Asked, Span};
 use crate::case::outcome;
 use crate::drive::Way;
 use crate::judges::Ruling;
-use crate::load::{Filling, Loaded, load_plain};
+use crate::load::{Filling, Loaded, load_paged, load_plain};
 use rv_choice::Goal2;
+use rv_judge::Uncounted;
 use rv_plain::Plain;
+use rv_reader::Reader;
 use rv_value::NoMemory;
 use std::alloc::Global;
 
@@ -91,6 +93,7 @@ const ANY: Asked = Asked {
     whole: true,
     sorted: false,
     goal: Goal2::TotalTime,
+    race: false,
 };
 
 /// The indexes over the first and the second column are restricted, and the third column is in neither.
@@ -152,6 +155,24 @@ const NONE: Asked = Asked {
     ..ANY
 };
 
+/// Four indexes are restricted.
+const FOUR: Asked = Asked {
+    third: Some(Span { low: 3, high: 40 }),
+    uses: [true, true, true, true],
+    ..WIDE
+};
+
+/// No row is in both spans.
+const APART: Asked = Asked {
+    first: Some(Span { low: 0, high: 150 }),
+    second: Some(Span {
+        low: 200,
+        high: 390,
+    }),
+    uses: [true, true, false, false],
+    ..ANY
+};
+
 /// An index has the columns needed, and two others are restricted.
 const COVERED: Asked = Asked {
     first: Some(Span {
@@ -164,19 +185,19 @@ const COVERED: Asked = Asked {
     ..ANY
 };
 
-fn add_ways(
+fn add_ways<R: Reader<Ledger = Uncounted>>(
     alloc: Global,
-    store: &Plain,
+    reader: &R,
     loaded: Loaded,
     asked: &Asked,
     ruling: Ruling,
     lines: &mut Vec<String>,
 ) -> Result<(), NoMemory>
-    requires { Stands (shown_of store.now) loaded }
+    requires { Stands (R.shown reader.now) loaded }
 {
     let mut before = format!(in alloc; "")?;
     'paces: for pace in PACES {
-        let found = outcome(alloc, store, loaded, asked, ruling, pace.way())?;
+        let found = outcome(alloc, reader, loaded, asked, ruling, pace.way())?;
         let told = if found.as_str() == before.as_str() {
             "the same"
         } else {
@@ -188,21 +209,28 @@ fn add_ways(
     Ok(())
 }
 
-fn add_kind(
+fn add_kind<R: Reader<Ledger = Uncounted>>(
     alloc: Global,
-    store: &Plain,
+    reader: &R,
     loaded: Loaded,
     name: &str,
     asked: Asked,
     lines: &mut Vec<String>,
 ) -> Result<(), NoMemory>
-    requires { Stands (shown_of store.now) loaded }
+    requires { Stands (R.shown reader.now) loaded }
 {
     lines.push(format!(in alloc; "{name}")?)?;
     'rulings: for ruling in RULINGS {
-        add_ways(alloc, store, loaded, &asked, ruling, lines)?;
+        add_ways(alloc, reader, loaded, &asked, ruling, lines)?;
     }
     Ok(())
+}
+
+fn raced(asked: Asked) -> Asked {
+    Asked {
+        race: true,
+        ..asked
+    }
 }
 
 fn soon(asked: Asked) -> Asked {
@@ -392,6 +420,76 @@ fn add_short(
     add_kind(alloc, store, loaded, "crossed", crossed, lines)
 }
 
+/// A race over a store of which the name begins with a word.
+fn add_race<R: Reader<Ledger = Uncounted>>(
+    alloc: Global,
+    reader: &R,
+    loaded: Loaded,
+    of: &str,
+    name: &str,
+    asked: Asked,
+    lines: &mut Vec<String>,
+) -> Result<(), NoMemory>
+    requires { Stands (R.shown reader.now) loaded }
+{
+    let name = format!(in alloc; "{of}{name}")?;
+    add_kind(alloc, reader, loaded, name.as_str(), raced(asked), lines)
+}
+
+/// Where indexes can race.
+fn add_races<R: Reader<Ledger = Uncounted>>(
+    alloc: Global,
+    reader: &R,
+    loaded: Loaded,
+    of: &str,
+    lines: &mut Vec<String>,
+) -> Result<(), NoMemory>
+    requires { Stands (R.shown reader.now) loaded }
+{
+    add_race(alloc, reader, loaded, of, "race", WIDE, lines)?;
+    add_race(alloc, reader, loaded, of, "race, narrow", NARROW, lines)?;
+    add_race(alloc, reader, loaded, of, "race, equal", EQUAL, lines)?;
+    add_race(alloc, reader, loaded, of, "race of four", FOUR, lines)?;
+    add_race(
+        alloc,
+        reader,
+        loaded,
+        of,
+        "race without a row",
+        APART,
+        lines,
+    )
+}
+
+/// Where a race is asked and none can be.
+fn add_no_races(
+    alloc: Global,
+    store: &Plain,
+    loaded: Loaded,
+    lines: &mut Vec<String>,
+) -> Result<(), NoMemory>
+    requires { Stands (shown_of store.now) loaded }
+{
+    let fast = Asked {
+        third: None,
+        ..soon(WIDE)
+    };
+    let one = Asked {
+        first: Some(Span { low: 60, high: 300 }),
+        uses: [true, true, false, false],
+        ..ANY
+    };
+    add_kind(
+        alloc,
+        store,
+        loaded,
+        "no race, fast first",
+        raced(fast),
+        lines,
+    )?;
+    add_kind(alloc, store, loaded, "no race of one", raced(one), lines)
+}
+
 /// The lines of the whole table.
 pub fn add_kinds(alloc: Global, lines: &mut Vec<String>) -> Result<(), NoMemory> {
     let (store, loaded) = load_plain(alloc, 400, Filling::Same)?;
@@ -399,5 +497,9 @@ pub fn add_kinds(alloc: Global, lines: &mut Vec<String>) -> Result<(), NoMemory>
     add_backgrounds(alloc, &store, loaded, lines)?;
     add_sorted(alloc, &store, loaded, lines)?;
     add_index_only(alloc, &store, loaded, lines)?;
-    add_short(alloc, &store, loaded, lines)
+    add_short(alloc, &store, loaded, lines)?;
+    add_races(alloc, &store, loaded, "", lines)?;
+    add_no_races(alloc, &store, loaded, lines)?;
+    let (pages, laid) = load_paged(alloc, 400, Filling::Same)?;
+    add_races(alloc, &pages, laid, "paged, ", lines)
 }

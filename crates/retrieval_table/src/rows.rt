@@ -21,6 +21,7 @@ const BOTH: Asked = Asked {
     whole: true,
     sorted: false,
     goal: Goal2::TotalTime,
+    race: false,
 };
 
 /// The first value is from 10 to 40, and the first rows are wanted soon.
@@ -32,6 +33,7 @@ const SOON: Asked = Asked {
     whole: true,
     sorted: false,
     goal: Goal2::FastFirst,
+    race: false,
 };
 
 /// All rows are in the span, and the first ones are wanted soon.
@@ -46,6 +48,7 @@ const ALL_SOON: Asked = Asked {
     whole: true,
     sorted: false,
     goal: Goal2::FastFirst,
+    race: false,
 };
 
 /// The first value is from 10 to 29, and the first rows are wanted soon.
@@ -70,6 +73,7 @@ const TWENTY_SORTED: Asked = Asked {
     whole: true,
     sorted: true,
     goal: Goal2::TotalTime,
+    race: false,
 };
 
 /// All rows are in the span, and an index has the columns needed.
@@ -84,6 +88,22 @@ const ALL_BY_INDEX: Asked = Asked {
     whole: false,
     sorted: false,
     goal: Goal2::TotalTime,
+    race: false,
+};
+
+/// The first value is at least 10 and the third at least 1, and two indexes may race.
+const TWO: Asked = Asked {
+    first: Some(Span {
+        low: 10,
+        high: 9223372036854775807,
+    }),
+    second: None,
+    third: Some(Span { low: 1, high: 3 }),
+    uses: [true, false, false, true],
+    whole: true,
+    sorted: false,
+    goal: Goal2::TotalTime,
+    race: true,
 };
 
 const NO_STEP: Way = Way {
@@ -286,6 +306,41 @@ fn add_paged_full(alloc: Global, lines: &mut Vec<String>) -> Result<(), NoMemory
     )
 }
 
+/// Forty rows in a paged store, of which thirty have a third value of at least 1.
+fn add_paged_races(alloc: Global, lines: &mut Vec<String>) -> Result<(), NoMemory> {
+    let (store, forty) = load_paged(alloc, 40, Filling::Fourths)?;
+    add(
+        alloc,
+        &store,
+        forty,
+        "paged, race",
+        TWO,
+        Ruling::Patient,
+        NO_STEP,
+        lines,
+    )?;
+    add(
+        alloc,
+        &store,
+        forty,
+        "paged, race drops",
+        TWO,
+        Ruling::DropsSecond,
+        NO_STEP,
+        lines,
+    )?;
+    add(
+        alloc,
+        &store,
+        forty,
+        "paged, race loses",
+        TWO,
+        Ruling::Threshold,
+        NO_STEP,
+        lines,
+    )
+}
+
 /// The lines of the single retrievals.
 pub fn add_rows(alloc: Global, lines: &mut Vec<String>) -> Result<(), NoMemory> {
     add_two_lists(alloc, lines)?;
@@ -293,5 +348,6 @@ pub fn add_rows(alloc: Global, lines: &mut Vec<String>) -> Result<(), NoMemory> 
     add_full_buffer(alloc, lines)?;
     add_paged_forty(alloc, lines)?;
     add_paged_sorted(alloc, lines)?;
-    add_paged_full(alloc, lines)
+    add_paged_full(alloc, lines)?;
+    add_paged_races(alloc, lines)
 }

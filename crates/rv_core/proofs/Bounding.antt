@@ -5,7 +5,8 @@ use Rattle.rv_judge.specs.declared.counting.Counts.{Counts}
 use Rattle.rv_catalog.specs.declared.def.IndexDef.{IndexDef}
 use Rattle.rv_catalog.specs.declared.def.Select.{Select}
 use Rattle.rv_reader.specs.Shown.{Shown}
-use Rattle.rv_retrieval.specs.Short.{OnlyLeaves, Settled, fetches_left, has_short}
+use Rattle.rv_access.specs.Accesses.{Settled, fetches_left, query_of}
+use Rattle.rv_retrieval.specs.Short.{OnlyLeaves, has_short}
 use Rattle.rv_judge.specs.Tracing.{CountsAll}
 use Rattle.rv_join.specs.Alone.{plan_effort, plan_life}
 use Rattle.rv_join.specs.Plans.{Planned, plan_trace, plan_work}
@@ -23,7 +24,7 @@ at_most before after count counted = omega (arith, counted)
 bounded : (shown : Shown) (s : Select) (indexes : List IndexDef) (snap : ℕ) (before after : Counts) (p : Planned) → before ≡ no_counts → OnlyLeaves before after → CountsAll (plan_trace p) before after
     → plan_work shown p ≤ row_cost shown snap p.asked.items
     → reads after + plan_effort shown p ≤ reads before + plan_life s indexes shown snap
-    → (has_short p.stack.at.here.query shown ≡ true → Settled p.stack.at.here × (fetches_left p.stack.at.here shown ≤ 20))
+    → (has_short (query_of p.stack.at.here) shown ≡ true → Settled p.stack.at.here × (fetches_left p.stack.at.here shown ≤ 20))
     → IsBounded shown s indexes snap p
 bounded shown s indexes snap before after p fresh only counted work life short =
     let pages = no_more before.pages after.pages p.reads.pages only.pages counted.pages in
@@ -36,7 +37,7 @@ pub opens_bounded : {E : Type 0} (r : Result Open E) (shown : Shown) (s : Select
     → IfOk r (λ c. CountsAll (plan_trace c.plan) before after)
     → IfOk r (λ c. plan_work shown c.plan ≤ row_cost shown snap c.plan.asked.items)
     → IfOk r (λ c. reads after + plan_effort shown c.plan ≤ reads before + plan_life s indexes shown snap)
-    → IfOk r (λ c. has_short c.plan.stack.at.here.query shown ≡ true → Settled c.plan.stack.at.here × (fetches_left c.plan.stack.at.here shown ≤ 20))
+    → IfOk r (λ c. has_short (query_of c.plan.stack.at.here) shown ≡ true → Settled c.plan.stack.at.here × (fetches_left c.plan.stack.at.here shown ≤ 20))
     → IfOk r (λ c. IsBounded shown s indexes snap c.plan)
 opens_bounded (Err e) shown s indexes snap before after fresh only counted work life short = tt
 opens_bounded (Ok c) shown s indexes snap before after fresh only counted work life short = bounded shown s indexes snap before after c.plan fresh only counted work life short

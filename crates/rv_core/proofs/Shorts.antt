@@ -8,7 +8,8 @@ use Rattle.rv_model.specs.declared.state.Offer.{Offer}
 use Rattle.rv_catalog.specs.declared.def.IndexDef.{IndexDef}
 use Rattle.rv_catalog.specs.declared.def.Select.{Select}
 use Rattle.rv_reader.specs.Shown.{Shown}
-use Rattle.rv_retrieval.specs.Short.{Settled, fetches_left, has_short}
+use Rattle.rv_access.specs.Accesses.{Settled, fetches_left, query_of}
+use Rattle.rv_retrieval.specs.Short.{has_short}
 use Rattle.rv_join.specs.Alone.{FewFetches, IsAlone, plan_fetches}
 use Rattle.rv_join.specs.declared.places.Asked.{Asked}
 use Rattle.rv_join.specs.Plans.{Planned, plan_trace}
@@ -82,7 +83,7 @@ fetched_few reads left most h = omega (arith, h)
 begin_few : (reads left : ℕ) → reads ≡ 0 → left ≤ 20 → reads + left ≤ 20
 begin_few reads left none few = omega (arith, none, few)
 
-pub short_few : MovesFetchFew → (s : Select) (indexes : List IndexDef) (calls : List (List Move)) (opened now : Held) → IsBounded (seen_by opened.store opened.cursor) s indexes opened.cursor.snap opened.cursor.plan → has_short opened.cursor.plan.stack.at.here.query (seen_by opened.store opened.cursor) ≡ true → IsAlone opened.cursor.plan → CallsMove calls opened now → Settled now.cursor.plan.stack.at.here × ((plan_trace now.cursor.plan).fetches ≤ 20 + lost_by calls)
+pub short_few : MovesFetchFew → (s : Select) (indexes : List IndexDef) (calls : List (List Move)) (opened now : Held) → IsBounded (seen_by opened.store opened.cursor) s indexes opened.cursor.snap opened.cursor.plan → has_short (query_of opened.cursor.plan.stack.at.here) (seen_by opened.store opened.cursor) ≡ true → IsAlone opened.cursor.plan → CallsMove calls opened now → Settled now.cursor.plan.stack.at.here × ((plan_trace now.cursor.plan).fetches ≤ 20 + lost_by calls)
 short_few law s indexes calls opened now bounds short one made =
     let start = bounds.short short in
     let first : Few 20 (sight opened) opened.cursor.plan = record { over = start.0; few = begin_few opened.cursor.plan.reads.records (fetches_left opened.cursor.plan.stack.at.here (sight opened)) bounds.records start.1 } in

@@ -17,7 +17,8 @@ use Rattle.rv_model.specs.declared.state.State.{State}
 use Rattle.rv_model.specs.Showing.{shown_trace}
 use Rattle.rv_model.specs.Step.{rows_viewed, understood}
 use Rattle.rv_model.specs.Transactions.{transaction_of}
-use Rattle.rv_retrieval.specs.Short.{Settled, fetches_left, has_short}
+use Rattle.rv_access.specs.Accesses.{Settled, fetches_left, query_of}
+use Rattle.rv_retrieval.specs.Short.{has_short}
 use Rattle.rv_join.specs.Alone.{plan_effort, plan_life}
 use Rattle.rv_join.specs.Asking.{IsAsked}
 use Rattle.rv_join.specs.Pieces.{counted_up, plan_awaited, plan_pieces}
@@ -87,7 +88,7 @@ pub record IsBounded (shown : Shown) (s : Select) (indexes : List IndexDef) (sna
   pub life : reads p.reads + plan_effort shown p ≤ plan_life s indexes shown snap
   pub pages : p.reads.pages ≡ 0
   pub records : p.reads.records ≡ 0
-  pub short : has_short p.stack.at.here.query shown ≡ true → Settled p.stack.at.here × (fetches_left p.stack.at.here shown ≤ 20)
+  pub short : has_short (query_of p.stack.at.here) shown ≡ true → Settled p.stack.at.here × (fetches_left p.stack.at.here shown ≤ 20)
 
 -- OPEN adds a cursor last, under the next number, at the base of the session's transaction, whose plan is that of its select:
 -- drawn from what the store shows there with the transaction's changes, which is its view, with the strategy and the scans that the five rules choose by the store's own estimates,

@@ -9,13 +9,11 @@ use Rattle.rv_jscan.specs.declared.jscan.Given.TheVariants.{Stale}
 use Rattle.rv_jscan.specs.declared.jscan.Taken.{Taken}
 use Rattle.rv_jscan.specs.declared.jscan.Taken.TheVariants.{Nothing}
 use Rattle.rv_jscan.specs.Pieces.{Pieced}
-use Rattle.rv_retrieval.specs.Given.{TakesPiece}
-use Rattle.rv_retrieval.specs.Rulings.{GivesOn}
-use Rattle.rv_retrieval.specs.Short.{Settled}
-use Rattle.rv_retrieval.specs.Stepping.{piece_read}
+use Rattle.rv_access.specs.Accesses.{Settled}
+use Rattle.rv_access.specs.Given.{CountsPiece, GivesOn, TakesPiece, piece_read}
 use Rattle.rv_judge.specs.Tracing.{CountsRise, SameCounts}
 use Rattle.rv_join.specs.Alone.{IsAlone, TakesOnce}
-use Rattle.rv_join.specs.Pieces.{CountsPiece, GivesPiece, TakesAwaited, plan_awaited, plan_pieces, waited, waiting}
+use Rattle.rv_join.specs.Pieces.{GivesPiece, TakesAwaited, plan_awaited, plan_pieces, waited, waiting}
 use Rattle.rv_join.specs.Plans.{PlanStays, plan_trace}
 use Rattle.rv_cursor.specs.declared.cursor.Open.{Open}
 use Rattle.rv_cursor.specs.Left.{seen_by}

@@ -6,7 +6,8 @@ use Rattle.rv_judge.specs.Verdicts.{Ruling}
 use Rattle.rv_catalog.specs.declared.def.IndexDef.{IndexDef}
 use Rattle.rv_catalog.specs.declared.def.Select.{Select}
 use Rattle.rv_reader.specs.Shown.{Shown}
-use Rattle.rv_retrieval.specs.Short.{Settled, has_short}
+use Rattle.rv_access.specs.Accesses.{Settled, query_of}
+use Rattle.rv_retrieval.specs.Short.{has_short}
 use Rattle.rv_join.specs.Alone.{IsAlone}
 use Rattle.rv_join.specs.Plans.{plan_trace}
 use Rattle.rv_cursor.specs.declared.cursor.Open.{Open}
@@ -47,7 +48,7 @@ lost_by (moves ∷ calls) = lost_by calls + lost_in moves
 -- stays so, and the trace never counts more than 20 fetched records, but for one for each foreground step for which no memory was
 -- found; whatever calls come, and whatever judges rule
 abbrev pub ShortRangeIsFew : Type 0
-ShortRangeIsFew = (s : Select) (indexes : List IndexDef) (calls : List (List Move)) (opened now : Held) → IsBounded (seen_by opened.store opened.cursor) s indexes opened.cursor.snap opened.cursor.plan → has_short opened.cursor.plan.stack.at.here.query (seen_by opened.store opened.cursor) ≡ true → IsAlone opened.cursor.plan → CallsMove calls opened now → Settled now.cursor.plan.stack.at.here × ((plan_trace now.cursor.plan).fetches ≤ 20 + lost_by calls)
+ShortRangeIsFew = (s : Select) (indexes : List IndexDef) (calls : List (List Move)) (opened now : Held) → IsBounded (seen_by opened.store opened.cursor) s indexes opened.cursor.snap opened.cursor.plan → has_short (query_of opened.cursor.plan.stack.at.here) (seen_by opened.store opened.cursor) ≡ true → IsAlone opened.cursor.plan → CallsMove calls opened now → Settled now.cursor.plan.stack.at.here × ((plan_trace now.cursor.plan).fetches ≤ 20 + lost_by calls)
 
 -- LAW: a piece that is taken by itself is such a move, too
 abbrev pub TakeIsMove : Type 0

@@ -163,6 +163,7 @@ pub fn plan_cursor<S: Store + Reader<Ledger = Uncounted>>(
         name,
         number,
         snap,
+        false,
         frozen,
         &mut steps,
     )

@@ -3,8 +3,7 @@ ghost use Rattle.std.specs.Prelude.{◌≡◌, ◌<◌, ◌==◌, ◌&&◌, ℕ,
 ghost use Rattle.std.specs.List.{AllByRecursion};
 ghost use Rattle.rv_catalog.specs.Schema.{Schema};
 ghost use Rattle.rv_reader.specs.Shown.{Shown};
-ghost use Rattle.rv_retrieval.specs.Given.{TakesPiece};
-ghost use Rattle.rv_retrieval.specs.Stepping.{piece_read};
+ghost use Rattle.rv_access.specs.Given.{TakesPiece, piece_read};
 ghost use Rattle.rv_judge.specs.Tracing.{CountsRise};
 ghost use Rattle.rv_join.specs.Alone.{IsAlone, TakesOnce};
 ghost use Rattle.rv_join.specs.Pieces.{TakesAwaited, plan_awaited, plan_pieces, waiting};

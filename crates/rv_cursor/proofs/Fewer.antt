@@ -7,7 +7,7 @@ use Rattle.rv_lang.specs.declared.reply.Reply.{Reply}
 use Rattle.rv_model.specs.declared.state.Offer.{Offer}
 use Rattle.rv_reader.specs.Shown.{Shown}
 use Rattle.rv_judge.specs.Counting.{raised}
-use Rattle.rv_retrieval.specs.Short.{Settled, fetches_left}
+use Rattle.rv_access.specs.Accesses.{Settled, fetches_left}
 use Rattle.rv_join.specs.Alone.{FewFetches, IsAlone, plan_fetches}
 use Rattle.rv_join.specs.declared.places.Asked.{Asked}
 use Rattle.rv_join.specs.Plans.{Planned}

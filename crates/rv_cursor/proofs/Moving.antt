@@ -10,14 +10,12 @@ use Rattle.rv_reader.specs.Shown.{Shown}
 use Rattle.rv_jscan.specs.Pieces.{Pieced}
 use Rattle.rv_jscan.specs.declared.jscan.Given.{Given}
 use Rattle.rv_jscan.specs.declared.jscan.Given.TheVariants.{Accepted, Stale}
+use Rattle.rv_access.specs.Accesses.{Settled}
+use Rattle.rv_access.specs.Given.{AwaitsPiece, CountsPiece, GivesOn, piece_read}
 use Rattle.rv_retrieval.specs.Effort.{GiveSpends}
-use Rattle.rv_retrieval.specs.Given.{AwaitsPiece}
-use Rattle.rv_retrieval.specs.Rulings.{GivesOn}
-use Rattle.rv_retrieval.specs.Short.{Settled}
-use Rattle.rv_retrieval.specs.Stepping.{piece_read}
 use Rattle.rv_judge.specs.Tracing.{CountsRise, SameCounts}
 use Rattle.rv_join.specs.Alone.{FewFetches, IsAlone, PlanAsks, PlanSpends, Spends, StepsOnce, TakesOnce, plan_effort}
-use Rattle.rv_join.specs.Pieces.{CountsPiece, GivesPiece, counted_up, plan_awaited, plan_pieces, stack_builds, waited, waiting}
+use Rattle.rv_join.specs.Pieces.{GivesPiece, counted_up, plan_awaited, plan_pieces, stack_builds, waited, waiting}
 use Rattle.rv_join.specs.Plans.{PlanKept, PlanMoves, PlanStays, Planned, WorkTo, plan_trace, plan_work}
 use Rattle.rv_join.specs.declared.plan.PlanStep.{PlanStep}
 use Rattle.rv_join.specs.declared.plan.PlanStep.TheVariants.{Row, End, Working}

@@ -10,10 +10,8 @@ use Rattle.rv_judge.specs.Counting.{one_more}
 use Rattle.rv_jscan.specs.Pieces.{Pieced}
 use Rattle.rv_jscan.specs.declared.jscan.Given.TheVariants.{Accepted}
 use Rattle.rv_reader.specs.Shown.{Shown}
-use Rattle.rv_retrieval.specs.Given.{AwaitsPiece}
-use Rattle.rv_retrieval.specs.Rulings.{GivesOn}
-use Rattle.rv_retrieval.specs.Short.{Settled}
-use Rattle.rv_retrieval.specs.Stepping.{piece_read}
+use Rattle.rv_access.specs.Accesses.{Settled}
+use Rattle.rv_access.specs.Given.{AwaitsPiece, GivesOn, piece_read}
 use Rattle.rv_judge.specs.Tracing.{CountsRise, SameCounts}
 use Rattle.rv_join.specs.Alone.{FewFetches, IsAlone, PlanAsks, PlanSpends, Spends, StepsOnce, TakesOnce, plan_effort}
 use Rattle.rv_join.specs.Pieces.{plan_awaited, plan_pieces, stack_builds, waited, waiting}

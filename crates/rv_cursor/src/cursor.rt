@@ -1,7 +1,8 @@
 //! A cursor, and the steps of its plan.
 ghost use Rattle.std.specs.Prelude.{◌≡◌, ◌+◌, ◌≤◌, true, false, None, Ok, IfOk, OnErr};
 ghost use Rattle.rv_judge.specs.Counting.{reads};
-ghost use Rattle.rv_retrieval.specs.Short.{OnlyLeaves, Settled, fetches_left, has_short};
+ghost use Rattle.rv_access.specs.Accesses.{Settled, fetches_left, query_of};
+ghost use Rattle.rv_retrieval.specs.Short.{OnlyLeaves, has_short};
 ghost use Rattle.rv_judge.specs.Tracing.{CountsAll};
 ghost use Rattle.rv_join.specs.Alone.{plan_effort, plan_life};
 ghost use Rattle.rv_join.specs.Asking.{CanPlan, IsAsked};
@@ -62,6 +63,7 @@ pub fn open_cursor<R: Reader>(
     name: Text,
     number: u64,
     snap: u64,
+    race: bool,
     frozen: Option<View>,
     steps: &mut Steps<R::Ledger>,
 ) -> Result<Open, NoMemory>
@@ -70,11 +72,12 @@ pub fn open_cursor<R: Reader>(
     ensures fits { IfOk result (CursorFits (R.shown reader.now)) }
     ensures left { IfOk result (λ c. left (R.shown reader.now) c ≡ offers_in_order (offers_over select.now (table_rows (seen_at (R.shown reader.now) snap frozen) snap))) }
     ensures asked { IfOk result (λ c. IsAsked select.now indexes.now snap number c.plan.asked) }
+    ensures race { IfOk result (λ c. c.plan.asked.race ≡ race) }
     ensures leads { IfOk result (λ c. LeadsWith (seen_at (R.shown reader.now) snap frozen) c.plan) }
     ensures stage { IfOk result (λ c. c.plan.stage ≡ stage_of select.now indexes.now) }
     ensures work { IfOk result (λ c. plan_work (seen_at (R.shown reader.now) snap frozen) c.plan ≤ row_cost (seen_at (R.shown reader.now) snap frozen) snap c.plan.asked.items) }
     ensures life { IfOk result (λ c. reads steps.new + plan_effort (seen_at (R.shown reader.now) snap frozen) c.plan ≤ reads steps.old + plan_life select.now indexes.now (seen_at (R.shown reader.now) snap frozen) snap) }
-    ensures short { IfOk result (λ c. has_short c.plan.stack.at.here.query (seen_at (R.shown reader.now) snap frozen) ≡ true → Settled c.plan.stack.at.here × (fetches_left c.plan.stack.at.here (seen_at (R.shown reader.now) snap frozen) ≤ 20)) }
+    ensures short { IfOk result (λ c. has_short (query_of c.plan.stack.at.here) (seen_at (R.shown reader.now) snap frozen) ≡ true → Settled c.plan.stack.at.here × (fetches_left c.plan.stack.at.here (seen_at (R.shown reader.now) snap frozen) ≤ 20)) }
     ensures only { OnlyLeaves steps.old steps.new }
     ensures counts { IfOk result (λ c. CountsAll (plan_trace c.plan) steps.old steps.new) }
     ensures session { IfOk result (λ c. c.session ≡ session) }
@@ -94,6 +97,7 @@ pub fn open_cursor<R: Reader>(
         indexes,
         snap,
         number,
+        race,
         steps,
     )?;
     Ok(Open {

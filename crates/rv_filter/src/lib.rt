@@ -1,7 +1,7 @@
 //! A hashed filter of keys: it may take a key for an added one, and never denies an added key.
 #![tactic(auto)]
 
-ghost use Rattle.std.specs.Prelude.{◌≡◌, ◌<◌, ℕ, length, All, true, false};
+ghost use Rattle.std.specs.Prelude.{◌≡◌, ◌<◌, ℕ, length, slice_index_or, All, true, false};
 ghost use Rattle.rv_filter.specs.Bits.{bit_of, is_set, holds, SetsBit};
 
 use std::marker::Model;
@@ -35,6 +35,13 @@ impl Filter {
         Filter { words }
     }
 
+    /// Clears all bits, so that it holds no key. It takes no memory.
+    pub fn clear(&mut self)
+        ensures { (bit : ℕ) → is_set self.new bit ≡ false }
+    {
+        clear_words(&mut self.words);
+    }
+
     /// Sets the key's bit.
     pub fn add(&mut self, key: u64)
         ensures set { SetsBit self.old self.new (bit_of key) }
@@ -51,6 +58,18 @@ impl Filter {
     {
         let bit = bit_of(key);
         (self.words[bit / 64] >> (bit % 64)) & 1 == 1
+    }
+}
+
+/// Makes each word 0.
+fn clear_words(words: &mut Vec<u64>)
+    ensures zero { (at : ℕ) → slice_index_or words.new.items at 0 ≡ 0 }
+    ensures count { length words.new.items ≡ length words.old.items }
+{
+    let mut i = 0;
+    'words: while i < words.len() {
+        words[i] = 0;
+        i += 1;
     }
 }
 

@@ -4,13 +4,13 @@ use Rattle.std.proofs.lemmas.Bool.Decides.{nat_tests}
 use Rattle.rv_judge.specs.declared.counting.Counts.{Counts}
 use Rattle.rv_judge.specs.declared.events.Trace.{Trace}
 use Rattle.rv_reader.specs.Shown.{Shown}
-use Rattle.rv_retrieval.specs.Shape.{Shape}
 use Rattle.rv_judge.specs.Tracing.{CountsAll, CountsRise}
+use Rattle.rv_access.specs.declared.access.Access.{Access}
+use Rattle.rv_access.specs.Accesses.{SamePlans, trace_of}
 use Rattle.rv_join.specs.declared.places.Asked.{Asked}
 use Rattle.rv_join.specs.declared.level.Level.{Level}
 use Rattle.rv_join.specs.Levels.{StackFits, Stacked, first_in, first_of, is_last, used}
 use Rattle.rv_join.specs.Moves.{Rises}
-use Rattle.rv_join.specs.Rules.{SamePlans}
 use Rattle.rv_join.proofs.Numbers.{rules_stay}
 use Rattle.rv_join.specs.Plans.{AreReads, HoldsGood, PlanFits, Planned, RisesAlone, plan_trace, reads_with}
 
@@ -37,7 +37,7 @@ pub used_first : (v : Stacked) → (first_of (used v)).here ≡ (first_of v).her
 used_first v = first_used v.above v.at
 
 -- where no call was made, the counts stay
-pub rises_none : (old new : Shape) (before after : Counts) → new ≡ old → after ≡ before → Rises old new before after
+pub rises_none : (old new : Access) (before after : Counts) → new ≡ old → after ≡ before → Rises old new before after
 rises_none old new before after same none = inr (same, none)
 
 pub reads_rise : (t u : Trace) (reads before after : Counts) → AreReads t reads → CountsRise t u before after → AreReads u (reads_with reads before after)
@@ -48,11 +48,11 @@ reads_rise t u reads before after are rise = record {
 }
 
 -- the first retrieval's counts are the plan's, where it was just opened
-pub opened_counts : (p : Planned) (before after : Counts) → p.stack.above ≡ [] → AreReads (first_of p.stack).here.trace p.reads → CountsAll p.stack.at.here.trace before after → CountsAll (plan_trace p) before after
+pub opened_counts : (p : Planned) (before after : Counts) → p.stack.above ≡ [] → AreReads (trace_of (first_of p.stack).here) p.reads → CountsAll (trace_of p.stack.at.here) before after → CountsAll (plan_trace p) before after
 opened_counts p before after none are all = record { pages = here.pages ∙ all.pages; leaves = here.leaves ∙ all.leaves; fetches = here.fetches ∙ all.fetches }
   where
-    here : AreReads p.stack.at.here.trace p.reads
-    here = subst (λ ls. AreReads (first_in ls p.stack.at).here.trace p.reads) none are
+    here : AreReads (trace_of p.stack.at.here) p.reads
+    here = subst (λ ls. AreReads (trace_of (first_in ls p.stack.at).here) p.reads) none are
 
 -- the counts of a plan rise by what its call reads
 pub plan_rises : (old mid new : Planned) (before after : Counts) → mid.reads ≡ old.reads → new ≡ record mid { reads = reads_with mid.reads before after } → CountsRise (plan_trace old) (plan_trace new) before after
@@ -69,14 +69,14 @@ fits_counted shown old mid new before after fits holds rises reads asked plans s
   counted = λ one. counts (subst (λ (a : Asked). length a.items ≡ 1) (ap (λ (p : Planned). p.asked) same ∙ asked) one);
 }
   where
-    counts : length old.asked.items ≡ 1 → AreReads (first_of new.stack).here.trace new.reads
+    counts : length old.asked.items ≡ 1 → AreReads (trace_of (first_of new.stack).here) new.reads
     counts one = elim (rises one) [
-      | inl rise ↦ rw (same, reads) (reads_rise (first_of old.stack).here.trace (first_of mid.stack).here.trace old.reads before after (fits.counted one) rise)
+      | inl rise ↦ rw (same, reads) (reads_rise (trace_of (first_of old.stack).here) (trace_of (first_of mid.stack).here) old.reads before after (fits.counted one) rise)
       | inr still ↦ rw (none still.1, reads, still.0) (fits.counted one)
     ]
 
 -- over one FROM item the trace is that of the one retrieval
-pub alone_trace : (shown : Shown) (p : Planned) → PlanFits shown p → length p.asked.items ≡ 1 → plan_trace p ≡ p.stack.at.here.trace
+pub alone_trace : (shown : Shown) (p : Planned) → PlanFits shown p → length p.asked.items ≡ 1 → plan_trace p ≡ (trace_of p.stack.at.here)
 alone_trace shown p fits one =
     let none = alone_above p.asked shown p.stack fits.holds.stack one in
     let are = fits.counted one in
@@ -96,4 +96,4 @@ alone_ends a shown old mid new before after fits same rise ends one =
 
 pub alone_uses : (a : Asked) (shown : Shown) (old mid new : Stacked) (before after end : Counts) → StackFits a shown old → mid ≡ record old { at = mid.at } → Rises old.at.here mid.at.here before after → (length a.items ≡ 1 → ((first_of new).here ≡ (first_of mid).here) × (end ≡ after)) → length a.items ≡ 1 → Rises (first_of old).here (first_of new).here before end
 alone_uses a shown old mid new before after end fits same rise uses one =
-    subst (λ (v : Shape). Rises (first_of old).here v before end) (sym (uses one).0) (subst (Rises (first_of old).here (first_of mid).here before) (sym (uses one).1) (alone_rises a shown old mid before after fits same rise one))
+    subst (λ (v : Access). Rises (first_of old).here v before end) (sym (uses one).0) (subst (Rises (first_of old).here (first_of mid).here before) (sym (uses one).1) (alone_rises a shown old mid before after fits same rise one))

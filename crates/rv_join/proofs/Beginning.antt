@@ -5,7 +5,7 @@ use Rattle.rv_catalog.specs.declared.def.Select.{Select}
 use Rattle.rv_catalog.specs.declared.def.IndexDef.{IndexDef}
 use Rattle.rv_model.specs.declared.state.Offer.{Offer}
 use Rattle.rv_reader.specs.Shown.{Shown}
-use Rattle.rv_retrieval.specs.Shape.{Shape}
+use Rattle.rv_access.specs.declared.access.Access.{Access}
 use Rattle.rv_join.specs.declared.places.Asked.{Asked}
 use Rattle.rv_join.specs.declared.gather.Stage.{Stage}
 use Rattle.rv_join.specs.declared.gather.Stage.TheVariants.{AsFound, Gathering, Giving}
@@ -29,7 +29,7 @@ first_le : (n m : ℕ) → n < m → 0 + n ≤ m
 first_le n m h = omega (arith, h)
 
 -- the retrieval of the first item alone
-pub starts : (a : Asked) (shown : Shown) (v : Shape) (n : ℕ) → CanRun a shown → OpensItem a shown [] v → Starts a shown (record { above = []; at = record { outer = []; row = None; here = v }; openings = n })
+pub starts : (a : Asked) (shown : Shown) (v : Access) (n : ℕ) → CanRun a shown → OpensItem a shown [] v → Starts a shown (record { above = []; at = record { outer = []; row = None; here = v }; openings = n })
 starts a shown v n can opens = let some = can.some in record {
   fits = record { above = record {}; at = opened_fits a shown [] v (omega (arith, some)) (wide_none a) opens; deep = refl };
   top = refl;

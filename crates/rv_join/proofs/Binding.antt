@@ -16,11 +16,11 @@ use Rattle.rv_scan.specs.Told.{width}
 use Rattle.rv_choice.specs.declared.query.Query.{Query}
 use Rattle.rv_choice.specs.Asked.{CanAsk, IsIndexOf}
 use Rattle.rv_judge.specs.Account.{life_bound}
-use Rattle.rv_retrieval.specs.Effort.{Awaiting, cuts_and_entries, effort, life_of}
-use Rattle.rv_retrieval.specs.Opened.{Opened}
+use Rattle.rv_retrieval.specs.Effort.{cuts_and_entries}
 use Rattle.rv_final.specs.Rest.{qualifying}
-use Rattle.rv_retrieval.specs.Runs.{Tells}
-use Rattle.rv_retrieval.specs.Shape.{RetrievalFits, Shape, rest}
+use Rattle.rv_access.specs.declared.access.Access.{Access}
+use Rattle.rv_access.specs.Accesses.{effort}
+use Rattle.rv_access.specs.Opened.{Begins}
 use Rattle.rv_join.specs.declared.places.Asked.{Asked}
 use Rattle.rv_join.specs.Asking.{AreWide, Asks, CanRun, IsIndexAt, OpensItem, asked_uses, col_at, have_column, item_at, only_names, rows_at, same_column}
 use Rattle.rv_join.specs.Levels.{widened}
@@ -90,15 +90,15 @@ filter_same p q same (x ∷ xs) =
     rw here (elim (q x) as (λ b. cond b (x ∷ filter p xs) (filter p xs) ≡ cond b (x ∷ filter q xs) (filter q xs)) [ true ↦ ap (λ l. x ∷ l) tail | false ↦ tail ])
 
 -- what was opened for it has the rows of which the groups of the place are True
-pub opens_if : {E : Type 0} (r : Result Shape E) (a : Asked) (shown : Shown) (outer : List (List Value)) (query : Query) (cursor opening : ℕ) → Asks a outer query → IfOk r (Opened query shown cursor opening) → IfOk r (λ v. RetrievalFits v shown) → IfOk r (λ v. rest v shown ≡ qualifying query.only (shown.rows query.table query.snap)) → IfOk r (λ v. effort v shown ≤ life_of query shown) → IfOk r Awaiting → IfOk r Tells → IfOk r (OpensItem a shown outer)
-opens_if (Err e) a shown outer query cursor opening asks opened fits left life waits tells = tt
-opens_if (Ok v) a shown outer query cursor opening asks opened fits left life waits tells = record {
-  fits = fits;
-  awaiting = waits;
-  tells = tells;
-  life = subst (λ n. effort v shown ≤ n) (ap (λ t. life_bound (shown.pages t query.snap) (cuts_and_entries query.indexes shown query.snap)) asks.item.table ∙ ap (λ n. life_bound (shown.pages (item_at a (length outer)).table n) (cuts_and_entries query.indexes shown n)) asks.item.snap ∙ ap (λ l. life_bound (shown.pages (item_at a (length outer)).table a.snap) (cuts_and_entries l shown a.snap)) asks.item.over) life;
-  asks = subst (Asks a outer) (sym opened.made.asked) asks;
-  rest_is = left ∙ ap (qualifying query.only) (ap (λ t. shown.rows t query.snap) asks.item.table ∙ ap (λ n. shown.rows (item_at a (length outer)).table n) asks.item.snap) ∙ filter_same _ _ (λ (x : Record). asks.binds x.values) (rows_at a shown (length outer));
+pub opens_if : {E : Type 0} (r : Result Access E) (a : Asked) (shown : Shown) (outer : List (List Value)) (query : Query) (c d : Counts) → Asks a outer query → IfOk r (Begins query shown c d) → IfOk r (OpensItem a shown outer)
+opens_if (Err e) a shown outer query c d asks begins = tt
+opens_if (Ok v) a shown outer query c d asks begins = record {
+  fits = begins.fits;
+  awaiting = begins.awaiting;
+  tells = begins.tells;
+  life = subst (λ n. effort v shown ≤ n) (ap (λ t. life_bound (shown.pages t query.snap) (cuts_and_entries query.indexes shown query.snap)) asks.item.table ∙ ap (λ n. life_bound (shown.pages (item_at a (length outer)).table n) (cuts_and_entries query.indexes shown n)) asks.item.snap ∙ ap (λ l. life_bound (shown.pages (item_at a (length outer)).table a.snap) (cuts_and_entries l shown a.snap)) asks.item.over) begins.most;
+  asks = subst (Asks a outer) (sym begins.asked) asks;
+  rest_is = begins.owes ∙ ap (qualifying query.only) (ap (λ t. shown.rows t query.snap) asks.item.table ∙ ap (λ n. shown.rows (item_at a (length outer)).table n) asks.item.snap) ∙ filter_same _ _ (λ (x : Record). asks.binds x.values) (rows_at a shown (length outer));
 }
 
 -- A row that was widened to the columns needed has them.

@@ -15,11 +15,10 @@ use Rattle.rv_model.specs.declared.state.Offer.{Offer}
 use Rattle.rv_reader.specs.Entries.{column_of}
 use Rattle.rv_reader.specs.Shown.{Shown}
 use Rattle.rv_judge.specs.declared.counting.Counts.{Counts}
-use Rattle.rv_retrieval.specs.Effort.{Awaiting, effort}
 use Rattle.rv_final.specs.Work.{Tries}
 use Rattle.rv_final.specs.Rest.{IsLeast, TakesOut, order_of}
-use Rattle.rv_retrieval.specs.Runs.{Tells}
-use Rattle.rv_retrieval.specs.Shape.{RetrievalFits, Shape, rest}
+use Rattle.rv_access.specs.declared.access.Access.{Access}
+use Rattle.rv_access.specs.Accesses.{AccessFits, Awaiting, Tells, effort, query_of, rest}
 use Rattle.rv_join.specs.declared.places.Asked.{Asked}
 use Rattle.rv_join.specs.declared.level.Level.{Level}
 use Rattle.rv_join.specs.Asking.{CanRun, col_at, item_at}
@@ -89,7 +88,7 @@ stayed front behind taken x c = elim (Contains-append_cases front behind x c) [
   | inr more ↦ Contains-append_right front (taken ∷ behind) x (Contains-append_right (taken ∷ []) behind x more)
 ]
 
-found_led : (a : Asked) (shown : Shown) (old : Level) (new : Shape) (r : Record) → CanRun a shown → LevelFits a shown old → TakesOut old.here.query.need r (rest old.here shown) (rest new shown) → IsLeast old.here.query.order r (rest old.here shown) → old.outer ≡ [] → IsByFirst a → Lead (over_row a shown old r.values) (over_row a shown old r.values ++ flat_map (λ (x : Record). over_row a shown old x.values) (rest new shown))
+found_led : (a : Asked) (shown : Shown) (old : Level) (new : Access) (r : Record) → CanRun a shown → LevelFits a shown old → TakesOut (query_of old.here).need r (rest old.here shown) (rest new shown) → IsLeast (query_of old.here).order r (rest old.here shown) → old.outer ≡ [] → IsByFirst a → Lead (over_row a shown old r.values) (over_row a shown old r.values ++ flat_map (λ (x : Record). over_row a shown old x.values) (rest new shown))
 found_led a shown old new r can fits out least first by d e c i = elim (Contains-append_cases (over_row a shown old r.values) (flat_map (λ (x : Record). over_row a shown old x.values) (rest new shown)) e i) [
   | inl here ↦ rw (key r d c, key r e here) (lt_same (order_of (item_at a 0).order r))
   | inr more ↦ in_flat (λ (x : Record). over_row a shown old x.values) (rest new shown) (λ (e : Offer). before e d ≡ false) (λ x m e j. rw (key r d c, key x e j) (behind x m)) e more
@@ -98,14 +97,14 @@ found_led a shown old new r can fits out least first by d e c i = elim (Contains
     key : (x : Record) (d : Offer) → Contains (over_row a shown old x.values) d → d.order ≡ order_of (item_at a 0).order x
     key x d c = order_under a shown by (below a old) x [] d (subst (λ (rows : List (List Value)). Contains (under a shown (below a old) (rows ++ x.values ∷ [])) d) first c)
 
-    order_is : old.here.query.order ≡ (item_at a 0).order
+    order_is : (query_of old.here).order ≡ (item_at a 0).order
     order_is = fits.asks.item.order ∙ ap (λ (rows : List (List Value)). (item_at a (length rows)).order) first
 
     behind : (x : Record) → Contains (rest new shown) x → is_lt (values_cmp (order_of (item_at a 0).order x) (order_of (item_at a 0).order r)) ≡ false
-    behind x m = subst (λ (o : List ℕ). is_lt (values_cmp (order_of o x) (order_of o r)) ≡ false) order_is (least_in old.here.query.order r (rest old.here shown) x least (rw out.before (stayed out.front out.behind out.taken x (rw out.after at m))))
+    behind x m = subst (λ (o : List ℕ). is_lt (values_cmp (order_of o x) (order_of o r)) ≡ false) order_is (least_in (query_of old.here).order r (rest old.here shown) x least (rw out.before (stayed out.front out.behind out.taken x (rw out.after at m))))
 
 -- a row that is found is held
-pub found_moves : (a : Asked) (shown : Shown) (old : Level) (new : Shape) (r : Record) (before after : Counts) → CanRun a shown → LevelFits a shown old → old.row ≡ None → new.query ≡ old.here.query → RetrievalFits new shown → Tries before after (effort old.here shown) (effort new shown) → (Awaiting old.here → Awaiting new) → (Tells old.here → Tells new) → TakesOut old.here.query.need r (rest old.here shown) (rest new shown) × IsLeast old.here.query.order r (rest old.here shown) → LevelMoves a shown old (record { outer = old.outer; row = Some r.values; here = new })
+pub found_moves : (a : Asked) (shown : Shown) (old : Level) (new : Access) (r : Record) (before after : Counts) → CanRun a shown → LevelFits a shown old → old.row ≡ None → query_of new ≡ query_of old.here → AccessFits new shown → Tries before after (effort old.here shown) (effort new shown) → (Awaiting old.here → Awaiting new) → (Tells old.here → Tells new) → TakesOut (query_of old.here).need r (rest old.here shown) (rest new shown) × IsLeast (query_of old.here).order r (rest old.here shown) → LevelMoves a shown old (record { outer = old.outer; row = Some r.values; here = new })
 found_moves a shown old new r before after can fits none query here tries waits tells found = record {
   fits = stays_fits a shown old new fits query here waits tells (Some r.values);
   outer = refl;
@@ -128,9 +127,9 @@ pub same_moves : (a : Asked) (shown : Shown) (l : Level) → LevelFits a shown l
 same_moves a shown l fits = stays_moves a shown l l (level_same a shown l fits)
 
 -- the end of a retrieval
-pub ended_moves : (a : Asked) (shown : Shown) (old : Level) (new : Shape) (before after : Counts) → LevelFits a shown old → old.row ≡ None → new.query ≡ old.here.query → RetrievalFits new shown → Tries before after (effort old.here shown) (effort new shown) → (Awaiting old.here → Awaiting new) → (Tells old.here → Tells new) → (rest old.here shown ≡ []) × (rest new shown ≡ []) → LevelMoves a shown old (record old { here = new }) × (still a shown (record old { here = new }) ≡ [])
+pub ended_moves : (a : Asked) (shown : Shown) (old : Level) (new : Access) (before after : Counts) → LevelFits a shown old → old.row ≡ None → query_of new ≡ query_of old.here → AccessFits new shown → Tries before after (effort old.here shown) (effort new shown) → (Awaiting old.here → Awaiting new) → (Tells old.here → Tells new) → (rest old.here shown ≡ []) × (rest new shown ≡ []) → LevelMoves a shown old (record old { here = new }) × (still a shown (record old { here = new }) ≡ [])
 ended_moves a shown old new before after fits none query here tries waits tells ended = (stays_moves a shown old (record old { here = new }) (level_stays a shown old new before after fits query here tries waits tells (ended.1 ∙ sym ended.0)), rw (none, ended.1) refl)
 
 -- a step without a row lowers the work
-pub worked_moves : (a : Asked) (shown : Shown) (old : Level) (new : Shape) (before after : Counts) → LevelFits a shown old → new.query ≡ old.here.query → RetrievalFits new shown → Tries before after (effort old.here shown) (effort new shown) → (Awaiting old.here → Awaiting new) → (Tells old.here → Tells new) → rest new shown ≡ rest old.here shown → effort new shown < effort old.here shown → LevelMoves a shown old (record old { here = new }) × (level_work a shown (record old { here = new }) < level_work a shown old)
+pub worked_moves : (a : Asked) (shown : Shown) (old : Level) (new : Access) (before after : Counts) → LevelFits a shown old → query_of new ≡ query_of old.here → AccessFits new shown → Tries before after (effort old.here shown) (effort new shown) → (Awaiting old.here → Awaiting new) → (Tells old.here → Tells new) → rest new shown ≡ rest old.here shown → effort new shown < effort old.here shown → LevelMoves a shown old (record old { here = new }) × (level_work a shown (record old { here = new }) < level_work a shown old)
 worked_moves a shown old new before after fits query here tries waits tells same less = (stays_moves a shown old (record old { here = new }) (level_stays a shown old new before after fits query here tries waits tells same), works_less a shown old new less same)

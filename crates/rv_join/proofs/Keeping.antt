@@ -5,9 +5,9 @@ use Rattle.rv_judge.specs.declared.events.Trace.{Trace}
 use Rattle.rv_reader.specs.Shown.{Shown}
 use Rattle.rv_judge.specs.Runs.{Allowed}
 use Rattle.rv_retrieval.specs.Runs.{indexes_asked}
-use Rattle.rv_retrieval.specs.Shape.{RetrievalFits}
-use Rattle.rv_retrieval.proofs.Tellings.{allowed}
 use Rattle.rv_judge.specs.Tracing.{SameCounts}
+use Rattle.rv_access.specs.Accesses.{AccessFits, SamePlans, query_of, trace_of}
+use Rattle.rv_access.proofs.Accesses.{allowed}
 use Rattle.rv_join.specs.declared.places.Asked.{Asked}
 use Rattle.rv_join.specs.declared.level.Level.{Level}
 use Rattle.rv_join.specs.declared.plan.PlanStep.{PlanStep}
@@ -17,7 +17,6 @@ use Rattle.rv_join.specs.Moves.{Rises, StackStays}
 use Rattle.rv_join.specs.Pieces.{level_at}
 use Rattle.rv_join.specs.Plans.{AreReads, HoldsGood, PlanFits, PlanKept, PlanMoves, PlanStays, Planned, RisesAlone, numbers_of, plan_trace, rest_at}
 use Rattle.rv_join.specs.Work.{loops_work}
-use Rattle.rv_join.specs.Rules.{SamePlans}
 use Rattle.rv_join.proofs.Accounting.{alone_above}
 use Rattle.rv_join.proofs.Numbers.{rules_stay}
 use Rattle.rv_join.proofs.Working.{same_le}
@@ -29,7 +28,7 @@ at_fits a shown place [] i d all fits = fits
 at_fits a shown place (l ∷ ls) zero d all fits = all.1
 at_fits a shown place (l ∷ ls) (suc i) d all fits = at_fits a shown (place + 1) ls i d all.2 fits
 
-pub level_fits : (a : Asked) (shown : Shown) (v : Stacked) (i : ℕ) → StackFits a shown v → RetrievalFits (level_at v i).here shown
+pub level_fits : (a : Asked) (shown : Shown) (v : Stacked) (i : ℕ) → StackFits a shown v → AccessFits (level_at v i).here shown
 level_fits a shown v i fits = (at_fits a shown 0 v.above i v.at fits.above fits.at).here
 
 alone_level : (v : Stacked) (i : ℕ) → v.above ≡ [] → level_at v i ≡ first_of v
@@ -45,7 +44,7 @@ told_allowed shown p fits =
     let stack = fits.holds.stack in
     let first = first_fits p.asked shown p.stack.above p.stack.at stack.above stack.at stack.deep in
     let run = allowed (first_of p.stack).here first.1.tells in
-    let over : indexes_asked (first_of p.stack).here.query ≡ numbers_of (item_at p.asked 0).indexes = ap numbers_of (first.1.asks.item.over ∙ ap (λ (n : ℕ). (item_at p.asked n).indexes) first.0) in
+    let over : indexes_asked (query_of (first_of p.stack).here) ≡ numbers_of (item_at p.asked 0).indexes = ap numbers_of (first.1.asks.item.over ∙ ap (λ (n : ℕ). (item_at p.asked n).indexes) first.0) in
     subst (Allowed (plan_trace p)) over (record { planned = run.planned; known = run.known; once = run.once; scanned = run.scanned; turns = run.turns; run = run.run; told = run.told })
 
 -- A call that leaves the rest.
@@ -62,20 +61,20 @@ stays_good shown old new holds stays same = rw same (record {
 same_reads : (t u : Trace) (reads : Counts) → AreReads t reads → SameCounts t u → AreReads u reads
 same_reads t u reads are same = record { pages = are.pages ∙ sym same.pages; leaves = are.leaves ∙ sym same.leaves; fetches = are.fetches ∙ sym same.fetches }
 
-pub given_fits : (shown : Shown) (old new : Planned) (i : ℕ) → PlanFits shown old → StackStays old.asked shown old.stack new.stack → SameCounts (level_at old.stack i).here.trace (level_at new.stack i).here.trace → SamePlans (first_of old.stack).here (first_of new.stack).here → new ≡ record old { stack = new.stack } → PlanFits shown new
+pub given_fits : (shown : Shown) (old new : Planned) (i : ℕ) → PlanFits shown old → StackStays old.asked shown old.stack new.stack → SameCounts (trace_of (level_at old.stack i).here) (trace_of (level_at new.stack i).here) → SamePlans (first_of old.stack).here (first_of new.stack).here → new ≡ record old { stack = new.stack } → PlanFits shown new
 given_fits shown old new i fits stays counts plans same = record {
   holds = stays_good shown old new fits.holds stays same;
   rules = rules_stay shown (first_of old.stack).here (first_of new.stack).here plans fits.rules;
   counted = λ one. reads_same (subst (λ (a : Asked). length a.items ≡ 1) (ap (λ (p : Planned). p.asked) same) one);
 }
   where
-    reads_same : length old.asked.items ≡ 1 → AreReads (first_of new.stack).here.trace new.reads
+    reads_same : length old.asked.items ≡ 1 → AreReads (trace_of (first_of new.stack).here) new.reads
     reads_same one =
         let before = alone_level old.stack i (alone_above old.asked shown old.stack fits.holds.stack one) in
         let after = alone_level new.stack i (alone_above old.asked shown new.stack stays.fits one) in
-        let there = subst (λ (l : Level). SameCounts l.here.trace (level_at new.stack i).here.trace) before counts in
-        let here = subst (λ (l : Level). SameCounts (first_of old.stack).here.trace l.here.trace) after there in
-        subst (AreReads (first_of new.stack).here.trace) (sym (ap (λ (p : Planned). p.reads) same)) (same_reads (first_of old.stack).here.trace (first_of new.stack).here.trace old.reads (fits.counted one) here)
+        let there = subst (λ (l : Level). SameCounts (trace_of l.here) (trace_of (level_at new.stack i).here)) before counts in
+        let here = subst (λ (l : Level). SameCounts (trace_of (first_of old.stack).here) (trace_of l.here)) after there in
+        subst (AreReads (trace_of (first_of new.stack).here)) (sym (ap (λ (p : Planned). p.reads) same)) (same_reads (trace_of (first_of old.stack).here) (trace_of (first_of new.stack).here) old.reads (fits.counted one) here)
 
 pub taken_rises : (shown : Shown) (old new : Planned) (i : ℕ) (before after : Counts) → HoldsGood shown old → StackStays old.asked shown old.stack new.stack → Rises (level_at old.stack i).here (level_at new.stack i).here before after → RisesAlone old new before after
 taken_rises shown old new i before after holds stays rise one =

@@ -14,7 +14,6 @@ pub mod Beginning
 pub mod Accounting
 pub mod Keeping
 pub mod Numbers
-pub mod Counting
 pub mod OneItem
 pub mod Going
 pub mod Lowering

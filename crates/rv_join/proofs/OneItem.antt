@@ -1,35 +1,26 @@
 -- A plan over one FROM item: what its one retrieval does, and what the first item's retrieval keeps.
-use Rattle.std.proofs.Common.{◌≡◌, ℕ, ◌+◌, ◌-◌, ◌^◌, ◌<◌, ◌≤◌, List, [], ◌∷◌, ◌++◌, length, Bool, true, false, ◌==◌, Option, Some, None, is_some, refl, ap, sym, ◌∙◌, arith, subst, inl, inr, zero, suc, slice_index_or, slice_set, Result, Ok, Err, IfOk, OnOk, OnErr}
+use Rattle.std.proofs.Common.{Bool, ◌&&◌, ◌≡◌, ℕ, ◌+◌, ◌-◌, ◌^◌, ◌<◌, ◌≤◌, List, [], ◌∷◌, ◌++◌, length, true, false, Option, Some, None, is_some, refl, ap, sym, ◌∙◌, arith, subst, inl, inr, zero, suc, slice_index_or, slice_set, Result, Ok, Err, IfOk, OnOk, OnErr}
 use Rattle.rv_value.specs.declared.value.Value.{Value}
 use Rattle.rv_judge.specs.Counting.{reads, raised}
 use Rattle.rv_judge.specs.declared.counting.Counts.{Counts}
-use Rattle.rv_judge.specs.declared.events.Happening.{Happening}
-use Rattle.rv_judge.specs.declared.events.Happening.TheVariants.{FrontEnded, FinalEnded}
 use Rattle.rv_judge.specs.declared.judging.Facts.{Facts}
 use Rattle.rv_judge.specs.Verdicts.{Ruling}
 use Rattle.rv_reader.specs.Shown.{Shown}
-use Rattle.rv_scan.specs.declared.skip.Scanned.{Scanned}
-use Rattle.rv_scan.specs.declared.skip.Scanned.TheVariants.{Found, Working, End}
-use Rattle.rv_jscan.specs.Joint.{Joint, under_way}
-use Rattle.rv_jscan.specs.Pieces.{Pieced}
 use Rattle.rv_jscan.specs.declared.jscan.Given.{Given}
 use Rattle.rv_jscan.specs.declared.jscan.Given.TheVariants.{Accepted, Stale}
-use Rattle.rv_value.specs.declared.record.IndexEntry.{IndexEntry}
-use Rattle.rv_jscan.specs.Steps.{Accepts, held_next}
 use Rattle.rv_retrieval.specs.declared.steps.Fg.{Fg}
-use Rattle.rv_retrieval.specs.Effort.{GiveSpends, effort, life_of}
+use Rattle.rv_retrieval.specs.Effort.{GiveSpends, life_of}
+use Rattle.rv_retrieval.specs.Short.{has_short}
 use Rattle.rv_final.specs.Work.{Tries}
-use Rattle.rv_retrieval.specs.Given.{TakesLeaf, TakesLeafBy, awaited}
-use Rattle.rv_retrieval.specs.Opened.{Opened}
-use Rattle.rv_retrieval.specs.Rulings.{GivesOn}
-use Rattle.rv_retrieval.specs.Runs.{SameCourse}
-use Rattle.rv_retrieval.specs.Shape.{Shape, is_background}
-use Rattle.rv_retrieval.specs.Short.{Settled, fetches_left, has_short, is_settled}
-use Rattle.rv_judge.specs.declared.events.Control.{Control}
-use Rattle.rv_judge.specs.declared.events.Control.TheVariants.{Building, ForegroundAlone, BackgroundAlone, FinalList, FinalTable, Done as ControlDone}
-use Rattle.rv_retrieval.specs.Stepping.{DoesAs, Kind, MayReadIts, OnlyTakes, RemembersBy, StepsAs, StepsBehind, ended_by, filled, is_awaiting, kind_of, piece_read}
-use Rattle.rv_retrieval.specs.Stepping.Kind.{Borrow, Piece, Walk, WalkBoth, NextKey, NextPage, Over}
-use Rattle.rv_retrieval.specs.Accounts.{fresh_of}
+use Rattle.rv_judge.specs.Tracing.{CountsAll}
+use Rattle.rv_access.specs.declared.access.Access.{Access}
+use Rattle.rv_access.specs.declared.access.Access.TheVariants.{Competing, Racing}
+use Rattle.rv_access.specs.Accesses.{SamePlans, Settled, effort, fetches_left, query_of, trace_of}
+use Rattle.rv_access.specs.Opened.{Begins, IsShort, Opened, OpenedBy, races}
+use Rattle.rv_access.specs.Stepping.{MayReadIts, OnlyTakes, SameCourse, SettledTake, StepsAs}
+use Rattle.rv_access.proofs.Accesses.{course_plans, plans_stay, steps_plans}
+use Rattle.rv_access.proofs.Chosen.{raced_strategy}
+use Rattle.rv_access.proofs.Counting.{OneUp, may_up, same_up}
 use Rattle.rv_join.specs.declared.level.Caught.TheVariants.{Ready}
 use Rattle.rv_join.specs.declared.level.Level.{Level}
 use Rattle.rv_join.specs.declared.plan.PlanStep.{PlanStep}
@@ -41,90 +32,25 @@ use Rattle.rv_catalog.specs.declared.def.IndexDef.{IndexDef}
 use Rattle.rv_catalog.specs.declared.def.Select.{Select}
 use Rattle.rv_model.specs.declared.state.Offer.{Offer}
 use Rattle.rv_choice.specs.declared.query.Query.{Query}
+use Rattle.rv_choice.specs.declared.choosing.Choice.{Choice}
+use Rattle.rv_choice.specs.Choice.{IsChosen, candidates_of}
+use Rattle.rv_judge.specs.declared.events.Strategy.TheVariants.{BackgroundOnly}
 use Rattle.rv_join.specs.declared.places.Asked.{Asked}
 use Rattle.rv_join.specs.Asking.{Asks, IsAsked}
 use Rattle.rv_join.specs.Levels.{StackFits, Stacked, down, first_in, first_of, used}
 use Rattle.rv_join.specs.Plans.{Gives, Planned, reads_with, step_of}
-use Rattle.rv_join.specs.Rules.{IsByRules, SamePlans}
+use Rattle.rv_join.specs.Rules.{IsByRules}
 use Rattle.rv_join.specs.Work.{held_rows}
 use Rattle.rv_join.proofs.Accounting.{alone_above}
-use Rattle.rv_join.proofs.Counting.{OneUp, may_up, same_up}
-use Rattle.rv_join.proofs.Numbers.{Turns, accepted_turns}
 
 -- Strategy and planned scans.
 
-pub plans_then : (u v w : Shape) → SamePlans u v → SamePlans v w → SamePlans u w
-plans_then u v w first then = record { query = then.query ∙ first.query; strategy = then.strategy ∙ first.strategy; plans = then.plans ∙ first.plans }
-
-pub plans_stay : (v : Shape) → SamePlans v v
-plans_stay v = record { query = refl; strategy = refl; plans = refl }
-
-turned_plans : (u v : Shape) → Turns u v → SamePlans u v
-turned_plans u v turns = record { query = turns.query; strategy = turns.strategy; plans = turns.plans }
-
-accepted_plans : (old new : Joint) (entries : List IndexEntry) (next : Option IndexEntry) → Accepts old new entries next → new.plans ≡ old.plans
-accepted_plans old new entries (Some cut) accepts = ap (λ (j : Joint). j.plans) accepts
-accepted_plans old new entries None accepts = ap (λ (j : Joint). j.plans) accepts.3
-
-pub given_plans : (would : ℕ → Facts → Ruling) (state after : ℕ) (piece : Pieced) (g : Given) (old new : Shape) → GivesOn would state after piece g old new → SamePlans old new
-given_plans would state after piece Accepted old new gives =
-    let turns = accepted_turns would state after piece old new gives in
-    record { query = turns.query; strategy = turns.strategy; plans = turns.plans ∙ accepted_plans old.joint gives.0 piece.entries (held_next old.joint.held) gives.1 }
-given_plans would state after piece (Stale asked now) old new gives = subst (SamePlans old) (sym gives.0) (plans_stay old)
-
-taken_plans : (back : Bool) (old new : Joint) → TakesLeafBy back old new → new.plans ≡ old.plans
-taken_plans true old new taken = ap (λ (j : Joint). j.plans) taken.same
-taken_plans false old new taken = ap (λ (j : Joint). j.plans) taken
-
-pub take_plans : (old new : Shape) → new ≡ record old { joint = new.joint; trace = new.trace } → TakesLeaf old new.joint → SamePlans old new
-take_plans old new same leaves = record {
-  query = ap (λ (v : Shape). v.query) same;
-  strategy = ap (λ (v : Shape). v.strategy) same;
-  plans = taken_plans (is_background old.control) old.joint new.joint leaves;
-}
-
-filled_plans : (v : Shape) → SamePlans v (filled v)
-filled_plans v = by_full (length v.delivered == 1024) refl
-  where
-    by_full : (b : Bool) → (length v.delivered == 1024) ≡ b → SamePlans v (filled v)
-    by_full true e = rw e (record { query = refl; strategy = refl; plans = refl })
-    by_full false e = rw e (plans_stay v)
-
-remembers_plans : (s : Scanned) (old new : Shape) → RemembersBy s old new → SamePlans old new
-remembers_plans (Found r) old new does = subst (SamePlans old) (sym does.same) (plans_then old (record old { delivered = new.delivered }) _ (record { query = refl; strategy = refl; plans = refl }) (filled_plans (record old { delivered = new.delivered })))
-remembers_plans Working old new does = subst (SamePlans old) (sym does) (plans_stay old)
-remembers_plans End old new does = subst (SamePlans old) (sym does) (record { query = refl; strategy = refl; plans = refl })
-
-ended_plans : (h : Happening) (s : Scanned) (v : Shape) → SamePlans v (ended_by h s v)
-ended_plans h (Found r) v = plans_stay v
-ended_plans h Working v = plans_stay v
-ended_plans h End v = record { query = refl; strategy = refl; plans = refl }
-
-behind_plans : (b : Bool) (would : ℕ → Facts → Ruling) (state after : ℕ) (old new : Shape) → StepsBehind b would state after old new → SamePlans old new
-behind_plans true would state after old new does = plans_then old (record old { joint = does.taken }) new (record { query = refl; strategy = refl; plans = ap (λ (j : Joint). j.plans) does.leaves.same }) (given_plans would state after does.piece Accepted (record old { joint = does.taken }) new does.obeys)
-behind_plans false would state after old new does = subst (SamePlans old) (sym does.0) (plans_stay old)
-
-does_plans : (k : Kind) (would : ℕ → Facts → Ruling) (state after : ℕ) (shown : Shown) (c d : Counts) (s : Scanned) (old new : Shape) → DoesAs k would state after shown c d s old new → SamePlans old new
-does_plans (Borrow key) would state after shown c d s old new does = plans_then old (record old { borrowed = new.borrowed }) new (record { query = refl; strategy = refl; plans = refl }) (remembers_plans s (record old { borrowed = new.borrowed }) new does.1.left)
-does_plans Piece would state after shown c d s old new does = plans_then old (record old { borrowed = does.1.passed }) new (record { query = refl; strategy = refl; plans = refl }) (behind_plans (is_awaiting old) would state after (record old { borrowed = does.1.passed }) new does.1.does)
-does_plans Walk would state after shown c d s old new does = subst (SamePlans old) (sym does.2) (plans_then old (record old { front = new.front }) _ (record { query = refl; strategy = refl; plans = refl }) (ended_plans FrontEnded s (record old { front = new.front })))
-does_plans WalkBoth would state after shown c d s old new does = plans_then old (record old { front = new.front }) new (record { query = refl; strategy = refl; plans = refl }) (remembers_plans s (record old { front = new.front }) new does.1)
-does_plans NextKey would state after shown c d s old new does = subst (SamePlans old) (sym does.2) (plans_then old (record old { at = new.at }) _ (record { query = refl; strategy = refl; plans = refl }) (ended_plans FinalEnded s (record old { at = new.at })))
-does_plans NextPage would state after shown c d s old new does = subst (SamePlans old) (sym does.1) (plans_then old (record old { last = new.last }) _ (record { query = refl; strategy = refl; plans = refl }) (ended_plans FinalEnded s (record old { last = new.last })))
-does_plans Over would state after shown c d s old new does = subst (SamePlans old) (sym does.2) (plans_stay old)
-
-steps_plans : (would : ℕ → Facts → Ruling) (state after : ℕ) (shown : Shown) (c d : Counts) (fg : Fg) (old new : Shape) → StepsAs would state after shown c d fg old new → SamePlans old new
-steps_plans would state after shown c d fg old new steps = subst (SamePlans old) (sym steps.counts) (plans_then old steps.stepped _ (does_plans (kind_of old.control old.strategy (fresh_of old)) would state after shown c d steps.scanned old steps.stepped steps.does) (record { query = refl; strategy = refl; plans = refl }))
-
-course_plans : (old new : Shape) → SameCourse old new → SamePlans old new
-course_plans old new same = record { query = same.query; strategy = same.strategy; plans = same.plans }
-
-fg_plans : (fg : Option Fg) (would : ℕ → Facts → Ruling) (state after : ℕ) (shown : Shown) (c d : Counts) (old new : Shape) → FgCalls fg would state after shown c d old new → SamePlans old new
+fg_plans : (fg : Option Fg) (would : ℕ → Facts → Ruling) (state after : ℕ) (shown : Shown) (c d : Counts) (old new : Access) → FgCalls fg would state after shown c d old new → SamePlans old new
 fg_plans (Some fg) would state after shown c d old new calls = steps_plans would state after shown c d fg old new calls.does
 fg_plans None would state after shown c d old new calls = course_plans old new (calls.wants refl).1
 
 -- the retrieval of a level made a step, or none
-pub once_plans : (would : ℕ → Facts → Ruling) (state after : ℕ) (shown : Shown) (c d : Counts) (old new : Shape) → CallsOnce would state after shown c d old new → SamePlans old new
+pub once_plans : (would : ℕ → Facts → Ruling) (state after : ℕ) (shown : Shown) (c d : Counts) (old new : Access) → CallsOnce would state after shown c d old new → SamePlans old new
 once_plans would state after shown c d old new calls = elim calls [
   | inl call ↦ fg_plans call.0 would state after shown c d old new call.1
   | inr still ↦ subst (SamePlans old) (sym still.0) (plans_stay old)
@@ -135,7 +61,7 @@ once_plans would state after shown c d old new calls = elim calls [
 never_none : {A X : Type 0} (x : A) → Some x ≡ None → X
 never_none x e = absurd (cc)
 
-pub ok_calls : (would : ℕ → Facts → Ruling) (state after : ℕ) (shown : Shown) (c d : Counts) (fg : Fg) (old new : Shape) → StepsAs would state after shown c d fg old new → MayReadIts old c d → (Settled old → Settled new) → (Settled old → after ≡ state) → (Settled old → d.pages ≡ c.pages) → (Settled old → d.records + fetches_left new shown ≤ c.records + fetches_left old shown) → CallsOnce would state after shown c d old new
+pub ok_calls : (would : ℕ → Facts → Ruling) (state after : ℕ) (shown : Shown) (c d : Counts) (fg : Fg) (old new : Access) → StepsAs would state after shown c d fg old new → MayReadIts old c d → (Settled old → Settled new) → (Settled old → after ≡ state) → (Settled old → d.pages ≡ c.pages) → (Settled old → d.records + fetches_left new shown ≤ c.records + fetches_left old shown) → CallsOnce would state after shown c d old new
 ok_calls would state after shown c d fg old new does reads settled unasked pages records = inl (
   Some fg,
   record {
@@ -148,7 +74,7 @@ ok_calls would state after shown c d fg old new does reads settled unasked pages
   },
 )
 
-pub err_calls : (would : ℕ → Facts → Ruling) (state after : ℕ) (shown : Shown) (c d : Counts) (old new : Shape) → after ≡ state → SameCourse old new → OnlyTakes old new → MayReadIts old c d → fetches_left new shown ≤ fetches_left old shown → (Settled old → Settled new) → (Settled old → d.pages ≡ c.pages) → CallsOnce would state after shown c d old new
+pub err_calls : (would : ℕ → Facts → Ruling) (state after : ℕ) (shown : Shown) (c d : Counts) (old new : Access) → after ≡ state → SameCourse old new → OnlyTakes old new → MayReadIts old c d → fetches_left new shown ≤ fetches_left old shown → (Settled old → Settled new) → (Settled old → d.pages ≡ c.pages) → CallsOnce would state after shown c d old new
 err_calls would state after shown c d old new quiet course takes reads fewer settled pages = inl (
   None,
   record {
@@ -207,13 +133,13 @@ moved_spends Moving c d old new spends = spends
 
 -- A look for a level's next row: it failed, it came to no row, and it found one.
 
-pub catch_err : (would : ℕ → Facts → Ruling) (state after : ℕ) (shown : Shown) (c d : Counts) (old : Level) (new : Shape) → after ≡ state → SameCourse old.here new → OnlyTakes old.here new → MayReadIts old.here c d → fetches_left new shown ≤ fetches_left old.here shown → (Settled old.here → Settled new) → (Settled old.here → d.pages ≡ c.pages) → Tries c d (effort old.here shown) (effort new shown) → StepsOnce would state after shown c d old (record old { here = new })
+pub catch_err : (would : ℕ → Facts → Ruling) (state after : ℕ) (shown : Shown) (c d : Counts) (old : Level) (new : Access) → after ≡ state → SameCourse old.here new → OnlyTakes old.here new → MayReadIts old.here c d → fetches_left new shown ≤ fetches_left old.here shown → (Settled old.here → Settled new) → (Settled old.here → d.pages ≡ c.pages) → Tries c d (effort old.here shown) (effort new shown) → StepsOnce would state after shown c d old (record old { here = new })
 catch_err would state after shown c d old new quiet course takes reads fewer settled pages tries = record { calls = err_calls would state after shown c d old.here new quiet course takes reads fewer settled pages; tries = held_tries c d (effort new shown) (effort old.here shown) old.row old.row refl tries }
 
-pub catch_none : (would : ℕ → Facts → Ruling) (state after : ℕ) (shown : Shown) (c d : Counts) (fg : Fg) (old : Level) (new : Shape) → StepsAs would state after shown c d fg old.here new → MayReadIts old.here c d → (Settled old.here → Settled new) → (Settled old.here → after ≡ state) → (Settled old.here → d.pages ≡ c.pages) → (Settled old.here → d.records + fetches_left new shown ≤ c.records + fetches_left old.here shown) → Tries c d (effort old.here shown) (effort new shown) → StepsOnce would state after shown c d old (record old { here = new })
+pub catch_none : (would : ℕ → Facts → Ruling) (state after : ℕ) (shown : Shown) (c d : Counts) (fg : Fg) (old : Level) (new : Access) → StepsAs would state after shown c d fg old.here new → MayReadIts old.here c d → (Settled old.here → Settled new) → (Settled old.here → after ≡ state) → (Settled old.here → d.pages ≡ c.pages) → (Settled old.here → d.records + fetches_left new shown ≤ c.records + fetches_left old.here shown) → Tries c d (effort old.here shown) (effort new shown) → StepsOnce would state after shown c d old (record old { here = new })
 catch_none would state after shown c d fg old new does reads settled unasked pages records tries = record { calls = ok_calls would state after shown c d fg old.here new does reads settled unasked pages records; tries = held_tries c d (effort new shown) (effort old.here shown) old.row old.row refl tries }
 
-pub catch_row : (would : ℕ → Facts → Ruling) (state after : ℕ) (shown : Shown) (c d : Counts) (fg : Fg) (old : Level) (new : Shape) (values : List Value) → old.row ≡ None → StepsAs would state after shown c d fg old.here new → MayReadIts old.here c d → (Settled old.here → Settled new) → (Settled old.here → after ≡ state) → (Settled old.here → d.pages ≡ c.pages) → (Settled old.here → d.records + fetches_left new shown ≤ c.records + fetches_left old.here shown) → Tries c d (effort old.here shown) (effort new shown) → effort new shown < effort old.here shown → StepsOnce would state after shown c d old (record { outer = old.outer; row = Some values; here = new })
+pub catch_row : (would : ℕ → Facts → Ruling) (state after : ℕ) (shown : Shown) (c d : Counts) (fg : Fg) (old : Level) (new : Access) (values : List Value) → old.row ≡ None → StepsAs would state after shown c d fg old.here new → MayReadIts old.here c d → (Settled old.here → Settled new) → (Settled old.here → after ≡ state) → (Settled old.here → d.pages ≡ c.pages) → (Settled old.here → d.records + fetches_left new shown ≤ c.records + fetches_left old.here shown) → Tries c d (effort old.here shown) (effort new shown) → effort new shown < effort old.here shown → StepsOnce would state after shown c d old (record { outer = old.outer; row = Some values; here = new })
 catch_row would state after shown c d fg old new values none does reads settled unasked pages records tries less = record { calls = ok_calls would state after shown c d fg old.here new does reads settled unasked pages records; tries = row_tries c d (effort new shown) (effort old.here shown) old.row none tries less }
 
 -- Open levels.
@@ -258,34 +184,30 @@ list_plans [] i old new le is plans d = absurd (omega (arith, le))
 list_plans (l ∷ ls) zero old new le is plans d = subst (λ (x : Level). SamePlans x.here new.here) is plans
 list_plans (l ∷ ls) (suc i) old new le is plans d = plans_stay l.here
 
-pub result_plans : {E : Type 0} (r : Result Given E) (would : ℕ → Facts → Ruling) (state after : ℕ) (piece : Pieced) (old new : Shape) → IfOk r (λ g. GivesOn would state after piece g old new) → OnErr r (new ≡ old) → SamePlans old new
-result_plans (Ok g) would state after piece old new gives err = given_plans would state after piece g old new gives
-result_plans (Err e) would state after piece old new gives err = subst (SamePlans old) (sym err) (plans_stay old)
-
 -- What a step may fetch where the background is over.
 
 no_less : (n : ℕ) → n ≤ n
 no_less n = omega arith
 
 -- nothing was fetched
-pub no_fetch : (shown : Shown) (c : Counts) (v : Shape) → Fetches shown c c v v
+pub no_fetch : (shown : Shown) (c : Counts) (v : Access) → Fetches shown c c v v
 no_fetch shown c v = record { records = λ s. no_less (c.records + fetches_left v shown) }
 
 pub fetches_same : (shown : Shown) (c : Counts) (old new : Planned) → new ≡ record old { gathered = new.gathered } → Fetches shown c c old.stack.at.here new.stack.at.here
 fetches_same shown c old new same = subst (λ (v : Stacked). Fetches shown c c old.stack.at.here v.at.here) (sym (ap (λ (p : Planned). p.stack) same)) (no_fetch shown c old.stack.at.here)
 
 -- the row that was found is used
-pub uses_fetches : {E : Type 0} (r : Result Moved E) (shown : Shown) (c d end : Counts) (old : Shape) (mid new : Stacked) → OnOk r (new ≡ used mid) → end ≡ d → Fetches shown c d old mid.at.here → OnOk r (Fetches shown c end old new.at.here)
+pub uses_fetches : {E : Type 0} (r : Result Moved E) (shown : Shown) (c d end : Counts) (old : Access) (mid new : Stacked) → OnOk r (new ≡ used mid) → end ≡ d → Fetches shown c d old mid.at.here → OnOk r (Fetches shown c end old new.at.here)
 uses_fetches (Ok m) shown c d end old mid new uses same fetches = rw (uses, same) fetches
 uses_fetches (Err e) shown c d end old mid new uses same fetches = tt
 
-calls_up : (would : ℕ → Facts → Ruling) (state after : ℕ) (shown : Shown) (c d : Counts) (old new : Shape) → c.records < 2 ^ 64 → CallsOnce would state after shown c d old new → OneUp c d
+calls_up : (would : ℕ → Facts → Ruling) (state after : ℕ) (shown : Shown) (c d : Counts) (old new : Access) → c.records < 2 ^ 64 → CallsOnce would state after shown c d old new → OneUp c d
 calls_up would state after shown c d old new within calls = elim calls [
-  | inl call ↦ may_up (kind_of old.control old.strategy (fresh_of old)) old c d within call.1.may_read
+  | inl call ↦ may_up old c d within call.1.may_read
   | inr still ↦ same_up c d (ap (λ (k : Counts). k.records) still.1)
 ]
 
-calls_settled : (would : ℕ → Facts → Ruling) (state after : ℕ) (shown : Shown) (c d : Counts) (old new : Shape) → CallsOnce would state after shown c d old new → Settled old → Settled new
+calls_settled : (would : ℕ → Facts → Ruling) (state after : ℕ) (shown : Shown) (c d : Counts) (old new : Access) → CallsOnce would state after shown c d old new → Settled old → Settled new
 calls_settled would state after shown c d old new calls s = elim calls [
   | inl call ↦ (call.1.settled s).0
   | inr still ↦ subst Settled (sym still.0) s
@@ -297,11 +219,11 @@ fewer_kept c d left were kept = omega (arith, kept)
 fewer_read : (c d left were : ℕ) → d ≤ c + 1 → left ≤ were → d + left ≤ c + were + 1
 fewer_read c d left were most fewer = omega (arith, most, fewer)
 
-fg_fewer : (fg : Option Fg) (would : ℕ → Facts → Ruling) (state after : ℕ) (shown : Shown) (c d : Counts) (old new : Shape) → d.records ≤ c.records + 1 → FgCalls fg would state after shown c d old new → Settled old → d.records + fetches_left new shown ≤ c.records + fetches_left old shown + 1
+fg_fewer : (fg : Option Fg) (would : ℕ → Facts → Ruling) (state after : ℕ) (shown : Shown) (c d : Counts) (old new : Access) → d.records ≤ c.records + 1 → FgCalls fg would state after shown c d old new → Settled old → d.records + fetches_left new shown ≤ c.records + fetches_left old shown + 1
 fg_fewer (Some fg) would state after shown c d old new most calls s = fewer_kept c.records d.records (fetches_left new shown) (fetches_left old shown) (calls.records s)
 fg_fewer None would state after shown c d old new most calls s = fewer_read c.records d.records (fetches_left new shown) (fetches_left old shown) most (calls.fewer refl)
 
-calls_fewer : (would : ℕ → Facts → Ruling) (state after : ℕ) (shown : Shown) (c d : Counts) (old new : Shape) → d.records ≤ c.records + 1 → CallsOnce would state after shown c d old new → Settled old → d.records + fetches_left new shown ≤ c.records + fetches_left old shown + 1
+calls_fewer : (would : ℕ → Facts → Ruling) (state after : ℕ) (shown : Shown) (c d : Counts) (old new : Access) → d.records ≤ c.records + 1 → CallsOnce would state after shown c d old new → Settled old → d.records + fetches_left new shown ≤ c.records + fetches_left old shown + 1
 calls_fewer would state after shown c d old new most calls s = elim calls [
   | inl call ↦ fg_fewer call.0 would state after shown c d old new most call.1 s
   | inr still ↦ rw still.0 (fewer_read c.records d.records (fetches_left old shown) (fetches_left old shown) most (no_less (fetches_left old shown)))
@@ -340,47 +262,23 @@ few_lost would state after shown c d before behind old mid new b e within reads 
 
 -- Takes and gives over one FROM item.
 
-settled_back : (c : Control) → is_settled c ≡ true → is_background c ≡ false
-settled_back Building s = absurd (cc)
-settled_back ForegroundAlone s = refl
-settled_back BackgroundAlone s = absurd (cc)
-settled_back FinalList s = refl
-settled_back FinalTable s = absurd (cc)
-settled_back ControlDone s = refl
-
-settled_joint : (b : Bool) (old new : Joint) → b ≡ false → TakesLeafBy b old new → new ≡ old
-settled_joint true old new e taken = absurd (cc)
-settled_joint false old new e taken = taken
-
-settled_fetches : (shown : Shown) (old new : Shape) → new ≡ record old { joint = new.joint; trace = new.trace } → new.joint ≡ old.joint → fetches_left new shown ≡ fetches_left old shown
-settled_fetches shown old new same joint = ap (λ (v : Shape). fetches_left v shown) same ∙ ap (λ (j : Joint). fetches_left (record old { joint = j; trace = new.trace }) shown) joint
-
-pub taken_once : (shown : Shown) (c d : Counts) (old : Level) (new : Shape) → Tries c d (effort old.here shown) (effort new shown) → new ≡ record old.here { joint = new.joint; trace = new.trace } → TakesLeaf old.here new.joint → (Settled old.here → Settled new × (d ≡ c)) → TakesOnce shown c d old (record old { here = new })
-taken_once shown c d old new tries same leaves settled = record {
+pub taken_once : (shown : Shown) (c d : Counts) (old : Level) (new : Access) → Tries c d (effort old.here shown) (effort new shown) → (Settled old.here → SettledTake shown c d old.here new) → TakesOnce shown c d old (record old { here = new })
+taken_once shown c d old new tries settled = record {
   tries = held_tries c d (effort new shown) (effort old.here shown) old.row old.row refl tries;
-  settled = λ s. ((settled s).0, (settled s).1, settled_fetches shown old.here new same (settled_joint (is_background old.here.control) old.here.joint new.joint (settled_back old.here.control s.over) leaves));
+  settled = λ s. ((settled s).settled, (settled s).unread, (settled s).same);
 }
 
-pub taken_spends : {T E : Type 0} (r : Result T E) (shown : Shown) (c d : Counts) (old : Level) (new : Shape) → IfOk r (λ t. reads d + effort new shown ≤ reads c + effort old.here shown) → IfOk r (λ t. Spends c d (level_effort shown old) (level_effort shown (record old { here = new })))
+pub taken_spends : {T E : Type 0} (r : Result T E) (shown : Shown) (c d : Counts) (old : Level) (new : Access) → IfOk r (λ t. reads d + effort new shown ≤ reads c + effort old.here shown) → IfOk r (λ t. Spends c d (level_effort shown old) (level_effort shown (record old { here = new })))
 taken_spends (Ok t) shown c d old new spends = let s = spends in omega (arith, s)
 taken_spends (Err e) shown c d old new spends = tt
 
 pub none_above : {X : Type 0} (i : ℕ) (ls : List Level) → i < length ls → ls ≡ [] → X
 none_above i ls le none = let e = ap length none in absurd (omega (arith, le, e))
 
--- nothing is read where no piece is awaited
-pub none_read : (v : Shape) (c : Counts) → awaited v ≡ None → c ≡ piece_read v c
-none_read v c none = by (is_background v.control) (under_way v.joint) refl refl
-  where
-    by : (b w : Bool) → is_background v.control ≡ b → under_way v.joint ≡ w → c ≡ piece_read v c
-    by true true e f = absurd (let some = rw (e, f) at none in cc)
-    by true false e f = rw (e, f) refl
-    by false w e f = rw e refl
-
 pub still_once : (shown : Shown) (c : Counts) (l : Level) → TakesOnce shown c c l l
 still_once shown c l = record { tries = record { once = omega arith; less = omega arith }; settled = λ s. (s, refl, refl) }
 
-pub given_less : {E : Type 0} (r : Result Given E) (shown : Shown) (old : Level) (new : Shape) → IfOk r (λ g. GiveSpends g (effort old.here shown) (effort new shown)) → IfOk r (λ g. GiveSpends g (level_effort shown old) (level_effort shown (record old { here = new })))
+pub given_less : {E : Type 0} (r : Result Given E) (shown : Shown) (old : Level) (new : Access) → IfOk r (λ g. GiveSpends g (effort old.here shown) (effort new shown)) → IfOk r (λ g. GiveSpends g (level_effort shown old) (level_effort shown (record old { here = new })))
 given_less (Ok Accepted) shown old new less = let l = less in omega (arith, l)
 given_less (Ok (Stale asked now)) shown old new same = ap (λ (n : ℕ). n + held_rows old.row) same
 given_less (Err e) shown old new less = tt
@@ -405,18 +303,34 @@ life_is s indexes shown snap cursor a q some asked asks =
     let item = asked.items 0 some in
     rw (asks.item.table ∙ item.table, asks.item.snap ∙ asked.snap, asks.item.over ∙ item.over) refl
 
-pub begins_life : (s : Select) (indexes : List IndexDef) (shown : Shown) (snap cursor : ℕ) (a : Asked) (v : Stacked) (c d : Counts) → 1 ≤ length s.tables → IsAsked s indexes snap cursor a → Asks a [] v.at.here.query → v.at.row ≡ None → reads d + effort v.at.here shown ≤ reads c + life_of v.at.here.query shown → reads d + level_effort shown v.at ≤ reads c + plan_life s indexes shown snap
+pub begins_life : (s : Select) (indexes : List IndexDef) (shown : Shown) (snap cursor : ℕ) (a : Asked) (v : Stacked) (c d : Counts) → 1 ≤ length s.tables → IsAsked s indexes snap cursor a → Asks a [] (query_of v.at.here) → v.at.row ≡ None → reads d + effort v.at.here shown ≤ reads c + life_of (query_of v.at.here) shown → reads d + level_effort shown v.at ≤ reads c + plan_life s indexes shown snap
 begins_life s indexes shown snap cursor a v c d some asked asks none life =
-    let same = life_is s indexes shown snap cursor a v.at.here.query some asked asks in
+    let same = life_is s indexes shown snap cursor a (query_of v.at.here) some asked asks in
     rw (none, ← same) (omega (arith, life))
 
-pub opened_life : {E : Type 0} (r : Result Shape E) (q : Query) (shown : Shown) (cursor opening : ℕ) (c d : Counts) → IfOk r (λ v. Opened q shown cursor opening v) → IfOk r (λ v. reads d + effort v shown ≤ reads c + life_of q shown) → IfOk r (λ v. reads d + effort v shown ≤ reads c + life_of v.query shown)
-opened_life (Ok v) q shown cursor opening c d opened life = subst (λ (x : Query). reads d + effort v shown ≤ reads c + life_of x shown) (sym opened.made.asked) life
-opened_life (Err e) q shown cursor opening c d opened life = tt
+-- what is said of the query that was asked is said of that of the access
 
-pub opened_short : {E : Type 0} (r : Result Shape E) (q : Query) (shown : Shown) (cursor opening : ℕ) → IfOk r (λ v. Opened q shown cursor opening v) → (has_short q shown ≡ true → IfOk r (λ v. Settled v × (fetches_left v shown ≤ 20))) → IfOk r (λ v. has_short v.query shown ≡ true → Settled v × (fetches_left v shown ≤ 20))
-opened_short (Ok v) q shown cursor opening opened short = λ e. short (subst (λ (x : Query). has_short x shown ≡ true) opened.made.asked e)
-opened_short (Err e) q shown cursor opening opened short = tt
+pub opened_as : {E : Type 0} (r : Result Access E) (race : Bool) (q : Query) (shown : Shown) (cursor opening : ℕ) (c d : Counts) → IfOk r (Begins q shown c d) → IfOk r (Opened race q shown cursor opening) → IfOk r (λ v. Opened race (query_of v) shown cursor opening v)
+opened_as (Ok v) race q shown cursor opening c d begins opened = subst (λ (x : Query). Opened race x shown cursor opening v) (sym begins.asked) opened
+opened_as (Err e) race q shown cursor opening c d begins opened = tt
 
-pub opened_rules : (shown : Shown) (cursor opening : ℕ) (v : Shape) → Opened v.query shown cursor opening v → IsByRules shown v
-opened_rules shown cursor opening v opened = record { choice = opened.choice; chosen = opened.chosen; strategy = opened.made.strategy; scans = opened.made.scans }
+pub opened_counts : {E : Type 0} (r : Result Access E) (q : Query) (shown : Shown) (c d : Counts) → IfOk r (Begins q shown c d) → IfOk r (λ v. CountsAll (trace_of v) c d)
+opened_counts (Ok v) q shown c d begins = begins.counts
+opened_counts (Err e) q shown c d begins = tt
+
+pub opened_life : {E : Type 0} (r : Result Access E) (q : Query) (shown : Shown) (c d : Counts) → IfOk r (Begins q shown c d) → IfOk r (λ v. reads d + effort v shown ≤ reads c + life_of (query_of v) shown)
+opened_life (Ok v) q shown c d begins = subst (λ (x : Query). reads d + effort v shown ≤ reads c + life_of x shown) (sym begins.asked) begins.life
+opened_life (Err e) q shown c d begins = tt
+
+pub opened_short : {E : Type 0} (r : Result Access E) (q : Query) (shown : Shown) (c d : Counts) → IfOk r (Begins q shown c d) → (has_short q shown ≡ true → IfOk r (IsShort shown)) → IfOk r (λ v. has_short (query_of v) shown ≡ true → Settled v × (fetches_left v shown ≤ 20))
+opened_short (Ok v) q shown c d begins short = λ e. (let is = short (subst (λ (x : Query). has_short x shown ≡ true) begins.asked e) in (is.settled, is.few))
+opened_short (Err e) q shown c d begins short = tt
+
+opened_by : (race : Bool) (shown : Shown) (cursor opening : ℕ) (choice : Choice) (v : Access) → IsChosen (query_of v).order (query_of v).goal (candidates_of (query_of v) shown) choice → (race ≡ true → BackgroundOnly ≡ choice.strategy) → OpenedBy race (query_of v) shown cursor opening choice v → IsByRules shown v
+opened_by false shown cursor opening choice (Competing v) chosen alone is = record { choice = is.choice; chosen = is.chosen; strategy = is.made.strategy; scans = is.made.scans }
+opened_by false shown cursor opening choice (Racing r) chosen alone is = absurd is
+opened_by true shown cursor opening choice (Competing v) chosen alone is = absurd is
+opened_by true shown cursor opening choice (Racing r) chosen alone is = record { choice = choice; chosen = chosen; strategy = alone refl; scans = is.scans }
+
+pub opened_rules : (race : Bool) (shown : Shown) (cursor opening : ℕ) (v : Access) → Opened race (query_of v) shown cursor opening v → IsByRules shown v
+opened_rules race shown cursor opening v opened = opened_by (race && races opened.choice (candidates_of (query_of v) shown)) shown cursor opening opened.choice v opened.chosen (raced_strategy race opened.choice (candidates_of (query_of v) shown)) opened.opened

@@ -9,11 +9,10 @@ use Rattle.rv_value.specs.declared.value.Value.{Value}
 use Rattle.rv_value.specs.declared.record.Record.{Record}
 use Rattle.rv_reader.specs.Shown.{Shown}
 use Rattle.rv_judge.specs.declared.counting.Counts.{Counts}
-use Rattle.rv_retrieval.specs.Effort.{Awaiting, effort}
 use Rattle.rv_final.specs.Work.{Tries}
 use Rattle.rv_final.specs.Rest.{AgreesIn, TakesOut}
-use Rattle.rv_retrieval.specs.Runs.{Tells}
-use Rattle.rv_retrieval.specs.Shape.{Keeps, RetrievalFits, Shape, rest}
+use Rattle.rv_access.specs.declared.access.Access.{Access}
+use Rattle.rv_access.specs.Accesses.{AccessFits, Awaiting, Keeps, Tells, effort, query_of, rest}
 use Rattle.rv_join.specs.declared.places.Asked.{Asked}
 use Rattle.rv_join.specs.declared.places.Item.{Item}
 use Rattle.rv_join.specs.declared.level.Level.{Level}
@@ -40,14 +39,14 @@ flat_out f front x behind = rw (flat_map-append f front (x ∷ behind), flat_map
     swapped a b c = subst (λ l. IsPermutation l (b ++ (a ++ c))) (assoc a b c) (subst (λ l. IsPermutation ((a ++ b) ++ c) l) (assoc b a c) (IsPermutation-append_left c (a ++ b) (b ++ a) (IsPermutation-append_comm a b)))
 
 -- the row that is told has the same offers over it as the table's
-pub told_same : (a : Asked) (shown : Shown) (l : Level) (r taken : Record) → CanRun a shown → LevelFits a shown l → AgreesIn l.here.query.need r taken → over_row a shown l r.values ≡ over_row a shown l taken.values
+pub told_same : (a : Asked) (shown : Shown) (l : Level) (r taken : Record) → CanRun a shown → LevelFits a shown l → AgreesIn (query_of l.here).need r taken → over_row a shown l r.values ≡ over_row a shown l taken.values
 told_same a shown l r taken can fits agrees = under_same a shown (below a l) _ _ (alike_last a l.outer r.values taken.values (λ n u. agrees n (rw fits.asks.item.need ((can.each (length l.outer) fits.inside).need n u))))
 
 -- a row goes out of the rest and is held
-pub found_bag : (a : Asked) (shown : Shown) (old : Level) (new : Shape) (r : Record) → CanRun a shown → LevelFits a shown old → TakesOut old.here.query.need r (rest old.here shown) (rest new shown) → IsPermutation (over_rest a shown old) (over_row a shown old r.values ++ flat_map (λ (x : Record). over_row a shown old x.values) (rest new shown))
+pub found_bag : (a : Asked) (shown : Shown) (old : Level) (new : Access) (r : Record) → CanRun a shown → LevelFits a shown old → TakesOut (query_of old.here).need r (rest old.here shown) (rest new shown) → IsPermutation (over_rest a shown old) (over_row a shown old r.values ++ flat_map (λ (x : Record). over_row a shown old x.values) (rest new shown))
 found_bag a shown old new r can fits out = rw (out.before, out.after, told_same a shown old r out.taken can fits out.agrees) (flat_out (λ (x : Record). over_row a shown old x.values) out.front out.taken out.behind)
 
-pub stays_fits : (a : Asked) (shown : Shown) (old : Level) (new : Shape) → LevelFits a shown old → new.query ≡ old.here.query → RetrievalFits new shown → (Awaiting old.here → Awaiting new) → (Tells old.here → Tells new) → (row : Option (List Value)) → LevelFits a shown (record { outer = old.outer; row = row; here = new })
+pub stays_fits : (a : Asked) (shown : Shown) (old : Level) (new : Access) → LevelFits a shown old → query_of new ≡ query_of old.here → AccessFits new shown → (Awaiting old.here → Awaiting new) → (Tells old.here → Tells new) → (row : Option (List Value)) → LevelFits a shown (record { outer = old.outer; row = row; here = new })
 stays_fits a shown old new fits query here waits tells row = record {
   inside = fits.inside;
   here = here;
@@ -57,7 +56,7 @@ stays_fits a shown old new fits query here waits tells row = record {
   tells = tells fits.tells;
 }
 
-pub level_stays : (a : Asked) (shown : Shown) (old : Level) (new : Shape) (before after : Counts) → LevelFits a shown old → new.query ≡ old.here.query → RetrievalFits new shown → Tries before after (effort old.here shown) (effort new shown) → (Awaiting old.here → Awaiting new) → (Tells old.here → Tells new) → rest new shown ≡ rest old.here shown → LevelStays a shown old (record old { here = new })
+pub level_stays : (a : Asked) (shown : Shown) (old : Level) (new : Access) (before after : Counts) → LevelFits a shown old → query_of new ≡ query_of old.here → AccessFits new shown → Tries before after (effort old.here shown) (effort new shown) → (Awaiting old.here → Awaiting new) → (Tells old.here → Tells new) → rest new shown ≡ rest old.here shown → LevelStays a shown old (record old { here = new })
 level_stays a shown old new before after fits query here tries waits tells same = record {
   fits = stays_fits a shown old new fits query here waits tells old.row;
   outer = refl;
@@ -73,14 +72,14 @@ tables_at (i ∷ items) zero le = refl
 tables_at (i ∷ items) (suc p) le = let next : suc p + 1 ≡ suc (p + 1) = omega arith in rw next (tables_at items p (omega (arith, le)))
 
 -- a retrieval that is opened over rows owes what is under them
-pub opened_is : (a : Asked) (shown : Shown) (outer : List (List Value)) (v : Shape) → length outer < length a.items → OpensItem a shown outer v → still a shown (record { outer = outer; row = None; here = v }) ≡ under a shown (drop (length outer) (tables_of a)) outer
+pub opened_is : (a : Asked) (shown : Shown) (outer : List (List Value)) (v : Access) → length outer < length a.items → OpensItem a shown outer v → still a shown (record { outer = outer; row = None; here = v }) ≡ under a shown (drop (length outer) (tables_of a)) outer
 opened_is a shown outer v inside opens = rw (opens.rest_is, tables_at a.items (length outer) inside) (flat_filter_same (rows_at a shown (length outer)) _ _ _ _ (λ r. refl) (λ r. refl))
 
-pub opened_fits : (a : Asked) (shown : Shown) (outer : List (List Value)) (v : Shape) → length outer < length a.items → AreWide a outer → OpensItem a shown outer v → LevelFits a shown (record { outer = outer; row = None; here = v })
+pub opened_fits : (a : Asked) (shown : Shown) (outer : List (List Value)) (v : Access) → length outer < length a.items → AreWide a outer → OpensItem a shown outer v → LevelFits a shown (record { outer = outer; row = None; here = v })
 opened_fits a shown outer v inside wide opens = record { inside = inside; here = opens.fits; asks = opens.asks; wide = wide; awaiting = opens.awaiting; tells = opens.tells }
 
 -- an inner retrieval over the row that is held, padded
-pub descends : (a : Asked) (shown : Shown) (old : Level) (row : List Value) (width : ℕ) (outer : List (List Value)) (v : Shape)
+pub descends : (a : Asked) (shown : Shown) (old : Level) (row : List Value) (width : ℕ) (outer : List (List Value)) (v : Access)
     → old.row ≡ Some row → outer ≡ old.outer ++ widened width row ∷ [] → length old.outer + 1 < length a.items → AreWide a outer → OpensItem a shown outer v
     → Descends a shown old (record { outer = outer; row = None; here = v })
 descends a shown old row width outer v held is inside wide opens =
@@ -112,7 +111,7 @@ pub level_same : (a : Asked) (shown : Shown) (l : Level) → LevelFits a shown l
 level_same a shown l fits = record { fits = fits; outer = refl; row = refl; left = refl; work = same_le (level_work a shown l) }
 
 -- a call that keeps what every reader shows
-pub level_keeps : (a : Asked) (shown : Shown) (old : Level) (new : Shape) → LevelFits a shown old → Keeps old.here new → ((shown : Shown) → RetrievalFits old.here shown → effort new shown ≤ effort old.here shown) → (Awaiting old.here → Awaiting new) → (Tells old.here → Tells new) → LevelStays a shown old (record old { here = new })
+pub level_keeps : (a : Asked) (shown : Shown) (old : Level) (new : Access) → LevelFits a shown old → Keeps old.here new → ((shown : Shown) → AccessFits old.here shown → effort new shown ≤ effort old.here shown) → (Awaiting old.here → Awaiting new) → (Tells old.here → Tells new) → LevelStays a shown old (record old { here = new })
 level_keeps a shown old new fits keeps less waits tells = record {
   fits = stays_fits a shown old new fits keeps.query (keeps.fits shown fits.here) waits tells old.row;
   outer = refl;

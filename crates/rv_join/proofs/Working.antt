@@ -4,9 +4,9 @@ use Rattle.std.proofs.lemmas.Grind.{common_steps}
 use Rattle.rv_value.specs.declared.value.Value.{Value}
 use Rattle.rv_value.specs.declared.record.Record.{Record}
 use Rattle.rv_reader.specs.Shown.{Shown}
-use Rattle.rv_retrieval.specs.Effort.{effort}
 use Rattle.rv_final.specs.Rest.{TakesOut}
-use Rattle.rv_retrieval.specs.Shape.{Shape, rest}
+use Rattle.rv_access.specs.declared.access.Access.{Access}
+use Rattle.rv_access.specs.Accesses.{effort, query_of, rest}
 use Rattle.rv_join.specs.declared.places.Asked.{Asked}
 use Rattle.rv_join.specs.declared.places.Item.{Item}
 use Rattle.rv_join.specs.declared.level.Level.{Level}
@@ -64,17 +64,17 @@ sums_less a c d h = omega (arith, h)
 -- Of levels.
 
 -- a call that leaves the rest
-pub stays_work : (a : Asked) (shown : Shown) (old : Level) (new : Shape) → effort new shown ≤ effort old.here shown → rest new shown ≡ rest old.here shown → level_work a shown (record old { here = new }) ≤ level_work a shown old
+pub stays_work : (a : Asked) (shown : Shown) (old : Level) (new : Access) → effort new shown ≤ effort old.here shown → rest new shown ≡ rest old.here shown → level_work a shown (record old { here = new }) ≤ level_work a shown old
 stays_work a shown old new less same = subst (λ (l : List Record). effort new shown + 1 + (held_rows old.row + length l) * row_cost shown a.snap (items_below a old) ≤ level_work a shown old) (sym same) (sum_le (effort new shown) (effort old.here shown) ((held_rows old.row + length (rest old.here shown)) * row_cost shown a.snap (items_below a old)) less)
 
-pub works_less : (a : Asked) (shown : Shown) (old : Level) (new : Shape) → effort new shown < effort old.here shown → rest new shown ≡ rest old.here shown → level_work a shown (record old { here = new }) < level_work a shown old
+pub works_less : (a : Asked) (shown : Shown) (old : Level) (new : Access) → effort new shown < effort old.here shown → rest new shown ≡ rest old.here shown → level_work a shown (record old { here = new }) < level_work a shown old
 works_less a shown old new less same = subst (λ (l : List Record). effort new shown + 1 + (held_rows old.row + length l) * row_cost shown a.snap (items_below a old) < level_work a shown old) (sym same) (sum_less (effort new shown) (effort old.here shown) ((held_rows old.row + length (rest old.here shown)) * row_cost shown a.snap (items_below a old)) less)
 
 length_middle : {A : Type 0} (front : List A) (x : A) (behind : List A) → length (front ++ x ∷ behind) ≡ length (front ++ behind) + 1
 length_middle front x behind = grind (arith, common_steps)
 
 -- a row is taken out of the rest, and held
-pub found_work : (a : Asked) (shown : Shown) (old : Level) (new : Shape) (r : Record) → old.row ≡ None → effort new shown ≤ effort old.here shown → TakesOut old.here.query.need r (rest old.here shown) (rest new shown) → level_work a shown (record { outer = old.outer; row = Some r.values; here = new }) ≤ level_work a shown old
+pub found_work : (a : Asked) (shown : Shown) (old : Level) (new : Access) (r : Record) → old.row ≡ None → effort new shown ≤ effort old.here shown → TakesOut (query_of old.here).need r (rest old.here shown) (rest new shown) → level_work a shown (record { outer = old.outer; row = Some r.values; here = new }) ≤ level_work a shown old
 found_work a shown old new r none less out = taken_out (effort new shown) (effort old.here shown) (length (rest new shown)) (length (rest old.here shown)) (held_rows old.row) (row_cost shown a.snap (items_below a old)) less (ap length out.before ∙ length_middle out.front out.taken out.behind ∙ ap (λ (l : List Record). length l + 1) (sym out.after)) (ap held_rows none)
 
 filter_less : {A : Type 0} (p : A → Bool) (xs : List A) → length (filter p xs) ≤ length xs
@@ -91,7 +91,7 @@ items_at (i ∷ items) zero le = refl
 items_at (i ∷ items) (suc p) le = let next : suc p + 1 ≡ suc (p + 1) = omega arith in rw next (items_at items p (omega (arith, le)))
 
 -- a retrieval that was just opened
-pub fresh_work : (a : Asked) (shown : Shown) (outer : List (List Value)) (v : Shape) → length outer < length a.items → OpensItem a shown outer v → level_work a shown (record { outer = outer; row = None; here = v }) < row_cost shown a.snap (drop (length outer) a.items)
+pub fresh_work : (a : Asked) (shown : Shown) (outer : List (List Value)) (v : Access) → length outer < length a.items → OpensItem a shown outer v → level_work a shown (record { outer = outer; row = None; here = v }) < row_cost shown a.snap (drop (length outer) a.items)
 fresh_work a shown outer v inside opens = subst (λ is. level_work a shown (record { outer = outer; row = None; here = v }) < row_cost shown a.snap is) (sym (items_at a.items (length outer) inside)) (fresh_sum (effort v shown) (item_life shown a.snap (item_at a (length outer))) (length (rest v shown)) (length (rows_at a shown (length outer))) (row_cost shown a.snap (drop (length outer + 1) a.items)) opens.life fewer)
   where
     fewer : length (rest v shown) ≤ length (rows_at a shown (length outer))

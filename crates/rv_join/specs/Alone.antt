@@ -9,12 +9,11 @@ use Rattle.rv_catalog.specs.declared.def.IndexDef.{IndexDef}
 use Rattle.rv_catalog.specs.declared.def.Select.{Select}
 use Rattle.rv_reader.specs.Shown.{Shown}
 use Rattle.rv_retrieval.specs.declared.steps.Fg.{Fg}
-use Rattle.rv_retrieval.specs.Effort.{cuts_and_entries, effort}
+use Rattle.rv_retrieval.specs.Effort.{cuts_and_entries}
 use Rattle.rv_final.specs.Work.{Tries}
-use Rattle.rv_retrieval.specs.Runs.{SameCourse}
-use Rattle.rv_retrieval.specs.Shape.{Shape}
-use Rattle.rv_retrieval.specs.Short.{Settled, fetches_left}
-use Rattle.rv_retrieval.specs.Stepping.{MayReadIts, OnlyTakes, StepsAs}
+use Rattle.rv_access.specs.declared.access.Access.{Access}
+use Rattle.rv_access.specs.Accesses.{Settled, effort, fetches_left}
+use Rattle.rv_access.specs.Stepping.{MayReadIts, OnlyTakes, SameCourse, StepsAs}
 use Rattle.rv_join.specs.declared.level.Caught.{Caught}
 use Rattle.rv_join.specs.declared.level.Caught.TheVariants.{Ready, Ended, Worked}
 use Rattle.rv_join.specs.declared.level.Level.{Level}
@@ -33,7 +32,7 @@ IsAlone p = length p.asked.items ≡ 1
 -- A step of the retrieval was made, which answered this, or for which memory was wanting: it did and read what a foreground
 -- step does and may read, and asked the judge as one does; without memory it may have taken a leaf, and accepted no piece.
 -- Where a short index was scanned at opening it asked no judge and read no page.
-pub record FgCalls (fg : Option Fg) (would : ℕ → Facts → Ruling) (state after : ℕ) (shown : Shown) (c d : Counts) (old new : Shape) : Type 0 where
+pub record FgCalls (fg : Option Fg) (would : ℕ → Facts → Ruling) (state after : ℕ) (shown : Shown) (c d : Counts) (old new : Access) : Type 0 where
   pub does : IfSome fg (λ s. StepsAs would state after shown c d s old new)
   pub wants : fg ≡ None → (after ≡ state) × SameCourse old new × OnlyTakes old new
   pub may_read : MayReadIts old c d
@@ -43,11 +42,11 @@ pub record FgCalls (fg : Option Fg) (would : ℕ → Facts → Ruling) (state af
 
 -- WHAT AN ANSWERED STEP MAY FETCH where a short index was scanned at opening: the records fetched and those that may still be
 -- fetched are together no more than before
-pub record Fetches (shown : Shown) (c d : Counts) (old new : Shape) : Type 0 where
+pub record Fetches (shown : Shown) (c d : Counts) (old new : Access) : Type 0 where
   pub records : Settled old → d.records + fetches_left new shown ≤ c.records + fetches_left old shown
 
 -- a step was made, or nothing was done
-abbrev pub CallsOnce : (ℕ → Facts → Ruling) → ℕ → ℕ → Shown → Counts → Counts → Shape → Shape → Type 0
+abbrev pub CallsOnce : (ℕ → Facts → Ruling) → ℕ → ℕ → Shown → Counts → Counts → Access → Access → Type 0
 CallsOnce would state after shown c d old new = ((fg : Option Fg) × FgCalls fg would state after shown c d old new) ⊎ ((new ≡ old) × (d ≡ c) × (after ≡ state))
 
 -- THE EFFORT OF A PLAN OVER ONE FROM ITEM: that of its retrieval, and one for a row that is held

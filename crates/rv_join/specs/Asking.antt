@@ -24,9 +24,9 @@ use Rattle.rv_choice.specs.declared.query.Goal2.{Goal2}
 use Rattle.rv_choice.specs.declared.query.Goal2.TheVariants.{FastFirst as Soon, TotalTime as Late}
 use Rattle.rv_judge.specs.Account.{life_bound}
 use Rattle.rv_choice.specs.Asked.{begins_any}
-use Rattle.rv_retrieval.specs.Effort.{Awaiting, cuts_and_entries, effort}
-use Rattle.rv_retrieval.specs.Runs.{Tells}
-use Rattle.rv_retrieval.specs.Shape.{Shape, RetrievalFits, rest}
+use Rattle.rv_retrieval.specs.Effort.{cuts_and_entries}
+use Rattle.rv_access.specs.declared.access.Access.{Access}
+use Rattle.rv_access.specs.Accesses.{AccessFits, Awaiting, Tells, effort, query_of, rest}
 use Rattle.rv_join.specs.declared.places.Item.{Item}
 use Rattle.rv_join.specs.declared.places.Asked.{Asked}
 
@@ -209,9 +209,9 @@ abbrev pub item_life : Shown → ℕ → Item → ℕ
 item_life shown snap i = life_bound (shown.pages i.table snap) (cuts_and_entries i.indexes shown snap)
 
 -- its rest are the rows of which the groups of the place are True
-pub record OpensItem (a : Asked) (shown : Shown) (outer : List (List Value)) (v : Shape) : Type 0 where
-  pub fits : RetrievalFits v shown
-  pub asks : Asks a outer v.query
+pub record OpensItem (a : Asked) (shown : Shown) (outer : List (List Value)) (v : Access) : Type 0 where
+  pub fits : AccessFits v shown
+  pub asks : Asks a outer (query_of v)
   pub awaiting : Awaiting v
   pub tells : Tells v
   pub life : effort v shown ≤ item_life shown a.snap (item_at a (length outer))

@@ -7,9 +7,7 @@ use Rattle.rv_value.specs.declared.record.Record.{Record}
 use Rattle.rv_model.specs.declared.state.Offer.{Offer}
 use Rattle.rv_reader.specs.Shown.{Shown}
 use Rattle.rv_judge.specs.Counting.{raised}
-use Rattle.rv_retrieval.specs.Effort.{Awaiting}
-use Rattle.rv_retrieval.specs.Runs.{Tells}
-use Rattle.rv_retrieval.specs.Shape.{RetrievalFits, rest}
+use Rattle.rv_access.specs.Accesses.{AccessFits, Awaiting, Tells, query_of, rest}
 use Rattle.rv_join.specs.declared.places.Item.{Item}
 use Rattle.rv_join.specs.declared.places.Asked.{Asked}
 use Rattle.rv_join.specs.declared.level.Level.{Level}
@@ -81,8 +79,8 @@ given a shown v = given_in a shown v.above v.at
 
 pub record LevelFits (a : Asked) (shown : Shown) (l : Level) : Type 0 where
   pub inside : length l.outer < length a.items
-  pub here : RetrievalFits l.here shown
-  pub asks : Asks a l.outer l.here.query
+  pub here : AccessFits l.here shown
+  pub asks : Asks a l.outer (query_of l.here)
   pub wide : AreWide a l.outer
   pub awaiting : Awaiting l.here
   pub tells : Tells l.here

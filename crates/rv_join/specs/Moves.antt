@@ -5,7 +5,8 @@ use Rattle.std.specs.List.Sorted.{IsPermutation}
 use Rattle.rv_model.specs.declared.state.Offer.{Offer}
 use Rattle.rv_reader.specs.Shown.{Shown}
 use Rattle.rv_judge.specs.declared.counting.Counts.{Counts}
-use Rattle.rv_retrieval.specs.Shape.{Shape, rest}
+use Rattle.rv_access.specs.declared.access.Access.{Access}
+use Rattle.rv_access.specs.Accesses.{rest, trace_of}
 use Rattle.rv_judge.specs.Tracing.{CountsRise}
 use Rattle.rv_join.specs.declared.places.Asked.{Asked}
 use Rattle.rv_join.specs.declared.level.Level.{Level}
@@ -38,9 +39,9 @@ Catches a shown Ready old new = LevelMoves a shown old new × IsSome new.row
 Catches a shown Ended old new = LevelMoves a shown old new × (still a shown new ≡ [])
 Catches a shown Worked old new = LevelMoves a shown old new × (level_work a shown new < level_work a shown old)
 
--- A call of a retrieval was made, whose counts rise by what is counted, or none was.
-abbrev pub Rises : Shape → Shape → Counts → Counts → Type 0
-Rises old new before after = CountsRise old.trace new.trace before after ⊎ ((new ≡ old) × (after ≡ before))
+-- A call of an access was made, whose counts rise by what is counted, or none was.
+abbrev pub Rises : Access → Access → Counts → Counts → Type 0
+Rises old new before after = CountsRise (trace_of old) (trace_of new) before after ⊎ ((new ≡ old) × (after ≡ before))
 
 -- a level over the row that another holds
 pub record Descends (a : Asked) (shown : Shown) (old new : Level) : Type 0 where

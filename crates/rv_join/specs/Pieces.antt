@@ -8,8 +8,10 @@ use Rattle.rv_jscan.specs.declared.jscan.Given.TheVariants.{Accepted, Stale}
 use Rattle.rv_jscan.specs.declared.jscan.Taken.{Taken}
 use Rattle.rv_jscan.specs.declared.jscan.Taken.TheVariants.{Piece, Nothing}
 use Rattle.rv_jscan.specs.Pieces.{Pieced}
-use Rattle.rv_retrieval.specs.Given.{AwaitsPiece, awaited}
-use Rattle.rv_retrieval.specs.Shape.{Shape, is_building}
+use Rattle.rv_retrieval.specs.Shape.{is_building}
+use Rattle.rv_access.specs.declared.access.Access.{Access}
+use Rattle.rv_access.specs.Accesses.{control_of, number_of}
+use Rattle.rv_access.specs.Given.{AwaitsPiece, awaited}
 use Rattle.rv_join.specs.declared.level.Level.{Level}
 use Rattle.rv_join.specs.Levels.{Stacked}
 use Rattle.rv_join.specs.Plans.{Planned}
@@ -29,11 +31,11 @@ abbrev pub level_at : Stacked → ℕ → Level
 level_at v i = slice_index_or v.above i v.at
 
 -- THE RETRIEVAL whose pieces are the plan's
-abbrev pub waiting : Planned → Shape
+abbrev pub waiting : Planned → Access
 waiting p = (level_at p.stack (waits p.stack)).here
 
 -- the same one after a call
-abbrev pub waited : Planned → Planned → Shape
+abbrev pub waited : Planned → Planned → Access
 waited old new = (level_at new.stack (waits old.stack)).here
 
 abbrev pub plan_awaited : Planned → Option PieceId
@@ -51,12 +53,12 @@ TakesAwaited p Nothing = plan_awaited p ≡ None
 
 -- some retrieval has both sides running
 abbrev pub stack_builds : Stacked → Bool
-stack_builds v = list_any (λ (l : Level). is_building l.here.control) v.above || is_building v.at.here.control
+stack_builds v = list_any (λ (l : Level). is_building (control_of l.here)) v.above || is_building (control_of v.at.here)
 
 -- THE NUMBER OF THE NEXT PIECE: over one FROM item that of its retrieval, over several those of the open retrievals added
 abbrev pub pieces_in : List Level → Level → ℕ
-pieces_in [] at = at.here.joint.number
-pieces_in (l ∷ ls) at = raised l.here.joint.number (pieces_in ls at)
+pieces_in [] at = number_of at.here
+pieces_in (l ∷ ls) at = raised (number_of l.here) (pieces_in ls at)
 
 abbrev pub plan_pieces : Planned → ℕ
 plan_pieces p = pieces_in p.stack.above p.stack.at
@@ -66,17 +68,7 @@ abbrev pub counted_up : ℕ → ℕ → ℕ
 counted_up n zero = n
 counted_up n (suc m) = one_more (counted_up n m)
 
--- an accepted piece is counted, a stale one is not
-abbrev pub CountsPiece : Given → ℕ → ℕ → Type 0
-CountsPiece Accepted old new = new ≡ one_more old
-CountsPiece (Stale asked now) old new = new ≡ old
-
--- the same piece is awaited, and none was counted
-pub record SamePieces (old new : Shape) : Type 0 where
-  pub awaited : awaited new ≡ awaited old
-  pub number : new.joint.number ≡ old.joint.number
-
--- the same of some levels, and of a stack
+-- the same piece is awaited of some levels, and of a stack, and none was counted
 pub record LevelsAwait (old new : List Level) : Type 0 where
   pub count : length new ≡ length old
   pub first : position is_waiting new ≡ position is_waiting old

@@ -8,7 +8,8 @@ use Rattle.rv_catalog.specs.declared.def.IndexDef.{IndexDef}
 use Rattle.rv_model.specs.declared.state.Offer.{Offer}
 use Rattle.rv_reader.specs.Shown.{Shown}
 use Rattle.rv_judge.specs.Counting.{raised}
-use Rattle.rv_retrieval.specs.Opened.{Opened}
+use Rattle.rv_access.specs.Accesses.{query_of, trace_of}
+use Rattle.rv_access.specs.Opened.{Opened}
 use Rattle.rv_join.specs.declared.places.Asked.{Asked}
 use Rattle.rv_join.specs.declared.gather.Stage.{Stage}
 use Rattle.rv_join.specs.declared.gather.Stage.TheVariants.{AsFound, Gathering, Giving}
@@ -67,7 +68,7 @@ reads_with reads before after = record { pages = raised reads.pages (after.pages
 
 -- the events of the first FROM item's retrieval, with the counts of all retrievals of the plan
 abbrev pub plan_trace : Planned → Trace
-plan_trace p = record (first_of p.stack).here.trace { pages = p.reads.pages; leaves = p.reads.leaves; fetches = p.reads.records }
+plan_trace p = record (trace_of (first_of p.stack).here) { pages = p.reads.pages; leaves = p.reads.leaves; fetches = p.reads.records }
 
 -- the numbers of indexes
 abbrev pub numbers_of : List (ℕ × List ℕ) → List ℕ
@@ -87,7 +88,7 @@ pub record HoldsGood (shown : Shown) (p : Planned) : Type 0 where
 pub record PlanFits (shown : Shown) (p : Planned) : Type 0 where
   pub holds : HoldsGood shown p
   pub rules : IsByRules shown (first_of p.stack).here
-  pub counted : length p.asked.items ≡ 1 → AreReads (first_of p.stack).here.trace p.reads
+  pub counted : length p.asked.items ≡ 1 → AreReads (trace_of (first_of p.stack).here) p.reads
 
 -- over one FROM item a call of the one retrieval was made, or none was
 abbrev pub RisesAlone : Planned → Planned → Counts → Counts → Type 0
@@ -125,9 +126,9 @@ pub record PlanStays (shown : Shown) (old new : Planned) : Type 0 where
 -- scans are those of the five rules, and the counts are its own
 pub record LeadsWith (shown : Shown) (p : Planned) : Type 0 where
   pub above : p.stack.above ≡ []
-  pub asks : Asks p.asked [] p.stack.at.here.query
-  pub opened : Opened p.stack.at.here.query shown p.asked.cursor 1 p.stack.at.here
-  pub counted : AreReads p.stack.at.here.trace p.reads
+  pub asks : Asks p.asked [] (query_of p.stack.at.here)
+  pub opened : Opened p.asked.race (query_of p.stack.at.here) shown p.asked.cursor 1 p.stack.at.here
+  pub counted : AreReads (trace_of p.stack.at.here) p.reads
 
 -- a step of the nested loops as the plan's answer
 abbrev pub step_of : Moved → PlanStep

@@ -1,19 +1,14 @@
--- The strategy and the planned scans of a retrieval are those of the five rules, from its opening on.
+-- The strategy and the planned scans of an access are those of the five rules, from its opening on.
 use Rattle.std.specs.Prelude.{◌≡◌}
 use Rattle.rv_reader.specs.Shown.{Shown}
 use Rattle.rv_choice.specs.declared.choosing.Choice.{Choice}
 use Rattle.rv_choice.specs.Choice.{AreScans, IsChosen, candidates_of}
-use Rattle.rv_retrieval.specs.Shape.{Shape}
-
--- strategy and planned scans stay
-pub record SamePlans (old new : Shape) : Type 0 where
-  pub query : new.query ≡ old.query
-  pub strategy : new.strategy ≡ old.strategy
-  pub plans : new.joint.plans ≡ old.joint.plans
+use Rattle.rv_access.specs.declared.access.Access.{Access}
+use Rattle.rv_access.specs.Accesses.{planned_of, query_of, strategy_of}
 
 -- ITS STRATEGY AND PLANNED SCANS ARE THOSE OF THE FIVE RULES, for what it was asked
-pub record IsByRules (shown : Shown) (v : Shape) : Type 0 where
+pub record IsByRules (shown : Shown) (v : Access) : Type 0 where
   pub choice : Choice
-  pub chosen : IsChosen v.query.order v.query.goal (candidates_of v.query shown) choice
-  pub strategy : v.strategy ≡ choice.strategy
-  pub scans : AreScans v.query.only (candidates_of v.query shown) choice.background v.joint.plans
+  pub chosen : IsChosen (query_of v).order (query_of v).goal (candidates_of (query_of v) shown) choice
+  pub strategy : strategy_of v ≡ choice.strategy
+  pub scans : AreScans (query_of v).only (candidates_of (query_of v) shown) choice.background (planned_of v)

@@ -2,8 +2,7 @@
 use Rattle.std.specs.Prelude.{ℕ, ◌+◌, ◌*◌, List, [], ◌∷◌, drop, length, Option, Some, None}
 use Rattle.rv_value.specs.declared.value.Value.{Value}
 use Rattle.rv_reader.specs.Shown.{Shown}
-use Rattle.rv_retrieval.specs.Effort.{effort}
-use Rattle.rv_retrieval.specs.Shape.{rest}
+use Rattle.rv_access.specs.Accesses.{effort, rest}
 use Rattle.rv_join.specs.declared.places.Item.{Item}
 use Rattle.rv_join.specs.declared.places.Asked.{Asked}
 use Rattle.rv_join.specs.declared.level.Level.{Level}

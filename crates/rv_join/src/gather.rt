@@ -4,7 +4,7 @@ ghost use Rattle.std.specs.List.Sorted.{IsPermutation, IsSortedBy};
 ghost use Rattle.rv_value.specs.Order.{values_cmp};
 ghost use Rattle.rv_join.specs.Alone.{Fetches, GatherSpends, StackAsks, StepsOnce, level_effort};
 ghost use Rattle.rv_join.specs.Asking.{CanRun};
-ghost use Rattle.rv_join.specs.Rules.{SamePlans};
+ghost use Rattle.rv_access.specs.Accesses.{SamePlans};
 ghost use Rattle.rv_join.specs.Levels.{StackFits, first_of};
 ghost use Rattle.rv_join.specs.Moves.{Kept, Rises};
 ghost use Rattle.rv_join.specs.Order.{before};
@@ -80,7 +80,7 @@ impl Gathered {
 
     /// One step of nested loops, whose combination, if it gives one, is put to those gathered. The answer is whether all
     /// are gathered.
-    #[tactic(auto, using(crate::proofs::Planning::gathered_more, crate::proofs::Planning::moving_more, crate::proofs::OneItem::no_call, crate::proofs::OneItem::plans_stay))]
+    #[tactic(auto, using(crate::proofs::Planning::gathered_more, crate::proofs::Planning::moving_more, crate::proofs::OneItem::no_call, rv_access::proofs::Accesses::plans_stay))]
     pub fn gather<R: Reader>(
         &mut self,
         alloc: Global,

@@ -1,10 +1,11 @@
-//! Levels: an open retrieval over the rows chosen of the FROM items before its own.
+//! Levels: an open access to a table over the rows chosen of the FROM items before its own.
 ghost use Rattle.std.specs.Prelude.{◌≡◌, ℕ, ◌+◌, ◌<◌, ◌≤◌, List, [], ◌∷◌, ◌++◌, length, map, true, None, IfOk, OnOk, OnErr};
 ghost use Rattle.std.specs.List.{slice_index_or};
 ghost use Rattle.rv_restrict.specs.Bind.{rows_reads};
 ghost use Rattle.rv_reader.specs.Shown.{Shown};
 ghost use Rattle.rv_scan.specs.Told.{width};
 ghost use Rattle.rv_retrieval.specs.Shape.{is_building};
+ghost use Rattle.rv_access.specs.Accesses.{control_of};
 ghost use Rattle.rv_join.specs.Alone.{Fetches, LevelSpends, StepsOnce};
 ghost use Rattle.rv_join.specs.Asking.{CanRun, item_at};
 ghost use Rattle.rv_join.specs.Levels.{LevelFits, offered, widened};
@@ -13,21 +14,22 @@ ghost use Rattle.rv_model.specs.Offering.{picked_over};
 ghost use Rattle.rv_join.specs.Pieces.{is_waiting};
 
 use crate::places::{Asked, open_item};
+use rv_access::Access;
 use rv_judge::{Control, Judge, Steps};
 use rv_model::Offer;
 use rv_reader::Reader;
 use rv_restrict::ColRef;
-use rv_retrieval::{Fg, Retrieval};
+use rv_retrieval::Fg;
 use rv_value::{Duplicate, Items, NoMemory, Record, Value, Values, copy_slice};
 use std::alloc::Global;
 
-/// An open retrieval over the rows chosen of the FROM items before its own, and the row that it gave last, while
+/// An open access over the rows chosen of the FROM items before its own, and the row that it gave last, while
 /// nothing is open over that row.
 #[derive(Drop)]
 pub struct Level {
     pub outer: Items<Values>,
     pub row: Option<Values>,
-    pub here: Retrieval,
+    pub here: Access,
 }
 
 /// What a look for a level's next row came to.
@@ -35,7 +37,7 @@ pub struct Level {
 pub enum Caught {
     /// A row is held.
     Ready,
-    /// The retrieval has ended.
+    /// The access has ended.
     Ended,
     /// There is no row yet.
     Worked,
@@ -135,16 +137,16 @@ fn pick(
 }
 
 impl Level {
-    /// Whether its retrieval awaits a piece.
+    /// Whether its access awaits a piece.
     pub fn is_waiting(&self) -> bool
         ensures { result ≡ is_waiting self.now }
     {
         self.here.awaited().is_some()
     }
 
-    /// Whether both sides of its retrieval run.
+    /// Whether both sides of its access run.
     pub fn is_building(&self) -> bool
-        ensures { result ≡ is_building self.now.here.control }
+        ensures { result ≡ is_building (control_of self.now.here) }
     {
         match self.here.control() {
             Control::Building => true,
@@ -156,7 +158,7 @@ impl Level {
         }
     }
 
-    /// Takes the next row of the retrieval, and holds it.
+    /// Takes the next row of the access, and holds it.
     #[tactic(auto, using(crate::proofs::Catching::found_moves, crate::proofs::Catching::stays_moves, crate::proofs::Catching::ended_moves, crate::proofs::Catching::worked_moves, crate::proofs::Opening::level_stays))]
     fn catch<R: Reader>(
         &mut self,

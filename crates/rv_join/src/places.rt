@@ -5,18 +5,19 @@ ghost use Rattle.rv_restrict.specs.Bind.{can_bind};
 ghost use Rattle.rv_restrict.specs.Groups.{groups_of};
 ghost use Rattle.rv_restrict.specs.Parts.{stands_among};
 ghost use Rattle.rv_judge.specs.Counting.{reads};
-ghost use Rattle.rv_retrieval.specs.Effort.{effort, life_of};
-ghost use Rattle.rv_retrieval.specs.Short.{OnlyLeaves, Settled, fetches_left, has_short};
-ghost use Rattle.rv_retrieval.specs.Opened.{Opened};
+ghost use Rattle.rv_retrieval.specs.Effort.{life_of};
+ghost use Rattle.rv_retrieval.specs.Short.{OnlyLeaves, has_short};
+ghost use Rattle.rv_access.specs.Accesses.{Settled, effort, fetches_left, query_of, trace_of};
+ghost use Rattle.rv_access.specs.Opened.{Opened};
 ghost use Rattle.rv_judge.specs.Tracing.{CountsAll};
 ghost use Rattle.rv_join.specs.Asking.{Adds, AreWide, Asks, CanPlan, CanRun, IsAsked, IsItem, OpensItem, atom_names, by_index, col_at, columns_of, goal_of, group_names, indexes_from, is_first, item_at, only_names, operand_names, order_at, same_column, select_uses, table_at};
 
+use rv_access::Access;
 use rv_catalog::{Goal, IndexDef, Select};
 use rv_choice::{Goal2, Query, ordered};
 use rv_judge::Steps;
 use rv_reader::Reader;
 use rv_restrict::{Atom, ColRef, Operand, Restriction};
-use rv_retrieval::Retrieval;
 use rv_value::{Duplicate, Items, NoMemory, Values};
 use std::alloc::Global;
 
@@ -30,7 +31,8 @@ pub struct Item {
     pub order: Items<u32>,
 }
 
-/// What a plan is asked: its FROM items, the rest of the select, the snapshot and the cursor's number.
+/// What a plan is asked: its FROM items, the rest of the select, the snapshot, the cursor's number, and whether indexes may
+/// race.
 #[derive(Drop, Debug)]
 pub struct Asked {
     pub items: Items<Item>,
@@ -40,6 +42,8 @@ pub struct Asked {
     pub goal: Goal2,
     pub snap: u64,
     pub cursor: u64,
+    /// Whether indexes may race.
+    pub race: bool,
 }
 
 impl Asked {
@@ -306,10 +310,12 @@ pub fn ask(
     indexes: &[IndexDef],
     snap: u64,
     cursor: u64,
+    race: bool,
 ) -> Result<Asked, NoMemory>
     requires joined { length select.now.tables ≤ 4 }
     requires numbers { length indexes.now < 2 ^ 32 }
-    ensures { IfOk result (λ asked. IsAsked select.now indexes.now snap cursor asked) }
+    ensures asked { IfOk result (λ asked. IsAsked select.now indexes.now snap cursor asked) }
+    ensures race { IfOk result (λ asked. asked.race ≡ race) }
 {
     Ok(Asked {
         items: Items::from_vec(items(alloc, select, indexes)?),
@@ -319,6 +325,7 @@ pub fn ask(
         goal: goal_of(select.goal),
         snap,
         cursor,
+        race,
     })
 }
 
@@ -342,7 +349,7 @@ fn query(alloc: Global, asked: &Asked, outer: &[Values]) -> Result<Query, NoMemo
     })
 }
 
-/// Opens the retrieval of an item over the rows of the items before it, as the cursor's one of this number.
+/// Opens the access of an item over the rows of the items before it, as the cursor's one of this number.
 #[tactic(auto, using(crate::proofs::Binding::can_be_bound, crate::proofs::Binding::can_ask))]
 pub fn open_item<R: Reader>(
     alloc: Global,
@@ -351,17 +358,25 @@ pub fn open_item<R: Reader>(
     outer: &[Values],
     opening: u64,
     steps: &mut Steps<R::Ledger>,
-) -> Result<Retrieval, NoMemory>
+) -> Result<Access, NoMemory>
     requires can { CanRun asked.now (R.shown reader.now) }
     requires inside { length outer.now < length asked.now.items }
     requires wide { AreWide asked.now outer.now }
     ensures opens { IfOk result (OpensItem asked.now (R.shown reader.now) outer.now) }
-    ensures opened { IfOk result (λ v. Opened v.query (R.shown reader.now) asked.now.cursor opening v) }
-    ensures counts { IfOk result (λ v. CountsAll v.trace steps.old steps.new) }
-    ensures life { IfOk result (λ v. reads steps.new + effort v (R.shown reader.now) ≤ reads steps.old + life_of v.query (R.shown reader.now)) }
-    ensures short { IfOk result (λ v. has_short v.query (R.shown reader.now) ≡ true → Settled v × (fetches_left v (R.shown reader.now) ≤ 20)) }
+    ensures opened { IfOk result (λ v. Opened asked.now.race (query_of v) (R.shown reader.now) asked.now.cursor opening v) }
+    ensures counts { IfOk result (λ v. CountsAll (trace_of v) steps.old steps.new) }
+    ensures life { IfOk result (λ v. reads steps.new + effort v (R.shown reader.now) ≤ reads steps.old + life_of (query_of v) (R.shown reader.now)) }
+    ensures short { IfOk result (λ v. has_short (query_of v) (R.shown reader.now) ≡ true → Settled v × (fetches_left v (R.shown reader.now) ≤ 20)) }
     ensures only { OnlyLeaves steps.old steps.new }
 {
     let query = query(alloc, asked, outer)?;
-    Retrieval::open(alloc, reader, query, asked.cursor, opening, steps)
+    Access::open(
+        alloc,
+        reader,
+        query,
+        asked.race,
+        asked.cursor,
+        opening,
+        steps,
+    )
 }

@@ -3,25 +3,22 @@ ghost use Rattle.std.specs.Prelude.{◌≡◌, ◌+◌, ◌<◌, ◌≤◌, ◌^
 ghost use Rattle.std.specs.List.Sorted.{IsPermutation};
 ghost use Rattle.rv_judge.specs.Runs.{Allowed};
 ghost use Rattle.rv_reader.specs.Shown.{Shown};
-ghost use Rattle.rv_retrieval.specs.Rulings.{GivesOn};
-ghost use Rattle.rv_retrieval.specs.Given.{Answers, TakesPiece};
-ghost use Rattle.rv_retrieval.specs.Shape.{RetrievalFits};
-ghost use Rattle.rv_retrieval.specs.Stepping.{piece_read};
+ghost use Rattle.rv_access.specs.Accesses.{AccessFits, SamePlans, Settled, fetches_left, held_of, query_of, trace_of};
+ghost use Rattle.rv_access.specs.Opened.{is_race};
+ghost use Rattle.rv_access.specs.Given.{Answers, CountsPiece, GivesOn, TakesPiece, awaited, piece_read};
 ghost use Rattle.rv_judge.specs.Tracing.{CountsAll, CountsRise, SameCounts};
 ghost use Rattle.rv_jscan.specs.declared.piece.PieceId.{PieceId as Id};
 ghost use Rattle.rv_jscan.specs.declared.jscan.Given.{Given as TheGiven};
 ghost use Rattle.rv_judge.specs.Counting.{reads};
 ghost use Rattle.rv_retrieval.specs.Effort.{GiveSpends};
-ghost use Rattle.rv_retrieval.specs.Short.{OnlyLeaves, Settled, fetches_left, has_short};
+ghost use Rattle.rv_retrieval.specs.Short.{OnlyLeaves, has_short};
 ghost use Rattle.rv_join.specs.Alone.{Fetches, GatherSpends, MovedSpends, PlanAsks, Spends, StepsOnce, TakesOnce, level_effort, plan_effort, plan_life};
-ghost use Rattle.rv_join.specs.Rules.{SamePlans};
 ghost use Rattle.rv_join.specs.Asking.{Asks, CanPlan, CanRun, IsAsked, item_at};
 ghost use Rattle.rv_join.specs.Levels.{StackFits, first_of, table_rows};
 ghost use Rattle.rv_join.specs.Moves.{Kept, Moves, Rises, StackStays, Starts};
 ghost use Rattle.rv_model.specs.Offering.{offers_over};
 ghost use Rattle.rv_join.specs.Work.{row_cost};
-ghost use Rattle.rv_retrieval.specs.Given.{awaited};
-ghost use Rattle.rv_join.specs.Pieces.{CountsPiece, StackAwaits, level_at, plan_awaited, plan_pieces, stack_builds, waits};
+ghost use Rattle.rv_join.specs.Pieces.{StackAwaits, level_at, plan_awaited, plan_pieces, stack_builds, waits};
 ghost use Rattle.rv_join.specs.Plans.{AreReads, Gathers, Gives, LeadsWith, PlanFits, Sorts, numbers_of, plan_rest, plan_trace, plan_work, reads_with, stage_of};
 
 use crate::gather::{Gathered, Stage};
@@ -106,22 +103,24 @@ impl Plan {
         indexes: &[IndexDef],
         snap: u64,
         cursor: u64,
+        race: bool,
         steps: &mut Steps<R::Ledger>,
     ) -> Result<Plan, NoMemory>
         requires { CanPlan select.now indexes.now (R.shown reader.now) snap }
         ensures fits { IfOk result (PlanFits (R.shown reader.now)) }
         ensures rest { IfOk result (λ p. plan_rest (R.shown reader.now) p ≡ offers_over select.now (table_rows (R.shown reader.now) snap)) }
         ensures asked { IfOk result (λ p. IsAsked select.now indexes.now snap cursor p.asked) }
+        ensures race { IfOk result (λ p. p.asked.race ≡ race) }
         ensures leads { IfOk result (LeadsWith (R.shown reader.now)) }
         ensures work { IfOk result (λ p. plan_work (R.shown reader.now) p ≤ row_cost (R.shown reader.now) p.asked.snap p.asked.items) }
         ensures counts { IfOk result (λ p. CountsAll (plan_trace p) steps.old steps.new) }
         ensures stage { IfOk result (λ p. p.stage ≡ stage_of select.now indexes.now) }
         ensures life { IfOk result (λ p. reads steps.new + plan_effort (R.shown reader.now) p ≤ reads steps.old + plan_life select.now indexes.now (R.shown reader.now) snap) }
-        ensures short { IfOk result (λ p. has_short p.stack.at.here.query (R.shown reader.now) ≡ true → Settled p.stack.at.here × (fetches_left p.stack.at.here (R.shown reader.now) ≤ 20)) }
+        ensures short { IfOk result (λ p. has_short (query_of p.stack.at.here) (R.shown reader.now) ≡ true → Settled p.stack.at.here × (fetches_left p.stack.at.here (R.shown reader.now) ≤ 20)) }
         ensures only { OnlyLeaves steps.old steps.new }
     {
         let stage = first_stage(alloc, select, indexes)?;
-        let asked = ask(alloc, select, indexes, snap, cursor)?;
+        let asked = ask(alloc, select, indexes, snap, cursor, race)?;
         let stack = open(alloc, reader, &asked, steps)?;
         let reads = reads_of(&stack.first_trace());
         Ok(Plan {
@@ -134,13 +133,20 @@ impl Plan {
         })
     }
 
+    /// Whether indexes race for the first FROM item.
+    pub fn raced(&self) -> bool
+        ensures { result ≡ is_race (first_of self.now.stack).here }
+    {
+        self.stack.first_raced()
+    }
+
     /// What it did so far: the strategy and the events of the first FROM item's retrieval, with the counts of all its
     /// retrievals.
     #[tactic(auto, using(crate::proofs::Accounting::alone_trace, crate::proofs::Keeping::told_allowed))]
     pub fn trace(&self) -> Trace
         ensures told { result ≡ plan_trace self.now }
         ensures allowed { (shown : Shown) → PlanFits shown self.now → Allowed result (numbers_of (item_at self.now.asked 0).indexes) }
-        ensures alone { (shown : Shown) → PlanFits shown self.now → length self.now.asked.items ≡ 1 → result ≡ self.now.stack.at.here.trace }
+        ensures alone { (shown : Shown) → PlanFits shown self.now → length self.now.asked.items ≡ 1 → result ≡ trace_of self.now.stack.at.here }
     {
         let mut trace = self.stack.first_trace();
         trace.pages = self.reads.pages;
@@ -272,17 +278,17 @@ impl Plan {
     }
 
     /// Takes the awaited piece of the retrieval of a place, where it awaits one.
-    #[tactic(auto, using(crate::proofs::Numbers::still_waits, crate::proofs::Keeping::still_stays, crate::proofs::Accounting::rises_none, crate::proofs::OneItem::plans_stay, crate::proofs::OneItem::still_once, crate::proofs::OneItem::none_read))]
+    #[tactic(auto, using(crate::proofs::Numbers::still_waits, crate::proofs::Keeping::still_stays, crate::proofs::Accounting::rises_none, rv_access::proofs::Accesses::plans_stay, crate::proofs::OneItem::still_once, rv_access::proofs::Accesses::none_read))]
     pub(crate) fn take_at<R: Reader>(
         &mut self,
         at: usize,
         reader: &R,
         steps: &mut Steps<R::Ledger>,
     ) -> Result<Taken, NoMemory>
-        requires fits { RetrievalFits (level_at self.old.stack at).here (R.shown reader.now) }
+        requires fits { AccessFits (level_at self.old.stack at).here (R.shown reader.now) }
         ensures same { self.new ≡ record self.old { stack = self.new.stack } }
         ensures taken { IfOk result (TakesPiece (level_at self.new.stack at).here) }
-        ensures untaken { OnErr result ((level_at self.new.stack at).here.joint.held ≡ (level_at self.old.stack at).here.joint.held) }
+        ensures untaken { OnErr result ((held_of (level_at self.new.stack at).here) ≡ (held_of (level_at self.old.stack at).here)) }
         ensures reads { steps.new ≡ piece_read (level_at self.old.stack at).here steps.old }
         ensures counts { Rises (level_at self.old.stack at).here (level_at self.new.stack at).here steps.old steps.new }
         ensures stays { StackFits self.old.asked (R.shown reader.now) self.old.stack → StackStays self.old.asked (R.shown reader.now) self.old.stack self.new.stack }
@@ -313,13 +319,13 @@ impl Plan {
         ensures quiet { OnErr result (state judge.new ≡ state judge.old) }
         ensures lowers { (shown : Shown) → StackFits self.old.asked shown self.old.stack → IfOk result (λ g. GiveSpends g (plan_work shown self.old) (plan_work shown self.new)) }
         ensures stale { (asked : Id) (now : Option Id) → result ≡ Ok (TheGiven.Stale asked now) → self.new ≡ self.old }
-        ensures counts { SameCounts (level_at self.old.stack at).here.trace (level_at self.new.stack at).here.trace }
+        ensures counts { SameCounts (trace_of (level_at self.old.stack at).here) (trace_of (level_at self.new.stack at).here) }
         ensures stays { (shown : Shown) → StackFits self.old.asked shown self.old.stack → StackStays self.old.asked shown self.old.stack self.new.stack }
         ensures err { OnErr result (self.new ≡ self.old) }
         ensures reads { steps.new ≡ steps.old }
         ensures pieces { IfOk result (λ g. CountsPiece g (plan_pieces self.old) (plan_pieces self.new)) }
         ensures plans { SamePlans (first_of self.old.stack).here (first_of self.new.stack).here }
-        ensures less { (shown : Shown) → self.old.stack.above ≡ [] → RetrievalFits self.old.stack.at.here shown → IfOk result (λ g. GiveSpends g (level_effort shown self.old.stack.at) (level_effort shown self.new.stack.at)) }
+        ensures less { (shown : Shown) → self.old.stack.above ≡ [] → AccessFits self.old.stack.at.here shown → IfOk result (λ g. GiveSpends g (level_effort shown self.old.stack.at) (level_effort shown self.new.stack.at)) }
         ensures settled { self.old.stack.above ≡ [] → Settled self.old.stack.at.here → (self.new ≡ self.old) × (state judge.new ≡ state judge.old) }
     {
         self.stack.give(at, sieved, judge, steps)

@@ -8,19 +8,17 @@ ghost use Rattle.rv_join.specs.Alone.{Fetches, GoesOn, LevelSpends, MovedSpends,
 ghost use Rattle.rv_join.specs.Asking.{Asks, CanRun};
 ghost use Rattle.rv_join.specs.Levels.{AllFit, LevelFits, StackFits, Stacked, bag, down, first_in, first_of, is_last, offered, still, used};
 ghost use Rattle.rv_join.specs.Moves.{Catches, Descends, Kept, LevelStays, LevelsStay, Moves, Rises, SameFirst, StackStays, Starts};
-ghost use Rattle.rv_join.specs.Rules.{SamePlans};
-ghost use Rattle.rv_join.specs.Pieces.{CountsPiece, LevelsAwait, SamePieces, StackAwaits, is_waiting, level_at, pieces_in, stack_builds, waits};
+ghost use Rattle.rv_join.specs.Pieces.{LevelsAwait, StackAwaits, is_waiting, level_at, pieces_in, stack_builds, waits};
 ghost use Rattle.rv_join.specs.Work.{levels_work, loops_work};
 ghost use Rattle.rv_join.specs.declared.level.Level.{Level as TheLevel};
 ghost use Rattle.rv_jscan.specs.declared.piece.PieceId.{PieceId as Id};
 ghost use Rattle.rv_judge.specs.Counting.{reads};
-ghost use Rattle.rv_retrieval.specs.Effort.{GiveSpends, effort, life_of};
-ghost use Rattle.rv_retrieval.specs.Short.{OnlyLeaves, Settled, fetches_left, has_short};
-ghost use Rattle.rv_retrieval.specs.Given.{Answers, TakesPiece};
-ghost use Rattle.rv_retrieval.specs.Opened.{Opened};
-ghost use Rattle.rv_retrieval.specs.Rulings.{GivesOn};
-ghost use Rattle.rv_retrieval.specs.Shape.{RetrievalFits, is_building};
-ghost use Rattle.rv_retrieval.specs.Stepping.{piece_read};
+ghost use Rattle.rv_retrieval.specs.Effort.{GiveSpends, life_of};
+ghost use Rattle.rv_retrieval.specs.Short.{OnlyLeaves, has_short};
+ghost use Rattle.rv_retrieval.specs.Shape.{is_building};
+ghost use Rattle.rv_access.specs.Accesses.{AccessFits, SamePlans, Settled, control_of, effort, fetches_left, held_of, query_of, trace_of};
+ghost use Rattle.rv_access.specs.Given.{Answers, CountsPiece, GivesOn, SamePieces, TakesPiece, piece_read};
+ghost use Rattle.rv_access.specs.Opened.{Opened, is_race};
 ghost use Rattle.rv_judge.specs.Tracing.{CountsAll, CountsRise, SameCounts};
 
 use crate::level::{Caught, Level};
@@ -69,7 +67,7 @@ fn first_waiting(levels: &[Level]) -> Option<usize>
 }
 
 fn any_building(levels: &[Level]) -> bool
-    ensures { result ≡ list_any (λ (l : TheLevel). is_building l.here.control) levels.now }
+    ensures { result ≡ list_any (λ (l : TheLevel). is_building (control_of l.here)) levels.now }
 {
     levels.iter().any(|level| level.is_building())
 }
@@ -84,11 +82,11 @@ pub fn open<R: Reader>(
 ) -> Result<Stack, NoMemory>
     requires { CanRun asked.now (R.shown reader.now) }
     ensures starts { IfOk result (Starts asked.now (R.shown reader.now)) }
-    ensures asks { IfOk result (λ s. Asks asked.now [] s.at.here.query) }
-    ensures opened { IfOk result (λ s. Opened s.at.here.query (R.shown reader.now) asked.now.cursor 1 s.at.here) }
-    ensures counts { IfOk result (λ s. CountsAll s.at.here.trace steps.old steps.new) }
-    ensures life { IfOk result (λ s. reads steps.new + effort s.at.here (R.shown reader.now) ≤ reads steps.old + life_of s.at.here.query (R.shown reader.now)) }
-    ensures short { IfOk result (λ s. has_short s.at.here.query (R.shown reader.now) ≡ true → Settled s.at.here × (fetches_left s.at.here (R.shown reader.now) ≤ 20)) }
+    ensures asks { IfOk result (λ s. Asks asked.now [] (query_of s.at.here)) }
+    ensures opened { IfOk result (λ s. Opened asked.now.race (query_of s.at.here) (R.shown reader.now) asked.now.cursor 1 s.at.here) }
+    ensures counts { IfOk result (λ s. CountsAll (trace_of s.at.here) steps.old steps.new) }
+    ensures life { IfOk result (λ s. reads steps.new + effort s.at.here (R.shown reader.now) ≤ reads steps.old + life_of (query_of s.at.here) (R.shown reader.now)) }
+    ensures short { IfOk result (λ s. has_short (query_of s.at.here) (R.shown reader.now) ≡ true → Settled s.at.here × (fetches_left s.at.here (R.shown reader.now) ≤ 20)) }
     ensures only { OnlyLeaves steps.old steps.new }
     ensures row { IfOk result (λ s. s.at.row ≡ None) }
 {
@@ -234,11 +232,24 @@ impl Stack {
 
     /// The trace of the first FROM item's retrieval.
     pub fn first_trace(&self) -> Trace
-        ensures { result ≡ (first_of self.now).here.trace }
+        ensures { result ≡ trace_of (first_of self.now).here }
     {
         match self.above.first() {
             Some(level) => level.here.trace().copy(),
             None => self.at.here.trace().copy(),
+        }
+    }
+}
+
+/// The access of the first FROM item.
+impl Stack {
+    /// Whether indexes race for the first FROM item.
+    pub fn first_raced(&self) -> bool
+        ensures { result ≡ is_race (first_of self.now).here }
+    {
+        match self.above.first() {
+            Some(level) => level.here.is_race(),
+            None => self.at.here.is_race(),
         }
     }
 }
@@ -357,17 +368,17 @@ impl Stack {
 }
 
 /// A level's retrieval has its awaited piece taken.
-#[tactic(auto, using(crate::proofs::Opening::level_stays, crate::proofs::Numbers::take_same, crate::proofs::OneItem::take_plans, crate::proofs::OneItem::taken_once, crate::proofs::OneItem::taken_spends))]
+#[tactic(auto, using(crate::proofs::Opening::level_stays, crate::proofs::OneItem::taken_once, crate::proofs::OneItem::taken_spends))]
 fn take_level<R: Reader>(
     reader: &R,
     level: &mut Level,
     steps: &mut Steps<R::Ledger>,
 ) -> Result<Taken, NoMemory>
-    requires fits { RetrievalFits level.old.here (R.shown reader.now) }
+    requires fits { AccessFits level.old.here (R.shown reader.now) }
     ensures taken { IfOk result (TakesPiece level.new.here) }
-    ensures untaken { OnErr result (level.new.here.joint.held ≡ level.old.here.joint.held) }
+    ensures untaken { OnErr result (held_of level.new.here ≡ held_of level.old.here) }
     ensures reads { steps.new ≡ piece_read level.old.here steps.old }
-    ensures counts { CountsRise level.old.here.trace level.new.here.trace steps.old steps.new }
+    ensures counts { CountsRise (trace_of level.old.here) (trace_of level.new.here) steps.old steps.new }
     ensures stays { (a : TheAsked) → LevelFits a (R.shown reader.now) level.old → LevelStays a (R.shown reader.now) level.old level.new }
     ensures waits { SamePieces level.old.here level.new.here }
     ensures plans { SamePlans level.old.here level.new.here }
@@ -385,11 +396,11 @@ fn take_at<R: Reader>(
     steps: &mut Steps<R::Ledger>,
 ) -> Result<Taken, NoMemory>
     requires at { at < length levels.old.items }
-    requires fits { (d : TheLevel) → RetrievalFits (slice_index_or levels.old.items at d).here (R.shown reader.now) }
+    requires fits { (d : TheLevel) → AccessFits (slice_index_or levels.old.items at d).here (R.shown reader.now) }
     ensures taken { (d : TheLevel) → IfOk result (TakesPiece (slice_index_or levels.new.items at d).here) }
-    ensures untaken { (d : TheLevel) → OnErr result ((slice_index_or levels.new.items at d).here.joint.held ≡ (slice_index_or levels.old.items at d).here.joint.held) }
+    ensures untaken { (d : TheLevel) → OnErr result ((held_of (slice_index_or levels.new.items at d).here) ≡ (held_of (slice_index_or levels.old.items at d).here)) }
     ensures reads { (d : TheLevel) → steps.new ≡ piece_read (slice_index_or levels.old.items at d).here steps.old }
-    ensures counts { (d : TheLevel) → CountsRise (slice_index_or levels.old.items at d).here.trace (slice_index_or levels.new.items at d).here.trace steps.old steps.new }
+    ensures counts { (d : TheLevel) → CountsRise (trace_of (slice_index_or levels.old.items at d).here) (trace_of (slice_index_or levels.new.items at d).here) steps.old steps.new }
     ensures stay { (a : TheAsked) → AllFit a (R.shown reader.now) 0 levels.old.items → LevelsStay a (R.shown reader.now) 0 levels.old.items levels.new.items }
     ensures led { (a : TheAsked) → AllFit a (R.shown reader.now) 0 levels.old.items → SameFirst a (R.shown reader.now) levels.old.items levels.new.items }
     ensures waits { LevelsAwait levels.old.items levels.new.items }
@@ -414,7 +425,7 @@ fn give_at<L: Drop>(
     ensures quiet { OnErr result (state judge.new ≡ state judge.old) }
     ensures lowers { (a : TheAsked) (shown : Shown) → AllFit a shown 0 levels.old.items → IfOk result (λ g. GiveSpends g (levels_work a shown levels.old.items) (levels_work a shown levels.new.items)) }
     ensures stale { (asked : Id) (now : Option Id) → result ≡ Ok (Given.Stale asked now) → levels.new.items ≡ levels.old.items }
-    ensures counts { (d : TheLevel) → SameCounts (slice_index_or levels.old.items at d).here.trace (slice_index_or levels.new.items at d).here.trace }
+    ensures counts { (d : TheLevel) → SameCounts (trace_of (slice_index_or levels.old.items at d).here) (trace_of (slice_index_or levels.new.items at d).here) }
     ensures stay { (a : TheAsked) (shown : Shown) → AllFit a shown 0 levels.old.items → LevelsStay a shown 0 levels.old.items levels.new.items }
     ensures led { (a : TheAsked) (shown : Shown) → AllFit a shown 0 levels.old.items → SameFirst a shown levels.old.items levels.new.items }
     ensures err { OnErr result (levels.new.items ≡ levels.old.items) }
@@ -435,11 +446,11 @@ impl Stack {
         reader: &R,
         steps: &mut Steps<R::Ledger>,
     ) -> Result<Taken, NoMemory>
-        requires fits { RetrievalFits (level_at self.old at).here (R.shown reader.now) }
+        requires fits { AccessFits (level_at self.old at).here (R.shown reader.now) }
         ensures taken { IfOk result (TakesPiece (level_at self.new at).here) }
-        ensures untaken { OnErr result ((level_at self.new at).here.joint.held ≡ (level_at self.old at).here.joint.held) }
+        ensures untaken { OnErr result ((held_of (level_at self.new at).here) ≡ (held_of (level_at self.old at).here)) }
         ensures reads { steps.new ≡ piece_read (level_at self.old at).here steps.old }
-        ensures counts { CountsRise (level_at self.old at).here.trace (level_at self.new at).here.trace steps.old steps.new }
+        ensures counts { CountsRise (trace_of (level_at self.old at).here) (trace_of (level_at self.new at).here) steps.old steps.new }
         ensures stays { (a : TheAsked) → StackFits a (R.shown reader.now) self.old → StackStays a (R.shown reader.now) self.old self.new }
         ensures waits { StackAwaits self.old self.new }
         ensures plans { SamePlans (first_of self.old).here (first_of self.new).here }
@@ -469,13 +480,13 @@ impl Stack {
         ensures quiet { OnErr result (state judge.new ≡ state judge.old) }
         ensures lowers { (a : TheAsked) (shown : Shown) → StackFits a shown self.old → IfOk result (λ g. GiveSpends g (loops_work a shown self.old) (loops_work a shown self.new)) }
         ensures stale { (asked : Id) (now : Option Id) → result ≡ Ok (Given.Stale asked now) → self.new ≡ self.old }
-        ensures counts { SameCounts (level_at self.old at).here.trace (level_at self.new at).here.trace }
+        ensures counts { SameCounts (trace_of (level_at self.old at).here) (trace_of (level_at self.new at).here) }
         ensures stays { (a : TheAsked) (shown : Shown) → StackFits a shown self.old → StackStays a shown self.old self.new }
         ensures err { OnErr result (self.new ≡ self.old) }
         ensures reads { steps.new ≡ steps.old }
         ensures pieces { IfOk result (λ g. CountsPiece g (pieces_in self.old.above self.old.at) (pieces_in self.new.above self.new.at)) }
         ensures plans { SamePlans (first_of self.old).here (first_of self.new).here }
-        ensures less { (shown : Shown) → self.old.above ≡ [] → RetrievalFits self.old.at.here shown → IfOk result (λ g. GiveSpends g (level_effort shown self.old.at) (level_effort shown self.new.at)) }
+        ensures less { (shown : Shown) → self.old.above ≡ [] → AccessFits self.old.at.here shown → IfOk result (λ g. GiveSpends g (level_effort shown self.old.at) (level_effort shown self.new.at)) }
         ensures settled { self.old.above ≡ [] → Settled self.old.at.here → (self.new ≡ self.old) × (state judge.new ≡ state judge.old) }
     {
         if at < self.above.len() {

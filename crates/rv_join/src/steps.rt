@@ -1,17 +1,14 @@
 //! The calls on a plan: steps, and the pieces of its retrievals.
 ghost use Rattle.std.specs.Prelude.{◌≡◌, ℕ, None, Ok, IfOk, OnErr, OnOk};
 ghost use Rattle.rv_reader.specs.Shown.{Shown};
-ghost use Rattle.rv_retrieval.specs.Given.{TakesPiece};
-ghost use Rattle.rv_retrieval.specs.Rulings.{GivesOn};
-ghost use Rattle.rv_retrieval.specs.Stepping.{piece_read};
+ghost use Rattle.rv_access.specs.Accesses.{SamePlans, Settled, held_of};
+ghost use Rattle.rv_access.specs.Given.{CountsPiece, GivesOn, TakesPiece, piece_read};
 ghost use Rattle.rv_judge.specs.Tracing.{CountsRise, SameCounts};
 ghost use Rattle.rv_judge.specs.declared.counting.Counts.{Counts as TheCounts};
 ghost use Rattle.rv_retrieval.specs.Effort.{GiveSpends};
-ghost use Rattle.rv_retrieval.specs.Short.{Settled};
 ghost use Rattle.rv_join.specs.Alone.{Fetches, FewFetches, IsAlone, PlanAsks, PlanSpends, Spends, StepsOnce, TakesOnce, plan_effort};
 ghost use Rattle.rv_join.specs.Levels.{first_of};
-ghost use Rattle.rv_join.specs.Rules.{SamePlans};
-ghost use Rattle.rv_join.specs.Pieces.{CountsPiece, GivesPiece, TakesAwaited, plan_awaited, plan_pieces, waited, waiting, waits};
+ghost use Rattle.rv_join.specs.Pieces.{GivesPiece, TakesAwaited, plan_awaited, plan_pieces, waited, waiting, waits};
 ghost use Rattle.rv_join.specs.Plans.{HoldsGood, PlanFits, PlanKept, PlanMoves, PlanStays, RisesAlone, plan_trace, plan_work, step_of};
 
 use crate::gather::Stage;
@@ -167,7 +164,7 @@ impl Plan {
         requires fits { PlanFits (R.shown reader.now) self.old }
         ensures counts { CountsRise (plan_trace self.old) (plan_trace self.new) steps.old steps.new }
         ensures taken { IfOk result (TakesPiece (waited self.old self.new)) }
-        ensures untaken { OnErr result ((waited self.old self.new).joint.held ≡ (waiting self.old).joint.held) }
+        ensures untaken { OnErr result (held_of (waited self.old self.new) ≡ held_of (waiting self.old)) }
         ensures reads { steps.new ≡ piece_read (waiting self.old) steps.old }
         ensures answers { IfOk result (TakesAwaited self.old) }
         ensures ready { IfOk result (TakesPiece (waiting self.new)) }

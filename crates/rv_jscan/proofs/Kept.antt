@@ -1,5 +1,5 @@
 -- What a list keeps of a leaf, one more entry at a time.
-use Rattle.std.proofs.Common.{◌≡◌, ℕ, ◌+◌, ◌<◌, List, [], ◌∷◌, ◌++◌, length, take, drop, slice_index_or, map, filter, Bool, true, false, cond, ◌&&◌, ◌||◌, refl, ap, sym, ◌∙◌, arith, subst, append_assoc, nat_eq, inl, inr}
+use Rattle.std.proofs.Common.{◌≡◌, ℕ, ◌+◌, ◌<◌, List, [], ◌∷◌, ◌++◌, length, take, drop, slice_index_or, map, filter, Bool, true, false, cond, ◌&&◌, ◌||◌, refl, ap, sym, ◌∙◌, arith, subst, append_assoc, nat_eq, inl, inr, Option, Some, None, IfSome}
 use Rattle.std.specs.Prelude.{if◌then◌else◌}
 use Rattle.std.proofs.lemmas.Bool.{cases_Bool}
 use Rattle.std.proofs.lemmas.Bool.Decides.{nat_tests}
@@ -9,6 +9,9 @@ use Rattle.rv_value.specs.declared.record.IndexEntry.{IndexEntry}
 use Rattle.rv_value.specs.declared.record.RowNo.{RowNo}
 use Rattle.rv_restrict.specs.Parts.{Parted, passes}
 use Rattle.rv_keys.specs.Keys.{has_key}
+use Rattle.rv_keylist.specs.Keys.{may_key}
+use Rattle.rv_keylist.proofs.Narrow.{none_stays}
+use Rattle.rv_reader.specs.declared.reader.Chunk.{Chunk}
 use Rattle.rv_jscan.specs.Entries.{has_entry, Apart, Disjoint}
 use Rattle.rv_jscan.specs.Pieces.{kept_by, is_kept}
 use Rattle.rv_jscan.specs.Joint.{passing}
@@ -109,3 +112,21 @@ fresh_after building admits part entries after a d n =
       | inl here ↦ fresh_yes true _ _ (Apart-cross n entries after a here)
       | inr other ↦ fresh_no (has_key n building) (has_key n (kept_by admits part entries)) _ (has_entry n entries) _ _ (d n) (has_append n entries after) (key_append n building (kept_by admits part entries)) (kept_in admits part n entries other)
     ]
+
+-- Some rows of the list stay: none of them stands ahead that stood not.
+pub narrowed_fresh : (p : ℕ → Bool) (keys : List ℕ) (entries : List IndexEntry) → Disjoint keys entries → Disjoint (filter p keys) entries
+narrowed_fresh p keys entries d n =
+    elim (cases_Bool (has_key n keys)) [
+      | inl here ↦ fresh_yes (has_key n (filter p keys)) _ _ (off _ _ here (d n))
+      | inr other ↦ gone _ _ (none_stays p n keys other)
+    ]
+  where
+    off : (a b : Bool) → a ≡ true → (a && b) ≡ false → b ≡ false
+    off a b h d = grind arith
+
+    gone : (a b : Bool) → a ≡ false → (a && b) ≡ false
+    gone a b h = grind arith
+
+pub narrowed_held : (list keys new : List ℕ) (held : Option Chunk) → new ≡ filter (λ k. may_key k list) keys → IfSome held (λ h. Disjoint keys h.entries) → IfSome held (λ h. Disjoint new h.entries)
+narrowed_held list keys new None e f = tt
+narrowed_held list keys new (Some h) e f = subst (λ (ks : List ℕ). Disjoint ks h.entries) (sym e) (narrowed_fresh (λ k. may_key k list) keys h.entries f)

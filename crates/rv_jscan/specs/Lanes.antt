@@ -1,8 +1,9 @@
 -- Where one scan of an index stands, what its calls do, and what it means over a reader's entries.
-use Rattle.std.specs.Prelude.{◌≡◌, ℕ, ◌≤◌, Bool, false, List, [], ◌++◌, length, Option, None, is_some, IfSome, if◌then◌else◌}
+use Rattle.std.specs.Prelude.{◌≡◌, ℕ, ◌≤◌, Bool, false, List, [], ◌++◌, length, filter, Option, None, is_some, IfSome, if◌then◌else◌}
 use Rattle.rv_value.specs.declared.record.IndexEntry.{IndexEntry}
 use Rattle.rv_judge.specs.declared.counting.Counts.{Counts}
 use Rattle.rv_judge.specs.Counting.{leaf_read}
+use Rattle.rv_keylist.specs.Keys.{may_key}
 use Rattle.rv_keylist.specs.Listed.{Listed}
 use Rattle.rv_reader.specs.declared.reader.Chunk.{Chunk}
 use Rattle.rv_reader.specs.Leaves.{IsChunk, run_from}
@@ -66,6 +67,10 @@ passed admits piece l = record {
   held = None;
   building = l.building ++ kept_by admits piece.part piece.entries;
 }
+
+-- of the rows kept only those stay that a list may have
+abbrev pub narrowed_lane : List ℕ → Laned → Laned
+narrowed_lane keys l = record l { building = filter (λ (k : ℕ). may_key k keys) l.building }
 
 -- the present scan of a joint scan
 abbrev pub lane_of : Joint → Laned

@@ -3,7 +3,7 @@ ghost use Rattle.std.specs.List.Sorted.{IsStrictlyIncreasing};
 ghost use Rattle.rv_judge.specs.Counting.{leaf_read};
 ghost use Rattle.rv_jscan.specs.Entries.{Apart, Disjoint};
 ghost use Rattle.rv_jscan.specs.Joint.{CanMake};
-ghost use Rattle.rv_jscan.specs.Lanes.{HasKeys, IsLeafAt, IsOwn, LaneFits, leaf_once, no_lane, passed};
+ghost use Rattle.rv_jscan.specs.Lanes.{HasKeys, IsLeafAt, IsOwn, LaneFits, leaf_once, narrowed_lane, no_lane, passed};
 ghost use Rattle.rv_jscan.specs.Pieces.{kept_by};
 ghost use Rattle.rv_jscan.specs.Steps.{HasEntries, held_next};
 
@@ -239,6 +239,14 @@ impl Lane {
     {
         let next = self.add_kept(sieved, test)?;
         Ok(self.go(next))
+    }
+
+    /// Of the rows kept only those stay that a finished list may have. It takes no memory.
+    pub fn narrow(&mut self, list: &KeyList)
+        requires { list.now.finished ≡ true }
+        ensures { self.new ≡ narrowed_lane list.now.keys self.old }
+    {
+        self.building.narrow(list);
     }
 
     /// The list that was built, in ascending order. It takes no memory.

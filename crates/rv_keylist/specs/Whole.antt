@@ -23,3 +23,10 @@ pub record Whole (few many : List ℕ) (capacity : ℕ) (filter : Option (List �
 -- a filter has the bits that it had, and those of these keys
 pub record AddsBits (old new keys : List ℕ) : Type 0 where
   pub bits : (b : ℕ) → is_set new b ≡ (is_set old b || has_bit b keys)
+
+-- The keys stand as they stood, or those of the vector were few and stand in the fixed buffer now. Few of the vector's are
+-- left there.
+pub record Moves (few many : List ℕ) (capacity : ℕ) (few' many' : List ℕ) (capacity' : ℕ) : Type 0 where
+  pub keys : few' ++ many' ≡ few ++ many
+  pub placed : Placed few' many'
+  pub room : 0 < length many' → capacity' ≡ capacity

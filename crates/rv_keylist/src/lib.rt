@@ -1,14 +1,16 @@
 //! Lists of record keys in three stages: a fixed buffer, one vector, and a longer vector with a filter.
 #![tactic(auto)]
 
-ghost use Rattle.std.specs.Prelude.{◌≡◌, ℕ, ◌+◌, ◌-◌, ◌<◌, ◌≤◌, ◌++◌, ◌∷◌, ◌||◌, [], List, max, length, slice_get, Some, IsOk, IfOk, OnOk, OnErr, IsPermutation, ◌==◌, true, false};
+ghost use Rattle.std.specs.Prelude.{◌≡◌, ℕ, ◌+◌, ◌-◌, ◌<◌, ◌≤◌, ◌++◌, ◌∷◌, ◌||◌, [], List, max, filter, length, slice_get, Some, IsOk, IfOk, OnOk, OnErr, IsPermutation, ◌==◌, true, false};
 ghost use Rattle.std.specs.List.Sorted.{IsStrictlyIncreasing};
 ghost use Rattle.rv_keylist.specs.Listed.{stage_of};
 ghost use Rattle.rv_keylist.specs.Keys.{may_key};
 ghost use Rattle.rv_keys.specs.Keys.{has_key, Once};
 
+mod narrowing;
 mod parts;
 
+use crate::narrowing::{move_back, narrow_few, narrow_many, remark};
 use crate::parts::{MANY, keys_of, make_filter, make_room, mark, put_key, sort_few, sort_many};
 use arrayvec::ArrayVec;
 use rv_filter::Filter;
@@ -142,6 +144,22 @@ impl KeyList {
         sort_few(&mut self.few);
         sort_many(&mut self.many);
         self.finished = true;
+    }
+
+    /// Only those keys stay that a finished list may have, in their order. It takes no memory, and no place that was made is
+    /// kept.
+    pub fn narrow(&mut self, list: &KeyList)
+        requires open { self.old.finished ≡ false }
+        requires ready { list.now.finished ≡ true }
+        ensures keys { self.new.keys ≡ filter (λ k. may_key k list.now.keys) self.old.keys }
+        ensures spare { self.new.spare ≡ 0 }
+        ensures finished { self.new.finished ≡ false }
+    {
+        narrow_few(&mut self.few, list);
+        narrow_many(&mut self.many, list);
+        move_back(&mut self.few, &mut self.many);
+        remark(&mut self.filter, keys_of(&self.few, &self.many));
+        self.spare = 0;
     }
 
     /// The key in a place, from 0: before `finish` that of the push with this number, after it in ascending order.

@@ -11,5 +11,5 @@ open-requires g c = c.in_ok-query.ensures.can (g.R.Reader.shown c.args.reader.no
 pub returns : goal.returns
 returns g c = λ ended.
     let query = c.in_ok-query.ensures.query in
-    let all = c.in_ok-retrieval.ensures.rest ∙ (λ i. qualifying (query.only i) ((g.R.Reader.shown c.args.reader.now).rows (query.table i) (query.at_snap i))) in
+    let all = c.in_ok-access.ensures.begins.owes ∙ (λ i. qualifying (query.only i) ((g.R.Reader.shown c.args.reader.now).rows (query.table i) (query.at_snap i))) in
     subst (λ (due : List Record). IsPermutation (numbers_of due) (numbers_of c.in_ok-driven.driven.rows.items)) all (c.in_ok-driven.ensures ended)

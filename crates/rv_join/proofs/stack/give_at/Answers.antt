@@ -1,6 +1,6 @@
-use Rattle.rv_join.proofs.OneItem.{list_plans, result_plans}
+use Rattle.rv_join.proofs.OneItem.{list_plans}
 use Rattle.rv_join.proofs.Calls.{levels_at}
-use Rattle.rv_join.proofs.Numbers.{given_counts, levels_count}
+use Rattle.rv_join.proofs.Numbers.{levels_count}
 use Rattle.rv_join.proofs.Lowering.{levels_lower}
 use Rattle.rv_join.proofs.Opening.{level_keeps}
 use Rattle.rv_join.proofs.stack.give_at.Goals as goal
@@ -12,10 +12,10 @@ pub returns-clause-led : goal.returns-clause-led
 returns-clause-led g c = λ a shown all. (levels_at a shown c.args.levels.now.items c.args.at c.index_mut.result.now _ c.requires.at all c.index_mut.ensures.value (λ fits. level_keeps a shown c.index_mut.result.now c.give.new.self fits c.give.ensures.keeps c.give.ensures.less c.give.ensures.awaiting c.give.ensures.tells)).1
 
 pub returns-clause-pieces : goal.returns-clause-pieces
-returns-clause-pieces g c = λ d. levels_count c.give.result c.args.levels.now.items c.args.at c.index_mut.result.now _ c.requires.at c.index_mut.ensures.value (given_counts c.give.result _ _ _ c.args.sieved _ _ c.give.ensures.obeys) d
+returns-clause-pieces g c = λ d. levels_count c.give.result c.args.levels.now.items c.args.at c.index_mut.result.now _ c.requires.at c.index_mut.ensures.value c.give.ensures.number d
 
 pub returns-clause-plans : goal.returns-clause-plans
-returns-clause-plans g c = list_plans c.args.levels.now.items c.args.at c.index_mut.result.now _ c.requires.at c.index_mut.ensures.value (result_plans c.give.result _ _ _ c.args.sieved _ _ c.give.ensures.obeys c.give.ensures.err)
+returns-clause-plans g c = list_plans c.args.levels.now.items c.args.at c.index_mut.result.now _ c.requires.at c.index_mut.ensures.value c.give.ensures.plans
 
 pub returns-clause-lowers : goal.returns-clause-lowers
 returns-clause-lowers g c = λ a shown all. levels_lower c.give.result a shown c.args.levels.now.items c.args.at c.index_mut.result.now c.give.new.self c.requires.at all c.index_mut.ensures.value c.give.ensures.keeps c.give.ensures.spends

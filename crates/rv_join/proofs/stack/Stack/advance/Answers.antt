@@ -1,8 +1,8 @@
 use Rattle.std.proofs.Common.{subst, sym}
-use Rattle.rv_retrieval.specs.Shape.{Shape}
+use Rattle.rv_access.specs.declared.access.Access.{Access}
 use Rattle.rv_join.specs.declared.level.Level.{Level}
 use Rattle.rv_join.specs.Levels.{first_of}
-use Rattle.rv_join.specs.Rules.{SamePlans}
+use Rattle.rv_access.specs.Accesses.{SamePlans}
 use Rattle.rv_join.proofs.OneItem.{alone_ended, alone_none, done_spends, first_plans, once_plans, uses_fetches, uses_once, uses_spends}
 use Rattle.rv_join.proofs.Accounting.{alone_ends, alone_rises, alone_uses}
 use Rattle.rv_join.proofs.Catching.{stays_moves}
@@ -61,7 +61,7 @@ pub returns-in-Ended-clause-plans : goal.returns-in-Ended-clause-plans
 returns-in-Ended-clause-plans g c = subst (λ (l : Level). SamePlans (first_of c.args.self.now).here l.here) (sym c.end.ensures.first) (first_plans c.args.self.now c.ready.new.self c.ready.ensures.same (once_plans _ _ _ _ _ _ _ _ c.ready.ensures.once.calls))
 
 pub returns-in-Ready-clause-plans : goal.returns-in-Ready-clause-plans
-returns-in-Ready-clause-plans g c = subst (λ (v : Shape). SamePlans (first_of c.args.self.now).here v) (sym c.use_row.ensures.first) (first_plans c.args.self.now c.ready.new.self c.ready.ensures.same (once_plans _ _ _ _ _ _ _ _ c.ready.ensures.once.calls))
+returns-in-Ready-clause-plans g c = subst (λ (v : Access). SamePlans (first_of c.args.self.now).here v) (sym c.use_row.ensures.first) (first_plans c.args.self.now c.ready.new.self c.ready.ensures.same (once_plans _ _ _ _ _ _ _ _ c.ready.ensures.once.calls))
 
 pub returns-in-Worked-clause-spends : goal.returns-in-Worked-clause-spends
 returns-in-Worked-clause-spends g c = λ one. (let spends = c.in_ok-ready.ensures.spends in rw c.in-Worked.is at spends)

@@ -1,5 +1,5 @@
 use Rattle.std.proofs.Common.{IfOk, refl, rules, subst, sym}
-use Rattle.rv_retrieval.specs.Given.{TakesPiece}
+use Rattle.rv_access.specs.Given.{TakesPiece}
 use Rattle.rv_join.specs.declared.level.Level.{Level}
 use Rattle.rv_join.proofs.OneItem.{first_plans, none_above}
 use Rattle.rv_join.proofs.Calls.{at_past, stays_above, stays_at}

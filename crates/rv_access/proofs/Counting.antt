@@ -1,12 +1,21 @@
--- What a step of a retrieval adds to the count of records: one at most, and it takes none back.
+-- What a step of an access adds to the count of records: one at most, and it takes none back.
 use Rattle.std.proofs.Common.{◌≡◌, ℕ, ◌+◌, ◌^◌, ◌<◌, ◌≤◌, Bool, true, false, refl, ap, ◌∙◌, arith, inl, inr, if◌then◌else◌}
 use Rattle.rv_judge.specs.Counting.{leaf_read, one_more, page_read, record_read}
 use Rattle.rv_judge.specs.declared.counting.Counts.{Counts}
 use Rattle.rv_jscan.specs.Steps.{reads_leaf, steps_read}
+use Rattle.rv_judge.specs.declared.events.Control.{Control}
+use Rattle.rv_judge.specs.declared.events.Control.TheVariants.{Building, ForegroundAlone, BackgroundAlone, FinalList, FinalTable, Done}
+use Rattle.rv_retrieval.specs.Accounts.{fresh_of}
 use Rattle.rv_retrieval.specs.Shape.{Shape, is_background}
-use Rattle.rv_retrieval.specs.Stepping.{Kind, MayRead, piece_read}
+use Rattle.rv_retrieval.specs.Stepping.{Kind, MayRead, kind_of, piece_read}
 use Rattle.rv_scan.specs.Fronts.{FrontMayRead}
 use Rattle.rv_scan.specs.Reads.{OneAtMost}
+use Rattle.rv_race.specs.Given.{piece_read as race_read, reads_leaf as reads_turn}
+use Rattle.rv_race.specs.Opened.{MayRead as RaceMayRead}
+use Rattle.rv_race.specs.Raced.{Raced}
+use Rattle.rv_access.specs.declared.access.Access.{Access}
+use Rattle.rv_access.specs.declared.access.Access.TheVariants.{Competing, Racing}
+use Rattle.rv_access.specs.Stepping.{MayReadIts}
 use Rattle.rv_retrieval.specs.Stepping.Kind.{Borrow, Piece, Walk, WalkBoth, NextKey, NextPage, Over}
 
 abbrev pub OneUp : Counts → Counts → Type 0
@@ -50,11 +59,30 @@ either_records false x y n p q = q
 piece_records : (v : Shape) (c : Counts) → (piece_read v c).records ≡ c.records
 piece_records v c = either_records (is_background v.control) (steps_read v.joint c) c c.records (either_records (reads_leaf v.joint) (leaf_read c) c c.records refl refl) refl
 
-pub may_up : (k : Kind) (v : Shape) (c d : Counts) → c.records < 2 ^ 64 → MayRead k v c d → OneUp c d
-may_up (Borrow key) v c d within read = more_up c d within (ap (λ (k : Counts). k.records) read)
-may_up Piece v c d within read = same_up c d (ap (λ (k : Counts). k.records) read ∙ piece_records v c)
-may_up Walk v c d within read = walk_up v.front.alone c d within read
-may_up WalkBoth v c d within read = leaf_up c d read
-may_up NextKey v c d within read = record_up c d within read
-may_up NextPage v c d within read = page_up c d read
-may_up Over v c d within read = same_up c d (ap (λ (k : Counts). k.records) read)
+kind_up : (k : Kind) (v : Shape) (c d : Counts) → c.records < 2 ^ 64 → MayRead k v c d → OneUp c d
+kind_up (Borrow key) v c d within read = more_up c d within (ap (λ (k : Counts). k.records) read)
+kind_up Piece v c d within read = same_up c d (ap (λ (k : Counts). k.records) read ∙ piece_records v c)
+kind_up Walk v c d within read = walk_up v.front.alone c d within read
+kind_up WalkBoth v c d within read = leaf_up c d read
+kind_up NextKey v c d within read = record_up c d within read
+kind_up NextPage v c d within read = page_up c d read
+kind_up Over v c d within read = same_up c d (ap (λ (k : Counts). k.records) read)
+
+-- A race.
+
+race_records : (r : Raced) (c : Counts) → (race_read r c).records ≡ c.records
+race_records r c = either_records (reads_turn r) (leaf_read c) c c.records refl refl
+
+race_up : (now : Control) (r : Raced) (c d : Counts) → c.records < 2 ^ 64 → RaceMayRead now r c d → OneUp c d
+race_up Building r c d within read = same_up c d (ap (λ (k : Counts). k.records) read)
+race_up ForegroundAlone r c d within read = same_up c d (ap (λ (k : Counts). k.records) read)
+race_up BackgroundAlone r c d within read = same_up c d (ap (λ (k : Counts). k.records) read ∙ race_records r c)
+race_up FinalList r c d within read = record_up c d within read
+race_up FinalTable r c d within read = page_up c d read
+race_up Done r c d within read = same_up c d (ap (λ (k : Counts). k.records) read)
+
+-- Both.
+
+pub may_up : (a : Access) (c d : Counts) → c.records < 2 ^ 64 → MayReadIts a c d → OneUp c d
+may_up (Competing v) c d within read = kind_up (kind_of v.control v.strategy (fresh_of v)) v c d within read
+may_up (Racing r) c d within read = race_up r.race.control r.race c d within read

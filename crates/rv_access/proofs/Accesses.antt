@@ -1,0 +1,155 @@
+-- What the calls of an access leave, by its kinds.
+use Rattle.std.proofs.Common.{◌≤◌, arith, ap, ◌≡◌, ℕ, Some, None, Result, Ok, Err, IfOk, OnErr, refl, sym, ◌∙◌, subst}
+use Rattle.rv_judge.specs.declared.counting.Counts.{Counts}
+use Rattle.rv_judge.specs.declared.judging.Facts.{Facts}
+use Rattle.rv_judge.specs.Runs.{Allowed}
+use Rattle.rv_judge.specs.Verdicts.{Ruling}
+use Rattle.rv_reader.specs.Shown.{Shown}
+use Rattle.rv_jscan.specs.declared.jscan.Given.{Given}
+use Rattle.rv_jscan.specs.declared.jscan.Given.TheVariants.{Accepted, Stale}
+use Rattle.rv_jscan.specs.declared.jscan.Taken.{Taken}
+use Rattle.rv_jscan.specs.declared.jscan.Taken.TheVariants.{Piece, Nothing}
+use Rattle.rv_jscan.specs.Pieces.{Pieced}
+use Rattle.rv_retrieval.specs.declared.steps.Fg.{Fg}
+use Rattle.rv_retrieval.specs.declared.steps.Fg.TheVariants.{Row, Working, End}
+use Rattle.rv_retrieval.specs.Given.{Answers as RetrievalAnswers, TakesLeaf as RetrievalTakes, TakesPiece as RetrievalTakesPiece}
+use Rattle.rv_retrieval.specs.Opens.{GivesStep as RetrievalGivesStep}
+use Rattle.rv_retrieval.specs.Rulings.{GivesOn as RetrievalGives}
+use Rattle.rv_retrieval.specs.Runs.{IsOfUndropped as RetrievalUndropped, indexes_asked}
+use Rattle.rv_retrieval.specs.Shape.{Keeps as ShapeKeeps, Shape, is_background}
+use Rattle.rv_retrieval.specs.Short.{Settled as RetrievalSettled}
+use Rattle.rv_retrieval.proofs.Tellings.{allowed as retrieval_allowed}
+use Rattle.rv_race.specs.Given.{Answers as RaceAnswers, TakesPiece as RaceTakesPiece}
+use Rattle.rv_race.specs.Raced.{Raced}
+use Rattle.rv_race.specs.Runs.{IsOfUndropped as RaceUndropped, indexes_of}
+use Rattle.rv_race.proofs.Tellings.{allowed as race_allowed}
+use Rattle.rv_access.specs.declared.access.Access.{Access}
+use Rattle.rv_access.specs.declared.access.Access.TheVariants.{Competing, Racing}
+use Rattle.rv_access.specs.declared.racing.RacedQuery.{RacedQuery}
+use Rattle.rv_access.specs.Accesses.{Keeps, SamePlans, Tells, query_of, trace_of}
+use Rattle.rv_access.specs.Given.{Answers, AwaitsPiece, CountsPiece, IsOfUndropped, RacedGives, TakesPiece, awaited, piece_read}
+use Rattle.rv_access.specs.Stepping.{GivesStep, RacedGivesStep, SameCourse, SettledTake, StepsAs}
+use Rattle.rv_access.proofs.Shapes.{ShapePlans, course_plans as shape_course, given_number as shape_number, given_plans as shape_given, none_read as shape_none, piece_awaited as shape_awaited, settled_back, settled_fetches, settled_joint, steps_plans as shape_steps}
+use Rattle.rv_access.proofs.OfRaces.{given_number as race_number, given_plans as race_given, none_awaited, none_read as race_none, piece_awaited as race_awaited, steps_plans as race_steps, wider}
+
+-- WHAT IS ASKED, THE STRATEGY AND THE PLANNED SCANS STAY
+
+pub plans_then : (u v w : Access) → SamePlans u v → SamePlans v w → SamePlans u w
+plans_then u v w first then = record { query = then.query ∙ first.query; strategy = then.strategy ∙ first.strategy; plans = then.plans ∙ first.plans }
+
+pub plans_stay : (a : Access) → SamePlans a a
+plans_stay a = record { query = refl; strategy = refl; plans = refl }
+
+pub steps_plans : (would : ℕ → Facts → Ruling) (state after : ℕ) (shown : Shown) (c d : Counts) (fg : Fg) (old new : Access) → StepsAs would state after shown c d fg old new → SamePlans old new
+steps_plans would state after shown c d fg (Competing v) (Competing w) steps = shape_steps would state after shown c d fg v w steps
+steps_plans would state after shown c d fg (Competing v) (Racing s) steps = absurd steps
+steps_plans would state after shown c d fg (Racing r) (Competing w) steps = absurd steps
+steps_plans would state after shown c d fg (Racing r) (Racing s) steps = race_steps would state after shown c d fg r s steps
+
+pub course_plans : (old new : Access) → SameCourse old new → SamePlans old new
+course_plans (Competing v) (Competing w) same = shape_course v w same
+course_plans (Competing v) (Racing s) same = absurd same
+course_plans (Racing r) (Competing w) same = absurd same
+course_plans (Racing r) (Racing s) same = record { query = same.query; strategy = refl; plans = same.plans }
+
+-- A GIVE, whatever it answers
+
+pub retrieval_number : {E : Type 0} (r : Result Given E) (would : ℕ → Facts → Ruling) (state after : ℕ) (piece : Pieced) (old new : Shape) → IfOk r (λ g. RetrievalGives would state after piece g old new) → IfOk r (λ g. CountsPiece g old.joint.number new.joint.number)
+retrieval_number (Ok g) would state after piece old new gives = shape_number would state after piece g old new gives
+retrieval_number (Err x) would state after piece old new gives = tt
+
+pub retrieval_plans : {E : Type 0} (r : Result Given E) (would : ℕ → Facts → Ruling) (state after : ℕ) (piece : Pieced) (old new : Shape) → IfOk r (λ g. RetrievalGives would state after piece g old new) → OnErr r (new ≡ old) → ShapePlans old new
+retrieval_plans (Ok g) would state after piece old new gives e = shape_given would state after piece g old new gives
+retrieval_plans (Err x) would state after piece old new gives e = subst (ShapePlans old) (sym e) (plans_stay (Competing old))
+
+pub raced_number : {E : Type 0} (r : Result Given E) (would : ℕ → Facts → Ruling) (state after : ℕ) (piece : Pieced) (old new : RacedQuery) → IfOk r (λ g. RacedGives would state after piece g old new) → IfOk r (λ g. CountsPiece g old.race.number new.race.number)
+raced_number (Ok g) would state after piece old new gives = race_number would state after piece g old new gives
+raced_number (Err x) would state after piece old new gives = tt
+
+pub raced_plans : {E : Type 0} (r : Result Given E) (would : ℕ → Facts → Ruling) (state after : ℕ) (piece : Pieced) (old new : RacedQuery) → IfOk r (λ g. RacedGives would state after piece g old new) → OnErr r (new ≡ old) → SamePlans (Racing old) (Racing new)
+raced_plans (Ok g) would state after piece old new gives e = race_given would state after piece g old new gives
+raced_plans (Err x) would state after piece old new gives e = subst (λ (r : RacedQuery). SamePlans (Racing old) (Racing r)) (sym e) (plans_stay (Racing old))
+
+-- WHAT THE CALLS ANSWER, in the words of accesses
+
+pub retrieval_gives : {E : Type 0} (r : Result Fg E) (v w : Shape) (shown : Shown) → IfOk r (RetrievalGivesStep v w shown) → IfOk r (GivesStep (Competing v) (Competing w) shown)
+retrieval_gives (Ok (Row x)) v w shown gives = gives
+retrieval_gives (Ok Working) v w shown gives = gives
+retrieval_gives (Ok End) v w shown gives = gives
+retrieval_gives (Err x) v w shown gives = tt
+
+pub race_gives : {E : Type 0} (r : Result Fg E) (old new : RacedQuery) (shown : Shown) → IfOk r (RacedGivesStep old new shown) → IfOk r (GivesStep (Racing old) (Racing new) shown)
+race_gives (Ok (Row x)) old new shown gives = gives
+race_gives (Ok Working) old new shown gives = gives
+race_gives (Ok End) old new shown gives = gives
+race_gives (Err x) old new shown gives = tt
+
+pub retrieval_takes : {E : Type 0} (r : Result Taken E) (v : Shape) → IfOk r (RetrievalTakesPiece v) → IfOk r (TakesPiece (Competing v))
+retrieval_takes (Ok (Piece piece)) v takes = takes
+retrieval_takes (Ok Nothing) v takes = takes
+retrieval_takes (Err x) v takes = tt
+
+pub race_takes : {E : Type 0} (r : Result Taken E) (q : RacedQuery) → IfOk r (RaceTakesPiece q.race) → IfOk r (TakesPiece (Racing q))
+race_takes (Ok (Piece piece)) q takes = takes
+race_takes (Ok Nothing) q takes = none_awaited q.race takes
+race_takes (Err x) q takes = tt
+
+pub retrieval_undropped : {E : Type 0} (r : Result Taken E) (v : Shape) → IfOk r (RetrievalUndropped v) → IfOk r (IsOfUndropped (Competing v))
+retrieval_undropped (Ok taken) v undropped = undropped
+retrieval_undropped (Err x) v undropped = tt
+
+pub race_undropped : {E : Type 0} (r : Result Taken E) (q : RacedQuery) → IfOk r (RaceUndropped q.race) → IfOk r (IsOfUndropped (Racing q))
+race_undropped (Ok taken) q undropped = undropped
+race_undropped (Err x) q undropped = tt
+
+pub retrieval_answers : {E : Type 0} (r : Result Given E) (v w : Shape) (piece : Pieced) → IfOk r (λ g. RetrievalAnswers v piece g w) → IfOk r (λ g. Answers (Competing v) piece g (Competing w))
+retrieval_answers (Ok Accepted) v w piece answers = answers
+retrieval_answers (Ok (Stale asked now)) v w piece answers = (answers.0, answers.1, answers.2, ap Competing answers.3)
+retrieval_answers (Err x) v w piece answers = tt
+
+pub race_answers : {E : Type 0} (r : Result Given E) (old new : RacedQuery) (piece : Pieced) → new ≡ record old { race = new.race } → IfOk r (λ g. RaceAnswers old.race piece g new.race) → IfOk r (λ g. Answers (Racing old) piece g (Racing new))
+race_answers (Ok Accepted) old new piece same answers = answers
+race_answers (Ok (Stale asked now)) old new piece same answers = (answers.0, answers.1, answers.2, ap Racing (same ∙ ap (λ (race : Raced). record old { race = race }) answers.3))
+race_answers (Err x) old new piece same answers = tt
+
+pub same_retrieval : {X E : Type 0} (r : Result X E) (v w : Shape) → OnErr r (w ≡ v) → OnErr r (Competing w ≡ Competing v)
+same_retrieval (Ok x) v w e = tt
+same_retrieval (Err x) v w e = ap Competing e
+
+pub same_race : {X E : Type 0} (r : Result X E) (old new : RacedQuery) → OnErr r (new ≡ old) → OnErr r (Racing new ≡ Racing old)
+same_race (Ok x) old new e = tt
+same_race (Err x) old new e = ap Racing e
+
+pub retrieval_keeps : (v w : Shape) → ShapeKeeps v w → Keeps (Competing v) (Competing w)
+retrieval_keeps v w keeps = record { query = keeps.query; fits = keeps.fits; rest = keeps.rest }
+
+-- a race has nothing that a short index leaves
+pub none_fewer : {X E : Type 0} (r : Result X E) → OnErr r (0 ≤ 0)
+none_fewer (Ok x) = tt
+none_fewer (Err x) = omega arith
+
+-- A TAKE where a short index was scanned at opening
+
+pub settled_take : (shown : Shown) (c d : Counts) (old new : Shape) → new ≡ record old { joint = new.joint; trace = new.trace } → RetrievalTakes old new.joint → RetrievalSettled old → RetrievalSettled new × (d ≡ c) → SettledTake shown c d (Competing old) (Competing new)
+settled_take shown c d old new same leaves settled after = record {
+  settled = after.0;
+  unread = after.1;
+  same = settled_fetches shown old new same (settled_joint (is_background old.control) old.joint new.joint (settled_back old.control settled.over) leaves);
+}
+
+-- WHAT IS AWAITED
+
+-- the awaited piece has the awaited id
+pub piece_awaited : (a : Access) (piece : Pieced) → AwaitsPiece a piece → awaited a ≡ Some piece.id
+piece_awaited (Competing v) piece awaits = shape_awaited v piece awaits
+piece_awaited (Racing r) piece awaits = race_awaited r.race piece awaits
+
+-- nothing is read where no piece is awaited
+pub none_read : (a : Access) (c : Counts) → awaited a ≡ None → c ≡ piece_read a c
+none_read (Competing v) c none = shape_none v c none
+none_read (Racing r) c none = race_none r.race c none
+
+-- A TRACE THAT TELLS A RUN IS ALLOWED
+pub allowed : (a : Access) → Tells a → Allowed (trace_of a) (indexes_asked (query_of a))
+allowed (Competing v) t = retrieval_allowed v t
+allowed (Racing r) t = wider r.race.trace (indexes_of r.race.plans) (indexes_asked r.query) t.known (race_allowed r.race t.tells)

@@ -1,0 +1,243 @@
+-- What was chosen can race, and what a race and a retrieval are where they begin.
+use Rattle.std.proofs.Common.{◌∷◌, cond, suc, ◌≡◌, ℕ, ◌+◌, ◌-◌, ◌<◌, ◌≤◌, List, [], length, filter, map, Bool, true, false, ◌&&◌, nat_le, refl, ap, sym, ◌∙◌, arith, subst, Result, Ok, Err, IfOk}
+use Rattle.std.specs.List.{list_all}
+use Rattle.std.specs.Prelude.{◌||◌, if◌then◌else◌}
+use Rattle.std.proofs.lemmas.Bool.Decides.{nat_tests}
+use Rattle.std.proofs.lemmas.List.{length-map}
+use Rattle.std.proofs.lemmas.List.Sorted.{length_permutation}
+use Rattle.rv_judge.specs.declared.counting.Counts.{Counts}
+use Rattle.rv_judge.specs.declared.events.Strategy.{Strategy}
+use Rattle.rv_judge.specs.declared.events.Strategy.TheVariants.{Table, BackgroundOnly, FastFirst, Sorted, IndexOnly}
+use Rattle.rv_judge.specs.Counting.{raised, reads}
+use Rattle.rv_judge.specs.Runs.{has_index}
+use Rattle.rv_judge.specs.Tracing.{CountsAll}
+use Rattle.rv_restrict.specs.declared.atom.Atom.{Atom}
+use Rattle.rv_reader.specs.Shown.{Shown}
+use Rattle.rv_jscan.specs.declared.jscan.ScanPlan.{ScanPlan}
+use Rattle.rv_choice.specs.declared.query.Query.{Query}
+use Rattle.rv_choice.specs.declared.choosing.Background.{Background}
+use Rattle.rv_choice.specs.declared.choosing.Background.TheVariants.{Nothing, One, Each, EachBut}
+use Rattle.rv_choice.specs.declared.choosing.Candidate.{Candidate}
+use Rattle.rv_choice.specs.declared.choosing.Choice.{Choice}
+use Rattle.rv_choice.specs.Asked.{CanAsk}
+use Rattle.rv_choice.specs.Choice.{AreScans, IsChosen, candidates_of, is_scanned, plan_of}
+use Rattle.rv_choice.specs.Leading.{front_begun, front_candidate}
+use Rattle.rv_final.specs.Rest.{qualifying}
+use Rattle.rv_retrieval.specs.Effort.{life_of}
+use Rattle.rv_retrieval.specs.Opened.{is_one}
+use Rattle.rv_retrieval.specs.Runs.{indexes_asked}
+use Rattle.rv_retrieval.specs.Shape.{is_sorted}
+use Rattle.rv_retrieval.specs.Short.{has_short}
+use Rattle.rv_retrieval.proofs.Chosen.{chosen_opens, no_order}
+use Rattle.rv_retrieval.proofs.Shorts.{short_one}
+use Rattle.rv_retrieval.proofs.Starting.{planned_known, planned_once}
+use Rattle.rv_race.specs.Effort.{effort as race_effort, life_of as race_life}
+use Rattle.rv_race.specs.Opened.{CanRace, Opened as RaceOpened}
+use Rattle.rv_race.specs.Raced.{RaceFits, Raced, rest as race_rest}
+use Rattle.rv_race.specs.Runs.{Tells as RaceTells, indexes_of}
+use Rattle.rv_access.specs.declared.access.Access.{Access}
+use Rattle.rv_access.specs.declared.access.Access.TheVariants.{Competing, Racing}
+use Rattle.rv_access.specs.declared.racing.RacedQuery.{RacedQuery}
+use Rattle.rv_access.specs.Accesses.{RacedFits, RacedTells}
+use Rattle.rv_access.specs.Opened.{Begins, BeginsRace, Competes, Opened, OpenedBy, Races, is_background_only, is_each, races, restricted}
+use Rattle.rv_access.proofs.Lives.{raced_life}
+
+no_way : {X : Type 0} → true ≡ false → X
+no_way bad = absurd (cc)
+
+left_true : (a b : Bool) → (a && b) ≡ true → a ≡ true
+left_true a b h = grind arith
+
+right_true : (a b : Bool) → (a && b) ≡ true → b ≡ true
+right_true a b h = grind arith
+
+-- WHERE INDEXES RACE, only a background is chosen, and it scans each restricted index
+
+alone_chosen : (choice : Choice) (cs : List Candidate) → races choice cs ≡ true → is_background_only choice.strategy ≡ true
+alone_chosen choice cs r = left_true _ _ r
+
+each_chosen : (choice : Choice) (cs : List Candidate) → races choice cs ≡ true → is_each choice.background ≡ true
+each_chosen choice cs r = left_true _ _ (right_true (is_background_only choice.strategy) _ r)
+
+two_chosen : (choice : Choice) (cs : List Candidate) → races choice cs ≡ true → 2 ≤ restricted cs
+two_chosen choice cs r = number (restricted cs) (right_true (is_each choice.background) _ (right_true (is_background_only choice.strategy) _ r))
+  where
+    number : (n : ℕ) → nat_le 2 n ≡ true → 2 ≤ n
+    number n h = grind (arith, nat_tests)
+
+is_the_background : (s : Strategy) → is_background_only s ≡ true → BackgroundOnly ≡ s
+is_the_background Table h = no_way (sym h)
+is_the_background BackgroundOnly h = refl
+is_the_background FastFirst h = no_way (sym h)
+is_the_background Sorted h = no_way (sym h)
+is_the_background IndexOnly h = no_way (sym h)
+
+-- where indexes race the strategy is that of a background alone
+pub raced_strategy : (race : Bool) (choice : Choice) (cs : List Candidate) → (race && races choice cs) ≡ true → BackgroundOnly ≡ choice.strategy
+raced_strategy race choice cs h = is_the_background choice.strategy (alone_chosen choice cs (right_true race _ h))
+
+unsorted : (s : Strategy) → is_background_only s ≡ true → is_sorted s ≡ false
+unsorted Table h = refl
+unsorted BackgroundOnly h = refl
+unsorted FastFirst h = refl
+unsorted Sorted h = no_way (sym h)
+unsorted IndexOnly h = refl
+
+is_the_each : (b : Background) → is_each b ≡ true → b ≡ Each
+is_the_each Nothing h = no_way (sym h)
+is_the_each (One index) h = no_way (sym h)
+is_the_each Each h = refl
+is_the_each (EachBut index) h = no_way (sym h)
+
+not_one : (b : Background) → is_each b ≡ true → is_one b ≡ true → true ≡ false
+not_one Nothing e o = sym o
+not_one (One index) e o = sym e
+not_one Each e o = sym o
+not_one (EachBut index) e o = sym o
+
+each_restricted : (cs : List Candidate) → filter (is_scanned Each) cs ≡ filter (λ (c : Candidate). c.restricted) cs
+each_restricted [] = refl
+each_restricted (c ∷ cs) = elim c.restricted as (λ b. cond b (c ∷ filter (is_scanned Each) cs) (filter (is_scanned Each) cs) ≡ cond b (c ∷ filter (λ (x : Candidate). x.restricted) cs) (filter (λ (x : Candidate). x.restricted) cs)) [
+  | true ↦ ap (λ (xs : List Candidate). c ∷ xs) (each_restricted cs)
+  | false ↦ each_restricted cs
+]
+
+-- one index more, of which it is known whether it is restricted
+pub one_more : (c : Candidate) (cs : List Candidate) → nat_le 1 (restricted (c ∷ cs)) ≡ (c.restricted || nat_le 1 (restricted cs))
+one_more c cs = elim c.restricted as (λ b. nat_le 1 (length (cond b (c ∷ filter (λ (x : Candidate). x.restricted) cs) (filter (λ (x : Candidate). x.restricted) cs))) ≡ (b || nat_le 1 (restricted cs))) [
+  | true ↦ some (restricted cs)
+  | false ↦ refl
+]
+  where
+    some : (n : ℕ) → nat_le 1 (suc n) ≡ true
+    some n = grind (arith, nat_tests)
+
+pub two_or_more : (c : Candidate) (cs : List Candidate) → nat_le 2 (restricted (c ∷ cs)) ≡ (if c.restricted then nat_le 1 (restricted cs) else nat_le 2 (restricted cs))
+two_or_more c cs = elim c.restricted as (λ b. nat_le 2 (length (cond b (c ∷ filter (λ (x : Candidate). x.restricted) cs) (filter (λ (x : Candidate). x.restricted) cs))) ≡ (if b then nat_le 1 (restricted cs) else nat_le 2 (restricted cs))) [
+  | true ↦ less (restricted cs)
+  | false ↦ refl
+]
+  where
+    less : (n : ℕ) → nat_le 2 (suc n) ≡ nat_le 1 n
+    less n = grind (arith, nat_tests)
+
+-- at least two scans are planned
+pub two_scans : (choice : Choice) (cs : List Candidate) (only : List (List Atom)) (scans : List ScanPlan) → races choice cs ≡ true → AreScans only cs choice.background scans → 2 ≤ length scans
+two_scans choice cs only scans r s =
+    let two = two_chosen choice cs r in
+    let each = subst (λ (b : Background). AreScans only cs b scans) (is_the_each choice.background (each_chosen choice cs r)) s in
+    let same = length_permutation (map (plan_of only) (filter (is_scanned Each) cs)) scans each.these in
+    let mapped = length-map (filter (is_scanned Each) cs) (plan_of only) in
+    let these = ap (λ (xs : List Candidate). length xs) (each_restricted cs) in
+    omega arith
+
+pub unordered : (query : Query) (shown : Shown) (choice : Choice) (cs : List Candidate) → cs ≡ candidates_of query shown → CanAsk query shown → IsChosen query.order query.goal cs choice → races choice cs ≡ true → query.order ≡ []
+unordered query shown choice cs e can chosen r = no_order query shown choice can (subst (λ (xs : List Candidate). IsChosen query.order query.goal xs choice) e chosen) (unsorted choice.strategy (alone_chosen choice cs r))
+
+-- the scans can race
+pub can_race : (query : Query) (shown : Shown) (choice : Choice) (scans : List ScanPlan) (only : List (List Atom)) (cs : List Candidate) → only ≡ query.only → cs ≡ candidates_of query shown → CanAsk query shown → IsChosen query.order query.goal cs choice → AreScans query.only cs choice.background scans → CanRace query.table query.snap only scans shown
+can_race query shown choice scans only cs o e can chosen s =
+    let opens = chosen_opens query shown choice scans (front_begun query (front_candidate cs choice.front)) cs e can chosen s refl in
+    subst (λ (x : List (List Atom)). CanRace query.table query.snap x scans shown) (sym o) (record {
+      ascend = opens.ascend;
+      read = opens.read;
+      columns = opens.columns;
+      plans = record { each = opens.each; apart = opens.apart; entered = opens.planned };
+      once = planned_once query shown choice.background cs scans e can s;
+    })
+
+-- a race has no short index
+pub not_short : (query : Query) (shown : Shown) (choice : Choice) (cs : List Candidate) → cs ≡ candidates_of query shown → IsChosen query.order query.goal cs choice → races choice cs ≡ true → has_short query shown ≡ false
+not_short query shown choice cs e chosen r = by (has_short query shown) refl
+  where
+    by : (b : Bool) → has_short query shown ≡ b → has_short query shown ≡ false
+    by false h = h
+    by true h = no_way (not_one choice.background (each_chosen choice cs r) (short_one query shown choice query.order cs refl e chosen h))
+
+-- WHAT A RACE IS WHERE IT BEGINS
+
+pub begins_race : (query : Query) (shown : Shown) (choice : Choice) (scans : List ScanPlan) (only : List (List Atom)) (cs : List Candidate) (cursor opening : ℕ) (r : Raced) → only ≡ query.only → cs ≡ candidates_of query shown → CanAsk query shown → IsChosen query.order query.goal cs choice → AreScans query.only cs choice.background scans → races choice cs ≡ true → RaceOpened query.table query.snap only scans cursor opening (shown.pages query.table query.snap) r → RaceFits r shown → race_rest r shown ≡ qualifying only (shown.rows query.table query.snap) → RaceTells r → race_effort r shown < race_life query.table query.snap scans shown → BeginsRace query shown choice cursor opening (record { query = query; race = r })
+begins_race query shown choice scans only cs cursor opening r o e can chosen s races_so opened fits owes tells life =
+    let over = subst (λ (x : List (List Atom)). RaceOpened query.table query.snap x scans cursor opening (shown.pages query.table query.snap) r) o opened in
+    let plans : r.plans ≡ scans = ap (λ (x : Raced). x.plans) over.is in
+    let scanned = subst (λ (xs : List Candidate). AreScans query.only xs choice.background scans) e s in
+    record {
+      raced = record {
+        asked = refl;
+        scans = subst (AreScans query.only (candidates_of query shown) choice.background) (sym plans) scanned;
+        opened = subst (λ (x : List ScanPlan). RaceOpened query.table query.snap query.only x cursor opening (shown.pages query.table query.snap) r) (sym plans) over;
+      };
+      fits = record {
+        over = record {
+          table = ap (λ (x : Raced). x.table) over.is;
+          snap = ap (λ (x : Raced). x.snap) over.is;
+          only = ap (λ (x : Raced). x.only) over.is;
+          order = unordered query shown choice cs e can chosen races_so;
+        };
+        race = fits;
+      };
+      owes = owes ∙ ap (λ (x : List (List Atom)). qualifying x (shown.rows query.table query.snap)) o;
+      tells = record {
+        tells = tells;
+        known = subst (λ (x : List ScanPlan). list_all (λ i. has_index i (indexes_asked query)) (indexes_of x) ≡ true) (sym plans) (planned_known query shown choice.background cs scans e s);
+      };
+      life = raced_life query shown choice.background scans (race_effort r shown) scanned life;
+    }
+
+-- it has read nothing
+pub opened_counts : (table snap : ℕ) (only : List (List Atom)) (scans : List ScanPlan) (cursor opening pages : ℕ) (r : Raced) (c d : Counts) → RaceOpened table snap only scans cursor opening pages r → d ≡ c → CountsAll r.trace c d
+opened_counts table snap only scans cursor opening pages r c d opened same = record {
+  pages = ap (λ (x : Raced). x.trace.pages) opened.is ∙ none c.pages d.pages (ap (λ (k : Counts). k.pages) same);
+  leaves = ap (λ (x : Raced). x.trace.leaves) opened.is ∙ none c.leaves d.leaves (ap (λ (k : Counts). k.leaves) same);
+  fetches = ap (λ (x : Raced). x.trace.fetches) opened.is ∙ none c.records d.records (ap (λ (k : Counts). k.records) same);
+}
+  where
+    none : (a b : ℕ) → b ≡ a → 0 ≡ raised 0 (b - a)
+    none a b e = omega (arith, e)
+
+pub begun_race : (query : Query) (shown : Shown) (c d : Counts) (r : RacedQuery) → r.query ≡ query → RacedFits r shown → race_rest r.race shown ≡ qualifying query.only (shown.rows query.table query.snap) → RacedTells r → race_effort r.race shown < life_of query shown → CountsAll r.race.trace c d → d ≡ c → Begins query shown c d (Racing r)
+begun_race query shown c d r asked fits owes tells life counts unread = record {
+  asked = asked;
+  fits = fits;
+  owes = owes;
+  tells = tells;
+  awaiting = tt;
+  counts = counts;
+  life = within (reads c) (reads d) (race_effort r.race shown) (life_of query shown) (ap reads unread) life;
+  most = at_most (race_effort r.race shown) (life_of query shown) life;
+}
+  where
+    within : (n m k l : ℕ) → m ≡ n → k < l → m + k ≤ n + l
+    within n m k l e h = omega (arith, e, h)
+
+    at_most : (k l : ℕ) → k < l → k ≤ l
+    at_most k l h = omega (arith, h)
+
+-- HOW AN ACCESS WAS OPENED
+
+-- no race was asked
+pub unasked : {E : Type 0} (r : Result Access E) (query : Query) (shown : Shown) (cursor opening : ℕ) → IfOk r (Competes query shown cursor opening) → IfOk r (Opened false query shown cursor opening)
+unasked (Ok (Competing v)) query shown cursor opening o = record { choice = o.choice; chosen = o.chosen; opened = o }
+unasked (Ok (Racing x)) query shown cursor opening o = absurd o
+unasked (Err x) query shown cursor opening o = tt
+
+chosen_of : (query : Query) (shown : Shown) (choice : Choice) (order : List ℕ) (cs : List Candidate) → order ≡ query.order → cs ≡ candidates_of query shown → IsChosen order query.goal cs choice → IsChosen query.order query.goal (candidates_of query shown) choice
+chosen_of query shown choice order cs o e chosen = subst (λ (xs : List Candidate). IsChosen query.order query.goal xs choice) e (subst (λ (xs : List ℕ). IsChosen xs query.goal cs choice) o chosen)
+
+-- a race was asked, and none can be
+pub unraced : {E : Type 0} (r : Result Access E) (query : Query) (shown : Shown) (cursor opening : ℕ) (choice : Choice) (order : List ℕ) (cs : List Candidate) → order ≡ query.order → cs ≡ candidates_of query shown → IsChosen order query.goal cs choice → races choice cs ≡ false → IfOk r (Competes query shown cursor opening) → IfOk r (Opened true query shown cursor opening)
+unraced (Ok a) query shown cursor opening choice order cs o e chosen none is = record {
+  choice = choice;
+  chosen = chosen_of query shown choice order cs o e chosen;
+  opened = subst (λ (b : Bool). OpenedBy b query shown cursor opening choice a) (sym (sym (ap (races choice) e) ∙ none)) is;
+}
+unraced (Err x) query shown cursor opening choice order cs o e chosen none is = tt
+
+-- a race was asked, and runs
+pub raced : {E : Type 0} (r : Result Access E) (query : Query) (shown : Shown) (cursor opening : ℕ) (choice : Choice) (order : List ℕ) (cs : List Candidate) → order ≡ query.order → cs ≡ candidates_of query shown → IsChosen order query.goal cs choice → races choice cs ≡ true → IfOk r (Races query shown cursor opening choice) → IfOk r (Opened true query shown cursor opening)
+raced (Ok a) query shown cursor opening choice order cs o e chosen can is = record {
+  choice = choice;
+  chosen = chosen_of query shown choice order cs o e chosen;
+  opened = subst (λ (b : Bool). OpenedBy b query shown cursor opening choice a) (sym (sym (ap (races choice) e) ∙ can)) is;
+}
+raced (Err x) query shown cursor opening choice order cs o e chosen can is = tt

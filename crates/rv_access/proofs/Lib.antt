@@ -1,0 +1,6 @@
+pub mod Lives
+pub mod Chosen
+pub mod Shapes
+pub mod Counting
+pub mod OfRaces
+pub mod Accesses

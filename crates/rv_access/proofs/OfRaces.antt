@@ -1,0 +1,243 @@
+-- What the calls of a race leave, in the words of accesses.
+use Rattle.std.proofs.Common.{is_some, Result, Ok, Err, IfOk, OnErr, ◌≡◌, ℕ, ◌≤◌, Bool, true, false, ◌&&◌, ◌||◌, nat_eq, ◌∷◌, List, [], Option, Some, None, refl, ap, sym, ◌∙◌, arith, subst}
+use Rattle.std.specs.List.{list_all}
+use Rattle.std.proofs.lemmas.Bool.Decides.{nat_tests}
+use Rattle.rv_value.specs.declared.record.IndexEntry.{IndexEntry}
+use Rattle.rv_judge.specs.declared.counting.Counts.{Counts}
+use Rattle.rv_judge.specs.declared.events.Control.{Control}
+use Rattle.rv_judge.specs.declared.events.Control.TheVariants.{Building, ForegroundAlone, BackgroundAlone, FinalList, FinalTable, Done}
+use Rattle.rv_judge.specs.declared.events.Event.TheVariants.{Drop}
+use Rattle.rv_judge.specs.declared.events.Happening.{Happening}
+use Rattle.rv_judge.specs.declared.events.Happening.TheVariants.{Ruled, ScanEnded}
+use Rattle.rv_judge.specs.declared.events.Trace.{Trace}
+use Rattle.rv_judge.specs.declared.judging.Facts.{Facts}
+use Rattle.rv_judge.specs.declared.judging.Verdict.{Verdict}
+use Rattle.rv_judge.specs.declared.judging.Verdict.TheVariants.{Continue, AbandonScan, AbandonForeground, AbandonBackground}
+use Rattle.rv_judge.specs.Counting.{one_more}
+use Rattle.rv_judge.specs.Runs.{Allowed, has_index}
+use Rattle.rv_judge.specs.Verdicts.{Ruling}
+use Rattle.rv_reader.specs.Shown.{Shown}
+use Rattle.rv_scan.specs.declared.skip.Scanned.{Scanned}
+use Rattle.rv_scan.specs.declared.skip.Scanned.TheVariants.{Found, Working, End}
+use Rattle.rv_jscan.specs.declared.piece.PieceId.{PieceId}
+use Rattle.rv_jscan.specs.declared.jscan.Given.{Given}
+use Rattle.rv_jscan.specs.declared.jscan.Given.TheVariants.{Accepted, Stale}
+use Rattle.rv_jscan.specs.Pieces.{Pieced}
+use Rattle.rv_jscan.specs.Steps.{held_next}
+use Rattle.rv_choice.specs.declared.query.Query.{Query}
+use Rattle.rv_final.proofs.Marks.{unordered}
+use Rattle.rv_retrieval.specs.declared.steps.Fg.{Fg}
+use Rattle.rv_retrieval.specs.declared.steps.Fg.TheVariants.{Row, Working as FgWorking, End as FgEnd}
+use Rattle.rv_retrieval.specs.Effort.{FgSpends, GiveSpends as RetrievalSpends}
+use Rattle.rv_retrieval.specs.Opens.{fg_of}
+use Rattle.rv_retrieval.specs.Runs.{indexes_asked}
+use Rattle.rv_race.specs.Effort.{GiveSpends, Spends}
+use Rattle.rv_race.specs.Given.{Awaits, awaited, piece_read, turn_lane, turn_scan}
+use Rattle.rv_race.specs.Opened.{DoesAs, DoesStep, EndsIn, OnlyTakes, ended_by}
+use Rattle.rv_race.specs.Raced.{RaceFits, Raced, SameRace, racing, rest}
+use Rattle.rv_race.specs.Rulings.{GivesOn, HasNextTurn, Obeys, accepted, ended, index_at, listed, more, over, ruled, told_over}
+use Rattle.rv_race.specs.Runs.{Tells, indexes_of}
+use Rattle.rv_race.proofs.Switches.{over_as}
+use Rattle.rv_access.specs.declared.access.Access.TheVariants.{Racing}
+use Rattle.rv_access.specs.declared.racing.RacedQuery.{RacedQuery}
+use Rattle.rv_access.specs.Accesses.{IsOver, Keeps, RacedFits, RacedTells, SamePlans}
+use Rattle.rv_access.specs.Given.{CountsPiece, RacedGives, RacedLeaf, SamePieces}
+use Rattle.rv_access.specs.Stepping.{RacedCourse, RacedGivesStep, RacedSteps}
+
+-- WHAT IT IS OVER STAYS
+
+pub over_on : (q : Query) (old new : Raced) → SameRace old new → IsOver q old → IsOver q new
+over_on q old new same over = record { table = same.table ∙ over.table; snap = same.snap ∙ over.snap; only = same.only ∙ over.only; order = over.order }
+
+pub fits_on : (old : RacedQuery) (new : Raced) (shown : Shown) → SameRace old.race new → RacedFits old shown → RaceFits new shown → RacedFits (record old { race = new }) shown
+fits_on old new shown same fits race = record { over = over_on old.query old.race new same fits.over; race = race }
+
+pub tells_on : (old : RacedQuery) (new : Raced) → SameRace old.race new → (Tells old.race → Tells new) → RacedTells old → RacedTells (record old { race = new })
+tells_on old new same tells t = record {
+  tells = tells t.tells;
+  known = subst (λ (x : _). list_all (λ i. has_index i (indexes_asked old.query)) (indexes_of x) ≡ true) (sym same.plans) t.known;
+}
+
+-- A TRACE THAT TELLS A RUN IS ALLOWED for the table's indexes
+
+left_true : (a b : Bool) → (a && b) ≡ true → a ≡ true
+left_true a b h = grind arith
+
+right_true : (a b : Bool) → (a && b) ≡ true → b ≡ true
+right_true a b h = grind arith
+
+both_true : (a b : Bool) → a ≡ true → b ≡ true → (a && b) ≡ true
+both_true a b h g = grind arith
+
+same_number : (n m : ℕ) → nat_eq n m ≡ true → n ≡ m
+same_number n m h = grind (arith, nat_tests)
+
+later : (a b : Bool) → a ≡ false → (a || b) ≡ true → b ≡ true
+later true b e h = absurd (cc)
+later false b e h = h
+
+any_known : (xs ys : List ℕ) (i : ℕ) → list_all (λ k. has_index k ys) xs ≡ true → has_index i xs ≡ true → has_index i ys ≡ true
+any_known [] ys i all has = absurd (cc)
+any_known (x ∷ xs) ys i all has = by (nat_eq x i) refl (any_known xs ys i (right_true (has_index x ys) _ all))
+  where
+    by : (b : Bool) → nat_eq x i ≡ b → (has_index i xs ≡ true → has_index i ys ≡ true) → has_index i ys ≡ true
+    by true e rest = subst (λ (n : ℕ). has_index n ys ≡ true) (same_number x i e) (left_true _ _ all)
+    by false e rest = rest (later (nat_eq x i) _ e has)
+
+all_known : (xs ys planned : List ℕ) → list_all (λ k. has_index k ys) xs ≡ true → list_all (λ k. has_index k xs) planned ≡ true → list_all (λ k. has_index k ys) planned ≡ true
+all_known xs ys [] all these = refl
+all_known xs ys (p ∷ planned) all these = both_true _ _ (any_known xs ys p all (left_true _ _ these)) (all_known xs ys planned all (right_true (has_index p xs) _ these))
+
+pub wider : (t : Trace) (xs ys : List ℕ) → list_all (λ k. has_index k ys) xs ≡ true → Allowed t xs → Allowed t ys
+wider t xs ys all a = record { planned = a.planned; known = all_known xs ys a.planned all a.known; once = a.once; scanned = a.scanned; turns = a.turns; run = a.run; told = a.told }
+
+-- WHAT AN ACCEPTED PIECE LEAVES
+
+-- what stays where a scan ends and where a judge rules
+record Turns (old new : Raced) : Type 0 where
+  plans : new.plans ≡ old.plans
+  number : new.number ≡ old.number
+
+over_turns : (happening : Bool → Happening) (old r : Raced) → Turns old r → Turns old (over (more r) (happening (more r)) r)
+over_turns happening old r t = over_as (Turns old) happening r (λ m. record { plans = t.plans; number = t.number }) (λ m. record { plans = t.plans; number = t.number })
+
+ruled_turns : (verdict : Verdict) (r : Raced) → Turns r (ruled verdict r)
+ruled_turns Continue r = record { plans = refl; number = refl }
+ruled_turns AbandonForeground r = record { plans = refl; number = refl }
+ruled_turns AbandonScan r = over_turns (λ b. Ruled AbandonScan b (is_some r.list)) r (told_over (Drop (index_at r (turn_scan r))) r) (record { plans = refl; number = refl })
+ruled_turns AbandonBackground r = record { plans = refl; number = refl }
+
+ended_turns : (keys : List ℕ) (r : Raced) → Turns r (ended (listed keys r))
+ended_turns keys r = over_turns (λ b. ScanEnded b true) r (listed keys r) (record { plans = refl; number = refl })
+
+obeyed_turns : (would : ℕ → Facts → Ruling) (state after : ℕ) (piece : Pieced) (next : Option IndexEntry) (old new : Raced) → Obeys would state after piece next old new → (new.plans ≡ old.plans) × (new.number ≡ one_more old.number)
+obeyed_turns would state after piece (Some cut) old new o =
+    let t = subst (Turns (accepted piece false old)) (sym o.0) (ruled_turns _ (accepted piece false old)) in
+    (t.plans, t.number)
+obeyed_turns would state after piece None old new o =
+    let t = subst (Turns (accepted piece true old)) (sym o.0.ends) (ended_turns o.0.keys (accepted piece true old)) in
+    (t.plans, t.number)
+
+-- A STEP
+
+gives_as : (old : RacedQuery) (new : Raced) (shown : Shown) (s : Scanned) → old.query.order ≡ [] → DoesStep old.race new shown s → RacedGivesStep old (record old { race = new }) shown (fg_of s)
+gives_as old new shown (Found r) o does = ((does old.query.need).0, unordered old.query.order r (rest old.race shown) o)
+gives_as old new shown Working o does = does old.query.need
+gives_as old new shown End o does = does old.query.need
+
+pub gives_step : (old : RacedQuery) (new : Raced) (shown : Shown) (s : Scanned) (fg : Fg) → old.query.order ≡ [] → DoesStep old.race new shown s → fg ≡ fg_of s → RacedGivesStep old (record old { race = new }) shown fg
+gives_step old new shown s fg o does e = subst (RacedGivesStep old (record old { race = new }) shown) (sym e) (gives_as old new shown s o does)
+
+pub fg_spends : (s : Scanned) (fg : Fg) (c d : Counts) (old new : ℕ) → new ≤ old → Spends s c d old new → fg ≡ fg_of s → FgSpends fg c d old new
+fg_spends s fg c d old new less spends e = subst (λ (x : Fg). FgSpends x c d old new) (sym e) (by s spends)
+  where
+    by : (s : Scanned) → Spends s c d old new → FgSpends (fg_of s) c d old new
+    by (Found r) spends = spends
+    by Working spends = spends
+    by End spends = (spends, less)
+
+-- an end leads to the last control
+pub ends_done : (s : Scanned) (fg : Fg) (r : Raced) → fg ≡ fg_of s → EndsIn r s → fg ≡ FgEnd → r.control ≡ Done
+ends_done (Found x) fg r e ends f = absurd (let bad : Row x ≡ FgEnd = sym e ∙ f in cc)
+ends_done Working fg r e ends f = absurd (let bad : FgWorking ≡ FgEnd = sym e ∙ f in cc)
+ends_done End fg r e ends f = ends
+
+-- the plans stay
+ended_plans : (s : Scanned) (old r : Raced) → r.plans ≡ old.plans → (ended_by s r).plans ≡ old.plans
+ended_plans (Found x) old r e = e
+ended_plans Working old r e = e
+ended_plans End old r e = e
+
+does_plans : (now : Control) (would : ℕ → Facts → Ruling) (state after : ℕ) (shown : Shown) (c d : Counts) (s : Scanned) (old new : Raced) → DoesAs now would state after shown c d s old new → new.plans ≡ old.plans
+does_plans Building would state after shown c d s old new does = absurd does
+does_plans ForegroundAlone would state after shown c d s old new does = absurd does
+does_plans BackgroundAlone would state after shown c d s old new does =
+    let one = does.1 in
+    (obeyed_turns would state after one.piece (held_next (turn_lane one.taken).held) one.taken new one.obeys).0 ∙ ap (λ (r : Raced). r.plans) one.leaves.same
+does_plans FinalList would state after shown c d s old new does = ap (λ (r : Raced). r.plans) does.2 ∙ ended_plans s old (record old { at = new.at }) refl
+does_plans FinalTable would state after shown c d s old new does = ap (λ (r : Raced). r.plans) does.2 ∙ ended_plans s old (record old { last = new.last }) refl
+does_plans Done would state after shown c d s old new does = ap (λ (r : Raced). r.plans) does.3
+
+pub steps_plans : (would : ℕ → Facts → Ruling) (state after : ℕ) (shown : Shown) (c d : Counts) (fg : Fg) (old new : RacedQuery) → RacedSteps would state after shown c d fg old new → SamePlans (Racing old) (Racing new)
+steps_plans would state after shown c d fg old new steps = record {
+  query = ap (λ (r : RacedQuery). r.query) steps.same;
+  strategy = refl;
+  plans = ap (λ (r : Raced). r.plans) steps.steps.counts ∙ does_plans old.race.control would state after shown c d steps.scanned old.race steps.steps.stepped steps.steps.does;
+}
+
+-- where it only took, the control, the scans and the events stay
+pub only_course : (old : RacedQuery) (new : Raced) → OnlyTakes old.race new → RacedCourse old (record old { race = new })
+only_course old new only = record {
+  query = refl;
+  control = ap (λ (r : Raced). r.control) only.same;
+  plans = ap (λ (r : Raced). r.plans) only.same;
+  turn = ap (λ (r : Raced). r.running.turn.scan) only.same;
+  other = ap (λ (r : Raced). r.running.other) only.same;
+  list = ap (λ (r : Raced). r.list) only.same;
+  events = only.events;
+}
+
+-- A TAKE
+
+pub leaf_plans : (old new : RacedQuery) → RacedLeaf old new → SamePlans (Racing old) (Racing new)
+leaf_plans old new leaf = record {
+  query = ap (λ (r : RacedQuery). r.query) leaf.same;
+  strategy = refl;
+  plans = ap (λ (r : Raced). r.plans) leaf.leaves.same;
+}
+
+pub leaf_query : (old new : RacedQuery) → RacedLeaf old new → new.query ≡ old.query
+leaf_query old new leaf = ap (λ (r : RacedQuery). r.query) leaf.same
+
+pub leaf_pieces : (old new : RacedQuery) → RacedLeaf old new → awaited new.race ≡ awaited old.race → SamePieces (Racing old) (Racing new)
+leaf_pieces old new leaf same = record { awaited = same; number = ap (λ (r : Raced). r.number) leaf.leaves.same }
+
+-- A GIVE
+
+pub given_number : (would : ℕ → Facts → Ruling) (state after : ℕ) (piece : Pieced) (g : Given) (old new : RacedQuery) → RacedGives would state after piece g old new → CountsPiece g old.race.number new.race.number
+given_number would state after piece Accepted old new gives = (obeyed_turns would state after piece (held_next (turn_lane old.race).held) old.race new.race gives.gives).1
+given_number would state after piece (Stale asked now) old new gives = ap (λ (r : Raced). r.number) gives.gives.0
+
+pub given_plans : (would : ℕ → Facts → Ruling) (state after : ℕ) (piece : Pieced) (g : Given) (old new : RacedQuery) → RacedGives would state after piece g old new → SamePlans (Racing old) (Racing new)
+given_plans would state after piece Accepted old new gives = record {
+  query = ap (λ (r : RacedQuery). r.query) gives.same;
+  strategy = refl;
+  plans = (obeyed_turns would state after piece (held_next (turn_lane old.race).held) old.race new.race gives.gives).0;
+}
+given_plans would state after piece (Stale asked now) old new gives = record {
+  query = ap (λ (r : RacedQuery). r.query) gives.same;
+  strategy = refl;
+  plans = ap (λ (r : Raced). r.plans) gives.gives.0;
+}
+
+-- the awaited piece has the awaited id
+pub piece_awaited : (r : Raced) (piece : Pieced) → Awaits r piece → awaited r ≡ Some piece.id
+piece_awaited r piece awaits = rw awaits.under_way (ap (λ (id : PieceId). Some id) (sym awaits.own.named))
+
+-- nothing is awaited where no scan is under way
+pub none_awaited : (r : Raced) → racing r.control ≡ false → awaited r ≡ None
+none_awaited r e = rw e refl
+
+pub none_read : (r : Raced) (c : Counts) → awaited r ≡ None → c ≡ piece_read r c
+none_read r c none = by (racing r.control) refl
+  where
+    by : (b : Bool) → racing r.control ≡ b → c ≡ piece_read r c
+    by true e = absurd (let some = rw e at none in cc)
+    by false e = rw e refl
+
+-- a give, whatever it answers
+pub gives_as_raced : {E : Type 0} (r : Result Given E) (would : ℕ → Facts → Ruling) (state after : ℕ) (piece : Pieced) (old : RacedQuery) (new : Raced) → IfOk r (λ g. GivesOn would state after piece g old.race new) → IfOk r (λ g. HasNextTurn g old.race new) → IfOk r (λ g. RacedGives would state after piece g old (record old { race = new }))
+gives_as_raced (Ok g) would state after piece old new gives turns = record { same = refl; gives = gives; turns = turns }
+gives_as_raced (Err x) would state after piece old new gives turns = tt
+
+pub same_if : {X E : Type 0} (r : Result X E) (old : RacedQuery) (new : Raced) → OnErr r (new ≡ old.race) → OnErr r (record old { race = new } ≡ old)
+same_if (Ok x) old new e = tt
+same_if (Err x) old new e = ap (λ (race : Raced). record old { race = race }) e
+
+pub raced_keeps : (old new : RacedQuery) → new ≡ record old { race = new.race } → ((shown : Shown) → RacedFits old shown → RacedFits new shown) → ((shown : Shown) → RacedFits old shown → rest new.race shown ≡ rest old.race shown) → Keeps (Racing old) (Racing new)
+raced_keeps old new same fits left = record { query = ap (λ (r : RacedQuery). r.query) same; fits = fits; rest = left }
+
+pub gives_spends : {E : Type 0} (r : Result Given E) (old new : ℕ) → IfOk r (λ g. GiveSpends g old new) → IfOk r (λ g. RetrievalSpends g old new)
+gives_spends (Ok Accepted) old new spends = spends
+gives_spends (Ok (Stale asked now)) old new spends = spends
+gives_spends (Err x) old new spends = tt

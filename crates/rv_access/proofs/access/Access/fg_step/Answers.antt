@@ -1,0 +1,20 @@
+use Rattle.rv_access.proofs.Accesses.{none_fewer, race_gives, retrieval_gives}
+use Rattle.rv_access.proofs.access.Access.fg_step.Goals as goal
+
+pub returns-in-Competing-clause-step : goal.returns-in-Competing-clause-step
+returns-in-Competing-clause-step g c = rw c.in-Competing.is (retrieval_gives c.fg_step.result c.in-Competing.retrieval c.fg_step.new.self (g.R.Reader.shown c.args.reader.now) c.fg_step.ensures.step)
+
+pub returns-in-Racing-clause-step : goal.returns-in-Racing-clause-step
+returns-in-Racing-clause-step g c = rw c.in-Racing.is (race_gives c.fg_step-in-Racing.result c.in-Racing.raced c.fg_step-in-Racing.new.self (g.R.Reader.shown c.args.reader.now) c.fg_step-in-Racing.ensures.step)
+
+pub returns-in-Racing-clause-fewer : goal.returns-in-Racing-clause-fewer
+returns-in-Racing-clause-fewer g c = rw c.in-Racing.is (none_fewer c.fg_step-in-Racing.result)
+
+pub returns-in-Racing-clause-unasked : goal.returns-in-Racing-clause-unasked
+returns-in-Racing-clause-unasked g c = rw c.in-Racing.is (λ s. absurd s)
+
+pub returns-in-Racing-clause-pages : goal.returns-in-Racing-clause-pages
+returns-in-Racing-clause-pages g c = rw c.in-Racing.is (λ s. absurd s)
+
+pub returns-in-Racing-clause-records : goal.returns-in-Racing-clause-records
+returns-in-Racing-clause-records g c = rw c.in-Racing.is (λ s. absurd s)

@@ -1,0 +1,16 @@
+use Rattle.rv_access.proofs.access.Access.open_competing.Goals as goal
+
+pub returns-clause-begins : goal.returns-clause-begins
+returns-clause-begins g c = record {
+  asked = c.in_ok-retrieval.ensures.opened.made.asked;
+  fits = c.in_ok-retrieval.ensures.fits;
+  owes = c.in_ok-retrieval.ensures.rest;
+  tells = c.in_ok-retrieval.ensures.tells;
+  awaiting = c.in_ok-retrieval.ensures.awaiting;
+  counts = c.in_ok-retrieval.ensures.counts;
+  life = c.in_ok-retrieval.ensures.life;
+  most = c.in_ok-retrieval.ensures.effort;
+}
+
+pub returns-clause-short : goal.returns-clause-short
+returns-clause-short g c h = record { settled = (c.in_ok-retrieval.ensures.short h).0; few = (c.in_ok-retrieval.ensures.short h).1 }

@@ -1,0 +1,16 @@
+use Rattle.rv_access.proofs.Chosen.{begun_race, not_short}
+use Rattle.rv_access.proofs.access.Access.open_raced.Goals as goal
+
+pub returns-clause-races : goal.returns-clause-races
+returns-clause-races g c = c.in_ok-raced.ensures.begins.raced
+
+pub returns-clause-begins : goal.returns-clause-begins
+returns-clause-begins g c =
+    let begins = c.in_ok-raced.ensures.begins in
+    begun_race c.args.query (g.R.Reader.shown c.args.reader.now) _ _ c.in_ok-raced.raced begins.raced.asked begins.fits begins.owes begins.tells begins.life c.in_ok-raced.ensures.counts c.open.ensures.unread
+
+pub returns-clause-short : goal.returns-clause-short
+returns-clause-short g c = not_short c.args.query (g.R.Reader.shown c.args.reader.now) c.args.choice c.args.candidates.now c.requires.candidates c.requires.choice c.requires.races
+
+pub returns-in_err-raced-clause-short : goal.returns-in_err-raced-clause-short
+returns-in_err-raced-clause-short g c = not_short c.args.query (g.R.Reader.shown c.args.reader.now) c.args.choice c.args.candidates.now c.requires.candidates c.requires.choice c.requires.races

@@ -1,0 +1,40 @@
+use Rattle.rv_access.proofs.Accesses.{race_takes, race_undropped, retrieval_takes, retrieval_undropped, settled_take}
+use Rattle.rv_access.proofs.OfRaces.{leaf_pieces, leaf_plans, leaf_query}
+use Rattle.rv_access.proofs.Shapes.{take_plans, take_same}
+use Rattle.rv_access.proofs.access.Access.take.Goals as goal
+
+pub returns-in-Competing-clause-taken : goal.returns-in-Competing-clause-taken
+returns-in-Competing-clause-taken g c = retrieval_takes c.take.result c.take.new.self c.take.ensures.taken
+
+pub returns-in-Racing-clause-taken : goal.returns-in-Racing-clause-taken
+returns-in-Racing-clause-taken g c = race_takes c.take-in-Racing.result c.take-in-Racing.new.self c.take-in-Racing.ensures.taken
+
+pub returns-in-Competing-clause-leaves : goal.returns-in-Competing-clause-leaves
+returns-in-Competing-clause-leaves g c = rw c.in-Competing.is (record { same = c.take.ensures.same; leaves = c.take.ensures.leaves })
+
+pub returns-in-Racing-clause-query : goal.returns-in-Racing-clause-query
+returns-in-Racing-clause-query g c = rw c.in-Racing.is (leaf_query _ _ c.take-in-Racing.ensures.leaves)
+
+pub returns-in-Competing-clause-plans : goal.returns-in-Competing-clause-plans
+returns-in-Competing-clause-plans g c = rw c.in-Competing.is (take_plans _ _ c.take.ensures.same c.take.ensures.leaves)
+
+pub returns-in-Racing-clause-plans : goal.returns-in-Racing-clause-plans
+returns-in-Racing-clause-plans g c = rw c.in-Racing.is (leaf_plans _ _ c.take-in-Racing.ensures.leaves)
+
+pub returns-in-Competing-clause-pieces : goal.returns-in-Competing-clause-pieces
+returns-in-Competing-clause-pieces g c = rw c.in-Competing.is (take_same _ _ c.take.ensures.same c.take.ensures.leaves)
+
+pub returns-in-Racing-clause-pieces : goal.returns-in-Racing-clause-pieces
+returns-in-Racing-clause-pieces g c = rw c.in-Racing.is (leaf_pieces _ _ c.take-in-Racing.ensures.leaves c.take-in-Racing.ensures.awaits)
+
+pub returns-in-Competing-clause-undropped : goal.returns-in-Competing-clause-undropped
+returns-in-Competing-clause-undropped g c = rw c.in-Competing.is (λ t. retrieval_undropped c.take.result c.take.new.self (c.take.ensures.undropped t))
+
+pub returns-in-Racing-clause-undropped : goal.returns-in-Racing-clause-undropped
+returns-in-Racing-clause-undropped g c = rw c.in-Racing.is (λ t. race_undropped c.take-in-Racing.result c.take-in-Racing.new.self (c.take-in-Racing.ensures.undropped t))
+
+pub returns-in-Competing-clause-settled : goal.returns-in-Competing-clause-settled
+returns-in-Competing-clause-settled g c = rw c.in-Competing.is (λ s. settled_take (g.R.Reader.shown c.args.reader.now) _ _ _ _ c.take.ensures.same c.take.ensures.leaves s (c.take.ensures.settled s))
+
+pub returns-in-Racing-clause-settled : goal.returns-in-Racing-clause-settled
+returns-in-Racing-clause-settled g c = rw c.in-Racing.is (λ s. absurd s)

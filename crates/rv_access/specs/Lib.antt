@@ -1,0 +1,4 @@
+pub mod Accesses
+pub mod Given
+pub mod Stepping
+pub mod Opened

@@ -1,0 +1,77 @@
+-- What a step of an access does and reads.
+use Rattle.std.specs.Prelude.{◌≡◌, ℕ, []}
+use Rattle.rv_judge.specs.declared.counting.Counts.{Counts}
+use Rattle.rv_judge.specs.declared.judging.Facts.{Facts}
+use Rattle.rv_judge.specs.Verdicts.{Ruling}
+use Rattle.rv_reader.specs.Shown.{Shown}
+use Rattle.rv_scan.specs.declared.skip.Scanned.{Scanned}
+use Rattle.rv_final.specs.Rest.{IsLeast, TakesOut}
+use Rattle.rv_retrieval.specs.declared.steps.Fg.{Fg}
+use Rattle.rv_retrieval.specs.declared.steps.Fg.TheVariants.{Row, Working, End}
+use Rattle.rv_retrieval.specs.Opens.{fg_of}
+use Rattle.rv_retrieval.specs.Runs.{SameCourse as RetrievalCourse}
+use Rattle.rv_retrieval.specs.Stepping.{MayReadIts as RetrievalReads, OnlyTakes as RetrievalOnly, StepsAs as RetrievalSteps}
+use Rattle.rv_race.specs.Given.{turn_scan}
+use Rattle.rv_race.specs.Opened.{MayRead as RaceReads, OnlyTakes as RaceOnly, StepsAs as RaceSteps}
+use Rattle.rv_race.specs.Raced.{rest as race_rest}
+use Rattle.rv_access.specs.declared.access.Access.{Access}
+use Rattle.rv_access.specs.declared.access.Access.TheVariants.{Competing, Racing}
+use Rattle.rv_access.specs.declared.racing.RacedQuery.{RacedQuery}
+use Rattle.rv_access.specs.Accesses.{Alike, Settled, fetches_left, query_of, rest}
+
+-- WHAT A STEP GIVES: it takes one record out of the rest, least in the order columns, or leaves the rest, or the rest is empty
+abbrev pub GivesStep : Access → Access → Shown → Fg → Type 0
+GivesStep old new shown (Row r) = TakesOut (query_of old).need r (rest old shown) (rest new shown) × IsLeast (query_of old).order r (rest old shown)
+GivesStep old new shown Working = rest new shown ≡ rest old shown
+GivesStep old new shown End = (rest old shown ≡ []) × (rest new shown ≡ [])
+
+-- the same of a race, in its own words
+abbrev pub RacedGivesStep : RacedQuery → RacedQuery → Shown → Fg → Type 0
+RacedGivesStep old new shown (Row r) = TakesOut old.query.need r (race_rest old.race shown) (race_rest new.race shown) × IsLeast old.query.order r (race_rest old.race shown)
+RacedGivesStep old new shown Working = race_rest new.race shown ≡ race_rest old.race shown
+RacedGivesStep old new shown End = (race_rest old.race shown ≡ []) × (race_rest new.race shown ≡ [])
+
+-- a step of a race
+pub record RacedSteps (would : ℕ → Facts → Ruling) (state after : ℕ) (shown : Shown) (c d : Counts) (fg : Fg) (old new : RacedQuery) : Type 0 where
+  pub scanned : Scanned
+  pub answers : fg ≡ fg_of scanned
+  pub same : new ≡ record old { race = new.race }
+  pub steps : RaceSteps would state after shown c d scanned old.race new.race
+
+-- WHAT A STEP DOES AND READS, and that it is then counted
+abbrev pub StepsAs : (ℕ → Facts → Ruling) → ℕ → ℕ → Shown → Counts → Counts → Fg → Access → Access → Type 0
+StepsAs would state after shown c d fg old new = Alike (RetrievalSteps would state after shown c d fg) (RacedSteps would state after shown c d fg) old new
+
+-- what a step may read, whatever it answers
+abbrev pub MayReadIts : Access → Counts → Counts → Type 0
+MayReadIts (Competing v) c d = RetrievalReads v c d
+MayReadIts (Racing r) c d = RaceReads r.race.control r.race c d
+
+-- a race that only took
+pub record RacedOnly (old new : RacedQuery) : Type 0 where
+  pub same : new ≡ record old { race = new.race }
+  pub only : RaceOnly old.race new.race
+
+-- WHAT A STEP LEAVES THAT FOUND NO MEMORY: the awaited leaf may have been taken, and keys passed over. No piece is accepted.
+abbrev pub OnlyTakes : Access → Access → Type 0
+OnlyTakes old new = Alike RetrievalOnly RacedOnly old new
+
+-- the control, the scans and the events of a race stay
+pub record RacedCourse (old new : RacedQuery) : Type 0 where
+  pub query : new.query ≡ old.query
+  pub control : new.race.control ≡ old.race.control
+  pub plans : new.race.plans ≡ old.race.plans
+  pub turn : turn_scan new.race ≡ turn_scan old.race
+  pub other : new.race.running.other ≡ old.race.running.other
+  pub list : new.race.list ≡ old.race.list
+  pub events : new.race.trace.events ≡ old.race.trace.events
+
+-- THE CONTROL, THE SCANS AND THE EVENTS STAY
+abbrev pub SameCourse : Access → Access → Type 0
+SameCourse old new = Alike RetrievalCourse RacedCourse old new
+
+-- WHAT A TAKE DOES WHERE A SHORT INDEX WAS SCANNED AT OPENING: it reads nothing, and what may be fetched stays
+pub record SettledTake (shown : Shown) (c d : Counts) (old new : Access) : Type 0 where
+  pub settled : Settled new
+  pub unread : d ≡ c
+  pub same : fetches_left new shown ≡ fetches_left old shown

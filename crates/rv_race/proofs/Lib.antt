@@ -1,0 +1,12 @@
+pub mod Ways
+pub mod Fits
+pub mod Switches
+pub mod Gives
+pub mod Traces
+pub mod Tellings
+pub mod Efforts
+pub mod Takes
+pub mod Finals
+pub mod Openings
+pub mod Lanes
+pub mod Stepped

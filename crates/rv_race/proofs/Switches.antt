@@ -1,0 +1,168 @@
+-- A change of the scans under way, of the list or of the control leaves the fit and the rest.
+use Rattle.std.proofs.Common.{◌≡◌, ℕ, ◌⊎◌, List, [], ◌∷◌, Bool, true, false, not, cond, ◌&&◌, ◌||◌, refl, ap, sym, ◌∙◌, arith, subst, Option, Some, None, is_some, IsSome, IfSome, inl, inr, nat_eq}
+use Rattle.rv_value.specs.declared.record.Record.{Record}
+use Rattle.rv_restrict.specs.declared.atom.Atom.{Atom}
+use Rattle.rv_restrict.specs.Truth.{qualifies}
+use Rattle.rv_keys.specs.Keys.{has_key}
+use Rattle.rv_judge.specs.declared.events.Control.{Control}
+use Rattle.rv_judge.specs.declared.events.Control.TheVariants.{Building, ForegroundAlone, BackgroundAlone, FinalList, FinalTable, Done}
+use Rattle.rv_judge.specs.declared.events.Happening.{Happening}
+use Rattle.rv_judge.specs.declared.events.Happening.TheVariants.{ScanEnded, Ruled}
+use Rattle.rv_judge.specs.declared.events.Strategy.TheVariants.{BackgroundOnly}
+use Rattle.rv_judge.specs.declared.events.Trace.{Trace}
+use Rattle.rv_judge.specs.declared.judging.Verdict.TheVariants.{AbandonScan, AbandonBackground}
+use Rattle.rv_judge.specs.Course.{next_control}
+use Rattle.rv_reader.specs.Shown.{Shown}
+use Rattle.rv_scan.specs.Places.{unseen}
+use Rattle.rv_final.specs.Rest.{has_row, qualifies_at, qualifying, rest_by}
+use Rattle.rv_final.specs.Stage.{keys_left, list_left, table_left}
+use Rattle.rv_final.proofs.Rests.{same_rest}
+use Rattle.rv_race.specs.Raced.{Covers, RaceFits, Raced, RunningFits, left_by, owed, racing, rest, rows_of}
+use Rattle.rv_race.specs.Rulings.{going_on, gone, more, over}
+
+pub is_racing : (c : Control) → racing c ≡ true → c ≡ BackgroundAlone
+is_racing Building h = absurd (cc)
+is_racing ForegroundAlone h = absurd (cc)
+is_racing BackgroundAlone h = refl
+is_racing FinalList h = absurd (cc)
+is_racing FinalTable h = absurd (cc)
+is_racing Done h = absurd (cc)
+
+-- each row that qualifies is owed while scans are under way
+pub rest_racing : (r : Raced) (shown : Shown) → racing r.control ≡ true → rest r shown ≡ rest_by (λ n. true) r.only (rows_of r shown)
+rest_racing r shown h = ap (λ (c : Control). rest_by (left_by c r.list r.at r.last (rows_of r shown)) r.only (rows_of r shown)) (is_racing r.control h)
+
+pub all_qualifying : (only : List (List Atom)) (rows : List Record) → rest_by (λ n. true) only rows ≡ qualifying only rows
+all_qualifying only [] = refl
+all_qualifying only (r ∷ rows) = elim (qualifies only r.values) as (λ b. cond (b && true) (r ∷ rest_by (λ n. true) only rows) (rest_by (λ n. true) only rows) ≡ cond b (r ∷ qualifying only rows) (qualifying only rows)) [
+  | true ↦ ap (λ (rs : List Record). r ∷ rs) (all_qualifying only rows)
+  | false ↦ all_qualifying only rows
+]
+
+pub row_there : (only : List (List Atom)) (rows : List Record) (n : ℕ) → qualifies_at only rows n ≡ true → has_row n rows ≡ true
+row_there only [] n q = q
+row_there only (r ∷ rows) n q = either (nat_eq n r.row.0) (qualifies only r.values) (qualifies_at only rows n) (has_row n rows) q (row_there only rows n)
+  where
+    either : (a b c d : Bool) → ((a && b) || c) ≡ true → (c ≡ true → d ≡ true) → (a || d) ≡ true
+    either true b c d h f = refl
+    either false b c d h f = f h
+
+-- While scans are under way.
+
+-- what changes while the control stays
+abbrev pub with_parts : Raced → Raced → Raced
+with_parts r new = record r { counts = new.counts; running = new.running; number = new.number; list = new.list; guaranteed = new.guaranteed; trace = new.trace }
+
+pub moved_fits : (r new : Raced) (shown : Shown) → new ≡ with_parts r new → racing r.control ≡ true → RaceFits r shown → RunningFits r.plans (owed r shown) shown r.snap new.running → IfSome new.list (Covers (owed r shown)) → RaceFits new shown
+moved_fits r new shown e back f w c =
+    let fits : RaceFits (with_parts r new) shown = record {
+      ascend = f.ascend;
+      read = f.read;
+      columns = f.columns;
+      plans = f.plans;
+      running = w;
+      covers = c;
+      last = f.last;
+      unbegun = f.unbegun;
+      listed = λ h. absurd (let bad : true ≡ false = sym back ∙ ap racing h in cc);
+      stands = f.stands;
+    } in
+    subst (λ (x : Raced). RaceFits x shown) (sym e) fits
+
+pub moved_rest : (r new : Raced) (shown : Shown) → new ≡ with_parts r new → racing r.control ≡ true → rest new shown ≡ rest r shown
+moved_rest r new shown e back = ap (λ (x : Raced). rest x shown) e ∙ rest_racing (with_parts r new) shown back ∙ sym (rest_racing r shown back)
+
+pub moved_back : (r new : Raced) → new ≡ with_parts r new → racing r.control ≡ true → racing new.control ≡ true
+moved_back r new e back = ap (λ (x : Raced). racing x.control) e ∙ back
+
+-- The background is over.
+
+-- the list is complete, or the table is read
+abbrev pub Leads : Raced → Control → Type 0
+Leads r c = ((c ≡ FinalList) × IsSome r.list) ⊎ (c ≡ FinalTable)
+
+and_true : (a : Bool) → a ≡ true → (a && not false) ≡ true
+and_true a h = grind arith
+
+in_list : (list : Option (List ℕ)) (owed : ℕ → Bool) (n : ℕ) → IsSome list → IfSome list (Covers owed) → owed n ≡ true → has_key n (keys_left list 0) ≡ true
+in_list None owed n s c o = absurd (cc)
+in_list (Some keys) owed n s c o = c n o
+
+to_list : (r : Raced) (t : Trace) (shown : Shown) → racing r.control ≡ true → IsSome r.list → RaceFits r shown → RaceFits (record r { control = FinalList; trace = t }) shown × (rest (record r { control = FinalList; trace = t }) shown ≡ rest r shown)
+to_list r t shown back some f = (
+  record {
+    ascend = f.ascend;
+    read = f.read;
+    columns = f.columns;
+    plans = f.plans;
+    running = f.running;
+    covers = f.covers;
+    last = f.last;
+    unbegun = λ h. absurd (cc);
+    listed = λ h. some;
+    stands = refl;
+  },
+  same_rest r.only (rows_of r shown) (λ n. true) (λ n. list_left r.list None r.at n) each ∙ sym (rest_racing r shown back),
+)
+  where
+    each : (n : ℕ) → qualifies_at r.only (rows_of r shown) n ≡ true → list_left r.list None r.at n ≡ true
+    each n q = and_true (has_key n (keys_left r.list r.at)) (ap (λ (i : ℕ). has_key n (keys_left r.list i)) (f.unbegun back).keys ∙ in_list r.list (owed r shown) n some f.covers q)
+
+to_table : (r : Raced) (t : Trace) (shown : Shown) → racing r.control ≡ true → RaceFits r shown → RaceFits (record r { control = FinalTable; trace = t }) shown × (rest (record r { control = FinalTable; trace = t }) shown ≡ rest r shown)
+to_table r t shown back f = (
+  record {
+    ascend = f.ascend;
+    read = f.read;
+    columns = f.columns;
+    plans = f.plans;
+    running = f.running;
+    covers = f.covers;
+    last = f.last;
+    unbegun = λ h. absurd (cc);
+    listed = λ h. absurd (cc);
+    stands = refl;
+  },
+  same_rest r.only (rows_of r shown) (λ n. true) (λ n. table_left r.last (rows_of r shown) None n) each ∙ sym (rest_racing r shown back),
+)
+  where
+    each : (n : ℕ) → qualifies_at r.only (rows_of r shown) n ≡ true → table_left r.last (rows_of r shown) None n ≡ true
+    each n q = and_true (has_row n (unseen r.last (rows_of r shown))) (ap (has_row n) ((f.unbegun back).pages (rows_of r shown)) ∙ row_there r.only (rows_of r shown) n q)
+
+-- the fit and the rest of another race over the same reader
+abbrev pub Stays : Raced → Shown → Raced → Type 0
+Stays r shown new = RaceFits new shown × (rest new shown ≡ rest r shown)
+
+pub gone_stays : (h : Happening) (r : Raced) (shown : Shown) → racing r.control ≡ true → Leads r (next_control BackgroundOnly r.control h) → RaceFits r shown → Stays r shown (gone h r)
+gone_stays h r shown back leads f = by (next_control BackgroundOnly r.control h) (gone h r).trace leads
+  where
+    by : (c : Control) (t : Trace) → Leads r c → Stays r shown (record r { control = c; trace = t })
+    by c t (inl l) = subst (λ (x : Control). Stays r shown (record r { control = x; trace = t })) (sym l.0) (to_list r t shown back l.1 f)
+    by c t (inr e) = subst (λ (x : Control). Stays r shown (record r { control = x; trace = t })) (sym e) (to_table r t shown back f)
+
+-- where happenings lead that end the background
+
+pub ended_leads : (r : Raced) → racing r.control ≡ true → IsSome r.list → Leads r (next_control BackgroundOnly r.control (ScanEnded false true))
+ended_leads r back some = inl (ap (λ (c : Control). next_control BackgroundOnly c (ScanEnded false true)) (is_racing r.control back), some)
+
+pub dropped_leads : (r : Raced) → racing r.control ≡ true → Leads r (next_control BackgroundOnly r.control (Ruled AbandonScan false (is_some r.list)))
+dropped_leads r back = subst (λ (c : Control). Leads r (next_control BackgroundOnly c (Ruled AbandonScan false (is_some r.list)))) (sym (is_racing r.control back)) (by r.list refl)
+  where
+    by : (l : Option (List ℕ)) → r.list ≡ l → Leads r (next_control BackgroundOnly BackgroundAlone (Ruled AbandonScan false (is_some l)))
+    by None e = inr refl
+    by (Some keys) e = inl (refl, ap is_some e)
+
+pub stopped_leads : (r : Raced) (goes : Bool) → racing r.control ≡ true → Leads r (next_control BackgroundOnly r.control (Ruled AbandonBackground goes (is_some r.list)))
+stopped_leads r goes back = subst (λ (c : Control). Leads r (next_control BackgroundOnly c (Ruled AbandonBackground goes (is_some r.list)))) (sym (is_racing r.control back)) (by goes r.list refl)
+  where
+    by : (goes : Bool) (l : Option (List ℕ)) → r.list ≡ l → Leads r (next_control BackgroundOnly BackgroundAlone (Ruled AbandonBackground goes (is_some l)))
+    by true None e = inr refl
+    by false None e = inr refl
+    by true (Some keys) e = inl (refl, ap is_some e)
+    by false (Some keys) e = inl (refl, ap is_some e)
+
+-- what holds where another scan goes on, and where the background ends, holds where a scan is over
+pub over_as : (P : Raced → Type 0) (happening : Bool → Happening) (r : Raced) → (more r ≡ true → P (going_on r)) → (more r ≡ false → P (gone (happening false) r)) → P (over (more r) (happening (more r)) r)
+over_as P happening r on off = elim (more r) as (λ b. more r ≡ b → P (over b (happening b) r)) [
+  | true ↦ on
+  | false ↦ off
+] refl

@@ -1,0 +1,162 @@
+-- What a take leaves.
+use Rattle.std.proofs.Common.{◌≡◌, Bool, true, false, not, ◌&&◌, List, refl, ap, sym, ◌∙◌, arith, subst, is_some, Result, Ok, Err, IfOk, OnErr}
+use Rattle.std.specs.Prelude.{if◌then◌else◌}
+use Rattle.rv_judge.specs.declared.counting.Counts.{Counts}
+use Rattle.rv_judge.specs.declared.events.Trace.{Trace}
+use Rattle.rv_judge.specs.Counting.{leaf_read}
+use Rattle.rv_judge.specs.Tracing.{counted}
+use Rattle.rv_reader.specs.Shown.{Shown}
+use Rattle.rv_jscan.specs.declared.piece.PieceId.{PieceId}
+use Rattle.rv_jscan.specs.declared.jscan.ScanPlan.{ScanPlan}
+use Rattle.rv_jscan.specs.declared.jscan.ScanCounts.{ScanCounts}
+use Rattle.rv_jscan.specs.Joint.{CanMake}
+use Rattle.rv_jscan.specs.Lanes.{IsOwn, LaneFits, Laned, leaf_once}
+use Rattle.rv_jscan.specs.Pieces.{Pieced}
+use Rattle.rv_race.specs.Given.{Awaits, TakesLeaf, awaited, counts_read, holding, next_id, one_leaf, piece_read, reads_leaf, turn_lane, turn_plan, turn_scan, with_lane}
+use Rattle.rv_race.specs.Opened.{Steady}
+use Rattle.rv_race.specs.Raced.{RaceFits, Raced, SameRace, racing, rest}
+use Rattle.rv_race.specs.Runs.{Tells}
+use Rattle.rv_race.proofs.Switches.{moved_fits}
+use Rattle.rv_race.proofs.Tellings.{aside_tells}
+
+-- The leaf that is still to be read is counted, and then the scan of the turn takes.
+
+abbrev pub read_mid : Raced → Raced
+read_mid r = record r { counts = counts_read r }
+
+-- it stands elsewhere in its index
+abbrev pub takes : Raced → Raced → Type 0
+takes mid new = new ≡ with_lane (record (turn_lane mid) { held = (turn_lane new).held }) mid
+
+pub took_same : (old mid new : Raced) → mid ≡ read_mid old → takes mid new → new ≡ record (holding (turn_lane new).held old) { counts = counts_read old }
+took_same old mid new m n = n ∙ ap (λ (x : Raced). with_lane (record (turn_lane x) { held = (turn_lane new).held }) x) m
+
+pub took_trace : (old mid new : Raced) → mid ≡ read_mid old → takes mid new → new.trace ≡ old.trace
+took_trace old mid new m n = ap (λ (x : Raced). x.trace) (took_same old mid new m n)
+
+pub took_leaves : (old mid new : Raced) → racing old.control ≡ true → mid ≡ read_mid old → takes mid new → (is_some (turn_lane mid).held ≡ true → new ≡ mid) → TakesLeaf old new
+took_leaves old mid new back m n h = record {
+  same = took_same old mid new m n ∙ ap (λ (t : Trace). record (holding (turn_lane new).held old) { counts = counts_read old; trace = t }) (sym (took_trace old mid new m n));
+  none = λ unread. ap (λ (x : Raced). x.running) (h (ap (λ (x : Raced). is_some (turn_lane x).held) m ∙ held_if (racing old.control) (is_some (turn_lane old).held) back unread) ∙ m);
+}
+  where
+    held_if : (w h : Bool) → w ≡ true → (w && not h) ≡ false → h ≡ true
+    held_if w h way unread = grind arith
+
+pub took_can : (old mid : Raced) (shown : Shown) → mid ≡ read_mid old → RaceFits old shown → CanMake (turn_plan mid) shown mid.snap
+took_can old mid shown m f = subst (λ (x : Raced). CanMake (turn_plan x) shown x.snap) (sym m) (f.plans.each (turn_scan old) f.running.turn.there)
+
+pub took_lane : (old mid : Raced) (shown : Shown) → mid ≡ read_mid old → RaceFits old shown → LaneFits (turn_plan mid) shown mid.snap (turn_lane mid)
+took_lane old mid shown m f = subst (λ (x : Raced). LaneFits (turn_plan x) shown x.snap (turn_lane x)) (sym m) f.running.turn.lane
+
+pub took_fits : (old mid new : Raced) (shown : Shown) → racing old.control ≡ true → mid ≡ read_mid old → takes mid new → LaneFits (turn_plan mid) shown mid.snap (turn_lane new) → RaceFits old shown → RaceFits new shown
+took_fits old mid new shown back m n l f =
+    let held = (turn_lane new).held in
+    let same = took_same old mid new m n in
+    let lane : LaneFits (turn_plan old) shown old.snap (record (turn_lane old) { held = held }) = subst (λ (x : Laned). LaneFits (turn_plan old) shown old.snap x) (ap turn_lane same) (subst (λ (x : Raced). LaneFits (turn_plan x) shown x.snap (turn_lane new)) m l) in
+    let next = record (holding held old) { counts = counts_read old } in
+    let fits : RaceFits next shown = moved_fits old next shown refl back f (record {
+      turn = record { there = f.running.turn.there; lane = lane; builds = f.running.turn.builds };
+      other = f.running.other;
+      unheld = f.running.unheld;
+    }) f.covers in
+    subst (λ (x : Raced). RaceFits x shown) (sym same) fits
+
+pub took_taken : {E : Type 0} (r : Result Pieced E) (old mid new : Raced) (id : PieceId) → racing old.control ≡ true → mid ≡ read_mid old → id ≡ next_id mid → takes mid new → IfOk r (IsOwn (turn_plan mid) id (turn_lane new)) → IfOk r (Awaits new)
+took_taken (Ok p) old mid new id back m is n own =
+    let plan : turn_plan mid ≡ turn_plan new = sym (ap turn_plan n) in
+    let name : next_id mid ≡ next_id new = sym (ap next_id n) in
+    record {
+      under_way = ap (λ (x : Raced). racing x.control) (took_same old mid new m n) ∙ back;
+      own = record { named = own.named ∙ is ∙ name; part = own.part ∙ ap (λ (p : ScanPlan). p.part) plan; entries = own.entries };
+    }
+took_taken (Err e) old mid new id back m is n own = tt
+
+pub took_err : {E : Type 0} (r : Result Pieced E) (old mid new : Raced) → mid ≡ read_mid old → OnErr r (new ≡ mid) → OnErr r (new ≡ read_mid old)
+took_err (Ok p) old mid new m e = tt
+took_err (Err x) old mid new m e = e ∙ m
+
+pub took_reads : (old mid : Raced) (c d : Counts) → racing old.control ≡ true → mid ≡ read_mid old → d ≡ leaf_once (turn_lane mid) c → d ≡ piece_read old c
+took_reads old mid c d back m r = r ∙ ap (λ (x : Raced). leaf_once (turn_lane x) c) m ∙ once (racing old.control) (is_some (turn_lane old).held) back
+  where
+    once : (w h : Bool) → w ≡ true → (if h then c else leaf_read c) ≡ (if (w && not h) then leaf_read c else c)
+    once true true way = refl
+    once true false way = refl
+    once false h way = absurd (cc)
+
+-- the leaf is not held where memory was wanting
+pub took_untaken : {E : Type 0} (r : Result Pieced E) (old new : Raced) → OnErr r (new ≡ read_mid old) → OnErr r ((turn_lane new).held ≡ (turn_lane old).held)
+took_untaken (Ok p) old new e = tt
+took_untaken (Err x) old new e = ap (λ (y : Raced). (turn_lane y).held) e
+
+-- No scan is under way.
+
+pub none_leaves : (r : Raced) → racing r.control ≡ false → TakesLeaf r r
+none_leaves r off = record {
+  same = ap (λ (cs : List ScanCounts). record r { counts = cs }) (sym (ap (λ (b : Bool). if b then one_leaf r else r.counts) unread));
+  none = λ h. refl;
+}
+  where
+    unread : reads_leaf r ≡ false
+    unread = no (racing r.control) (is_some (turn_lane r).held) off
+      where
+        no : (w h : Bool) → w ≡ false → (w && not h) ≡ false
+        no w h o = grind arith
+
+pub none_read : (r : Raced) (c : Counts) → racing r.control ≡ false → c ≡ piece_read r c
+none_read r c off = sym (ap (λ (b : Bool). if b then leaf_read c else c) (no (racing r.control) (is_some (turn_lane r).held) off))
+  where
+    no : (w h : Bool) → w ≡ false → (w && not h) ≡ false
+    no w h o = grind arith
+
+-- What a take keeps.
+
+pub took_parts : (old new : Raced) → TakesLeaf old new → new ≡ record old { counts = new.counts; running = new.running; trace = new.trace }
+took_parts old new t = subst (λ (x : Raced). x ≡ record old { counts = x.counts; running = x.running; trace = x.trace }) (sym t.same) refl
+
+pub took_rest : (old new : Raced) (shown : Shown) → TakesLeaf old new → rest new shown ≡ rest old shown
+took_rest old new shown t = ap (λ (x : Raced). rest x shown) (took_parts old new t)
+
+pub took_race : (old new : Raced) → TakesLeaf old new → SameRace old new
+took_race old new t = subst (SameRace old) (sym (took_parts old new t)) record { table = refl; snap = refl; cursor = refl; opening = refl; only = refl; plans = refl }
+
+pub took_awaits : (old new : Raced) → TakesLeaf old new → awaited new ≡ awaited old
+took_awaits old new t = ap awaited (took_parts old new t)
+
+pub took_tells : (old new : Raced) → TakesLeaf old new → new.trace.events.items ≡ old.trace.events.items → new.trace.strategy ≡ old.trace.strategy → Tells old → Tells new
+took_tells old new t items named tells =
+    let parts = took_parts old new t in
+    aside_tells old new (ap (λ (x : Raced). x.plans) parts) items named (ap (λ (x : Raced). x.list) parts) (ap (λ (x : Raced). x.running.other) t.same) (ap (λ (x : Raced). x.running.next) t.same) (ap turn_scan t.same) (ap (λ (x : Raced). x.control) parts) tells
+
+pub took_steady : (old new : Raced) (shown : Shown) → TakesLeaf old new → new.trace ≡ old.trace → RaceFits new shown → Steady old new shown
+took_steady old new shown t e f = record {
+  same = took_race old new t;
+  counts = record { pages = ap (λ (x : Trace). x.pages) e; leaves = ap (λ (x : Trace). x.leaves) e; fetches = ap (λ (x : Trace). x.fetches) e };
+  fits = f;
+  tells = took_tells old new t (ap (λ (x : Trace). x.events.items) e) (ap (λ (x : Trace). x.strategy) e);
+}
+
+-- What was read is counted.
+
+pub counted_fits : (mid new : Raced) (t : Trace) (shown : Shown) → new ≡ record mid { trace = t } → RaceFits mid shown → RaceFits new shown
+counted_fits mid new t shown e f = subst (λ (x : Raced). RaceFits x shown) (sym e) record {
+  ascend = f.ascend;
+  read = f.read;
+  columns = f.columns;
+  plans = f.plans;
+  running = f.running;
+  covers = f.covers;
+  last = f.last;
+  unbegun = f.unbegun;
+  listed = f.listed;
+  stands = f.stands;
+}
+
+pub counted_tells : (mid new : Raced) (c d : Counts) → new ≡ record mid { trace = counted mid.trace c d } → Tells mid → Tells new
+counted_tells mid new c d e t = subst Tells (sym e) (aside_tells mid (record mid { trace = counted mid.trace c d }) refl refl refl refl refl refl refl refl t)
+
+pub counted_leaves : (old mid new : Raced) (t : Trace) → new ≡ record mid { trace = t } → TakesLeaf old mid → TakesLeaf old new
+counted_leaves old mid new t e l = subst (TakesLeaf old) (sym e) (record { same = ap (λ (x : Raced). record x { trace = t }) l.same; none = l.none })
+
+pub counted_race : (old mid new : Raced) (t : Trace) → new ≡ record mid { trace = t } → SameRace old mid → SameRace old new
+counted_race old mid new t e s = subst (SameRace old) (sym e) record { table = s.table; snap = s.snap; cursor = s.cursor; opening = s.opening; only = s.only; plans = s.plans }
