@@ -188,9 +188,7 @@ pub fn drive<R: Reader>(
             return Ok(Driven { rows, ended });
         }
         let so_far = rows.len();
-        background(
-            alloc, reader, access, judge, way, so_far, &mut hand, steps,
-        )?;
+        background(alloc, reader, access, judge, way, so_far, &mut hand, steps)?;
     }
     Ok(Driven { rows, ended: false })
 }
