@@ -1,4 +1,5 @@
 pub mod Binds
+pub mod Branches
 pub mod Covers
 pub mod Inside
 pub mod Names

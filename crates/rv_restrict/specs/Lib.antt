@@ -1,4 +1,5 @@
 pub mod Bind
+pub mod Branches
 pub mod Groups
 pub mod Limits
 pub mod Parts

@@ -4,6 +4,7 @@
 
 mod atom;
 mod bind;
+mod branch;
 mod part;
 mod range;
 mod truth;

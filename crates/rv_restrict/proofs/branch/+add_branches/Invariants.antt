@@ -1,0 +1,5 @@
+use Rattle.std.proofs.Common.{length}
+use Rattle.rv_restrict.proofs.branch.+add_branches.Given as goal
+
+abbrev pub decreases-add_branches : goal.decreases-add_branches
+decreases-add_branches g l = length l.atoms.now
