@@ -89,6 +89,16 @@ impl Lane {
         self.held.is_some()
     }
 
+    /// Whether no cut follows the leaf that is held, so that its piece is the last of the scan.
+    pub fn is_last(&self) -> bool
+        ensures { is_some (held_next self.now.held) ≡ not result }
+    {
+        match &self.held {
+            Some(held) => held.next.is_none(),
+            None => true,
+        }
+    }
+
     /// The list that is being built, which is not finished.
     pub fn building(&self) -> &KeyList
         ensures keys { result.now.keys ≡ self.now.building }
