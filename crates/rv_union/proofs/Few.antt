@@ -1,0 +1,104 @@
+-- Indexes that stand once among a few are few.
+use Rattle.std.proofs.Common.{◌≡◌, ℕ, ◌+◌, ◌≤◌, List, [], ◌∷◌, ◌++◌, length, Bool, true, false, cond, ◌&&◌, ◌||◌, refl, ap, sym, ◌∙◌, arith, subst, nat_eq}
+use Rattle.std.specs.List.{list_all}
+use Rattle.std.proofs.lemmas.Bool.Decides.{nat_tests}
+use Rattle.std.proofs.lemmas.List.Folds.{list_any-append}
+use Rattle.rv_judge.specs.Runs.{EachOnce, has_index}
+
+pub left_true : (a b : Bool) → (a && b) ≡ true → a ≡ true
+left_true a b h = grind arith
+
+pub right_true : (a b : Bool) → (a && b) ≡ true → b ≡ true
+right_true a b h = grind arith
+
+pub both_true : (a b : Bool) → a ≡ true → b ≡ true → (a && b) ≡ true
+both_true a b h i = grind arith
+
+left_off : (a b : Bool) → (a || b) ≡ false → a ≡ false
+left_off a b h = grind arith
+
+right_off : (a b : Bool) → (a || b) ≡ false → b ≡ false
+right_off a b h = grind arith
+
+number : (a b : ℕ) → nat_eq a b ≡ true → a ≡ b
+number a b h = grind (arith, nat_tests)
+
+flips : (a b : ℕ) → nat_eq a b ≡ nat_eq b a
+flips a b = grind (arith, nat_tests)
+
+either : (a b c : Bool) → (a || b) ≡ true → (a ≡ true → c ≡ true) → (b ≡ true → c ≡ true) → c ≡ true
+either true b c h f g = f refl
+either false b c h f g = g h
+
+-- an index is taken out of others, once
+abbrev without : ℕ → List ℕ → List ℕ
+without i [] = []
+without i (y ∷ ys) = cond (nat_eq y i) ys (y ∷ without i ys)
+
+one_less : (i : ℕ) (ys : List ℕ) → has_index i ys ≡ true → length (without i ys) + 1 ≡ length ys
+one_less i [] h = absurd (cc)
+one_less i (y ∷ ys) h = by (nat_eq y i) refl h
+  where
+    by : (b : Bool) → nat_eq y i ≡ b → (b || has_index i ys) ≡ true → length (cond b ys (y ∷ without i ys)) + 1 ≡ length (y ∷ ys)
+    by true e h = omega arith
+    by false e h = let less = one_less i ys h in omega arith
+
+others_stay : (i k : ℕ) (ys : List ℕ) → nat_eq i k ≡ false → has_index k ys ≡ true → has_index k (without i ys) ≡ true
+others_stay i k [] apart h = h
+others_stay i k (y ∷ ys) apart h = by (nat_eq y i) refl
+  where
+    by : (b : Bool) → nat_eq y i ≡ b → has_index k (cond b ys (y ∷ without i ys)) ≡ true
+    by true e = either (nat_eq y k) (has_index k ys) (has_index k ys) h (λ same. absurd (let bad : true ≡ false = sym same ∙ ap (λ (n : ℕ). nat_eq n k) (number y i e) ∙ apart in cc)) (λ there. there)
+    by false e = either (nat_eq y k) (has_index k ys) (nat_eq y k || has_index k (without i ys)) h (λ same. first (nat_eq y k) (has_index k (without i ys)) same) (λ there. second (nat_eq y k) (has_index k (without i ys)) (others_stay i k ys apart there))
+
+    first : (a b : Bool) → a ≡ true → (a || b) ≡ true
+    first a b h = grind arith
+
+    second : (a b : Bool) → b ≡ true → (a || b) ≡ true
+    second a b h = grind arith
+
+all_stay : (i : ℕ) (xs ys : List ℕ) → has_index i xs ≡ false → list_all (λ k. has_index k ys) xs ≡ true → list_all (λ k. has_index k (without i ys)) xs ≡ true
+all_stay i [] ys apart h = refl
+all_stay i (x ∷ xs) ys apart h = both_true (has_index x (without i ys)) (list_all (λ k. has_index k (without i ys)) xs) (others_stay i x ys (flips i x ∙ left_off (nat_eq x i) (has_index i xs) apart) (left_true (has_index x ys) (list_all (λ k. has_index k ys) xs) h)) (all_stay i xs ys (right_off (nat_eq x i) (has_index i xs) apart) (right_true (has_index x ys) (list_all (λ k. has_index k ys) xs) h))
+
+pub few : (xs ys : List ℕ) → EachOnce xs → list_all (λ k. has_index k ys) xs ≡ true → length xs ≤ length ys
+few [] ys once h = omega arith
+few (x ∷ xs) ys once h =
+    let there = left_true (has_index x ys) (list_all (λ k. has_index k ys) xs) h in
+    let one = one_less x ys there in
+    let rest = few xs (without x ys) once.1 (all_stay x xs ys once.0 (right_true (has_index x ys) (list_all (λ k. has_index k ys) xs) h)) in
+    omega arith
+
+-- an index among others has what each of them has
+pub at_index : (p : ℕ → Bool) (i : ℕ) (ys : List ℕ) → list_all p ys ≡ true → has_index i ys ≡ true → p i ≡ true
+at_index p i [] all h = absurd (cc)
+at_index p i (y ∷ ys) all h = either (nat_eq y i) (has_index i ys) (p i) h (λ same. ap p (sym (number y i same)) ∙ left_true (p y) (list_all p ys) all) (λ there. at_index p i ys (right_true (p y) (list_all p ys) all) there)
+
+pub all_among : (xs ys zs : List ℕ) → list_all (λ k. has_index k ys) xs ≡ true → list_all (λ k. has_index k zs) ys ≡ true → list_all (λ k. has_index k zs) xs ≡ true
+all_among [] ys zs h all = refl
+all_among (x ∷ xs) ys zs h all = both_true (has_index x zs) (list_all (λ k. has_index k zs) xs) (at_index (λ k. has_index k zs) x ys all (left_true (has_index x ys) (list_all (λ k. has_index k ys) xs) h)) (all_among xs ys zs (right_true (has_index x ys) (list_all (λ k. has_index k ys) xs) h) all)
+
+-- one more
+
+pub index_append : (i : ℕ) (xs ys : List ℕ) → has_index i (xs ++ ys) ≡ (has_index i xs || has_index i ys)
+index_append i xs ys = list_any-append (λ (k : ℕ). nat_eq k i) xs ys
+
+pub once_push : (xs : List ℕ) (i : ℕ) → EachOnce xs → has_index i xs ≡ false → EachOnce (xs ++ i ∷ [])
+once_push [] i once off = (refl, tt)
+once_push (x ∷ xs) i once off = (index_append x xs (i ∷ []) ∙ none (has_index x xs) (nat_eq i x) once.0 (flips i x ∙ left_off (nat_eq x i) (has_index i xs) off), once_push xs i once.1 (right_off (nat_eq x i) (has_index i xs) off))
+  where
+    none : (a b : Bool) → a ≡ false → b ≡ false → (a || (b || false)) ≡ false
+    none a b h k = grind arith
+
+pub pushed_there : (xs : List ℕ) (i : ℕ) → has_index i (xs ++ i ∷ []) ≡ true
+pushed_there xs i = index_append i xs (i ∷ []) ∙ last (has_index i xs) (nat_eq i i) (itself i)
+  where
+    itself : (n : ℕ) → nat_eq n n ≡ true
+    itself n = grind (arith, nat_tests)
+
+    last : (a b : Bool) → b ≡ true → (a || (b || false)) ≡ true
+    last a b h = grind arith
+
+pub some_index : (i : ℕ) (xs : List ℕ) → has_index i xs ≡ true → 1 ≤ length xs
+some_index i [] h = absurd (cc)
+some_index i (x ∷ xs) h = omega arith

@@ -1,0 +1,12 @@
+pub mod Joins
+pub mod Fits
+pub mod Switches
+pub mod Gives
+pub mod Few
+pub mod Tellings
+pub mod Efforts
+pub mod Takes
+pub mod Finals
+pub mod Openings
+pub mod Lanes
+pub mod Stepped

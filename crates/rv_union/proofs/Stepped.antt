@@ -1,0 +1,152 @@
+-- What a step does and keeps, and what it reads is counted.
+use Rattle.std.proofs.Common.{◌≡◌, ℕ, ◌-◌, ◌<◌, ◌≤◌, [], refl, ap, sym, ◌∙◌, arith, subst, Result, Ok, Err, IfOk, OnErr}
+use Rattle.rv_judge.specs.declared.counting.Counts.{Counts}
+use Rattle.rv_judge.specs.declared.events.Control.{Control}
+use Rattle.rv_judge.specs.declared.events.Control.TheVariants.{BackgroundAlone, FinalList, FinalTable, Done}
+use Rattle.rv_judge.specs.declared.events.Trace.{Trace}
+use Rattle.rv_judge.specs.declared.judging.Facts.{Facts}
+use Rattle.rv_judge.specs.Counting.{page_read, raised, record_read}
+use Rattle.rv_judge.specs.Tracing.{CountsRise, SameCounts, counted}
+use Rattle.rv_judge.specs.Verdicts.{Ruling}
+use Rattle.rv_reader.specs.Shown.{Shown}
+use Rattle.rv_scan.specs.Reads.{OneAtMost}
+use Rattle.rv_scan.specs.declared.skip.Scanned.{Scanned}
+use Rattle.rv_scan.specs.declared.skip.Scanned.TheVariants.{Found, Working, End}
+use Rattle.rv_jscan.specs.declared.jscan.Given.{Given}
+use Rattle.rv_jscan.specs.Pieces.{Pieced}
+use Rattle.rv_final.specs.Rest.{Steps}
+use Rattle.rv_final.specs.Work.{Falls, Tries}
+use Rattle.rv_union.specs.Effort.{effort, keys_work}
+use Rattle.rv_union.specs.Given.{Answers, TakesLeaf, holding, piece_read}
+use Rattle.rv_union.specs.Opened.{Does, DoesAs, DoesStep, EndsIn, MayRead, OnlyTakes, Steady, StepsAs}
+use Rattle.rv_union.specs.Unioned.{UnionFits, Unioned, rest}
+use Rattle.rv_union.specs.Rulings.{GivesOn}
+use Rattle.rv_union.proofs.Finals.{done_rest}
+use Rattle.rv_union.proofs.Gives.{gives_keep, gives_kin}
+use Rattle.rv_union.proofs.Tellings.{gives_tell}
+
+pub kept_if_not : {X E : Type 0} (r : Result X E) (P : Type 0) → P → OnErr r P
+kept_if_not (Ok x) P p = tt
+kept_if_not (Err e) P p = p
+
+pub below : (a b c : ℕ) → c < b → b ≤ a → c < a
+below a b c l m = omega arith
+
+-- A step that takes a piece and gives it.
+
+pub gave_steady : {E : Type 0} (r : Result Given E) (would : ℕ → Facts → Ruling) (state after : ℕ) (piece : Pieced) (old mid new : Unioned) (shown : Shown) → Steady old mid shown → IfOk r (λ g. Answers mid piece g new) → IfOk r (λ g. GivesOn would state after piece g mid new) → OnErr r (new ≡ mid) → Steady old new shown
+gave_steady r would state after piece old mid new shown s a o e =
+    let k = gives_kin r would state after piece mid new o e in
+    let keeps = gives_keep r would state after piece mid new a o e in
+    record {
+      same = record { table = k.same.table ∙ s.same.table; snap = k.same.snap ∙ s.same.snap; cursor = k.same.cursor ∙ s.same.cursor; opening = k.same.opening ∙ s.same.opening; only = k.same.only ∙ s.same.only; plans = k.same.plans ∙ s.same.plans };
+      counts = record { pages = k.counts.pages ∙ s.counts.pages; leaves = k.counts.leaves ∙ s.counts.leaves; fetches = k.counts.fetches ∙ s.counts.fetches };
+      fits = keeps.fits shown s.fits;
+      tells = λ t. gives_tell r would state after piece mid new a o e (s.tells t);
+    }
+
+pub background_read : (r : Unioned) (c d : Counts) → r.control ≡ BackgroundAlone → d ≡ piece_read r c → MayRead r.control r c d
+background_read r c d e read = subst (λ (x : Control). MayRead x r c d) (sym e) read
+
+pub list_read : (r : Unioned) (c d : Counts) → r.control ≡ FinalList → OneAtMost record_read c d → MayRead r.control r c d
+list_read r c d e read = subst (λ (x : Control). MayRead x r c d) (sym e) read
+
+pub table_read : (r : Unioned) (c d : Counts) → r.control ≡ FinalTable → OneAtMost page_read c d → MayRead r.control r c d
+table_read r c d e read = subst (λ (x : Control). MayRead x r c d) (sym e) read
+
+-- Nothing is left.
+
+pub done_read : (r : Unioned) (c : Counts) → r.control ≡ Done → MayRead r.control r c c
+done_read r c e = subst (λ (x : Control). MayRead x r c c) (sym e) refl
+
+pub done_does : (would : ℕ → Facts → Ruling) (state : ℕ) (r : Unioned) (shown : Shown) (c : Counts) → r.control ≡ Done → Does would state state shown c c End r r
+done_does would state r shown c e = subst (λ (x : Control). DoesAs x would state state shown c c End r r) (sym e) (refl, refl, refl, refl)
+
+pub done_rest_twice : (r : Unioned) (shown : Shown) → r.control ≡ Done → (rest r shown ≡ []) × (rest r shown ≡ [])
+done_rest_twice r shown e = (done_rest r shown e, done_rest r shown e)
+
+pub done_tries : (c : Counts) (n : ℕ) → Tries c c n n
+done_tries c n = record { once = omega arith; less = omega arith }
+
+pub stays_steady : (r : Unioned) (shown : Shown) → UnionFits r shown → Steady r r shown
+stays_steady r shown f = record {
+  same = record { table = refl; snap = refl; cursor = refl; opening = refl; only = refl; plans = refl };
+  counts = record { pages = refl; leaves = refl; fetches = refl };
+  fits = f;
+  tells = λ t. t;
+}
+
+-- What was read is counted.
+
+pub counted_does : {E : Type 0} (r : Result Scanned E) (would : ℕ → Facts → Ruling) (state after : ℕ) (shown : Shown) (c d : Counts) (old mid new : Unioned) → IfOk r (λ s. Does would state after shown c d s old mid) → new ≡ record mid { trace = counted mid.trace c d } → IfOk r (λ s. StepsAs would state after shown c d s old new)
+counted_does (Ok s) would state after shown c d old mid new does e = record { stepped = mid; does = does; counts = e }
+counted_does (Err x) would state after shown c d old mid new does e = tt
+
+pub step_if : {E : Type 0} (r : Result Scanned E) (old mid new : Unioned) (t : Trace) (shown : Shown) → new ≡ record mid { trace = t } → IfOk r (DoesStep old mid shown) → IfOk r (DoesStep old new shown)
+step_if (Ok s) old mid new t shown e step = λ need. subst (λ (x : Unioned). Steps need [] s (rest old shown) (rest x shown)) (sym e) (step need)
+step_if (Err x) old mid new t shown e step = tt
+
+pub ends_if : {E : Type 0} (r : Result Scanned E) (mid new : Unioned) (t : Trace) → new ≡ record mid { trace = t } → IfOk r (EndsIn mid) → IfOk r (EndsIn new)
+ends_if (Ok s) mid new t e ends = by s ends
+  where
+    by : (s : Scanned) → EndsIn mid s → EndsIn new s
+    by (Found x) h = tt
+    by Working h = tt
+    by End h = ap (λ (x : Unioned). x.control) e ∙ h
+ends_if (Err x) mid new t e ends = tt
+
+pub rest_if : {E : Type 0} (r : Result Scanned E) (old mid new : Unioned) (t : Trace) (shown : Shown) → new ≡ record mid { trace = t } → OnErr r (rest mid shown ≡ rest old shown) → OnErr r (rest new shown ≡ rest old shown)
+rest_if (Ok s) old mid new t shown e h = tt
+rest_if (Err x) old mid new t shown e h = ap (λ (y : Unioned). rest y shown) e ∙ h
+
+pub counted_tries : (c d : Counts) (old : ℕ) (mid new : Unioned) (t : Trace) (shown : Shown) → new ≡ record mid { trace = t } → Tries c d old (effort mid shown) → Tries c d old (effort new shown)
+counted_tries c d old mid new t shown e tries = subst (λ (x : Unioned). Tries c d old (effort x shown)) (sym e) tries
+
+pub falls_if : {E : Type 0} (r : Result Scanned E) (c d : Counts) (old : ℕ) (mid new : Unioned) (t : Trace) (shown : Shown) → new ≡ record mid { trace = t } → IfOk r (λ s. Falls s c d old (effort mid shown)) → IfOk r (λ s. Falls s c d old (effort new shown))
+falls_if (Ok s) c d old mid new t shown e falls = subst (λ (x : Unioned). Falls s c d old (effort x shown)) (sym e) falls
+falls_if (Err x) c d old mid new t shown e falls = tt
+
+pub counts_rise : (old mid new : Unioned) (c d : Counts) → SameCounts old.trace mid.trace → new ≡ record mid { trace = counted mid.trace c d } → CountsRise old.trace new.trace c d
+counts_rise old mid new c d s e = subst (λ (x : Unioned). CountsRise old.trace x.trace c d) (sym e) record {
+  pages = ap (λ (n : ℕ). raised n (d.pages - c.pages)) s.pages;
+  leaves = ap (λ (n : ℕ). raised n (d.leaves - c.leaves)) s.leaves;
+  fetches = ap (λ (n : ℕ). raised n (d.records - c.records)) s.fetches;
+}
+
+-- What a step leaves that found no memory.
+
+pub only_itself : (r : Unioned) → OnlyTakes r r
+only_itself r = record { same = refl; events = refl; fewer = omega arith }
+
+pub only_if : {X E : Type 0} (x : Result X E) (old new : Unioned) → OnErr x (new ≡ old) → OnErr x (OnlyTakes old new)
+only_if (Ok y) old new e = tt
+only_if (Err y) old new e = subst (OnlyTakes old) (sym e) (only_itself old)
+
+-- the awaited leaf was taken, or it was tried
+pub only_took : (old mid : Unioned) → TakesLeaf old mid → mid.trace ≡ old.trace → OnlyTakes old mid
+only_took old mid t e = record {
+  same = subst (λ (x : Unioned). x ≡ record (holding x.lane.held old) { count = x.count; at = x.at; trace = x.trace }) (sym t.same) refl;
+  events = ap (λ (x : Trace). x.events) e;
+  fewer = subst (λ (n : ℕ). n ≤ keys_work old) (sym (ap keys_work t.same)) (omega arith);
+}
+
+pub only_gave : {X E : Type 0} (x : Result X E) (old mid new : Unioned) → TakesLeaf old mid → mid.trace ≡ old.trace → OnErr x (new ≡ mid) → OnErr x (OnlyTakes old new)
+only_gave (Ok y) old mid new t e n = tt
+only_gave (Err y) old mid new t e n = subst (OnlyTakes old) (sym n) (only_took old mid t e)
+
+-- keys may have been passed
+pub only_at_keys : (old new : Unioned) (c d : Counts) → new ≡ record old { at = new.at } → Tries c d (keys_work old) (keys_work new) → OnlyTakes old new
+only_at_keys old new c d e t = record {
+  same = subst (λ (x : Unioned). x ≡ record (holding x.lane.held old) { count = x.count; at = x.at; trace = x.trace }) (sym e) refl;
+  events = ap (λ (x : Unioned). x.trace.events) e;
+  fewer = t.less;
+}
+
+-- what was read is counted
+pub only_counted : {X E : Type 0} (x : Result X E) (old mid new : Unioned) (c d : Counts) → new ≡ record mid { trace = counted mid.trace c d } → OnErr x (OnlyTakes old mid) → OnErr x (OnlyTakes old new)
+only_counted (Ok y) old mid new c d e o = tt
+only_counted (Err y) old mid new c d e o = record {
+  same = subst (λ (x : Unioned). x ≡ record (holding x.lane.held old) { count = x.count; at = x.at; trace = x.trace }) (sym e) (ap (λ (x : Unioned). record x { trace = counted mid.trace c d }) o.same);
+  events = ap (λ (x : Unioned). x.trace.events) e ∙ o.events;
+  fewer = subst (λ (n : ℕ). n ≤ keys_work old) (sym (ap keys_work e)) o.fewer;
+}

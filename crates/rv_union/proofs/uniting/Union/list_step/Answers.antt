@@ -1,0 +1,91 @@
+use Rattle.std.proofs.Common.{◌≡◌, ◌∙◌, ap, inl}
+use Rattle.rv_judge.specs.declared.events.Control.TheVariants.{FinalList}
+use Rattle.rv_scan.specs.declared.skip.Scanned.TheVariants.{Found, Working, End}
+use Rattle.rv_union.specs.Unioned.{Unioned}
+use Rattle.rv_union.proofs.Finals.{ended_steady, ended_step, ended_tries, ends_done, list_does, list_falls, list_over, list_scanned, list_steady, list_tries, passed_rest}
+use Rattle.rv_union.proofs.Stepped.{only_at_keys, kept_if_not, list_read}
+use Rattle.rv_union.proofs.uniting.Union.list_step.Goals as goal
+
+pub returns-in-Found-clause-does : goal.returns-in-Found-clause-does
+returns-in-Found-clause-does g c rules stands = list_does rules stands c.args.self.now c.scan_list.new.self (g.R.Reader.shown c.args.reader.now) c.args.steps.now c.scan_list.new.steps (Found c.in-Found.row) c.requires.control (rw c.in-Found.is at c.in_ok-row.ensures.fetches) c.scan_list.ensures.same
+
+pub returns-in-Found-clause-steady : goal.returns-in-Found-clause-steady
+returns-in-Found-clause-steady g c = list_steady c.args.self.now c.scan_list.new.self (g.R.Reader.shown c.args.reader.now) c.requires.control c.scan_list.ensures.same c.requires.fits
+
+pub returns-in-Found-clause-step : goal.returns-in-Found-clause-step
+returns-in-Found-clause-step g c = list_scanned c.args.self.now c.scan_list.new.self (g.R.Reader.shown c.args.reader.now) (Found c.in-Found.row) c.requires.control c.scan_list.ensures.same c.requires.fits (λ need. rw c.in-Found.is at (c.in_ok-row.ensures.marks need))
+
+pub returns-in-Found-clause-tries : goal.returns-in-Found-clause-tries
+returns-in-Found-clause-tries g c = list_tries c.args.self.now c.scan_list.new.self (g.R.Reader.shown c.args.reader.now) c.args.steps.now c.scan_list.new.steps c.requires.control c.scan_list.ensures.same c.scan_list.ensures.tries
+
+pub returns-in-Found-clause-falls : goal.returns-in-Found-clause-falls
+returns-in-Found-clause-falls g c = list_falls c.args.self.now c.scan_list.new.self (g.R.Reader.shown c.args.reader.now) (Found c.in-Found.row) c.args.steps.now c.scan_list.new.steps c.requires.control c.scan_list.ensures.same (rw c.in-Found.is at c.in_ok-row.ensures.falls)
+
+pub returns-in-Found-clause-may_read : goal.returns-in-Found-clause-may_read
+returns-in-Found-clause-may_read g c = list_read c.args.self.now _ _ c.requires.control c.scan_list.ensures.may_read
+
+pub returns-in-Working-clause-does : goal.returns-in-Working-clause-does
+returns-in-Working-clause-does g c rules stands = list_does rules stands c.args.self.now c.scan_list.new.self (g.R.Reader.shown c.args.reader.now) c.args.steps.now c.scan_list.new.steps Working c.requires.control (rw c.in-Working.is at c.in_ok-row.ensures.fetches) c.scan_list.ensures.same
+
+pub returns-in-Working-clause-steady : goal.returns-in-Working-clause-steady
+returns-in-Working-clause-steady g c = list_steady c.args.self.now c.scan_list.new.self (g.R.Reader.shown c.args.reader.now) c.requires.control c.scan_list.ensures.same c.requires.fits
+
+pub returns-in-Working-clause-step : goal.returns-in-Working-clause-step
+returns-in-Working-clause-step g c = list_scanned c.args.self.now c.scan_list.new.self (g.R.Reader.shown c.args.reader.now) Working c.requires.control c.scan_list.ensures.same c.requires.fits (λ need. rw c.in-Working.is at (c.in_ok-row.ensures.marks need))
+
+pub returns-in-Working-clause-tries : goal.returns-in-Working-clause-tries
+returns-in-Working-clause-tries g c = list_tries c.args.self.now c.scan_list.new.self (g.R.Reader.shown c.args.reader.now) c.args.steps.now c.scan_list.new.steps c.requires.control c.scan_list.ensures.same c.scan_list.ensures.tries
+
+pub returns-in-Working-clause-falls : goal.returns-in-Working-clause-falls
+returns-in-Working-clause-falls g c = list_falls c.args.self.now c.scan_list.new.self (g.R.Reader.shown c.args.reader.now) Working c.args.steps.now c.scan_list.new.steps c.requires.control c.scan_list.ensures.same (rw c.in-Working.is at c.in_ok-row.ensures.falls)
+
+pub returns-in-Working-clause-may_read : goal.returns-in-Working-clause-may_read
+returns-in-Working-clause-may_read g c = list_read c.args.self.now _ _ c.requires.control c.scan_list.ensures.may_read
+
+pub returns-in-End-clause-does : goal.returns-in-End-clause-does
+returns-in-End-clause-does g c rules stands = list_does rules stands c.args.self.now c.go.new.self (g.R.Reader.shown c.args.reader.now) c.args.steps.now c.scan_list.new.steps End c.requires.control (rw c.in-End.is at c.in_ok-row.ensures.fetches) (list_over c.args.self.now c.scan_list.new.self c.go.new.self c.scan_list.ensures.same c.go.ensures)
+
+pub returns-in-End-clause-steady : goal.returns-in-End-clause-steady
+returns-in-End-clause-steady g c =
+    let shown = g.R.Reader.shown c.args.reader.now in
+    let mid = c.scan_list.new.self in
+    let control : mid.control ≡ FinalList = ap (λ (x : Unioned). x.control) c.scan_list.ensures.same ∙ c.requires.control in
+    ended_steady c.args.self.now mid c.go.new.self shown (inl control) c.go.ensures (list_steady c.args.self.now mid shown c.requires.control c.scan_list.ensures.same c.requires.fits)
+
+pub returns-in-End-clause-step : goal.returns-in-End-clause-step
+returns-in-End-clause-step g c =
+    let shown = g.R.Reader.shown c.args.reader.now in
+    let mid = c.scan_list.new.self in
+    let control : mid.control ≡ FinalList = ap (λ (x : Unioned). x.control) c.scan_list.ensures.same ∙ c.requires.control in
+    ended_step c.args.self.now mid c.go.new.self shown (inl control) c.go.ensures (list_scanned c.args.self.now mid shown End c.requires.control c.scan_list.ensures.same c.requires.fits (λ need. rw c.in-End.is at (c.in_ok-row.ensures.marks need)))
+
+pub returns-in-End-clause-ends : goal.returns-in-End-clause-ends
+returns-in-End-clause-ends g c =
+    let mid = c.scan_list.new.self in
+    let control : mid.control ≡ FinalList = ap (λ (x : Unioned). x.control) c.scan_list.ensures.same ∙ c.requires.control in
+    ends_done mid c.go.new.self (inl control) c.go.ensures
+
+pub returns-in-End-clause-tries : goal.returns-in-End-clause-tries
+returns-in-End-clause-tries g c =
+    let shown = g.R.Reader.shown c.args.reader.now in
+    let mid = c.scan_list.new.self in
+    let control : mid.control ≡ FinalList = ap (λ (x : Unioned). x.control) c.scan_list.ensures.same ∙ c.requires.control in
+    ended_tries mid c.go.new.self shown c.args.steps.now c.scan_list.new.steps _ (inl control) c.go.ensures (list_tries c.args.self.now mid shown c.args.steps.now c.scan_list.new.steps c.requires.control c.scan_list.ensures.same c.scan_list.ensures.tries)
+
+pub returns-in-End-clause-may_read : goal.returns-in-End-clause-may_read
+returns-in-End-clause-may_read g c = list_read c.args.self.now _ _ c.requires.control c.scan_list.ensures.may_read
+
+pub returns-in_err-row-clause-steady : goal.returns-in_err-row-clause-steady
+returns-in_err-row-clause-steady g c = list_steady c.args.self.now c.scan_list.new.self (g.R.Reader.shown c.args.reader.now) c.requires.control c.scan_list.ensures.same c.requires.fits
+
+pub returns-in_err-row-clause-tries : goal.returns-in_err-row-clause-tries
+returns-in_err-row-clause-tries g c = list_tries c.args.self.now c.scan_list.new.self (g.R.Reader.shown c.args.reader.now) c.args.steps.now c.scan_list.new.steps c.requires.control c.scan_list.ensures.same c.scan_list.ensures.tries
+
+pub returns-in_err-row-clause-may_read : goal.returns-in_err-row-clause-may_read
+returns-in_err-row-clause-may_read g c = list_read c.args.self.now _ _ c.requires.control c.scan_list.ensures.may_read
+
+pub returns-in_err-row-clause-err : goal.returns-in_err-row-clause-err
+returns-in_err-row-clause-err g c = kept_if_not _ _ (passed_rest c.args.self.now c.scan_list.new.self (g.R.Reader.shown c.args.reader.now) c.requires.control c.scan_list.ensures.same c.in_err-row.ensures.passed)
+
+pub returns-in_err-row-clause-still : goal.returns-in_err-row-clause-still
+returns-in_err-row-clause-still g c = kept_if_not _ _ (only_at_keys c.args.self.now c.scan_list.new.self _ _ c.scan_list.ensures.same c.scan_list.ensures.tries)

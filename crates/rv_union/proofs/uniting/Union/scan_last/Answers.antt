@@ -1,0 +1,65 @@
+use Rattle.std.proofs.Common.{◌≡◌, ◌∙◌, ℕ, IfOk, List, None, OnErr, ap, subst, sym}
+use Rattle.rv_value.specs.declared.record.Record.{Record}
+use Rattle.rv_scan.specs.Places.{Fits as PlaceFits, work}
+use Rattle.rv_final.specs.Rest.{StepMarks}
+use Rattle.rv_final.specs.Stage.{Staged, own_pages, own_rows, table_left}
+use Rattle.rv_final.specs.Work.{Falls, Tries}
+use Rattle.rv_union.specs.Effort.{table_work}
+use Rattle.rv_union.specs.Unioned.{Unioned, rows_of}
+use Rattle.rv_union.proofs.Finals.{only_last, pages_same, rows_same, stage_err, stage_of, with_stage}
+use Rattle.rv_union.proofs.uniting.Union.scan_last.Goals as goal
+
+pub returns-clause-same : goal.returns-clause-same
+returns-clause-same g c =
+    let s = c.table_step.new.self in
+    subst (λ (r : Unioned). with_stage r s ≡ record c.args.self.now { last = s.last }) (sym c.self.view_is) (only_last c.args.self.now s (c.table_step.ensures.same ∙ ap (λ (r : Unioned). record (stage_of r) { last = s.last }) c.self.view_is))
+
+pub returns-clause-err : goal.returns-clause-err
+returns-clause-err g c =
+    let s = c.table_step.new.self in
+    let same = subst (λ (x : Staged). OnErr c.table_step.result (s ≡ x)) (ap stage_of c.self.view_is) c.table_step.ensures.err in
+    subst (λ (r : Unioned). OnErr c.table_step.result (with_stage r s ≡ c.args.self.now)) (sym c.self.view_is) (stage_err c.table_step.result c.args.self.now s same)
+
+pub returns-clause-last : goal.returns-clause-last
+returns-clause-last g c =
+    let shown = g.R.Reader.shown c.args.reader.now in
+    let r = c.args.self.now in
+    let f = c.requires.fits in
+    let last = c.table_step.new.self.last in
+    record {
+      of_table = subst (λ (x : Unioned). last.table ≡ x.last.table) c.self.view_is c.table_step.ensures.table ∙ f.last.of_table;
+      at_snap = subst (λ (x : Unioned). last.snap ≡ x.last.snap) c.self.view_is c.table_step.ensures.snap ∙ f.last.at_snap;
+      drawn = subst (PlaceFits last) (rows_same r shown f) (subst (λ (x : Unioned). PlaceFits last (own_rows x.last shown)) c.self.view_is c.table_step.ensures.drawn);
+    }
+
+pub returns-clause-marks : goal.returns-clause-marks
+returns-clause-marks g c need =
+    let shown = g.R.Reader.shown c.args.reader.now in
+    let r = c.args.self.now in
+    let last = c.table_step.new.self.last in
+    let own = subst (λ (x : Unioned). IfOk c.table_step.result (λ s. StepMarks need x.only (own_rows x.last shown) s (table_left x.last (own_rows x.last shown) None) (table_left last (own_rows x.last shown) None))) c.self.view_is (c.table_step.ensures.marks need) in
+    subst (λ (rs : List Record). IfOk c.table_step.result (λ s. StepMarks need r.only rs s (table_left r.last rs None) (table_left last rs None))) (rows_same r shown c.requires.fits) own
+
+pub returns-clause-tries : goal.returns-clause-tries
+returns-clause-tries g c =
+    let shown = g.R.Reader.shown c.args.reader.now in
+    let r = c.args.self.now in
+    let last = c.table_step.new.self.last in
+    let before = c.args.steps.now in
+    let after = c.table_step.new.steps in
+    let own = subst (λ (x : Unioned). Tries before after (work x.last (own_rows x.last shown) (own_pages x.last shown)) (work last (own_rows x.last shown) (own_pages x.last shown))) c.self.view_is c.table_step.ensures.tries in
+    let rows = subst (λ (rs : List Record). Tries before after (work r.last rs (own_pages r.last shown)) (work last rs (own_pages r.last shown))) (rows_same r shown c.requires.fits) own in
+    let pages = subst (λ (n : ℕ). Tries before after (work r.last (rows_of r shown) n) (work last (rows_of r shown) n)) (pages_same r shown c.requires.fits) rows in
+    subst (λ (x : Unioned). Tries before after (table_work r shown) (table_work (record x { last = last }) shown)) (sym c.self.view_is) pages
+
+pub returns-clause-falls : goal.returns-clause-falls
+returns-clause-falls g c =
+    let shown = g.R.Reader.shown c.args.reader.now in
+    let r = c.args.self.now in
+    let last = c.table_step.new.self.last in
+    let before = c.args.steps.now in
+    let after = c.table_step.new.steps in
+    let own = subst (λ (x : Unioned). IfOk c.table_step.result (λ s. Falls s before after (work x.last (own_rows x.last shown) (own_pages x.last shown)) (work last (own_rows x.last shown) (own_pages x.last shown)))) c.self.view_is c.table_step.ensures.falls in
+    let rows = subst (λ (rs : List Record). IfOk c.table_step.result (λ s. Falls s before after (work r.last rs (own_pages r.last shown)) (work last rs (own_pages r.last shown)))) (rows_same r shown c.requires.fits) own in
+    let pages = subst (λ (n : ℕ). IfOk c.table_step.result (λ s. Falls s before after (work r.last (rows_of r shown) n) (work last (rows_of r shown) n))) (pages_same r shown c.requires.fits) rows in
+    subst (λ (x : Unioned). IfOk c.table_step.result (λ s. Falls s before after (table_work r shown) (table_work (record x { last = last }) shown))) (sym c.self.view_is) pages

@@ -1,0 +1,9 @@
+use Rattle.std.proofs.Common.{subst, sym}
+use Rattle.rv_judge.specs.Runs.{Allowed}
+use Rattle.rv_union.specs.Unioned.{Unioned}
+use Rattle.rv_union.specs.Runs.{indexes_of}
+use Rattle.rv_union.proofs.Tellings.{allowed}
+use Rattle.rv_union.proofs.uniting.Union.trace.Goals as goal
+
+pub returns-clause-allowed : goal.returns-clause-allowed
+returns-clause-allowed c t = subst (λ (r : Unioned). Allowed r.trace (indexes_of c.args.self.now.plans)) (sym c.self.view_is) (allowed c.args.self.now t)

@@ -1,0 +1,7 @@
+pub mod Unioned
+pub mod Given
+pub mod Rulings
+pub mod Runs
+pub mod Effort
+pub mod Opened
+pub mod Joins

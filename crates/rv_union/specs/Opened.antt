@@ -1,0 +1,141 @@
+-- What a union is opened over, what it then is, and what its steps do.
+use Rattle.std.specs.Prelude.{◌≡◌, ℕ, ◌+◌, ◌≤◌, List, [], length, Some, None}
+use Rattle.rv_rows.specs.Rows.{Ascend}
+use Rattle.rv_value.specs.declared.record.Record.{Record}
+use Rattle.rv_judge.specs.declared.counting.Counts.{Counts}
+use Rattle.rv_judge.specs.declared.events.Control.{Control}
+use Rattle.rv_judge.specs.declared.events.Control.TheVariants.{Building, ForegroundAlone, BackgroundAlone, FinalList, FinalTable, Done}
+use Rattle.rv_judge.specs.declared.events.Event.TheVariants.{At, Scan}
+use Rattle.rv_judge.specs.declared.events.Happening.TheVariants.{FinalEnded}
+use Rattle.rv_judge.specs.declared.events.Strategy.TheVariants.{Union}
+use Rattle.rv_judge.specs.declared.events.Trace.{Trace}
+use Rattle.rv_judge.specs.declared.judging.Facts.{Facts}
+use Rattle.rv_judge.specs.Counting.{page_read, record_read}
+use Rattle.rv_judge.specs.Tracing.{SameCounts, counted, new_trace, noted}
+use Rattle.rv_judge.specs.Verdicts.{Ruling}
+use Rattle.rv_restrict.specs.declared.atom.Atom.{Atom}
+use Rattle.rv_reader.specs.Shown.{Shown, CanRead}
+use Rattle.rv_scan.specs.Due.{HaveColumns}
+use Rattle.rv_scan.specs.Places.{Fits as PlaceFits, PageReads, Place, work}
+use Rattle.rv_scan.specs.Reads.{OneAtMost}
+use Rattle.rv_scan.specs.declared.skip.Scanned.{Scanned}
+use Rattle.rv_scan.specs.declared.skip.Scanned.TheVariants.{Found, Working, End}
+use Rattle.rv_jscan.specs.declared.jscan.ScanPlan.{ScanPlan}
+use Rattle.rv_jscan.specs.declared.jscan.Given.TheVariants.{Accepted}
+use Rattle.rv_jscan.specs.Joint.{no_counts, plan_at}
+use Rattle.rv_jscan.specs.Lanes.{no_lane}
+use Rattle.rv_jscan.specs.Pieces.{Pieced}
+use Rattle.rv_final.specs.Rest.{Steps, qualifies_at}
+use Rattle.rv_final.specs.Stage.{FetchesKey, Unbegun, first_key}
+use Rattle.rv_union.specs.Effort.{keys_work}
+use Rattle.rv_union.specs.Given.{Awaits, TakesLeaf, holding, piece_read}
+use Rattle.rv_union.specs.Rulings.{GivesOn, gone}
+use Rattle.rv_union.specs.Runs.{OfFewIndexes, Tells}
+use Rattle.rv_union.specs.Unioned.{MembersFit, SameUnion, UnionFits, Unioned, rest, rows_of}
+
+-- Members over at most eight indexes can be put together over a table of a reader.
+pub record CanUnite (table snap : ℕ) (only : List (List Atom)) (members : List ScanPlan) (shown : Shown) : Type 0 where
+  pub ascend : Ascend (shown.rows table snap)
+  pub read : CanRead shown table snap
+  pub columns : HaveColumns only (shown.rows table snap)
+  pub members : MembersFit members (qualifies_at only (shown.rows table snap)) shown snap
+  pub few : OfFewIndexes members
+
+-- a union's trace begins with the control and the first member's index
+abbrev pub first_trace : List ScanPlan → Trace
+first_trace members = noted (noted (new_trace Union) (At BackgroundAlone)) (Scan (plan_at members 0).index)
+
+-- before the first piece, over a table of so many pages
+abbrev pub opened : ℕ → ℕ → List (List Atom) → List ScanPlan → ℕ → ℕ → ℕ → ℕ → Place → Unioned
+opened table snap only members cursor opening pages at last = record {
+  table = table;
+  snap = snap;
+  cursor = cursor;
+  opening = opening;
+  only = only;
+  plans = members;
+  member = 0;
+  lane = no_lane;
+  count = no_counts;
+  number = 1;
+  keys = [];
+  control = BackgroundAlone;
+  guaranteed = pages;
+  at = at;
+  last = last;
+  trace = first_trace members;
+}
+
+-- A UNION THAT WAS OPENED: it has read nothing, also not of its final stage
+pub record Opened (table snap : ℕ) (only : List (List Atom)) (members : List ScanPlan) (cursor opening pages : ℕ) (u : Unioned) : Type 0 where
+  pub is : u ≡ opened table snap only members cursor opening pages u.at u.last
+  pub unbegun : Unbegun u.at u.last
+  pub last_table : u.last.table ≡ table
+  pub last_snap : u.last.snap ≡ snap
+  pub drawn : (rows : List Record) → PlaceFits u.last rows
+  pub whole : (rows : List Record) (n : ℕ) → work u.last rows n ≡ length rows + n
+
+-- WHAT EVERY STEP KEEPS, whatever it answers. It writes no counts into the trace; its caller does.
+pub record Steady (old new : Unioned) (shown : Shown) : Type 0 where
+  pub same : SameUnion old new
+  pub counts : SameCounts old.trace new.trace
+  pub fits : UnionFits new shown
+  pub tells : Tells old → Tells new
+
+-- WHAT A STEP DOES TO THE REST: it takes one record out, or leaves it, or it is empty
+abbrev pub DoesStep : Unioned → Unioned → Shown → Scanned → Type 0
+DoesStep old new shown scanned = (need : List ℕ) → Steps need [] scanned (rest old shown) (rest new shown)
+
+-- an end leads to the last control
+abbrev pub EndsIn : Unioned → Scanned → Type 0
+EndsIn u (Found record_found) = Unit {0}
+EndsIn u Working = Unit {0}
+EndsIn u End = u.control ≡ Done
+
+-- a source at its end leads to the last control
+abbrev pub ended_by : Scanned → Unioned → Unioned
+ended_by (Found record_found) u = u
+ended_by Working u = u
+ended_by End u = gone FinalEnded u
+
+-- the awaited piece is taken, sieved and given
+pub record OnePiece (would : ℕ → Facts → Ruling) (state after : ℕ) (old new : Unioned) : Type 0 where
+  pub taken : Unioned
+  pub piece : Pieced
+  pub leaves : TakesLeaf old taken
+  pub awaits : Awaits taken piece
+  pub obeys : GivesOn would state after piece Accepted taken new
+
+-- WHAT A STEP DOES AND READS, by the control: one piece, upon which the judge is asked and obeyed as by a give; the fetch of
+-- the next key of the list; a step through the table; or nothing
+abbrev pub DoesAs : Control → (ℕ → Facts → Ruling) → ℕ → ℕ → Shown → Counts → Counts → Scanned → Unioned → Unioned → Type 0
+DoesAs Building would state after shown c d s old new = ⊥
+DoesAs ForegroundAlone would state after shown c d s old new = ⊥
+DoesAs BackgroundAlone would state after shown c d s old new = (s ≡ Working) × OnePiece would state after old new × (d ≡ piece_read old c)
+DoesAs FinalList would state after shown c d s old new = (after ≡ state) × FetchesKey (first_key (Some old.keys) None old.at) old.only (rows_of old shown) c d s × (new ≡ ended_by s (record old { at = new.at }))
+DoesAs FinalTable would state after shown c d s old new = (after ≡ state) × PageReads s c d × (new ≡ ended_by s (record old { last = new.last }))
+DoesAs Done would state after shown c d s old new = (after ≡ state) × (s ≡ End) × (d ≡ c) × (new ≡ old)
+
+abbrev pub Does : (ℕ → Facts → Ruling) → ℕ → ℕ → Shown → Counts → Counts → Scanned → Unioned → Unioned → Type 0
+Does would state after shown c d s old new = DoesAs old.control would state after shown c d s old new
+
+-- what a step may read, whatever it answers: only a union that was dropped reads pages
+abbrev pub MayRead : Control → Unioned → Counts → Counts → Type 0
+MayRead Building u c d = d ≡ c
+MayRead ForegroundAlone u c d = d ≡ c
+MayRead BackgroundAlone u c d = d ≡ piece_read u c
+MayRead FinalList u c d = OneAtMost record_read c d
+MayRead FinalTable u c d = OneAtMost page_read c d
+MayRead Done u c d = d ≡ c
+
+-- WHAT A STEP LEAVES THAT FOUND NO MEMORY: the awaited leaf may have been taken. No piece is accepted and no member ends.
+pub record OnlyTakes (old new : Unioned) : Type 0 where
+  pub same : new ≡ record (holding new.lane.held old) { count = new.count; at = new.at; trace = new.trace }
+  pub events : new.trace.events ≡ old.trace.events
+  pub fewer : keys_work new ≤ keys_work old
+
+-- what it does, and then what it read is counted
+pub record StepsAs (would : ℕ → Facts → Ruling) (state after : ℕ) (shown : Shown) (c d : Counts) (s : Scanned) (old new : Unioned) : Type 0 where
+  pub stepped : Unioned
+  pub does : Does would state after shown c d s old stepped
+  pub counts : new ≡ record stepped { trace = counted stepped.trace c d }

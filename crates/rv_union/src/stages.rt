@@ -1,0 +1,168 @@
+ghost use Rattle.std.specs.Prelude.{◌≡◌, ℕ, IfOk, OnErr, Ok};
+ghost use Rattle.rv_judge.specs.Tracing.{CountsRise};
+ghost use Rattle.rv_judge.specs.declared.judging.Facts.{Facts};
+ghost use Rattle.rv_judge.specs.Verdicts.{Ruling};
+ghost use Rattle.rv_final.specs.Work.{Falls, Tries};
+ghost use Rattle.rv_union.specs.Effort.{Spends, effort};
+ghost use Rattle.rv_union.specs.Opened.{Does, DoesStep, EndsIn, MayRead, OnlyTakes, Steady, StepsAs};
+ghost use Rattle.rv_union.specs.Unioned.{UnionFits, SameUnion, rest};
+ghost use Rattle.rv_union.specs.Runs.{Tells};
+
+use crate::uniting::Union;
+use rv_jscan::{Taken, sieve};
+use rv_judge::{Control, Happening, Judge, Steps};
+use rv_reader::Reader;
+use rv_scan::Scanned;
+use rv_value::NoMemory;
+
+/// The steps of a union.
+impl Union {
+    /// A background step: a piece taken, sieved and given.
+    fn background_step<R: Reader>(
+        &mut self,
+        reader: &R,
+        judge: &mut Box<dyn Judge>,
+        steps: &mut Steps<R::Ledger>,
+    ) -> Result<Scanned, NoMemory>
+        requires control { self.old.control ≡ Control.BackgroundAlone }
+        requires fits { UnionFits self.old (R.shown reader.now) }
+        ensures does { IfOk result (λ s. Does (would judge.old) (state judge.old) (state judge.new) (R.shown reader.now) steps.old steps.new s self.old self.new) }
+        ensures steady { Steady self.old self.new (R.shown reader.now) }
+        ensures step { IfOk result (DoesStep self.old self.new (R.shown reader.now)) }
+        ensures ends { IfOk result (EndsIn self.new) }
+        ensures err { OnErr result (rest self.new (R.shown reader.now) ≡ rest self.old (R.shown reader.now)) }
+        ensures still { OnErr result (OnlyTakes self.old self.new) }
+        ensures quiet { OnErr result (state judge.new ≡ state judge.old) }
+        ensures stays { would judge.new ≡ would judge.old }
+        ensures may_read { MayRead self.old.control self.old steps.old steps.new }
+        ensures tries { Tries steps.old steps.new (effort self.old (R.shown reader.now)) (effort self.new (R.shown reader.now)) }
+        ensures falls { IfOk result (λ s. Falls s steps.old steps.new (effort self.old (R.shown reader.now)) (effort self.new (R.shown reader.now))) }
+    {
+        match self.take_piece(reader, steps)? {
+            Taken::Piece(piece) => {
+                let _given = self.give_piece(sieve(piece), judge)?;
+                Ok(Scanned::Working)
+            }
+            Taken::Nothing => unreachable!(),
+        }
+    }
+
+    /// A step of the list.
+    fn list_step<R: Reader>(
+        &mut self,
+        reader: &R,
+        steps: &mut Steps<R::Ledger>,
+    ) -> Result<Scanned, NoMemory>
+        requires control { self.old.control ≡ Control.FinalList }
+        requires fits { UnionFits self.old (R.shown reader.now) }
+        ensures does { (rules : ℕ → Facts → Ruling) (stands : ℕ) → IfOk result (λ s. Does rules stands stands (R.shown reader.now) steps.old steps.new s self.old self.new) }
+        ensures steady { Steady self.old self.new (R.shown reader.now) }
+        ensures step { IfOk result (DoesStep self.old self.new (R.shown reader.now)) }
+        ensures ends { IfOk result (EndsIn self.new) }
+        ensures err { OnErr result (rest self.new (R.shown reader.now) ≡ rest self.old (R.shown reader.now)) }
+        ensures still { OnErr result (OnlyTakes self.old self.new) }
+        ensures may_read { MayRead self.old.control self.old steps.old steps.new }
+        ensures tries { Tries steps.old steps.new (effort self.old (R.shown reader.now)) (effort self.new (R.shown reader.now)) }
+        ensures falls { IfOk result (λ s. Falls s steps.old steps.new (effort self.old (R.shown reader.now)) (effort self.new (R.shown reader.now))) }
+    {
+        match self.scan_list(reader, steps)? {
+            Scanned::Found(row) => Ok(Scanned::Found(row)),
+            Scanned::Working => Ok(Scanned::Working),
+            Scanned::End => {
+                self.go(Happening::FinalEnded);
+                Ok(Scanned::End)
+            }
+        }
+    }
+
+    /// A step of the final scan of the table.
+    fn table_step<R: Reader>(
+        &mut self,
+        reader: &R,
+        steps: &mut Steps<R::Ledger>,
+    ) -> Result<Scanned, NoMemory>
+        requires control { self.old.control ≡ Control.FinalTable }
+        requires fits { UnionFits self.old (R.shown reader.now) }
+        ensures does { (rules : ℕ → Facts → Ruling) (stands : ℕ) → IfOk result (λ s. Does rules stands stands (R.shown reader.now) steps.old steps.new s self.old self.new) }
+        ensures steady { Steady self.old self.new (R.shown reader.now) }
+        ensures step { IfOk result (DoesStep self.old self.new (R.shown reader.now)) }
+        ensures ends { IfOk result (EndsIn self.new) }
+        ensures err { OnErr result (rest self.new (R.shown reader.now) ≡ rest self.old (R.shown reader.now)) }
+        ensures still { OnErr result (OnlyTakes self.old self.new) }
+        ensures may_read { MayRead self.old.control self.old steps.old steps.new }
+        ensures tries { Tries steps.old steps.new (effort self.old (R.shown reader.now)) (effort self.new (R.shown reader.now)) }
+        ensures falls { IfOk result (λ s. Falls s steps.old steps.new (effort self.old (R.shown reader.now)) (effort self.new (R.shown reader.now))) }
+    {
+        match self.scan_last(reader, steps)? {
+            Scanned::Found(found) => Ok(Scanned::Found(found)),
+            Scanned::Working => Ok(Scanned::Working),
+            Scanned::End => {
+                self.go(Happening::FinalEnded);
+                Ok(Scanned::End)
+            }
+        }
+    }
+
+    /// What a step does, before what it read is counted.
+    fn stage_step<R: Reader>(
+        &mut self,
+        reader: &R,
+        judge: &mut Box<dyn Judge>,
+        steps: &mut Steps<R::Ledger>,
+    ) -> Result<Scanned, NoMemory>
+        requires fits { UnionFits self.old (R.shown reader.now) }
+        ensures does { IfOk result (λ s. Does (would judge.old) (state judge.old) (state judge.new) (R.shown reader.now) steps.old steps.new s self.old self.new) }
+        ensures steady { Steady self.old self.new (R.shown reader.now) }
+        ensures step { IfOk result (DoesStep self.old self.new (R.shown reader.now)) }
+        ensures ends { IfOk result (EndsIn self.new) }
+        ensures again { self.old.control ≡ Control.Done → result ≡ Ok Scanned.End }
+        ensures err { OnErr result (rest self.new (R.shown reader.now) ≡ rest self.old (R.shown reader.now)) }
+        ensures still { OnErr result (OnlyTakes self.old self.new) }
+        ensures quiet { OnErr result (state judge.new ≡ state judge.old) }
+        ensures stays { would judge.new ≡ would judge.old }
+        ensures may_read { MayRead self.old.control self.old steps.old steps.new }
+        ensures tries { Tries steps.old steps.new (effort self.old (R.shown reader.now)) (effort self.new (R.shown reader.now)) }
+        ensures falls { IfOk result (λ s. Falls s steps.old steps.new (effort self.old (R.shown reader.now)) (effort self.new (R.shown reader.now))) }
+    {
+        match self.control() {
+            Control::BackgroundAlone => self.background_step(reader, judge, steps),
+            Control::FinalList => self.list_step(reader, steps),
+            Control::FinalTable => self.table_step(reader, steps),
+            Control::Done => Ok(Scanned::End),
+            Control::Building | Control::ForegroundAlone => unreachable!(),
+        }
+    }
+
+    /// Gives a row of the rest, works on, or ends.
+    ///
+    /// `Found` takes one record out of the rest. `End` comes only where the rest is empty, and then again at each further
+    /// step. `Working` leaves the rest; so does `NoMemory`.
+    pub fn step<R: Reader>(
+        &mut self,
+        reader: &R,
+        judge: &mut Box<dyn Judge>,
+        steps: &mut Steps<R::Ledger>,
+    ) -> Result<Scanned, NoMemory>
+        requires fits { UnionFits self.old (R.shown reader.now) }
+        ensures counts { CountsRise self.old.trace self.new.trace steps.old steps.new }
+        ensures does { IfOk result (λ s. StepsAs (would judge.old) (state judge.old) (state judge.new) (R.shown reader.now) steps.old steps.new s self.old self.new) }
+        ensures fits { UnionFits self.new (R.shown reader.now) }
+        ensures step { IfOk result (DoesStep self.old self.new (R.shown reader.now)) }
+        ensures ends { IfOk result (EndsIn self.new) }
+        ensures again { self.old.control ≡ Control.Done → result ≡ Ok Scanned.End }
+        ensures err { OnErr result (rest self.new (R.shown reader.now) ≡ rest self.old (R.shown reader.now)) }
+        ensures still { OnErr result (OnlyTakes self.old self.new) }
+        ensures same { SameUnion self.old self.new }
+        ensures tells { Tells self.old → Tells self.new }
+        ensures quiet { OnErr result (state judge.new ≡ state judge.old) }
+        ensures stays { would judge.new ≡ would judge.old }
+        ensures may_read { MayRead self.old.control self.old steps.old steps.new }
+        ensures tries { Tries steps.old steps.new (effort self.old (R.shown reader.now)) (effort self.new (R.shown reader.now)) }
+        ensures spends { IfOk result (λ s. Spends s steps.old steps.new (effort self.old (R.shown reader.now)) (effort self.new (R.shown reader.now))) }
+    {
+        let before = steps.counts();
+        let stepped = self.stage_step(reader, judge, steps);
+        self.note_counts(before, steps.counts());
+        stepped
+    }
+}
