@@ -1,10 +1,10 @@
 """Tells whether a trace is a front of some course of a retrieval, by the table of controls in words (docs/LANGUAGE.md).
 
 A course begins with a control; a background scan begins behind it, behind a list with keys, or behind a drop. A list, drop,
-full or stop leads to the next scan or control, and nothing stands between the two."""
+full or stop leads to the next scan or control, and nothing stands between the two. A union's course is one of its own."""
 import re
 
-TRACE = re.compile(r"trace (table|background-only|fast-first|sorted|index-only)((?: [^ ]+)*) pages (\d+) leaves (\d+) fetches (\d+)")
+TRACE = re.compile(r"trace (table|background-only|fast-first|sorted|index-only|union)((?: [^ ]+)*) pages (\d+) leaves (\d+) fetches (\d+)")
 CONTROLS = ["building", "foreground", "background", "final-list", "final-table", "done"]
 FIRST = {
     "table": ["final-table"],
@@ -43,6 +43,8 @@ class Course:
         self.control, self.scan, self.list, self.led = None, None, None, None
 
     def follow(self, events):
+        if self.strategy == "union":
+            return self.follow_union(events)
         for event in events:
             kind = event[0]
             if kind in CONTROLS:
@@ -57,6 +59,20 @@ class Course:
                 getattr(self, "is_" + kind)(*event[1:])
                 self.led = kind
         want(self.led is None and self.control, f"ends behind {self.led}")
+
+    def follow_union(self, events):
+        """A scan for each index, once; then the list of one of them and its fetches, or the drop of one and the table."""
+        want(events[0] == ("background",), "a union begins with its members")
+        begun = [event[1] for event in events if event[0] == "scan"]
+        want(begun and set(begun) <= set(self.names) and len(set(begun)) == len(begun), "an index is told again, or is none")
+        want([event[0] for event in events[1 : len(begun) + 1]] == len(begun) * ["scan"], "a scan stands late")
+        rest = events[len(begun) + 1 :]
+        if rest:
+            kind, name, *count = rest[0]
+            want(kind in ("list", "drop") and name in begun, f"{kind} in a union")
+            want(all(int(n) <= self.rows for n in count), f"{count} keys of {self.rows} rows")
+            final = ("final-list" if kind == "list" else "final-table",)
+            want(rest[1:] in ([final], [final, ("done",)]), f"what a {kind} leads to")
 
     def next_controls(self):
         final = ["final-table" if self.list is None else "final-list"]
