@@ -12,7 +12,7 @@ from judge_reads import JUDGES, Facts
 
 MOST = 2**64 - 1
 
-STRATEGIES = ["Table", "BackgroundOnly", "FastFirst", "Sorted", "IndexOnly"]
+STRATEGIES = ["Table", "BackgroundOnly", "FastFirst", "Sorted", "IndexOnly", "Union"]
 CONTROLS = ["Building", "ForegroundAlone", "BackgroundAlone", "FinalList", "FinalTable", "Done"]
 VERDICTS = ["Continue", "AbandonScan", "AbandonForeground", "AbandonBackground"]
 

@@ -11,6 +11,7 @@ fn strategy_word(strategy: Strategy) -> &'static str {
         Strategy::FastFirst => "fast-first",
         Strategy::Sorted => "sorted",
         Strategy::IndexOnly => "index-only",
+        Strategy::Union => "union",
     }
 }
 

@@ -2,12 +2,13 @@
 use rv_judge::{Control, Happening, Strategy, Verdict, course};
 use std::io;
 
-const STRATEGIES: [Strategy; 5] = [
+const STRATEGIES: [Strategy; 6] = [
     Strategy::Table,
     Strategy::BackgroundOnly,
     Strategy::FastFirst,
     Strategy::Sorted,
     Strategy::IndexOnly,
+    Strategy::Union,
 ];
 
 const CONTROLS: [Control; 6] = [

@@ -7,7 +7,7 @@ use Rattle.std.proofs.lemmas.List.{length-map}
 use Rattle.std.proofs.lemmas.List.Sorted.{length_permutation}
 use Rattle.rv_judge.specs.declared.counting.Counts.{Counts}
 use Rattle.rv_judge.specs.declared.events.Strategy.{Strategy}
-use Rattle.rv_judge.specs.declared.events.Strategy.TheVariants.{Table, BackgroundOnly, FastFirst, Sorted, IndexOnly}
+use Rattle.rv_judge.specs.declared.events.Strategy.TheVariants.{Table, BackgroundOnly, FastFirst, Sorted, IndexOnly, Union}
 use Rattle.rv_judge.specs.Counting.{raised, reads}
 use Rattle.rv_judge.specs.Runs.{has_index}
 use Rattle.rv_judge.specs.Tracing.{CountsAll}
@@ -71,6 +71,7 @@ is_the_background BackgroundOnly h = refl
 is_the_background FastFirst h = no_way (sym h)
 is_the_background Sorted h = no_way (sym h)
 is_the_background IndexOnly h = no_way (sym h)
+is_the_background Union h = no_way (sym h)
 
 -- where indexes race the strategy is that of a background alone
 pub raced_strategy : (race : Bool) (choice : Choice) (cs : List Candidate) → (race && races choice cs) ≡ true → BackgroundOnly ≡ choice.strategy
@@ -82,6 +83,7 @@ unsorted BackgroundOnly h = refl
 unsorted FastFirst h = refl
 unsorted Sorted h = no_way (sym h)
 unsorted IndexOnly h = refl
+unsorted Union h = refl
 
 is_the_each : (b : Background) → is_each b ≡ true → b ≡ Each
 is_the_each Nothing h = no_way (sym h)

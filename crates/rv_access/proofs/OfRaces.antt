@@ -14,7 +14,7 @@ use Rattle.rv_judge.specs.declared.judging.Facts.{Facts}
 use Rattle.rv_judge.specs.declared.judging.Verdict.{Verdict}
 use Rattle.rv_judge.specs.declared.judging.Verdict.TheVariants.{Continue, AbandonScan, AbandonForeground, AbandonBackground}
 use Rattle.rv_judge.specs.Counting.{one_more}
-use Rattle.rv_judge.specs.Runs.{Allowed, has_index}
+use Rattle.rv_judge.specs.Runs.{Allowed, AllowedBy, AllowedRun, has_index}
 use Rattle.rv_judge.specs.Verdicts.{Ruling}
 use Rattle.rv_reader.specs.Shown.{Shown}
 use Rattle.rv_scan.specs.declared.skip.Scanned.{Scanned}
@@ -88,8 +88,20 @@ all_known : (xs ys planned : List ℕ) → list_all (λ k. has_index k ys) xs �
 all_known xs ys [] all these = refl
 all_known xs ys (p ∷ planned) all these = both_true _ _ (any_known xs ys p all (left_true _ _ these)) (all_known xs ys planned all (right_true (has_index p xs) _ these))
 
+wider_run : (t : Trace) (xs ys : List ℕ) → list_all (λ k. has_index k ys) xs ≡ true → AllowedRun t xs → AllowedRun t ys
+wider_run t xs ys all a = record { planned = a.planned; known = all_known xs ys a.planned all a.known; once = a.once; scanned = a.scanned; turns = a.turns; run = a.run; told = a.told }
+
+-- a trace that is allowed for indexes is so for more of them
 pub wider : (t : Trace) (xs ys : List ℕ) → list_all (λ k. has_index k ys) xs ≡ true → Allowed t xs → Allowed t ys
-wider t xs ys all a = record { planned = a.planned; known = all_known xs ys a.planned all a.known; once = a.once; scanned = a.scanned; turns = a.turns; run = a.run; told = a.told }
+wider t xs ys all a = by t.strategy a
+  where
+    by : (st : Strategy) → AllowedBy st t xs → AllowedBy st t ys
+    by Table a = wider_run t xs ys all a
+    by BackgroundOnly a = wider_run t xs ys all a
+    by FastFirst a = wider_run t xs ys all a
+    by Sorted a = wider_run t xs ys all a
+    by IndexOnly a = wider_run t xs ys all a
+    by Union a = record { begun = a.begun; some = a.some; known = all_known xs ys a.begun all a.known; once = a.once; tail = a.tail; among = a.among; told = a.told }
 
 -- WHAT AN ACCEPTED PIECE LEAVES
 

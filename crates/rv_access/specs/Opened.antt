@@ -4,7 +4,7 @@ use Rattle.rv_judge.specs.declared.counting.Counts.{Counts}
 use Rattle.rv_judge.specs.Counting.{reads}
 use Rattle.rv_judge.specs.Tracing.{CountsAll}
 use Rattle.rv_judge.specs.declared.events.Strategy.{Strategy}
-use Rattle.rv_judge.specs.declared.events.Strategy.TheVariants.{Table, BackgroundOnly, FastFirst, Sorted, IndexOnly}
+use Rattle.rv_judge.specs.declared.events.Strategy.TheVariants.{Table, BackgroundOnly, FastFirst, Sorted, IndexOnly, Union}
 use Rattle.rv_reader.specs.Shown.{Shown}
 use Rattle.rv_choice.specs.declared.query.Query.{Query}
 use Rattle.rv_choice.specs.declared.choosing.Background.{Background}
@@ -29,6 +29,7 @@ is_background_only BackgroundOnly = true
 is_background_only FastFirst = false
 is_background_only Sorted = false
 is_background_only IndexOnly = false
+is_background_only Union = false
 
 abbrev pub is_each : Background → Bool
 is_each Nothing = false

@@ -37,7 +37,11 @@ fn is_background_only(strategy: Strategy) -> bool
 {
     match strategy {
         Strategy::BackgroundOnly => true,
-        Strategy::Table | Strategy::FastFirst | Strategy::Sorted | Strategy::IndexOnly => false,
+        Strategy::Table
+        | Strategy::FastFirst
+        | Strategy::Sorted
+        | Strategy::IndexOnly
+        | Strategy::Union => false,
     }
 }
 

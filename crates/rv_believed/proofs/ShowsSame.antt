@@ -1,20 +1,23 @@
 -- Bridge: the traces that may be shown are those of the working definition.
-use Rattle.std.proofs.Common.{◌≡◌, ◌≢◌, ℕ, zero, suc, ◌<◌, List, [], ◌∷◌, ◌++◌, Option, Some, None, Bool, true, false, ◌&&◌, ◌||◌, refl, sym, ap, ◌∙◌, subst, length, nat_eq, arith, map}
+use Rattle.std.proofs.Common.{◌≡◌, ◌≢◌, ℕ, zero, suc, ◌<◌, ◌≤◌, List, [], ◌∷◌, ◌++◌, Option, Some, None, Bool, true, false, ◌&&◌, ◌||◌, refl, sym, ap, ◌∙◌, subst, length, nat_eq, arith, map}
 use Rattle.std.proofs.lemmas.Bool.Decides.{nat_tests}
 use Rattle.std.specs.List.{AllByRecursion, Contains, list_all, slice_index_or}
 use Rattle.std.specs.Option.{option_to_list}
 use Rattle.rv_judge.specs.declared.events.Strategy.{Strategy}
-use Rattle.rv_judge.specs.declared.events.Strategy.TheVariants.{Table, BackgroundOnly, FastFirst, Sorted, IndexOnly}
+use Rattle.rv_judge.specs.declared.events.Strategy.TheVariants.{Table, BackgroundOnly, FastFirst, Sorted, IndexOnly, Union}
 use Rattle.rv_judge.specs.declared.events.Control.{Control}
 use Rattle.rv_judge.specs.declared.events.Control.TheVariants.{Building, ForegroundAlone, BackgroundAlone, FinalList, FinalTable, Done}
-use Rattle.rv_judge.specs.declared.events.Event.TheVariants.{At, Scan}
+use Rattle.rv_judge.specs.declared.events.Event.{Event}
+use Rattle.rv_judge.specs.declared.events.Event.TheVariants.{At, Scan, List as ListOf, Drop}
 use Rattle.rv_judge.specs.declared.events.Trace.{Trace}
 use Rattle.rv_judge.specs.Runs as today
 use Rattle.rv_judge.specs.Runs.{Standing, has_index}
+use Rattle.rv_judge.specs.Runs.UnionTail.{Scanning, Fetching, Fetched, Reading, Read}
 use Rattle.rv_lang.specs.declared.reply.Shown.{Shown}
 use Rattle.rv_catalog.specs.declared.def.IndexDef.{IndexDef}
 use Rattle.rv_model.specs.Showing.{ShowsTrace, numbers_over}
-use Rattle.rv_believed.specs.Runs.{Runs, first_control, start, start_events, EachOnce, Allowed, Shows}
+use Rattle.rv_believed.specs.Runs.{Runs, first_control, start, start_events, EachOnce, Allowed, AllowedBy, AllowedRun, AllowedUnion, UnionTail, Shows}
+use Rattle.rv_believed.specs.Runs.UnionTail.{scanning, fetching, fetched, reading, read}
 use Rattle.rv_believed.proofs.RunsSame.{runs}
 use Rattle.rv_believed.proofs.RunsBack.{BackRun, runs_back}
 
@@ -113,6 +116,7 @@ first_to Sorted [] h = refl
 first_to Sorted (i ∷ planned) h = refl
 first_to IndexOnly [] h = refl
 first_to IndexOnly (i ∷ planned) h = refl
+first_to Union planned h = absurd h
 
 abbrev control_or : Control → Option Control → Control
 control_or c None = c
@@ -132,6 +136,7 @@ first_from Sorted [] c e = (tt, ap (control_or c) e)
 first_from Sorted (i ∷ planned) c e = (tt, ap (control_or c) e)
 first_from IndexOnly [] c e = (tt, ap (control_or c) e)
 first_from IndexOnly (i ∷ planned) c e = (tt, ap (control_or c) e)
+first_from Union planned c e = absurd (subst IsControl (sym e) tt)
 
 start_same : (c : Control) (planned : List ℕ) → today.at_control c planned ≡ start c planned
 start_same Building [] = refl
@@ -156,8 +161,8 @@ begins_same s = λ k. At s.control ∷ scan_same s.scan k
 
 -- ---- traces
 
-pub allowed_to : (trace : Trace) (indexes : List ℕ) → today.Allowed trace indexes → Allowed trace indexes
-allowed_to trace indexes a =
+run_to : (trace : Trace) (indexes : List ℕ) → today.AllowedRun trace indexes → AllowedRun trace indexes
+run_to trace indexes a =
     let c : Control = today.first_control trace.strategy a.planned in
     record {
       planned = a.planned;
@@ -172,8 +177,8 @@ allowed_to trace indexes a =
           (begins_same (today.at_control c a.planned) ∙ ap start_events (start_same c a.planned));
     }
 
-pub allowed_from : (trace : Trace) (indexes : List ℕ) → Allowed trace indexes → today.Allowed trace indexes
-allowed_from trace indexes a =
+run_from : (trace : Trace) (indexes : List ℕ) → AllowedRun trace indexes → today.AllowedRun trace indexes
+run_from trace indexes a =
     let first = first_from trace.strategy a.planned a.control a.first in
     let same : today.start trace.strategy a.planned ≡ start a.control a.planned =
     ap (λ c. today.at_control c a.planned) first.1 ∙ start_same a.control a.planned in
@@ -190,6 +195,77 @@ allowed_from trace indexes a =
           ∙ ap (λ es. es ++ a.rest) (ap start_events (sym same) ∙ sym (begins_same (today.start trace.strategy a.planned)))
           ∙ ap (λ es. today.start_events trace.strategy a.planned ++ es) (sym back.2);
     }
+
+-- ---- unions
+
+tail_to : (tail : today.UnionTail) (begun : List ℕ) → today.tail_among tail begun ≡ true → UnionTail begun (today.tail_events tail)
+tail_to Scanning begun h = scanning
+tail_to (Fetching i keys) begun h = fetching i keys (contains_of i begun h)
+tail_to (Fetched i keys) begun h = fetched i keys (contains_of i begun h)
+tail_to (Reading i) begun h = reading i (contains_of i begun h)
+tail_to (Read i) begun h = read i (contains_of i begun h)
+
+record TailBack (begun : List ℕ) (events : List Event) : Type 0 where
+  tail : today.UnionTail
+  among : today.tail_among tail begun ≡ true
+  is : events ≡ today.tail_events tail
+
+tail_from : (begun : List ℕ) (events : List Event) → UnionTail begun events → TailBack begun events
+tail_from begun events scanning = record { tail = Scanning; among = refl; is = refl }
+tail_from begun events (fetching i keys h) = record { tail = Fetching i keys; among = has_of i begun h; is = refl }
+tail_from begun events (fetched i keys h) = record { tail = Fetched i keys; among = has_of i begun h; is = refl }
+tail_from begun events (reading i h) = record { tail = Reading i; among = has_of i begun h; is = refl }
+tail_from begun events (read i h) = record { tail = Read i; among = has_of i begun h; is = refl }
+
+union_to : (trace : Trace) (indexes : List ℕ) → today.AllowedUnion trace indexes → AllowedUnion trace indexes
+union_to trace indexes a = by a.begun a.some a.known a.once a.among a.told
+  where
+    by : (begun : List ℕ) → 1 ≤ length begun → list_all (λ i. has_index i indexes) begun ≡ true → today.EachOnce begun → today.tail_among a.tail begun ≡ true → trace.events.items ≡ today.union_events begun a.tail → AllowedUnion trace indexes
+    by [] some known once among told = absurd (omega (arith, some))
+    by (first ∷ more) some known once among told = record {
+      first = first;
+      more = more;
+      known = known_to indexes (first ∷ more) known;
+      once = once_to (first ∷ more) once;
+      tail = today.tail_events a.tail;
+      ends = tail_to a.tail (first ∷ more) among;
+      told = told;
+    }
+
+union_from : (trace : Trace) (indexes : List ℕ) → AllowedUnion trace indexes → today.AllowedUnion trace indexes
+union_from trace indexes a =
+    let back = tail_from (a.first ∷ a.more) a.tail a.ends in
+    record {
+      begun = a.first ∷ a.more;
+      some = omega arith;
+      known = known_from indexes (a.first ∷ a.more) a.known;
+      once = once_from (a.first ∷ a.more) a.once;
+      tail = back.tail;
+      among = back.among;
+      told = a.told ∙ ap (λ es. At BackgroundAlone ∷ (map Scan (a.first ∷ a.more) ++ es)) back.is;
+    }
+
+pub allowed_to : (trace : Trace) (indexes : List ℕ) → today.Allowed trace indexes → Allowed trace indexes
+allowed_to trace indexes a = by trace.strategy a
+  where
+    by : (st : Strategy) → today.AllowedBy st trace indexes → AllowedBy st trace indexes
+    by Table a = run_to trace indexes a
+    by BackgroundOnly a = run_to trace indexes a
+    by FastFirst a = run_to trace indexes a
+    by Sorted a = run_to trace indexes a
+    by IndexOnly a = run_to trace indexes a
+    by Union a = union_to trace indexes a
+
+pub allowed_from : (trace : Trace) (indexes : List ℕ) → Allowed trace indexes → today.Allowed trace indexes
+allowed_from trace indexes a = by trace.strategy a
+  where
+    by : (st : Strategy) → AllowedBy st trace indexes → today.AllowedBy st trace indexes
+    by Table a = run_from trace indexes a
+    by BackgroundOnly a = run_from trace indexes a
+    by FastFirst a = run_from trace indexes a
+    by Sorted a = run_from trace indexes a
+    by IndexOnly a = run_from trace indexes a
+    by Union a = union_from trace indexes a
 
 pub shows_to : (indexes : List IndexDef) (table : ℕ) (shown : Shown) → ShowsTrace indexes table shown → Shows indexes table shown
 shows_to indexes table shown s = record { trace = s.trace; allowed = allowed_to s.trace (numbers_over table 0 indexes) s.allowed; names = s.names }

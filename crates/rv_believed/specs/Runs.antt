@@ -3,7 +3,7 @@ use Rattle.std.specs.Prelude.{◌≡◌, ◌≢◌, ℕ, List, [], ◌∷◌, �
 use Rattle.std.specs.List.{Contains, AllByRecursion}
 use Rattle.std.specs.Option.{option_to_list}
 use Rattle.rv_judge.specs.declared.events.Strategy.{Strategy}
-use Rattle.rv_judge.specs.declared.events.Strategy.TheVariants.{Table, BackgroundOnly, FastFirst, Sorted, IndexOnly}
+use Rattle.rv_judge.specs.declared.events.Strategy.TheVariants.{Table, BackgroundOnly, FastFirst, Sorted, IndexOnly, Union}
 use Rattle.rv_judge.specs.declared.events.Control.{Control}
 use Rattle.rv_judge.specs.declared.events.Control.TheVariants.{Building, ForegroundAlone, BackgroundAlone, FinalTable}
 use Rattle.rv_judge.specs.declared.events.Event.{Event}
@@ -83,7 +83,7 @@ pub data Runs (strategy : Strategy) : Standing → List Event → Type 0 where
   goes : (s t : Standing) (events more : List Event)
       → Goes strategy s events t → Runs strategy t more → Runs strategy s (events ++ more)
 
--- The first control, over planned scans. Background-only and fast-first need a scan.
+-- The first control, over planned scans. Background-only and fast-first need a scan; a union has none planned.
 abbrev pub first_control : Strategy → List ℕ → Option Control
 first_control Table planned = Some FinalTable
 first_control BackgroundOnly (i ∷ ahead) = Some BackgroundAlone
@@ -109,9 +109,8 @@ abbrev pub EachOnce : List ℕ → Type 0
 EachOnce [] = Unit {0}
 EachOnce (i ∷ is) = AllByRecursion (λ j. i ≢ j) is × EachOnce is
 
--- A TRACE IS ALLOWED for these indexes: its events are those of some run, whose scans are of these
--- indexes, each begun at most once. Any number of reads may be counted.
-pub record Allowed (trace : Trace) (indexes : List ℕ) : Type 0 where
+-- The events are those of some run, whose scans are of these indexes, each begun at most once.
+pub record AllowedRun (trace : Trace) (indexes : List ℕ) : Type 0 where
   pub planned : List ℕ
   pub known : AllByRecursion (Contains indexes) planned
   pub once : EachOnce planned
@@ -120,6 +119,33 @@ pub record Allowed (trace : Trace) (indexes : List ℕ) : Type 0 where
   pub rest : List Event
   pub run : Runs trace.strategy (start control planned) rest
   pub told : trace.events.items ≡ start_events (start control planned) ++ rest
+
+-- What follows the scans of a union, of whose indexes i is one: nothing yet; the list, named for the last
+-- member's index, and its end; or the drop of a member's index, and the table's end.
+pub data UnionTail (begun : List ℕ) : List Event → Type 0 where
+  scanning : UnionTail begun []
+  fetching : (i keys : ℕ) → Contains begun i → UnionTail begun (ListOf i keys ∷ At FinalList ∷ [])
+  fetched : (i keys : ℕ) → Contains begun i → UnionTail begun (ListOf i keys ∷ At FinalList ∷ At Done ∷ [])
+  reading : (i : ℕ) → Contains begun i → UnionTail begun (Drop i ∷ At FinalTable ∷ [])
+  read : (i : ℕ) → Contains begun i → UnionTail begun (Drop i ∷ At FinalTable ∷ At Done ∷ [])
+
+-- A union scans its members one after another. Its events tell a scan for each index, once, and then a tail.
+pub record AllowedUnion (trace : Trace) (indexes : List ℕ) : Type 0 where
+  pub first : ℕ
+  pub more : List ℕ
+  pub known : AllByRecursion (Contains indexes) (first ∷ more)
+  pub once : EachOnce (first ∷ more)
+  pub tail : List Event
+  pub ends : UnionTail (first ∷ more) tail
+  pub told : trace.events.items ≡ At BackgroundAlone ∷ (map Scan (first ∷ more) ++ tail)
+
+-- A TRACE IS ALLOWED for these indexes. Any number of reads may be counted.
+abbrev pub AllowedBy : Strategy → Trace → List ℕ → Type 0
+AllowedBy Union trace indexes = AllowedUnion trace indexes
+AllowedBy strategy trace indexes = AllowedRun trace indexes
+
+abbrev pub Allowed : Trace → List ℕ → Type 0
+Allowed trace indexes = AllowedBy trace.strategy trace indexes
 
 -- SHOW: an allowed trace for the indexes over a table, with their names in place of their numbers.
 pub record Shows (indexes : List IndexDef) (table : ℕ) (shown : Shown) : Type 0 where

@@ -3,6 +3,7 @@
 use Rattle.std.specs.Prelude.{ℕ, List, [], ◌∷◌, Bool, true, false, if◌then◌else◌, ◌&&◌, ◌||◌, Option, Some, None, is_some, not, nat_eq, nat_lt}
 use Rattle.std.specs.List.{list_all, list_any}
 use Rattle.rv_judge.specs.declared.events.Strategy.{Strategy}
+use Rattle.rv_judge.specs.declared.events.Strategy.TheVariants.{Table, BackgroundOnly, FastFirst, Sorted, IndexOnly, Union}
 use Rattle.rv_judge.specs.declared.events.Control.{Control}
 use Rattle.rv_judge.specs.declared.events.Control.TheVariants.{Building, ForegroundAlone, BackgroundAlone, FinalList, FinalTable, Done}
 use Rattle.rv_judge.specs.declared.events.Event.{Event}
@@ -140,6 +141,49 @@ abbrev pub reads_all : Strategy → List Event → Bool
 reads_all strategy (At control ∷ es) = reads_at strategy control es
 reads_all strategy es = false
 
--- the events are those of some run whose scans are of these indexes and begin at most once each
+-- A union tells the scans of its indexes, and then what they came to.
+
+abbrev pub is_scan : Event → Bool
+is_scan (Scan i) = true
+is_scan e = false
+
+-- nothing follows, or the last control
+abbrev pub is_over : List Event → Bool
+is_over [] = true
+is_over (At to ∷ []) = same_control to Done
+is_over es = false
+
+-- what follows leads to this control, and perhaps to the last one
+abbrev pub ends_in : Control → List Event → Bool
+ends_in control (At to ∷ es) = same_control to control && is_over es
+ends_in control es = false
+
+-- the list, or the drop, of an index that some of all events tells
+abbrev pub ends_by : List Event → Event → List Event → Bool
+ends_by all (ListOf i keys) es = list_any (begins_scan i) all && ends_in FinalList es
+ends_by all (Drop i) es = list_any (begins_scan i) all && ends_in FinalTable es
+ends_by all e es = false
+
+abbrev pub reads_tail : List Event → List Event → Bool
+reads_tail all [] = true
+reads_tail all (e ∷ es) = if is_scan e then reads_tail all es else ends_by all e es
+
+abbrev pub reads_scans : List Event → Bool
+reads_scans (Scan i ∷ es) = reads_tail (Scan i ∷ es) es
+reads_scans es = false
+
+abbrev pub reads_union : List Event → Bool
+reads_union (At control ∷ es) = same_control control BackgroundAlone && reads_scans es
+reads_union es = false
+
+abbrev pub reads_by : Strategy → List Event → Bool
+reads_by Table es = reads_all Table es
+reads_by BackgroundOnly es = reads_all BackgroundOnly es
+reads_by FastFirst es = reads_all FastFirst es
+reads_by Sorted es = reads_all Sorted es
+reads_by IndexOnly es = reads_all IndexOnly es
+reads_by Union es = reads_union es
+
+-- the events are those of some run, or of a union, whose scans are of these indexes and begin at most once each
 abbrev pub is_read : Strategy → List Event → List ℕ → Bool
-is_read strategy events indexes = list_all (is_known indexes) events && are_apart events && reads_all strategy events
+is_read strategy events indexes = list_all (is_known indexes) events && are_apart events && reads_by strategy events

@@ -3,7 +3,7 @@ ghost use Rattle.std.specs.Prelude.{◌≡◌, [], ◌∷◌, if◌then◌else�
 ghost use Rattle.std.specs.List.{list_all, list_any};
 ghost use Rattle.rv_judge.specs.Course.{next_control};
 ghost use Rattle.rv_judge.specs.Runs.{first_control, scans};
-ghost use Rattle.rv_course.specs.Reading.{are_apart, begins_scan, ends_at, goes_on, is_known, is_last, is_read, is_scanning, leads, leads_to, listed_by, may_begin, may_come_after, may_follow, may_narrow, passed, place_at, reads, reads_all, reads_at, same_control};
+ghost use Rattle.rv_course.specs.Reading.{are_apart, begins_scan, ends_at, ends_by, ends_in, goes_on, is_known, is_last, is_over, is_read, is_scan, is_scanning, leads, leads_to, listed_by, may_begin, may_come_after, may_follow, may_narrow, passed, place_at, reads, reads_all, reads_at, reads_by, reads_scans, reads_tail, reads_union, same_control};
 
 use rv_judge::{Control, Event, Happening, Strategy, Verdict, course};
 
@@ -19,11 +19,11 @@ pub struct Place {
     own: Option<Event>,
 }
 
-/// Whether the events are those of some run whose scans are of these indexes and begin at most once each.
+/// Whether the events are those of some run, or of a union, whose scans are of these indexes and begin at most once each.
 pub fn is_read(strategy: Strategy, events: &[Event], indexes: &[u32]) -> bool
     ensures { result ≡ is_read strategy events.now indexes.now }
 {
-    are_known(events, indexes) && are_apart(events) && reads_all(strategy, events)
+    are_known(events, indexes) && are_apart(events) && reads_by(strategy, events)
 }
 
 /// Whether no scan begins but of these indexes.
@@ -82,6 +82,20 @@ fn begins_scan(event: &Event, index: u32) -> bool
     }
 }
 
+/// Whether the events are those of some run, or of a union, whatever indexes the scans are of.
+fn reads_by(strategy: Strategy, events: &[Event]) -> bool
+    ensures { result ≡ reads_by strategy events.now }
+{
+    match strategy {
+        Strategy::Table => reads_all(Strategy::Table, events),
+        Strategy::BackgroundOnly => reads_all(Strategy::BackgroundOnly, events),
+        Strategy::FastFirst => reads_all(Strategy::FastFirst, events),
+        Strategy::Sorted => reads_all(Strategy::Sorted, events),
+        Strategy::IndexOnly => reads_all(Strategy::IndexOnly, events),
+        Strategy::Union => reads_union(events),
+    }
+}
+
 /// Whether the events are those of some run, whatever indexes its scans are of.
 fn reads_all(strategy: Strategy, events: &[Event]) -> bool
     ensures { result ≡ reads_all strategy events.now }
@@ -116,7 +130,7 @@ fn first_control(strategy: Strategy, begins: bool) -> Control
 {
     match strategy {
         Strategy::Table => Control::FinalTable,
-        Strategy::BackgroundOnly => Control::BackgroundAlone,
+        Strategy::BackgroundOnly | Strategy::Union => Control::BackgroundAlone,
         Strategy::FastFirst => Control::Building,
         Strategy::Sorted | Strategy::IndexOnly => {
             if begins {
@@ -315,5 +329,82 @@ fn listed_by(own: Option<Event>, before: Option<u64>) -> Option<u64>
     match own {
         Some(Event::List(_, keys)) => Some(keys),
         _ => before,
+    }
+}
+
+/// Whether the events are those of a union, whatever indexes its scans are of.
+fn reads_union(events: &[Event]) -> bool
+    ensures { result ≡ reads_union events.now }
+{
+    match events {
+        [Event::At(control), rest @ ..] => {
+            same_control(*control, Control::BackgroundAlone) && reads_scans(rest)
+        }
+        _ => false,
+    }
+}
+
+/// At least one scan begins.
+fn reads_scans(events: &[Event]) -> bool
+    ensures { result ≡ reads_scans events.now }
+{
+    match events {
+        [Event::Scan(_), rest @ ..] => reads_tail(events, rest),
+        _ => false,
+    }
+}
+
+/// Whether these events of a union, behind its first scan, tell of further scans and then of what they came to.
+fn reads_tail(all: &[Event], events: &[Event]) -> bool
+    ensures { result ≡ reads_tail all.now events.now }
+{
+    match events {
+        [] => true,
+        [event, rest @ ..] => {
+            if is_scan(*event) {
+                reads_tail(all, rest)
+            } else {
+                ends_by(all, *event, rest)
+            }
+        }
+    }
+}
+
+fn is_scan(event: Event) -> bool
+    ensures { result ≡ is_scan event }
+{
+    match event {
+        Event::Scan(_) => true,
+        Event::At(_) | Event::List(..) | Event::Drop(_) | Event::Full | Event::Stop => false,
+    }
+}
+
+/// Whether a list or a drop of one of the indexes that were scanned leads to its final stage.
+fn ends_by(all: &[Event], event: Event, rest: &[Event]) -> bool
+    ensures { result ≡ ends_by all.now event rest.now }
+{
+    match event {
+        Event::List(index, _) => begin_scan(all, index) && ends_in(Control::FinalList, rest),
+        Event::Drop(index) => begin_scan(all, index) && ends_in(Control::FinalTable, rest),
+        Event::At(_) | Event::Scan(_) | Event::Full | Event::Stop => false,
+    }
+}
+
+fn ends_in(control: Control, events: &[Event]) -> bool
+    ensures { result ≡ ends_in control events.now }
+{
+    match events {
+        [Event::At(to), rest @ ..] => same_control(*to, control) && is_over(rest),
+        _ => false,
+    }
+}
+
+fn is_over(events: &[Event]) -> bool
+    ensures { result ≡ is_over events.now }
+{
+    match events {
+        [] => true,
+        [Event::At(to)] => same_control(*to, Control::Done),
+        _ => false,
     }
 }

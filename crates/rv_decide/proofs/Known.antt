@@ -1,13 +1,15 @@
 -- The events of an allowed trace name the indexes of its scans alone.
-use Rattle.std.proofs.Common.{◌≡◌, ℕ, List, [], ◌∷◌, Bool, true, false, ◌&&◌, refl, sym, ap, ◌∙◌, subst, Option, Some, None}
+use Rattle.std.proofs.Common.{◌≡◌, ℕ, List, [], ◌∷◌, Bool, true, false, ◌&&◌, ◌||◌, nat_eq, refl, sym, ap, ◌∙◌, subst, Option, Some, None}
 use Rattle.std.specs.Prelude.{if◌then◌else◌, is_some}
-use Rattle.std.specs.List.{list_all}
+use Rattle.std.specs.List.{list_all, list_any}
 use Rattle.rv_judge.specs.declared.events.Strategy.{Strategy}
+use Rattle.rv_judge.specs.declared.events.Strategy.TheVariants.{Table, BackgroundOnly, FastFirst, Sorted, IndexOnly, Union}
 use Rattle.rv_judge.specs.declared.events.Control.{Control}
+use Rattle.rv_judge.specs.declared.events.Control.TheVariants.{BackgroundAlone, FinalList, FinalTable}
 use Rattle.rv_judge.specs.declared.events.Event.{Event}
 use Rattle.rv_judge.specs.declared.events.Event.TheVariants.{At, Scan, List as ListOf, Drop, Full as FullEvent, Stop}
 use Rattle.rv_judge.specs.Runs.{has_index, scans}
-use Rattle.rv_course.specs.Reading.{begun_by, goes_on, is_known, is_read, is_scanning, leads_to, listed_by, reads, reads_all, reads_at}
+use Rattle.rv_course.specs.Reading.{begins_scan, begun_by, ends_in, goes_on, is_known, is_over, is_read, is_scanning, leads_to, listed_by, reads, reads_all, reads_at, reads_by, reads_scans, reads_tail, reads_union, same_control}
 use Rattle.rv_course.proofs.Controls.{both, left_true, no_way, number_is, right_true}
 use Rattle.rv_decide.proofs.Names.{names_known}
 
@@ -82,5 +84,75 @@ all_known indexes s (Drop i ∷ es) all r = no_way (sym r)
 all_known indexes s (FullEvent ∷ es) all r = no_way (sym r)
 all_known indexes s (Stop ∷ es) all r = no_way (sym r)
 
+-- those of a union
+
+over_known : (indexes : List ℕ) (es : List Event) → is_over es ≡ true → list_all (names_known indexes) es ≡ true
+over_known indexes [] h = refl
+over_known indexes (At to ∷ []) h = refl
+over_known indexes (At to ∷ e ∷ es) h = no_way (sym h)
+over_known indexes (Scan i ∷ es) h = no_way (sym h)
+over_known indexes (ListOf i keys ∷ es) h = no_way (sym h)
+over_known indexes (Drop i ∷ es) h = no_way (sym h)
+over_known indexes (FullEvent ∷ es) h = no_way (sym h)
+over_known indexes (Stop ∷ es) h = no_way (sym h)
+
+ends_known : (indexes : List ℕ) (c : Control) (es : List Event) → ends_in c es ≡ true → list_all (names_known indexes) es ≡ true
+ends_known indexes c [] h = no_way (sym h)
+ends_known indexes c (At to ∷ es) h = over_known indexes es (right_true (same_control to c) _ h)
+ends_known indexes c (Scan i ∷ es) h = no_way (sym h)
+ends_known indexes c (ListOf i keys ∷ es) h = no_way (sym h)
+ends_known indexes c (Drop i ∷ es) h = no_way (sym h)
+ends_known indexes c (FullEvent ∷ es) h = no_way (sym h)
+ends_known indexes c (Stop ∷ es) h = no_way (sym h)
+
+-- an index whose scan some event begins is known
+begun_known : (indexes : List ℕ) (i : ℕ) (es : List Event) → list_all (is_known indexes) es ≡ true → list_any (begins_scan i) es ≡ true → has_index i indexes ≡ true
+begun_known indexes i [] all h = no_way (sym h)
+begun_known indexes i (Scan j ∷ es) all h = by (nat_eq j i) refl h
+  where
+    by : (b : Bool) → nat_eq j i ≡ b → (b || list_any (begins_scan i) es) ≡ true → has_index i indexes ≡ true
+    by true same h = subst (λ (n : ℕ). has_index n indexes ≡ true) (number_is j i same) (left_true _ _ all)
+    by false same h = begun_known indexes i es (right_true (has_index j indexes) _ all) h
+begun_known indexes i (At to ∷ es) all h = begun_known indexes i es all h
+begun_known indexes i (ListOf k keys ∷ es) all h = begun_known indexes i es all h
+begun_known indexes i (Drop k ∷ es) all h = begun_known indexes i es all h
+begun_known indexes i (FullEvent ∷ es) all h = begun_known indexes i es all h
+begun_known indexes i (Stop ∷ es) all h = begun_known indexes i es all h
+
+tail_known : (indexes : List ℕ) (all es : List Event) → list_all (is_known indexes) all ≡ true → list_all (is_known indexes) es ≡ true → reads_tail all es ≡ true → list_all (names_known indexes) es ≡ true
+tail_known indexes all [] k l h = refl
+tail_known indexes all (Scan i ∷ es) k l h = both _ _ (left_true _ _ l) (tail_known indexes all es k (right_true (has_index i indexes) _ l) h)
+tail_known indexes all (ListOf i keys ∷ es) k l h = both _ _ (begun_known indexes i all k (left_true _ _ h)) (ends_known indexes FinalList es (right_true (list_any (begins_scan i) all) _ h))
+tail_known indexes all (Drop i ∷ es) k l h = both _ _ (begun_known indexes i all k (left_true _ _ h)) (ends_known indexes FinalTable es (right_true (list_any (begins_scan i) all) _ h))
+tail_known indexes all (At to ∷ es) k l h = no_way (sym h)
+tail_known indexes all (FullEvent ∷ es) k l h = no_way (sym h)
+tail_known indexes all (Stop ∷ es) k l h = no_way (sym h)
+
+scans_known : (indexes : List ℕ) (es : List Event) → list_all (is_known indexes) es ≡ true → reads_scans es ≡ true → list_all (names_known indexes) es ≡ true
+scans_known indexes [] all h = no_way (sym h)
+scans_known indexes (Scan i ∷ es) all h = both _ _ (left_true _ _ all) (tail_known indexes (Scan i ∷ es) es all (right_true (has_index i indexes) _ all) h)
+scans_known indexes (At to ∷ es) all h = no_way (sym h)
+scans_known indexes (ListOf i keys ∷ es) all h = no_way (sym h)
+scans_known indexes (Drop i ∷ es) all h = no_way (sym h)
+scans_known indexes (FullEvent ∷ es) all h = no_way (sym h)
+scans_known indexes (Stop ∷ es) all h = no_way (sym h)
+
+union_known : (indexes : List ℕ) (es : List Event) → list_all (is_known indexes) es ≡ true → reads_union es ≡ true → list_all (names_known indexes) es ≡ true
+union_known indexes [] all h = no_way (sym h)
+union_known indexes (At c ∷ es) all h = scans_known indexes es all (right_true (same_control c BackgroundAlone) _ h)
+union_known indexes (Scan i ∷ es) all h = no_way (sym h)
+union_known indexes (ListOf i keys ∷ es) all h = no_way (sym h)
+union_known indexes (Drop i ∷ es) all h = no_way (sym h)
+union_known indexes (FullEvent ∷ es) all h = no_way (sym h)
+union_known indexes (Stop ∷ es) all h = no_way (sym h)
+
+by_known : (indexes : List ℕ) (s : Strategy) (es : List Event) → list_all (is_known indexes) es ≡ true → reads_by s es ≡ true → list_all (names_known indexes) es ≡ true
+by_known indexes Table es all r = all_known indexes Table es all r
+by_known indexes BackgroundOnly es all r = all_known indexes BackgroundOnly es all r
+by_known indexes FastFirst es all r = all_known indexes FastFirst es all r
+by_known indexes Sorted es all r = all_known indexes Sorted es all r
+by_known indexes IndexOnly es all r = all_known indexes IndexOnly es all r
+by_known indexes Union es all r = union_known indexes es all r
+
 pub events_known : (indexes : List ℕ) (s : Strategy) (es : List Event) → is_read s es indexes ≡ true → list_all (names_known indexes) es ≡ true
-events_known indexes s es r = all_known indexes s es (left_true _ _ (left_true _ _ r)) (right_true _ _ r)
+events_known indexes s es r = by_known indexes s es (left_true _ _ (left_true _ _ r)) (right_true _ _ r)

@@ -6,6 +6,7 @@ use Rattle.rv_judge.specs.declared.events.Strategy.{Strategy}
 use Rattle.rv_judge.specs.declared.events.Event.{Event}
 use Rattle.rv_judge.specs.declared.events.Trace.{Trace}
 use Rattle.rv_judge.specs.Runs.{Allowed}
+use Rattle.rv_judge.proofs.Allowing.{retold}
 use Rattle.rv_lang.specs.declared.reply.Shown.{Shown}
 use Rattle.rv_catalog.specs.declared.def.IndexDef.{IndexDef}
 use Rattle.rv_model.specs.Showing.{ShowsTrace, numbers_over, shown_event, shown_trace}
@@ -20,10 +21,10 @@ use Rattle.rv_decide.proofs.Names.{names_known, read_all, shown_all}
 
 -- what a trace has read does not matter
 told : (t : Trace) (indexes : List ℕ) → Allowed t indexes → Allowed (trace_of t.strategy t.events.items) indexes
-told t indexes a = record { planned = a.planned; known = a.known; once = a.once; scanned = a.scanned; turns = a.turns; run = a.run; told = a.told }
+told t indexes a = retold t (trace_of t.strategy t.events.items) indexes refl refl a
 
 untold : (t : Trace) (indexes : List ℕ) → Allowed (trace_of t.strategy t.events.items) indexes → Allowed t indexes
-untold t indexes a = record { planned = a.planned; known = a.known; once = a.once; scanned = a.scanned; turns = a.turns; run = a.run; told = a.told }
+untold t indexes a = retold (trace_of t.strategy t.events.items) t indexes refl refl a
 
 -- the events of a trace that may be told are found
 found : (indexes : List IndexDef) (table : ℕ) (shown : Shown) → AreNamedApart indexes → (t : ShowsTrace indexes table shown) → events_of indexes table shown.events ≡ Some t.trace.events.items

@@ -4,6 +4,7 @@ use Rattle.rv_judge.specs.declared.counting.Counts.{Counts}
 use Rattle.rv_judge.specs.declared.events.Trace.{Trace}
 use Rattle.rv_reader.specs.Shown.{Shown}
 use Rattle.rv_judge.specs.Runs.{Allowed}
+use Rattle.rv_judge.proofs.Allowing.{retold}
 use Rattle.rv_retrieval.specs.Runs.{indexes_asked}
 use Rattle.rv_judge.specs.Tracing.{SameCounts}
 use Rattle.rv_access.specs.Accesses.{AccessFits, SamePlans, query_of, trace_of}
@@ -45,7 +46,7 @@ told_allowed shown p fits =
     let first = first_fits p.asked shown p.stack.above p.stack.at stack.above stack.at stack.deep in
     let run = allowed (first_of p.stack).here first.1.tells in
     let over : indexes_asked (query_of (first_of p.stack).here) ≡ numbers_of (item_at p.asked 0).indexes = ap numbers_of (first.1.asks.item.over ∙ ap (λ (n : ℕ). (item_at p.asked n).indexes) first.0) in
-    subst (Allowed (plan_trace p)) over (record { planned = run.planned; known = run.known; once = run.once; scanned = run.scanned; turns = run.turns; run = run.run; told = run.told })
+    subst (Allowed (plan_trace p)) over (retold (trace_of (first_of p.stack).here) (plan_trace p) (indexes_asked (query_of (first_of p.stack).here)) refl refl run)
 
 -- A call that leaves the rest.
 

@@ -146,6 +146,7 @@ strategy_line strategies.BackgroundOnly = refl
 strategy_line strategies.FastFirst = refl
 strategy_line strategies.Sorted = refl
 strategy_line strategies.IndexOnly = refl
+strategy_line strategies.Union = refl
 
 event_lines : (e : ShownEvent) → IsPlainEvent e → AreLines (event_words e)
 event_lines (events.At control) p = (control_line control, tt)

@@ -72,6 +72,7 @@ strategy_unspaced strategies.BackgroundOnly = refl
 strategy_unspaced strategies.FastFirst = refl
 strategy_unspaced strategies.Sorted = refl
 strategy_unspaced strategies.IndexOnly = refl
+strategy_unspaced strategies.Union = refl
 
 join_words : (ws vs : List (List ℕ)) → AreWords ws → AreWords vs → AreWords (ws ++ vs)
 join_words [] vs a b = b
@@ -161,7 +162,7 @@ events_same (d ∷ es) (f ∷ fs) x y pe pf nx ny e =
     (cc, r.1)
 
 abbrev strategy_of : List ℕ → Strategy
-strategy_of w = (if bytes_eq w (codes "table") then strategies.Table else (if bytes_eq w (codes "background-only") then strategies.BackgroundOnly else (if bytes_eq w (codes "fast-first") then strategies.FastFirst else (if bytes_eq w (codes "sorted") then strategies.Sorted else strategies.IndexOnly))))
+strategy_of w = (if bytes_eq w (codes "table") then strategies.Table else (if bytes_eq w (codes "background-only") then strategies.BackgroundOnly else (if bytes_eq w (codes "fast-first") then strategies.FastFirst else (if bytes_eq w (codes "sorted") then strategies.Sorted else (if bytes_eq w (codes "index-only") then strategies.IndexOnly else strategies.Union)))))
 
 strategy_back : (s : Strategy) → strategy_of (strategy_word s) ≡ s
 strategy_back strategies.Table = refl
@@ -169,6 +170,7 @@ strategy_back strategies.BackgroundOnly = refl
 strategy_back strategies.FastFirst = refl
 strategy_back strategies.Sorted = refl
 strategy_back strategies.IndexOnly = refl
+strategy_back strategies.Union = refl
 
 pub trace_same : (a b : Shown) → IsPlainTrace a → IsPlainTrace b → words_text (trace_words a) ≡ words_text (trace_words b) → a ≡ b
 trace_same a b pa pb e =

@@ -89,6 +89,7 @@ strategy_word strategies.BackgroundOnly = codes "background-only"
 strategy_word strategies.FastFirst = codes "fast-first"
 strategy_word strategies.Sorted = codes "sorted"
 strategy_word strategies.IndexOnly = codes "index-only"
+strategy_word strategies.Union = codes "union"
 
 -- the word for a control
 abbrev pub control_word : Control → List ℕ

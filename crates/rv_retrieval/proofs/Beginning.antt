@@ -5,7 +5,7 @@ use Rattle.rv_restrict.specs.declared.atom.Atom.{Atom}
 use Rattle.rv_restrict.specs.Truth.{qualifies}
 use Rattle.rv_keys.specs.Keys.{has_key}
 use Rattle.rv_judge.specs.declared.events.Strategy.{Strategy}
-use Rattle.rv_judge.specs.declared.events.Strategy.TheVariants.{Table, BackgroundOnly, FastFirst, Sorted, IndexOnly}
+use Rattle.rv_judge.specs.declared.events.Strategy.TheVariants.{Table, BackgroundOnly, FastFirst, Sorted, IndexOnly, Union}
 use Rattle.rv_judge.specs.declared.events.Control.{Control}
 use Rattle.rv_reader.specs.Shown.{Shown}
 use Rattle.rv_scan.specs.Places.{unseen, Fits as PlaceFits}
@@ -28,6 +28,7 @@ all_qualifying only (r ∷ rows) = elim (qualifies only r.values) as (λ b. cond
 first_led : (s : Strategy) (b : Bool) → source_of (first_of s b) s ≡ Ahead → is_led s ≡ true
 first_led Table b h = absurd (let bad : Pages ≡ Ahead = h in cc)
 first_led BackgroundOnly b h = absurd (let bad : Undelivered ≡ Ahead = h in cc)
+first_led Union b h = absurd (let bad : Undelivered ≡ Ahead = h in cc)
 first_led FastFirst b h = absurd (let bad : Undelivered ≡ Ahead = h in cc)
 first_led Sorted b h = refl
 first_led IndexOnly b h = refl
@@ -35,6 +36,7 @@ first_led IndexOnly b h = refl
 first_no_keys : (s : Strategy) (b : Bool) → source_of (first_of s b) s ≡ Keys → true ≡ false
 first_no_keys Table b h = absurd (let bad : Pages ≡ Keys = h in cc)
 first_no_keys BackgroundOnly b h = absurd (let bad : Undelivered ≡ Keys = h in cc)
+first_no_keys Union b h = absurd (let bad : Undelivered ≡ Keys = h in cc)
 first_no_keys FastFirst b h = absurd (let bad : Undelivered ≡ Keys = h in cc)
 first_no_keys Sorted true h = absurd (let bad : Ahead ≡ Keys = h in cc)
 first_no_keys Sorted false h = absurd (let bad : Ahead ≡ Keys = h in cc)
@@ -44,6 +46,7 @@ first_no_keys IndexOnly false h = absurd (let bad : Ahead ≡ Keys = h in cc)
 first_sorted : (s : Strategy) (b : Bool) → is_sorted s ≡ true → source_of (first_of s b) s ≡ Ahead
 first_sorted Table b h = absurd (cc)
 first_sorted BackgroundOnly b h = absurd (cc)
+first_sorted Union b h = absurd (cc)
 first_sorted FastFirst b h = absurd (cc)
 first_sorted Sorted true h = refl
 first_sorted Sorted false h = refl
@@ -107,6 +110,7 @@ opened_rest v scans cursor opening some shown n o = same_rest v.query.only (rows
     go : (s : Strategy) (b : Bool) → v.strategy ≡ s → (k : ℕ) → qualifies_at v.query.only (rows_of v shown) k ≡ true → left_at (source_of (first_of s b) s) v shown k ≡ true
     go Table b e k q = both_true (has_row k (unseen v.last (rows_of v shown))) (not (has_key k v.delivered)) (ap (has_row k) (n.pages (rows_of v shown)) ∙ row_there v.query.only (rows_of v shown) k q) (none_delivered v scans cursor opening some k n)
     go BackgroundOnly b e k q = undelivered k
+    go Union b e k q = undelivered k
     go FastFirst b e k q = undelivered k
     go Sorted true e k q = o.all (ap is_led e) k q
     go Sorted false e k q = o.all (ap is_led e) k q

@@ -4,7 +4,7 @@ use Rattle.std.specs.Prelude.{if◌then◌else◌}
 use Rattle.std.specs.List.{list_all}
 use Rattle.std.proofs.lemmas.List.{length-drop}
 use Rattle.rv_judge.specs.declared.events.Strategy.{Strategy}
-use Rattle.rv_judge.specs.declared.events.Strategy.TheVariants.{Table, BackgroundOnly, FastFirst, Sorted, IndexOnly}
+use Rattle.rv_judge.specs.declared.events.Strategy.TheVariants.{Table, BackgroundOnly, FastFirst, Sorted, IndexOnly, Union}
 use Rattle.rv_judge.specs.declared.events.Control.{Control}
 use Rattle.rv_judge.specs.declared.events.Control.TheVariants.{Building, ForegroundAlone, BackgroundAlone, FinalList, FinalTable, Done}
 use Rattle.rv_judge.specs.declared.events.Happening.{Happening}
@@ -212,6 +212,7 @@ HasFront s c = is_building c ≡ true → (fast_first s || is_led s) ≡ true
 pub ended_none : (s : Strategy) (c : Control) (listed : Bool) → HasFront s c → is_background c ≡ true → is_background (next_control s c (ScanEnded false listed)) ≡ false
 ended_none Table Building l f b = absurd (let bad = f refl in cc)
 ended_none BackgroundOnly Building l f b = absurd (let bad = f refl in cc)
+ended_none Union Building l f b = absurd (let bad = f refl in cc)
 ended_none FastFirst Building true f b = refl
 ended_none FastFirst Building false f b = refl
 ended_none Sorted Building l f b = refl
@@ -227,6 +228,7 @@ ended_none s Done l f b = absurd (cc)
 pub scan_none : (s : Strategy) (c : Control) (listed : Bool) → HasFront s c → is_background c ≡ true → is_background (next_control s c (Ruled AbandonScan false listed)) ≡ false
 scan_none Table Building l f b = absurd (let bad = f refl in cc)
 scan_none BackgroundOnly Building l f b = absurd (let bad = f refl in cc)
+scan_none Union Building l f b = absurd (let bad = f refl in cc)
 scan_none FastFirst Building true f b = refl
 scan_none FastFirst Building false f b = refl
 scan_none Sorted Building l f b = refl
@@ -242,6 +244,7 @@ scan_none s Done l f b = absurd (cc)
 pub back_none : (s : Strategy) (c : Control) (more listed : Bool) → HasFront s c → is_background c ≡ true → is_background (next_control s c (Ruled AbandonBackground more listed)) ≡ false
 back_none Table Building m l f b = absurd (let bad = f refl in cc)
 back_none BackgroundOnly Building m l f b = absurd (let bad = f refl in cc)
+back_none Union Building m l f b = absurd (let bad = f refl in cc)
 back_none FastFirst Building m true f b = refl
 back_none FastFirst Building m false f b = refl
 back_none Sorted Building m l f b = refl

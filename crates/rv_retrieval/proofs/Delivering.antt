@@ -7,7 +7,7 @@ use Rattle.rv_keys.specs.Keys.{has_key}
 use Rattle.rv_delivered.specs.Rows.{AddsRow}
 use Rattle.rv_judge.specs.declared.events.Trace.{Trace}
 use Rattle.rv_judge.specs.declared.events.Strategy.{Strategy}
-use Rattle.rv_judge.specs.declared.events.Strategy.TheVariants.{Table, BackgroundOnly, FastFirst, Sorted, IndexOnly}
+use Rattle.rv_judge.specs.declared.events.Strategy.TheVariants.{Table, BackgroundOnly, FastFirst, Sorted, IndexOnly, Union}
 use Rattle.rv_judge.specs.declared.events.Control.{Control}
 use Rattle.rv_judge.specs.declared.events.Control.TheVariants.{Building, ForegroundAlone, BackgroundAlone, FinalList, FinalTable, Done}
 use Rattle.rv_judge.specs.declared.events.Happening.TheVariants.{Full, FrontEnded}
@@ -188,9 +188,11 @@ front_done Sorted ForegroundAlone a l = refl
 front_done IndexOnly ForegroundAlone a l = refl
 front_done Table Building a l = absurd (cc)
 front_done BackgroundOnly Building a l = absurd (cc)
+front_done Union Building a l = absurd (cc)
 front_done FastFirst Building a l = absurd (cc)
 front_done Table ForegroundAlone a l = absurd (cc)
 front_done BackgroundOnly ForegroundAlone a l = absurd (cc)
+front_done Union ForegroundAlone a l = absurd (cc)
 front_done FastFirst ForegroundAlone a l = absurd (cc)
 front_done s BackgroundAlone a l = absurd (cc)
 front_done s FinalList a l = absurd (cc)
@@ -237,6 +239,7 @@ building_is Done h = absurd (cc)
 index_only_is : (s : Strategy) → is_index_only s ≡ true → s ≡ IndexOnly
 index_only_is Table h = absurd (cc)
 index_only_is BackgroundOnly h = absurd (cc)
+index_only_is Union h = absurd (cc)
 index_only_is FastFirst h = absurd (cc)
 index_only_is Sorted h = absurd (cc)
 index_only_is IndexOnly h = refl

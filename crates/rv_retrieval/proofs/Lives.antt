@@ -11,7 +11,7 @@ use Rattle.rv_value.specs.declared.record.Record.{Record}
 use Rattle.rv_judge.specs.declared.events.Control.{Control}
 use Rattle.rv_judge.specs.declared.events.Control.TheVariants.{Building}
 use Rattle.rv_judge.specs.declared.events.Strategy.{Strategy}
-use Rattle.rv_judge.specs.declared.events.Strategy.TheVariants.{Table, BackgroundOnly, FastFirst, Sorted, IndexOnly}
+use Rattle.rv_judge.specs.declared.events.Strategy.TheVariants.{Table, BackgroundOnly, FastFirst, Sorted, IndexOnly, Union}
 use Rattle.rv_judge.specs.Course.{fast_first}
 use Rattle.rv_restrict.specs.declared.atom.Atom.{Atom}
 use Rattle.rv_reader.specs.Entries.{is_in}
@@ -223,6 +223,7 @@ scans_planned only order goal cs choice scans chosen s back = go (order_index or
 front_of : (s : Strategy) (b : Bool) → HasFront s (first_of s b)
 front_of Table b h = no_way (sym h)
 front_of BackgroundOnly b h = no_way (sym h)
+front_of Union b h = no_way (sym h)
 front_of FastFirst b h = refl
 front_of Sorted b h = refl
 front_of IndexOnly b h = refl

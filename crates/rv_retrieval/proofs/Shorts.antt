@@ -10,7 +10,7 @@ use Rattle.std.proofs.lemmas.Map.Keys.{IsDistinct-head, IsDistinct-tail}
 use Rattle.std.proofs.lemmas.List.Sorted.{length_permutation, sum_by-IsPermutation}
 use Rattle.rv_value.specs.declared.record.IndexEntry.{IndexEntry}
 use Rattle.rv_judge.specs.declared.events.Strategy.{Strategy}
-use Rattle.rv_judge.specs.declared.events.Strategy.TheVariants.{Table, BackgroundOnly, FastFirst, Sorted, IndexOnly}
+use Rattle.rv_judge.specs.declared.events.Strategy.TheVariants.{Table, BackgroundOnly, FastFirst, Sorted, IndexOnly, Union}
 use Rattle.rv_judge.specs.declared.events.Control.{Control}
 use Rattle.rv_judge.specs.declared.events.Control.TheVariants.{Building, ForegroundAlone, BackgroundAlone, FinalList, FinalTable, Done}
 use Rattle.rv_judge.specs.declared.events.Happening.TheVariants.{ScanEnded}
@@ -97,6 +97,7 @@ no_way bad = absurd (cc)
 settled_next : (s : Strategy) (c : Control) → HasFront s c → is_background c ≡ true → (is_settled (next_control s c (ScanEnded false true)) ≡ true) × (next_control s c (ScanEnded false true) ≡ ForegroundAlone → is_sorted s ≡ true)
 settled_next Table Building f b = no_way (sym (f refl))
 settled_next BackgroundOnly Building f b = no_way (sym (f refl))
+settled_next Union Building f b = no_way (sym (f refl))
 settled_next FastFirst Building f b = (refl, λ e. absurd (cc))
 settled_next Sorted Building f b = (refl, λ e. refl)
 settled_next IndexOnly Building f b = (refl, λ e. absurd (cc))

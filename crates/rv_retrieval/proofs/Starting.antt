@@ -15,7 +15,7 @@ use Rattle.rv_judge.specs.declared.events.Event.{Event}
 use Rattle.rv_judge.specs.declared.events.Event.TheVariants.{At, Scan}
 use Rattle.rv_judge.specs.declared.events.Happening.TheVariants.{ScanEnded}
 use Rattle.rv_judge.specs.declared.events.Strategy.{Strategy}
-use Rattle.rv_judge.specs.declared.events.Strategy.TheVariants.{Table, BackgroundOnly, FastFirst, Sorted, IndexOnly}
+use Rattle.rv_judge.specs.declared.events.Strategy.TheVariants.{Table, BackgroundOnly, FastFirst, Sorted, IndexOnly, Union}
 use Rattle.rv_judge.specs.Runs.{EachOnce, HasScans, has_index, idle, start, start_events}
 use Rattle.rv_restrict.specs.declared.atom.Atom.{Atom}
 use Rattle.rv_reader.specs.Shown.{Shown}
@@ -176,13 +176,23 @@ one_scan query shown b cs scans e can s one =
 
 -- A strategy that begins with a background has a scan.
 
-has_by : (st : Strategy) (scans : List ScanPlan) → 0 < length scans → HasScans st (indexes_of scans)
-has_by st [] l = absurd (omega arith)
-has_by Table (p ∷ scans) l = tt
-has_by BackgroundOnly (p ∷ scans) l = tt
-has_by FastFirst (p ∷ scans) l = tt
-has_by Sorted (p ∷ scans) l = tt
-has_by IndexOnly (p ∷ scans) l = tt
+-- a union has no planned scans, and is never chosen
+abbrev is_planned : Strategy → Bool
+is_planned Table = true
+is_planned BackgroundOnly = true
+is_planned FastFirst = true
+is_planned Sorted = true
+is_planned IndexOnly = true
+is_planned Union = false
+
+has_by : (st : Strategy) (scans : List ScanPlan) → is_planned st ≡ true → 0 < length scans → HasScans st (indexes_of scans)
+has_by st [] h l = absurd (omega arith)
+has_by Table (p ∷ scans) h l = tt
+has_by BackgroundOnly (p ∷ scans) h l = tt
+has_by FastFirst (p ∷ scans) h l = tt
+has_by Sorted (p ∷ scans) h l = tt
+has_by IndexOnly (p ∷ scans) h l = tt
+has_by Union (p ∷ scans) h l = absurd (cc)
 
 pub chosen_has : (only : List (List Atom)) (order : List ℕ) (goal : Goal2) (cs : List Candidate) (choice : Choice) (scans : List ScanPlan) → IsChosen order goal cs choice → AreScans only cs choice.background scans → HasScans choice.strategy (indexes_of scans)
 chosen_has only order goal cs choice scans chosen s = go (order_index order cs) chosen.short chosen.sufficient chosen.restricted chosen.least_short chosen.least_restricted chosen.rules
@@ -190,26 +200,26 @@ chosen_has only order goal cs choice scans chosen s = go (order_index order cs) 
     itself : (n : ℕ) → nat_eq n n ≡ true
     itself n = grind (arith, nat_tests)
 
-    some : (at : ℕ) → at < length cs → is_scanned choice.background (candidate_at cs at) ≡ true → HasScans choice.strategy (indexes_of scans)
-    some at l h =
+    some : (at : ℕ) → is_planned choice.strategy ≡ true → at < length cs → is_scanned choice.background (candidate_at cs at) ≡ true → HasScans choice.strategy (indexes_of scans)
+    some at planned l h =
         let same = length_permutation (map (plan_of only) (filter (is_scanned choice.background) cs)) scans s.these in
         let mapped = length-map (filter (is_scanned choice.background) cs) (plan_of only) in
         let found = filter_some (is_scanned choice.background) cs at l h in
-        has_by choice.strategy scans (omega arith)
+        has_by choice.strategy scans planned (omega arith)
 
     led : (st : Strategy) → choice.strategy ≡ st → HasScans st (indexes_of scans) → HasScans choice.strategy (indexes_of scans)
     led st e h = subst (λ (x : Strategy). HasScans x (indexes_of scans)) (sym e) h
 
     restricted_has : (goal : Goal2) (restricted : Option ℕ) → IsLeastOf Restricted cs restricted → choice ≡ restricted_choice goal restricted → HasScans choice.strategy (indexes_of scans)
-    restricted_has Soon (Some at) l r = some at l.below (ap (λ (c : Choice). is_scanned c.background (candidate_at cs at)) r ∙ l.is)
-    restricted_has TotalTime (Some at) l r = some at l.below (ap (λ (c : Choice). is_scanned c.background (candidate_at cs at)) r ∙ l.is)
+    restricted_has Soon (Some at) l r = some at (ap (λ (c : Choice). is_planned c.strategy) r) l.below (ap (λ (c : Choice). is_scanned c.background (candidate_at cs at)) r ∙ l.is)
+    restricted_has TotalTime (Some at) l r = some at (ap (λ (c : Choice). is_planned c.strategy) r) l.below (ap (λ (c : Choice). is_scanned c.background (candidate_at cs at)) r ∙ l.is)
     restricted_has Soon None l r = led Table (ap (λ (c : Choice). c.strategy) r) tt
     restricted_has TotalTime None l r = led Table (ap (λ (c : Choice). c.strategy) r) tt
 
     go : (found short sufficient restricted : Option ℕ) → IsLeastOf Short cs short → IsLeastOf Restricted cs restricted → choice ≡ choice_of cs goal found short sufficient restricted → HasScans choice.strategy (indexes_of scans)
     go (Some at) (Some n) sufficient restricted l m r = led Sorted (ap (λ (c : Choice). c.strategy) r) tt
     go (Some at) None sufficient restricted l m r = led Sorted (ap (λ (c : Choice). c.strategy) r) tt
-    go None (Some n) sufficient restricted l m r = some n l.below (ap (λ (c : Choice). is_scanned c.background (candidate_at cs n)) r ∙ itself (candidate_at cs n).index)
+    go None (Some n) sufficient restricted l m r = some n (ap (λ (c : Choice). is_planned c.strategy) r) l.below (ap (λ (c : Choice). is_scanned c.background (candidate_at cs n)) r ∙ itself (candidate_at cs n).index)
     go None None (Some at) restricted l m r = led IndexOnly (ap (λ (c : Choice). c.strategy) r) tt
     go None None None restricted l m r = restricted_has goal restricted m r
 
@@ -274,6 +284,7 @@ tells_first Sorted [] indexes j e z few has once known = opens_alone Sorted Fore
 tells_first Sorted (p ∷ plans) indexes j e z few has once known = subst (λ (b : Bool). TellsOf Sorted Sorted (first_of Sorted b) (p ∷ plans) 0 None indexes (first_events (first_of Sorted b) j)) (sym (is_less 0 (length (p ∷ plans)) (omega arith))) (rw (first_scan j Building p plans e z refl) (opens_with Sorted Building p plans indexes refl refl (λ h. refl) (omega arith) few has once known))
 tells_first IndexOnly [] indexes j e z few has once known = opens_alone IndexOnly ForegroundAlone [] indexes refl refl refl refl (omega arith) few has once known
 tells_first IndexOnly (p ∷ plans) indexes j e z few has once known = subst (λ (b : Bool). TellsOf IndexOnly IndexOnly (first_of IndexOnly b) (p ∷ plans) 0 None indexes (first_events (first_of IndexOnly b) j)) (sym (is_less 0 (length (p ∷ plans)) (omega arith))) (rw (first_scan j Building p plans e z refl) (opens_with IndexOnly Building p plans indexes refl refl (λ h. refl) (omega arith) few has once known))
+tells_first Union plans indexes j e z few has once known = absurd has
 
 begun_tells : (v : Shape) (query : Query) (st : Strategy) (plans : List ScanPlan) (front : Front) (guaranteed cursor opening : ℕ) → Begun query st plans front guaranteed cursor opening v → v.trace ≡ start_told (record v { trace = new_trace st }) → length plans ≤ 8 → HasScans st (indexes_of plans) → EachOnce (indexes_of plans) → list_all (λ i. has_index i (indexes_asked query)) (indexes_of plans) ≡ true → Tells v
 begun_tells v query st plans front guaranteed cursor opening b told few has once known =

@@ -6,7 +6,7 @@ use Rattle.rv_restrict.specs.declared.atom.Atom.{Atom}
 use Rattle.rv_restrict.specs.Truth.{qualifies}
 use Rattle.rv_keys.specs.Keys.{has_key}
 use Rattle.rv_judge.specs.declared.events.Strategy.{Strategy}
-use Rattle.rv_judge.specs.declared.events.Strategy.TheVariants.{Table, BackgroundOnly, FastFirst, Sorted, IndexOnly}
+use Rattle.rv_judge.specs.declared.events.Strategy.TheVariants.{Table, BackgroundOnly, FastFirst, Sorted, IndexOnly, Union}
 use Rattle.rv_judge.specs.declared.events.Control.{Control}
 use Rattle.rv_judge.specs.declared.events.Control.TheVariants.{Building, ForegroundAlone, BackgroundAlone, FinalList, FinalTable, Done}
 use Rattle.rv_judge.specs.declared.events.Trace.{Trace}
@@ -59,6 +59,7 @@ row_there only (r ∷ rows) n q = either (nat_eq n r.row.0) (qualifies only r.va
 pub both_ahead : (c : Control) (s : Strategy) → (is_building c && is_index_only s) ≡ true → source_of c s ≡ Ahead
 both_ahead Building Table h = absurd (cc)
 both_ahead Building BackgroundOnly h = absurd (cc)
+both_ahead Building Union h = absurd (cc)
 both_ahead Building FastFirst h = absurd (cc)
 both_ahead Building Sorted h = absurd (cc)
 both_ahead Building IndexOnly h = refl
@@ -103,6 +104,7 @@ sorted_source v shown f s u = by (f.sorted s)
 not_both : (s : Strategy) (c : Control) → is_sorted s ≡ true → (is_building c && is_index_only s) ≡ false
 not_both Table c h = absurd (cc)
 not_both BackgroundOnly c h = absurd (cc)
+not_both Union c h = absurd (cc)
 not_both FastFirst c h = absurd (cc)
 not_both Sorted c h = no (is_building c)
   where
@@ -191,6 +193,7 @@ trace_keeps v new t e = aside_keeps v new v.borrowed v.guaranteed t e
 back_source : (c : Control) (s : Strategy) → is_background c ≡ true → (source_of c s ≡ Undelivered) ⊎ (source_of c s ≡ Ahead)
 back_source Building Table h = inl refl
 back_source Building BackgroundOnly h = inl refl
+back_source Building Union h = inl refl
 back_source Building FastFirst h = inl refl
 back_source Building Sorted h = inr refl
 back_source Building IndexOnly h = inr refl
@@ -284,6 +287,7 @@ goes_ended v more = go v.strategy v.control more v.joint.list refl refl refl
     go s Building true l es ec el = stay v Building ec
     go Table Building false l es ec el = stay v Building ec
     go BackgroundOnly Building false l es ec el = stay v Building ec
+    go Union Building false l es ec el = stay v Building ec
     go FastFirst Building false (Some keys) es ec el = to_list v (inl (source_is v Building FastFirst ec es)) (is_there v.joint.list keys el)
     go FastFirst Building false None es ec el = to_table v (source_is v Building FastFirst ec es)
     go Sorted Building false l es ec el = to_front v (source_is v Building Sorted ec es)
@@ -294,6 +298,7 @@ goes_ended v more = go v.strategy v.control more v.joint.list refl refl refl
     go s BackgroundAlone false None es ec el = to_table v (source_is v BackgroundAlone s ec es)
     go Table ForegroundAlone m l es ec el = stay v ForegroundAlone ec
     go BackgroundOnly ForegroundAlone m l es ec el = stay v ForegroundAlone ec
+    go Union ForegroundAlone m l es ec el = stay v ForegroundAlone ec
     go FastFirst ForegroundAlone m l es ec el = stay v ForegroundAlone ec
     go Sorted ForegroundAlone m l es ec el = stay v ForegroundAlone ec
     go IndexOnly ForegroundAlone m l es ec el = stay v ForegroundAlone ec
@@ -307,12 +312,14 @@ goes_ruled v verdict more = go v.strategy v.control verdict more v.joint.list re
     go : (s : Strategy) (c : Control) (w : Verdict) (m : Bool) (l : Option (List ℕ)) → v.strategy ≡ s → v.control ≡ c → v.joint.list ≡ l → MayGo v (next_control s c (Ruled w m (is_some l)))
     go Table Building Continue m l es ec el = stay v Building ec
     go BackgroundOnly Building Continue m l es ec el = stay v Building ec
+    go Union Building Continue m l es ec el = stay v Building ec
     go FastFirst Building Continue m l es ec el = stay v Building ec
     go Sorted Building Continue m l es ec el = stay v Building ec
     go IndexOnly Building Continue m l es ec el = stay v Building ec
     go s Building AbandonScan true l es ec el = stay v Building ec
     go Table Building AbandonScan false l es ec el = stay v Building ec
     go BackgroundOnly Building AbandonScan false l es ec el = stay v Building ec
+    go Union Building AbandonScan false l es ec el = stay v Building ec
     go FastFirst Building AbandonScan false (Some keys) es ec el = to_list v (inl (source_is v Building FastFirst ec es)) (is_there v.joint.list keys el)
     go FastFirst Building AbandonScan false None es ec el = to_table v (source_is v Building FastFirst ec es)
     go Sorted Building AbandonScan false l es ec el = to_front v (source_is v Building Sorted ec es)
@@ -320,11 +327,13 @@ goes_ruled v verdict more = go v.strategy v.control verdict more v.joint.list re
     go IndexOnly Building AbandonScan false None es ec el = to_front v (source_is v Building IndexOnly ec es)
     go Table Building AbandonForeground m l es ec el = stay v Building ec
     go BackgroundOnly Building AbandonForeground m l es ec el = stay v Building ec
+    go Union Building AbandonForeground m l es ec el = stay v Building ec
     go FastFirst Building AbandonForeground m l es ec el = to_back v (inl (source_is v Building FastFirst ec es))
     go Sorted Building AbandonForeground m l es ec el = stay v Building ec
     go IndexOnly Building AbandonForeground m l es ec el = to_back v (inr (both_is v ec es))
     go Table Building AbandonBackground m l es ec el = stay v Building ec
     go BackgroundOnly Building AbandonBackground m l es ec el = stay v Building ec
+    go Union Building AbandonBackground m l es ec el = stay v Building ec
     go FastFirst Building AbandonBackground m (Some keys) es ec el = to_list v (inl (source_is v Building FastFirst ec es)) (is_there v.joint.list keys el)
     go FastFirst Building AbandonBackground m None es ec el = to_table v (source_is v Building FastFirst ec es)
     go Sorted Building AbandonBackground m l es ec el = to_front v (source_is v Building Sorted ec es)
@@ -338,6 +347,7 @@ goes_ruled v verdict more = go v.strategy v.control verdict more v.joint.list re
     go s BackgroundAlone AbandonBackground m None es ec el = to_table v (source_is v BackgroundAlone s ec es)
     go Table ForegroundAlone w m l es ec el = stay v ForegroundAlone ec
     go BackgroundOnly ForegroundAlone w m l es ec el = stay v ForegroundAlone ec
+    go Union ForegroundAlone w m l es ec el = stay v ForegroundAlone ec
     go FastFirst ForegroundAlone w m l es ec el = stay v ForegroundAlone ec
     go Sorted ForegroundAlone w m l es ec el = stay v ForegroundAlone ec
     go IndexOnly ForegroundAlone w m l es ec el = stay v ForegroundAlone ec

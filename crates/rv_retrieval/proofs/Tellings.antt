@@ -16,14 +16,15 @@ use Rattle.rv_judge.specs.declared.events.Event.{Event}
 use Rattle.rv_judge.specs.declared.events.Event.TheVariants.{At, Scan, List as ListOf, Drop, Full as FullEvent, Stop}
 use Rattle.rv_judge.specs.declared.events.Happening.TheVariants.{ScanEnded, Ruled, Full, FrontEnded, FinalEnded}
 use Rattle.rv_judge.specs.declared.events.Strategy.{Strategy}
-use Rattle.rv_judge.specs.declared.events.Strategy.TheVariants.{Table, BackgroundOnly, FastFirst, Sorted, IndexOnly}
+use Rattle.rv_judge.specs.declared.events.Strategy.TheVariants.{Table, BackgroundOnly, FastFirst, Sorted, IndexOnly, Union}
 use Rattle.rv_judge.specs.declared.judging.Facts.{Facts}
 use Rattle.rv_judge.specs.declared.judging.Verdict.{Verdict}
 use Rattle.rv_judge.specs.Verdicts.{Ruling}
 use Rattle.rv_judge.specs.declared.judging.Verdict.TheVariants.{Continue, AbandonScan, AbandonForeground, AbandonBackground}
 use Rattle.rv_judge.specs.Account.{facts_of}
 use Rattle.rv_judge.specs.Course.{building, fast_first, final, foreground_alone, index_only, next_control}
-use Rattle.rv_judge.specs.Runs.{Allowed}
+use Rattle.rv_judge.specs.Runs.{Allowed, AllowedRun}
+use Rattle.rv_judge.proofs.Allowing.{run_allowed}
 use Rattle.rv_jscan.specs.declared.jscan.Given.{Given}
 use Rattle.rv_jscan.specs.declared.jscan.Given.TheVariants.{Accepted, Stale}
 use Rattle.rv_jscan.specs.declared.jscan.ScanPlan.{ScanPlan}
@@ -231,6 +232,7 @@ filled_tells v can t = elim (cases_Bool (length v.delivered == 1024)) [
     by IndexOnly Building can t = full_tells_index v.trace.strategy v.joint.plans v.joint.ended v.joint.list (indexes_asked v.query) v.trace.events.items t
     by Table Building can t = absurd (cc)
     by BackgroundOnly Building can t = absurd (cc)
+    by Union Building can t = absurd (cc)
     by Sorted Building can t = absurd (cc)
     by st ForegroundAlone can t = absurd (cc)
     by st BackgroundAlone can t = absurd (cc)
@@ -307,6 +309,7 @@ steps_tells would state after shown c d s v new led does t = go v.control v.stra
     go Building FastFirst None ec es b = behind (ap is_background ec) b.1
     go Building Table fresh ec es b = behind (ap is_background ec) b.1
     go Building BackgroundOnly fresh ec es b = behind (ap is_background ec) b.1
+    go Building Union fresh ec es b = behind (ap is_background ec) b.1
     go Building Sorted fresh ec es b = walked s (record v { front = new.front }) new (ap is_led es) (ap (λ (x : Control). building x || foreground_alone x) ec) b.2 t
     go Building IndexOnly fresh ec es b = remembers s (record v { front = new.front }) new (can v.control v.strategy (ap building ec) (ap (λ (x : Strategy). fast_first x || index_only x) es)) (λ e. ap is_led es) b.1 t
     go ForegroundAlone st fresh ec es b = walked s (record v { front = new.front }) new (led (ap (λ (x : Control). source_of x v.strategy) ec)) (ap (λ (x : Control). building x || foreground_alone x) ec) b.2 t
@@ -322,7 +325,7 @@ counted_tells v new c d e t = subst Tells (sym e) t
 
 -- A trace that tells a run is allowed.
 pub allowed : (v : Shape) → Tells v → Allowed v.trace (indexes_asked v.query)
-allowed v t = subst (λ (st : Strategy). Allowed (record v.trace { strategy = st }) (indexes_asked v.query)) (sym t.said) (record {
+allowed v t = run_allowed v.trace (indexes_asked v.query) (subst (λ (st : Strategy). AllowedRun (record v.trace { strategy = st }) (indexes_asked v.query)) (sym t.said) (record {
   planned = indexes_of v.joint.plans;
   known = t.known;
   once = t.once;
@@ -330,7 +333,7 @@ allowed v t = subst (λ (st : Strategy). Allowed (record v.trace { strategy = st
   turns = t.turns;
   run = t.run;
   told = t.told;
-})
+}))
 
 -- A piece that is handed out is of a scan that was not dropped.
 pub undropped_piece : {E : Type 0} (r : Result Taken E) (mid new : Shape) (c d : Counts) → IfOk r (TakesPiece mid) → new ≡ record mid { trace = counted mid.trace c d } → Tells new → IfOk r (IsOfUndropped new)

@@ -7,7 +7,7 @@ use Rattle.rv_judge.specs.declared.events.Event.TheVariants.{At, List as ListOf,
 use Rattle.rv_judge.specs.declared.events.Happening.{Happening}
 use Rattle.rv_judge.specs.declared.events.Happening.TheVariants.{ScanEnded, Ruled, Full, FrontEnded, FinalEnded}
 use Rattle.rv_judge.specs.declared.events.Strategy.{Strategy}
-use Rattle.rv_judge.specs.declared.events.Strategy.TheVariants.{Table, BackgroundOnly, FastFirst, Sorted, IndexOnly}
+use Rattle.rv_judge.specs.declared.events.Strategy.TheVariants.{Table, BackgroundOnly, FastFirst, Sorted, IndexOnly, Union}
 use Rattle.rv_judge.specs.declared.judging.Verdict.TheVariants.{AbandonScan, AbandonForeground, AbandonBackground}
 use Rattle.rv_judge.specs.Course.{building, fast_first, final, foreground_alone, has_row, index_only, next_control}
 use Rattle.rv_judge.specs.Runs.{Standing, after, begun, events_of, idle, scan_events}
@@ -30,6 +30,7 @@ list_on Sorted Building i ahead l keys back both = record { told = refl; moves =
 list_on IndexOnly Building i ahead l keys back both = record { told = refl; moves = refl }
 list_on Table Building i ahead l keys back both = let bad : false ≡ true = both refl in absurd (cc)
 list_on BackgroundOnly Building i ahead l keys back both = let bad : false ≡ true = both refl in absurd (cc)
+list_on Union Building i ahead l keys back both = let bad : false ≡ true = both refl in absurd (cc)
 list_on st ForegroundAlone i ahead l keys back both = absurd (cc)
 list_on st FinalList i ahead l keys back both = absurd (cc)
 list_on st FinalTable i ahead l keys back both = absurd (cc)
@@ -42,6 +43,7 @@ list_last Sorted Building i ahead l keys back both = record { told = refl; moves
 list_last IndexOnly Building i ahead l keys back both = record { told = refl; moves = refl }
 list_last Table Building i ahead l keys back both = let bad : false ≡ true = both refl in absurd (cc)
 list_last BackgroundOnly Building i ahead l keys back both = let bad : false ≡ true = both refl in absurd (cc)
+list_last Union Building i ahead l keys back both = let bad : false ≡ true = both refl in absurd (cc)
 list_last st ForegroundAlone i ahead l keys back both = absurd (cc)
 list_last st FinalList i ahead l keys back both = absurd (cc)
 list_last st FinalTable i ahead l keys back both = absurd (cc)
@@ -59,6 +61,7 @@ drop_on IndexOnly Building i ahead l true back both = record { told = refl; move
 drop_on IndexOnly Building i ahead l false back both = record { told = refl; moves = refl }
 drop_on Table Building i ahead l a back both = let bad : false ≡ true = both refl in absurd (cc)
 drop_on BackgroundOnly Building i ahead l a back both = let bad : false ≡ true = both refl in absurd (cc)
+drop_on Union Building i ahead l a back both = let bad : false ≡ true = both refl in absurd (cc)
 drop_on st ForegroundAlone i ahead l a back both = absurd (cc)
 drop_on st FinalList i ahead l a back both = absurd (cc)
 drop_on st FinalTable i ahead l a back both = absurd (cc)
@@ -75,6 +78,7 @@ drop_last IndexOnly Building i ahead l true back both = record { told = refl; mo
 drop_last IndexOnly Building i ahead l false back both = record { told = refl; moves = refl }
 drop_last Table Building i ahead l a back both = let bad : false ≡ true = both refl in absurd (cc)
 drop_last BackgroundOnly Building i ahead l a back both = let bad : false ≡ true = both refl in absurd (cc)
+drop_last Union Building i ahead l a back both = let bad : false ≡ true = both refl in absurd (cc)
 drop_last st ForegroundAlone i ahead l a back both = absurd (cc)
 drop_last st FinalList i ahead l a back both = absurd (cc)
 drop_last st FinalTable i ahead l a back both = absurd (cc)
@@ -100,6 +104,7 @@ drop_all IndexOnly Building i ahead l true false back both = record { told = ref
 drop_all IndexOnly Building i ahead l false false back both = record { told = refl; moves = refl }
 drop_all Table Building i ahead l a b back both = let bad : false ≡ true = both refl in absurd (cc)
 drop_all BackgroundOnly Building i ahead l a b back both = let bad : false ≡ true = both refl in absurd (cc)
+drop_all Union Building i ahead l a b back both = let bad : false ≡ true = both refl in absurd (cc)
 drop_all st ForegroundAlone i ahead l a b back both = absurd (cc)
 drop_all st FinalList i ahead l a b back both = absurd (cc)
 drop_all st FinalTable i ahead l a b back both = absurd (cc)
@@ -113,6 +118,7 @@ list_rests Sorted Building back both = refl
 list_rests IndexOnly Building back both = refl
 list_rests Table Building back both = let bad : false ≡ true = both refl in absurd (cc)
 list_rests BackgroundOnly Building back both = let bad : false ≡ true = both refl in absurd (cc)
+list_rests Union Building back both = let bad : false ≡ true = both refl in absurd (cc)
 list_rests st ForegroundAlone back both = absurd (cc)
 list_rests st FinalList back both = absurd (cc)
 list_rests st FinalTable back both = absurd (cc)
@@ -129,6 +135,7 @@ drop_rests IndexOnly Building true back both = refl
 drop_rests IndexOnly Building false back both = refl
 drop_rests Table Building a back both = let bad : false ≡ true = both refl in absurd (cc)
 drop_rests BackgroundOnly Building a back both = let bad : false ≡ true = both refl in absurd (cc)
+drop_rests Union Building a back both = let bad : false ≡ true = both refl in absurd (cc)
 drop_rests st ForegroundAlone a back both = absurd (cc)
 drop_rests st FinalList a back both = absurd (cc)
 drop_rests st FinalTable a back both = absurd (cc)
@@ -153,6 +160,7 @@ all_rests IndexOnly Building true false back both = refl
 all_rests IndexOnly Building false false back both = refl
 all_rests Table Building a b back both = let bad : false ≡ true = both refl in absurd (cc)
 all_rests BackgroundOnly Building a b back both = let bad : false ≡ true = both refl in absurd (cc)
+all_rests Union Building a b back both = let bad : false ≡ true = both refl in absurd (cc)
 all_rests st ForegroundAlone a b back both = absurd (cc)
 all_rests st FinalList a b back both = absurd (cc)
 all_rests st FinalTable a b back both = absurd (cc)
@@ -170,6 +178,7 @@ stop_turn IndexOnly i ahead l false true can = (record { told = refl; moves = re
 stop_turn IndexOnly i ahead l false false can = (record { told = refl; moves = refl }, refl)
 stop_turn Table i ahead l a b can = absurd (cc)
 stop_turn BackgroundOnly i ahead l a b can = absurd (cc)
+stop_turn Union i ahead l a b can = absurd (cc)
 stop_turn Sorted i ahead l a b can = absurd (cc)
 
 -- the buffer is full
@@ -199,6 +208,7 @@ front_turn IndexOnly FinalTable scan ahead l led at = absurd (cc)
 front_turn IndexOnly Done scan ahead l led at = absurd (cc)
 front_turn Table now scan ahead l led at = absurd (cc)
 front_turn BackgroundOnly now scan ahead l led at = absurd (cc)
+front_turn Union now scan ahead l led at = absurd (cc)
 front_turn FastFirst now scan ahead l led at = absurd (cc)
 
 pub final_turn : (st : Strategy) (now : Control) (scan : Option ℕ) (ahead : List ℕ) (l : Option ℕ) → final now ≡ true → OneTurn st (standing now scan ahead l) FinalEnded 0 (At Done ∷ []) (idle Done ahead l) × (next_control st now FinalEnded ≡ Done)
@@ -227,6 +237,7 @@ front_row IndexOnly FinalTable led at = absurd (cc)
 front_row IndexOnly Done led at = absurd (cc)
 front_row Table now led at = absurd (cc)
 front_row BackgroundOnly now led at = absurd (cc)
+front_row Union now led at = absurd (cc)
 front_row FastFirst now led at = absurd (cc)
 
 pub final_row : (st : Strategy) (now : Control) → final now ≡ true → has_row st now FinalEnded ≡ true

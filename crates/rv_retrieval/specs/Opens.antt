@@ -2,7 +2,7 @@
 use Rattle.std.specs.Prelude.{◌≡◌, ℕ, ◌<◌, Bool, true, false, List, [], length}
 use Rattle.rv_rows.specs.Rows.{Ascend}
 use Rattle.rv_judge.specs.declared.events.Strategy.{Strategy}
-use Rattle.rv_judge.specs.declared.events.Strategy.TheVariants.{Table, BackgroundOnly, FastFirst, Sorted, IndexOnly}
+use Rattle.rv_judge.specs.declared.events.Strategy.TheVariants.{Table, BackgroundOnly, FastFirst, Sorted, IndexOnly, Union}
 use Rattle.rv_judge.specs.declared.events.Control.{Control}
 use Rattle.rv_judge.specs.declared.events.Control.TheVariants.{Building, ForegroundAlone, BackgroundAlone, FinalTable}
 use Rattle.rv_reader.specs.Shown.{Shown, CanRead}
@@ -24,6 +24,7 @@ use Rattle.rv_retrieval.specs.Shape.{FrontFits, Shape, is_led, is_sorted, rest}
 abbrev pub first_of : Strategy → Bool → Control
 first_of Table some = FinalTable
 first_of BackgroundOnly some = BackgroundAlone
+first_of Union some = BackgroundAlone
 first_of FastFirst some = Building
 first_of Sorted true = Building
 first_of Sorted false = ForegroundAlone

@@ -6,7 +6,7 @@ use Rattle.rv_rows.specs.Rows.{Ascend}
 use Rattle.rv_keys.specs.Keys.{has_key}
 use Rattle.rv_delivered.specs.Rows.{AddsRow}
 use Rattle.rv_judge.specs.declared.events.Strategy.{Strategy}
-use Rattle.rv_judge.specs.declared.events.Strategy.TheVariants.{Table, BackgroundOnly, FastFirst, Sorted, IndexOnly}
+use Rattle.rv_judge.specs.declared.events.Strategy.TheVariants.{Table, BackgroundOnly, FastFirst, Sorted, IndexOnly, Union}
 use Rattle.rv_judge.specs.declared.events.Control.{Control}
 use Rattle.rv_judge.specs.declared.events.Control.TheVariants.{Building, ForegroundAlone, BackgroundAlone, FinalList, FinalTable, Done}
 use Rattle.rv_judge.specs.declared.events.Trace.{Trace}
@@ -57,6 +57,7 @@ pub data Source : Type 0 where
 abbrev pub while_building : Strategy → Source
 while_building Table = Undelivered
 while_building BackgroundOnly = Undelivered
+while_building Union = Undelivered
 while_building FastFirst = Undelivered
 while_building Sorted = Ahead
 while_building IndexOnly = Ahead
@@ -110,6 +111,7 @@ is_background Done = false
 abbrev pub is_sorted : Strategy → Bool
 is_sorted Table = false
 is_sorted BackgroundOnly = false
+is_sorted Union = false
 is_sorted FastFirst = false
 is_sorted Sorted = true
 is_sorted IndexOnly = false
@@ -117,6 +119,7 @@ is_sorted IndexOnly = false
 abbrev pub is_index_only : Strategy → Bool
 is_index_only Table = false
 is_index_only BackgroundOnly = false
+is_index_only Union = false
 is_index_only FastFirst = false
 is_index_only Sorted = false
 is_index_only IndexOnly = true

@@ -9,7 +9,7 @@ use Rattle.rv_judge.specs.declared.events.Event.TheVariants.{Full as FullEvent}
 use Rattle.rv_judge.specs.declared.events.Happening.{Happening}
 use Rattle.rv_judge.specs.declared.events.Happening.TheVariants.{Full, FrontEnded, FinalEnded}
 use Rattle.rv_judge.specs.declared.events.Strategy.{Strategy}
-use Rattle.rv_judge.specs.declared.events.Strategy.TheVariants.{Table, BackgroundOnly, FastFirst, Sorted, IndexOnly}
+use Rattle.rv_judge.specs.declared.events.Strategy.TheVariants.{Table, BackgroundOnly, FastFirst, Sorted, IndexOnly, Union}
 use Rattle.rv_judge.specs.declared.judging.Facts.{Facts}
 use Rattle.rv_judge.specs.Verdicts.{Ruling}
 use Rattle.rv_reader.specs.Shown.{Shown}
@@ -124,6 +124,7 @@ pub data Kind : Type 0 where
 abbrev pub while_both : Strategy → Option ℕ → Kind
 while_both Table fresh = Piece
 while_both BackgroundOnly fresh = Piece
+while_both Union fresh = Piece
 while_both FastFirst None = Piece
 while_both FastFirst (Some key) = Borrow key
 while_both Sorted fresh = Walk

@@ -49,8 +49,11 @@ fn hiding(strategy: Strategy, list: Option<&KeyList>) -> Option<&KeyList>
 {
     match strategy {
         Strategy::Sorted => list,
-        Strategy::Table | Strategy::BackgroundOnly | Strategy::FastFirst | Strategy::IndexOnly =>
-            None,
+        Strategy::Table
+        | Strategy::BackgroundOnly
+        | Strategy::FastFirst
+        | Strategy::IndexOnly
+        | Strategy::Union => None,
     }
 }
 
@@ -66,7 +69,7 @@ fn first_control(strategy: Strategy, scans: bool) -> Control
 {
     match strategy {
         Strategy::Table => Control::FinalTable,
-        Strategy::BackgroundOnly => Control::BackgroundAlone,
+        Strategy::BackgroundOnly | Strategy::Union => Control::BackgroundAlone,
         Strategy::FastFirst => Control::Building,
         Strategy::Sorted | Strategy::IndexOnly => {
             if scans {

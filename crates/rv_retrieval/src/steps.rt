@@ -308,7 +308,7 @@ impl Retrieval {
             Strategy::FastFirst => self.fast_step(reader, judge, steps),
             Strategy::Sorted => self.front_step(reader, steps),
             Strategy::IndexOnly => self.both_step(reader, steps),
-            Strategy::Table | Strategy::BackgroundOnly => {
+            Strategy::Table | Strategy::BackgroundOnly | Strategy::Union => {
                 self.background_step(reader, judge, steps)
             }
         }

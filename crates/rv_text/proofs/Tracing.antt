@@ -60,6 +60,7 @@ strategy_wordy strategies.BackgroundOnly = refl
 strategy_wordy strategies.FastFirst = refl
 strategy_wordy strategies.Sorted = refl
 strategy_wordy strategies.IndexOnly = refl
+strategy_wordy strategies.Union = refl
 
 abbrev pub AreWordy : List (List ℕ) → Type 0
 AreWordy = AllByRecursion (λ (w : List ℕ). list_all wordy w ≡ true)
@@ -132,6 +133,7 @@ strategy_again strategies.BackgroundOnly = refl
 strategy_again strategies.FastFirst = refl
 strategy_again strategies.Sorted = refl
 strategy_again strategies.IndexOnly = refl
+strategy_again strategies.Union = refl
 
 abbrev tail_of : Shown → Tail
 tail_of shown = record { events = shown.events; pages = shown.pages; leaves = shown.leaves; fetches = shown.fetches }

@@ -17,7 +17,7 @@ is_name [] = false
 is_name (c ∷ cs) = is_capital c && list_all is_name_byte cs
 
 abbrev pub strategies_all : List Strategy
-strategies_all = strategies.Table ∷ strategies.BackgroundOnly ∷ strategies.FastFirst ∷ strategies.Sorted ∷ strategies.IndexOnly ∷ []
+strategies_all = strategies.Table ∷ strategies.BackgroundOnly ∷ strategies.FastFirst ∷ strategies.Sorted ∷ strategies.IndexOnly ∷ strategies.Union ∷ []
 
 abbrev pub strategy_at : List ℕ → Option Strategy
 strategy_at word = find (λ s. bytes_eq (strategy_word s) word) strategies_all

@@ -14,12 +14,13 @@ use rv_model::{Shown, ShownEvent};
 use rv_value::{Items, NoMemory, Text};
 use std::alloc::Global;
 
-const STRATEGIES: [Strategy; 5] = [
+const STRATEGIES: [Strategy; 6] = [
     Strategy::Table,
     Strategy::BackgroundOnly,
     Strategy::FastFirst,
     Strategy::Sorted,
     Strategy::IndexOnly,
+    Strategy::Union,
 ];
 
 const CONTROLS: [Control; 6] = [

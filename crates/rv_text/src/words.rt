@@ -15,6 +15,7 @@ pub fn strategy_word(strategy: Strategy) -> &'static [u8]
         Strategy::FastFirst => b"fast-first",
         Strategy::Sorted => b"sorted",
         Strategy::IndexOnly => b"index-only",
+        Strategy::Union => b"union",
     }
 }
 

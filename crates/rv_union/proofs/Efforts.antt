@@ -34,7 +34,7 @@ use Rattle.rv_union.specs.Given.{Answers, Awaits, TakesLeaf, TakesPiece, count_r
 use Rattle.rv_union.specs.Rulings.{GivesOn, Obeys, accepted, dropped, facts_of, going_on, joined, kept_of, lacks, listed, next_member, over, ruled}
 use Rattle.rv_union.specs.Unioned.{UnionFits, Unioned, ahead, present, scanning}
 use Rattle.rv_union.proofs.Fits.{ahead_split}
-use Rattle.rv_union.proofs.Switches.{Drops, dropped_leads, is_scanning, listed_leads, over_as, told_parts}
+use Rattle.rv_union.proofs.Switches.{dropped_leads, drops, is_scanning, listed_leads, over_as, told_parts}
 
 -- THE MEMBERS
 
@@ -125,15 +125,15 @@ listed_work u shown back unbegun =
 over_work : (u : Unioned) (shown : Shown) → scanning u.control ≡ true → u.lane ≡ no_lane → Unbegun u.at u.last → effort (over u) shown ≤ left_work u shown + 1
 over_work u shown back none unbegun = over_as (λ x. effort x shown ≤ left_work u shown + 1) u (going_work u shown back none) (λ l. let less = listed_work u shown back unbegun in omega arith)
 
-dropped_work : (u : Unioned) (v : Verdict) (shown : Shown) → Drops v → scanning u.control ≡ true → effort (dropped v u) shown ≤ scanning_work u shown
+dropped_work : (u : Unioned) (v : Verdict) (shown : Shown) → drops v ≡ true → scanning u.control ≡ true → effort (dropped v u) shown ≤ scanning_work u shown
 dropped_work u v shown d back = let is = effort_at (dropped v u) shown FinalTable (dropped_leads u v d back) in omega arith
 
 -- a verdict raises nothing
 ruled_work : (verdict : Verdict) (u : Unioned) (shown : Shown) → scanning u.control ≡ true → effort (ruled verdict u) shown ≤ scanning_work u shown
 ruled_work Continue u shown back = let is = effort_scanning u shown back in omega arith
 ruled_work AbandonForeground u shown back = let is = effort_scanning u shown back in omega arith
-ruled_work AbandonScan u shown back = dropped_work u AbandonScan shown Drops.scan_dropped back
-ruled_work AbandonBackground u shown back = dropped_work u AbandonBackground shown Drops.background_dropped back
+ruled_work AbandonScan u shown back = dropped_work u AbandonScan shown refl back
+ruled_work AbandonBackground u shown back = dropped_work u AbandonBackground shown refl back
 
 -- WHAT A GIVE SPENDS
 

@@ -18,7 +18,7 @@ use Rattle.rv_union.specs.Given.{Answers, Awaits}
 use Rattle.rv_union.specs.Rulings.{GivesOn, Obeys, accepted, index_of, joined, lacks, next_member, over, ruled, told, told_scan, was_begun}
 use Rattle.rv_union.specs.Unioned.{Keeps, SameUnion, UnionFits, Unioned, owed, present, rest, scanning}
 use Rattle.rv_union.proofs.Fits.{Gathers, begun_lane, last_gathers, passed_found, passed_lane, passed_met}
-use Rattle.rv_union.proofs.Switches.{Drops, Stays, dropped_stays, moved_stays, over_as, over_stays, stays_on, told_parts}
+use Rattle.rv_union.proofs.Switches.{Stays, dropped_stays, moved_stays, over_as, over_stays, stays_on, told_parts}
 
 -- THE FIT AND THE REST
 
@@ -50,8 +50,8 @@ joined_stays u piece keys shown a f g = moved_stays u (joined keys (accepted pie
 ruled_stays : (verdict : Verdict) (u : Unioned) (shown : Shown) → scanning u.control ≡ true → UnionFits u shown → Stays u shown (ruled verdict u)
 ruled_stays Continue u shown back f = (f, refl)
 ruled_stays AbandonForeground u shown back f = (f, refl)
-ruled_stays AbandonScan u shown back f = dropped_stays u AbandonScan shown Drops.scan_dropped back f
-ruled_stays AbandonBackground u shown back f = dropped_stays u AbandonBackground shown Drops.background_dropped back f
+ruled_stays AbandonScan u shown back f = dropped_stays u AbandonScan shown refl back f
+ruled_stays AbandonBackground u shown back f = dropped_stays u AbandonBackground shown refl back f
 
 obeyed_stays : (would : ℕ → Facts → Ruling) (state after : ℕ) (piece : Pieced) (old new : Unioned) (shown : Shown) (next : Option IndexEntry) → Awaits old piece → held_next old.lane.held ≡ next → Obeys would state after piece next old new → UnionFits old shown → Stays old shown new
 obeyed_stays would state after piece old new shown (Some cut) a e o f =

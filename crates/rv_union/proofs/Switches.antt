@@ -13,7 +13,7 @@ use Rattle.rv_judge.specs.declared.events.Happening.TheVariants.{ScanEnded, Rule
 use Rattle.rv_judge.specs.declared.events.Strategy.TheVariants.{Union}
 use Rattle.rv_judge.specs.declared.events.Trace.{Trace}
 use Rattle.rv_judge.specs.declared.judging.Verdict.{Verdict}
-use Rattle.rv_judge.specs.declared.judging.Verdict.TheVariants.{AbandonScan, AbandonBackground}
+use Rattle.rv_judge.specs.declared.judging.Verdict.TheVariants.{Continue, AbandonScan, AbandonForeground, AbandonBackground}
 use Rattle.rv_judge.specs.Course.{next_control}
 use Rattle.rv_reader.specs.Shown.{Shown}
 use Rattle.rv_scan.specs.Places.{unseen}
@@ -160,18 +160,22 @@ pub listed_leads : (u : Unioned) → scanning u.control ≡ true → next_contro
 listed_leads u back = ap (λ (c : Control). next_control Union c (ScanEnded false true)) (is_scanning u.control back)
 
 -- the verdicts that drop a union
-pub data Drops : Verdict → Type 0 where
-  scan_dropped : Drops AbandonScan
-  background_dropped : Drops AbandonBackground
+abbrev pub drops : Verdict → Bool
+drops Continue = false
+drops AbandonScan = true
+drops AbandonForeground = false
+drops AbandonBackground = true
 
-dropped_at : (v : Verdict) → Drops v → next_control Union BackgroundAlone (Ruled v false false) ≡ FinalTable
-dropped_at AbandonScan scan_dropped = refl
-dropped_at AbandonBackground background_dropped = refl
+dropped_at : (v : Verdict) → drops v ≡ true → next_control Union BackgroundAlone (Ruled v false false) ≡ FinalTable
+dropped_at Continue d = absurd (cc)
+dropped_at AbandonScan d = refl
+dropped_at AbandonForeground d = absurd (cc)
+dropped_at AbandonBackground d = refl
 
-pub dropped_leads : (u : Unioned) (v : Verdict) → Drops v → scanning u.control ≡ true → next_control Union u.control (Ruled v false false) ≡ FinalTable
+pub dropped_leads : (u : Unioned) (v : Verdict) → drops v ≡ true → scanning u.control ≡ true → next_control Union u.control (Ruled v false false) ≡ FinalTable
 dropped_leads u v d back = ap (λ (c : Control). next_control Union c (Ruled v false false)) (is_scanning u.control back) ∙ dropped_at v d
 
-pub dropped_stays : (u : Unioned) (v : Verdict) (shown : Shown) → Drops v → scanning u.control ≡ true → UnionFits u shown → Stays u shown (dropped v u)
+pub dropped_stays : (u : Unioned) (v : Verdict) (shown : Shown) → drops v ≡ true → scanning u.control ≡ true → UnionFits u shown → Stays u shown (dropped v u)
 dropped_stays u v shown d back f = subst (λ (c : Control). Stays u shown (record (forgotten u) { control = c; trace = (dropped v u).trace })) (sym (dropped_leads u v d back)) (to_table u (dropped v u).trace shown back f)
 
 -- A MEMBER IS OVER

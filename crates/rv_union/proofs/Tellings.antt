@@ -35,7 +35,7 @@ use Rattle.rv_union.specs.Rulings.{GivesOn, Obeys, accepted, dropped, going_on, 
 use Rattle.rv_union.specs.Runs.{IsOfUndropped, OfFewIndexes, Tells, indexes_of, is_drop, tail_control}
 use Rattle.rv_union.specs.Unioned.{Unioned, present, scanning}
 use Rattle.rv_union.proofs.Few.{all_among, both_true, few, once_push, pushed_there, some_index}
-use Rattle.rv_union.proofs.Switches.{Drops, dropped_leads, is_scanning, listed_leads, over_as}
+use Rattle.rv_union.proofs.Switches.{dropped_leads, drops, is_scanning, listed_leads, over_as}
 
 -- THE EVENTS
 
@@ -210,7 +210,7 @@ over_tells u back t = over_as Tells u (λ l. going_tells u back l t) (λ l. list
 
 -- A VERDICT
 
-dropped_tells : (u : Unioned) (v : Verdict) → Drops v → scanning u.control ≡ true → Tells u → Tells (dropped v u)
+dropped_tells : (u : Unioned) (v : Verdict) → drops v ≡ true → scanning u.control ≡ true → Tells u → Tells (dropped v u)
 dropped_tells u v d back t =
     let i = index_of u in
     let leads = dropped_leads u v d back in
@@ -237,8 +237,8 @@ accepted_tells piece last u t = aside_tells u (accepted piece last u) refl refl 
 ruled_tells : (verdict : Verdict) (u : Unioned) → scanning u.control ≡ true → Tells u → Tells (ruled verdict u)
 ruled_tells Continue u back t = t
 ruled_tells AbandonForeground u back t = t
-ruled_tells AbandonScan u back t = dropped_tells u AbandonScan Drops.scan_dropped back t
-ruled_tells AbandonBackground u back t = dropped_tells u AbandonBackground Drops.background_dropped back t
+ruled_tells AbandonScan u back t = dropped_tells u AbandonScan refl back t
+ruled_tells AbandonBackground u back t = dropped_tells u AbandonBackground refl back t
 
 obeyed_tells : (would : ℕ → Facts → Ruling) (state after : ℕ) (piece : Pieced) (old new : Unioned) (next : Option IndexEntry) → scanning old.control ≡ true → Obeys would state after piece next old new → Tells old → Tells new
 obeyed_tells would state after piece old new (Some cut) back o t = subst Tells (sym o.0) (ruled_tells _ (accepted piece false old) back (accepted_tells piece false old t))
