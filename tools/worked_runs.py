@@ -25,7 +25,7 @@ from ending import end
 Came = tuple[int, bytes, bytes]  # status, output, standard error
 
 TRANSCRIPTS = Path(__file__).resolve().parent / "runs"
-USAGE = b"usage: rvdyn [--threads] [--workers W] [--judge N] [--steps K] [--gen SEED]\n"
+USAGE = b"usage: rvdyn [--threads] [--workers W] [--judge N] [--steps K] [--gen SEED] [--race]\n"
 MARK = b"\xef\xbb\xbf"
 
 
@@ -157,7 +157,7 @@ class Runs:
                 self.expect(f"{cases.__name__}, {name}", self.run(script), wants)
 
     def try_words(self) -> None:
-        for words in ["x", "--judge", "--judge 3", "--threads --threads", "--threads=1", "--workers 9", "--help"]:
+        for words in ["x", "--judge", "--judge 3", "--threads --threads", "--threads=1", "--race --race", "--race=1", "--workers 9", "--help"]:
             self.expect(f"words {words}", self.unread(*words.split()), ((1, b"", USAGE), 0))
 
     def try_workload(self) -> None:

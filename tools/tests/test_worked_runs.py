@@ -46,9 +46,9 @@ class WorkedRuns(unittest.TestCase):
         self.assertEqual(self.counted(silent, "try_words", "try_workload"), (12, 12))
 
     def test_a_program_that_reads_before_its_words_is_refused(self):
-        early = self.program('cat > /dev/null; echo "usage: rvdyn [--threads] [--workers W] [--judge N] [--steps K] [--gen SEED]" >&2; exit 1')
+        early = self.program('cat > /dev/null; echo "usage: rvdyn [--threads] [--workers W] [--judge N] [--steps K] [--gen SEED] [--race]" >&2; exit 1')
         self.assertEqual(self.counted(early, "try_words"), (7, 7))
-        late = self.program('echo "usage: rvdyn [--threads] [--workers W] [--judge N] [--steps K] [--gen SEED]" >&2; exit 1')
+        late = self.program('echo "usage: rvdyn [--threads] [--workers W] [--judge N] [--steps K] [--gen SEED] [--race]" >&2; exit 1')
         self.assertEqual(self.counted(late, "try_words"), (7, 0))
 
     def test_cases_are_apart(self):
