@@ -208,9 +208,7 @@ fn perform<S: Store + Reader<Ledger = Uncounted> + Drop>(
         Resolved::Delete { table, only } => database.change(session, table, None, &only),
         Resolved::Commit => database.commit(session),
         Resolved::Rollback => database.rollback(session),
-        Resolved::Open { cursor, select } => {
-            database.open(session, cursor, &select, settings.race)
-        }
+        Resolved::Open { cursor, select } => database.open(session, cursor, &select, settings.race),
         Resolved::Fetch(name) => database.fetch(session, name, judge, settings.steps),
         Resolved::Step { cursor, n } => database.step(session, cursor, n, judge),
         Resolved::Show(name) => database.show(session, name),
