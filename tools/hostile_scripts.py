@@ -35,7 +35,7 @@ from model.language import KEYWORDS, fault_of
 from model.program import run, transcript
 
 TOP = Path(__file__).resolve().parent.parent
-USAGE = b"usage: rvdyn [--threads] [--workers W] [--judge N] [--steps K] [--gen SEED]\n"
+USAGE = b"usage: rvdyn [--threads] [--workers W] [--judge N] [--steps K] [--gen SEED] [--race]\n"
 MOST = {"workers": 8, "judge": 2, "steps": 64, "gen": 4294967295}
 INTEGERS = [0, 1, -1, 7, 31, 32, 33, 2**31, 2**63 - 1, -(2**63), 2**63, -(2**63) - 1, 10**40]
 NO_TEXT = [b"\xff", b"\xc3", b"\xc0\xaf", b"\xed\xa0\x80", b"\xf4\x90\x80\x80", b"\xe2\x80", b"\x80"]
@@ -50,8 +50,8 @@ def accepted(words: list[bytes]) -> dict[str, int] | None:
     found: dict[str, int] = {}
     rest = iter(words)
     for word in rest:
-        if word == b"--threads" and "threads" not in found:
-            found["threads"] = 1
+        if word in (b"--threads", b"--race") and word[2:].decode() not in found:
+            found[word[2:].decode()] = 1
             continue
         name, equals, value = word.partition(b"=")
         value = value if equals else next(rest, b"")
@@ -589,7 +589,7 @@ class Damager:
             at = rng.randrange(len(words)) if words else 0
             kind = rng.randrange(4)
             if kind == 0:
-                words.insert(at, rng.choice([b"", b"--", b"-h", b"--help", b"x", b"--judge", b"--steps=65", b"--gen=4294967296", b"\xff", b"--judge=\xd9\xa1", b"--Steps=1", b"-judge=1", b"--threads=1", b"--workers=9"]))
+                words.insert(at, rng.choice([b"", b"--", b"-h", b"--help", b"x", b"--judge", b"--steps=65", b"--gen=4294967296", b"\xff", b"--judge=\xd9\xa1", b"--Steps=1", b"-judge=1", b"--threads=1", b"--workers=9", b"--race", b"--race=0"]))
             elif kind == 1 and words:
                 del words[at]
             elif kind == 2 and words:
@@ -619,6 +619,8 @@ def usual_words(rng: random.Random) -> list[bytes]:
         words += [b"--judge", str(rng.randint(0, 2)).encode()]
     if rng.random() < 0.6:
         words.append(b"--steps=" + str(rng.choice([0, 0, 1, 2, 64])).encode())
+    if rng.random() < 0.2:
+        words.append(b"--race")
     return words
 
 

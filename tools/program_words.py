@@ -2,14 +2,14 @@
 """Runs a built program on command lines, among them words that are not UTF-8, and compares statuses and words on standard error.
 
 The expected statuses are from the form of the command line as docs/LANGUAGE.md gives it: options, each at most once and in any order,
-with a value of 1 to 10 decimal digits in its range, in the next word or behind `=`. Prints the lines that differ, and ends with
+all but `--threads` and `--race` with a value of 1 to 10 decimal digits in its range, in the next word or behind `=`. Prints the lines that differ, and ends with
 status 1 where one did."""
 import argparse
 import subprocess
 
 from ending import end
 
-USAGE = b"usage: rvdyn [--threads] [--workers W] [--judge N] [--steps K] [--gen SEED]\n"
+USAGE = b"usage: rvdyn [--threads] [--workers W] [--judge N] [--steps K] [--gen SEED] [--race]\n"
 
 ACCEPTED = [
     [],
@@ -24,6 +24,9 @@ ACCEPTED = [
     [b"--steps=007"],
     [b"--steps=0"],
     [b"--steps", b"64", b"--judge=1"],
+    [b"--race"],
+    [b"--race", b"--threads", b"--judge", b"1"],
+    [b"--steps=0", b"--race"],
 ]
 
 FAULTY = [
@@ -69,6 +72,11 @@ FAULTY = [
     [b"--threads="],
     [b"--thread"],
     [b"--workers", b"1", b"--workers=1"],
+    [b"--race", b"--race"],
+    [b"--race=1"],
+    [b"--race", b"1"],
+    [b"--races"],
+    [b"--judge", b"--race"],
 ]
 
 

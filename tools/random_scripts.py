@@ -462,6 +462,8 @@ class Maker:
             words = {"judge": 1, "steps": 0}
         elif self.large and rng.random() < 0.5:
             words = {"judge": rng.choice([1, 1, 2]), "steps": 0}
+        if rng.random() < 0.25:
+            words["race"] = True
         return "".join(line + "\n" for line in lines), calls, broken, words
 
 
@@ -484,8 +486,13 @@ def rng_name(rng):
 # Comparing.
 
 
+def spelled_words(words):
+    """The words of the command line that ask this."""
+    return [word for name, value in words.items() for word in ([f"--{name}"] if value is True else [f"--{name}", str(value)])]
+
+
 def transcript(program, script, words):
-    command = [program] + [word for name, value in words.items() for word in (f"--{name}", str(value))]
+    command = [program, *spelled_words(words)]
     return subprocess.run(command, input=script.encode(), capture_output=True, timeout=120)
 
 

@@ -37,8 +37,8 @@ class Quit(Exception):
 class Shell:
     """The model, the session whose turn it is, and the script so far."""
 
-    def __init__(self, judge: int, steps: int, plain: bool, out: TextIO):
-        self.start = lambda: Session(judge, steps, plain)
+    def __init__(self, judge: int, steps: int, plain: bool, out: TextIO, race: bool = False):
+        self.start = lambda: Session(judge, steps, plain, race=race)
         self.model, self.session, self.script, self.out = self.start(), 1, [], out
 
     def tell(self, words: str) -> None:
@@ -178,7 +178,7 @@ def main() -> int:
     parser = argparse.ArgumentParser(description=__doc__, formatter_class=argparse.RawDescriptionHelpFormatter)
     add_run_options(parser)
     words = parser.parse_args()
-    shell = Shell(words.judge, words.steps, words.plain, sys.stdout)
+    shell = Shell(words.judge, words.steps, words.plain, sys.stdout, words.race)
     try:
         for line in typed(shell) if sys.stdin.isatty() else piped():
             shell.line(line)

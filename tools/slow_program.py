@@ -27,13 +27,13 @@ def add_run_options(parser: argparse.ArgumentParser) -> None:
     """The words of the program that say how a script is run."""
     parser.add_argument("--judge", type=number_up_to(2), default=0, metavar="N", help="the judge that rules first, 0 to 2 (default 0)")
     parser.add_argument("--steps", type=number_up_to(64), default=1, metavar="K", help="background steps beside each foreground step, 0 to 64 (default 1)")
+    parser.add_argument("--race", action="store_true", help="two indexes race where they can")
     parser.add_argument("--plain", action="store_true", help="over the plain store, whose indexes are sorted lists")
 
 
 def main() -> int:
     parser = argparse.ArgumentParser(description=__doc__, formatter_class=argparse.RawDescriptionHelpFormatter)
     add_run_options(parser)
-    parser.add_argument("--race", action="store_true", help="two indexes race where they can")
     parser.add_argument("--gen", type=number_up_to(2**32 - 1), metavar="SEED", help="read nothing, and run the workload of this seed")
     words = parser.parse_args()
     if words.gen is not None:

@@ -14,7 +14,7 @@ import threading
 import time
 
 from ending import end
-from random_scripts import Maker
+from random_scripts import Maker, spelled_words
 from slow_audit import verdict
 
 
@@ -95,7 +95,7 @@ def main():
         script = (script if broken else parted(rng, shuffled(rng, script))).encode()
         workers = rng.randint(0, 8)
         command = [asked.program, "--threads", f"--workers={workers}"]
-        command += [word for name, value in words.items() for word in (f"--{name}", str(value))]
+        command += spelled_words(words)
         status, out, told = run(command, script, asked.shaken, asked.seconds, rng)
         is_right, found = judged(script, broken, status, out)
         if not is_right:

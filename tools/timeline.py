@@ -73,10 +73,10 @@ class Sought:
         return fits and self.number == 0
 
 
-def course_of(script: str, sought: Sought, judge: int | None, steps: int) -> Course:
+def course_of(script: str, sought: Sought, judge: int | None, steps: int, race: bool = False) -> Course:
     """The course of a cursor, until it is closed or the script ends. A judge that is given rules the whole run."""
     log: list[tuple] = []
-    run = Session(judge or 0, steps, log=log)
+    run = Session(judge or 0, steps, log=log, race=race)
     found: Course | None = None
     key = None
     opened: dict[tuple[int, str], None] = {}  # sessions and names, in their order
@@ -206,6 +206,7 @@ def main() -> int:
     parser.add_argument("--opening", type=int, default=1, metavar="N", help="the Nth opening that fits (default 1)")
     parser.add_argument("--judge", type=number_up_to(2), action="append", metavar="N", help="the judge of the whole run; twice for two side by side")
     parser.add_argument("--steps", type=number_up_to(64), default=1, metavar="K", help="as the program's --steps (default 1)")
+    parser.add_argument("--race", action="store_true", help="as the program's --race")
     parser.add_argument("--svg", metavar="FILE", help="also write the courses as one picture")
     parser.add_argument("--width", type=int, default=64, metavar="N", help="columns of a side, where two are told (default 64)")
     words = parser.parse_args()
@@ -219,7 +220,7 @@ def main() -> int:
     script = data.decode()
     try:
         told = [
-            course_of(script, Sought(words.session, words.cursor, words.opening), judge, words.steps)
+            course_of(script, Sought(words.session, words.cursor, words.opening), judge, words.steps, words.race)
             for judge in words.judge or [None]
         ]
     except NotThere as fault:

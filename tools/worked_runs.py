@@ -25,7 +25,7 @@ from ending import end
 Came = tuple[int, bytes, bytes]  # status, output, standard error
 
 TRANSCRIPTS = Path(__file__).resolve().parent / "runs"
-USAGE = b"usage: rvdyn [--threads] [--workers W] [--judge N] [--steps K] [--gen SEED]\n"
+USAGE = b"usage: rvdyn [--threads] [--workers W] [--judge N] [--steps K] [--gen SEED] [--race]\n"
 MARK = b"\xef\xbb\xbf"
 
 
@@ -96,6 +96,15 @@ def reading(only: str, before: int, steps: int, after: int) -> list[str]:
     return ["2 BEGIN READ ONLY", opened, *fetches, "2 SHOW C", "2 COMMIT"]
 
 
+def in_two() -> list[str]:
+    """Forty rows (i mod 4, i) with an index over each column, and a cursor that both restrict: two background steps, then all of
+    its twenty-three rows."""
+    inserts = [f"1 INSERT INTO S VALUES ({row % 4}, {row})" for row in range(40)]
+    table = ["1 CREATE TABLE S (A BIGINT, B BIGINT)", "1 CREATE INDEX IA ON S (A)", "1 CREATE INDEX IB ON S (B)", "1 BEGIN", *inserts, "1 COMMIT", "--"]
+    stepped = ["2 BEGIN READ ONLY", "2 OPEN C SELECT * FROM S WHERE A >= 1 AND B >= 10", "2 STEP C 2", "2 SHOW C"]
+    return [*table, *stepped, *["2 FETCH C"] * 24, "2 SHOW C", "2 COMMIT"]
+
+
 HALF = reading("A BETWEEN 10 AND 29", 4, 5, 17)
 THIRD = reading("A BETWEEN 10 AND 40", 4, 5, 28)
 ALL = reading("A >= 0", 1101, 0, 0)
@@ -105,6 +114,11 @@ DROP = "fast-first building scan IA drop IA final-table done pages 2 leaves 1 fe
 STOP = "fast-first building scan IA stop background list IA 20 final-list done pages 0 leaves 2 fetches 20"
 FULL = "fast-first building scan IA full background list IA 1100 final-list done pages 0 leaves {} fetches 1100"
 DROP_OF_MORE = "fast-first building scan IA drop IA final-table done pages 3 leaves 1 fetches 0"
+IN_TURN = "background-only background scan IA pages 0 leaves 2 fetches 0"
+FIRST_ONE = "background-only background scan IA list IA 30 scan IB pages 0 leaves 2 fetches 0"
+TWO_LISTS = "background-only background scan IA list IA 30 scan IB list IB 23 final-list done pages 0 leaves 4 fetches 23"
+TWO_DROPS = "background-only background scan IA drop IA scan IB drop IB final-table pages 0 leaves 2 fetches 0"
+NO_LIST = "background-only background scan IA drop IA scan IB drop IB final-table done pages 2 leaves 2 fetches 0"
 LIST_OF_MORE = "fast-first building scan IA list IA 31 final-list done pages 0 leaves 2 fetches 31"
 
 
@@ -122,6 +136,9 @@ def traces(plain: bool = False) -> Iterator[tuple[list[str], list[str], list[str
         # its third one drops the scan.
         marked = [line for mark in ("-- 2", "-- 0", "-- 2", "--") for line in [mark, *HALF]]
         yield ["--judge", "1", "--steps", "0"], loaded(40) + marked, [STOP, DROP, LIST, DROP]
+        yield ["--judge", "1", "--steps", "0"], in_two(), [FIRST_ONE, TWO_LISTS]
+        yield ["--race", "--judge", "1", "--steps", "0"], in_two(), [IN_TURN, TWO_LISTS]
+        yield ["--steps", "0", "--race"], in_two(), [TWO_DROPS, NO_LIST]
     else:
         yield ["--steps", "0"], loaded(80) + THIRD, [DROP_OF_MORE]
         yield ["--judge", "1", "--steps", "0"], loaded(80) + THIRD, [LIST_OF_MORE]
@@ -157,7 +174,7 @@ class Runs:
                 self.expect(f"{cases.__name__}, {name}", self.run(script), wants)
 
     def try_words(self) -> None:
-        for words in ["x", "--judge", "--judge 3", "--threads --threads", "--threads=1", "--workers 9", "--help"]:
+        for words in ["x", "--judge", "--judge 3", "--threads --threads", "--threads=1", "--race --race", "--race=1", "--workers 9", "--help"]:
             self.expect(f"words {words}", self.unread(*words.split()), ((1, b"", USAGE), 0))
 
     def try_workload(self) -> None:

@@ -28,7 +28,7 @@ class WorkedRuns(unittest.TestCase):
         return [str(path)]
 
     def test_the_model_passes(self):
-        self.assertEqual(self.counted(MODEL, "try_scripts", "try_traces"), (68, 0))
+        self.assertEqual(self.counted(MODEL, "try_scripts", "try_traces"), (71, 0))
 
     def test_the_model_over_the_plain_store_passes(self):
         runs = Runs([*MODEL, "--plain"])
@@ -43,13 +43,13 @@ class WorkedRuns(unittest.TestCase):
     def test_a_program_that_says_nothing_is_refused(self):
         silent = self.program("cat > /dev/null")
         self.assertEqual(self.counted(silent, "try_scripts"), (59, 51))
-        self.assertEqual(self.counted(silent, "try_words", "try_workload"), (12, 12))
+        self.assertEqual(self.counted(silent, "try_words", "try_workload"), (14, 14))
 
     def test_a_program_that_reads_before_its_words_is_refused(self):
-        early = self.program('cat > /dev/null; echo "usage: rvdyn [--threads] [--workers W] [--judge N] [--steps K] [--gen SEED]" >&2; exit 1')
-        self.assertEqual(self.counted(early, "try_words"), (7, 7))
-        late = self.program('echo "usage: rvdyn [--threads] [--workers W] [--judge N] [--steps K] [--gen SEED]" >&2; exit 1')
-        self.assertEqual(self.counted(late, "try_words"), (7, 0))
+        early = self.program('cat > /dev/null; echo "usage: rvdyn [--threads] [--workers W] [--judge N] [--steps K] [--gen SEED] [--race]" >&2; exit 1')
+        self.assertEqual(self.counted(early, "try_words"), (9, 9))
+        late = self.program('echo "usage: rvdyn [--threads] [--workers W] [--judge N] [--steps K] [--gen SEED] [--race]" >&2; exit 1')
+        self.assertEqual(self.counted(late, "try_words"), (9, 0))
 
     def test_cases_are_apart(self):
         names = [name for cases in (transcripts, lines, faults) for name, _, _ in cases()]

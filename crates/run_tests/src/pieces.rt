@@ -129,7 +129,7 @@ fn late<S: Store + Reader<Ledger = Uncounted> + Drop>(
 fn late_pieces_are_stale(rt: HostRuntime) -> Result<(), Fail> {
     let alloc = rt.alloc();
     let judge: Box<dyn Judge> = Box::new(alloc, Patient::new())?;
-    let mut core = Core::new(alloc, Paged::new(alloc)?, judge, 0);
+    let mut core = Core::new(alloc, Paged::new(alloc)?, judge, false, 0);
     assert!(rt; late(alloc, &mut core)?);
     Ok(())
 }
@@ -156,7 +156,7 @@ fn dropped<S: Store + Reader<Ledger = Uncounted> + Drop>(
 fn a_piece_of_a_scan_that_was_dropped_is_stale(rt: HostRuntime) -> Result<(), Fail> {
     let alloc = rt.alloc();
     let judge: Box<dyn Judge> = Box::new(alloc, Threshold::new())?;
-    let mut core = Core::new(alloc, Paged::new(alloc)?, judge, 0);
+    let mut core = Core::new(alloc, Paged::new(alloc)?, judge, false, 0);
     assert!(rt; dropped(alloc, &mut core)?);
     Ok(())
 }

@@ -44,7 +44,7 @@ fn loaded(alloc: Global, rows: u32) -> Result<String, NoMemory> {
 }
 
 /// Adds a line so many times.
-fn add(script: &mut String, line: &str, times: u32) -> Result<(), NoMemory> {
+pub fn add(script: &mut String, line: &str, times: u32) -> Result<(), NoMemory> {
     for _time in 0..times {
         script.push_str(line)?;
     }
@@ -77,7 +77,7 @@ fn script_of(alloc: Global, rows: u32, mark: &str, reading: Reading) -> Result<S
 }
 
 /// The traces of a transcript, one a line.
-fn traces(alloc: Global, written: &[u8]) -> Result<String, NoMemory> {
+pub fn traces(alloc: Global, written: &[u8]) -> Result<String, NoMemory> {
     let mut traces = String::new(alloc);
     for line in str::from_utf8(written).unwrap_or("").lines() {
         if line.starts_with("= trace ") {

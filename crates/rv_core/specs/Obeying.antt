@@ -27,17 +27,18 @@ use Rattle.rv_join.specs.Work.{row_cost}
 use Rattle.rv_cursor.specs.declared.cursor.Open.{Open}
 use Rattle.rv_cursor.specs.Left.{CursorFits, SameCursor, seen_by}
 use Rattle.rv_cursor.specs.Moves.{FetchMoves, Moves, Ruled, StepsBacks, TurnMoves, ruled}
+use Rattle.rv_core.specs.declared.settings.Settings.{Settings}
 use Rattle.rv_core.specs.Db.{Whole, base_of, open_named}
 
--- WHAT A CALL IS MADE UNDER: what the store shows, what the judge would rule, and how many background steps may follow each
--- foreground step of a FETCH
+-- WHAT A CALL IS MADE UNDER: what the store shows, what the judge would rule, and what was set: how many background steps may
+-- follow each foreground step of a FETCH, and whether indexes may race
 pub record Under : Type 0 where
   pub store : Shown
   pub would : ℕ → Facts → Ruling
-  pub beside : ℕ
+  pub settings : Settings
 
-abbrev pub under : Shown → (ℕ → Facts → Ruling) → ℕ → Under
-under store would beside = record { store = store; would = would; beside = beside }
+abbrev pub under : Shown → (ℕ → Facts → Ruling) → Settings → Under
+under store would settings = record { store = store; would = would; settings = settings }
 
 -- THE PLANS: the open cursors, the number of the next, and where the judge stands that rules on their scans
 pub record Plans : Type 0 where
@@ -92,8 +93,8 @@ pub record IsBounded (shown : Shown) (s : Select) (indexes : List IndexDef) (sna
 
 -- OPEN adds a cursor last, under the next number, at the base of the session's transaction, whose plan is that of its select:
 -- drawn from what the store shows there with the transaction's changes, which is its view, with the strategy and the scans that the five rules choose by the store's own estimates,
--- and with the bounds of such a plan.
-pub record OpensPlan (shown : Shown) (s : Select) (db : State) (session : ℕ) (name : List ℕ) (old new : Plans) : Type 0 where
+-- with a race where one is asked and two of these scans can race, and with the bounds of such a plan.
+pub record OpensPlan (race : Bool) (shown : Shown) (s : Select) (db : State) (session : ℕ) (name : List ℕ) (old new : Plans) : Type 0 where
   pub cursor : Open
   pub added : new ≡ record old { opens = old.opens ++ cursor ∷ []; opened = old.opened + 1 }
   pub owner : cursor.session ≡ session
@@ -101,6 +102,7 @@ pub record OpensPlan (shown : Shown) (s : Select) (db : State) (session : ℕ) (
   pub number : cursor.number ≡ old.opened
   pub base : base_of db.transactions.active session ≡ Some cursor.snap
   pub asked : IsAsked s db.schema.indexes cursor.snap cursor.number cursor.plan.asked
+  pub raced : cursor.plan.asked.race ≡ race
   pub rows : AllByRecursion (λ (t : ℕ). (seen_by shown cursor).rows t cursor.snap ≡ rows_viewed db (transaction_of db.transactions.active session) t) s.tables
   pub fits : CursorFits shown cursor
   pub leads : LeadsWith (seen_by shown cursor) cursor.plan
@@ -135,8 +137,8 @@ closed_in (Some place) opens = remove opens place
 
 -- WHAT AN ANSWERED CALL DOES TO THE PLANS, by what it asks
 abbrev pub Handles : Under → Result Resolved Refusal → State → ℕ → Reply → Plans → Plans → Type 0
-Handles u (Ok (asks.Open name s)) db session reply old new = reply ≡ Opened → OpensPlan u.store s db session name old new
-Handles u (Ok (asks.Fetch name)) db session reply old new = MovesNamed (FetchOf u.beside u.would) u.store (open_named old.opens session name) old new
+Handles u (Ok (asks.Open name s)) db session reply old new = reply ≡ Opened → OpensPlan u.settings.race u.store s db session name old new
+Handles u (Ok (asks.Fetch name)) db session reply old new = MovesNamed (FetchOf u.settings.steps u.would) u.store (open_named old.opens session name) old new
 Handles u (Ok (asks.Step name n)) db session reply old new = StepsTold u n (open_named old.opens session name) reply old new
 Handles u (Ok (asks.Show name)) db session reply old new = TellsPlan (open_named old.opens session name) db.schema.indexes old.opens reply × (new ≡ old)
 Handles u (Ok asks.Commit) db session reply old new = new ≡ record old { opens = ended_by reply session old.opens }
@@ -153,7 +155,7 @@ pub record HandlesText (u : Under) (statement : Option Statement) (db : State) (
 -- WHAT ONE TURN'S PART OF A CALL DOES WHERE IT WORKS ON: the call is a FETCH of an open cursor, whose plan's step answered
 -- Working
 abbrev pub Works : Under → Result Resolved Refusal → ℕ → Plans → Plans → Type 0
-Works u (Ok (asks.Fetch name)) session old new = IsSome (open_named old.opens session name) × MovesNamed (TurnOf None u.beside u.would) u.store (open_named old.opens session name) old new
+Works u (Ok (asks.Fetch name)) session old new = IsSome (open_named old.opens session name) × MovesNamed (TurnOf None u.settings.steps u.would) u.store (open_named old.opens session name) old new
 Works u (Ok other) session old new = ⊥
 Works u (Err refusal) session old new = ⊥
 
@@ -166,7 +168,7 @@ is_fetch other = false
 
 -- what it does where it is answered: of a FETCH one turn at most
 abbrev pub Turns : Under → Result Resolved Refusal → ℕ → Reply → Plans → Plans → Type 0
-Turns u (Ok (asks.Fetch name)) session reply old new = MovesNamed (TurnOf (Some (reply, reply)) u.beside u.would) u.store (open_named old.opens session name) old new
+Turns u (Ok (asks.Fetch name)) session reply old new = MovesNamed (TurnOf (Some (reply, reply)) u.settings.steps u.would) u.store (open_named old.opens session name) old new
 Turns u (Ok other) session reply old new = Unit {0}
 Turns u (Err refusal) session reply old new = Unit {0}
 

@@ -131,6 +131,7 @@ pub fn plan_cursor<S: Store + Reader<Ledger = Uncounted>>(
     name: Text,
     number: u64,
     snap: u64,
+    race: bool,
     frozen: Option<View>,
 ) -> Result<Open, NoMemory>
     requires tied { (txns : Transactions) × IsTied (S.shown store.now) catalog.now txns × IfSome frozen (IsViewed (S.shown store.now) txns.touched snap) }
@@ -144,6 +145,7 @@ pub fn plan_cursor<S: Store + Reader<Ledger = Uncounted>>(
     ensures number { IfOk result (λ c. c.number ≡ number) }
     ensures name { IfOk result (λ c. c.name ≡ name) }
     ensures asked { IfOk result (λ c. IsAsked select.now catalog.now.indexes snap number c.plan.asked) }
+    ensures race { IfOk result (λ c. c.plan.asked.race ≡ race) }
     ensures leads { IfOk result (λ c. LeadsWith (seen_at (S.shown store.now) snap frozen) c.plan) }
     ensures stage { IfOk result (λ c. c.plan.stage ≡ stage_of select.now catalog.now.indexes) }
     ensures bounds { IfOk result (λ c. IsBounded (seen_at (S.shown store.now) snap frozen) select.now catalog.now.indexes snap c.plan) }
@@ -163,7 +165,7 @@ pub fn plan_cursor<S: Store + Reader<Ledger = Uncounted>>(
         name,
         number,
         snap,
-        false,
+        race,
         frozen,
         &mut steps,
     )

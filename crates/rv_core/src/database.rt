@@ -6,6 +6,7 @@ ghost use Rattle.rv_model.specs.Database.{empty};
 ghost use Rattle.rv_model.specs.Standing.{HasRoom};
 ghost use Rattle.rv_model.specs.Step.{began, changed, closed, committed, created, indexed, inserted, opened, rolled_back, rows_viewed};
 ghost use Rattle.rv_model.specs.Transactions.{transaction_of};
+ghost use Rattle.rv_core.specs.declared.settings.Settings.{Settings};
 ghost use Rattle.rv_core.specs.Core.{horizon_of};
 ghost use Rattle.rv_core.specs.Db.{open_named};
 ghost use Rattle.rv_core.specs.Doing.{Does, Fetches, PartIs, Shows, StepsOn};
@@ -302,13 +303,14 @@ impl<S: Store + Reader<Ledger = Uncounted> + Drop> Database<S> {
         Ok((Reply::RolledBack, Reply::RolledBack))
     }
 
-    /// OPEN.
+    /// OPEN. Where a race is asked, two indexes race where the rules let a background alone scan each of two or more.
     #[tactic(auto, using(crate::proofs::Calling::opens_err, crate::proofs::Keeping::sees_same))]
     pub fn open(
         &mut self,
         session: u8,
         name: Text,
         select: &Select,
+        race: bool,
     ) -> Result<(Reply, Reply), NoMemory>
         requires some { 1 ≤ length select.now.tables }
         requires query { IsQueryOf self.old.stand.db.schema select.now }
@@ -316,7 +318,7 @@ impl<S: Store + Reader<Ledger = Uncounted> + Drop> Database<S> {
         ensures sees { SeesSame (S.shown self.old.store) (S.shown self.new.store) self.new.opens }
         ensures ok { IfOk result (λ replies. Does (opened self.old.stand.db session name select.now) self.old.stand replies self.new.stand) }
         ensures err { OnErr result (self.new.stand ≡ self.old.stand) }
-        ensures adds { (judge : ℕ) → IfOk result (λ replies. replies.0 ≡ Opened → OpensPlan (S.shown self.old.store) select.now self.old.stand.db session name (plans_of self.old judge) (plans_of self.new judge)) }
+        ensures adds { (judge : ℕ) → IfOk result (λ replies. replies.0 ≡ Opened → OpensPlan race (S.shown self.old.store) select.now self.old.stand.db session name (plans_of self.old judge) (plans_of self.new judge)) }
         ensures refuses { (judge : ℕ) (refusal : TheRefusal) → IfOk result (λ replies. replies.0 ≡ Refused refusal → plans_of self.new judge ≡ plans_of self.old judge) }
         ensures lost { (judge : ℕ) → OnErr result (plans_of self.new judge ≡ plans_of self.old judge) }
         ensures opened { self.new.opened ≤ self.old.opened + 1 }
@@ -346,6 +348,7 @@ impl<S: Store + Reader<Ledger = Uncounted> + Drop> Database<S> {
             name,
             self.opened,
             base,
+            race,
             frozen,
         ) {
             Ok(cursor) => cursor,
@@ -442,7 +445,7 @@ impl<S: Store + Reader<Ledger = Uncounted> + Drop> Database<S> {
         ensures ok { IfOk result (λ replies. StepsOn self.old.stand session name most replies self.new.stand) }
         ensures err { OnErr result (self.new.stand ≡ self.old.stand) }
         ensures opened { self.new.opened ≡ self.old.opened }
-        ensures steps { (beside : ℕ) → IfOk result (λ replies. StepsTold (under (S.shown self.old.store) (would judge.old) beside) most (open_named self.old.opens session name) replies.0 (plans_of self.old (state judge.old)) (plans_of self.new (state judge.new))) }
+        ensures steps { (settings : Settings) → IfOk result (λ replies. StepsTold (under (S.shown self.old.store) (would judge.old) settings) most (open_named self.old.opens session name) replies.0 (plans_of self.old (state judge.old)) (plans_of self.new (state judge.new))) }
         ensures refuses { (refusal : TheRefusal) → IfOk result (λ replies. replies.0 ≡ Refused refusal → plans_of self.new (state judge.new) ≡ plans_of self.old (state judge.old)) }
         ensures lost { OnErr result (MovesNamed (AnyOf (would judge.old)) (S.shown self.old.store) (open_named self.old.opens session name) (plans_of self.old (state judge.old)) (plans_of self.new (state judge.new))) }
         ensures rules { would judge.new ≡ would judge.old }

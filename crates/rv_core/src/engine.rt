@@ -7,6 +7,7 @@ ghost use Rattle.rv_core.specs.Obeying.{SeesSame, under};
 ghost use Rattle.rv_core.specs.Pieces.{GivesTo, KeepsSettled, TakesNext, TriesNext, next_waiting, numbered};
 
 use crate::database::Database;
+use crate::settings::Settings;
 use crate::statements::{answer, answer_step};
 use rv_jscan::{Given, Sieved, Taken};
 use rv_judge::{Judge, Steps, Uncounted};
@@ -96,22 +97,22 @@ impl<S: Store + Reader<Ledger = Uncounted> + Drop> Engine<S> {
         self.phase += 1;
     }
 
-    /// Makes a session's call under a judge, with up to `beside` background steps beside each foreground step of a
-    /// FETCH: the reply is given and written to the history with the text. On `NoMemory` nothing is changed but how far
-    /// the plans of cursors have come.
+    /// Makes a session's call under a judge, with so many background steps and such races as are set: the reply is given
+    /// and written to the history with the text. On `NoMemory` nothing is changed but how far the plans of cursors have
+    /// come.
     #[tactic(auto, using(crate::proofs::Keeping::sees_same))]
     pub fn call(
         &mut self,
         session: u8,
         text: &str,
         judge: &mut Box<dyn Judge>,
-        beside: u8,
+        settings: Settings,
     ) -> Result<Reply, NoMemory>
         requires from { 1 ≤ session }
         requires to { session ≤ 8 }
         requires short { length text.now ≤ 4096 }
-        ensures ok { IfOk result (λ reply. Answers (under (S.shown self.old.store) (would judge.old) beside) (state judge.old) (state judge.new) self.old self.new session text.now reply) }
-        ensures err { OnErr result (Unanswered (under (S.shown self.old.store) (would judge.old) beside) (state judge.old) (state judge.new) self.old self.new session text.now) }
+        ensures ok { IfOk result (λ reply. Answers (under (S.shown self.old.store) (would judge.old) settings) (state judge.old) (state judge.new) self.old self.new session text.now reply) }
+        ensures err { OnErr result (Unanswered (under (S.shown self.old.store) (would judge.old) settings) (state judge.old) (state judge.new) self.old self.new session text.now) }
         ensures rules { would judge.new ≡ would judge.old }
         ensures sees { SeesSame (S.shown self.old.store) (S.shown self.new.store) self.new.opens }
         ensures sound { IsSound self.new }
@@ -125,7 +126,7 @@ impl<S: Store + Reader<Ledger = Uncounted> + Drop> Engine<S> {
             session,
             text,
             judge,
-            beside,
+            settings,
         )?;
         self.database.sweep();
         self.history
@@ -147,13 +148,13 @@ impl<S: Store + Reader<Ledger = Uncounted> + Drop> Engine<S> {
         session: u8,
         text: &str,
         judge: &mut Box<dyn Judge>,
-        beside: u8,
+        settings: Settings,
     ) -> Result<PartOf, NoMemory>
         requires from { 1 ≤ session }
         requires to { session ≤ 8 }
         requires short { length text.now ≤ 4096 }
-        ensures ok { IfOk result (λ part. AnswersPart (under (S.shown self.old.store) (would judge.old) beside) (state judge.old) (state judge.new) self.old self.new session text.now part) }
-        ensures err { OnErr result (Unanswered (under (S.shown self.old.store) (would judge.old) beside) (state judge.old) (state judge.new) self.old self.new session text.now) }
+        ensures ok { IfOk result (λ part. AnswersPart (under (S.shown self.old.store) (would judge.old) settings) (state judge.old) (state judge.new) self.old self.new session text.now part) }
+        ensures err { OnErr result (Unanswered (under (S.shown self.old.store) (would judge.old) settings) (state judge.old) (state judge.new) self.old self.new session text.now) }
         ensures rules { would judge.new ≡ would judge.old }
         ensures sees { SeesSame (S.shown self.old.store) (S.shown self.new.store) self.new.opens }
         ensures sound { IsSound self.new }
@@ -167,7 +168,7 @@ impl<S: Store + Reader<Ledger = Uncounted> + Drop> Engine<S> {
             session,
             text,
             judge,
-            beside,
+            settings,
         ) {
             Ok(Some(replies)) => replies,
             Ok(None) => return Ok(PartOf::Working),

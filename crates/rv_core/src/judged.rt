@@ -7,6 +7,7 @@ ghost use Rattle.rv_core.specs.Obeying.{SeesSame, under};
 ghost use Rattle.rv_core.specs.Pieces.{GivesTo, KeepsSettled, TakesNext, TriesNext, next_waiting, numbered};
 
 use crate::engine::{Engine, PartOf};
+use crate::settings::Settings;
 use rv_jscan::{Given, Sieved, Taken};
 use rv_judge::{Judge, Steps, Uncounted};
 use rv_lang::Reply;
@@ -17,55 +18,56 @@ use std::alloc::Global;
 use std::mem;
 
 /// The database over a store with the history of its calls, the judge that rules on its background
-/// scans, and the number of background steps that may follow each foreground step of a FETCH.
+/// scans, and what is set of the work of its cursors.
 #[derive(Drop)]
 pub struct Core<S: Store + Reader<Ledger = Uncounted> + Drop> {
     engine: Engine<S>,
     judge: Box<dyn Judge>,
-    beside: u8,
+    settings: Settings,
 }
 
 impl<S: Store + Reader<Ledger = Uncounted> + Drop> Core<S> {
-    /// A core with no call made, in phase 1, over a store without tables and commits. It takes no memory.
-    pub fn new(alloc: Global, store: S, judge: Box<dyn Judge>, beside: u8) -> Core<S>
+    /// A core with no call made, in phase 1, over a store without tables and commits. Its cursors race where `race` asks it,
+    /// and up to `steps` background steps follow each foreground step of a FETCH. It takes no memory.
+    pub fn new(alloc: Global, store: S, judge: Box<dyn Judge>, race: bool, steps: u8) -> Core<S>
         requires tables { (S.shown store).tables ≡ 0 }
         requires newest { (S.shown store).newest ≡ 0 }
         ensures engine { result.engine ≡ record { history = []; phase = 1; store = store; db = empty; horizon = 0; opens = []; opened = 1 } }
         ensures judge { result.judge ≡ judge }
-        ensures beside { result.beside ≡ beside }
+        ensures settings { result.settings ≡ record { steps = steps; race = race } }
     {
         Core {
             engine: Engine::new(alloc, store),
             judge,
-            beside,
+            settings: Settings { steps, race },
         }
     }
 
-    /// The engine, the judge and the number of background steps, of which `of_parts` makes the core again. So what lends
-    /// the core to threads can show its judge.
-    pub fn into_parts(self) -> (Engine<S>, Box<dyn Judge>, u8)
+    /// The engine, the judge and the settings, of which `of_parts` makes the core again. So what lends the core to threads
+    /// can show its judge.
+    pub fn into_parts(self) -> (Engine<S>, Box<dyn Judge>, Settings)
         ensures engine { result.0 ≡ self.engine }
         ensures judge { result.1 ≡ self.judge }
-        ensures beside { result.2 ≡ self.beside }
+        ensures settings { result.2 ≡ self.settings }
     {
         let Core {
             engine,
             judge,
-            beside,
+            settings,
         } = self;
-        (engine, judge, beside)
+        (engine, judge, settings)
     }
 
-    /// The core of an engine, a judge and a number of background steps.
-    pub fn of_parts(engine: Engine<S>, judge: Box<dyn Judge>, beside: u8) -> Core<S>
+    /// The core of an engine, a judge and settings.
+    pub fn of_parts(engine: Engine<S>, judge: Box<dyn Judge>, settings: Settings) -> Core<S>
         ensures engine { result.engine ≡ engine }
         ensures judge { result.judge ≡ judge }
-        ensures beside { result.beside ≡ beside }
+        ensures settings { result.settings ≡ settings }
     {
         Core {
             engine,
             judge,
-            beside,
+            settings,
         }
     }
 
@@ -97,7 +99,7 @@ impl<S: Store + Reader<Ledger = Uncounted> + Drop> Core<S> {
         requires { self.old.engine.phase < 2 ^ 32 - 1 }
         ensures engine { self.new.engine ≡ record self.old.engine { phase = self.old.engine.phase + 1 } }
         ensures judge { self.new.judge ≡ self.old.judge }
-        ensures beside { self.new.beside ≡ self.old.beside }
+        ensures settings { self.new.settings ≡ self.old.settings }
     {
         self.engine.next_phase();
     }
@@ -107,7 +109,7 @@ impl<S: Store + Reader<Ledger = Uncounted> + Drop> Core<S> {
         ensures before { result ≡ self.old.judge }
         ensures judge { self.new.judge ≡ judge }
         ensures engine { self.new.engine ≡ self.old.engine }
-        ensures beside { self.new.beside ≡ self.old.beside }
+        ensures settings { self.new.settings ≡ self.old.settings }
     {
         mem::replace(&mut self.judge, judge)
     }
@@ -118,15 +120,15 @@ impl<S: Store + Reader<Ledger = Uncounted> + Drop> Core<S> {
         requires from { 1 ≤ session }
         requires to { session ≤ 8 }
         requires short { length text.now ≤ 4096 }
-        ensures ok { IfOk result (λ reply. Answers (under (S.shown self.old.engine.store) (would self.old.judge) self.old.beside) (state self.old.judge) (state self.new.judge) self.old.engine self.new.engine session text.now reply) }
-        ensures err { OnErr result (Unanswered (under (S.shown self.old.engine.store) (would self.old.judge) self.old.beside) (state self.old.judge) (state self.new.judge) self.old.engine self.new.engine session text.now) }
+        ensures ok { IfOk result (λ reply. Answers (under (S.shown self.old.engine.store) (would self.old.judge) self.old.settings) (state self.old.judge) (state self.new.judge) self.old.engine self.new.engine session text.now reply) }
+        ensures err { OnErr result (Unanswered (under (S.shown self.old.engine.store) (would self.old.judge) self.old.settings) (state self.old.judge) (state self.new.judge) self.old.engine self.new.engine session text.now) }
         ensures rules { would self.new.judge ≡ would self.old.judge }
         ensures sees { SeesSame (S.shown self.old.engine.store) (S.shown self.new.engine.store) self.new.engine.opens }
         ensures sound { IsSound self.new.engine }
-        ensures beside { self.new.beside ≡ self.old.beside }
+        ensures settings { self.new.settings ≡ self.old.settings }
     {
         self.engine
-            .call(session, text, &mut self.judge, self.beside)
+            .call(session, text, &mut self.judge, self.settings)
     }
 
     /// One turn's part of a call: as `call`, but that a FETCH makes one foreground step at most, with the background steps
@@ -135,15 +137,15 @@ impl<S: Store + Reader<Ledger = Uncounted> + Drop> Core<S> {
         requires from { 1 ≤ session }
         requires to { session ≤ 8 }
         requires short { length text.now ≤ 4096 }
-        ensures ok { IfOk result (λ part. AnswersPart (under (S.shown self.old.engine.store) (would self.old.judge) self.old.beside) (state self.old.judge) (state self.new.judge) self.old.engine self.new.engine session text.now part) }
-        ensures err { OnErr result (Unanswered (under (S.shown self.old.engine.store) (would self.old.judge) self.old.beside) (state self.old.judge) (state self.new.judge) self.old.engine self.new.engine session text.now) }
+        ensures ok { IfOk result (λ part. AnswersPart (under (S.shown self.old.engine.store) (would self.old.judge) self.old.settings) (state self.old.judge) (state self.new.judge) self.old.engine self.new.engine session text.now part) }
+        ensures err { OnErr result (Unanswered (under (S.shown self.old.engine.store) (would self.old.judge) self.old.settings) (state self.old.judge) (state self.new.judge) self.old.engine self.new.engine session text.now) }
         ensures rules { would self.new.judge ≡ would self.old.judge }
         ensures sees { SeesSame (S.shown self.old.engine.store) (S.shown self.new.engine.store) self.new.engine.opens }
         ensures sound { IsSound self.new.engine }
-        ensures beside { self.new.beside ≡ self.old.beside }
+        ensures settings { self.new.settings ≡ self.old.settings }
     {
         self.engine
-            .call_step(session, text, &mut self.judge, self.beside)
+            .call_step(session, text, &mut self.judge, self.settings)
     }
 
     /// Takes the awaited piece of an open cursor: of those that await one, that with the lowest number above `after`, or
@@ -157,7 +159,7 @@ impl<S: Store + Reader<Ledger = Uncounted> + Drop> Core<S> {
         ensures tried { OnErr result (TriesNext (S.shown self.old.engine.store) (next_waiting after self.old.engine.opens) steps.old steps.new self.old.engine.opens self.new.engine.opens) }
         ensures same { self.new.engine ≡ record self.old.engine { opens = self.new.engine.opens } }
         ensures judge { self.new.judge ≡ self.old.judge }
-        ensures beside { self.new.beside ≡ self.old.beside }
+        ensures settings { self.new.settings ≡ self.old.settings }
     {
         self.engine.take_piece(after, steps)
     }
@@ -175,7 +177,7 @@ impl<S: Store + Reader<Ledger = Uncounted> + Drop> Core<S> {
         ensures err { OnErr result ((self.new.engine.opens ≡ self.old.engine.opens) × (state self.new.judge ≡ state self.old.judge)) }
         ensures rules { would self.new.judge ≡ would self.old.judge }
         ensures reads { steps.new ≡ steps.old }
-        ensures beside { self.new.beside ≡ self.old.beside }
+        ensures settings { self.new.settings ≡ self.old.settings }
     {
         self.engine.give_piece(sieved, &mut self.judge, steps)
     }
@@ -185,7 +187,7 @@ impl<S: Store + Reader<Ledger = Uncounted> + Drop> Core<S> {
         ensures engine { self.new.engine ≡ record self.old.engine { store = self.new.engine.store; horizon = horizon_of self.old.engine.db } }
         ensures sees { SeesSame (S.shown self.old.engine.store) (S.shown self.new.engine.store) self.new.engine.opens }
         ensures judge { self.new.judge ≡ self.old.judge }
-        ensures beside { self.new.beside ≡ self.old.beside }
+        ensures settings { self.new.settings ≡ self.old.settings }
     {
         self.engine.sweep_step();
     }

@@ -8,8 +8,10 @@ pub mod judged;
 pub mod laws;
 pub mod pieces;
 pub mod replies;
+pub mod settings;
 pub mod statements;
 pub mod storing;
 
 pub use engine::{Engine, PartOf};
 pub use judged::Core;
+pub use settings::Settings;

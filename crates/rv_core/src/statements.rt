@@ -15,6 +15,7 @@ ghost use Rattle.rv_lang.specs.declared.reply.Reply.TheVariants.{Refused};
 
 use crate::database::Database;
 use crate::replies::{answered, refused};
+use crate::settings::Settings;
 use rv_catalog::{BindFault, Catalog, Resolved};
 use rv_judge::{Judge, Uncounted};
 use rv_lang::{Refusal, Reply, Statement};
@@ -32,7 +33,7 @@ pub fn answer<S: Store + Reader<Ledger = Uncounted> + Drop>(
     session: u8,
     text: &str,
     judge: &mut Box<dyn Judge>,
-    beside: u8,
+    settings: Settings,
 ) -> Result<(Reply, Reply), NoMemory>
     requires short { length text.now ≤ 4096 }
     requires room { HasRoom database.old.stand.db }
@@ -40,8 +41,8 @@ pub fn answer<S: Store + Reader<Ledger = Uncounted> + Drop>(
     requires swept { database.old.stand.horizon ≡ horizon_of database.old.stand.db }
     ensures sees { SeesSame (S.shown database.old.store) (S.shown database.new.store) database.new.opens }
     ensures ok { IfOk result (λ replies. Executes database.old.stand session (statement_of text.now) replies database.new.stand) }
-    ensures handles { IfOk result (λ replies. HandlesText (under (S.shown database.old.store) (would judge.old) beside) (statement_of text.now) database.old.stand.db session replies.0 (plans_of database.old (state judge.old)) (plans_of database.new (state judge.new))) }
-    ensures lost { OnErr result (LeavesText (under (S.shown database.old.store) (would judge.old) beside) (statement_of text.now) database.old.stand.db session (plans_of database.old (state judge.old)) (plans_of database.new (state judge.new))) }
+    ensures handles { IfOk result (λ replies. HandlesText (under (S.shown database.old.store) (would judge.old) settings) (statement_of text.now) database.old.stand.db session replies.0 (plans_of database.old (state judge.old)) (plans_of database.new (state judge.new))) }
+    ensures lost { OnErr result (LeavesText (under (S.shown database.old.store) (would judge.old) settings) (statement_of text.now) database.old.stand.db session (plans_of database.old (state judge.old)) (plans_of database.new (state judge.new))) }
     ensures rules { would judge.new ≡ would judge.old }
     ensures err { OnErr result (database.new.stand ≡ database.old.stand) }
     ensures opened { database.new.opened ≤ database.old.opened + 1 }
@@ -49,7 +50,7 @@ pub fn answer<S: Store + Reader<Ledger = Uncounted> + Drop>(
 {
     let place = readings.keep(text)?;
     let said = readings.at(place);
-    execute(alloc, database, session, said, judge, beside)
+    execute(alloc, database, session, said, judge, settings)
 }
 
 /// One turn's part of a call: the reply to a text, twice, with the step that it makes, or none where it is a FETCH whose
@@ -62,7 +63,7 @@ pub fn answer_step<S: Store + Reader<Ledger = Uncounted> + Drop>(
     session: u8,
     text: &str,
     judge: &mut Box<dyn Judge>,
-    beside: u8,
+    settings: Settings,
 ) -> Result<Option<(Reply, Reply)>, NoMemory>
     requires short { length text.now ≤ 4096 }
     requires room { HasRoom database.old.stand.db }
@@ -70,9 +71,9 @@ pub fn answer_step<S: Store + Reader<Ledger = Uncounted> + Drop>(
     requires swept { database.old.stand.horizon ≡ horizon_of database.old.stand.db }
     ensures sees { SeesSame (S.shown database.old.store) (S.shown database.new.store) database.new.opens }
     ensures ok { IfOk result (PartIs (λ replies. Executes database.old.stand session (statement_of text.now) replies database.new.stand) (database.new ≡ record database.old { opens = database.new.opens })) }
-    ensures handles { IfOk result (PartIs (λ replies. HandlesText (under (S.shown database.old.store) (would judge.old) beside) (statement_of text.now) database.old.stand.db session replies.0 (plans_of database.old (state judge.old)) (plans_of database.new (state judge.new))) (WorksText (under (S.shown database.old.store) (would judge.old) beside) (statement_of text.now) database.old.stand.db session (plans_of database.old (state judge.old)) (plans_of database.new (state judge.new)))) }
-    ensures turn { IfOk result (PartIs (λ replies. TurnsText (under (S.shown database.old.store) (would judge.old) beside) (statement_of text.now) database.old.stand.db session replies.0 (plans_of database.old (state judge.old)) (plans_of database.new (state judge.new))) (Unit {0})) }
-    ensures lost { OnErr result (LeavesText (under (S.shown database.old.store) (would judge.old) beside) (statement_of text.now) database.old.stand.db session (plans_of database.old (state judge.old)) (plans_of database.new (state judge.new))) }
+    ensures handles { IfOk result (PartIs (λ replies. HandlesText (under (S.shown database.old.store) (would judge.old) settings) (statement_of text.now) database.old.stand.db session replies.0 (plans_of database.old (state judge.old)) (plans_of database.new (state judge.new))) (WorksText (under (S.shown database.old.store) (would judge.old) settings) (statement_of text.now) database.old.stand.db session (plans_of database.old (state judge.old)) (plans_of database.new (state judge.new)))) }
+    ensures turn { IfOk result (PartIs (λ replies. TurnsText (under (S.shown database.old.store) (would judge.old) settings) (statement_of text.now) database.old.stand.db session replies.0 (plans_of database.old (state judge.old)) (plans_of database.new (state judge.new))) (Unit {0})) }
+    ensures lost { OnErr result (LeavesText (under (S.shown database.old.store) (would judge.old) settings) (statement_of text.now) database.old.stand.db session (plans_of database.old (state judge.old)) (plans_of database.new (state judge.new))) }
     ensures rules { would judge.new ≡ would judge.old }
     ensures err { OnErr result (database.new.stand ≡ database.old.stand) }
     ensures opened { database.new.opened ≤ database.old.opened + 1 }
@@ -81,7 +82,7 @@ pub fn answer_step<S: Store + Reader<Ledger = Uncounted> + Drop>(
     let place = readings.keep(text)?;
     let said = readings.at(place);
     match understand(database.catalog(), said) {
-        Ok(asked) => turn(database, session, asked, judge, beside),
+        Ok(asked) => turn(database, session, asked, judge, settings),
         Err(BindFault::Refused(refusal)) => answered(refused(alloc, refusal)),
         Err(BindFault::NoMemory) => Err(NoMemory),
     }
@@ -105,7 +106,7 @@ fn turn<S: Store + Reader<Ledger = Uncounted> + Drop>(
     session: u8,
     asked: Resolved,
     judge: &mut Box<dyn Judge>,
-    beside: u8,
+    settings: Settings,
 ) -> Result<Option<(Reply, Reply)>, NoMemory>
     requires room { HasRoom database.old.stand.db }
     requires numbers { database.old.opened < 2 ^ 64 - 1 }
@@ -114,18 +115,18 @@ fn turn<S: Store + Reader<Ledger = Uncounted> + Drop>(
     requires whole { IsWhole asked }
     ensures sees { SeesSame (S.shown database.old.store) (S.shown database.new.store) database.new.opens }
     ensures ok { IfOk result (PartIs (λ replies. DoesAsked (Ok asked) database.old.stand session replies database.new.stand) (database.new ≡ record database.old { opens = database.new.opens })) }
-    ensures handles { IfOk result (PartIs (λ replies. Handles (under (S.shown database.old.store) (would judge.old) beside) (Ok asked) database.old.stand.db session replies.0 (plans_of database.old (state judge.old)) (plans_of database.new (state judge.new))) (Works (under (S.shown database.old.store) (would judge.old) beside) (Ok asked) session (plans_of database.old (state judge.old)) (plans_of database.new (state judge.new)))) }
+    ensures handles { IfOk result (PartIs (λ replies. Handles (under (S.shown database.old.store) (would judge.old) settings) (Ok asked) database.old.stand.db session replies.0 (plans_of database.old (state judge.old)) (plans_of database.new (state judge.new))) (Works (under (S.shown database.old.store) (would judge.old) settings) (Ok asked) session (plans_of database.old (state judge.old)) (plans_of database.new (state judge.new)))) }
     ensures refuses { (refusal : TheRefusal) → IfOk result (PartIs (λ replies. replies.0 ≡ Refused refusal → plans_of database.new (state judge.new) ≡ plans_of database.old (state judge.old)) (Unit {0})) }
-    ensures turn { IfOk result (PartIs (λ replies. Turns (under (S.shown database.old.store) (would judge.old) beside) (Ok asked) session replies.0 (plans_of database.old (state judge.old)) (plans_of database.new (state judge.new))) (Unit {0})) }
-    ensures lost { OnErr result (Leaves (under (S.shown database.old.store) (would judge.old) beside) (Ok asked) session (plans_of database.old (state judge.old)) (plans_of database.new (state judge.new))) }
+    ensures turn { IfOk result (PartIs (λ replies. Turns (under (S.shown database.old.store) (would judge.old) settings) (Ok asked) session replies.0 (plans_of database.old (state judge.old)) (plans_of database.new (state judge.new))) (Unit {0})) }
+    ensures lost { OnErr result (Leaves (under (S.shown database.old.store) (would judge.old) settings) (Ok asked) session (plans_of database.old (state judge.old)) (plans_of database.new (state judge.new))) }
     ensures rules { would judge.new ≡ would judge.old }
     ensures err { OnErr result (database.new.stand ≡ database.old.stand) }
     ensures opened { database.new.opened ≤ database.old.opened + 1 }
     ensures unopened { OnErr result (database.new.opened ≡ database.old.opened) }
 {
     match fetch_name(asked) {
-        Ok(name) => database.fetch_step(session, name, judge, beside),
-        Err(other) => answered(perform(database, session, other, judge, beside)),
+        Ok(name) => database.fetch_step(session, name, judge, settings.steps),
+        Err(other) => answered(perform(database, session, other, judge, settings)),
     }
 }
 
@@ -137,7 +138,7 @@ fn execute<S: Store + Reader<Ledger = Uncounted> + Drop>(
     session: u8,
     statement: &Option<Statement>,
     judge: &mut Box<dyn Judge>,
-    beside: u8,
+    settings: Settings,
 ) -> Result<(Reply, Reply), NoMemory>
     requires parts { IfSome statement.now HasParts }
     requires room { HasRoom database.old.stand.db }
@@ -145,15 +146,15 @@ fn execute<S: Store + Reader<Ledger = Uncounted> + Drop>(
     requires swept { database.old.stand.horizon ≡ horizon_of database.old.stand.db }
     ensures sees { SeesSame (S.shown database.old.store) (S.shown database.new.store) database.new.opens }
     ensures ok { IfOk result (λ replies. Executes database.old.stand session statement.now replies database.new.stand) }
-    ensures handles { IfOk result (λ replies. HandlesText (under (S.shown database.old.store) (would judge.old) beside) (statement.now) database.old.stand.db session replies.0 (plans_of database.old (state judge.old)) (plans_of database.new (state judge.new))) }
-    ensures lost { OnErr result (LeavesText (under (S.shown database.old.store) (would judge.old) beside) (statement.now) database.old.stand.db session (plans_of database.old (state judge.old)) (plans_of database.new (state judge.new))) }
+    ensures handles { IfOk result (λ replies. HandlesText (under (S.shown database.old.store) (would judge.old) settings) (statement.now) database.old.stand.db session replies.0 (plans_of database.old (state judge.old)) (plans_of database.new (state judge.new))) }
+    ensures lost { OnErr result (LeavesText (under (S.shown database.old.store) (would judge.old) settings) (statement.now) database.old.stand.db session (plans_of database.old (state judge.old)) (plans_of database.new (state judge.new))) }
     ensures rules { would judge.new ≡ would judge.old }
     ensures err { OnErr result (database.new.stand ≡ database.old.stand) }
     ensures opened { database.new.opened ≤ database.old.opened + 1 }
     ensures unopened { OnErr result (database.new.opened ≡ database.old.opened) }
 {
     match understand(database.catalog(), statement) {
-        Ok(asked) => perform(database, session, asked, judge, beside),
+        Ok(asked) => perform(database, session, asked, judge, settings),
         Err(BindFault::Refused(refusal)) => refused(alloc, refusal),
         Err(BindFault::NoMemory) => Err(NoMemory),
     }
@@ -179,7 +180,7 @@ fn perform<S: Store + Reader<Ledger = Uncounted> + Drop>(
     session: u8,
     asked: Resolved,
     judge: &mut Box<dyn Judge>,
-    beside: u8,
+    settings: Settings,
 ) -> Result<(Reply, Reply), NoMemory>
     requires room { HasRoom database.old.stand.db }
     requires numbers { database.old.opened < 2 ^ 64 - 1 }
@@ -188,9 +189,9 @@ fn perform<S: Store + Reader<Ledger = Uncounted> + Drop>(
     requires whole { IsWhole asked }
     ensures sees { SeesSame (S.shown database.old.store) (S.shown database.new.store) database.new.opens }
     ensures ok { IfOk result (λ replies. DoesAsked (Ok asked) database.old.stand session replies database.new.stand) }
-    ensures handles { IfOk result (λ replies. Handles (under (S.shown database.old.store) (would judge.old) beside) (Ok asked) database.old.stand.db session replies.0 (plans_of database.old (state judge.old)) (plans_of database.new (state judge.new))) }
+    ensures handles { IfOk result (λ replies. Handles (under (S.shown database.old.store) (would judge.old) settings) (Ok asked) database.old.stand.db session replies.0 (plans_of database.old (state judge.old)) (plans_of database.new (state judge.new))) }
     ensures refuses { (refusal : TheRefusal) → IfOk result (λ replies. replies.0 ≡ Refused refusal → plans_of database.new (state judge.new) ≡ plans_of database.old (state judge.old)) }
-    ensures lost { OnErr result (Leaves (under (S.shown database.old.store) (would judge.old) beside) (Ok asked) session (plans_of database.old (state judge.old)) (plans_of database.new (state judge.new))) }
+    ensures lost { OnErr result (Leaves (under (S.shown database.old.store) (would judge.old) settings) (Ok asked) session (plans_of database.old (state judge.old)) (plans_of database.new (state judge.new))) }
     ensures rules { would judge.new ≡ would judge.old }
     ensures err { OnErr result (database.new.stand ≡ database.old.stand) }
     ensures opened { database.new.opened ≤ database.old.opened + 1 }
@@ -207,8 +208,8 @@ fn perform<S: Store + Reader<Ledger = Uncounted> + Drop>(
         Resolved::Delete { table, only } => database.change(session, table, None, &only),
         Resolved::Commit => database.commit(session),
         Resolved::Rollback => database.rollback(session),
-        Resolved::Open { cursor, select } => database.open(session, cursor, &select),
-        Resolved::Fetch(name) => database.fetch(session, name, judge, beside),
+        Resolved::Open { cursor, select } => database.open(session, cursor, &select, settings.race),
+        Resolved::Fetch(name) => database.fetch(session, name, judge, settings.steps),
         Resolved::Step { cursor, n } => database.step(session, cursor, n, judge),
         Resolved::Show(name) => database.show(session, name),
         Resolved::Close(name) => database.close(session, name),

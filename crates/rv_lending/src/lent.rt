@@ -3,7 +3,7 @@ ghost use Rattle.std.specs.Prelude.{◌≡◌, ◌≤◌, All, IfOk, OnErr, leng
 ghost use Rattle.rv_core.specs.Core.{IsSound};
 ghost use Rattle.rv_phases.specs.Phase.{PhaseDone};
 
-use rv_core::{Core, Engine, PartOf};
+use rv_core::{Core, Engine, PartOf, Settings};
 use rv_jscan::{Given, Sieved, Taken};
 use rv_judge::{Judge, Steps, Uncounted};
 use rv_lang::Reply;
@@ -22,7 +22,7 @@ use std::thread::Threads;
 struct Lent<S: Store + Reader<Ledger = Uncounted> + Drop> {
     engine: Engine<S>,
     judge: Box<dyn Judge>,
-    beside: u8,
+    settings: Settings,
 }
 
 impl<S: Store + Reader<Ledger = Uncounted> + Drop> Served for Lent<S> {
@@ -46,13 +46,13 @@ impl<S: Store + Reader<Ledger = Uncounted> + Drop> Served for Lent<S> {
 
     fn call(&mut self, session: u8, text: &str) -> Result<Reply, NoMemory> {
         self.engine
-            .call(session, text, &mut self.judge, self.beside)
+            .call(session, text, &mut self.judge, self.settings)
     }
 
     fn call_step(&mut self, session: u8, text: &str) -> Result<Option<Reply>, NoMemory> {
         match self
             .engine
-            .call_step(session, text, &mut self.judge, self.beside)
+            .call_step(session, text, &mut self.judge, self.settings)
         {
             Ok(PartOf::Answered(reply)) => Ok(Some(reply)),
             Ok(PartOf::Working) => Ok(None),
@@ -79,28 +79,31 @@ impl<S: Store + Reader<Ledger = Uncounted> + Drop> Served for Lent<S> {
 fn lend<S: Store + Reader<Ledger = Uncounted> + Drop>(core: Core<S>) -> Lent<S>
     requires { 0 ≤ core.engine.phase }
     ensures engine { result.engine ≡ core.engine }
-    ensures beside { result.beside ≡ core.beside }
+    ensures settings { result.settings ≡ core.settings }
 {
-    let (engine, judge, beside) = core.into_parts();
+    let (engine, judge, settings) = core.into_parts();
     Lent {
         engine,
         judge,
-        beside,
+        settings,
     }
 }
 
-/// The core again, with the number of background steps that it had.
-fn give_back<S: Store + Reader<Ledger = Uncounted> + Drop>(lent: Lent<S>, beside: u8) -> Core<S>
+/// The core again, with the settings that it had.
+fn give_back<S: Store + Reader<Ledger = Uncounted> + Drop>(
+    lent: Lent<S>,
+    settings: Settings,
+) -> Core<S>
     requires { 0 ≤ lent.engine.phase }
     ensures engine { result.engine ≡ lent.engine }
-    ensures beside { result.beside ≡ beside }
+    ensures settings { result.settings ≡ settings }
 {
     let Lent {
         engine,
         judge,
-        beside: _,
+        settings: _,
     } = lent;
-    Core::of_parts(engine, judge, beside)
+    Core::of_parts(engine, judge, settings)
 }
 
 /// Makes the calls of a phase over a core: each session's in their order, in a thread of its own, with so many workers
@@ -117,12 +120,12 @@ pub fn call_phase<
     ensures done { PhaseDone lines.now result.short core.engine.phase core.engine.history result.core.engine.history }
     ensures sound { IsSound result.core.engine }
     ensures phase { result.core.engine.phase ≡ core.engine.phase }
-    ensures beside { result.core.beside ≡ core.beside }
+    ensures settings { result.core.settings ≡ core.settings }
 {
     let lent = lend(core);
-    let beside = lent.beside;
+    let settings = lent.settings;
     let Phased { core, short } = run_phase(rt, alloc, lent, lines, workers, gate);
-    let core = give_back(core, beside);
+    let core = give_back(core, settings);
     let _sound = core.history();
     Phased { core, short }
 }

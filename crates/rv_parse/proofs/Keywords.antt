@@ -27,7 +27,7 @@ of_four name long = of_length name 4 long
 pub of_five : (name : List ℕ) → length name ≡ 5 → is_keyword name ≡ list_any (λ (word : List ℕ). bytes_eq word name) (codes "BEGIN" ∷ codes "CLOSE" ∷ codes "FETCH" ∷ codes "FIRST" ∷ codes "INDEX" ∷ codes "ORDER" ∷ codes "TABLE" ∷ codes "TOTAL" ∷ codes "WHERE" ∷ [])
 of_five name long = of_length name 5 long
 
-pub of_six : (name : List ℕ) → length name ≡ 6 → is_keyword name ≡ list_any (λ (word : List ℕ). bytes_eq word name) (codes "BIGINT" ∷ codes "COMMIT" ∷ codes "CREATE" ∷ codes "DELETE" ∷ codes "INSERT" ∷ codes "SELECT" ∷ codes "UPDATE" ∷ codes "VALUES" ∷ [])
+pub of_six : (name : List ℕ) → length name ≡ 6 → is_keyword name ≡ list_any (λ (word : List ℕ). bytes_eq word name) (codes "BIGINT" ∷ codes "COMMIT" ∷ codes "CREATE" ∷ codes "DELETE" ∷ codes "INSERT" ∷ codes "SELECT" ∷ codes "UNIQUE" ∷ codes "UPDATE" ∷ codes "VALUES" ∷ [])
 of_six name long = of_length name 6 long
 
 pub of_seven : (name : List ℕ) → length name ≡ 7 → is_keyword name ≡ list_any (λ (word : List ℕ). bytes_eq word name) (codes "BETWEEN" ∷ codes "VARCHAR" ∷ [])

@@ -12,6 +12,7 @@ use Rattle.rv_script.specs.declared.scripts.Line.{Line}
 use Rattle.rv_script.specs.declared.scripts.Phase.{Phase}
 use Rattle.rv_script.specs.declared.scripts.Script.{Script}
 use Rattle.rv_model.specs.declared.entry.Entry.{Entry}
+use Rattle.rv_core.specs.declared.settings.Settings.{Settings}
 use Rattle.rv_core.specs.Core.{Answers, Shown}
 use Rattle.rv_core.specs.Obeying.{under}
 use Rattle.rv_run.specs.Judges.{all_but, by_number, filled, ruling_after}
@@ -73,51 +74,51 @@ seat_set f a b c ruling new (suc (suc (suc n))) h e = absurd (omega arith)
 -- runs
 
 -- where the next phase has begun since
-pub all_later : {S : Type 0} (shows : S → StoreShown) (beside : ℕ) (xs : List RuledCall) (old mid new : Between S) → AnswersAll shows beside xs old mid → new ≡ in_phase new.core.phase mid → AnswersAll shows beside xs old new
-all_later shows beside [] old mid new a e = e ∙ ap (in_phase new.core.phase) a
-all_later shows beside (x ∷ xs) old mid new a e = (a.0, a.1, all_later shows beside xs a.0 mid new a.2 e)
+pub all_later : {S : Type 0} (shows : S → StoreShown) (settings : Settings) (xs : List RuledCall) (old mid new : Between S) → AnswersAll shows settings xs old mid → new ≡ in_phase new.core.phase mid → AnswersAll shows settings xs old new
+all_later shows settings [] old mid new a e = e ∙ ap (in_phase new.core.phase) a
+all_later shows settings (x ∷ xs) old mid new a e = (a.0, a.1, all_later shows settings xs a.0 mid new a.2 e)
 
 -- one run behind another
-pub all_append : {S : Type 0} (shows : S → StoreShown) (beside : ℕ) (xs ys : List RuledCall) (old mid new : Between S) → AnswersAll shows beside xs old mid → AnswersAll shows beside ys mid new → AnswersAll shows beside (xs ++ ys) old new
-all_append shows beside [] ys old mid new a b = from_later shows beside ys old mid new a b
+pub all_append : {S : Type 0} (shows : S → StoreShown) (settings : Settings) (xs ys : List RuledCall) (old mid new : Between S) → AnswersAll shows settings xs old mid → AnswersAll shows settings ys mid new → AnswersAll shows settings (xs ++ ys) old new
+all_append shows settings [] ys old mid new a b = from_later shows settings ys old mid new a b
   where
-    under_later : {S : Type 0} (shows : S → StoreShown) (beside : ℕ) (y : RuledCall) (old mid new : Between S) → mid ≡ in_phase mid.core.phase old → AnswersUnder shows beside y mid new → AnswersUnder shows beside y old new
-    under_later shows beside y old mid new e u =
+    under_later : {S : Type 0} (shows : S → StoreShown) (settings : Settings) (y : RuledCall) (old mid new : Between S) → mid ≡ in_phase mid.core.phase old → AnswersUnder shows settings y mid new → AnswersUnder shows settings y old new
+    under_later shows settings y old mid new e u =
         let core : (in_phase y.call.phase mid).core ≡ (in_phase y.call.phase old).core = ap (λ (b : Between _). (in_phase y.call.phase b).core) e in
         let store : mid.core.store ≡ old.core.store = ap (λ (b : Between _). b.core.store) e in
         let judges : mid.judges ≡ old.judges = ap (λ (b : Between _). b.judges) e in
         record { judge = u.judge; seated = rw (← judges) u.seated; reply = u.reply; stands = u.stands; answers = rw (← core, ← store) u.answers; others = rw (← judges) u.others }
 
-    from_later : {S : Type 0} (shows : S → StoreShown) (beside : ℕ) (ys : List RuledCall) (old mid new : Between S) → mid ≡ in_phase mid.core.phase old → AnswersAll shows beside ys mid new → AnswersAll shows beside ys old new
-    from_later shows beside [] old mid new e b = b ∙ ap (in_phase new.core.phase) e
-    from_later shows beside (y ∷ ys) old mid new e b = (b.0, under_later shows beside y old mid b.0 e b.1, b.2)
-all_append shows beside (x ∷ xs) ys old mid new a b = (a.0, a.1, all_append shows beside xs ys a.0 mid new a.2 b)
+    from_later : {S : Type 0} (shows : S → StoreShown) (settings : Settings) (ys : List RuledCall) (old mid new : Between S) → mid ≡ in_phase mid.core.phase old → AnswersAll shows settings ys mid new → AnswersAll shows settings ys old new
+    from_later shows settings [] old mid new e b = b ∙ ap (in_phase new.core.phase) e
+    from_later shows settings (y ∷ ys) old mid new e b = (b.0, under_later shows settings y old mid b.0 e b.1, b.2)
+all_append shows settings (x ∷ xs) ys old mid new a b = (a.0, a.1, all_append shows settings xs ys a.0 mid new a.2 b)
 
 -- the first calls, and with a run before them
-pub first_behind : {S : Type 0} (shows : S → StoreShown) (beside : ℕ) (xs ys all : List RuledCall) (old mid : Between S) (history : List Entry) → AnswersAll shows beside xs old mid → xs ++ ys ≡ all → AnswersFirst shows beside ys mid history → AnswersFirst shows beside all old history
-first_behind shows beside xs ys all old mid history a whole first = record {
+pub first_behind : {S : Type 0} (shows : S → StoreShown) (settings : Settings) (xs ys all : List RuledCall) (old mid : Between S) (history : List Entry) → AnswersAll shows settings xs old mid → xs ++ ys ≡ all → AnswersFirst shows settings ys mid history → AnswersFirst shows settings all old history
+first_behind shows settings xs ys all old mid history a whole first = record {
   made = xs ++ first.made;
   rest = first.rest;
   whole = sym whole ∙ ap (λ zs. xs ++ zs) first.whole ∙ sym (append_assoc xs first.made first.rest);
   end = first.end;
-  answers = all_append shows beside xs first.made old mid first.end a first.answers;
+  answers = all_append shows settings xs first.made old mid first.end a first.answers;
   told = first.told;
 }
 
 -- calls under one judge, wherever it sits
 
-pub call_ruled : {S : Type 0} (shows : S → StoreShown) (beside : ℕ) (line : Line) (old new : Shown S) (would : ℕ → Facts → Ruling) (stood stands : ℕ) (reply : Reply) → Answers (under (shows old.store) would beside) stood stands old new line.session line.text reply → Anywhere (judging would stood) (judging would stands) (λ number js ks. AnswersUnder shows beside (ruled_by number (call line.session old.phase line.text)) (between old js) (between new ks))
-call_ruled shows beside line old new would stood stands reply a = λ number js at. record { judge = judging would stood; seated = at; reply = reply; stands = stands; answers = a; others = refl }
+pub call_ruled : {S : Type 0} (shows : S → StoreShown) (settings : Settings) (line : Line) (old new : Shown S) (would : ℕ → Facts → Ruling) (stood stands : ℕ) (reply : Reply) → Answers (under (shows old.store) would settings) stood stands old new line.session line.text reply → Anywhere (judging would stood) (judging would stands) (λ number js ks. AnswersUnder shows settings (ruled_by number (call line.session old.phase line.text)) (between old js) (between new ks))
+call_ruled shows settings line old new would stood stands reply a = λ number js at. record { judge = judging would stood; seated = at; reply = reply; stands = stands; answers = a; others = refl }
 
-pub none_ruled : {S : Type 0} (shows : S → StoreShown) (beside : ℕ) (core : Shown S) (j : Judging) → Anywhere j j (λ number js ks. AnswersAll shows beside [] (between core js) (between core ks))
-none_ruled shows beside core j = λ number js at. ap (between core) (set_got js number j at)
+pub none_ruled : {S : Type 0} (shows : S → StoreShown) (settings : Settings) (core : Shown S) (j : Judging) → Anywhere j j (λ number js ks. AnswersAll shows settings [] (between core js) (between core ks))
+none_ruled shows settings core j = λ number js at. ap (between core) (set_got js number j at)
 
-pub one_ruled_more : {S : Type 0} (shows : S → StoreShown) (beside : ℕ) (xs : List Call) (x : Call) (old mid new : Shown S) (a b c : Judging) → Anywhere a b (λ number js ks. AnswersAll shows beside (map (ruled_by number) xs) (between old js) (between mid ks)) → Anywhere b c (λ number js ks. AnswersUnder shows beside (ruled_by number x) (between mid js) (between new ks)) → Anywhere a c (λ number js ks. AnswersAll shows beside (map (ruled_by number) (xs ++ x ∷ [])) (between old js) (between new ks))
-one_ruled_more shows beside xs x old mid new a b c p q = λ number js at.
+pub one_ruled_more : {S : Type 0} (shows : S → StoreShown) (settings : Settings) (xs : List Call) (x : Call) (old mid new : Shown S) (a b c : Judging) → Anywhere a b (λ number js ks. AnswersAll shows settings (map (ruled_by number) xs) (between old js) (between mid ks)) → Anywhere b c (λ number js ks. AnswersUnder shows settings (ruled_by number x) (between mid js) (between new ks)) → Anywhere a c (λ number js ks. AnswersAll shows settings (map (ruled_by number) (xs ++ x ∷ [])) (between old js) (between new ks))
+one_ruled_more shows settings xs x old mid new a b c p q = λ number js at.
     let ks = slice_set js number b in
     let last : slice_set ks number c ≡ slice_set js number c = set_set js number b c in
-    let next : AnswersUnder shows beside (ruled_by number x) (between mid ks) (between new (slice_set js number c)) = subst (λ ls. AnswersUnder shows beside (ruled_by number x) (between mid ks) (between new ls)) last (q number ks (get_set js number a b at)) in
-    rw (map-append (ruled_by number) xs (x ∷ [])) (all_append shows beside (map (ruled_by number) xs) (ruled_by number x ∷ []) (between old js) (between mid ks) (between new (slice_set js number c)) (p number js at) (between new (slice_set js number c), next, refl))
+    let next : AnswersUnder shows settings (ruled_by number x) (between mid ks) (between new (slice_set js number c)) = subst (λ ls. AnswersUnder shows settings (ruled_by number x) (between mid ks) (between new ls)) last (q number ks (get_set js number a b at)) in
+    rw (map-append (ruled_by number) xs (x ∷ [])) (all_append shows settings (map (ruled_by number) xs) (ruled_by number x ∷ []) (between old js) (between mid ks) (between new (slice_set js number c)) (p number js at) (between new (slice_set js number c), next, refl))
 
 -- the lines of a phase up to one, and with that one
 pub calls_more : (phase : ℕ) (lines : List Line) (i : ℕ) (line : Line) → i < length lines → line ≡ slice_index_or lines i line → calls_in phase (take (i + 1) lines) ≡ calls_in phase (take i lines) ++ call line.session phase line.text ∷ []
@@ -126,7 +127,7 @@ calls_more phase lines i line within is =
     ap (calls_in phase) more ∙ map-append (λ (l : Line). call l.session phase l.text) (take i lines) (line ∷ [])
 
 -- a phase's calls up to a line, and with the call of that line
-pub phase_more : {S : Type 0} (shows : S → StoreShown) (b0 b p0 p : ℕ) (lines : List Line) (i : ℕ) (line : Line) (old mid new : Shown S) (w0 w : ℕ → Facts → Ruling) (s0 s t : ℕ) → b ≡ b0 → p ≡ p0 → w ≡ w0 → i < length lines → line ≡ slice_index_or lines i line
+pub phase_more : {S : Type 0} (shows : S → StoreShown) (b0 b : Settings) (p0 p : ℕ) (lines : List Line) (i : ℕ) (line : Line) (old mid new : Shown S) (w0 w : ℕ → Facts → Ruling) (s0 s t : ℕ) → b ≡ b0 → p ≡ p0 → w ≡ w0 → i < length lines → line ≡ slice_index_or lines i line
     → Anywhere (judging w0 s0) (judging w0 s) (λ number js ks. AnswersAll shows b0 (map (ruled_by number) (calls_in p0 (take i lines))) (between old js) (between mid ks))
     → Anywhere (judging w s) (judging w t) (λ number js ks. AnswersUnder shows b (ruled_by number (call line.session p line.text)) (between mid js) (between new ks))
     → Anywhere (judging w0 s0) (judging w0 t) (λ number js ks. AnswersAll shows b0 (map (ruled_by number) (calls_in p0 (take (i + 1) lines))) (between old js) (between new ks))
@@ -134,8 +135,8 @@ phase_more shows b0 b p0 p lines i line old mid new w0 w s0 s t be pe we within 
     rw (calls_more p0 lines i line within is) (one_ruled_more shows b0 (calls_in p0 (take i lines)) (call line.session p0 line.text) old mid new (judging w0 s0) (judging w0 s) (judging w0 t) before (rw (be, pe, we) at next))
 
 -- a phase that ends before the line of a number
-pub stopped_at : {S : Type 0} (shows : S → StoreShown) (beside phase i : ℕ) (lines : List Line) (old mid : Shown S) (a b : Judging) (new : Shown S) (after : Judging) → new.history ≡ mid.history → Anywhere a b (λ number js ks. AnswersAll shows beside (map (ruled_by number) (calls_in phase (take i lines))) (between old js) (between mid ks)) → Anywhere a after (λ number js ks. AnswersFirst shows beside (map (ruled_by number) (calls_in phase lines)) (between old js) new.history)
-stopped_at shows beside phase i lines old mid a b new after same p = λ number js at. record {
+pub stopped_at : {S : Type 0} (shows : S → StoreShown) (settings : Settings) (phase i : ℕ) (lines : List Line) (old mid : Shown S) (a b : Judging) (new : Shown S) (after : Judging) → new.history ≡ mid.history → Anywhere a b (λ number js ks. AnswersAll shows settings (map (ruled_by number) (calls_in phase (take i lines))) (between old js) (between mid ks)) → Anywhere a after (λ number js ks. AnswersFirst shows settings (map (ruled_by number) (calls_in phase lines)) (between old js) new.history)
+stopped_at shows settings phase i lines old mid a b new after same p = λ number js at. record {
   made = map (ruled_by number) (calls_in phase (take i lines));
   rest = map (ruled_by number) (calls_in phase (drop i lines));
   whole = ap (λ (ls : List Line). map (ruled_by number) (calls_in phase ls)) (sym (take-append-drop i lines)) ∙ ap (map (ruled_by number)) (map-append (λ (l : Line). call l.session phase l.text) (take i lines) (drop i lines)) ∙ map-append (ruled_by number) (calls_in phase (take i lines)) (calls_in phase (drop i lines));
@@ -147,29 +148,29 @@ stopped_at shows beside phase i lines old mid a b new after same p = λ number j
 -- phases
 
 -- of all calls these are left
-pub record AnswersTo {S : Type 0} (shows : S → StoreShown) (beside : ℕ) (all left : List RuledCall) (old new : Between S) : Type 0 where
+pub record AnswersTo {S : Type 0} (shows : S → StoreShown) (settings : Settings) (all left : List RuledCall) (old new : Between S) : Type 0 where
   pub made : List RuledCall
   pub whole : made ++ left ≡ all
-  pub answers : AnswersAll shows beside made old new
+  pub answers : AnswersAll shows settings made old new
 
-pub begins : {S : Type 0} (shows : S → StoreShown) (beside : ℕ) (all : List RuledCall) (b : Between S) → AnswersTo shows beside all all b b
-begins shows beside all b = record { made = []; whole = refl; answers = refl }
+pub begins : {S : Type 0} (shows : S → StoreShown) (settings : Settings) (all : List RuledCall) (b : Between S) → AnswersTo shows settings all all b b
+begins shows settings all b = record { made = []; whole = refl; answers = refl }
 
-pub ends : {S : Type 0} (shows : S → StoreShown) (beside : ℕ) (all left : List RuledCall) (old new : Between S) → left ≡ [] → AnswersTo shows beside all left old new → AnswersAll shows beside all old new
-ends shows beside all left old new none t =
+pub ends : {S : Type 0} (shows : S → StoreShown) (settings : Settings) (all left : List RuledCall) (old new : Between S) → left ≡ [] → AnswersTo shows settings all left old new → AnswersAll shows settings all old new
+ends shows settings all left old new none t =
     let made : t.made ≡ all = sym (append-nil t.made) ∙ ap (λ xs. t.made ++ xs) (sym none) ∙ t.whole in
-    subst (λ xs. AnswersAll shows beside xs old new) made t.answers
+    subst (λ xs. AnswersAll shows settings xs old new) made t.answers
 
-pub goes_on : {S : Type 0} (shows : S → StoreShown) (beside : ℕ) (all mine more : List RuledCall) (old mid entered new : Between S) → AnswersTo shows beside all (mine ++ more) old mid → entered ≡ in_phase entered.core.phase mid → AnswersAll shows beside mine entered new → AnswersTo shows beside all more old new
-goes_on shows beside all mine more old mid entered new t e a = record {
+pub goes_on : {S : Type 0} (shows : S → StoreShown) (settings : Settings) (all mine more : List RuledCall) (old mid entered new : Between S) → AnswersTo shows settings all (mine ++ more) old mid → entered ≡ in_phase entered.core.phase mid → AnswersAll shows settings mine entered new → AnswersTo shows settings all more old new
+goes_on shows settings all mine more old mid entered new t e a = record {
   made = t.made ++ mine;
   whole = append_assoc t.made mine more ∙ t.whole;
-  answers = all_append shows beside t.made mine old entered new (all_later shows beside t.made old mid entered t.answers e) a;
+  answers = all_append shows settings t.made mine old entered new (all_later shows settings t.made old mid entered t.answers e) a;
 }
 
-pub stops : {S : Type 0} (shows : S → StoreShown) (beside : ℕ) (all mine more : List RuledCall) (old mid entered : Between S) (history : List Entry) → AnswersTo shows beside all (mine ++ more) old mid → entered ≡ in_phase entered.core.phase mid → AnswersFirst shows beside mine entered history → AnswersFirst shows beside all old history
-stops shows beside all mine more old mid entered history t e first =
-    first_behind shows beside t.made (mine ++ more) all old entered history (all_later shows beside t.made old mid entered t.answers e) t.whole (record {
+pub stops : {S : Type 0} (shows : S → StoreShown) (settings : Settings) (all mine more : List RuledCall) (old mid entered : Between S) (history : List Entry) → AnswersTo shows settings all (mine ++ more) old mid → entered ≡ in_phase entered.core.phase mid → AnswersFirst shows settings mine entered history → AnswersFirst shows settings all old history
+stops shows settings all mine more old mid entered history t e first =
+    first_behind shows settings t.made (mine ++ more) all old entered history (all_later shows settings t.made old mid entered t.answers e) t.whole (record {
       made = first.made;
       rest = first.rest ++ more;
       whole = ap (λ xs. xs ++ more) first.whole ∙ append_assoc first.made first.rest more;
@@ -190,7 +191,7 @@ left_from ruling n i phases p lines next within is same named =
     rw (same, named) (ap (ruled_from ruling n) split)
 
 -- a phase more
-pub phases_more : {S J : Type 0} (shows : S → StoreShown) (b0 b : ℕ) (w : J → ℕ → Facts → Ruling) (s : J → ℕ) (all : List RuledCall) (ruling n i : ℕ) (phases : List Phase) (p : Phase) (lines : List Line) (next : ℕ) (start : Between S) (core entered new : Shown S) (js : List Judging) (j0 j1 j2 : Option J) (before after : J)
+pub phases_more : {S J : Type 0} (shows : S → StoreShown) (b0 b : Settings) (w : J → ℕ → Facts → Ruling) (s : J → ℕ) (all : List RuledCall) (ruling n i : ℕ) (phases : List Phase) (p : Phase) (lines : List Line) (next : ℕ) (start : Between S) (core entered new : Shown S) (js : List Judging) (j0 j1 j2 : Option J) (before after : J)
     → AnswersTo shows b0 all (ruled_from ruling n (drop i phases)) start (between core js) → i < length phases → p ≡ slice_index_or phases i p → lines ≡ p.lines → next ≡ unwrap_or p.judge ruling → entered ≡ record core { phase = n } → map (λ j. judging (w j) (s j)) (by_number j0 j1 j2 before) ≡ js → next < 3 → filled j0 j1 j2 ≡ all_but next → b ≡ b0 → w after ≡ w before
     → Anywhere (judging (w before) (s before)) (judging (w before) (s after)) (λ number old later. AnswersAll shows b (map (ruled_by number) (calls_in entered.phase lines)) (between entered old) (between new later))
     → AnswersTo shows b0 all (ruled_from next (n + 1) (drop (i + 1) phases)) start (between new (map (λ j. judging (w j) (s j)) (by_number j0 j1 j2 after)))
@@ -206,7 +207,7 @@ phases_more {S = S} shows b0 b w s all ruling n i phases p lines next start core
     goes_on shows b0 all mine more start (between core js) (between entered js) (between new (map (λ j. judging (w j) (s j)) (by_number j0 j1 j2 after))) left begun mine_made
 
 -- a phase that stops
-pub phases_stop : {S J : Type 0} (shows : S → StoreShown) (b0 b : ℕ) (w : J → ℕ → Facts → Ruling) (s : J → ℕ) (all : List RuledCall) (ruling n i : ℕ) (phases : List Phase) (p : Phase) (lines : List Line) (next : ℕ) (start : Between S) (core entered new : Shown S) (js : List Judging) (j0 j1 j2 : Option J) (before after : J)
+pub phases_stop : {S J : Type 0} (shows : S → StoreShown) (b0 b : Settings) (w : J → ℕ → Facts → Ruling) (s : J → ℕ) (all : List RuledCall) (ruling n i : ℕ) (phases : List Phase) (p : Phase) (lines : List Line) (next : ℕ) (start : Between S) (core entered new : Shown S) (js : List Judging) (j0 j1 j2 : Option J) (before after : J)
     → AnswersTo shows b0 all (ruled_from ruling n (drop i phases)) start (between core js) → i < length phases → p ≡ slice_index_or phases i p → lines ≡ p.lines → next ≡ unwrap_or p.judge ruling → entered ≡ record core { phase = n } → map (λ j. judging (w j) (s j)) (by_number j0 j1 j2 before) ≡ js → next < 3 → filled j0 j1 j2 ≡ all_but next → b ≡ b0
     → Anywhere (judging (w before) (s before)) (judging (w before) (s after)) (λ number old later. AnswersFirst shows b (map (ruled_by number) (calls_in entered.phase lines)) (between entered old) new.history)
     → AnswersFirst shows b0 all start new.history
@@ -251,13 +252,13 @@ err_so (Err e) p = p
 
 -- whole runs
 
-pub calls_under : {S : Type 0} (shows : S → StoreShown) (beside steps : ℕ) (begun : Shown S) (store : S) (js judges : List Judging) (ruling first : ℕ) (phases : List Phase) (script : Script) (core : Shown S) (stand : List Judging) → beside ≡ steps → begun ≡ fresh store → js ≡ judges → ruling ≡ first → phases ≡ script.phases → AnswersAll shows beside (ruled_from ruling 1 phases) (between begun js) (between core stand) → CallsUnder shows steps store judges first core script
-calls_under shows beside steps begun store js judges ruling first phases script core stand b s j r p a = record { stand = stand; answers = rw (b, s, j, r, p) at a }
+pub calls_under : {S : Type 0} (shows : S → StoreShown) (settings wanted : Settings) (begun : Shown S) (store : S) (js judges : List Judging) (ruling first : ℕ) (phases : List Phase) (script : Script) (core : Shown S) (stand : List Judging) → settings ≡ wanted → begun ≡ fresh store → js ≡ judges → ruling ≡ first → phases ≡ script.phases → AnswersAll shows settings (ruled_from ruling 1 phases) (between begun js) (between core stand) → CallsUnder shows wanted store judges first core script
+calls_under shows settings wanted begun store js judges ruling first phases script core stand b s j r p a = record { stand = stand; answers = rw (b, s, j, r, p) at a }
 
-pub first_calls_under : {S : Type 0} (shows : S → StoreShown) (beside steps : ℕ) (begun : Shown S) (store : S) (js judges : List Judging) (ruling first : ℕ) (phases : List Phase) (script : Script) (core : Shown S) → beside ≡ steps → begun ≡ fresh store → js ≡ judges → ruling ≡ first → phases ≡ script.phases → AnswersFirst shows beside (ruled_from ruling 1 phases) (between begun js) core.history → FirstCallsUnder shows steps store judges first core script
-first_calls_under shows beside steps begun store js judges ruling first phases script core b s j r p a = rw (b, s, j, r, p) at a
+pub first_calls_under : {S : Type 0} (shows : S → StoreShown) (settings wanted : Settings) (begun : Shown S) (store : S) (js judges : List Judging) (ruling first : ℕ) (phases : List Phase) (script : Script) (core : Shown S) → settings ≡ wanted → begun ≡ fresh store → js ≡ judges → ruling ≡ first → phases ≡ script.phases → AnswersFirst shows settings (ruled_from ruling 1 phases) (between begun js) core.history → FirstCallsUnder shows wanted store judges first core script
+first_calls_under shows settings wanted begun store js judges ruling first phases script core b s j r p a = rw (b, s, j, r, p) at a
 
 -- however the calls ended
-pub first_either : {S : Type 0} (shows : S → StoreShown) (beside : ℕ) (all : List RuledCall) (old new : Between S) (r : Result (Unit {0}) NoMemory) → OnOk r (AnswersAll shows beside all old new) → OnErr r (AnswersFirst shows beside all old new.core.history) → AnswersFirst shows beside all old new.core.history
-first_either shows beside all old new (Ok u) a f = record { made = all; rest = []; whole = sym (append-nil all); end = new; answers = a; told = refl }
-first_either shows beside all old new (Err e) a f = f
+pub first_either : {S : Type 0} (shows : S → StoreShown) (settings : Settings) (all : List RuledCall) (old new : Between S) (r : Result (Unit {0}) NoMemory) → OnOk r (AnswersAll shows settings all old new) → OnErr r (AnswersFirst shows settings all old new.core.history) → AnswersFirst shows settings all old new.core.history
+first_either shows settings all old new (Ok u) a f = record { made = all; rest = []; whole = sym (append-nil all); end = new; answers = a; told = refl }
+first_either shows settings all old new (Err e) a f = f

@@ -34,7 +34,7 @@ script_words faults.NoMemory = codes "no memory"
 
 abbrev pub status_words : Status → List ℕ
 status_words Done = []
-status_words Usage = codes "usage: rvdyn [--threads] [--workers W] [--judge N] [--steps K] [--gen SEED]"
+status_words Usage = codes "usage: rvdyn [--threads] [--workers W] [--judge N] [--steps K] [--gen SEED] [--race]"
 status_words (Script fault) = script_words fault
 status_words (Limit over) = limit_words over
 status_words Memory = codes "no memory"

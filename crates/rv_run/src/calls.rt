@@ -26,9 +26,9 @@ pub fn make_calls<S: Store + Reader<Ledger = Uncounted> + Drop>(
     ensures ok { OnOk result (calls_made core.new.engine.history ≡ calls_from 1 phases.now) }
     ensures first { MakesFirst core.new.engine.history (calls_from 1 phases.now) }
     ensures ruling { OnOk result (judges.new.ruling ≡ ruling_after judges.old.ruling phases.now) }
-    ensures ruled { OnOk result (AnswersAll (λ s. S.shown s) core.old.beside (ruled_from judges.old.ruling 1 phases.now) (between core.old.engine (map (λ j. judging (would j) (state j)) (by_number judges.old.places.zero judges.old.places.one judges.old.places.two core.old.judge))) (between core.new.engine (map (λ j. judging (would j) (state j)) (by_number judges.new.places.zero judges.new.places.one judges.new.places.two core.new.judge)))) }
-    ensures stopped { OnErr result (AnswersFirst (λ s. S.shown s) core.old.beside (ruled_from judges.old.ruling 1 phases.now) (between core.old.engine (map (λ j. judging (would j) (state j)) (by_number judges.old.places.zero judges.old.places.one judges.old.places.two core.old.judge))) core.new.engine.history) }
-    ensures beside { core.new.beside ≡ core.old.beside }
+    ensures ruled { OnOk result (AnswersAll (λ s. S.shown s) core.old.settings (ruled_from judges.old.ruling 1 phases.now) (between core.old.engine (map (λ j. judging (would j) (state j)) (by_number judges.old.places.zero judges.old.places.one judges.old.places.two core.old.judge))) (between core.new.engine (map (λ j. judging (would j) (state j)) (by_number judges.new.places.zero judges.new.places.one judges.new.places.two core.new.judge)))) }
+    ensures stopped { OnErr result (AnswersFirst (λ s. S.shown s) core.old.settings (ruled_from judges.old.ruling 1 phases.now) (between core.old.engine (map (λ j. judging (would j) (state j)) (by_number judges.old.places.zero judges.old.places.one judges.old.places.two core.old.judge))) core.new.engine.history) }
+    ensures settings { core.new.settings ≡ core.old.settings }
 {
     let mut number = 0u32;
     'phases: for phase in phases {
@@ -52,7 +52,7 @@ pub(crate) fn enter_phase<S: Store + Reader<Ledger = Uncounted> + Drop>(
     ensures engine { core.new.engine ≡ record core.old.engine { phase = number + 1 } }
     ensures all { by_number judges.new.places.zero judges.new.places.one judges.new.places.two core.new.judge ≡ by_number judges.old.places.zero judges.old.places.one judges.old.places.two core.old.judge }
     ensures ruling { judges.new.ruling ≡ unwrap_or judge judges.old.ruling }
-    ensures beside { core.new.beside ≡ core.old.beside }
+    ensures settings { core.new.settings ≡ core.old.settings }
 {
     if number > 0 {
         core.next_phase();
@@ -73,11 +73,11 @@ fn make_phase<S: Store + Reader<Ledger = Uncounted> + Drop>(
     ensures part { MakesCalls core.old.engine.history core.new.engine.history core.old.engine.phase lines.now }
 
     // Wherever other judges stand, and whichever number the one that rules has.
-    ensures ruled { OnOk result (MakesUnder (λ j. would j) (λ j. state j) core.old.judge core.new.judge (λ number before after. AnswersAll (λ s. S.shown s) core.old.beside (map (ruled_by number) (calls_in core.old.engine.phase lines.now)) (between core.old.engine before) (between core.new.engine after))) }
-    ensures stopped { OnErr result (MakesUnder (λ j. would j) (λ j. state j) core.old.judge core.new.judge (λ number before after. AnswersFirst (λ s. S.shown s) core.old.beside (map (ruled_by number) (calls_in core.old.engine.phase lines.now)) (between core.old.engine before) core.new.engine.history)) }
+    ensures ruled { OnOk result (MakesUnder (λ j. would j) (λ j. state j) core.old.judge core.new.judge (λ number before after. AnswersAll (λ s. S.shown s) core.old.settings (map (ruled_by number) (calls_in core.old.engine.phase lines.now)) (between core.old.engine before) (between core.new.engine after))) }
+    ensures stopped { OnErr result (MakesUnder (λ j. would j) (λ j. state j) core.old.judge core.new.judge (λ number before after. AnswersFirst (λ s. S.shown s) core.old.settings (map (ruled_by number) (calls_in core.old.engine.phase lines.now)) (between core.old.engine before) core.new.engine.history)) }
     ensures rules { Keeps (λ j. would j) core.old.judge core.new.judge }
     ensures phase { core.new.engine.phase ≡ core.old.engine.phase }
-    ensures beside { core.new.beside ≡ core.old.beside }
+    ensures settings { core.new.settings ≡ core.old.settings }
 {
     'lines: for line in lines {
         make_call(core, _beside, line)?;
@@ -94,10 +94,10 @@ fn make_call<S: Store + Reader<Ledger = Uncounted> + Drop>(
     requires { IsCall line.now }
     ensures ok { OnOk result (calls_made core.new.engine.history ≡ calls_made core.old.engine.history ++ calls_in core.old.engine.phase (line.now ∷ [])) }
     ensures err { OnErr result (core.new.engine.history ≡ core.old.engine.history) }
-    ensures ruled { OnOk result (MakesUnder (λ j. would j) (λ j. state j) core.old.judge core.new.judge (λ number before after. AnswersUnder (λ s. S.shown s) core.old.beside (ruled_by number (call line.now.session core.old.engine.phase line.now.text)) (between core.old.engine before) (between core.new.engine after))) }
+    ensures ruled { OnOk result (MakesUnder (λ j. would j) (λ j. state j) core.old.judge core.new.judge (λ number before after. AnswersUnder (λ s. S.shown s) core.old.settings (ruled_by number (call line.now.session core.old.engine.phase line.now.text)) (between core.old.engine before) (between core.new.engine after))) }
     ensures rules { Keeps (λ j. would j) core.old.judge core.new.judge }
     ensures phase { core.new.engine.phase ≡ core.old.engine.phase }
-    ensures beside { core.new.beside ≡ core.old.beside }
+    ensures settings { core.new.settings ≡ core.old.settings }
 {
     let _ = core.call(line.session, line.text.as_str())?;
     Ok(())

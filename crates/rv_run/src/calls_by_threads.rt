@@ -42,7 +42,7 @@ pub fn make_calls_by_threads<
     ensures whole { result.short ≡ false → (session : ℕ) → 1 ≤ session → session ≤ 8 → of_session session (calls_made result.core.engine.history) ≡ of_session session (calls_from 1 phases.now) }
     ensures first { MadeFirst result.core.engine.history phases.now }
     ensures ruling { result.short ≡ false → judges.new.ruling ≡ ruling_after judges.old.ruling phases.now }
-    ensures beside { result.core.beside ≡ core.beside }
+    ensures settings { result.core.settings ≡ core.settings }
 {
     let mut held = core;
     let mut number = 0u32;

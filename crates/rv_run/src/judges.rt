@@ -84,7 +84,7 @@ impl Judges {
         ensures all { by_number self.new.places.zero self.new.places.one self.new.places.two core.new.judge ≡ by_number self.old.places.zero self.old.places.one self.old.places.two core.old.judge }
         ensures ruling { self.new.ruling ≡ number }
         ensures engine { core.new.engine ≡ core.old.engine }
-        ensures beside { core.new.beside ≡ core.old.beside }
+        ensures settings { core.new.settings ≡ core.old.settings }
     {
         if let Some(judge) = self.places.take(number) {
             let before = core.set_judge(judge);

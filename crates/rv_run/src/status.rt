@@ -56,7 +56,7 @@ impl Status {
         match self {
             Status::Done => said("", None, ""),
             Status::Usage => said(
-                "usage: rvdyn [--threads] [--workers W] [--judge N] [--steps K] [--gen SEED]",
+                "usage: rvdyn [--threads] [--workers W] [--judge N] [--steps K] [--gen SEED] [--race]",
                 None,
                 "",
             ),
@@ -93,7 +93,7 @@ fn limit_words(over: Over) -> ArrayString<128>
 
 /// Words, a number where there is one, and more words.
 fn said(before: &str, number: Option<u32>, behind: &str) -> ArrayString<128>
-    requires room { length before.now + length behind.now ≤ 80 }
+    requires room { length before.now + length behind.now ≤ 88 }
     ensures { result.bytes ≡ before.now ++ Rattle.rv_run.specs.Words.number_text number ++ behind.now }
 {
     let mut words = ArrayString::new();

@@ -11,7 +11,7 @@ ghost use Rattle.rv_run.specs.Judges.{by_number};
 ghost use Rattle.rv_run.specs.Script.{FailsToRead, HasAllCalls, HasFault, HasFirstCalls, IsFrontInOrder, IsInOrder, PassesLimit, Runs, Writes, output};
 ghost use Rattle.rv_run.specs.Making.{FitsScript};
 ghost use Rattle.rv_run.specs.Performing.{Hinders, IsPerformed, Performs, Stops, calls_status, reading_status, script_status, Told};
-ghost use Rattle.rv_run.specs.Ruling.{CallsUnder, FirstCallsUnder, fresh, judging};
+ghost use Rattle.rv_run.specs.Ruling.{CallsUnder, FirstCallsUnder, fresh, judging, settings_of};
 ghost use Rattle.rv_run.specs.declared.status.Over.{Over as Limits};
 ghost use Rattle.rv_script.specs.declared.scripts.ScriptFault.{ScriptFault as Faults};
 
@@ -103,11 +103,11 @@ pub fn run<
     // words ask.
     ensures order { (asked : Askings) → Ask words.now asked → asked.threads ≡ false → result.status ≡ Status.Done → IsSomeAnd result.core (λ core. Runs asked.seed (S.left source.old) (IsInOrder core.engine.history)) }
     ensures order_first { (asked : Askings) → Ask words.now asked → asked.threads ≡ false → IfSome result.core (λ core. Runs asked.seed (S.left source.old) (IsFrontInOrder core.engine.history)) }
-    ensures ruled { (asked : Askings) → Ask words.now asked → asked.threads ≡ false → result.status ≡ Status.Done → IsSomeAnd result.core (λ core. Runs asked.seed (S.left source.old) (CallsUnder (λ s. P.shown s) asked.steps store (map (λ j. judging (would j) (state j)) judges.items) asked.judge core.engine)) }
-    ensures ruled_first { (asked : Askings) → Ask words.now asked → asked.threads ≡ false → IfSome result.core (λ core. Runs asked.seed (S.left source.old) (FirstCallsUnder (λ s. P.shown s) asked.steps store (map (λ j. judging (would j) (state j)) judges.items) asked.judge core.engine)) }
+    ensures ruled { (asked : Askings) → Ask words.now asked → asked.threads ≡ false → result.status ≡ Status.Done → IsSomeAnd result.core (λ core. Runs asked.seed (S.left source.old) (CallsUnder (λ s. P.shown s) (settings_of asked) store (map (λ j. judging (would j) (state j)) judges.items) asked.judge core.engine)) }
+    ensures ruled_first { (asked : Askings) → Ask words.now asked → asked.threads ≡ false → IfSome result.core (λ core. Runs asked.seed (S.left source.old) (FirstCallsUnder (λ s. P.shown s) (settings_of asked) store (map (λ j. judging (would j) (state j)) judges.items) asked.judge core.engine)) }
 
-    // So many background steps may follow each foreground step as the words ask.
-    ensures steps { (asked : Askings) → Ask words.now asked → IfSome result.core (λ core. core.beside ≡ asked.steps) }
+    // So many background steps may follow each foreground step as the words ask, and indexes race where they ask it.
+    ensures settings { (asked : Askings) → Ask words.now asked → IfSome result.core (λ core. core.settings ≡ settings_of asked) }
 {
     match begin(alloc, words, source) {
         Ok(begun) => perform_asked(
@@ -172,11 +172,11 @@ pub fn run_plain<P: Store + Reader<Ledger = Uncounted> + Drop, S: Source, K: Sin
 
     // Each call was made under the judge of its phase, over the store that was handed in: under the judge that the phase
     // names, else under the one before, and first under the one that the words ask.
-    ensures ruled { (asked : Askings) → Ask words.now asked → result.status ≡ Status.Done → IsSomeAnd result.core (λ core. Runs asked.seed (S.left source.old) (CallsUnder (λ s. P.shown s) asked.steps store (map (λ j. judging (would j) (state j)) judges.items) asked.judge core.engine)) }
-    ensures ruled_first { (asked : Askings) → Ask words.now asked → IfSome result.core (λ core. Runs asked.seed (S.left source.old) (FirstCallsUnder (λ s. P.shown s) asked.steps store (map (λ j. judging (would j) (state j)) judges.items) asked.judge core.engine)) }
+    ensures ruled { (asked : Askings) → Ask words.now asked → result.status ≡ Status.Done → IsSomeAnd result.core (λ core. Runs asked.seed (S.left source.old) (CallsUnder (λ s. P.shown s) (settings_of asked) store (map (λ j. judging (would j) (state j)) judges.items) asked.judge core.engine)) }
+    ensures ruled_first { (asked : Askings) → Ask words.now asked → IfSome result.core (λ core. Runs asked.seed (S.left source.old) (FirstCallsUnder (λ s. P.shown s) (settings_of asked) store (map (λ j. judging (would j) (state j)) judges.items) asked.judge core.engine)) }
 
-    // So many background steps may follow each foreground step as the words ask.
-    ensures steps { (asked : Askings) → Ask words.now asked → IfSome result.core (λ core. core.beside ≡ asked.steps) }
+    // So many background steps may follow each foreground step as the words ask, and indexes race where they ask it.
+    ensures settings { (asked : Askings) → Ask words.now asked → IfSome result.core (λ core. core.settings ≡ settings_of asked) }
 {
     match begin(alloc, words, source) {
         Ok(begun) => perform(alloc, store, begun.asked, &begun.script, sink, judges),
@@ -321,10 +321,10 @@ fn perform<P: Store + Reader<Ledger = Uncounted> + Drop, K: Sink>(
     ensures order_first { IsSomeAnd result.core (λ core. IsFrontInOrder core.engine.history script.now) }
     ensures front { result.status ≡ Status.WriteFault → IsSomeAnd result.core (λ core. Performs asked.seed (AppendsFront (K.written sink.old) (K.written sink.new)) HasFirstCalls script.now core.engine.history) }
     ensures write { result.status ≡ Status.WriteFault → Rose (K.faults sink.old) (K.faults sink.new) }
-    ensures ruled { result.status ≡ Status.Done → IsSomeAnd result.core (λ core. CallsUnder (λ s. P.shown s) asked.steps store (map (λ j. judging (would j) (state j)) judges.items) asked.judge core.engine script.now) }
-    ensures ruled_first { IsSomeAnd result.core (λ core. FirstCallsUnder (λ s. P.shown s) asked.steps store (map (λ j. judging (would j) (state j)) judges.items) asked.judge core.engine script.now) }
+    ensures ruled { result.status ≡ Status.Done → IsSomeAnd result.core (λ core. CallsUnder (λ s. P.shown s) (settings_of asked) store (map (λ j. judging (would j) (state j)) judges.items) asked.judge core.engine script.now) }
+    ensures ruled_first { IsSomeAnd result.core (λ core. FirstCallsUnder (λ s. P.shown s) (settings_of asked) store (map (λ j. judging (would j) (state j)) judges.items) asked.judge core.engine script.now) }
     ensures kinds { IsPerformed result.status }
-    ensures core { IsSomeAnd result.core (λ core. core.beside ≡ asked.steps) }
+    ensures core { IsSomeAnd result.core (λ core. core.settings ≡ settings_of asked) }
 {
     let (mut core, mut judges) = judged_core(alloc, store, asked, judges);
     let called = make_calls(&mut core, &mut judges, script.phases.as_slice()).is_ok();
@@ -359,10 +359,10 @@ fn perform_asked<
     ensures write { result.status ≡ Status.WriteFault → Rose (K.faults sink.old) (K.faults sink.new) }
     ensures order { asked.threads ≡ false → result.status ≡ Status.Done → IsSomeAnd result.core (λ core. IsInOrder core.engine.history script.now) }
     ensures order_first { asked.threads ≡ false → IsSomeAnd result.core (λ core. IsFrontInOrder core.engine.history script.now) }
-    ensures ruled { asked.threads ≡ false → result.status ≡ Status.Done → IsSomeAnd result.core (λ core. CallsUnder (λ s. P.shown s) asked.steps store (map (λ j. judging (would j) (state j)) judges.items) asked.judge core.engine script.now) }
-    ensures ruled_first { asked.threads ≡ false → IsSomeAnd result.core (λ core. FirstCallsUnder (λ s. P.shown s) asked.steps store (map (λ j. judging (would j) (state j)) judges.items) asked.judge core.engine script.now) }
+    ensures ruled { asked.threads ≡ false → result.status ≡ Status.Done → IsSomeAnd result.core (λ core. CallsUnder (λ s. P.shown s) (settings_of asked) store (map (λ j. judging (would j) (state j)) judges.items) asked.judge core.engine script.now) }
+    ensures ruled_first { asked.threads ≡ false → IsSomeAnd result.core (λ core. FirstCallsUnder (λ s. P.shown s) (settings_of asked) store (map (λ j. judging (would j) (state j)) judges.items) asked.judge core.engine script.now) }
     ensures kinds { IsPerformed result.status }
-    ensures core { IsSomeAnd result.core (λ core. core.beside ≡ asked.steps) }
+    ensures core { IsSomeAnd result.core (λ core. core.settings ≡ settings_of asked) }
 {
     if asked.threads {
         perform_by_threads(rt, alloc, store, asked, script, sink, judges, gate)
@@ -398,7 +398,7 @@ fn perform_by_threads<
     ensures front { result.status ≡ Status.WriteFault → IsSomeAnd result.core (λ core. Performs asked.seed (AppendsFront (K.written sink.old) (K.written sink.new)) HasFirstCalls script.now core.engine.history) }
     ensures write { result.status ≡ Status.WriteFault → Rose (K.faults sink.old) (K.faults sink.new) }
     ensures kinds { IsPerformed result.status }
-    ensures core { IsSomeAnd result.core (λ core. core.beside ≡ asked.steps) }
+    ensures core { IsSomeAnd result.core (λ core. core.settings ≡ settings_of asked) }
 {
     let (core, mut judges) = judged_core(alloc, store, asked, judges);
     let Phased { core, short } = make_calls_by_threads(
@@ -427,10 +427,11 @@ fn judged_core<P: Store + Reader<Ledger = Uncounted> + Drop>(
     ensures fresh { result.0.engine ≡ fresh store }
     ensures all { by_number result.1.places.zero result.1.places.one result.1.places.two result.0.judge ≡ judges.items }
     ensures ruling { result.1.ruling ≡ asked.judge }
-    ensures steps { result.0.beside ≡ asked.steps }
+    ensures settings { result.0.settings ≡ settings_of asked }
 {
     let (judges, first) = Judges::new(judges, asked.judge);
-    (Core::new(alloc, store, first, asked.steps), judges)
+    let core = Core::new(alloc, store, first, asked.race, asked.steps);
+    (core, judges)
 }
 
 /// Writes what is to be written of a core's history; how a run ends that called all, or that wanted memory.

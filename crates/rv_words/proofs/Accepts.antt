@@ -4,7 +4,7 @@ use Rattle.std.specs.Prelude.{is_some}
 use Rattle.std.specs.List.{AllByRecursion}
 use Rattle.std.proofs.lemmas.Bool.{cases_Bool}
 use Rattle.rv_words.specs.declared.choices.Choice.{Choice}
-use Rattle.rv_words.specs.declared.choices.Choice.TheVariants.{Threads, Workers, Judge, Steps, Gen}
+use Rattle.rv_words.specs.declared.choices.Choice.TheVariants.{Threads, Workers, Judge, Steps, Gen, Race}
 use Rattle.rv_words.specs.declared.reading.Sofar.{Sofar}
 use Rattle.rv_words.specs.Words.{Item, IsValue, Once, is_flag, name_of, words_of}
 use Rattle.rv_words.proofs.Items.{IsItem, Lacks, is_option}
@@ -26,26 +26,37 @@ option_cases Threads Workers = inr (λ e. cc, refl)
 option_cases Threads Judge = inr (λ e. cc, refl)
 option_cases Threads Steps = inr (λ e. cc, refl)
 option_cases Threads Gen = inr (λ e. cc, refl)
+option_cases Threads Race = inr (λ e. cc, refl)
 option_cases Workers Threads = inr (λ e. cc, refl)
 option_cases Workers Workers = inl (refl, refl)
 option_cases Workers Judge = inr (λ e. cc, refl)
 option_cases Workers Steps = inr (λ e. cc, refl)
 option_cases Workers Gen = inr (λ e. cc, refl)
+option_cases Workers Race = inr (λ e. cc, refl)
 option_cases Judge Threads = inr (λ e. cc, refl)
 option_cases Judge Workers = inr (λ e. cc, refl)
 option_cases Judge Judge = inl (refl, refl)
 option_cases Judge Steps = inr (λ e. cc, refl)
 option_cases Judge Gen = inr (λ e. cc, refl)
+option_cases Judge Race = inr (λ e. cc, refl)
 option_cases Steps Threads = inr (λ e. cc, refl)
 option_cases Steps Workers = inr (λ e. cc, refl)
 option_cases Steps Judge = inr (λ e. cc, refl)
 option_cases Steps Steps = inl (refl, refl)
 option_cases Steps Gen = inr (λ e. cc, refl)
+option_cases Steps Race = inr (λ e. cc, refl)
 option_cases Gen Threads = inr (λ e. cc, refl)
 option_cases Gen Workers = inr (λ e. cc, refl)
 option_cases Gen Judge = inr (λ e. cc, refl)
 option_cases Gen Steps = inr (λ e. cc, refl)
 option_cases Gen Gen = inl (refl, refl)
+option_cases Gen Race = inr (λ e. cc, refl)
+option_cases Race Threads = inr (λ e. cc, refl)
+option_cases Race Workers = inr (λ e. cc, refl)
+option_cases Race Judge = inr (λ e. cc, refl)
+option_cases Race Steps = inr (λ e. cc, refl)
+option_cases Race Gen = inr (λ e. cc, refl)
+option_cases Race Race = inl (refl, refl)
 
 pub given_same : (s : Sofar) (option : Choice) → given option (marked s option) ≡ true
 given_same s Threads = refl
@@ -53,6 +64,7 @@ given_same s Workers = refl
 given_same s Judge = refl
 given_same s Steps = refl
 given_same s Gen = refl
+given_same s Race = refl
 
 pub given_other : (s : Sofar) (a b : Choice) → a ≢ b → given a (marked s b) ≡ given a s
 given_other s Threads Threads other = absurd (other refl)
@@ -60,26 +72,37 @@ given_other s Threads Workers other = refl
 given_other s Threads Judge other = refl
 given_other s Threads Steps other = refl
 given_other s Threads Gen other = refl
+given_other s Threads Race other = refl
 given_other s Workers Threads other = refl
 given_other s Workers Workers other = absurd (other refl)
 given_other s Workers Judge other = refl
 given_other s Workers Steps other = refl
 given_other s Workers Gen other = refl
+given_other s Workers Race other = refl
 given_other s Judge Threads other = refl
 given_other s Judge Workers other = refl
 given_other s Judge Judge other = absurd (other refl)
 given_other s Judge Steps other = refl
 given_other s Judge Gen other = refl
+given_other s Judge Race other = refl
 given_other s Steps Threads other = refl
 given_other s Steps Workers other = refl
 given_other s Steps Judge other = refl
 given_other s Steps Steps other = absurd (other refl)
 given_other s Steps Gen other = refl
+given_other s Steps Race other = refl
 given_other s Gen Threads other = refl
 given_other s Gen Workers other = refl
 given_other s Gen Judge other = refl
 given_other s Gen Steps other = refl
 given_other s Gen Gen other = absurd (other refl)
+given_other s Gen Race other = refl
+given_other s Race Threads other = refl
+given_other s Race Workers other = refl
+given_other s Race Judge other = refl
+given_other s Race Steps other = refl
+given_other s Race Gen other = refl
+given_other s Race Race other = absurd (other refl)
 
 -- ---- what is read while no value is to come
 
@@ -95,6 +118,7 @@ given_idle s Workers = refl
 given_idle s Judge = refl
 given_idle s Steps = refl
 given_idle s Gen = refl
+given_idle s Race = refl
 
 marked_idle : (s : Sofar) (option : Choice) → marked (idle s) option ≡ idle (marked s option)
 marked_idle s Threads = refl
@@ -102,6 +126,7 @@ marked_idle s Workers = refl
 marked_idle s Judge = refl
 marked_idle s Steps = refl
 marked_idle s Gen = refl
+marked_idle s Race = refl
 
 new_idle : (s : Sofar) (option : Choice) → given option s ≡ false → with_new (idle s) option true ≡ Some (idle (marked s option))
 new_idle s option free = rw (given_idle s option, free) (ap (λ (t : Sofar). Some t) (marked_idle s option))

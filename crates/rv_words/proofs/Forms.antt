@@ -7,7 +7,7 @@ use Rattle.std.proofs.lemmas.List.{drop_more, take-append-drop}
 use Rattle.std.proofs.lemmas.List.Quantifiers.{position-Some}
 use Rattle.std.proofs.lemmas.Slice.Eq.{bytes_eq-Decides}
 use Rattle.rv_words.specs.declared.choices.Choice.{Choice}
-use Rattle.rv_words.specs.declared.choices.Choice.TheVariants.{Threads, Workers, Judge, Steps, Gen}
+use Rattle.rv_words.specs.declared.choices.Choice.TheVariants.{Threads, Workers, Judge, Steps, Gen, Race}
 use Rattle.rv_words.specs.Words.{name_of}
 use Rattle.rv_words.specs.Reading.{Named, Joined, choice_of, form, form_at, joined, named}
 
@@ -17,6 +17,7 @@ is_named Workers = refl
 is_named Judge = refl
 is_named Steps = refl
 is_named Gen = refl
+is_named Race = refl
 
 below : (n m : ℕ) → n < m → nat_lt n m ≡ true
 below n m h = grind (arith, nat_tests)
@@ -30,6 +31,7 @@ is_joined Workers digits = let word = name_of Workers ++ (codes "=" ++ digits) i
 is_joined Judge digits = let word = name_of Judge ++ (codes "=" ++ digits) in ap (λ (o : Option ℕ). form_at o word) (sign_at word 7 refl (omega arith))
 is_joined Steps digits = let word = name_of Steps ++ (codes "=" ++ digits) in ap (λ (o : Option ℕ). form_at o word) (sign_at word 7 refl (omega arith))
 is_joined Gen digits = let word = name_of Gen ++ (codes "=" ++ digits) in ap (λ (o : Option ℕ). form_at o word) (sign_at word 5 refl (omega arith))
+is_joined Race digits = let word = name_of Race ++ (codes "=" ++ digits) in ap (λ (o : Option ℕ). form_at o word) (sign_at word 6 refl (omega arith))
 
 choice_name : (name : List ℕ) (option : Choice) → choice_of name ≡ Some option → name ≡ name_of option
 choice_name name option e = elim (cases_Bool (bytes_eq name (name_of Threads))) [
@@ -42,7 +44,10 @@ choice_name name option e = elim (cases_Bool (bytes_eq name (name_of Threads))) 
         | inl t ↦ let said = rw (f, g, h, t) at e in let same : Steps ≡ option = cc in (bytes_eq-Decides name (name_of Steps)).0 t ∙ ap name_of same
         | inr k ↦ elim (cases_Bool (bytes_eq name (name_of Gen))) [
           | inl t ↦ let said = rw (f, g, h, k, t) at e in let same : Gen ≡ option = cc in (bytes_eq-Decides name (name_of Gen)).0 t ∙ ap name_of same
-          | inr m ↦ let wrong = rw (f, g, h, k, m) at e in cc
+          | inr m ↦ elim (cases_Bool (bytes_eq name (name_of Race))) [
+            | inl t ↦ let said = rw (f, g, h, k, m, t) at e in let same : Race ≡ option = cc in (bytes_eq-Decides name (name_of Race)).0 t ∙ ap name_of same
+            | inr n ↦ let wrong = rw (f, g, h, k, m, n) at e in cc
+          ]
         ]
       ]
     ]

@@ -4,7 +4,7 @@ use Rattle.std.specs.Prelude.{IfSome}
 use Rattle.std.specs.List.{AllByRecursion}
 use Rattle.rv_words.specs.declared.choices.Asked.{Asked}
 use Rattle.rv_words.specs.declared.choices.Choice.{Choice}
-use Rattle.rv_words.specs.declared.choices.Choice.TheVariants.{Threads, Workers, Judge, Steps, Gen}
+use Rattle.rv_words.specs.declared.choices.Choice.TheVariants.{Threads, Workers, Judge, Steps, Gen, Race}
 use Rattle.rv_words.specs.Words.{AreAccepted, AreWithin, Item, asked_of, greatest, is_flag, value_of, number_behind}
 use Rattle.rv_words.proofs.Items.{IsItem}
 use Rattle.rv_words.specs.Reading.{fit_from, given, start}
@@ -20,6 +20,7 @@ free_start (item ∷ items) = (none_given item.option, free_start items)
     none_given Judge = refl
     none_given Steps = refl
     none_given Gen = refl
+    none_given Race = refl
 
 are_accepted : (words : List (List ℕ)) → fit_from start words ≡ true → AreAccepted words
 are_accepted words e = let read = read_words start words e in record { items = read.items; spelled = record { whole = read.whole; fit = read.all; once = read.once } }

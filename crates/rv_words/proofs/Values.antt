@@ -79,6 +79,7 @@ small_of Choice.Workers = omega arith
 small_of Choice.Judge = omega arith
 small_of Choice.Steps = omega arith
 small_of Choice.Gen = omega arith
+small_of Choice.Race = omega arith
 
 pub is_value : (option : Choice) (digits : List ℕ) → IsValue option digits → value option digits ≡ Some (number_behind 0 digits)
 is_value option digits v =

@@ -1,7 +1,7 @@
 -- What clap's walk makes of the words of items: one row for each, which holds the item's value.
-use Rattle.std.proofs.Common.{◌≡◌, ◌≢◌, ℕ, ◌==◌, ◌||◌, List, [], ◌∷◌, ◌++◌, refl, sym, ap, ◌∙◌, arith, Bool, true, false, Option, Some, None, inl, inr, append_assoc, append-nil, bytes_eq, codes, flat_map, map, if◌then◌else◌}
+use Rattle.std.proofs.Common.{◌≡◌, ◌≢◌, ℕ, ◌==◌, ◌||◌, List, [], ◌∷◌, ◌++◌, refl, sym, ap, subst, ◌∙◌, arith, Bool, true, false, Option, Some, None, inl, inr, append_assoc, append-nil, bytes_eq, codes, flat_map, map, if◌then◌else◌}
 use Rattle.std.specs.Prelude.{find, fold, option_and_then, unwrap_or}
-use Rattle.std.specs.List.{AllByRecursion, list_all, list_any}
+use Rattle.std.specs.List.{AllByRecursion, list_all}
 use Rattle.std.proofs.lemmas.Bool.{cases_Bool}
 use Rattle.std.proofs.lemmas.Bool.Decides.{nat_tests}
 use Rattle.std.specs.Option.{option_map_or}
@@ -16,17 +16,13 @@ use Rattle.clap.proofs.OnLiterals.{clap_on_literals}
 use Rattle.std.specs.Char.{is_ascii_digit}
 use Rattle.rv_words.specs.declared.choices.Asked.{Asked}
 use Rattle.rv_words.specs.declared.choices.Choice.{Choice}
-use Rattle.rv_words.specs.declared.choices.Choice.TheVariants.{Threads, Workers, Judge, Steps, Gen}
+use Rattle.rv_words.specs.declared.choices.Choice.TheVariants.{Threads, Workers, Judge, Steps, Gen, Race}
 use Rattle.rv_words.specs.Command.{app, asked_in, flag_in, found_in, id_of, rule_for, valued_rule}
 use Rattle.rv_words.specs.Reading.{value}
-use Rattle.rv_words.specs.Words.{AreAccepted, Ask, IsValue, Item, Once, asked_of, is_flag, name_of, value_of, words_of}
+use Rattle.rv_words.specs.Words.{AreAccepted, Ask, IsValue, Item, Once, asked_of, is_among, is_flag, name_of, value_of, words_of}
 use Rattle.rv_words.proofs.Items.{IsItem, Lacks, is_option}
 use Rattle.rv_words.proofs.Accepts.{option_cases, value_words}
 use Rattle.rv_words.proofs.Values.{and_parts, is_value}
-
--- whether there is an item of this option
-abbrev has_option : Choice → List Item → Bool
-has_option o items = list_any (λ (item : Item). is_option o item.option) items
 
 -- the options as clap builds them
 abbrev rules : List Rule
@@ -38,6 +34,7 @@ rule Workers = filled (rule_for Workers)
 rule Judge = filled (rule_for Judge)
 rule Steps = filled (rule_for Steps)
 rule Gen = filled (rule_for Gen)
+rule Race = filled (rule_for Race)
 
 abbrev awaiting : Choice → Walk → Walk
 awaiting o w = record w { waiting = option (id_of o) }
@@ -51,9 +48,14 @@ use_of o digits = if is_flag o then [] else digits ∷ []
 abbrev values_of : Choice → List ℕ → List (List ℕ)
 values_of o digits = if is_flag o then codes "true" ∷ [] else digits ∷ []
 
-step_flag : (h : Held) → walked rules [] (walk_from h) (name_of Threads) ≡ walk_from (reacted rules (rule Threads) [] h)
+step_flag : (o : Choice) (h : Held) → is_flag o ≡ true → walked rules [] (walk_from h) (name_of o) ≡ walk_from (reacted rules (rule o) [] h)
 unfolding clap_on_literals
-step_flag h = refl
+step_flag Threads h flag = refl
+step_flag Workers h flag = cc
+step_flag Judge h flag = cc
+step_flag Steps h flag = cc
+step_flag Gen h flag = cc
+step_flag Race h flag = refl
 
 step_joined : (o : Choice) (digits : List ℕ) (h : Held) → is_flag o ≡ false → walked rules [] (walk_from h) (name_of o ++ (codes "=" ++ digits)) ≡ walk_from (reacted rules (rule o) (digits ∷ []) h)
 unfolding clap_on_literals
@@ -62,6 +64,7 @@ step_joined Workers digits h valued = refl
 step_joined Judge digits h valued = refl
 step_joined Steps digits h valued = refl
 step_joined Gen digits h valued = refl
+step_joined Race digits h valued = cc
 
 step_named : (o : Choice) (h : Held) → is_flag o ≡ false → walked rules [] (walk_from h) (name_of o) ≡ awaiting o (walk_from (record (settled rules h) { pending = Some (id_of o, []) }))
 unfolding clap_on_literals
@@ -70,6 +73,7 @@ step_named Workers h valued = refl
 step_named Judge h valued = refl
 step_named Steps h valued = refl
 step_named Gen h valued = refl
+step_named Race h valued = cc
 
 -- a word that begins with a digit is no option
 record IsPlain (word : List ℕ) : Type 0 where
@@ -105,6 +109,7 @@ step_value o digits h valued plain =
     takes Judge valued = refl
     takes Steps valued = refl
     takes Gen valued = refl
+    takes Race valued = cc
 
 settled_named : (o : Choice) (digits : List ℕ) (h : Held) → is_flag o ≡ false → (settled rules (record (settled rules h) { pending = Some (id_of o, digits ∷ []) })).rows ≡ used (rule o) (digits ∷ []) (settled rules h).rows
 settled_named Threads digits h valued = cc
@@ -112,9 +117,18 @@ settled_named Workers digits h valued = refl
 settled_named Judge digits h valued = refl
 settled_named Steps digits h valued = refl
 settled_named Gen digits h valued = refl
+settled_named Race digits h valued = cc
 
 settled_joined : (o : Choice) (digits : List ℕ) (h : Held) → (settled rules (reacted rules (rule o) (digits ∷ []) h)).rows ≡ used (rule o) (digits ∷ []) (settled rules h).rows
 settled_joined o digits h = refl
+
+settled_flag : (o : Choice) (h : Held) → is_flag o ≡ true → (settled rules (reacted rules (rule o) [] h)).rows ≡ used (rule o) [] (settled rules h).rows
+settled_flag Threads h flag = refl
+settled_flag Workers h flag = cc
+settled_flag Judge h flag = cc
+settled_flag Steps h flag = cc
+settled_flag Gen h flag = cc
+settled_flag Race h flag = refl
 
 -- the walk over an item's words: what is held behind them, and its rows
 record Steps_over (o : Choice) (digits : List ℕ) (words rest : List (List ℕ)) (h : Held) : Type 0 where
@@ -122,11 +136,11 @@ record Steps_over (o : Choice) (digits : List ℕ) (words rest : List (List ℕ)
   is : fold (walked rules []) (walk_from h) (words ++ rest) ≡ fold (walked rules []) (walk_from held) rest
   rows : (settled rules held).rows ≡ used (rule o) (use_of o digits) (settled rules h).rows
 
-flag_item : (digits : List ℕ) (h : Held) (rest : List (List ℕ)) → Steps_over Threads digits (name_of Threads ∷ []) rest h
-flag_item digits h rest = record {
-  held = reacted rules (rule Threads) [] h;
-  is = ap (λ (w : Walk). fold (walked rules []) w rest) (step_flag h);
-  rows = refl;
+flag_item : (o : Choice) (digits : List ℕ) (h : Held) (rest : List (List ℕ)) → is_flag o ≡ true → Steps_over o digits (name_of o ∷ []) rest h
+flag_item o digits h rest flag = record {
+  held = reacted rules (rule o) [] h;
+  is = ap (λ (w : Walk). fold (walked rules []) w rest) (step_flag o h flag);
+  rows = rw flag (settled_flag o h flag);
 }
 
 value_item : (o : Choice) (behind : Bool) (digits : List ℕ) (h : Held) (rest : List (List ℕ)) → is_flag o ≡ false → IsValue o digits → Steps_over o digits (value_words o behind digits) rest h
@@ -144,11 +158,12 @@ value_item o false digits h rest valued is = record {
 }
 
 one_item : (o : Choice) (behind : Bool) (digits : List ℕ) (h : Held) (rest : List (List ℕ)) → (is_flag o ≡ false → IsValue o digits) → Steps_over o digits (if is_flag o then name_of o ∷ [] else value_words o behind digits) rest h
-one_item Threads behind digits h rest is = flag_item digits h rest
+one_item Threads behind digits h rest is = flag_item Threads digits h rest refl
 one_item Workers behind digits h rest is = value_item Workers behind digits h rest refl (is refl)
 one_item Judge behind digits h rest is = value_item Judge behind digits h rest refl (is refl)
 one_item Steps behind digits h rest is = value_item Steps behind digits h rest refl (is refl)
 one_item Gen behind digits h rest is = value_item Gen behind digits h rest refl (is refl)
+one_item Race behind digits h rest is = flag_item Race digits h rest refl
 
 -- ---- all items
 
@@ -194,6 +209,7 @@ used_last Workers digits rows apart = twice (id_of Workers) (more_values Command
 used_last Judge digits rows apart = twice (id_of Judge) (more_values CommandLine (digits ∷ [])) (row_of Judge digits ∷ []) rows apart
 used_last Steps digits rows apart = twice (id_of Steps) (more_values CommandLine (digits ∷ [])) (row_of Steps digits ∷ []) rows apart
 used_last Gen digits rows apart = twice (id_of Gen) (more_values CommandLine (digits ∷ [])) (row_of Gen digits ∷ []) rows apart
+used_last Race digits rows apart = twice (id_of Race) (more_values CommandLine (codes "true" ∷ [])) (row_of Race digits ∷ []) rows apart
 
 ids_apart : (a b : Choice) → bytes_eq (id_of a) (id_of b) ≡ is_option b a
 ids_apart Threads Threads = refl
@@ -201,26 +217,37 @@ ids_apart Threads Workers = refl
 ids_apart Threads Judge = refl
 ids_apart Threads Steps = refl
 ids_apart Threads Gen = refl
+ids_apart Threads Race = refl
 ids_apart Workers Threads = refl
 ids_apart Workers Workers = refl
 ids_apart Workers Judge = refl
 ids_apart Workers Steps = refl
 ids_apart Workers Gen = refl
+ids_apart Workers Race = refl
 ids_apart Judge Threads = refl
 ids_apart Judge Workers = refl
 ids_apart Judge Judge = refl
 ids_apart Judge Steps = refl
 ids_apart Judge Gen = refl
+ids_apart Judge Race = refl
 ids_apart Steps Threads = refl
 ids_apart Steps Workers = refl
 ids_apart Steps Judge = refl
 ids_apart Steps Steps = refl
 ids_apart Steps Gen = refl
+ids_apart Steps Race = refl
 ids_apart Gen Threads = refl
 ids_apart Gen Workers = refl
 ids_apart Gen Judge = refl
 ids_apart Gen Steps = refl
 ids_apart Gen Gen = refl
+ids_apart Gen Race = refl
+ids_apart Race Threads = refl
+ids_apart Race Workers = refl
+ids_apart Race Judge = refl
+ids_apart Race Steps = refl
+ids_apart Race Gen = refl
+ids_apart Race Race = refl
 
 other_id : (a b : Choice) → b ≢ a → bytes_eq (id_of a) (id_of b) ≡ false
 other_id a b other = elim (option_cases b a) [
@@ -255,8 +282,8 @@ either false x = refl
 abbrev listed : Choice → Rule
 listed o = with_index 1 (filled (valued_rule (id_of o)))
 
-abbrev listed_flag : Rule
-listed_flag = with_index 1 (rule Threads)
+abbrev listed_flag : Choice → Rule
+listed_flag o = with_index 1 (rule o)
 
 default_none : (o : Choice) (rows : List Row) → with_default rows (listed o) ≡ rows
 default_none Threads rows = either (has_row (id_of Threads) rows) rows
@@ -264,31 +291,30 @@ default_none Workers rows = either (has_row (id_of Workers) rows) rows
 default_none Judge rows = either (has_row (id_of Judge) rows) rows
 default_none Steps rows = either (has_row (id_of Steps) rows) rows
 default_none Gen rows = either (has_row (id_of Gen) rows) rows
+default_none Race rows = either (has_row (id_of Race) rows) rows
 
--- the flag has one
-flag_default : (rows : List Row) → fold with_default rows rules ≡ with_default rows listed_flag
-flag_default rows =
-    let begun = with_default rows listed_flag in
+-- each flag has one
+abbrev defaulted : List Row → List Row
+defaulted rows = with_default (with_default rows (listed_flag Threads)) (listed_flag Race)
+
+flag_defaults : (rows : List Row) → fold with_default rows rules ≡ defaulted rows
+flag_defaults rows =
+    let begun = with_default rows (listed_flag Threads) in
+    ap (λ (more : List Row). with_default more (listed_flag Race)) (
     default_none Gen (with_default (with_default (with_default begun (listed Workers)) (listed Judge)) (listed Steps))
     ∙ default_none Steps (with_default (with_default begun (listed Workers)) (listed Judge))
     ∙ default_none Judge (with_default begun (listed Workers))
-    ∙ default_none Workers begun
+    ∙ default_none Workers begun)
 
-pub matched : (items : List Item) → AllByRecursion IsItem items → Once items → matches_of app (flat_map words_of items) ≡ with_default (rows_from items) listed_flag
+pub matched : (items : List Item) → AllByRecursion IsItem items → Once items → matches_of app (flat_map words_of items) ≡ defaulted (rows_from items)
 matched items all once =
-    flag_default (settled rules (walk rules [] nothing_held (flat_map words_of items)).held).rows
-    ∙ ap (λ (rows : List Row). with_default rows listed_flag) (walk_items items nothing_held all ∙ all_rows [] items once (new_none items))
+    flag_defaults (settled rules (walk rules [] nothing_held (flat_map words_of items)).held).rows
+    ∙ ap defaulted (walk_items items nothing_held all ∙ all_rows [] items once (new_none items))
 
--- ---- the flag's row
+-- ---- the row of a flag that was not given
 
-abbrev unflagged : Row
-unflagged = record { id = id_of Threads; values = codes "false" ∷ []; count = None; source = Some DefaultValue; reading = reading_by (rule Threads) }
-
-has_flag : (items : List Item) → has_row (id_of Threads) (rows_from items) ≡ has_option Threads items
-has_flag [] = refl
-has_flag (item ∷ items) =
-    ap (λ (b : Bool). b || has_row (id_of Threads) (rows_from items)) (ids_apart item.option Threads)
-    ∙ ap (λ (b : Bool). is_option Threads item.option || b) (has_flag items)
+abbrev unflagged : Choice → Row
+unflagged f = record { id = id_of f; values = codes "false" ∷ []; count = None; source = Some DefaultValue; reading = reading_by (rule f) }
 
 neither : (a b : Bool) → (a || b) ≡ false → (a ≡ false) × (b ≡ false)
 neither true b e = cc
@@ -298,13 +324,28 @@ apart_of : (id : List ℕ) (rows : List Row) → has_row id rows ≡ false → A
 apart_of id [] e = tt
 apart_of id (r ∷ rs) e = let parts = neither (bytes_eq r.id id) (has_row id rs) e in (parts.0, apart_of id rs parts.1)
 
-with_flag : (items : List Item) → has_option Threads items ≡ true → with_default (rows_from items) listed_flag ≡ rows_from items
-with_flag items e = rw (has_flag items ∙ e) refl
+with_row : (f : Choice) (rows : List Row) → is_flag f ≡ true → has_row (id_of f) rows ≡ true → with_default rows (listed_flag f) ≡ rows
+with_row Threads rows flag e = rw e refl
+with_row Workers rows flag e = cc
+with_row Judge rows flag e = cc
+with_row Steps rows flag e = cc
+with_row Gen rows flag e = cc
+with_row Race rows flag e = rw e refl
 
-without_flag : (items : List Item) → has_option Threads items ≡ false → with_default (rows_from items) listed_flag ≡ rows_from items ++ unflagged ∷ []
-without_flag items e =
-    let none = has_flag items ∙ e in
-    rw none (at_end (id_of Threads) (more_values DefaultValue (codes "false" ∷ [])) (unflagged ∷ []) (rows_from items) (apart_of (id_of Threads) (rows_from items) none))
+without_row : (f : Choice) (rows : List Row) → is_flag f ≡ true → has_row (id_of f) rows ≡ false → with_default rows (listed_flag f) ≡ rows ++ unflagged f ∷ []
+without_row Threads rows flag e = rw e (at_end (id_of Threads) (more_values DefaultValue (codes "false" ∷ [])) (unflagged Threads ∷ []) rows (apart_of (id_of Threads) rows e))
+without_row Workers rows flag e = cc
+without_row Judge rows flag e = cc
+without_row Steps rows flag e = cc
+without_row Gen rows flag e = cc
+without_row Race rows flag e = rw e (at_end (id_of Race) (more_values DefaultValue (codes "false" ∷ [])) (unflagged Race ∷ []) rows (apart_of (id_of Race) rows e))
+
+-- what holds of rows, and of them with such a row behind, holds with the flag's default
+by_default : (f : Choice) (rows : List Row) (P : List Row → Type 0) → is_flag f ≡ true → P rows → P (rows ++ unflagged f ∷ []) → P (with_default rows (listed_flag f))
+by_default f rows P flag bare behind = elim (cases_Bool (has_row (id_of f) rows)) [
+  | inl t ↦ subst P (sym (with_row f rows flag t)) bare
+  | inr n ↦ subst P (sym (without_row f rows flag n)) behind
+]
 
 -- ---- what the rows ask
 
@@ -320,61 +361,70 @@ found o (item ∷ items) valued all = elim (option_cases o item.option) [
         let takes : is_flag item.option ≡ false = ap is_flag (sym same) ∙ valued in
         rw (ids_apart item.option o, is, same, takes) (is_value item.option item.digits (all.0 takes))
 
--- behind the default too
-found_behind : (o : Choice) (rows : List Row) → is_flag o ≡ false → found_in (rows ++ unflagged ∷ []) o ≡ found_in rows o
-found_behind o [] valued = none o valued
-  where
-    none : (o : Choice) → is_flag o ≡ false → found_in (unflagged ∷ []) o ≡ None
-    none Threads valued = cc
-    none Workers valued = refl
-    none Judge valued = refl
-    none Steps valued = refl
-    none Gen valued = refl
-found_behind o (r ∷ rs) valued = elim (cases_Bool (bytes_eq r.id (id_of o))) [
+-- no value is behind
+found_behind : (f o : Choice) (rows : List Row) → is_flag f ≡ true → is_flag o ≡ false → found_in (rows ++ unflagged f ∷ []) o ≡ found_in rows o
+found_behind f o [] flag valued =
+    let apart : bytes_eq (id_of f) (id_of o) ≡ false = other_id f o (λ same. let wrong : true ≡ false = sym flag ∙ ap is_flag (sym same) ∙ valued in cc) in
+    rw apart refl
+found_behind f o (r ∷ rs) flag valued = elim (cases_Bool (bytes_eq r.id (id_of o))) [
   | inl t ↦ rw t refl
-  | inr f ↦ rw f (found_behind o rs valued)
+  | inr n ↦ rw n (found_behind f o rs flag valued)
 ]
 
-found_all : (o : Choice) (items : List Item) → is_flag o ≡ false → AllByRecursion IsItem items → found_in (with_default (rows_from items) listed_flag) o ≡ value_of o items
-found_all o items valued all = elim (cases_Bool (has_option Threads items)) [
-  | inl t ↦ ap (λ (rows : List Row). found_in rows o) (with_flag items t) ∙ found o items valued all
-  | inr f ↦ ap (λ (rows : List Row). found_in rows o) (without_flag items f) ∙ found_behind o (rows_from items) valued ∙ found o items valued all
-]
+found_default : (f o : Choice) (rows : List Row) → is_flag f ≡ true → is_flag o ≡ false → found_in (with_default rows (listed_flag f)) o ≡ found_in rows o
+found_default f o rows flag valued = by_default f rows (λ (more : List Row). found_in more o ≡ found_in rows o) flag refl (found_behind f o rows flag valued)
 
-flagged : (items : List Item) → has_option Threads items ≡ true → flag_in (rows_from items) ≡ true
-flagged [] e = cc
-flagged (item ∷ items) e = elim (option_cases Threads item.option) [
+found_all : (o : Choice) (items : List Item) → is_flag o ≡ false → AllByRecursion IsItem items → found_in (defaulted (rows_from items)) o ≡ value_of o items
+found_all o items valued all =
+    found_default Race o (with_default (rows_from items) (listed_flag Threads)) refl valued
+    ∙ found_default Threads o (rows_from items) refl valued
+    ∙ found o items valued all
+
+flagged : (o : Choice) (items : List Item) → is_flag o ≡ true → flag_in (rows_from items) o ≡ is_among o items
+flagged o [] flag = refl
+flagged o (item ∷ items) flag = elim (option_cases o item.option) [
   | inl same ↦ here same.0 same.1
-  | inr other ↦ rw (ids_apart item.option Threads, other.1) (flagged items (rw other.1 at e))
+  | inr other ↦ rw (ids_apart item.option o, other.1) (flagged o items flag)
 ]
   where
-    here : Threads ≡ item.option → is_option Threads item.option ≡ true → flag_in (rows_from (item ∷ items)) ≡ true
+    here : o ≡ item.option → is_option o item.option ≡ true → flag_in (rows_from (item ∷ items)) o ≡ is_among o (item ∷ items)
     here same is =
-        let flag : is_flag item.option ≡ true = ap is_flag (sym same) in
-        rw (ids_apart item.option Threads, is, flag) refl
+        let mine : is_flag item.option ≡ true = ap is_flag (sym same) ∙ flag in
+        rw (ids_apart item.option o, is, mine) refl
 
-last_row : (rows : List Row) → Apart (id_of Threads) rows → flag_in (rows ++ unflagged ∷ []) ≡ false
-last_row [] apart = refl
-last_row (r ∷ rs) apart = rw apart.0 (last_row rs apart.1)
-
-flag_all : (items : List Item) → flag_in (with_default (rows_from items) listed_flag) ≡ has_option Threads items
-flag_all items = elim (cases_Bool (has_option Threads items)) [
-  | inl t ↦ ap flag_in (with_flag items t) ∙ flagged items t ∙ sym t
-  | inr f ↦ ap flag_in (without_flag items f) ∙ last_row (rows_from items) (apart_of (id_of Threads) (rows_from items) (has_flag items ∙ f)) ∙ sym f
+-- no flag that was given is behind
+flag_behind : (f o : Choice) (rows : List Row) → flag_in (rows ++ unflagged f ∷ []) o ≡ flag_in rows o
+flag_behind f o [] = elim (cases_Bool (bytes_eq (id_of f) (id_of o))) [
+  | inl t ↦ rw t refl
+  | inr n ↦ rw n refl
 ]
+flag_behind f o (r ∷ rs) = elim (cases_Bool (bytes_eq r.id (id_of o))) [
+  | inl t ↦ rw t refl
+  | inr n ↦ rw n (flag_behind f o rs)
+]
+
+flag_default : (f o : Choice) (rows : List Row) → is_flag f ≡ true → flag_in (with_default rows (listed_flag f)) o ≡ flag_in rows o
+flag_default f o rows flag = by_default f rows (λ (more : List Row). flag_in more o ≡ flag_in rows o) flag refl (flag_behind f o rows)
+
+flag_all : (o : Choice) (items : List Item) → is_flag o ≡ true → flag_in (defaulted (rows_from items)) o ≡ is_among o items
+flag_all o items asked =
+    flag_default Race o (with_default (rows_from items) (listed_flag Threads)) refl
+    ∙ flag_default Threads o (rows_from items) refl
+    ∙ flagged o items asked
 
 -- what is asked, by its parts
-abbrev asking : Bool → Option ℕ → Option ℕ → Option ℕ → Option ℕ → Asked
-asking threads workers judge steps seed = record { threads = threads; workers = unwrap_or workers 2; judge = unwrap_or judge 0; steps = unwrap_or steps 1; seed = seed }
+abbrev asking : Bool → Option ℕ → Option ℕ → Option ℕ → Option ℕ → Bool → Asked
+asking threads workers judge steps seed race = record { threads = threads; workers = unwrap_or workers 2; judge = unwrap_or judge 0; steps = unwrap_or steps 1; seed = seed; race = race }
 
-asks : (items : List Item) → AllByRecursion IsItem items → asked_in (with_default (rows_from items) listed_flag) ≡ asked_of items
+asks : (items : List Item) → AllByRecursion IsItem items → asked_in (defaulted (rows_from items)) ≡ asked_of items
 asks items all =
-    let rows = with_default (rows_from items) listed_flag in
-    ap (λ (b : Bool). asking b (found_in rows Workers) (found_in rows Judge) (found_in rows Steps) (found_in rows Gen)) (flag_all items)
-    ∙ ap (λ (o : Option ℕ). asking (has_option Threads items) o (found_in rows Judge) (found_in rows Steps) (found_in rows Gen)) (found_all Workers items refl all)
-    ∙ ap (λ (o : Option ℕ). asking (has_option Threads items) (value_of Workers items) o (found_in rows Steps) (found_in rows Gen)) (found_all Judge items refl all)
-    ∙ ap (λ (o : Option ℕ). asking (has_option Threads items) (value_of Workers items) (value_of Judge items) o (found_in rows Gen)) (found_all Steps items refl all)
-    ∙ ap (λ (o : Option ℕ). asking (has_option Threads items) (value_of Workers items) (value_of Judge items) (value_of Steps items) o) (found_all Gen items refl all)
+    let rows = defaulted (rows_from items) in
+    ap (λ (b : Bool). asking b (found_in rows Workers) (found_in rows Judge) (found_in rows Steps) (found_in rows Gen) (flag_in rows Race)) (flag_all Threads items refl)
+    ∙ ap (λ (o : Option ℕ). asking (is_among Threads items) o (found_in rows Judge) (found_in rows Steps) (found_in rows Gen) (flag_in rows Race)) (found_all Workers items refl all)
+    ∙ ap (λ (o : Option ℕ). asking (is_among Threads items) (value_of Workers items) o (found_in rows Steps) (found_in rows Gen) (flag_in rows Race)) (found_all Judge items refl all)
+    ∙ ap (λ (o : Option ℕ). asking (is_among Threads items) (value_of Workers items) (value_of Judge items) o (found_in rows Gen) (flag_in rows Race)) (found_all Steps items refl all)
+    ∙ ap (λ (o : Option ℕ). asking (is_among Threads items) (value_of Workers items) (value_of Judge items) (value_of Steps items) o (flag_in rows Race)) (found_all Gen items refl all)
+    ∙ ap (λ (b : Bool). asking (is_among Threads items) (value_of Workers items) (value_of Judge items) (value_of Steps items) (value_of Gen items) b) (flag_all Race items refl)
 
 -- words ask what clap's matches of them ask
 pub asked_so : (words : List (List ℕ)) (asked : Asked) → Ask words asked → asked ≡ asked_in (matches_of app words)
@@ -396,5 +446,5 @@ asked_all words asked accepted e =
 pub found_by : (f : Found) (o : Choice) (id : List ℕ) (text : Option (List ℕ)) → id ≡ id_of o → text ≡ first_value f id → found_in (rows_of f) o ≡ option_and_then (value o) text
 found_by f o id text is e = ap (option_and_then (value o)) (sym (e ∙ first_value-rows f id ∙ ap (λ (i : List ℕ). first_of i (rows_of f)) is))
 
-pub flag_by : (f : Found) (id : List ℕ) (text : Option (List ℕ)) → id ≡ id_of Threads → text ≡ first_value f id → flag_in (rows_of f) ≡ option_map_or (λ (t : List ℕ). bytes_eq t (codes "true")) text false
-flag_by f id text is e = ap (λ (o : Option (List ℕ)). option_map_or (λ (t : List ℕ). bytes_eq t (codes "true")) o false) (sym (e ∙ first_value-rows f id ∙ ap (λ (i : List ℕ). first_of i (rows_of f)) is))
+pub flag_by : (f : Found) (o : Choice) (id : List ℕ) (text : Option (List ℕ)) → id ≡ id_of o → text ≡ first_value f id → flag_in (rows_of f) o ≡ option_map_or (λ (t : List ℕ). bytes_eq t (codes "true")) text false
+flag_by f o id text is e = ap (λ (o : Option (List ℕ)). option_map_or (λ (t : List ℕ). bytes_eq t (codes "true")) o false) (sym (e ∙ first_value-rows f id ∙ ap (λ (i : List ℕ). first_of i (rows_of f)) is))

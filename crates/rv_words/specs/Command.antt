@@ -5,7 +5,7 @@ use Rattle.clap.specs.Simple.{App, new_app, new_rule, on_top}
 use Rattle.clap.specs.Walk.{Row, Rule, first_of}
 use Rattle.clap.specs.declared.builder.action.ArgAction.TheVariants.{SetTrue}
 use Rattle.rv_words.specs.declared.choices.Choice.{Choice}
-use Rattle.rv_words.specs.declared.choices.Choice.TheVariants.{Threads, Workers, Judge, Steps, Gen}
+use Rattle.rv_words.specs.declared.choices.Choice.TheVariants.{Threads, Workers, Judge, Steps, Gen, Race}
 use Rattle.rv_words.specs.declared.choices.Asked.{Asked}
 use Rattle.rv_words.specs.Reading.{value}
 
@@ -16,6 +16,7 @@ id_of Workers = codes "workers"
 id_of Judge = codes "judge"
 id_of Steps = codes "steps"
 id_of Gen = codes "gen"
+id_of Race = codes "race"
 
 -- an option of this name that takes a value, and one that takes none
 abbrev pub valued_rule : List ℕ → Rule
@@ -26,6 +27,7 @@ flag_rule name = record (valued_rule name) { action = Some SetTrue }
 
 abbrev pub rule_for : Choice → Rule
 rule_for Threads = flag_rule (id_of Threads)
+rule_for Race = flag_rule (id_of Race)
 rule_for option = valued_rule (id_of option)
 
 abbrev pub app : App
@@ -33,23 +35,24 @@ app = on_top (λ top. record top {
   no_binary_name = true;
   disable_help_flag = true;
   disable_version_flag = true;
-  rules = rule_for Threads ∷ rule_for Workers ∷ rule_for Judge ∷ rule_for Steps ∷ rule_for Gen ∷ [];
+  rules = rule_for Threads ∷ rule_for Workers ∷ rule_for Judge ∷ rule_for Steps ∷ rule_for Gen ∷ rule_for Race ∷ [];
 }) (new_app (codes "rvdyn"))
 
 -- the value of an option among matches, if it has one
 abbrev pub found_in : List Row → Choice → Option ℕ
 found_in rows option = option_and_then (value option) (first_of (id_of option) rows)
 
--- whether the flag is among matches
-abbrev pub flag_in : List Row → Bool
-flag_in rows = option_map_or (λ (text : List ℕ). bytes_eq text (codes "true")) (first_of (id_of Threads) rows) false
+-- whether an option that takes no value is among matches
+abbrev pub flag_in : List Row → Choice → Bool
+flag_in rows option = option_map_or (λ (text : List ℕ). bytes_eq text (codes "true")) (first_of (id_of option) rows) false
 
 -- what matches ask
 abbrev pub asked_in : List Row → Asked
 asked_in rows = record {
-  threads = flag_in rows;
+  threads = flag_in rows Threads;
   workers = unwrap_or (found_in rows Workers) 2;
   judge = unwrap_or (found_in rows Judge) 0;
   steps = unwrap_or (found_in rows Steps) 1;
   seed = found_in rows Gen;
+  race = flag_in rows Race;
 }

@@ -2,7 +2,7 @@
 use Rattle.std.specs.Prelude.{ℕ, ◌+◌, ◌-◌, ◌*◌, ◌&&◌, ◌==◌, Bool, true, false, List, [], ◌∷◌, Option, Some, None, bytes_eq, drop, take, if◌then◌else◌, is_some, length, nat_le, position, option_and_then}
 use Rattle.std.specs.Char.{is_ascii_digit}
 use Rattle.rv_words.specs.declared.choices.Choice.{Choice}
-use Rattle.rv_words.specs.declared.choices.Choice.TheVariants.{Threads, Workers, Judge, Steps, Gen}
+use Rattle.rv_words.specs.declared.choices.Choice.TheVariants.{Threads, Workers, Judge, Steps, Gen, Race}
 use Rattle.rv_words.specs.declared.reading.Sofar.{Sofar}
 use Rattle.rv_words.specs.Words.{greatest, is_flag, name_of}
 
@@ -21,7 +21,8 @@ choice_of name =
     else (if bytes_eq name (name_of Judge) then Some Judge
     else (if bytes_eq name (name_of Steps) then Some Steps
     else (if bytes_eq name (name_of Gen) then Some Gen
-    else None))))
+    else (if bytes_eq name (name_of Race) then Some Race
+    else None)))))
 
 abbrev pub named : Option Choice → Form
 named None = Other
@@ -60,7 +61,7 @@ value option digits = if nat_le 1 (length digits) && nat_le (length digits) 10 t
 -- ---- what was read so far
 
 abbrev pub start : Sofar
-start = record { threads = false; workers = false; judge = false; steps = false; seed = false; waiting = None }
+start = record { threads = false; workers = false; judge = false; steps = false; seed = false; race = false; waiting = None }
 
 abbrev pub given : Choice → Sofar → Bool
 given Threads s = s.threads
@@ -68,6 +69,7 @@ given Workers s = s.workers
 given Judge s = s.judge
 given Steps s = s.steps
 given Gen s = s.seed
+given Race s = s.race
 
 abbrev pub marked : Sofar → Choice → Sofar
 marked s Threads = record s { threads = true }
@@ -75,6 +77,7 @@ marked s Workers = record s { workers = true }
 marked s Judge = record s { judge = true }
 marked s Steps = record s { steps = true }
 marked s Gen = record s { seed = true }
+marked s Race = record s { race = true }
 
 -- with an option that has what it takes, which was not given yet
 abbrev pub with_new : Sofar → Choice → Bool → Option Sofar

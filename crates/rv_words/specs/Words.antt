@@ -3,7 +3,7 @@ use Rattle.std.specs.Prelude.{◌≡◌, ℕ, ◌+◌, ◌-◌, ◌*◌, ◌≤�
 use Rattle.std.specs.Char.{is_ascii_digit}
 use Rattle.std.specs.List.{AllByRecursion, list_all, list_any}
 use Rattle.rv_words.specs.declared.choices.Choice.{Choice}
-use Rattle.rv_words.specs.declared.choices.Choice.TheVariants.{Threads, Workers, Judge, Steps, Gen}
+use Rattle.rv_words.specs.declared.choices.Choice.TheVariants.{Threads, Workers, Judge, Steps, Gen, Race}
 use Rattle.rv_words.specs.declared.choices.Asked.{Asked}
 
 -- the word that names an option
@@ -13,10 +13,12 @@ name_of Workers = codes "--workers"
 name_of Judge = codes "--judge"
 name_of Steps = codes "--steps"
 name_of Gen = codes "--gen"
+name_of Race = codes "--race"
 
 -- an option that takes no value
 abbrev pub is_flag : Choice → Bool
 is_flag Threads = true
+is_flag Race = true
 is_flag option = false
 
 -- the greatest value of an option
@@ -26,6 +28,7 @@ greatest Workers = 8
 greatest Judge = 2
 greatest Steps = 64
 greatest Gen = 4294967295
+greatest Race = 0
 
 -- the number that decimal digits write behind those of another number
 abbrev pub number_behind : ℕ → List ℕ → ℕ
@@ -74,14 +77,20 @@ value_of option [] = None
 value_of option (item ∷ items) = if bytes_eq (name_of option) (name_of item.option)
     then Some (number_behind 0 item.digits) else value_of option items
 
--- where nothing else is asked: no threads, two workers, judge 0, one step, a script that is read
+-- an option is among the items; each has a name of its own
+abbrev pub is_among : Choice → List Item → Bool
+is_among option items =
+    list_any (λ (item : Item). bytes_eq (name_of option) (name_of item.option)) items
+
+-- else no threads, two workers, judge 0, one step, a script that is read, no race
 abbrev pub asked_of : List Item → Asked
 asked_of items = record {
-  threads = list_any (λ (item : Item). bytes_eq (name_of Threads) (name_of item.option)) items;
+  threads = is_among Threads items;
   workers = unwrap_or (value_of Workers items) 2;
   judge = unwrap_or (value_of Judge items) 0;
   steps = unwrap_or (value_of Steps items) 1;
   seed = value_of Gen items;
+  race = is_among Race items;
 }
 
 -- The words ask this: they are a list of items, and it is what the items ask.

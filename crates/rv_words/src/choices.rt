@@ -1,4 +1,4 @@
-/// An option of the program. Each but `--threads` takes a value.
+/// An option of the program. Each but `--threads` and `--race` takes a value.
 #[derive(Clone, Copy, Debug, PartialEq, Eq)]
 pub enum Choice {
     /// `--threads`: the sessions of a phase are threads, and workers beside them.
@@ -12,6 +12,8 @@ pub enum Choice {
     /// `--gen`: the seed of the script that is generated in place of one that is read, 0 to
     /// 4,294,967,295.
     Gen,
+    /// `--race`: two indexes race where else one would be scanned after the other.
+    Race,
 }
 
 /// What accepted words ask.
@@ -25,4 +27,6 @@ pub struct Asked {
     pub steps: u8,
     /// The seed of the generated script; None where a script is to be read.
     pub seed: Option<u32>,
+    /// Whether indexes may race.
+    pub race: bool,
 }

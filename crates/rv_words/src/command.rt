@@ -57,6 +57,7 @@ fn command<'a>(alloc: Global) -> Result<Command<'a>, AllocError>
     let judge = valued(alloc, "judge");
     let steps = valued(alloc, "steps");
     let seed = valued(alloc, "gen");
+    let race = flag(alloc, "race");
     let bare = Command::new(alloc, "rvdyn")
         .no_binary_name(true)
         .disable_help_flag(true)
@@ -65,7 +66,8 @@ fn command<'a>(alloc: Global) -> Result<Command<'a>, AllocError>
         .arg(workers)?
         .arg(judge)?
         .arg(steps)?
-        .arg(seed)
+        .arg(seed)?
+        .arg(race)
 }
 
 /// An option with a value, known by its name.
@@ -90,19 +92,20 @@ fn values_of(matches: &ArgMatches<'_>) -> Asked
     ensures within { AreWithin result }
 {
     Asked {
-        threads: is_flagged(matches),
+        threads: is_flagged(matches, Choice::Threads),
         workers: found(matches, Choice::Workers).unwrap_or(2) as u8,
         judge: found(matches, Choice::Judge).unwrap_or(0) as u8,
         steps: found(matches, Choice::Steps).unwrap_or(1) as u8,
         seed: found(matches, Choice::Gen),
+        race: is_flagged(matches, Choice::Race),
     }
 }
 
-/// Whether threads were asked: clap gives a flag as a text.
-fn is_flagged(matches: &ArgMatches<'_>) -> bool
-    ensures { result ≡ flag_in (rows_of (found_of matches.now)) }
+/// Whether an option that takes no value was given: clap gives a flag as a text.
+fn is_flagged(matches: &ArgMatches<'_>, option: Choice) -> bool
+    ensures { result ≡ flag_in (rows_of (found_of matches.now)) option }
 {
-    match matches.get_str(id(Choice::Threads)) {
+    match matches.get_str(id(option)) {
         Some(text) => text == "true",
         None => false,
     }
@@ -129,5 +132,6 @@ fn id(option: Choice) -> &'static str
         Choice::Judge => "judge",
         Choice::Steps => "steps",
         Choice::Gen => "gen",
+        Choice::Race => "race",
     }
 }

@@ -23,7 +23,7 @@ fn greatest(option: Choice) -> u32
     ensures { result ≡ greatest option }
 {
     match option {
-        Choice::Threads => 0,
+        Choice::Threads | Choice::Race => 0,
         Choice::Workers => 8,
         Choice::Judge => 2,
         Choice::Steps => 64,

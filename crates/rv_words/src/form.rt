@@ -69,5 +69,8 @@ fn choice(name: &[u8]) -> Option<Choice>
     if name == b"--gen".as_slice() {
         return Some(Choice::Gen);
     }
+    if name == b"--race".as_slice() {
+        return Some(Choice::Race);
+    }
     None
 }

@@ -17,11 +17,12 @@ struct Sofar {
     judge: bool,
     steps: bool,
     seed: bool,
+    race: bool,
     waiting: Option<Choice>,
 }
 
-/// Whether the words are accepted: options, each at most once and in any order. All but `--threads` have a value of 1 to 10
-/// decimal digits in its range, in the next word or behind `=`.
+/// Whether the words are accepted: options, each at most once and in any order. All but `--threads` and `--race` have a value
+/// of 1 to 10 decimal digits in its range, in the next word or behind `=`.
 pub fn accepted(words: &[Text]) -> bool
     ensures { IsTrue result ↔ AreAccepted words.now }
 {
@@ -37,6 +38,7 @@ fn fit(words: &[Text]) -> bool
         judge: false,
         steps: false,
         seed: false,
+        race: false,
         waiting: None,
     };
     'words: for word in words {
@@ -95,7 +97,7 @@ fn is_flag(option: Choice) -> bool
     ensures { result ≡ Rattle.rv_words.specs.Words.is_flag option }
 {
     match option {
-        Choice::Threads => true,
+        Choice::Threads | Choice::Race => true,
         _ => false,
     }
 }
@@ -126,6 +128,10 @@ fn with_new(sofar: Sofar, option: Choice, has_value: bool) -> Option<Sofar>
         }),
         Choice::Gen if !sofar.seed => Some(Sofar {
             seed: true,
+            ..sofar
+        }),
+        Choice::Race if !sofar.race => Some(Sofar {
+            race: true,
             ..sofar
         }),
         _ => None,

@@ -9,7 +9,7 @@ pub returns-in-Open-clause-refuses : goal.returns-in-Open-clause-refuses
 returns-in-Open-clause-refuses g c refusal = c.open.ensures.refuses _ refusal
 
 pub returns-in-Step-clause-handles : goal.returns-in-Step-clause-handles
-returns-in-Step-clause-handles g c = rw c.in-Step.is (c.step.ensures.steps c.args.beside)
+returns-in-Step-clause-handles g c = rw c.in-Step.is (c.step.ensures.steps c.args.settings)
 
 pub returns-in-Close-clause-refuses : goal.returns-in-Close-clause-refuses
 returns-in-Close-clause-refuses g c refusal = if_ok c.close.result _ _ (λ replies k e. plans_same c.args.database.now c.close.new.self _ (k e) c.close.ensures.opened) (c.close.ensures.refuses refusal)

@@ -11,6 +11,6 @@ invariant-phases g l = record {
   phase : l.core.engine.phase ≡ max 1 l.number;
   calls : calls_made l.core.engine.history ++ calls_from (l.number + 1) (drop l.phase-index l.phases) ≡ calls_from 1 l.phases;
   ruling : ruling_after l.judges.ruling (drop l.phase-index l.phases) ≡ ruling_after l.fn.judges.ruling l.phases;
-  ruled : AnswersTo (g.S.Reader.shown) l.fn.core.beside (ruled_from l.fn.judges.ruling 1 l.phases) (ruled_from l.judges.ruling (l.number + 1) (drop l.phase-index l.phases)) (between l.fn.core.engine (map (λ j. judging ((goal.Judge-dyn g (j.vtable, j.value)).would j.value) ((goal.Judge-dyn g (j.vtable, j.value)).state j.value)) (by_number l.fn.judges.places.zero l.fn.judges.places.one l.fn.judges.places.two l.fn.core.judge))) (between l.core.engine (map (λ j. judging ((goal.Judge-dyn g (j.vtable, j.value)).would j.value) ((goal.Judge-dyn g (j.vtable, j.value)).state j.value)) (by_number l.judges.places.zero l.judges.places.one l.judges.places.two l.core.judge)));
-  beside : l.core.beside ≡ l.fn.core.beside;
+  ruled : AnswersTo (g.S.Reader.shown) l.fn.core.settings (ruled_from l.fn.judges.ruling 1 l.phases) (ruled_from l.judges.ruling (l.number + 1) (drop l.phase-index l.phases)) (between l.fn.core.engine (map (λ j. judging ((goal.Judge-dyn g (j.vtable, j.value)).would j.value) ((goal.Judge-dyn g (j.vtable, j.value)).state j.value)) (by_number l.fn.judges.places.zero l.fn.judges.places.one l.fn.judges.places.two l.fn.core.judge))) (between l.core.engine (map (λ j. judging ((goal.Judge-dyn g (j.vtable, j.value)).would j.value) ((goal.Judge-dyn g (j.vtable, j.value)).state j.value)) (by_number l.judges.places.zero l.judges.places.one l.judges.places.two l.core.judge)));
+  settings : l.core.settings ≡ l.fn.core.settings;
 }

@@ -14,7 +14,7 @@ phases-preserved g c = record {
   phase = search rules;
   each = phase_whole_at c.phases.held.engine c.enter_phase.new.core.engine c.call_phase-back.result.core.engine.history c.phases.number c.phases.phase-index c.args.phases.now c.phase-item.result c.as_slice.result.now c.call_phase-back.result.short c.phases.invariant.number c.phases-test.true c.phase-item.is c.as_slice.ensures c.enter_phase.ensures.engine c.phases.invariant.each c.call_phase-back.ensures.done c.if-short.false;
   ruling = ruling_more c.phases.judges.ruling c.enter_phase.new.judges.ruling c.phases.phase-index _ c.args.phases.now c.phase-item.result c.phases-test.true c.phase-item.is c.enter_phase.ensures.ruling c.phases.invariant.ruling;
-  beside = c.call_phase-back.ensures.beside ∙ (c.enter_phase.ensures.beside ∙ c.phases.invariant.beside);
+  settings = c.call_phase-back.ensures.settings ∙ (c.enter_phase.ensures.settings ∙ c.phases.invariant.settings);
 }
 
 pub returns-clause-whole : goal.returns-clause-whole

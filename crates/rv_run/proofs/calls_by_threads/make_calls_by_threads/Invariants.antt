@@ -9,5 +9,5 @@ invariant-phases g l = record {
   phase : l.held.engine.phase ≡ max 1 l.number;
   each : UpTo l.phase-index l.held.engine.history l.phases;
   ruling : ruling_after l.judges.ruling (drop l.phase-index l.phases) ≡ ruling_after l.fn.judges.ruling l.phases;
-  beside : l.held.beside ≡ l.fn.core.beside;
+  settings : l.held.settings ≡ l.fn.core.settings;
 }

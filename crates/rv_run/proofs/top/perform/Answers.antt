@@ -1,6 +1,6 @@
 use Rattle.std.proofs.Common.{◌≡◌, ap, inl, inr, map}
 use Rattle.rv_run.specs.Judges.{by_number}
-use Rattle.rv_run.specs.Ruling.{between, judging}
+use Rattle.rv_run.specs.Ruling.{between, judging, settings_of}
 use Rattle.rv_run.specs.Script.{calls_asked, calls_made}
 use Rattle.rv_run.proofs.CallLists.{all_calls, front_calls}
 use Rattle.rv_run.proofs.Ends.{called_performs, not_write}
@@ -43,7 +43,7 @@ returns-clause-front g c = λ e.
     })
 
 pub returns-clause-ruled_first : goal.returns-clause-ruled_first
-returns-clause-ruled_first g c = rw c.written.ensures.core (first_calls_under g.P.Reader.shown c.judged_core-core.result.0.beside c.args.asked.steps c.judged_core-core.result.0.engine c.args.store (map (λ j. judging ((goal.Judge-dyn g (j.vtable, j.value)).would j.value) ((goal.Judge-dyn g (j.vtable, j.value)).state j.value)) (by_number c.judged_core-core.result.1.places.zero c.judged_core-core.result.1.places.one c.judged_core-core.result.1.places.two c.judged_core-core.result.0.judge)) (map (λ j. judging ((goal.Judge-dyn g (j.vtable, j.value)).would j.value) ((goal.Judge-dyn g (j.vtable, j.value)).state j.value)) c.args.judges.items) c.judged_core-core.result.1.ruling c.args.asked.judge c.as_slice.result.now c.args.script.now c.make_calls.new.core.engine c.judged_core-core.ensures.steps c.judged_core-core.ensures.fresh (ap (map (λ j. judging ((goal.Judge-dyn g (j.vtable, j.value)).would j.value) ((goal.Judge-dyn g (j.vtable, j.value)).state j.value))) c.judged_core-core.ensures.all) c.judged_core-core.ensures.ruling c.as_slice.ensures (first_either _ _ _ (between c.judged_core-core.result.0.engine (map (λ j. judging ((goal.Judge-dyn g (j.vtable, j.value)).would j.value) ((goal.Judge-dyn g (j.vtable, j.value)).state j.value)) (by_number c.judged_core-core.result.1.places.zero c.judged_core-core.result.1.places.one c.judged_core-core.result.1.places.two c.judged_core-core.result.0.judge))) (between c.make_calls.new.core.engine (map (λ j. judging ((goal.Judge-dyn g (j.vtable, j.value)).would j.value) ((goal.Judge-dyn g (j.vtable, j.value)).state j.value)) (by_number c.make_calls.new.judges.places.zero c.make_calls.new.judges.places.one c.make_calls.new.judges.places.two c.make_calls.new.core.judge))) c.make_calls.result c.make_calls.ensures.ruled c.make_calls.ensures.stopped))
+returns-clause-ruled_first g c = rw c.written.ensures.core (first_calls_under g.P.Reader.shown c.judged_core-core.result.0.settings (settings_of c.args.asked) c.judged_core-core.result.0.engine c.args.store (map (λ j. judging ((goal.Judge-dyn g (j.vtable, j.value)).would j.value) ((goal.Judge-dyn g (j.vtable, j.value)).state j.value)) (by_number c.judged_core-core.result.1.places.zero c.judged_core-core.result.1.places.one c.judged_core-core.result.1.places.two c.judged_core-core.result.0.judge)) (map (λ j. judging ((goal.Judge-dyn g (j.vtable, j.value)).would j.value) ((goal.Judge-dyn g (j.vtable, j.value)).state j.value)) c.args.judges.items) c.judged_core-core.result.1.ruling c.args.asked.judge c.as_slice.result.now c.args.script.now c.make_calls.new.core.engine c.judged_core-core.ensures.settings c.judged_core-core.ensures.fresh (ap (map (λ j. judging ((goal.Judge-dyn g (j.vtable, j.value)).would j.value) ((goal.Judge-dyn g (j.vtable, j.value)).state j.value))) c.judged_core-core.ensures.all) c.judged_core-core.ensures.ruling c.as_slice.ensures (first_either _ _ _ (between c.judged_core-core.result.0.engine (map (λ j. judging ((goal.Judge-dyn g (j.vtable, j.value)).would j.value) ((goal.Judge-dyn g (j.vtable, j.value)).state j.value)) (by_number c.judged_core-core.result.1.places.zero c.judged_core-core.result.1.places.one c.judged_core-core.result.1.places.two c.judged_core-core.result.0.judge))) (between c.make_calls.new.core.engine (map (λ j. judging ((goal.Judge-dyn g (j.vtable, j.value)).would j.value) ((goal.Judge-dyn g (j.vtable, j.value)).state j.value)) (by_number c.make_calls.new.judges.places.zero c.make_calls.new.judges.places.one c.make_calls.new.judges.places.two c.make_calls.new.core.judge))) c.make_calls.result c.make_calls.ensures.ruled c.make_calls.ensures.stopped))
 
 pub returns-clause-ruled : goal.returns-clause-ruled
-returns-clause-ruled g c = λ e. rw c.written.ensures.core (calls_under g.P.Reader.shown c.judged_core-core.result.0.beside c.args.asked.steps c.judged_core-core.result.0.engine c.args.store (map (λ j. judging ((goal.Judge-dyn g (j.vtable, j.value)).would j.value) ((goal.Judge-dyn g (j.vtable, j.value)).state j.value)) (by_number c.judged_core-core.result.1.places.zero c.judged_core-core.result.1.places.one c.judged_core-core.result.1.places.two c.judged_core-core.result.0.judge)) (map (λ j. judging ((goal.Judge-dyn g (j.vtable, j.value)).would j.value) ((goal.Judge-dyn g (j.vtable, j.value)).state j.value)) c.args.judges.items) c.judged_core-core.result.1.ruling c.args.asked.judge c.as_slice.result.now c.args.script.now c.make_calls.new.core.engine (map (λ j. judging ((goal.Judge-dyn g (j.vtable, j.value)).would j.value) ((goal.Judge-dyn g (j.vtable, j.value)).state j.value)) (by_number c.make_calls.new.judges.places.zero c.make_calls.new.judges.places.one c.make_calls.new.judges.places.two c.make_calls.new.core.judge)) c.judged_core-core.ensures.steps c.judged_core-core.ensures.fresh (ap (map (λ j. judging ((goal.Judge-dyn g (j.vtable, j.value)).would j.value) ((goal.Judge-dyn g (j.vtable, j.value)).state j.value))) c.judged_core-core.ensures.all) c.judged_core-core.ensures.ruling c.as_slice.ensures (called_performs c.make_calls.result c.is_ok-called.result _ c.make_calls.ensures.ruled c.is_ok-called.ensures.value (c.written.ensures.done e)))
+returns-clause-ruled g c = λ e. rw c.written.ensures.core (calls_under g.P.Reader.shown c.judged_core-core.result.0.settings (settings_of c.args.asked) c.judged_core-core.result.0.engine c.args.store (map (λ j. judging ((goal.Judge-dyn g (j.vtable, j.value)).would j.value) ((goal.Judge-dyn g (j.vtable, j.value)).state j.value)) (by_number c.judged_core-core.result.1.places.zero c.judged_core-core.result.1.places.one c.judged_core-core.result.1.places.two c.judged_core-core.result.0.judge)) (map (λ j. judging ((goal.Judge-dyn g (j.vtable, j.value)).would j.value) ((goal.Judge-dyn g (j.vtable, j.value)).state j.value)) c.args.judges.items) c.judged_core-core.result.1.ruling c.args.asked.judge c.as_slice.result.now c.args.script.now c.make_calls.new.core.engine (map (λ j. judging ((goal.Judge-dyn g (j.vtable, j.value)).would j.value) ((goal.Judge-dyn g (j.vtable, j.value)).state j.value)) (by_number c.make_calls.new.judges.places.zero c.make_calls.new.judges.places.one c.make_calls.new.judges.places.two c.make_calls.new.core.judge)) c.judged_core-core.ensures.settings c.judged_core-core.ensures.fresh (ap (map (λ j. judging ((goal.Judge-dyn g (j.vtable, j.value)).would j.value) ((goal.Judge-dyn g (j.vtable, j.value)).state j.value))) c.judged_core-core.ensures.all) c.judged_core-core.ensures.ruling c.as_slice.ensures (called_performs c.make_calls.result c.is_ok-called.result _ c.make_calls.ensures.ruled c.is_ok-called.ensures.value (c.written.ensures.done e)))

@@ -2,7 +2,7 @@ use Rattle.std.proofs.Common.{◌≡◌, ◌∙◌, Err, refl, sym, ap, map, sub
 use Rattle.rv_run.specs.Performing.{IsPerformed, Stops}
 use Rattle.rv_run.specs.declared.status.Status.{Status}
 use Rattle.rv_run.specs.declared.status.Status.TheVariants as statuses
-use Rattle.rv_run.specs.Ruling.{CallsUnder, FirstCallsUnder, judging}
+use Rattle.rv_run.specs.Ruling.{CallsUnder, FirstCallsUnder, judging, settings_of}
 use Rattle.rv_run.specs.Script.{IsFrontInOrder, IsInOrder}
 use Rattle.rv_words.specs.declared.choices.Asked.{Asked}
 use Rattle.rv_run.proofs.Ends.{performs_writes, runs_so, some_if}
@@ -23,8 +23,8 @@ returns-in-Ok-clause-front g c = λ asked ask fault. rw (c.in-Ok.ensures.only as
 pub returns-in-Ok-clause-unread : goal.returns-in-Ok-clause-unread
 returns-in-Ok-clause-unread g c = c.begin.ensures.unread
 
-pub returns-in-Ok-clause-steps : goal.returns-in-Ok-clause-steps
-returns-in-Ok-clause-steps g c = λ asked ask. rw (c.in-Ok.ensures.only asked ask) (some_if c.perform_asked.result.core (λ core. core.beside ≡ c.in-Ok.begun.asked.steps) c.perform_asked.ensures.core)
+pub returns-in-Ok-clause-settings : goal.returns-in-Ok-clause-settings
+returns-in-Ok-clause-settings g c = λ asked ask. rw (c.in-Ok.ensures.only asked ask) (some_if c.perform_asked.result.core (λ core. core.settings ≡ settings_of c.in-Ok.begun.asked) c.perform_asked.ensures.core)
 
 pub returns-in-Err-clause-generated : goal.returns-in-Err-clause-generated
 returns-in-Err-clause-generated g c = λ asked ask some. rw (c.ended.ensures.status, c.in-Err.ensures.generated asked ask some) tt
@@ -33,10 +33,10 @@ pub returns-in-Err-clause-unread : goal.returns-in-Err-clause-unread
 returns-in-Err-clause-unread g c = c.begin.ensures.unread
 
 pub returns-in-Ok-clause-ruled : goal.returns-in-Ok-clause-ruled
-returns-in-Ok-clause-ruled g c = λ asked ask plain done. rw (c.in-Ok.ensures.only asked ask) (runs_so c.perform_asked.result.core (λ core. core.engine) (CallsUnder g.P.Reader.shown c.in-Ok.begun.asked.steps c.args.store (map (λ j. judging ((goal.Judge-dyn g (j.vtable, j.value)).would j.value) ((goal.Judge-dyn g (j.vtable, j.value)).state j.value)) c.args.judges.items) c.in-Ok.begun.asked.judge) _ _ c.in-Ok.begun.script c.in-Ok.ensures.script (c.perform_asked.ensures.ruled (ap (λ (a : Asked). a.threads) (sym (c.in-Ok.ensures.only asked ask)) ∙ plain) done))
+returns-in-Ok-clause-ruled g c = λ asked ask plain done. rw (c.in-Ok.ensures.only asked ask) (runs_so c.perform_asked.result.core (λ core. core.engine) (CallsUnder g.P.Reader.shown (settings_of c.in-Ok.begun.asked) c.args.store (map (λ j. judging ((goal.Judge-dyn g (j.vtable, j.value)).would j.value) ((goal.Judge-dyn g (j.vtable, j.value)).state j.value)) c.args.judges.items) c.in-Ok.begun.asked.judge) _ _ c.in-Ok.begun.script c.in-Ok.ensures.script (c.perform_asked.ensures.ruled (ap (λ (a : Asked). a.threads) (sym (c.in-Ok.ensures.only asked ask)) ∙ plain) done))
 
 pub returns-in-Ok-clause-ruled_first : goal.returns-in-Ok-clause-ruled_first
-returns-in-Ok-clause-ruled_first g c = λ asked ask plain. rw (c.in-Ok.ensures.only asked ask) (some_if c.perform_asked.result.core _ (runs_so c.perform_asked.result.core (λ core. core.engine) (FirstCallsUnder g.P.Reader.shown c.in-Ok.begun.asked.steps c.args.store (map (λ j. judging ((goal.Judge-dyn g (j.vtable, j.value)).would j.value) ((goal.Judge-dyn g (j.vtable, j.value)).state j.value)) c.args.judges.items) c.in-Ok.begun.asked.judge) _ _ c.in-Ok.begun.script c.in-Ok.ensures.script (c.perform_asked.ensures.ruled_first (ap (λ (a : Asked). a.threads) (sym (c.in-Ok.ensures.only asked ask)) ∙ plain))))
+returns-in-Ok-clause-ruled_first g c = λ asked ask plain. rw (c.in-Ok.ensures.only asked ask) (some_if c.perform_asked.result.core _ (runs_so c.perform_asked.result.core (λ core. core.engine) (FirstCallsUnder g.P.Reader.shown (settings_of c.in-Ok.begun.asked) c.args.store (map (λ j. judging ((goal.Judge-dyn g (j.vtable, j.value)).would j.value) ((goal.Judge-dyn g (j.vtable, j.value)).state j.value)) c.args.judges.items) c.in-Ok.begun.asked.judge) _ _ c.in-Ok.begun.script c.in-Ok.ensures.script (c.perform_asked.ensures.ruled_first (ap (λ (a : Asked). a.threads) (sym (c.in-Ok.ensures.only asked ask)) ∙ plain))))
 
 pub returns-in-Ok-clause-order : goal.returns-in-Ok-clause-order
 returns-in-Ok-clause-order g c = λ asked ask plain done. rw (c.in-Ok.ensures.only asked ask) (runs_so c.perform_asked.result.core (λ core. core.engine) (λ core script. IsInOrder core.history script) _ _ c.in-Ok.begun.script c.in-Ok.ensures.script (c.perform_asked.ensures.order (ap (λ (a : Asked). a.threads) (sym (c.in-Ok.ensures.only asked ask)) ∙ plain) done))

@@ -21,4 +21,5 @@ returns c =
     let two = c.in_ok-arg-2.ensures.shape c.valued-workers.ensures.local ∙ ap₂ with_rule one c.valued-workers.ensures.rule in
     let three = c.in_ok-arg-3.ensures.shape c.valued-judge.ensures.local ∙ ap₂ with_rule two c.valued-judge.ensures.rule in
     let four = c.in_ok-arg-4.ensures.shape c.valued-steps.ensures.local ∙ ap₂ with_rule three c.valued-steps.ensures.rule in
-    IfOk-weaker c.arg-5.result _ _ (λ command adds. adds.shape c.valued-seed.ensures.local ∙ ap₂ with_rule four c.valued-seed.ensures.rule) c.arg-5.ensures
+    let five = c.in_ok-arg-5.ensures.shape c.valued-seed.ensures.local ∙ ap₂ with_rule four c.valued-seed.ensures.rule in
+    IfOk-weaker c.arg-6.result _ _ (λ command adds. adds.shape c.flag-race.ensures.local ∙ ap₂ with_rule five c.flag-race.ensures.rule) c.arg-6.ensures

@@ -66,6 +66,7 @@ returns-clause-adds g c judge opened =
       number = c.in-Ok-plan_cursor.ensures.number;
       base = ap (λ (s : ℕ). base_of c.self.inside.txns.active s) (sym c.in-Ok-plan_cursor.ensures.session) ∙ fresh.base;
       asked = opened_asked c.args.select.now c.self.inside.catalog.indexes c.in-Ok.base c.self.inside.opened cursor at c.in-Ok-plan_cursor.ensures.number c.in-Ok-plan_cursor.ensures.asked;
+      raced = c.in-Ok-plan_cursor.ensures.race;
       rows = opened_rows shown c.self.inside.catalog c.self.inside.txns (seen shown c.self.inside.cursors) c.args.session c.in-Ok.base c.args.name c.args.select.now.tables c.in-Ok-freeze.frozen cursor c.self.invariant.standing.tied (c.in-Ok.ensures.ok shown) at over c.in-Ok-freeze.ensures.freezes query.there;
       fits = c.in-Ok-plan_cursor.ensures.fits;
       leads = subst (λ (f : Option Frozen). LeadsWith (seen_at shown cursor.snap f) cursor.plan) (sym over) (subst (λ (n : ℕ). LeadsWith (seen_at shown n c.in-Ok-freeze.frozen) cursor.plan) (sym at) c.in-Ok-plan_cursor.ensures.leads);
