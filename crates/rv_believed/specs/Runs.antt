@@ -5,7 +5,7 @@ use Rattle.std.specs.Option.{option_to_list}
 use Rattle.rv_judge.specs.declared.events.Strategy.{Strategy}
 use Rattle.rv_judge.specs.declared.events.Strategy.TheVariants.{Table, BackgroundOnly, FastFirst, Sorted, IndexOnly, Union}
 use Rattle.rv_judge.specs.declared.events.Control.{Control}
-use Rattle.rv_judge.specs.declared.events.Control.TheVariants.{Building, ForegroundAlone, BackgroundAlone, FinalTable}
+use Rattle.rv_judge.specs.declared.events.Control.TheVariants.{Building, ForegroundAlone, BackgroundAlone, FinalList, FinalTable, Done}
 use Rattle.rv_judge.specs.declared.events.Event.{Event}
 use Rattle.rv_judge.specs.declared.events.Event.TheVariants.{At, Scan, List as ListOf, Drop, Full as Filled, Stop}
 use Rattle.rv_judge.specs.declared.events.Trace.{Trace}
@@ -83,7 +83,8 @@ pub data Runs (strategy : Strategy) : Standing → List Event → Type 0 where
   goes : (s t : Standing) (events more : List Event)
       → Goes strategy s events t → Runs strategy t more → Runs strategy s (events ++ more)
 
--- The first control, over planned scans. Background-only and fast-first need a scan; a union has none planned.
+-- The first control, over planned scans. Background-only and fast-first need a scan; a union has
+-- none planned.
 abbrev pub first_control : Strategy → List ℕ → Option Control
 first_control Table planned = Some FinalTable
 first_control BackgroundOnly (i ∷ ahead) = Some BackgroundAlone
@@ -120,16 +121,21 @@ pub record AllowedRun (trace : Trace) (indexes : List ℕ) : Type 0 where
   pub run : Runs trace.strategy (start control planned) rest
   pub told : trace.events.items ≡ start_events (start control planned) ++ rest
 
--- What follows the scans of a union, of whose indexes i is one: nothing yet; the list, named for the last
--- member's index, and its end; or the drop of a member's index, and the table's end.
+-- What follows the scans of a union, of whose indexes i is one: nothing yet; the list, named for
+-- the last member's index, and its end; or the drop of a member's index, and the table's end.
 pub data UnionTail (begun : List ℕ) : List Event → Type 0 where
   scanning : UnionTail begun []
-  fetching : (i keys : ℕ) → Contains begun i → UnionTail begun (ListOf i keys ∷ At FinalList ∷ [])
-  fetched : (i keys : ℕ) → Contains begun i → UnionTail begun (ListOf i keys ∷ At FinalList ∷ At Done ∷ [])
-  reading : (i : ℕ) → Contains begun i → UnionTail begun (Drop i ∷ At FinalTable ∷ [])
-  read : (i : ℕ) → Contains begun i → UnionTail begun (Drop i ∷ At FinalTable ∷ At Done ∷ [])
+  fetching : (i keys : ℕ) → Contains begun i
+      → UnionTail begun (ListOf i keys ∷ At FinalList ∷ [])
+  fetched : (i keys : ℕ) → Contains begun i
+      → UnionTail begun (ListOf i keys ∷ At FinalList ∷ At Done ∷ [])
+  reading : (i : ℕ) → Contains begun i
+      → UnionTail begun (Drop i ∷ At FinalTable ∷ [])
+  read : (i : ℕ) → Contains begun i
+      → UnionTail begun (Drop i ∷ At FinalTable ∷ At Done ∷ [])
 
--- A union scans its members one after another. Its events tell a scan for each index, once, and then a tail.
+-- A union scans its members one after another. Its events tell a scan for each index, once, and
+-- then a tail.
 pub record AllowedUnion (trace : Trace) (indexes : List ℕ) : Type 0 where
   pub first : ℕ
   pub more : List ℕ
@@ -139,11 +145,12 @@ pub record AllowedUnion (trace : Trace) (indexes : List ℕ) : Type 0 where
   pub ends : UnionTail (first ∷ more) tail
   pub told : trace.events.items ≡ At BackgroundAlone ∷ (map Scan (first ∷ more) ++ tail)
 
--- A TRACE IS ALLOWED for these indexes. Any number of reads may be counted.
+-- the events of a strategy
 abbrev pub AllowedBy : Strategy → Trace → List ℕ → Type 0
 AllowedBy Union trace indexes = AllowedUnion trace indexes
 AllowedBy strategy trace indexes = AllowedRun trace indexes
 
+-- A TRACE IS ALLOWED for these indexes. Any number of reads may be counted.
 abbrev pub Allowed : Trace → List ℕ → Type 0
 Allowed trace indexes = AllowedBy trace.strategy trace indexes
 
