@@ -15,7 +15,7 @@ use Rattle.rv_restrict.specs.declared.atom.Atom.{Atom}
 use Rattle.rv_choice.specs.Asked.{IsIndexOf}
 use Rattle.rv_choice.specs.Choice.{FirstLeast, LeastBelow, NonePlays, candidate_at, candidate_of, has_all, is_scanned, leads, plan_of, plans_of, plays}
 
-either_below : {X : Type 0} (i k : ℕ) → i < k + 1 → (i < k → X) → (i ≡ k → X) → X
+pub either_below : {X : Type 0} (i k : ℕ) → i < k + 1 → (i < k → X) → (i ≡ k → X) → X
 either_below i k l f g = elim (cases_Bool (nat_lt i k)) [
   | inl below ↦ f (is_less i k below)
   | inr other ↦ g (is_same i k l other)

@@ -2,6 +2,7 @@
 use Rattle.std.specs.Prelude.{◌≡◌, ◌⊎◌, ℕ, ◌≤◌, Bool, List, [], true, length, nat_eq, map}
 use Rattle.std.specs.List.{AllByRecursion, IsDistinct, list_any, starts_with}
 use Rattle.rv_rows.specs.Rows.{Ascend}
+use Rattle.rv_restrict.specs.declared.atom.Atom.{Atom}
 use Rattle.rv_restrict.specs.Bind.{passes_home}
 use Rattle.rv_restrict.specs.Parts.{part_of, stands_among}
 use Rattle.rv_restrict.specs.Ranges.{range_for}
@@ -37,6 +38,10 @@ pub record CanAsk (query : Query) (shown : Shown) : Type 0 where
   pub named : names_only (passes_home (stands_among query.need)) query.only ≡ true
   pub ordered : (query.order ≡ []) ⊎ (begins_any query.indexes query.order ≡ true)
   pub needs : (c : ℕ) → stands_among query.order c ≡ true → stands_among query.need c ≡ true
+
+-- the same query with another restriction
+abbrev pub with_only : List (List Atom) → Query → Query
+with_only only query = record query { only = only }
 
 -- a background scan of an index: in the range and with the part that the restriction has for it
 pub record IsPlanned (query : Query) (shown : Shown) (plan : ScanPlan) : Type 0 where

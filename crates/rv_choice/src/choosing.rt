@@ -1,7 +1,7 @@
 ghost use Rattle.std.specs.Prelude.{◌≡◌, ◌+◌, ◌<◌, ◌≤◌, ◌++◌, ◌∷◌, [], length, Option, IfOk, IfSome, OnOk, true};
 ghost use Rattle.rv_restrict.specs.Parts.{stands_among};
 ghost use Rattle.rv_reader.specs.Shown.{Shown};
-ghost use Rattle.rv_choice.specs.Asked.{CanAsk, IsIndexOf};
+ghost use Rattle.rv_choice.specs.Asked.{CanAsk, IsIndexOf, with_only};
 ghost use Rattle.rv_choice.specs.Choice.{AreScans, IsChosen, IsLeastOf, IsRight, LeastBelow, candidate_at, candidate_of, candidates_of, free_choice, has_all, is_scanned, leads, order_index, ordered_choice, plan_of, plans_of, plays, restricted_choice};
 ghost use Rattle.std.specs.List.{AllByRecursion};
 
@@ -100,19 +100,20 @@ fn has_all(columns: &[u32], need: &[u32]) -> bool
     need.iter().all(|column| stands_among(columns, *column))
 }
 
-/// An index as the query sees it. The estimate reads nothing.
+/// An index as the query sees it, were this its restriction. The estimate reads nothing.
 fn view<R: Reader>(
     alloc: Global,
     reader: &R,
     query: &Query,
+    only: &Restriction,
     index: u32,
     columns: &Items<u32>,
 ) -> Result<Candidate, NoMemory>
     requires { IsIndexOf query.now (R.shown reader.now) index columns.now }
-    ensures is { IfOk result (λ c. c ≡ candidate_of query.now (R.shown reader.now) (index, columns.now)) }
+    ensures is { IfOk result (λ c. c ≡ candidate_of (with_only only.now query.now) (R.shown reader.now) (index, columns.now)) }
     ensures right { IfOk result (IsRight (R.shown reader.now) query.now.snap) }
 {
-    let range = query.only.range_for(alloc, columns.as_slice())?;
+    let range = only.range_for(alloc, columns.as_slice())?;
     let estimate = reader.estimate(index, query.snap, &range);
     let restricted = !range.is_whole();
     let sufficient = has_all(columns.as_slice(), query.need.as_slice());
@@ -126,6 +127,24 @@ fn view<R: Reader>(
     })
 }
 
+/// The table's indexes as the query sees them, were this its restriction.
+pub(crate) fn candidates_for<R: Reader>(
+    alloc: Global,
+    reader: &R,
+    query: &Query,
+    only: &Restriction,
+) -> Result<Vec<Candidate>, NoMemory>
+    requires { CanAsk query.now (R.shown reader.now) }
+    ensures are { IfOk result (λ cs. cs.items ≡ candidates_of (with_only only.now query.now) (R.shown reader.now)) }
+    ensures right { IfOk result (λ cs. AllByRecursion (IsRight (R.shown reader.now) query.now.snap) cs.items) }
+{
+    let mut found = Vec::new(alloc);
+    'indexes: for index in query.indexes.as_slice() {
+        found.push(view(alloc, reader, query, only, index.0, &index.1)?)?;
+    }
+    Ok(found)
+}
+
 /// The table's indexes as the query sees them.
 pub fn candidates<R: Reader>(
     alloc: Global,
@@ -136,11 +155,7 @@ pub fn candidates<R: Reader>(
     ensures are { IfOk result (λ cs. cs.items ≡ candidates_of query.now (R.shown reader.now)) }
     ensures right { IfOk result (λ cs. AllByRecursion (IsRight (R.shown reader.now) query.now.snap) cs.items) }
 {
-    let mut found = Vec::new(alloc);
-    'indexes: for index in query.indexes.as_slice() {
-        found.push(view(alloc, reader, query, index.0, &index.1)?)?;
-    }
-    Ok(found)
+    candidates_for(alloc, reader, query, &query.only)
 }
 
 /// Of the best so far and one more candidate the one that plays the part with the lesser estimate, or the first.
@@ -166,7 +181,7 @@ fn nearer(candidates: &[Candidate], role: Role, best: Option<usize>, at: usize) 
 }
 
 /// The first of those with the least estimate that play a part.
-fn least(candidates: &[Candidate], role: Role) -> Option<usize>
+pub(crate) fn least(candidates: &[Candidate], role: Role) -> Option<usize>
     ensures { IsLeastOf role candidates.now result }
 {
     let mut best = None;
@@ -275,7 +290,11 @@ pub fn choose(candidates: &[Candidate], order: &[u32], goal: Goal2) -> Choice
     }
 }
 
-fn plan(alloc: Global, only: &Restriction, candidate: &Candidate) -> Result<ScanPlan, NoMemory>
+pub(crate) fn plan(
+    alloc: Global,
+    only: &Restriction,
+    candidate: &Candidate,
+) -> Result<ScanPlan, NoMemory>
     ensures { IfOk result (λ plan. plan ≡ plan_of only.now candidate.now) }
 {
     Ok(ScanPlan {

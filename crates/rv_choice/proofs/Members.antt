@@ -1,0 +1,131 @@
+-- The members of a union: which branches have one, and which group serves first.
+use Rattle.std.proofs.Common.{◌≡◌, ℕ, zero, suc, ◌+◌, ◌<◌, ◌≤◌, List, [], ◌∷◌, ◌++◌, length, Bool, true, false, ◌&&◌, ◌||◌, nat_le, nat_lt, refl, ap, sym, ◌∙◌, arith, subst, append_assoc, append-nil, Option, Some, None}
+use Rattle.std.specs.Prelude.{Vec}
+use Rattle.std.proofs.lemmas.Bool.Decides.{nat_tests}
+use Rattle.std.proofs.lemmas.List.{length-map}
+use Rattle.std.specs.List.{list_all, list_any, slice_index_or}
+use Rattle.rv_restrict.specs.declared.atom.Atom.{Atom}
+use Rattle.rv_restrict.specs.Branches.{branches_of, group_at}
+use Rattle.rv_restrict.specs.Groups.{groups_of}
+use Rattle.rv_reader.specs.Shown.{Shown}
+use Rattle.rv_jscan.specs.declared.jscan.ScanPlan.{ScanPlan}
+use Rattle.rv_choice.specs.declared.query.Query.{Query}
+use Rattle.rv_choice.specs.declared.choosing.Candidate.{Candidate}
+use Rattle.rv_choice.specs.declared.choosing.Role.TheVariants.{Restricted}
+use Rattle.rv_choice.specs.Choice.{FirstLeast, IsLeastOf, NonePlays, candidate_at, plan_of}
+use Rattle.rv_choice.specs.Members.{AddsMembers, AreMembers, AreUnited, IsMember, NoneServes, PutsMembers, is_bounded, seen_by, serves, some_restricted, some_serves}
+use Rattle.rv_choice.proofs.Choices.{either_below}
+
+left_any : (a b : Bool) → a ≡ true → (a || b) ≡ true
+left_any a b h = grind arith
+
+right_any : (a b : Bool) → b ≡ true → (a || b) ≡ true
+right_any a b h = grind arith
+
+neither : (a b : Bool) → a ≡ false → b ≡ false → (a || b) ≡ false
+neither a b h i = grind arith
+
+not_first : (a b : Bool) → a ≡ false → (a && b) ≡ false
+not_first a b h = grind arith
+
+not_second : (a b : Bool) → b ≡ false → (a && b) ≡ false
+not_second a b h = grind arith
+
+both : (a b : Bool) → a ≡ true → b ≡ true → (a && b) ≡ true
+both a b h i = grind arith
+
+-- THE MEMBER OF A BRANCH
+
+some_plays : (cs : List Candidate) (at : ℕ) → at < length cs → (candidate_at cs at).restricted ≡ true → some_restricted cs ≡ true
+some_plays [] at l p = absurd (omega arith)
+some_plays (c ∷ cs) zero l p = left_any c.restricted (some_restricted cs) p
+some_plays (c ∷ cs) (suc at) l p = right_any c.restricted (some_restricted cs) (some_plays cs at (omega arith) p)
+
+pub none_plays : (cs : List Candidate) → NonePlays Restricted cs (length cs) → some_restricted cs ≡ false
+none_plays [] n = refl
+none_plays (c ∷ cs) n = neither c.restricted (some_restricted cs) (n.none 0 (omega arith)) (none_plays cs (record { none = λ i l. n.none (suc i) (omega arith) }))
+
+-- no index is bounded by a branch
+pub unbounded : (query : Query) (shown : Shown) (branch : List (List Atom)) (cs : List Candidate) → cs ≡ seen_by query shown branch → IsLeastOf Restricted cs None → is_bounded query shown branch ≡ false
+unbounded query shown branch cs e n = ap some_restricted (sym e) ∙ none_plays cs n
+
+-- the least one that is
+pub is_member : (query : Query) (shown : Shown) (branch : List (List Atom)) (cs : List Candidate) (at : ℕ) (plan : ScanPlan) → cs ≡ seen_by query shown branch → IsLeastOf Restricted cs (Some at) → plan ≡ plan_of branch (candidate_at cs at) → IsMember query shown branch plan
+is_member query shown branch cs at plan e l p = record {
+  at = at;
+  least = subst (λ (xs : List Candidate). IsLeastOf Restricted xs (Some at)) e l;
+  is = p ∙ ap (λ (xs : List Candidate). plan_of branch (candidate_at xs at)) e;
+}
+
+pub bounded : (query : Query) (shown : Shown) (branch : List (List Atom)) (plan : ScanPlan) → IsMember query shown branch plan → is_bounded query shown branch ≡ true
+bounded query shown branch plan m = some_plays (seen_by query shown branch) m.at m.least.below m.least.is
+
+-- THE MEMBERS OF A GROUP
+
+pub no_branches : (query : Query) (shown : Shown) (old : List ScanPlan) → PutsMembers query shown [] old old
+no_branches query shown old = record { added = []; are = tt; put = sym (append-nil old) }
+
+pub first_without : (query : Query) (shown : Shown) (branch : List (List Atom)) (branches : List (List (List Atom))) → is_bounded query shown branch ≡ false → list_all (is_bounded query shown) (branch ∷ branches) ≡ false
+first_without query shown branch branches h = not_first (is_bounded query shown branch) (list_all (is_bounded query shown) branches) h
+
+-- one more, and then what the rest adds
+pub one_more : (query : Query) (shown : Shown) (branch : List (List Atom)) (branches : List (List (List Atom))) (plan : ScanPlan) (old put new : List ScanPlan) (all : Bool) → IsMember query shown branch plan → put ≡ old ++ plan ∷ [] → AddsMembers query shown branches put new all → AddsMembers query shown (branch ∷ branches) old new all
+one_more query shown branch branches plan old put new true m p a = record {
+  added = plan ∷ a.added;
+  are = (m, a.are);
+  put = a.put ∙ ap (λ (xs : List ScanPlan). xs ++ a.added) p ∙ append_assoc old (plan ∷ []) a.added;
+}
+one_more query shown branch branches plan old put new false m p a = not_second (is_bounded query shown branch) (list_all (is_bounded query shown) branches) a
+
+all_bounded : (query : Query) (shown : Shown) (branches : List (List (List Atom))) (plans : List ScanPlan) → AreMembers query shown branches plans → list_all (is_bounded query shown) branches ≡ true
+all_bounded query shown [] [] m = refl
+all_bounded query shown [] (plan ∷ plans) m = absurd m
+all_bounded query shown (branch ∷ branches) [] m = absurd m
+all_bounded query shown (branch ∷ branches) (plan ∷ plans) m = both (is_bounded query shown branch) (list_all (is_bounded query shown) branches) (bounded query shown branch plan m.0) (all_bounded query shown branches plans m.1)
+
+-- a group of one branch or none
+pub too_few : (query : Query) (shown : Shown) (group : List Atom) (bs : List (List (List Atom))) → bs ≡ branches_of group → length bs < 2 → serves query shown group ≡ false
+too_few query shown group bs e l = not_first (nat_le 2 (length (branches_of group))) (list_all (is_bounded query shown) (branches_of group)) (ap (λ (xs : List (List (List Atom))). nat_le 2 (length xs)) (sym e) ∙ number (length bs) l)
+  where
+    number : (n : ℕ) → n < 2 → nat_le 2 n ≡ false
+    number n l = grind (arith, nat_tests)
+
+-- a branch without a member
+pub one_without : (query : Query) (shown : Shown) (group : List Atom) (bs : List (List (List Atom))) (old new : List ScanPlan) → bs ≡ branches_of group → AddsMembers query shown bs old new false → serves query shown group ≡ false
+one_without query shown group bs old new e a = not_second (nat_le 2 (length (branches_of group))) (list_all (is_bounded query shown) (branches_of group)) (ap (list_all (is_bounded query shown)) (sym e) ∙ a)
+
+-- all have one
+pub group_members : (query : Query) (shown : Shown) (group : List Atom) (bs : List (List (List Atom))) (old new : List ScanPlan) → bs ≡ branches_of group → old ≡ [] → AddsMembers query shown bs old new true → AreMembers query shown (branches_of group) new
+group_members query shown group bs old new e none a =
+    let only : new ≡ a.added = a.put ∙ ap (λ (xs : List ScanPlan). xs ++ a.added) none in
+    subst (λ (xs : List ScanPlan). AreMembers query shown (branches_of group) xs) (sym only) (subst (λ (xs : List (List (List Atom))). AreMembers query shown xs a.added) e a.are)
+
+pub group_serves : (query : Query) (shown : Shown) (group : List Atom) (bs : List (List (List Atom))) (plans : List ScanPlan) → bs ≡ branches_of group → 2 ≤ length bs → AreMembers query shown (branches_of group) plans → serves query shown group ≡ true
+group_serves query shown group bs plans e l m = both (nat_le 2 (length (branches_of group))) (list_all (is_bounded query shown) (branches_of group)) (ap (λ (xs : List (List (List Atom))). nat_le 2 (length xs)) (sym e) ∙ number (length bs) l) (all_bounded query shown (branches_of group) plans m)
+  where
+    number : (n : ℕ) → 2 ≤ n → nat_le 2 n ≡ true
+    number n l = grind (arith, nat_tests)
+
+-- THE FIRST GROUP THAT SERVES
+
+pub none_before : (query : Query) (shown : Shown) → NoneServes query shown 0
+none_before query shown = record { none = λ i l. absurd (let bad : i < 0 = l in omega arith) }
+
+pub none_here : (query : Query) (shown : Shown) (k : ℕ) → NoneServes query shown k → serves query shown (group_at query.only k) ≡ false → NoneServes query shown (k + 1)
+none_here query shown k n h = record { none = λ i l. either_below i k l (λ less. n.none i less) (λ same. ap (λ (x : ℕ). serves query shown (group_at query.only x)) same ∙ h) }
+
+none_of : (query : Query) (shown : Shown) (groups : List (List Atom)) → ((i : ℕ) → i < length groups → serves query shown (slice_index_or groups i []) ≡ false) → list_any (serves query shown) groups ≡ false
+none_of query shown [] n = refl
+none_of query shown (group ∷ groups) n = neither (serves query shown group) (list_any (serves query shown) groups) (n 0 (omega arith)) (none_of query shown groups (λ i l. n (suc i) (omega arith)))
+
+-- no group serves
+pub none_serves : (query : Query) (shown : Shown) (k : ℕ) → k ≡ length query.only → NoneServes query shown k → some_serves query shown ≡ false
+none_serves query shown k e n = none_of query shown query.only (λ i l. n.none i (subst (λ (x : ℕ). i < x) (sym e) l))
+
+-- as many groups as a restriction has
+pub long_as : {A : Type 0} (groups : List (Vec Atom A)) (only : List (List Atom)) → groups_of groups ≡ only → length groups ≡ length only
+long_as {A} groups only e = sym (length-map groups (λ (group : Vec Atom A). group.items)) ∙ ap (λ (xs : List (List Atom)). length xs) e
+
+-- the group in a place that there is serves, and none before it
+pub united : (query : Query) (shown : Shown) (group : ℕ) (plans : List ScanPlan) → group < length query.only → NoneServes query shown group → serves query shown (group_at query.only group) ≡ true → AreMembers query shown (branches_of (group_at query.only group)) plans → AreUnited query shown plans
+united query shown group plans l n s m = record { group = group; there = l; suits = s; first = n; members = m }
