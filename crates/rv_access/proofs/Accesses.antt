@@ -23,14 +23,20 @@ use Rattle.rv_race.specs.Given.{Answers as RaceAnswers, TakesPiece as RaceTakesP
 use Rattle.rv_race.specs.Raced.{Raced}
 use Rattle.rv_race.specs.Runs.{IsOfUndropped as RaceUndropped, indexes_of}
 use Rattle.rv_race.proofs.Tellings.{allowed as race_allowed}
+use Rattle.rv_union.specs.Given.{Answers as UnionAnswers, TakesPiece as UnionTakesPiece}
+use Rattle.rv_union.specs.Runs.{IsOfUndropped as UnionUndropped, indexes_of as united_indexes}
+use Rattle.rv_union.specs.Unioned.{Unioned}
+use Rattle.rv_union.proofs.Tellings.{allowed as union_allowed}
 use Rattle.rv_access.specs.declared.access.Access.{Access}
-use Rattle.rv_access.specs.declared.access.Access.TheVariants.{Competing, Racing}
+use Rattle.rv_access.specs.declared.access.Access.TheVariants.{Competing, Racing, Uniting}
 use Rattle.rv_access.specs.declared.racing.RacedQuery.{RacedQuery}
+use Rattle.rv_access.specs.declared.uniting.UnitedQuery.{UnitedQuery}
 use Rattle.rv_access.specs.Accesses.{Keeps, SamePlans, Tells, query_of, trace_of}
-use Rattle.rv_access.specs.Given.{Answers, AwaitsPiece, CountsPiece, IsOfUndropped, RacedGives, TakesPiece, awaited, piece_read}
-use Rattle.rv_access.specs.Stepping.{GivesStep, RacedGivesStep, SameCourse, SettledTake, StepsAs}
+use Rattle.rv_access.specs.Given.{Answers, AwaitsPiece, CountsPiece, IsOfUndropped, RacedGives, TakesPiece, UnitedGives, awaited, piece_read}
+use Rattle.rv_access.specs.Stepping.{GivesStep, RacedGivesStep, SameCourse, SettledTake, StepsAs, UnitedGivesStep}
 use Rattle.rv_access.proofs.Shapes.{ShapePlans, course_plans as shape_course, given_number as shape_number, given_plans as shape_given, none_read as shape_none, piece_awaited as shape_awaited, settled_back, settled_fetches, settled_joint, steps_plans as shape_steps}
 use Rattle.rv_access.proofs.OfRaces.{given_number as race_number, given_plans as race_given, none_awaited, none_read as race_none, piece_awaited as race_awaited, steps_plans as race_steps, wider}
+use Rattle.rv_access.proofs.OfUnions.{given_number as union_number, given_plans as union_given, none_awaited as union_none, none_read as union_unread, piece_awaited as union_awaited, steps_plans as union_steps}
 
 -- WHAT IS ASKED, THE STRATEGY AND THE PLANNED SCANS STAY
 
@@ -45,12 +51,22 @@ steps_plans would state after shown c d fg (Competing v) (Competing w) steps = s
 steps_plans would state after shown c d fg (Competing v) (Racing s) steps = absurd steps
 steps_plans would state after shown c d fg (Racing r) (Competing w) steps = absurd steps
 steps_plans would state after shown c d fg (Racing r) (Racing s) steps = race_steps would state after shown c d fg r s steps
+steps_plans would state after shown c d fg (Competing v) (Uniting s) steps = absurd steps
+steps_plans would state after shown c d fg (Racing r) (Uniting s) steps = absurd steps
+steps_plans would state after shown c d fg (Uniting u) (Competing w) steps = absurd steps
+steps_plans would state after shown c d fg (Uniting u) (Racing s) steps = absurd steps
+steps_plans would state after shown c d fg (Uniting u) (Uniting s) steps = union_steps would state after shown c d fg u s steps
 
 pub course_plans : (old new : Access) → SameCourse old new → SamePlans old new
 course_plans (Competing v) (Competing w) same = shape_course v w same
 course_plans (Competing v) (Racing s) same = absurd same
 course_plans (Racing r) (Competing w) same = absurd same
 course_plans (Racing r) (Racing s) same = record { query = same.query; strategy = refl; plans = same.plans }
+course_plans (Competing v) (Uniting s) same = absurd same
+course_plans (Racing r) (Uniting s) same = absurd same
+course_plans (Uniting u) (Competing w) same = absurd same
+course_plans (Uniting u) (Racing s) same = absurd same
+course_plans (Uniting u) (Uniting s) same = record { query = same.query; strategy = refl; plans = same.plans }
 
 -- A GIVE, whatever it answers
 
@@ -70,6 +86,14 @@ pub raced_plans : {E : Type 0} (r : Result Given E) (would : ℕ → Facts → R
 raced_plans (Ok g) would state after piece old new gives e = race_given would state after piece g old new gives
 raced_plans (Err x) would state after piece old new gives e = subst (λ (r : RacedQuery). SamePlans (Racing old) (Racing r)) (sym e) (plans_stay (Racing old))
 
+pub united_number : {E : Type 0} (r : Result Given E) (would : ℕ → Facts → Ruling) (state after : ℕ) (piece : Pieced) (old new : UnitedQuery) → IfOk r (λ g. UnitedGives would state after piece g old new) → IfOk r (λ g. CountsPiece g old.union.number new.union.number)
+united_number (Ok g) would state after piece old new gives = union_number would state after piece g old new gives
+united_number (Err x) would state after piece old new gives = tt
+
+pub united_plans : {E : Type 0} (r : Result Given E) (would : ℕ → Facts → Ruling) (state after : ℕ) (piece : Pieced) (old new : UnitedQuery) → IfOk r (λ g. UnitedGives would state after piece g old new) → OnErr r (new ≡ old) → SamePlans (Uniting old) (Uniting new)
+united_plans (Ok g) would state after piece old new gives e = union_given would state after piece g old new gives
+united_plans (Err x) would state after piece old new gives e = subst (λ (u : UnitedQuery). SamePlans (Uniting old) (Uniting u)) (sym e) (plans_stay (Uniting old))
+
 -- WHAT THE CALLS ANSWER, in the words of accesses
 
 pub retrieval_gives : {E : Type 0} (r : Result Fg E) (v w : Shape) (shown : Shown) → IfOk r (RetrievalGivesStep v w shown) → IfOk r (GivesStep (Competing v) (Competing w) shown)
@@ -84,6 +108,12 @@ race_gives (Ok Working) old new shown gives = gives
 race_gives (Ok End) old new shown gives = gives
 race_gives (Err x) old new shown gives = tt
 
+pub union_gives : {E : Type 0} (r : Result Fg E) (old new : UnitedQuery) (shown : Shown) → IfOk r (UnitedGivesStep old new shown) → IfOk r (GivesStep (Uniting old) (Uniting new) shown)
+union_gives (Ok (Row x)) old new shown gives = gives
+union_gives (Ok Working) old new shown gives = gives
+union_gives (Ok End) old new shown gives = gives
+union_gives (Err x) old new shown gives = tt
+
 pub retrieval_takes : {E : Type 0} (r : Result Taken E) (v : Shape) → IfOk r (RetrievalTakesPiece v) → IfOk r (TakesPiece (Competing v))
 retrieval_takes (Ok (Piece piece)) v takes = takes
 retrieval_takes (Ok Nothing) v takes = takes
@@ -94,6 +124,11 @@ race_takes (Ok (Piece piece)) q takes = takes
 race_takes (Ok Nothing) q takes = none_awaited q.race takes
 race_takes (Err x) q takes = tt
 
+pub union_takes : {E : Type 0} (r : Result Taken E) (q : UnitedQuery) → IfOk r (UnionTakesPiece q.union) → IfOk r (TakesPiece (Uniting q))
+union_takes (Ok (Piece piece)) q takes = takes
+union_takes (Ok Nothing) q takes = union_none q.union takes
+union_takes (Err x) q takes = tt
+
 pub retrieval_undropped : {E : Type 0} (r : Result Taken E) (v : Shape) → IfOk r (RetrievalUndropped v) → IfOk r (IsOfUndropped (Competing v))
 retrieval_undropped (Ok taken) v undropped = undropped
 retrieval_undropped (Err x) v undropped = tt
@@ -101,6 +136,10 @@ retrieval_undropped (Err x) v undropped = tt
 pub race_undropped : {E : Type 0} (r : Result Taken E) (q : RacedQuery) → IfOk r (RaceUndropped q.race) → IfOk r (IsOfUndropped (Racing q))
 race_undropped (Ok taken) q undropped = undropped
 race_undropped (Err x) q undropped = tt
+
+pub union_undropped : {E : Type 0} (r : Result Taken E) (q : UnitedQuery) → IfOk r (UnionUndropped q.union) → IfOk r (IsOfUndropped (Uniting q))
+union_undropped (Ok taken) q undropped = undropped
+union_undropped (Err x) q undropped = tt
 
 pub retrieval_answers : {E : Type 0} (r : Result Given E) (v w : Shape) (piece : Pieced) → IfOk r (λ g. RetrievalAnswers v piece g w) → IfOk r (λ g. Answers (Competing v) piece g (Competing w))
 retrieval_answers (Ok Accepted) v w piece answers = answers
@@ -112,6 +151,11 @@ race_answers (Ok Accepted) old new piece same answers = answers
 race_answers (Ok (Stale asked now)) old new piece same answers = (answers.0, answers.1, answers.2, ap Racing (same ∙ ap (λ (race : Raced). record old { race = race }) answers.3))
 race_answers (Err x) old new piece same answers = tt
 
+pub union_answers : {E : Type 0} (r : Result Given E) (old new : UnitedQuery) (piece : Pieced) → new ≡ record old { union = new.union } → IfOk r (λ g. UnionAnswers old.union piece g new.union) → IfOk r (λ g. Answers (Uniting old) piece g (Uniting new))
+union_answers (Ok Accepted) old new piece same answers = answers
+union_answers (Ok (Stale asked now)) old new piece same answers = (answers.0, answers.1, answers.2, ap Uniting (same ∙ ap (λ (union : Unioned). record old { union = union }) answers.3))
+union_answers (Err x) old new piece same answers = tt
+
 pub same_retrieval : {X E : Type 0} (r : Result X E) (v w : Shape) → OnErr r (w ≡ v) → OnErr r (Competing w ≡ Competing v)
 same_retrieval (Ok x) v w e = tt
 same_retrieval (Err x) v w e = ap Competing e
@@ -120,10 +164,14 @@ pub same_race : {X E : Type 0} (r : Result X E) (old new : RacedQuery) → OnErr
 same_race (Ok x) old new e = tt
 same_race (Err x) old new e = ap Racing e
 
+pub same_union : {X E : Type 0} (r : Result X E) (old new : UnitedQuery) → OnErr r (new ≡ old) → OnErr r (Uniting new ≡ Uniting old)
+same_union (Ok x) old new e = tt
+same_union (Err x) old new e = ap Uniting e
+
 pub retrieval_keeps : (v w : Shape) → ShapeKeeps v w → Keeps (Competing v) (Competing w)
 retrieval_keeps v w keeps = record { query = keeps.query; fits = keeps.fits; rest = keeps.rest }
 
--- a race has nothing that a short index leaves
+-- a race and a union have nothing that a short index leaves
 pub none_fewer : {X E : Type 0} (r : Result X E) → OnErr r (0 ≤ 0)
 none_fewer (Ok x) = tt
 none_fewer (Err x) = omega arith
@@ -143,13 +191,16 @@ settled_take shown c d old new same leaves settled after = record {
 pub piece_awaited : (a : Access) (piece : Pieced) → AwaitsPiece a piece → awaited a ≡ Some piece.id
 piece_awaited (Competing v) piece awaits = shape_awaited v piece awaits
 piece_awaited (Racing r) piece awaits = race_awaited r.race piece awaits
+piece_awaited (Uniting u) piece awaits = union_awaited u.union piece awaits
 
 -- nothing is read where no piece is awaited
 pub none_read : (a : Access) (c : Counts) → awaited a ≡ None → c ≡ piece_read a c
 none_read (Competing v) c none = shape_none v c none
 none_read (Racing r) c none = race_none r.race c none
+none_read (Uniting u) c none = union_unread u.union c none
 
 -- A TRACE THAT TELLS A RUN IS ALLOWED
 pub allowed : (a : Access) → Tells a → Allowed (trace_of a) (indexes_asked (query_of a))
 allowed (Competing v) t = retrieval_allowed v t
 allowed (Racing r) t = wider r.race.trace (indexes_of r.race.plans) (indexes_asked r.query) t.known (race_allowed r.race t.tells)
+allowed (Uniting u) t = wider u.union.trace (united_indexes u.union.plans) (indexes_asked u.query) t.known (union_allowed u.union t.tells)

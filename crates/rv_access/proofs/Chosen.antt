@@ -1,5 +1,5 @@
 -- What was chosen can race, and what a race and a retrieval are where they begin.
-use Rattle.std.proofs.Common.{◌∷◌, cond, suc, ◌≡◌, ℕ, ◌+◌, ◌-◌, ◌<◌, ◌≤◌, List, [], length, filter, map, Bool, true, false, ◌&&◌, nat_le, refl, ap, sym, ◌∙◌, arith, subst, Result, Ok, Err, IfOk}
+use Rattle.std.proofs.Common.{◌∷◌, cond, suc, ◌≡◌, ℕ, ◌+◌, ◌-◌, ◌<◌, ◌≤◌, List, [], length, filter, map, Bool, true, false, ◌&&◌, nat_le, Option, Some, None, refl, ap, sym, ◌∙◌, arith, subst, Result, Ok, Err, IfOk}
 use Rattle.std.specs.List.{list_all}
 use Rattle.std.specs.Prelude.{◌||◌, if◌then◌else◌}
 use Rattle.std.proofs.lemmas.Bool.Decides.{nat_tests}
@@ -20,10 +20,14 @@ use Rattle.rv_choice.specs.declared.choosing.Background.TheVariants.{Nothing, On
 use Rattle.rv_choice.specs.declared.choosing.Candidate.{Candidate}
 use Rattle.rv_choice.specs.declared.choosing.Choice.{Choice}
 use Rattle.rv_choice.specs.Asked.{CanAsk}
-use Rattle.rv_choice.specs.Choice.{AreScans, IsChosen, candidates_of, is_scanned, plan_of}
+use Rattle.rv_choice.specs.declared.query.Goal2.{Goal2}
+use Rattle.rv_choice.specs.declared.query.Goal2.TheVariants.{FastFirst as Soon, TotalTime}
+use Rattle.rv_choice.specs.Choice.{AreScans, IsChosen, candidates_of, choice_of, is_scanned, order_index, plan_of}
+use Rattle.rv_choice.specs.Members.{AreUnited, some_serves}
+use Rattle.rv_choice.proofs.Members.{some_serve}
 use Rattle.rv_choice.specs.Leading.{front_begun, front_candidate}
 use Rattle.rv_final.specs.Rest.{qualifying}
-use Rattle.rv_retrieval.specs.Effort.{life_of}
+use Rattle.rv_retrieval.specs.Effort.{life_of as retrieval_life}
 use Rattle.rv_retrieval.specs.Opened.{is_one}
 use Rattle.rv_retrieval.specs.Runs.{indexes_asked}
 use Rattle.rv_retrieval.specs.Shape.{is_sorted}
@@ -36,11 +40,12 @@ use Rattle.rv_race.specs.Opened.{CanRace, Opened as RaceOpened}
 use Rattle.rv_race.specs.Raced.{RaceFits, Raced, rest as race_rest}
 use Rattle.rv_race.specs.Runs.{Tells as RaceTells, indexes_of}
 use Rattle.rv_access.specs.declared.access.Access.{Access}
-use Rattle.rv_access.specs.declared.access.Access.TheVariants.{Competing, Racing}
+use Rattle.rv_access.specs.declared.access.Access.TheVariants.{Competing, Racing, Uniting}
 use Rattle.rv_access.specs.declared.racing.RacedQuery.{RacedQuery}
 use Rattle.rv_access.specs.Accesses.{RacedFits, RacedTells}
-use Rattle.rv_access.specs.Opened.{Begins, BeginsRace, Competes, Opened, OpenedBy, Races, is_background_only, is_each, races, restricted}
+use Rattle.rv_access.specs.Opened.{Begins, BeginsRace, Competes, Opened, OpenedBy, Races, Unites, is_background_only, is_each, is_table, life_of, races, restricted, unites}
 use Rattle.rv_access.proofs.Lives.{raced_life}
+use Rattle.rv_access.proofs.Unites.{one_life}
 
 no_way : {X : Type 0} → true ≡ false → X
 no_way bad = absurd (cc)
@@ -50,6 +55,9 @@ left_true a b h = grind arith
 
 right_true : (a b : Bool) → (a && b) ≡ true → b ≡ true
 right_true a b h = grind arith
+
+both_true : (a b : Bool) → a ≡ true → b ≡ true → (a && b) ≡ true
+both_true a b h i = grind arith
 
 -- WHERE INDEXES RACE, only a background is chosen, and it scans each restricted index
 
@@ -197,49 +205,117 @@ opened_counts table snap only scans cursor opening pages r c d opened same = rec
     none : (a b : ℕ) → b ≡ a → 0 ≡ raised 0 (b - a)
     none a b e = omega (arith, e)
 
-pub begun_race : (query : Query) (shown : Shown) (c d : Counts) (r : RacedQuery) → r.query ≡ query → RacedFits r shown → race_rest r.race shown ≡ qualifying query.only (shown.rows query.table query.snap) → RacedTells r → race_effort r.race shown < life_of query shown → CountsAll r.race.trace c d → d ≡ c → Begins query shown c d (Racing r)
-begun_race query shown c d r asked fits owes tells life counts unread = record {
-  asked = asked;
-  fits = fits;
-  owes = owes;
-  tells = tells;
-  awaiting = tt;
-  counts = counts;
-  life = within (reads c) (reads d) (race_effort r.race shown) (life_of query shown) (ap reads unread) life;
-  most = at_most (race_effort r.race shown) (life_of query shown) life;
-}
+pub begun_race : (query : Query) (shown : Shown) (c d : Counts) (r : RacedQuery) → r.query ≡ query → RacedFits r shown → race_rest r.race shown ≡ qualifying query.only (shown.rows query.table query.snap) → RacedTells r → race_effort r.race shown < retrieval_life query shown → CountsAll r.race.trace c d → d ≡ c → Begins query shown c d (Racing r)
+begun_race query shown c d r asked fits owes tells life counts unread =
+    let more = one_life query shown in
+    record {
+      asked = asked;
+      fits = fits;
+      owes = owes;
+      tells = tells;
+      awaiting = tt;
+      counts = counts;
+      life = within (reads c) (reads d) (race_effort r.race shown) (retrieval_life query shown) (life_of query shown) (ap reads unread) life more;
+      most = at_most (race_effort r.race shown) (retrieval_life query shown) (life_of query shown) life more;
+    }
   where
-    within : (n m k l : ℕ) → m ≡ n → k < l → m + k ≤ n + l
-    within n m k l e h = omega (arith, e, h)
+    within : (n m k l o : ℕ) → m ≡ n → k < l → l ≤ o → m + k ≤ n + o
+    within n m k l o e h f = omega (arith, e, h, f)
 
-    at_most : (k l : ℕ) → k < l → k ≤ l
-    at_most k l h = omega (arith, h)
+    at_most : (k l o : ℕ) → k < l → l ≤ o → k ≤ o
+    at_most k l o h f = omega (arith, h, f)
+
+-- a retrieval has no longer life
+pub short_lived : (query : Query) (shown : Shown) (a b : ℕ) → a ≤ b + retrieval_life query shown → a ≤ b + life_of query shown
+short_lived query shown a b h = longer a b (retrieval_life query shown) (life_of query shown) h (one_life query shown)
+  where
+    longer : (a b c d : ℕ) → a ≤ b + c → c ≤ d → a ≤ b + d
+    longer a b c d h i = omega (arith, h, i)
+
+pub short_whole : (query : Query) (shown : Shown) (a : ℕ) → a ≤ retrieval_life query shown → a ≤ life_of query shown
+short_whole query shown a h = longer a (retrieval_life query shown) (life_of query shown) h (one_life query shown)
+  where
+    longer : (a c d : ℕ) → a ≤ c → c ≤ d → a ≤ d
+    longer a c d h i = omega (arith, h, i)
+
+-- WHERE THE TABLE WOULD BE READ no order is asked, and no index is short
+
+table_unsorted : (s : Strategy) → is_table s ≡ true → is_sorted s ≡ false
+table_unsorted Table h = refl
+table_unsorted BackgroundOnly h = no_way (sym h)
+table_unsorted FastFirst h = no_way (sym h)
+table_unsorted Sorted h = no_way (sym h)
+table_unsorted IndexOnly h = no_way (sym h)
+table_unsorted Union h = no_way (sym h)
+
+pub table_unordered : (query : Query) (shown : Shown) (choice : Choice) (cs : List Candidate) → cs ≡ candidates_of query shown → CanAsk query shown → IsChosen query.order query.goal cs choice → is_table choice.strategy ≡ true → query.order ≡ []
+table_unordered query shown choice cs e can chosen t = no_order query shown choice can (subst (λ (xs : List Candidate). IsChosen query.order query.goal xs choice) e chosen) (table_unsorted choice.strategy t)
+
+table_by : (cs : List Candidate) (goal : Goal2) (front short sufficient restricted : Option ℕ) → is_table (choice_of cs goal front short sufficient restricted).strategy ≡ true → is_one (choice_of cs goal front short sufficient restricted).background ≡ true → true ≡ false
+table_by cs goal (Some front) (Some short) sufficient restricted t o = sym t
+table_by cs goal (Some front) None sufficient restricted t o = sym t
+table_by cs goal None (Some short) sufficient restricted t o = sym t
+table_by cs goal None None (Some front) restricted t o = sym t
+table_by cs Soon None None None (Some at) t o = sym t
+table_by cs TotalTime None None None (Some at) t o = sym t
+table_by cs Soon None None None None t o = sym o
+table_by cs TotalTime None None None None t o = sym o
+
+pub table_not_short : (query : Query) (shown : Shown) (choice : Choice) (cs : List Candidate) → cs ≡ candidates_of query shown → IsChosen query.order query.goal cs choice → is_table choice.strategy ≡ true → has_short query shown ≡ false
+table_not_short query shown choice cs e chosen t = by (has_short query shown) refl
+  where
+    by : (b : Bool) → has_short query shown ≡ b → has_short query shown ≡ false
+    by false h = h
+    by true h = no_way (table_by cs query.goal (order_index query.order cs) chosen.short chosen.sufficient chosen.restricted (subst (λ (x : Choice). is_table x.strategy ≡ true) chosen.rules t) (subst (λ (x : Choice). is_one x.background ≡ true) chosen.rules (short_one query shown choice query.order cs refl e chosen h)))
 
 -- HOW AN ACCESS WAS OPENED
-
--- no race was asked
-pub unasked : {E : Type 0} (r : Result Access E) (query : Query) (shown : Shown) (cursor opening : ℕ) → IfOk r (Competes query shown cursor opening) → IfOk r (Opened false query shown cursor opening)
-unasked (Ok (Competing v)) query shown cursor opening o = record { choice = o.choice; chosen = o.chosen; opened = o }
-unasked (Ok (Racing x)) query shown cursor opening o = absurd o
-unasked (Err x) query shown cursor opening o = tt
 
 chosen_of : (query : Query) (shown : Shown) (choice : Choice) (order : List ℕ) (cs : List Candidate) → order ≡ query.order → cs ≡ candidates_of query shown → IsChosen order query.goal cs choice → IsChosen query.order query.goal (candidates_of query shown) choice
 chosen_of query shown choice order cs o e chosen = subst (λ (xs : List Candidate). IsChosen query.order query.goal xs choice) e (subst (λ (xs : List ℕ). IsChosen xs query.goal cs choice) o chosen)
 
--- a race was asked, and none can be
-pub unraced : {E : Type 0} (r : Result Access E) (query : Query) (shown : Shown) (cursor opening : ℕ) (choice : Choice) (order : List ℕ) (cs : List Candidate) → order ≡ query.order → cs ≡ candidates_of query shown → IsChosen order query.goal cs choice → races choice cs ≡ false → IfOk r (Competes query shown cursor opening) → IfOk r (Opened true query shown cursor opening)
-unraced (Ok a) query shown cursor opening choice order cs o e chosen none is = record {
-  choice = choice;
-  chosen = chosen_of query shown choice order cs o e chosen;
-  opened = subst (λ (b : Bool). OpenedBy b query shown cursor opening choice a) (sym (sym (ap (races choice) e) ∙ none)) is;
-}
-unraced (Err x) query shown cursor opening choice order cs o e chosen none is = tt
+-- the same where it is used by a call on what was chosen
+pub chosen_for : (query : Query) (choice : Choice) (order : List ℕ) (cs : List Candidate) → order ≡ query.order → IsChosen order query.goal cs choice → IsChosen query.order query.goal cs choice
+chosen_for query choice order cs o chosen = subst (λ (xs : List ℕ). IsChosen xs query.goal cs choice) o chosen
+
+pub can_race_so : (race : Bool) (choice : Choice) (cs : List Candidate) → (race && races choice cs) ≡ true → races choice cs ≡ true
+can_race_so race choice cs h = right_true race (races choice cs) h
 
 -- a race was asked, and runs
-pub raced : {E : Type 0} (r : Result Access E) (query : Query) (shown : Shown) (cursor opening : ℕ) (choice : Choice) (order : List ℕ) (cs : List Candidate) → order ≡ query.order → cs ≡ candidates_of query shown → IsChosen order query.goal cs choice → races choice cs ≡ true → IfOk r (Races query shown cursor opening choice) → IfOk r (Opened true query shown cursor opening)
-raced (Ok a) query shown cursor opening choice order cs o e chosen can is = record {
+pub raced : {E : Type 0} (r : Result Access E) (race : Bool) (query : Query) (shown : Shown) (cursor opening : ℕ) (choice : Choice) (order : List ℕ) (cs : List Candidate) → order ≡ query.order → cs ≡ candidates_of query shown → IsChosen order query.goal cs choice → (race && races choice cs) ≡ true → IfOk r (Races query shown cursor opening choice) → IfOk r (Opened race query shown cursor opening)
+raced (Ok a) race query shown cursor opening choice order cs o e chosen can is = record {
   choice = choice;
   chosen = chosen_of query shown choice order cs o e chosen;
-  opened = subst (λ (b : Bool). OpenedBy b query shown cursor opening choice a) (sym (sym (ap (races choice) e) ∙ can)) is;
+  opened = subst (λ (b : Bool). OpenedBy b (unites query shown choice) query shown cursor opening choice a) (sym (sym (ap (λ (xs : List Candidate). race && races choice xs) e) ∙ can)) is;
 }
-raced (Err x) query shown cursor opening choice order cs o e chosen can is = tt
+raced (Err x) race query shown cursor opening choice order cs o e chosen can is = tt
+
+-- none runs
+pub unraced : {E : Type 0} (r : Result Access E) (race : Bool) (query : Query) (shown : Shown) (cursor opening : ℕ) (choice : Choice) (order : List ℕ) (cs : List Candidate) → order ≡ query.order → cs ≡ candidates_of query shown → IsChosen order query.goal cs choice → (race && races choice cs) ≡ false → IfOk r (OpenedBy false (unites query shown choice) query shown cursor opening choice) → IfOk r (Opened race query shown cursor opening)
+unraced (Ok a) race query shown cursor opening choice order cs o e chosen none is = record {
+  choice = choice;
+  chosen = chosen_of query shown choice order cs o e chosen;
+  opened = subst (λ (b : Bool). OpenedBy b (unites query shown choice) query shown cursor opening choice a) (sym (sym (ap (λ (xs : List Candidate). race && races choice xs) e) ∙ none)) is;
+}
+unraced (Err x) race query shown cursor opening choice order cs o e chosen none is = tt
+
+-- a union was opened, or none
+
+pub united : {E : Type 0} (r : Result Access E) (query : Query) (shown : Shown) (cursor opening : ℕ) (choice : Choice) (plans : List ScanPlan) → is_table choice.strategy ≡ true → AreUnited query shown plans → IfOk r (Unites query shown cursor opening) → IfOk r (OpenedBy false (unites query shown choice) query shown cursor opening choice)
+united (Ok a) query shown cursor opening choice plans t u is = subst (λ (b : Bool). OpenedBy false b query shown cursor opening choice a) (sym (both_true (is_table choice.strategy) (some_serves query shown) t (some_serve query shown plans u))) is
+united (Err x) query shown cursor opening choice plans t u is = tt
+
+pub no_union : (query : Query) (shown : Shown) (choice : Choice) → is_table choice.strategy ≡ false → unites query shown choice ≡ false
+no_union query shown choice t = first_off (is_table choice.strategy) (some_serves query shown) t
+  where
+    first_off : (a b : Bool) → a ≡ false → (a && b) ≡ false
+    first_off a b h = grind arith
+
+pub none_serve : (query : Query) (shown : Shown) (choice : Choice) → some_serves query shown ≡ false → unites query shown choice ≡ false
+none_serve query shown choice s = second_off (is_table choice.strategy) (some_serves query shown) s
+  where
+    second_off : (a b : Bool) → b ≡ false → (a && b) ≡ false
+    second_off a b h = grind arith
+
+pub competed : {E : Type 0} (r : Result Access E) (query : Query) (shown : Shown) (cursor opening : ℕ) (choice : Choice) → unites query shown choice ≡ false → IfOk r (Competes query shown cursor opening) → IfOk r (OpenedBy false (unites query shown choice) query shown cursor opening choice)
+competed (Ok a) query shown cursor opening choice none is = subst (λ (b : Bool). OpenedBy false b query shown cursor opening choice a) (sym none) is
+competed (Err x) query shown cursor opening choice none is = tt

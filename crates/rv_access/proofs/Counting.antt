@@ -13,8 +13,11 @@ use Rattle.rv_scan.specs.Reads.{OneAtMost}
 use Rattle.rv_race.specs.Given.{piece_read as race_read, reads_leaf as reads_turn}
 use Rattle.rv_race.specs.Opened.{MayRead as RaceMayRead}
 use Rattle.rv_race.specs.Raced.{Raced}
+use Rattle.rv_union.specs.Given.{piece_read as union_read, reads_leaf as reads_member}
+use Rattle.rv_union.specs.Opened.{MayRead as UnionMayRead}
+use Rattle.rv_union.specs.Unioned.{Unioned}
 use Rattle.rv_access.specs.declared.access.Access.{Access}
-use Rattle.rv_access.specs.declared.access.Access.TheVariants.{Competing, Racing}
+use Rattle.rv_access.specs.declared.access.Access.TheVariants.{Competing, Racing, Uniting}
 use Rattle.rv_access.specs.Stepping.{MayReadIts}
 use Rattle.rv_retrieval.specs.Stepping.Kind.{Borrow, Piece, Walk, WalkBoth, NextKey, NextPage, Over}
 
@@ -81,8 +84,22 @@ race_up FinalList r c d within read = record_up c d within read
 race_up FinalTable r c d within read = page_up c d read
 race_up Done r c d within read = same_up c d (ap (λ (k : Counts). k.records) read)
 
--- Both.
+-- A union.
+
+union_records : (u : Unioned) (c : Counts) → (union_read u c).records ≡ c.records
+union_records u c = either_records (reads_member u) (leaf_read c) c c.records refl refl
+
+union_up : (now : Control) (u : Unioned) (c d : Counts) → c.records < 2 ^ 64 → UnionMayRead now u c d → OneUp c d
+union_up Building u c d within read = same_up c d (ap (λ (k : Counts). k.records) read)
+union_up ForegroundAlone u c d within read = same_up c d (ap (λ (k : Counts). k.records) read)
+union_up BackgroundAlone u c d within read = same_up c d (ap (λ (k : Counts). k.records) read ∙ union_records u c)
+union_up FinalList u c d within read = record_up c d within read
+union_up FinalTable u c d within read = page_up c d read
+union_up Done u c d within read = same_up c d (ap (λ (k : Counts). k.records) read)
+
+-- All.
 
 pub may_up : (a : Access) (c d : Counts) → c.records < 2 ^ 64 → MayReadIts a c d → OneUp c d
 may_up (Competing v) c d within read = kind_up (kind_of v.control v.strategy (fresh_of v)) v c d within read
 may_up (Racing r) c d within read = race_up r.race.control r.race c d within read
+may_up (Uniting u) c d within read = union_up u.union.control u.union c d within read

@@ -4,3 +4,5 @@ pub mod Shapes
 pub mod Counting
 pub mod OfRaces
 pub mod Accesses
+pub mod OfUnions
+pub mod Unites

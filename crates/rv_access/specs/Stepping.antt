@@ -14,9 +14,12 @@ use Rattle.rv_retrieval.specs.Stepping.{MayReadIts as RetrievalReads, OnlyTakes 
 use Rattle.rv_race.specs.Given.{turn_scan}
 use Rattle.rv_race.specs.Opened.{MayRead as RaceReads, OnlyTakes as RaceOnly, StepsAs as RaceSteps}
 use Rattle.rv_race.specs.Raced.{rest as race_rest}
+use Rattle.rv_union.specs.Opened.{MayRead as UnionReads, OnlyTakes as UnionOnly, StepsAs as UnionSteps}
+use Rattle.rv_union.specs.Unioned.{rest as union_rest}
 use Rattle.rv_access.specs.declared.access.Access.{Access}
-use Rattle.rv_access.specs.declared.access.Access.TheVariants.{Competing, Racing}
+use Rattle.rv_access.specs.declared.access.Access.TheVariants.{Competing, Racing, Uniting}
 use Rattle.rv_access.specs.declared.racing.RacedQuery.{RacedQuery}
+use Rattle.rv_access.specs.declared.uniting.UnitedQuery.{UnitedQuery}
 use Rattle.rv_access.specs.Accesses.{Alike, Settled, fetches_left, query_of, rest}
 
 -- WHAT A STEP GIVES: it takes one record out of the rest, least in the order columns, or leaves the rest, or the rest is empty
@@ -31,6 +34,12 @@ RacedGivesStep old new shown (Row r) = TakesOut old.query.need r (race_rest old.
 RacedGivesStep old new shown Working = race_rest new.race shown ≡ race_rest old.race shown
 RacedGivesStep old new shown End = (race_rest old.race shown ≡ []) × (race_rest new.race shown ≡ [])
 
+-- the same of a union
+abbrev pub UnitedGivesStep : UnitedQuery → UnitedQuery → Shown → Fg → Type 0
+UnitedGivesStep old new shown (Row r) = TakesOut old.query.need r (union_rest old.union shown) (union_rest new.union shown) × IsLeast old.query.order r (union_rest old.union shown)
+UnitedGivesStep old new shown Working = union_rest new.union shown ≡ union_rest old.union shown
+UnitedGivesStep old new shown End = (union_rest old.union shown ≡ []) × (union_rest new.union shown ≡ [])
+
 -- a step of a race
 pub record RacedSteps (would : ℕ → Facts → Ruling) (state after : ℕ) (shown : Shown) (c d : Counts) (fg : Fg) (old new : RacedQuery) : Type 0 where
   pub scanned : Scanned
@@ -38,23 +47,36 @@ pub record RacedSteps (would : ℕ → Facts → Ruling) (state after : ℕ) (sh
   pub same : new ≡ record old { race = new.race }
   pub steps : RaceSteps would state after shown c d scanned old.race new.race
 
+-- a step of a union
+pub record UnitedSteps (would : ℕ → Facts → Ruling) (state after : ℕ) (shown : Shown) (c d : Counts) (fg : Fg) (old new : UnitedQuery) : Type 0 where
+  pub scanned : Scanned
+  pub answers : fg ≡ fg_of scanned
+  pub same : new ≡ record old { union = new.union }
+  pub steps : UnionSteps would state after shown c d scanned old.union new.union
+
 -- WHAT A STEP DOES AND READS, and that it is then counted
 abbrev pub StepsAs : (ℕ → Facts → Ruling) → ℕ → ℕ → Shown → Counts → Counts → Fg → Access → Access → Type 0
-StepsAs would state after shown c d fg old new = Alike (RetrievalSteps would state after shown c d fg) (RacedSteps would state after shown c d fg) old new
+StepsAs would state after shown c d fg old new = Alike (RetrievalSteps would state after shown c d fg) (RacedSteps would state after shown c d fg) (UnitedSteps would state after shown c d fg) old new
 
 -- what a step may read, whatever it answers
 abbrev pub MayReadIts : Access → Counts → Counts → Type 0
 MayReadIts (Competing v) c d = RetrievalReads v c d
 MayReadIts (Racing r) c d = RaceReads r.race.control r.race c d
+MayReadIts (Uniting u) c d = UnionReads u.union.control u.union c d
 
 -- a race that only took
 pub record RacedOnly (old new : RacedQuery) : Type 0 where
   pub same : new ≡ record old { race = new.race }
   pub only : RaceOnly old.race new.race
 
+-- a union that only took
+pub record UnitedOnly (old new : UnitedQuery) : Type 0 where
+  pub same : new ≡ record old { union = new.union }
+  pub only : UnionOnly old.union new.union
+
 -- WHAT A STEP LEAVES THAT FOUND NO MEMORY: the awaited leaf may have been taken, and keys passed over. No piece is accepted.
 abbrev pub OnlyTakes : Access → Access → Type 0
-OnlyTakes old new = Alike RetrievalOnly RacedOnly old new
+OnlyTakes old new = Alike RetrievalOnly RacedOnly UnitedOnly old new
 
 -- the control, the scans and the events of a race stay
 pub record RacedCourse (old new : RacedQuery) : Type 0 where
@@ -66,9 +88,19 @@ pub record RacedCourse (old new : RacedQuery) : Type 0 where
   pub list : new.race.list ≡ old.race.list
   pub events : new.race.trace.events ≡ old.race.trace.events
 
+-- the control, the members, the keys and the events of a union stay
+pub record UnitedCourse (old new : UnitedQuery) : Type 0 where
+  pub query : new.query ≡ old.query
+  pub control : new.union.control ≡ old.union.control
+  pub plans : new.union.plans ≡ old.union.plans
+  pub member : new.union.member ≡ old.union.member
+  pub lane : new.union.lane ≡ record old.union.lane { held = new.union.lane.held }
+  pub keys : new.union.keys ≡ old.union.keys
+  pub events : new.union.trace.events ≡ old.union.trace.events
+
 -- THE CONTROL, THE SCANS AND THE EVENTS STAY
 abbrev pub SameCourse : Access → Access → Type 0
-SameCourse old new = Alike RetrievalCourse RacedCourse old new
+SameCourse old new = Alike RetrievalCourse RacedCourse UnitedCourse old new
 
 -- WHAT A TAKE DOES WHERE A SHORT INDEX WAS SCANNED AT OPENING: it reads nothing, and what may be fetched stays
 pub record SettledTake (shown : Shown) (c d : Counts) (old new : Access) : Type 0 where

@@ -1,22 +1,24 @@
-ghost use Rattle.std.specs.Prelude.{◌≡◌, ◌+◌, ◌≤◌, true, false, nat_le, IfOk, OnErr, Ok};
+ghost use Rattle.std.specs.Prelude.{◌≡◌, ◌+◌, ◌≤◌, ◌&&◌, true, false, nat_le, IfOk, OnErr, Ok};
 ghost use Rattle.rv_judge.specs.Counting.{reads};
 ghost use Rattle.rv_judge.specs.Runs.{Allowed};
 ghost use Rattle.rv_judge.specs.Tracing.{CountsRise, SameCounts};
 ghost use Rattle.rv_reader.specs.Shown.{Shown};
 ghost use Rattle.rv_choice.specs.Asked.{CanAsk};
 ghost use Rattle.rv_choice.specs.Choice.{IsChosen, candidates_of};
+ghost use Rattle.rv_choice.specs.Members.{AreUnited};
 ghost use Rattle.rv_final.specs.Work.{Tries};
-ghost use Rattle.rv_retrieval.specs.Effort.{FgSpends, GiveSpends, life_of};
+ghost use Rattle.rv_retrieval.specs.Effort.{FgSpends, GiveSpends};
 ghost use Rattle.rv_retrieval.specs.Runs.{indexes_asked};
 ghost use Rattle.rv_retrieval.specs.Short.{OnlyLeaves, has_short};
 ghost use Rattle.rv_access.specs.Accesses.{AccessFits, Awaiting, Keeps, SamePlans, Settled, Tells, control_of, effort, fetches_left, held_of, number_of, query_of, rest, trace_of};
 ghost use Rattle.rv_access.specs.Given.{Answers, CountsPiece, GivesOn, IsOfUndropped, SamePieces, TakesLeaf, TakesPiece, awaited, piece_read};
-ghost use Rattle.rv_access.specs.Opened.{Begins, Competes, IsShort, Opened, Races, is_background_only, is_each, is_race, races, restricted};
+ghost use Rattle.rv_access.specs.Opened.{Begins, Competes, IsShort, Opened, OpenedBy, Races, Unites, is_background_only, is_each, is_race, is_table, is_union, life_of, races, restricted, unites};
 ghost use Rattle.rv_access.specs.Stepping.{GivesStep, MayReadIts, OnlyTakes, SameCourse, SettledTake, StepsAs};
 
 use crate::racing::RacedQuery;
-use rv_choice::{Background, Candidate, Choice, Query, candidates, choose};
-use rv_jscan::{Given, PieceId, Sieved, Taken};
+use crate::uniting::UnitedQuery;
+use rv_choice::{Background, Candidate, Choice, Query, candidates, choose, members};
+use rv_jscan::{Given, PieceId, ScanPlan, Sieved, Taken};
 use rv_judge::{Control, Judge, Steps, Strategy, Trace};
 use rv_reader::Reader;
 use rv_retrieval::{Fg, Retrieval};
@@ -30,6 +32,8 @@ pub enum Access {
     Competing(Retrieval),
     /// Two indexes that race.
     Racing(RacedQuery),
+    /// Members whose keys are put together.
+    Uniting(UnitedQuery),
 }
 
 fn is_background_only(strategy: Strategy) -> bool
@@ -38,6 +42,19 @@ fn is_background_only(strategy: Strategy) -> bool
     match strategy {
         Strategy::BackgroundOnly => true,
         Strategy::Table
+        | Strategy::FastFirst
+        | Strategy::Sorted
+        | Strategy::IndexOnly
+        | Strategy::Union => false,
+    }
+}
+
+fn is_table(strategy: Strategy) -> bool
+    ensures { result ≡ is_table strategy }
+{
+    match strategy {
+        Strategy::Table => true,
+        Strategy::BackgroundOnly
         | Strategy::FastFirst
         | Strategy::Sorted
         | Strategy::IndexOnly
@@ -89,6 +106,13 @@ pub fn races(choice: Choice, candidates: &[Candidate]) -> bool
     is_background_only(choice.strategy) && is_each(choice.background) && has_two(candidates)
 }
 
+/// Whether a race is asked and the scans that were chosen can race.
+fn will_race(race: bool, choice: Choice, candidates: &[Candidate]) -> bool
+    ensures { result ≡ (race && races choice candidates.now) }
+{
+    race && races(choice, candidates)
+}
+
 impl Access {
     /// Opens a retrieval.
     fn open_competing<R: Reader>(
@@ -137,46 +161,71 @@ impl Access {
         Ok(Access::Racing(raced))
     }
 
-    /// Opens a race where indexes can race, else a retrieval.
-    fn open_racing<R: Reader>(
+    /// Opens a union of members where the table would be read. It reads nothing.
+    fn open_united<R: Reader>(
         alloc: Global,
         reader: &R,
         query: Query,
+        candidates: &[Candidate],
+        choice: Choice,
+        members: Vec<ScanPlan>,
         cursor: u64,
         opening: u64,
         steps: &mut Steps<R::Ledger>,
     ) -> Result<Access, NoMemory>
-        requires { CanAsk query (R.shown reader.now) }
-        ensures opened { IfOk result (Opened true query (R.shown reader.now) cursor opening) }
+        requires can { CanAsk query (R.shown reader.now) }
+        requires candidates { candidates.now ≡ candidates_of query (R.shown reader.now) }
+        requires choice { IsChosen query.order query.goal candidates.now choice }
+        requires table { is_table choice.strategy ≡ true }
+        requires members { AreUnited query (R.shown reader.now) members.items }
+        ensures unites { IfOk result (Unites query (R.shown reader.now) cursor opening) }
+        ensures begins { IfOk result (Begins query (R.shown reader.now) steps.old steps.new) }
+        ensures short { has_short query (R.shown reader.now) ≡ false }
+        ensures unread { steps.new ≡ steps.old }
+    {
+        let united = UnitedQuery::open(alloc, reader, query, members, cursor, opening, steps)?;
+        Ok(Access::Uniting(united))
+    }
+
+    /// Opens what was chosen where indexes do not race: a union where the table would be read and a group of the restriction
+    /// has members, else a retrieval.
+    fn open_chosen<R: Reader>(
+        alloc: Global,
+        reader: &R,
+        query: Query,
+        candidates: &[Candidate],
+        choice: Choice,
+        cursor: u64,
+        opening: u64,
+        steps: &mut Steps<R::Ledger>,
+    ) -> Result<Access, NoMemory>
+        requires can { CanAsk query (R.shown reader.now) }
+        requires candidates { candidates.now ≡ candidates_of query (R.shown reader.now) }
+        requires choice { IsChosen query.order query.goal candidates.now choice }
+        ensures opened { IfOk result (OpenedBy false (unites query (R.shown reader.now) choice) query (R.shown reader.now) cursor opening choice) }
         ensures begins { IfOk result (Begins query (R.shown reader.now) steps.old steps.new) }
         ensures reads { reads steps.new ≤ reads steps.old + life_of query (R.shown reader.now) }
         ensures short { has_short query (R.shown reader.now) ≡ true → IfOk result (IsShort (R.shown reader.now)) }
         ensures only { OnlyLeaves steps.old steps.new }
         ensures unread { has_short query (R.shown reader.now) ≡ false → steps.new ≡ steps.old }
     {
-        let candidates = candidates(alloc, reader, &query)?;
-        let choice = choose(candidates.as_slice(), query.order.as_slice(), query.goal);
-        let race = races(choice, candidates.as_slice());
-        if race {
-            Access::open_raced(
-                alloc,
-                reader,
-                query,
-                candidates.as_slice(),
-                choice,
-                cursor,
-                opening,
-                steps,
-            )
-        } else {
-            Access::open_competing(alloc, reader, query, cursor, opening, steps)
+        if !is_table(choice.strategy) {
+            return Access::open_competing(alloc, reader, query, cursor, opening, steps);
+        }
+        match members(alloc, reader, &query)? {
+            Some(members) => Access::open_united(
+                alloc, reader, query, candidates, choice, members, cursor, opening, steps,
+            ),
+            None => Access::open_competing(alloc, reader, query, cursor, opening, steps),
         }
     }
 
     /// Opens an access to the table of a query.
     ///
-    /// Where a race is asked and two or more indexes can race they do. Else it is a retrieval: where a restricted index has
-    /// an exact estimate of at most 20 its leaves are read at once. `cursor` and `opening` go into the ids of its pieces.
+    /// Where a race is asked and two or more indexes can race they do. Where the table would be read and a group of the
+    /// restriction has two branches or more, of which each bounds an index, their keys are put together. Else it is a
+    /// retrieval: where a restricted index has an exact estimate of at most 20 its leaves are read at once. `cursor` and
+    /// `opening` go into the ids of its pieces.
     pub fn open<R: Reader>(
         alloc: Global,
         reader: &R,
@@ -194,10 +243,31 @@ impl Access {
         ensures only { OnlyLeaves steps.old steps.new }
         ensures unread { has_short query (R.shown reader.now) ≡ false → steps.new ≡ steps.old }
     {
-        if race {
-            Access::open_racing(alloc, reader, query, cursor, opening, steps)
+        let candidates = candidates(alloc, reader, &query)?;
+        let choice = choose(candidates.as_slice(), query.order.as_slice(), query.goal);
+        let raced = will_race(race, choice, candidates.as_slice());
+        if raced {
+            Access::open_raced(
+                alloc,
+                reader,
+                query,
+                candidates.as_slice(),
+                choice,
+                cursor,
+                opening,
+                steps,
+            )
         } else {
-            Access::open_competing(alloc, reader, query, cursor, opening, steps)
+            Access::open_chosen(
+                alloc,
+                reader,
+                query,
+                candidates.as_slice(),
+                choice,
+                cursor,
+                opening,
+                steps,
+            )
         }
     }
 }
@@ -210,6 +280,7 @@ impl Access {
         match self {
             Access::Competing(retrieval) => retrieval.control(),
             Access::Racing(raced) => raced.race.control(),
+            Access::Uniting(united) => united.union.control(),
         }
     }
 
@@ -221,6 +292,7 @@ impl Access {
         match self {
             Access::Competing(retrieval) => retrieval.trace(),
             Access::Racing(raced) => raced.race.trace(),
+            Access::Uniting(united) => united.union.trace(),
         }
     }
 
@@ -231,6 +303,7 @@ impl Access {
         match self {
             Access::Competing(retrieval) => retrieval.awaited(),
             Access::Racing(raced) => raced.race.awaited(),
+            Access::Uniting(united) => united.union.awaited(),
         }
     }
 
@@ -241,6 +314,18 @@ impl Access {
         match self {
             Access::Competing(_) => false,
             Access::Racing(_) => true,
+            Access::Uniting(_) => false,
+        }
+    }
+
+    /// Whether members are put together.
+    pub fn is_union(&self) -> bool
+        ensures { result ≡ is_union self.now }
+    {
+        match self {
+            Access::Competing(_) => false,
+            Access::Racing(_) => false,
+            Access::Uniting(_) => true,
         }
     }
 
@@ -282,6 +367,7 @@ impl Access {
         match self {
             Access::Competing(retrieval) => retrieval.fg_step(reader, judge, steps),
             Access::Racing(raced) => raced.fg_step(reader, judge, steps),
+            Access::Uniting(united) => united.fg_step(reader, judge, steps),
         }
     }
 
@@ -312,6 +398,7 @@ impl Access {
         match self {
             Access::Competing(retrieval) => retrieval.take(reader, steps),
             Access::Racing(raced) => raced.take(reader, steps),
+            Access::Uniting(united) => united.take(reader, steps),
         }
     }
 
@@ -343,6 +430,7 @@ impl Access {
         match self {
             Access::Competing(retrieval) => retrieval.give(sieved, judge, steps),
             Access::Racing(raced) => raced.give(sieved, judge, steps),
+            Access::Uniting(united) => united.give(sieved, judge, steps),
         }
     }
 }

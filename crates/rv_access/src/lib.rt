@@ -1,9 +1,11 @@
-//! Access to one table for a cursor: a retrieval whose foreground and background compete, or two indexes that race. What
-//! stands above speaks of an access by words that are common to both.
+//! Access to one table for a cursor: a retrieval whose foreground and background compete, two indexes that race, or
+//! members whose keys are put together. What stands above speaks of an access by words that are common to both.
 #![tactic(auto)]
 
 mod access;
 mod racing;
+mod uniting;
 
 pub use access::{Access, races};
 pub use racing::RacedQuery;
+pub use uniting::UnitedQuery;

@@ -35,7 +35,7 @@ pub struct RacedQuery {
     pub race: Race,
 }
 
-fn answer(scanned: Scanned) -> Fg
+pub(crate) fn answer(scanned: Scanned) -> Fg
     ensures { result ≡ fg_of scanned }
 {
     match scanned {

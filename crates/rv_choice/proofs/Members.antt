@@ -1,9 +1,9 @@
 -- The members of a union: which branches have one, and which group serves first.
-use Rattle.std.proofs.Common.{◌≡◌, ℕ, zero, suc, ◌+◌, ◌<◌, ◌≤◌, List, [], ◌∷◌, ◌++◌, length, Bool, true, false, ◌&&◌, ◌||◌, nat_le, nat_lt, refl, ap, sym, ◌∙◌, arith, subst, append_assoc, append-nil, Option, Some, None}
+use Rattle.std.proofs.Common.{◌≡◌, ℕ, zero, suc, ◌+◌, ◌<◌, ◌≤◌, List, [], ◌∷◌, ◌++◌, length, map, Bool, true, false, ◌&&◌, ◌||◌, nat_le, nat_lt, refl, ap, sym, ◌∙◌, arith, subst, append_assoc, append-nil, Option, Some, None}
 use Rattle.std.specs.Prelude.{Vec}
 use Rattle.std.proofs.lemmas.Bool.Decides.{nat_tests}
 use Rattle.std.proofs.lemmas.List.{length-map}
-use Rattle.std.specs.List.{list_all, list_any, slice_index_or}
+use Rattle.std.specs.List.{AllByRecursion, list_all, list_any, slice_index_or}
 use Rattle.rv_restrict.specs.declared.atom.Atom.{Atom}
 use Rattle.rv_restrict.specs.Branches.{branches_of, group_at}
 use Rattle.rv_restrict.specs.Groups.{groups_of}
@@ -12,9 +12,11 @@ use Rattle.rv_jscan.specs.declared.jscan.ScanPlan.{ScanPlan}
 use Rattle.rv_choice.specs.declared.query.Query.{Query}
 use Rattle.rv_choice.specs.declared.choosing.Candidate.{Candidate}
 use Rattle.rv_choice.specs.declared.choosing.Role.TheVariants.{Restricted}
-use Rattle.rv_choice.specs.Choice.{FirstLeast, IsLeastOf, NonePlays, candidate_at, plan_of}
+use Rattle.rv_choice.specs.Asked.{CanAsk, IsIndexOf, IsPlanned, with_only}
+use Rattle.rv_choice.specs.Choice.{FirstLeast, IsLeastOf, NonePlays, candidate_at, candidate_of, candidates_of, no_candidate, plan_of}
 use Rattle.rv_choice.specs.Members.{AddsMembers, AreMembers, AreUnited, IsMember, NoneServes, PutsMembers, is_bounded, seen_by, serves, some_restricted, some_serves}
-use Rattle.rv_choice.proofs.Choices.{either_below}
+use Rattle.rv_choice.proofs.Choices.{IsCandidate, all_at, are_candidates, either_below}
+use Rattle.rv_choice.proofs.Suited.{index_of_any}
 
 left_any : (a b : Bool) → a ≡ true → (a || b) ≡ true
 left_any a b h = grind arith
@@ -59,6 +61,28 @@ is_member query shown branch cs at plan e l p = record {
 
 pub bounded : (query : Query) (shown : Shown) (branch : List (List Atom)) (plan : ScanPlan) → IsMember query shown branch plan → is_bounded query shown branch ≡ true
 bounded query shown branch plan m = some_plays (seen_by query shown branch) m.at m.least.below m.least.is
+
+-- THE SCAN OF A MEMBER
+
+indexes_of_any : (query : Query) (shown : Shown) (only : List (List Atom)) (is : List (ℕ × List ℕ)) → AllByRecursion (λ (i : ℕ × List ℕ). IsIndexOf query shown i.0 i.1) is → AllByRecursion (λ (i : ℕ × List ℕ). IsIndexOf (with_only only query) shown i.0 i.1) is
+indexes_of_any query shown only [] all = tt
+indexes_of_any query shown only (i ∷ is) all = (index_of_any query shown i.0 i.1 only all.0, indexes_of_any query shown only is all.1)
+
+-- a member is a scan of an index in the range and with the part that its branch has for it
+pub member_planned : (query : Query) (shown : Shown) (branch : List (List Atom)) (plan : ScanPlan) → CanAsk query shown → IsMember query shown branch plan → IsPlanned (with_only branch query) shown plan
+member_planned query shown branch plan can m =
+    let all = are_candidates (with_only branch query) shown query.indexes (indexes_of_any query shown branch query.indexes can.indexes) in
+    let is = all_at (IsCandidate (with_only branch query) shown) (seen_by query shown branch) m.at no_candidate all m.least.below in
+    subst (IsPlanned (with_only branch query) shown) (sym m.is) (record { columns = (candidate_at (seen_by query shown branch) m.at).columns; index = is.index_of; range = is.its_range; part = refl })
+
+-- a property of each of the query's indexes is one of the index of each candidate
+pub candidate_has : (P : ℕ → Type 0) (query : Query) (shown : Shown) (is : List (ℕ × List ℕ)) (at : ℕ) → at < length (map (candidate_of query shown) is) → AllByRecursion (λ (i : ℕ × List ℕ). P i.0) is → P (candidate_at (map (candidate_of query shown) is) at).index
+candidate_has P query shown [] at l all = absurd (omega arith)
+candidate_has P query shown (i ∷ is) zero l all = all.0
+candidate_has P query shown (i ∷ is) (suc at) l all = candidate_has P query shown is at (omega arith) all.1
+
+pub member_has : (P : ℕ → Type 0) (query : Query) (shown : Shown) (branch : List (List Atom)) (plan : ScanPlan) → IsMember query shown branch plan → AllByRecursion (λ (i : ℕ × List ℕ). P i.0) query.indexes → P plan.index
+member_has P query shown branch plan m all = subst (λ (p : ScanPlan). P p.index) (sym m.is) (candidate_has P (with_only branch query) shown query.indexes m.at m.least.below all)
 
 -- THE MEMBERS OF A GROUP
 
@@ -121,6 +145,15 @@ none_of query shown (group ∷ groups) n = neither (serves query shown group) (l
 -- no group serves
 pub none_serves : (query : Query) (shown : Shown) (k : ℕ) → k ≡ length query.only → NoneServes query shown k → some_serves query shown ≡ false
 none_serves query shown k e n = none_of query shown query.only (λ i l. n.none i (subst (λ (x : ℕ). i < x) (sym e) l))
+
+-- a group that serves is one that does
+pub some_serve : (query : Query) (shown : Shown) (plans : List ScanPlan) → AreUnited query shown plans → some_serves query shown ≡ true
+some_serve query shown plans u = one_of query.only u.group u.there u.suits
+  where
+    one_of : (groups : List (List Atom)) (i : ℕ) → i < length groups → serves query shown (group_at groups i) ≡ true → list_any (serves query shown) groups ≡ true
+    one_of [] i l s = absurd (omega arith)
+    one_of (group ∷ groups) zero l s = left_any (serves query shown group) (list_any (serves query shown) groups) s
+    one_of (group ∷ groups) (suc i) l s = right_any (serves query shown group) (list_any (serves query shown) groups) (one_of groups i (omega arith) s)
 
 -- as many groups as a restriction has
 pub long_as : {A : Type 0} (groups : List (Vec Atom A)) (only : List (List Atom)) → groups_of groups ≡ only → length groups ≡ length only

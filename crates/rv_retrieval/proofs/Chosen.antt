@@ -51,7 +51,7 @@ use Rattle.rv_retrieval.proofs.Planning.{is_true_true, planned_apart, planned_me
 
 -- The background's scans.
 
-plan_makes : (query : Query) (shown : Shown) (plan : ScanPlan) → IsPlanned query shown plan → CanMake plan shown query.snap
+pub plan_makes : (query : Query) (shown : Shown) (plan : ScanPlan) → IsPlanned query shown plan → CanMake plan shown query.snap
 plan_makes query shown plan p = record {
   can = p.index.can;
   suits = range_suits query shown plan.index p.columns plan.range p.index p.range;

@@ -1,4 +1,4 @@
-use Rattle.rv_access.proofs.Accesses.{none_fewer, race_gives, retrieval_gives}
+use Rattle.rv_access.proofs.Accesses.{none_fewer, race_gives, retrieval_gives, union_gives}
 use Rattle.rv_access.proofs.access.Access.fg_step.Goals as goal
 
 pub returns-in-Competing-clause-step : goal.returns-in-Competing-clause-step
@@ -18,3 +18,18 @@ returns-in-Racing-clause-pages g c = rw c.in-Racing.is (λ s. absurd s)
 
 pub returns-in-Racing-clause-records : goal.returns-in-Racing-clause-records
 returns-in-Racing-clause-records g c = rw c.in-Racing.is (λ s. absurd s)
+
+pub returns-in-Uniting-clause-step : goal.returns-in-Uniting-clause-step
+returns-in-Uniting-clause-step g c = rw c.in-Uniting.is (union_gives c.fg_step-in-Uniting.result c.in-Uniting.united c.fg_step-in-Uniting.new.self (g.R.Reader.shown c.args.reader.now) c.fg_step-in-Uniting.ensures.step)
+
+pub returns-in-Uniting-clause-fewer : goal.returns-in-Uniting-clause-fewer
+returns-in-Uniting-clause-fewer g c = rw c.in-Uniting.is (none_fewer c.fg_step-in-Uniting.result)
+
+pub returns-in-Uniting-clause-unasked : goal.returns-in-Uniting-clause-unasked
+returns-in-Uniting-clause-unasked g c = rw c.in-Uniting.is (λ s. absurd s)
+
+pub returns-in-Uniting-clause-pages : goal.returns-in-Uniting-clause-pages
+returns-in-Uniting-clause-pages g c = rw c.in-Uniting.is (λ s. absurd s)
+
+pub returns-in-Uniting-clause-records : goal.returns-in-Uniting-clause-records
+returns-in-Uniting-clause-records g c = rw c.in-Uniting.is (λ s. absurd s)

@@ -1,7 +1,8 @@
 use Rattle.std.proofs.Common.{ap}
 use Rattle.rv_access.specs.declared.access.Access.TheVariants.{Competing}
-use Rattle.rv_access.proofs.Accesses.{race_answers, raced_number, raced_plans, retrieval_answers, retrieval_keeps, retrieval_number, retrieval_plans, same_race, same_retrieval}
+use Rattle.rv_access.proofs.Accesses.{race_answers, raced_number, raced_plans, retrieval_answers, retrieval_keeps, retrieval_number, retrieval_plans, same_race, same_retrieval, same_union, union_answers, united_number, united_plans}
 use Rattle.rv_access.proofs.OfRaces.{gives_spends, raced_keeps}
+use Rattle.rv_access.proofs.OfUnions.{gives_spends as union_spends, united_keeps}
 use Rattle.rv_access.proofs.access.Access.give.Goals as goal
 
 pub returns-in-Competing-clause-given : goal.returns-in-Competing-clause-given
@@ -42,3 +43,24 @@ returns-in-Competing-clause-settled g c = rw c.in-Competing.is (λ s. (ap Compet
 
 pub returns-in-Racing-clause-settled : goal.returns-in-Racing-clause-settled
 returns-in-Racing-clause-settled g c = rw c.in-Racing.is (λ s. absurd s)
+
+pub returns-in-Uniting-clause-given : goal.returns-in-Uniting-clause-given
+returns-in-Uniting-clause-given g c = rw c.in-Uniting.is (union_answers c.give-in-Uniting.result _ _ c.args.sieved c.give-in-Uniting.ensures.same c.give-in-Uniting.ensures.given)
+
+pub returns-in-Uniting-clause-number : goal.returns-in-Uniting-clause-number
+returns-in-Uniting-clause-number g c = rw c.in-Uniting.is (united_number c.give-in-Uniting.result _ _ _ c.args.sieved _ _ c.give-in-Uniting.ensures.obeys)
+
+pub returns-in-Uniting-clause-plans : goal.returns-in-Uniting-clause-plans
+returns-in-Uniting-clause-plans g c = rw c.in-Uniting.is (united_plans c.give-in-Uniting.result _ _ _ c.args.sieved _ _ c.give-in-Uniting.ensures.obeys c.give-in-Uniting.ensures.err)
+
+pub returns-in-Uniting-clause-err : goal.returns-in-Uniting-clause-err
+returns-in-Uniting-clause-err g c = rw c.in-Uniting.is (same_union c.give-in-Uniting.result _ _ c.give-in-Uniting.ensures.err)
+
+pub returns-in-Uniting-clause-keeps : goal.returns-in-Uniting-clause-keeps
+returns-in-Uniting-clause-keeps g c = rw c.in-Uniting.is (united_keeps _ _ c.give-in-Uniting.ensures.same c.give-in-Uniting.ensures.fits c.give-in-Uniting.ensures.rest)
+
+pub returns-in-Uniting-clause-spends : goal.returns-in-Uniting-clause-spends
+returns-in-Uniting-clause-spends g c = rw c.in-Uniting.is (λ shown f. union_spends c.give-in-Uniting.result _ _ (c.give-in-Uniting.ensures.spends shown f))
+
+pub returns-in-Uniting-clause-settled : goal.returns-in-Uniting-clause-settled
+returns-in-Uniting-clause-settled g c = rw c.in-Uniting.is (λ s. absurd s)

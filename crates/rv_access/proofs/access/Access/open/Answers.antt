@@ -1,5 +1,18 @@
-use Rattle.rv_access.proofs.Chosen.{unasked}
+use Rattle.std.proofs.Common.{◌∙◌, sym}
+use Rattle.rv_access.proofs.Chosen.{can_race_so, chosen_for, raced, unraced}
 use Rattle.rv_access.proofs.access.Access.open.Goals as goal
 
-pub returns-else-race-clause-opened : goal.returns-else-race-clause-opened
-returns-else-race-clause-opened g c = rw c.if-race.false (unasked c.open_competing.result c.args.query (g.R.Reader.shown c.args.reader.now) c.args.cursor c.args.opening c.open_competing.ensures.competes)
+pub open_raced-requires-clause-choice : goal.open_raced-requires-clause-choice
+open_raced-requires-clause-choice g c = chosen_for c.args.query c.choose-choice.result c.as_slice-2.result.now c.as_slice.result.now c.as_slice-2.ensures c.choose-choice.ensures
+
+pub open_raced-requires-clause-races : goal.open_raced-requires-clause-races
+open_raced-requires-clause-races g c = can_race_so c.args.race c.choose-choice.result c.as_slice.result.now (sym c.will_race-raced.ensures ∙ c.if-raced.true)
+
+pub open_chosen-requires-clause-choice : goal.open_chosen-requires-clause-choice
+open_chosen-requires-clause-choice g c = chosen_for c.args.query c.choose-choice.result c.as_slice-2.result.now c.as_slice.result.now c.as_slice-2.ensures c.choose-choice.ensures
+
+pub returns-then-raced-clause-opened : goal.returns-then-raced-clause-opened
+returns-then-raced-clause-opened g c = raced c.open_raced.result c.args.race c.args.query (g.R.Reader.shown c.args.reader.now) c.args.cursor c.args.opening c.choose-choice.result c.as_slice-2.result.now c.as_slice.result.now c.as_slice-2.ensures (c.as_slice.ensures.value ∙ c.in_ok-candidates.ensures.are) c.choose-choice.ensures (sym c.will_race-raced.ensures ∙ c.if-raced.true) c.open_raced.ensures.races
+
+pub returns-else-raced-clause-opened : goal.returns-else-raced-clause-opened
+returns-else-raced-clause-opened g c = unraced c.open_chosen.result c.args.race c.args.query (g.R.Reader.shown c.args.reader.now) c.args.cursor c.args.opening c.choose-choice.result c.as_slice-2.result.now c.as_slice.result.now c.as_slice-2.ensures (c.as_slice.ensures.value ∙ c.in_ok-candidates.ensures.are) c.choose-choice.ensures (sym c.will_race-raced.ensures ∙ c.if-raced.false) c.open_chosen.ensures.opened

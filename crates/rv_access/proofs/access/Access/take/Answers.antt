@@ -1,5 +1,6 @@
-use Rattle.rv_access.proofs.Accesses.{race_takes, race_undropped, retrieval_takes, retrieval_undropped, settled_take}
+use Rattle.rv_access.proofs.Accesses.{race_takes, race_undropped, retrieval_takes, retrieval_undropped, settled_take, union_takes, union_undropped}
 use Rattle.rv_access.proofs.OfRaces.{leaf_pieces, leaf_plans, leaf_query}
+use Rattle.rv_access.proofs.OfUnions.{leaf_pieces as union_pieces, leaf_plans as union_plans, leaf_query as union_query}
 use Rattle.rv_access.proofs.Shapes.{take_plans, take_same}
 use Rattle.rv_access.proofs.access.Access.take.Goals as goal
 
@@ -38,3 +39,21 @@ returns-in-Competing-clause-settled g c = rw c.in-Competing.is (λ s. settled_ta
 
 pub returns-in-Racing-clause-settled : goal.returns-in-Racing-clause-settled
 returns-in-Racing-clause-settled g c = rw c.in-Racing.is (λ s. absurd s)
+
+pub returns-in-Uniting-clause-taken : goal.returns-in-Uniting-clause-taken
+returns-in-Uniting-clause-taken g c = union_takes c.take-in-Uniting.result c.take-in-Uniting.new.self c.take-in-Uniting.ensures.taken
+
+pub returns-in-Uniting-clause-query : goal.returns-in-Uniting-clause-query
+returns-in-Uniting-clause-query g c = rw c.in-Uniting.is (union_query _ _ c.take-in-Uniting.ensures.leaves)
+
+pub returns-in-Uniting-clause-plans : goal.returns-in-Uniting-clause-plans
+returns-in-Uniting-clause-plans g c = rw c.in-Uniting.is (union_plans _ _ c.take-in-Uniting.ensures.leaves)
+
+pub returns-in-Uniting-clause-pieces : goal.returns-in-Uniting-clause-pieces
+returns-in-Uniting-clause-pieces g c = rw c.in-Uniting.is (union_pieces _ _ c.take-in-Uniting.ensures.leaves c.take-in-Uniting.ensures.awaits)
+
+pub returns-in-Uniting-clause-undropped : goal.returns-in-Uniting-clause-undropped
+returns-in-Uniting-clause-undropped g c = rw c.in-Uniting.is (λ t. union_undropped c.take-in-Uniting.result c.take-in-Uniting.new.self (c.take-in-Uniting.ensures.undropped t))
+
+pub returns-in-Uniting-clause-settled : goal.returns-in-Uniting-clause-settled
+returns-in-Uniting-clause-settled g c = rw c.in-Uniting.is (λ s. absurd s)

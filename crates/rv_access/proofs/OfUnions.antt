@@ -1,0 +1,195 @@
+-- What the calls of a union leave, in the words of accesses.
+use Rattle.std.proofs.Common.{Result, Ok, Err, IfOk, OnErr, ◌≡◌, ℕ, ◌≤◌, Bool, true, false, List, [], Option, Some, None, refl, ap, sym, ◌∙◌, arith, subst}
+use Rattle.std.specs.List.{list_all}
+use Rattle.rv_value.specs.declared.record.IndexEntry.{IndexEntry}
+use Rattle.rv_judge.specs.declared.counting.Counts.{Counts}
+use Rattle.rv_judge.specs.declared.events.Control.{Control}
+use Rattle.rv_judge.specs.declared.events.Control.TheVariants.{Building, ForegroundAlone, BackgroundAlone, FinalList, FinalTable, Done}
+use Rattle.rv_judge.specs.declared.judging.Facts.{Facts}
+use Rattle.rv_judge.specs.declared.judging.Verdict.{Verdict}
+use Rattle.rv_judge.specs.declared.judging.Verdict.TheVariants.{Continue, AbandonScan, AbandonForeground, AbandonBackground}
+use Rattle.rv_judge.specs.Counting.{one_more}
+use Rattle.rv_judge.specs.Runs.{has_index}
+use Rattle.rv_judge.specs.Verdicts.{Ruling}
+use Rattle.rv_reader.specs.Shown.{Shown}
+use Rattle.rv_scan.specs.declared.skip.Scanned.{Scanned}
+use Rattle.rv_scan.specs.declared.skip.Scanned.TheVariants.{Found, Working, End}
+use Rattle.rv_jscan.specs.declared.piece.PieceId.{PieceId}
+use Rattle.rv_jscan.specs.declared.jscan.Given.{Given}
+use Rattle.rv_jscan.specs.declared.jscan.Given.TheVariants.{Accepted, Stale}
+use Rattle.rv_jscan.specs.Pieces.{Pieced}
+use Rattle.rv_jscan.specs.Steps.{held_next}
+use Rattle.rv_choice.specs.declared.query.Query.{Query}
+use Rattle.rv_final.proofs.Marks.{unordered}
+use Rattle.rv_retrieval.specs.declared.steps.Fg.{Fg}
+use Rattle.rv_retrieval.specs.Effort.{FgSpends, GiveSpends as RetrievalSpends}
+use Rattle.rv_retrieval.specs.Opens.{fg_of}
+use Rattle.rv_retrieval.specs.Runs.{indexes_asked}
+use Rattle.rv_union.specs.Effort.{GiveSpends, Spends}
+use Rattle.rv_union.specs.Given.{Awaits, awaited, piece_read}
+use Rattle.rv_union.specs.Opened.{DoesAs, DoesStep, OnlyTakes, ended_by}
+use Rattle.rv_union.specs.Rulings.{GivesOn, Obeys, accepted, joined, next_member, over, ruled}
+use Rattle.rv_union.specs.Runs.{Tells, indexes_of}
+use Rattle.rv_union.specs.Unioned.{SameUnion, UnionFits, Unioned, rest, scanning}
+use Rattle.rv_union.proofs.Switches.{over_as, told_parts}
+use Rattle.rv_access.specs.declared.access.Access.TheVariants.{Uniting}
+use Rattle.rv_access.specs.declared.uniting.UnitedQuery.{UnitedQuery}
+use Rattle.rv_access.specs.Accesses.{Keeps, SamePlans, UnitedFits, UnitedTells, UnitesOver}
+use Rattle.rv_access.specs.Given.{CountsPiece, SamePieces, UnitedGives, UnitedLeaf}
+use Rattle.rv_access.specs.Stepping.{UnitedCourse, UnitedGivesStep, UnitedSteps}
+
+-- WHAT IT IS OVER STAYS
+
+pub over_on : (q : Query) (old new : Unioned) → SameUnion old new → UnitesOver q old → UnitesOver q new
+over_on q old new same over = record { table = same.table ∙ over.table; snap = same.snap ∙ over.snap; only = same.only ∙ over.only; order = over.order }
+
+pub fits_on : (old : UnitedQuery) (new : Unioned) (shown : Shown) → SameUnion old.union new → UnitedFits old shown → UnionFits new shown → UnitedFits (record old { union = new }) shown
+fits_on old new shown same fits union = record { over = over_on old.query old.union new same fits.over; union = union }
+
+pub tells_on : (old : UnitedQuery) (new : Unioned) → SameUnion old.union new → (Tells old.union → Tells new) → UnitedTells old → UnitedTells (record old { union = new })
+tells_on old new same tells t = record {
+  tells = tells t.tells;
+  known = subst (λ (x : _). list_all (λ i. has_index i (indexes_asked old.query)) (indexes_of x) ≡ true) (sym same.plans) t.known;
+}
+
+-- WHAT AN ACCEPTED PIECE LEAVES
+
+-- what stays where a member ends and where a judge rules
+record Turns (old new : Unioned) : Type 0 where
+  plans : new.plans ≡ old.plans
+  number : new.number ≡ old.number
+
+over_turns : (old u : Unioned) → Turns old u → Turns old (over u)
+over_turns old u t = over_as (Turns old) u (λ l. subst (Turns old) (sym (told_parts (next_member u))) (record { plans = t.plans; number = t.number })) (λ l. record { plans = t.plans; number = t.number })
+
+ruled_turns : (verdict : Verdict) (u : Unioned) → Turns u (ruled verdict u)
+ruled_turns Continue u = record { plans = refl; number = refl }
+ruled_turns AbandonScan u = record { plans = refl; number = refl }
+ruled_turns AbandonForeground u = record { plans = refl; number = refl }
+ruled_turns AbandonBackground u = record { plans = refl; number = refl }
+
+obeyed_turns : (would : ℕ → Facts → Ruling) (state after : ℕ) (piece : Pieced) (next : Option IndexEntry) (old new : Unioned) → Obeys would state after piece next old new → (new.plans ≡ old.plans) × (new.number ≡ one_more old.number)
+obeyed_turns would state after piece (Some cut) old new o =
+    let t = subst (Turns (accepted piece false old)) (sym o.0) (ruled_turns _ (accepted piece false old)) in
+    (t.plans, t.number)
+obeyed_turns would state after piece None old new o =
+    let t = subst (Turns (accepted piece true old)) (sym o.0.ends) (over_turns (accepted piece true old) (joined o.0.keys (accepted piece true old)) (record { plans = refl; number = refl })) in
+    (t.plans, t.number)
+
+-- A STEP
+
+gives_as : (old : UnitedQuery) (new : Unioned) (shown : Shown) (s : Scanned) → old.query.order ≡ [] → DoesStep old.union new shown s → UnitedGivesStep old (record old { union = new }) shown (fg_of s)
+gives_as old new shown (Found r) o does = ((does old.query.need).0, unordered old.query.order r (rest old.union shown) o)
+gives_as old new shown Working o does = does old.query.need
+gives_as old new shown End o does = does old.query.need
+
+pub gives_step : (old : UnitedQuery) (new : Unioned) (shown : Shown) (s : Scanned) (fg : Fg) → old.query.order ≡ [] → DoesStep old.union new shown s → fg ≡ fg_of s → UnitedGivesStep old (record old { union = new }) shown fg
+gives_step old new shown s fg o does e = subst (UnitedGivesStep old (record old { union = new }) shown) (sym e) (gives_as old new shown s o does)
+
+pub fg_spends : (s : Scanned) (fg : Fg) (c d : Counts) (old new : ℕ) → new ≤ old → Spends s c d old new → fg ≡ fg_of s → FgSpends fg c d old new
+fg_spends s fg c d old new less spends e = subst (λ (x : Fg). FgSpends x c d old new) (sym e) (by s spends)
+  where
+    by : (s : Scanned) → Spends s c d old new → FgSpends (fg_of s) c d old new
+    by (Found r) spends = spends
+    by Working spends = spends
+    by End spends = (spends, less)
+
+-- the plans stay
+ended_plans : (s : Scanned) (old u : Unioned) → u.plans ≡ old.plans → (ended_by s u).plans ≡ old.plans
+ended_plans (Found x) old u e = e
+ended_plans Working old u e = e
+ended_plans End old u e = e
+
+does_plans : (now : Control) (would : ℕ → Facts → Ruling) (state after : ℕ) (shown : Shown) (c d : Counts) (s : Scanned) (old new : Unioned) → DoesAs now would state after shown c d s old new → new.plans ≡ old.plans
+does_plans Building would state after shown c d s old new does = absurd does
+does_plans ForegroundAlone would state after shown c d s old new does = absurd does
+does_plans BackgroundAlone would state after shown c d s old new does =
+    let one = does.1 in
+    (obeyed_turns would state after one.piece (held_next one.taken.lane.held) one.taken new one.obeys).0 ∙ ap (λ (u : Unioned). u.plans) one.leaves.same
+does_plans FinalList would state after shown c d s old new does = ap (λ (u : Unioned). u.plans) does.2 ∙ ended_plans s old (record old { at = new.at }) refl
+does_plans FinalTable would state after shown c d s old new does = ap (λ (u : Unioned). u.plans) does.2 ∙ ended_plans s old (record old { last = new.last }) refl
+does_plans Done would state after shown c d s old new does = ap (λ (u : Unioned). u.plans) does.3
+
+pub steps_plans : (would : ℕ → Facts → Ruling) (state after : ℕ) (shown : Shown) (c d : Counts) (fg : Fg) (old new : UnitedQuery) → UnitedSteps would state after shown c d fg old new → SamePlans (Uniting old) (Uniting new)
+steps_plans would state after shown c d fg old new steps = record {
+  query = ap (λ (u : UnitedQuery). u.query) steps.same;
+  strategy = refl;
+  plans = ap (λ (u : Unioned). u.plans) steps.steps.counts ∙ does_plans old.union.control would state after shown c d steps.scanned old.union steps.steps.stepped steps.steps.does;
+}
+
+-- where it only took, the control, the members, the keys and the events stay
+pub only_course : (old : UnitedQuery) (new : Unioned) → OnlyTakes old.union new → UnitedCourse old (record old { union = new })
+only_course old new only = record {
+  query = refl;
+  control = ap (λ (u : Unioned). u.control) only.same;
+  plans = ap (λ (u : Unioned). u.plans) only.same;
+  member = ap (λ (u : Unioned). u.member) only.same;
+  lane = ap (λ (u : Unioned). u.lane) only.same;
+  keys = ap (λ (u : Unioned). u.keys) only.same;
+  events = only.events;
+}
+
+-- A TAKE
+
+pub leaf_plans : (old new : UnitedQuery) → UnitedLeaf old new → SamePlans (Uniting old) (Uniting new)
+leaf_plans old new leaf = record {
+  query = ap (λ (u : UnitedQuery). u.query) leaf.same;
+  strategy = refl;
+  plans = ap (λ (u : Unioned). u.plans) leaf.leaves.same;
+}
+
+pub leaf_query : (old new : UnitedQuery) → UnitedLeaf old new → new.query ≡ old.query
+leaf_query old new leaf = ap (λ (u : UnitedQuery). u.query) leaf.same
+
+pub leaf_pieces : (old new : UnitedQuery) → UnitedLeaf old new → awaited new.union ≡ awaited old.union → SamePieces (Uniting old) (Uniting new)
+leaf_pieces old new leaf same = record { awaited = same; number = ap (λ (u : Unioned). u.number) leaf.leaves.same }
+
+-- A GIVE
+
+pub given_number : (would : ℕ → Facts → Ruling) (state after : ℕ) (piece : Pieced) (g : Given) (old new : UnitedQuery) → UnitedGives would state after piece g old new → CountsPiece g old.union.number new.union.number
+given_number would state after piece Accepted old new gives = (obeyed_turns would state after piece (held_next old.union.lane.held) old.union new.union gives.gives).1
+given_number would state after piece (Stale asked now) old new gives = ap (λ (u : Unioned). u.number) gives.gives.0
+
+pub given_plans : (would : ℕ → Facts → Ruling) (state after : ℕ) (piece : Pieced) (g : Given) (old new : UnitedQuery) → UnitedGives would state after piece g old new → SamePlans (Uniting old) (Uniting new)
+given_plans would state after piece Accepted old new gives = record {
+  query = ap (λ (u : UnitedQuery). u.query) gives.same;
+  strategy = refl;
+  plans = (obeyed_turns would state after piece (held_next old.union.lane.held) old.union new.union gives.gives).0;
+}
+given_plans would state after piece (Stale asked now) old new gives = record {
+  query = ap (λ (u : UnitedQuery). u.query) gives.same;
+  strategy = refl;
+  plans = ap (λ (u : Unioned). u.plans) gives.gives.0;
+}
+
+-- the awaited piece has the awaited id
+pub piece_awaited : (u : Unioned) (piece : Pieced) → Awaits u piece → awaited u ≡ Some piece.id
+piece_awaited u piece awaits = rw awaits.under_way (ap (λ (id : PieceId). Some id) (sym awaits.own.named))
+
+-- nothing is awaited where no member is scanned
+pub none_awaited : (u : Unioned) → scanning u.control ≡ false → awaited u ≡ None
+none_awaited u e = rw e refl
+
+pub none_read : (u : Unioned) (c : Counts) → awaited u ≡ None → c ≡ piece_read u c
+none_read u c none = by (scanning u.control) refl
+  where
+    by : (b : Bool) → scanning u.control ≡ b → c ≡ piece_read u c
+    by true e = absurd (let some = rw e at none in cc)
+    by false e = rw e refl
+
+-- a give, whatever it answers
+pub gives_as_united : {E : Type 0} (r : Result Given E) (would : ℕ → Facts → Ruling) (state after : ℕ) (piece : Pieced) (old : UnitedQuery) (new : Unioned) → IfOk r (λ g. GivesOn would state after piece g old.union new) → IfOk r (λ g. UnitedGives would state after piece g old (record old { union = new }))
+gives_as_united (Ok g) would state after piece old new gives = record { same = refl; gives = gives }
+gives_as_united (Err x) would state after piece old new gives = tt
+
+pub same_if : {X E : Type 0} (r : Result X E) (old : UnitedQuery) (new : Unioned) → OnErr r (new ≡ old.union) → OnErr r (record old { union = new } ≡ old)
+same_if (Ok x) old new e = tt
+same_if (Err x) old new e = ap (λ (union : Unioned). record old { union = union }) e
+
+pub united_keeps : (old new : UnitedQuery) → new ≡ record old { union = new.union } → ((shown : Shown) → UnitedFits old shown → UnitedFits new shown) → ((shown : Shown) → UnitedFits old shown → rest new.union shown ≡ rest old.union shown) → Keeps (Uniting old) (Uniting new)
+united_keeps old new same fits left = record { query = ap (λ (u : UnitedQuery). u.query) same; fits = fits; rest = left }
+
+pub gives_spends : {E : Type 0} (r : Result Given E) (old new : ℕ) → IfOk r (λ g. GiveSpends g old new) → IfOk r (λ g. RetrievalSpends g old new)
+gives_spends (Ok Accepted) old new spends = spends
+gives_spends (Ok (Stale asked now)) old new spends = spends
+gives_spends (Err x) old new spends = tt

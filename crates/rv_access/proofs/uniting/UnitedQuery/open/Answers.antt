@@ -1,0 +1,14 @@
+use Rattle.rv_access.proofs.Unites.{begins_union, can_unite, members_some, opened_counts}
+use Rattle.rv_access.proofs.uniting.UnitedQuery.open.Goals as goal
+
+pub open-requires-clause-can : goal.open-requires-clause-can
+open-requires-clause-can g c = can_unite c.args.query (g.R.Reader.shown c.args.reader.now) c.args.members.items c.in_ok-only.only c.in_ok-only.ensures c.requires.can c.requires.members
+
+pub open-requires-clause-some : goal.open-requires-clause-some
+open-requires-clause-some g c = members_some c.args.query (g.R.Reader.shown c.args.reader.now) c.args.members.items c.requires.members
+
+pub returns-clause-begins : goal.returns-clause-begins
+returns-clause-begins g c = begins_union c.args.query (g.R.Reader.shown c.args.reader.now) c.args.members.items c.in_ok-only.only c.args.cursor c.args.opening c.in_ok-union.union c.in_ok-only.ensures c.requires.order c.requires.members c.in_ok-union.ensures.opened c.in_ok-union.ensures.fits c.in_ok-union.ensures.rest c.in_ok-union.ensures.tells c.in_ok-union.ensures.life
+
+pub returns-clause-counts : goal.returns-clause-counts
+returns-clause-counts g c = opened_counts c.args.query.table c.args.query.snap c.in_ok-only.only c.args.members.items c.args.cursor c.args.opening _ c.in_ok-union.union _ _ c.in_ok-union.ensures.opened c.open.ensures.reads
