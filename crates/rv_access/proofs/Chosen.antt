@@ -1,5 +1,5 @@
 -- What was chosen can race, and what a race and a retrieval are where they begin.
-use Rattle.std.proofs.Common.{◌∷◌, cond, suc, ◌≡◌, ℕ, ◌+◌, ◌-◌, ◌<◌, ◌≤◌, List, [], length, filter, map, Bool, true, false, ◌&&◌, nat_le, Option, Some, None, refl, ap, sym, ◌∙◌, arith, subst, Result, Ok, Err, IfOk}
+use Rattle.std.proofs.Common.{◌∷◌, cond, suc, ◌≡◌, ℕ, ◌+◌, ◌-◌, ◌<◌, ◌≤◌, List, [], length, filter, map, Bool, true, false, ◌&&◌, nat_le, Option, Some, None, is_some, refl, ap, sym, ◌∙◌, arith, subst, Result, Ok, Err, IfOk}
 use Rattle.std.specs.List.{list_all}
 use Rattle.std.specs.Prelude.{◌||◌, if◌then◌else◌}
 use Rattle.std.proofs.lemmas.Bool.Decides.{nat_tests}
@@ -22,7 +22,9 @@ use Rattle.rv_choice.specs.declared.choosing.Choice.{Choice}
 use Rattle.rv_choice.specs.Asked.{CanAsk}
 use Rattle.rv_choice.specs.declared.query.Goal2.{Goal2}
 use Rattle.rv_choice.specs.declared.query.Goal2.TheVariants.{FastFirst as Soon, TotalTime}
-use Rattle.rv_choice.specs.Choice.{AreScans, IsChosen, candidates_of, choice_of, is_scanned, order_index, plan_of}
+use Rattle.rv_choice.specs.declared.choosing.Role.{Role}
+use Rattle.rv_choice.specs.declared.choosing.Role.TheVariants.{Short, Sufficient, Restricted}
+use Rattle.rv_choice.specs.Choice.{AreScans, IsChosen, IsLeastOf, candidates_of, choice_of, is_scanned, order_index, plan_of, restricted_choice}
 use Rattle.rv_choice.specs.Members.{AreUnited, some_serves}
 use Rattle.rv_choice.proofs.Members.{some_serve}
 use Rattle.rv_choice.specs.Leading.{front_begun, front_candidate}
@@ -237,6 +239,45 @@ short_whole query shown a h = longer a (retrieval_life query shown) (life_of que
   where
     longer : (a c d : ℕ) → a ≤ c → c ≤ d → a ≤ d
     longer a c d h i = omega (arith, h, i)
+
+-- what is chosen of the same candidates has the same strategy, so far as it would read the table
+
+least_alike : (role : Role) (cs : List Candidate) (a b : Option ℕ) → IsLeastOf role cs a → IsLeastOf role cs b → is_some a ≡ is_some b
+least_alike role cs None None f g = refl
+least_alike role cs (Some at) (Some to) f g = refl
+least_alike role cs (Some at) None f g = no_way (sym f.is ∙ g.none at f.below)
+least_alike role cs None (Some to) f g = no_way (sym g.is ∙ f.none to g.below)
+
+restricted_alike : (goal : Goal2) (a b : Option ℕ) → is_some a ≡ is_some b → is_table (restricted_choice goal a).strategy ≡ is_table (restricted_choice goal b).strategy
+restricted_alike Soon None None e = refl
+restricted_alike Soon (Some at) (Some to) e = refl
+restricted_alike TotalTime None None e = refl
+restricted_alike TotalTime (Some at) (Some to) e = refl
+restricted_alike goal (Some at) None e = no_way e
+restricted_alike goal None (Some to) e = no_way (sym e)
+
+choices_alike : (cs : List Candidate) (goal : Goal2) (front s t p q a b : Option ℕ) → is_some s ≡ is_some t → is_some p ≡ is_some q → is_some a ≡ is_some b → is_table (choice_of cs goal front s p a).strategy ≡ is_table (choice_of cs goal front t q b).strategy
+choices_alike cs goal (Some front) None None p q a b e f g = refl
+choices_alike cs goal (Some front) (Some s) (Some t) p q a b e f g = refl
+choices_alike cs goal (Some front) (Some s) None p q a b e f g = no_way e
+choices_alike cs goal (Some front) None (Some t) p q a b e f g = no_way (sym e)
+choices_alike cs goal None (Some s) (Some t) p q a b e f g = refl
+choices_alike cs goal None (Some s) None p q a b e f g = no_way e
+choices_alike cs goal None None (Some t) p q a b e f g = no_way (sym e)
+choices_alike cs goal None None None (Some p) (Some q) a b e f g = refl
+choices_alike cs goal None None None (Some p) None a b e f g = no_way f
+choices_alike cs goal None None None None (Some q) a b e f g = no_way (sym f)
+choices_alike cs goal None None None None None a b e f g = restricted_alike goal a b g
+
+table_alike : (order : List ℕ) (goal : Goal2) (cs : List Candidate) (a b : Choice) → IsChosen order goal cs a → IsChosen order goal cs b → is_table a.strategy ≡ is_table b.strategy
+table_alike order goal cs a b c d =
+    ap (λ (x : Choice). is_table x.strategy) c.rules
+    ∙ choices_alike cs goal (order_index order cs) c.short d.short c.sufficient d.sufficient c.restricted d.restricted (least_alike Short cs c.short d.short c.least_short d.least_short) (least_alike Sufficient cs c.sufficient d.sufficient c.least_sufficient d.least_sufficient) (least_alike Restricted cs c.restricted d.restricted c.least_restricted d.least_restricted)
+    ∙ ap (λ (x : Choice). is_table x.strategy) (sym d.rules)
+
+-- where one choice puts no members together another one does not
+pub chosen_apart : (query : Query) (shown : Shown) (a b : Choice) → IsChosen query.order query.goal (candidates_of query shown) a → IsChosen query.order query.goal (candidates_of query shown) b → unites query shown a ≡ false → unites query shown b ≡ false
+chosen_apart query shown a b c d none = ap (λ (t : Bool). t && some_serves query shown) (table_alike query.order query.goal (candidates_of query shown) b a d c) ∙ none
 
 -- WHERE THE TABLE WOULD BE READ no order is asked, and no index is short
 

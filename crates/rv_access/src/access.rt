@@ -54,8 +54,8 @@ fn is_table(strategy: Strategy) -> bool
 {
     match strategy {
         Strategy::Table => true,
-        Strategy::BackgroundOnly
-        | Strategy::FastFirst
+        Strategy::FastFirst
+        | Strategy::BackgroundOnly
         | Strategy::Sorted
         | Strategy::IndexOnly
         | Strategy::Union => false,

@@ -9,6 +9,7 @@ use Rattle.rv_access.specs.Accesses.{Settled, fetches_left, query_of}
 use Rattle.rv_retrieval.specs.Short.{OnlyLeaves, has_short}
 use Rattle.rv_judge.specs.Tracing.{CountsAll}
 use Rattle.rv_join.specs.Alone.{plan_effort, plan_life}
+use Rattle.rv_join.specs.Asking.{lives_of}
 use Rattle.rv_join.specs.Plans.{Planned, plan_trace, plan_work}
 use Rattle.rv_join.specs.Work.{row_cost}
 use Rattle.rv_cursor.specs.declared.cursor.Open.{Open}
@@ -22,7 +23,7 @@ at_most : (before after count : ℕ) → count ≡ raised 0 (after - before) →
 at_most before after count counted = omega (arith, counted)
 
 bounded : (shown : Shown) (s : Select) (indexes : List IndexDef) (snap : ℕ) (before after : Counts) (p : Planned) → before ≡ no_counts → OnlyLeaves before after → CountsAll (plan_trace p) before after
-    → plan_work shown p ≤ row_cost shown snap p.asked.items
+    → plan_work shown p ≤ row_cost (lives_of p.asked.only) shown snap p.asked.items
     → reads after + plan_effort shown p ≤ reads before + plan_life s indexes shown snap
     → (has_short (query_of p.stack.at.here) shown ≡ true → Settled p.stack.at.here × (fetches_left p.stack.at.here shown ≤ 20))
     → IsBounded shown s indexes snap p
@@ -35,7 +36,7 @@ bounded shown s indexes snap before after p fresh only counted work life short =
 
 pub opens_bounded : {E : Type 0} (r : Result Open E) (shown : Shown) (s : Select) (indexes : List IndexDef) (snap : ℕ) (before after : Counts) → before ≡ no_counts → OnlyLeaves before after
     → IfOk r (λ c. CountsAll (plan_trace c.plan) before after)
-    → IfOk r (λ c. plan_work shown c.plan ≤ row_cost shown snap c.plan.asked.items)
+    → IfOk r (λ c. plan_work shown c.plan ≤ row_cost (lives_of c.plan.asked.only) shown snap c.plan.asked.items)
     → IfOk r (λ c. reads after + plan_effort shown c.plan ≤ reads before + plan_life s indexes shown snap)
     → IfOk r (λ c. has_short (query_of c.plan.stack.at.here) shown ≡ true → Settled c.plan.stack.at.here × (fetches_left c.plan.stack.at.here shown ≤ 20))
     → IfOk r (λ c. IsBounded shown s indexes snap c.plan)

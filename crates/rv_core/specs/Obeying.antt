@@ -20,7 +20,7 @@ use Rattle.rv_model.specs.Transactions.{transaction_of}
 use Rattle.rv_access.specs.Accesses.{Settled, fetches_left, query_of}
 use Rattle.rv_retrieval.specs.Short.{has_short}
 use Rattle.rv_join.specs.Alone.{plan_effort, plan_life}
-use Rattle.rv_join.specs.Asking.{IsAsked}
+use Rattle.rv_join.specs.Asking.{IsAsked, lives_of}
 use Rattle.rv_join.specs.Pieces.{counted_up, plan_awaited, plan_pieces}
 use Rattle.rv_join.specs.Plans.{LeadsWith, Planned, plan_trace, plan_work, stage_of}
 use Rattle.rv_join.specs.Work.{row_cost}
@@ -81,11 +81,12 @@ abbrev pub TurnOf : Option (Reply × Reply) → ℕ → (ℕ → Facts → Rulin
 TurnOf part most would c shown old new = TurnMoves c.hand part most would shown old new
 
 -- THE BOUNDS WITH WHICH A PLAN BEGINS. It has read leaves alone. These reads and the effort of the first FROM item's retrieval
--- are together at most a number of the store's pages, cuts and entries, and so is the work left of all items. Where a restricted
+-- are together at most a number of the store's pages, cuts and entries and of the branches that the groups may have, and so is the
+-- work left of all items. Where a restricted
 -- index of the first item has an exact estimate of at most 20, the background is over, and at most 20 records are left to be
 -- fetched.
 pub record IsBounded (shown : Shown) (s : Select) (indexes : List IndexDef) (snap : ℕ) (p : Planned) : Type 0 where
-  pub work : plan_work shown p ≤ row_cost shown snap p.asked.items
+  pub work : plan_work shown p ≤ row_cost (lives_of p.asked.only) shown snap p.asked.items
   pub life : reads p.reads + plan_effort shown p ≤ plan_life s indexes shown snap
   pub pages : p.reads.pages ≡ 0
   pub records : p.reads.records ≡ 0

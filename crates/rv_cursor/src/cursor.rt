@@ -5,7 +5,7 @@ ghost use Rattle.rv_access.specs.Accesses.{Settled, fetches_left, query_of};
 ghost use Rattle.rv_retrieval.specs.Short.{OnlyLeaves, has_short};
 ghost use Rattle.rv_judge.specs.Tracing.{CountsAll};
 ghost use Rattle.rv_join.specs.Alone.{plan_effort, plan_life};
-ghost use Rattle.rv_join.specs.Asking.{CanPlan, IsAsked};
+ghost use Rattle.rv_join.specs.Asking.{CanPlan, IsAsked, lives_of};
 ghost use Rattle.rv_join.specs.Levels.{table_rows};
 ghost use Rattle.rv_join.specs.Plans.{LeadsWith, plan_trace, plan_work, stage_of};
 ghost use Rattle.rv_join.specs.Work.{row_cost};
@@ -75,7 +75,7 @@ pub fn open_cursor<R: Reader>(
     ensures race { IfOk result (λ c. c.plan.asked.race ≡ race) }
     ensures leads { IfOk result (λ c. LeadsWith (seen_at (R.shown reader.now) snap frozen) c.plan) }
     ensures stage { IfOk result (λ c. c.plan.stage ≡ stage_of select.now indexes.now) }
-    ensures work { IfOk result (λ c. plan_work (seen_at (R.shown reader.now) snap frozen) c.plan ≤ row_cost (seen_at (R.shown reader.now) snap frozen) snap c.plan.asked.items) }
+    ensures work { IfOk result (λ c. plan_work (seen_at (R.shown reader.now) snap frozen) c.plan ≤ row_cost (lives_of c.plan.asked.only) (seen_at (R.shown reader.now) snap frozen) snap c.plan.asked.items) }
     ensures life { IfOk result (λ c. reads steps.new + plan_effort (seen_at (R.shown reader.now) snap frozen) c.plan ≤ reads steps.old + plan_life select.now indexes.now (seen_at (R.shown reader.now) snap frozen) snap) }
     ensures short { IfOk result (λ c. has_short (query_of c.plan.stack.at.here) (seen_at (R.shown reader.now) snap frozen) ≡ true → Settled c.plan.stack.at.here × (fetches_left c.plan.stack.at.here (seen_at (R.shown reader.now) snap frozen) ≤ 20)) }
     ensures only { OnlyLeaves steps.old steps.new }

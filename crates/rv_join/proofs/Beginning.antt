@@ -9,7 +9,7 @@ use Rattle.rv_access.specs.declared.access.Access.{Access}
 use Rattle.rv_join.specs.declared.places.Asked.{Asked}
 use Rattle.rv_join.specs.declared.gather.Stage.{Stage}
 use Rattle.rv_join.specs.declared.gather.Stage.TheVariants.{AsFound, Gathering, Giving}
-use Rattle.rv_join.specs.Asking.{AreWide, CanPlan, CanRun, IsAsked, OpensItem, by_index}
+use Rattle.rv_join.specs.Asking.{AreWide, CanPlan, CanRun, IsAsked, OpensItem, by_index, lives_of}
 use Rattle.rv_join.specs.Levels.{Stacked, bag}
 use Rattle.rv_join.specs.Work.{level_work, row_cost}
 use Rattle.rv_join.specs.Moves.{Starts}
@@ -33,7 +33,7 @@ pub starts : (a : Asked) (shown : Shown) (v : Access) (n : ℕ) → CanRun a sho
 starts a shown v n can opens = let some = can.some in record {
   fits = record { above = record {}; at = opened_fits a shown [] v (omega (arith, some)) (wide_none a) opens; deep = refl };
   top = refl;
-  work = first_le (level_work a shown (record { outer = []; row = None; here = v })) (row_cost shown a.snap a.items) (fresh_work a shown [] v (omega (arith, some)) opens);
+  work = first_le (level_work a shown (record { outer = []; row = None; here = v })) (row_cost (lives_of a.only) shown a.snap a.items) (fresh_work a shown [] v (omega (arith, some)) opens);
   bag = opened_is a shown [] v (omega (arith, some)) opens;
   led = λ by. lead_none _;
 }

@@ -1,28 +1,31 @@
 -- What a retrieval of an item is asked can be asked of the reader, and its restriction can be bound.
-use Rattle.std.proofs.Common.{◌≡◌, ℕ, ◌+◌, ◌<◌, ◌≤◌, List, [], ◌∷◌, ◌++◌, length, max, Bool, true, false, cond, not, ◌||◌, ◌==◌, nat_lt, refl, ap, sym, ◌∙◌, arith, subst, slice_index_or, filter, Result, Ok, Err, IfOk}
+use Rattle.std.proofs.Common.{◌≡◌, ℕ, ◌+◌, ◌*◌, ◌<◌, ◌≤◌, List, [], ◌∷◌, ◌++◌, length, max, Bool, true, false, cond, not, ◌||◌, ◌==◌, nat_lt, refl, ap, sym, ◌∙◌, arith, subst, slice_index_or, filter, Result, Ok, Err, IfOk}
 use Rattle.std.specs.List.{AllByRecursion, list_all, list_any}
 use Rattle.std.proofs.lemmas.Bool.Decides.{nat_tests}
 use Rattle.std.proofs.lemmas.Grind.{common_steps}
 use Rattle.std.proofs.lemmas.List.{get_or_append_left}
 use Rattle.rv_value.specs.declared.value.Value.{Value}
 use Rattle.rv_value.specs.declared.record.Record.{Record}
+use Rattle.rv_restrict.specs.declared.atom.Atom.{Atom}
 use Rattle.rv_restrict.specs.declared.atom.ColRef.{ColRef}
 use Rattle.rv_restrict.specs.Bind.{can_bind, outer_fits, passes_at, rows_has, taken}
+use Rattle.rv_restrict.specs.Branches.{widths}
 use Rattle.rv_restrict.specs.Parts.{stands_among}
 use Rattle.rv_restrict.specs.Truth.{names_only, row_has}
 use Rattle.rv_restrict.proofs.Tests.{and_both, and_left, and_right}
+use Rattle.rv_restrict.proofs.Widths.{bound_widths}
 use Rattle.rv_reader.specs.Shown.{Shown}
 use Rattle.rv_scan.specs.Told.{width}
 use Rattle.rv_choice.specs.declared.query.Query.{Query}
 use Rattle.rv_choice.specs.Asked.{CanAsk, IsIndexOf}
 use Rattle.rv_judge.specs.Account.{life_bound}
-use Rattle.rv_retrieval.specs.Effort.{cuts_and_entries}
+use Rattle.rv_retrieval.specs.Effort.{cuts_and_entries, life_of as retrieval_life}
 use Rattle.rv_final.specs.Rest.{qualifying}
 use Rattle.rv_access.specs.declared.access.Access.{Access}
 use Rattle.rv_access.specs.Accesses.{effort}
-use Rattle.rv_access.specs.Opened.{Begins}
+use Rattle.rv_access.specs.Opened.{Begins, life_of}
 use Rattle.rv_join.specs.declared.places.Asked.{Asked}
-use Rattle.rv_join.specs.Asking.{AreWide, Asks, CanRun, IsIndexAt, OpensItem, asked_uses, col_at, have_column, item_at, only_names, rows_at, same_column}
+use Rattle.rv_join.specs.Asking.{AreWide, Asks, CanRun, IsIndexAt, OpensItem, asked_uses, col_at, have_column, item_at, item_life, lives_of, only_names, rows_at, same_column}
 use Rattle.rv_join.specs.Levels.{widened}
 use Rattle.rv_join.proofs.Naming.{only_named, or_right, taken_named}
 
@@ -89,6 +92,23 @@ filter_same p q same (x ∷ xs) =
     let here = same x in
     rw here (elim (q x) as (λ b. cond b (x ∷ filter p xs) (filter p xs) ≡ cond b (x ∷ filter q xs) (filter q xs)) [ true ↦ ap (λ l. x ∷ l) tail | false ↦ tail ])
 
+less_product : (r n c : ℕ) → r ≤ n → r * c ≤ n * c
+less_product r n c h = grind (arith, h)
+
+-- the life of an access to an item, in the words of what is asked
+opens_life : (a : Asked) (shown : Shown) (outer : List (List Value)) (query : Query) (effort : ℕ) → Asks a outer query → effort ≤ life_of query shown → effort ≤ item_life (lives_of a.only) shown a.snap (item_at a (length outer))
+opens_life a shown outer query effort asks most =
+    let few = subst (λ (x : List (List Atom)). widths x ≤ widths a.only) (sym asks.only) (bound_widths (length outer) outer a.only) in
+    let product = less_product (lives_of query.only) (lives_of a.only) (retrieval_life query shown) (more (widths query.only) (widths a.only) few) in
+    let same : retrieval_life query shown ≡ life_bound (shown.pages (item_at a (length outer)).table a.snap) (cuts_and_entries (item_at a (length outer)).indexes shown a.snap) = ap (λ t. life_bound (shown.pages t query.snap) (cuts_and_entries query.indexes shown query.snap)) asks.item.table ∙ ap (λ n. life_bound (shown.pages (item_at a (length outer)).table n) (cuts_and_entries query.indexes shown n)) asks.item.snap ∙ ap (λ l. life_bound (shown.pages (item_at a (length outer)).table a.snap) (cuts_and_entries l shown a.snap)) asks.item.over in
+    subst (λ (n : ℕ). effort ≤ lives_of a.only * n) same (within effort (life_of query shown) (lives_of a.only * retrieval_life query shown) most product)
+  where
+    more : (n m : ℕ) → n ≤ m → n + 1 ≤ m + 1
+    more n m h = omega (arith, h)
+
+    within : (a b c : ℕ) → a ≤ b → b ≤ c → a ≤ c
+    within a b c h i = omega (arith, h, i)
+
 -- what was opened for it has the rows of which the groups of the place are True
 pub opens_if : {E : Type 0} (r : Result Access E) (a : Asked) (shown : Shown) (outer : List (List Value)) (query : Query) (c d : Counts) → Asks a outer query → IfOk r (Begins query shown c d) → IfOk r (OpensItem a shown outer)
 opens_if (Err e) a shown outer query c d asks begins = tt
@@ -96,7 +116,7 @@ opens_if (Ok v) a shown outer query c d asks begins = record {
   fits = begins.fits;
   awaiting = begins.awaiting;
   tells = begins.tells;
-  life = subst (λ n. effort v shown ≤ n) (ap (λ t. life_bound (shown.pages t query.snap) (cuts_and_entries query.indexes shown query.snap)) asks.item.table ∙ ap (λ n. life_bound (shown.pages (item_at a (length outer)).table n) (cuts_and_entries query.indexes shown n)) asks.item.snap ∙ ap (λ l. life_bound (shown.pages (item_at a (length outer)).table a.snap) (cuts_and_entries l shown a.snap)) asks.item.over) begins.most;
+  life = opens_life a shown outer query (effort v shown) asks begins.most;
   asks = subst (Asks a outer) (sym begins.asked) asks;
   rest_is = begins.owes ∙ ap (qualifying query.only) (ap (λ t. shown.rows t query.snap) asks.item.table ∙ ap (λ n. shown.rows (item_at a (length outer)).table n) asks.item.snap) ∙ filter_same _ _ (λ (x : Record). asks.binds x.values) (rows_at a shown (length outer));
 }

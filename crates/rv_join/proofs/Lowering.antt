@@ -9,6 +9,7 @@ use Rattle.rv_access.specs.declared.access.Access.{Access}
 use Rattle.rv_access.specs.Accesses.{AccessFits, Keeps, effort, rest}
 use Rattle.rv_join.specs.declared.places.Asked.{Asked}
 use Rattle.rv_join.specs.declared.level.Level.{Level}
+use Rattle.rv_join.specs.Asking.{lives_of}
 use Rattle.rv_join.specs.Levels.{AllFit, LevelFits, Stacked}
 use Rattle.rv_join.specs.Work.{held_rows, items_below, level_work, levels_work, loops_work, row_cost}
 use Rattle.rv_join.proofs.Calls.{fit_at}
@@ -16,7 +17,7 @@ use Rattle.rv_join.proofs.Working.{works_less}
 
 same_effort : (a : Asked) (shown : Shown) (old : Level) (new : Access) → effort new shown ≡ effort old.here shown → rest new shown ≡ rest old.here shown → level_work a shown (record old { here = new }) ≡ level_work a shown old
 same_effort a shown old new same left =
-    let cost = row_cost shown a.snap (items_below a old) in
+    let cost = row_cost (lives_of a.only) shown a.snap (items_below a old) in
     ap (λ (n : ℕ). n + 1 + (held_rows old.row + length (rest new shown)) * cost) same ∙ ap (λ (l : List Record). effort old.here shown + 1 + (held_rows old.row + length l) * cost) left
 
 lowers_one : (g : Given) (a : Asked) (shown : Shown) (old : Level) (new : Access) → rest new shown ≡ rest old.here shown → GiveSpends g (effort old.here shown) (effort new shown) → GiveSpends g (level_work a shown old) (level_work a shown (record old { here = new }))

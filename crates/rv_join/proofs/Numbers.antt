@@ -1,5 +1,5 @@
 -- A take leaves what is awaited and counted; an accepted piece raises the number of the next one by one.
-use Rattle.std.proofs.Common.{◌≡◌, ℕ, ◌<◌, List, [], ◌∷◌, length, Option, is_some, refl, ap, sym, ◌∙◌, arith, subst, zero, suc, slice_index_or, slice_set, position, Result, Ok, Err, IfOk}
+use Rattle.std.proofs.Common.{◌≡◌, ℕ, ◌<◌, Bool, true, false, List, [], ◌∷◌, length, Option, is_some, refl, ap, sym, ◌∙◌, arith, subst, zero, suc, slice_index_or, slice_set, position, Result, Ok, Err, IfOk}
 use Rattle.std.proofs.lemmas.List.{length-set}
 use Rattle.std.proofs.lemmas.List.Folds.{position_or_len-set}
 use Rattle.rv_judge.specs.Counting.{one_more, raised}
@@ -8,15 +8,18 @@ use Rattle.rv_jscan.specs.declared.jscan.Given.{Given}
 use Rattle.rv_jscan.specs.declared.jscan.Given.TheVariants.{Accepted, Stale}
 use Rattle.rv_jscan.specs.declared.jscan.Taken.{Taken}
 use Rattle.rv_jscan.specs.declared.jscan.Taken.TheVariants.{Piece, Nothing}
+use Rattle.rv_choice.specs.declared.query.Query.{Query}
+use Rattle.rv_choice.specs.declared.choosing.Choice.{Choice}
 use Rattle.rv_access.specs.declared.access.Access.{Access}
-use Rattle.rv_access.specs.Accesses.{SamePlans, number_of}
+use Rattle.rv_access.specs.Accesses.{SamePlans, number_of, query_of}
 use Rattle.rv_access.specs.Given.{CountsPiece, SamePieces, TakesPiece, awaited}
+use Rattle.rv_access.specs.Opened.{unites}
 use Rattle.rv_access.proofs.Accesses.{piece_awaited}
 use Rattle.rv_join.specs.declared.level.Level.{Level}
 use Rattle.rv_join.specs.Levels.{Stacked}
 use Rattle.rv_join.specs.Pieces.{LevelsAwait, StackAwaits, TakesAwaited, is_waiting, level_at, pieces_in, plan_awaited, waited, waiting, waits}
 use Rattle.rv_join.specs.Plans.{Planned}
-use Rattle.rv_join.specs.Rules.{IsByRules}
+use Rattle.rv_join.specs.Rules.{IsByRules, StandsBy}
 use Rattle.rv_reader.specs.Shown.{Shown}
 
 -- A take.
@@ -129,11 +132,14 @@ taken_answers (Ok (Piece piece)) old new same taken = sym same ∙ piece_awaited
 taken_answers (Ok Nothing) old new same taken = sym same ∙ taken
 taken_answers (Err e) old new same taken = tt
 
+stands_stay : (unite : Bool) (shown : Shown) (choice : Choice) (old new : Access) → SamePlans old new → StandsBy unite shown choice old → StandsBy unite shown choice new
+stands_stay true shown choice old new same stands = (same.strategy ∙ stands.0, rw (same.query, same.plans) stands.1)
+stands_stay false shown choice old new same stands = (same.strategy ∙ stands.0, rw (same.query, same.plans) stands.1)
+
 -- the five rules hold on
 pub rules_stay : (shown : Shown) (old new : Access) → SamePlans old new → IsByRules shown old → IsByRules shown new
 rules_stay shown old new same rules = record {
   choice = rules.choice;
   chosen = rw same.query rules.chosen;
-  strategy = same.strategy ∙ rules.strategy;
-  scans = rw (same.query, same.plans) rules.scans;
+  stands = subst (λ (q : Query). StandsBy (unites q shown rules.choice) shown rules.choice new) (sym same.query) (stands_stay (unites (query_of old) shown rules.choice) shown rules.choice old new same rules.stands);
 }

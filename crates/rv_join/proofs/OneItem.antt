@@ -1,25 +1,29 @@
 -- A plan over one FROM item: what its one retrieval does, and what the first item's retrieval keeps.
-use Rattle.std.proofs.Common.{Bool, ◌&&◌, ◌≡◌, ℕ, ◌+◌, ◌-◌, ◌^◌, ◌<◌, ◌≤◌, List, [], ◌∷◌, ◌++◌, length, true, false, Option, Some, None, is_some, refl, ap, sym, ◌∙◌, arith, subst, inl, inr, zero, suc, slice_index_or, slice_set, Result, Ok, Err, IfOk, OnOk, OnErr}
+use Rattle.std.proofs.Common.{Bool, ◌&&◌, ◌≡◌, ℕ, ◌+◌, ◌*◌, ◌-◌, ◌^◌, ◌<◌, ◌≤◌, List, [], ◌∷◌, ◌++◌, length, true, false, Option, Some, None, is_some, refl, ap, sym, ◌∙◌, arith, subst, inl, inr, zero, suc, slice_index_or, slice_set, Result, Ok, Err, IfOk, OnOk, OnErr}
 use Rattle.rv_value.specs.declared.value.Value.{Value}
 use Rattle.rv_judge.specs.Counting.{reads, raised}
 use Rattle.rv_judge.specs.declared.counting.Counts.{Counts}
 use Rattle.rv_judge.specs.declared.judging.Facts.{Facts}
 use Rattle.rv_judge.specs.Verdicts.{Ruling}
+use Rattle.rv_judge.specs.Account.{life_bound}
+use Rattle.rv_restrict.specs.declared.atom.Atom.{Atom}
+use Rattle.rv_restrict.specs.Branches.{widths}
+use Rattle.rv_restrict.proofs.Widths.{bound_widths}
 use Rattle.rv_reader.specs.Shown.{Shown}
 use Rattle.rv_jscan.specs.declared.jscan.Given.{Given}
 use Rattle.rv_jscan.specs.declared.jscan.Given.TheVariants.{Accepted, Stale}
 use Rattle.rv_retrieval.specs.declared.steps.Fg.{Fg}
-use Rattle.rv_retrieval.specs.Effort.{GiveSpends, life_of}
+use Rattle.rv_retrieval.specs.Effort.{GiveSpends, cuts_and_entries, life_of as retrieval_life}
 use Rattle.rv_retrieval.specs.Short.{has_short}
 use Rattle.rv_final.specs.Work.{Tries}
 use Rattle.rv_judge.specs.Tracing.{CountsAll}
 use Rattle.rv_access.specs.declared.access.Access.{Access}
-use Rattle.rv_access.specs.declared.access.Access.TheVariants.{Competing, Racing}
+use Rattle.rv_access.specs.declared.access.Access.TheVariants.{Competing, Racing, Uniting}
 use Rattle.rv_access.specs.Accesses.{SamePlans, Settled, effort, fetches_left, query_of, trace_of}
-use Rattle.rv_access.specs.Opened.{Begins, IsShort, Opened, OpenedBy, races}
+use Rattle.rv_access.specs.Opened.{Begins, IsShort, Opened, OpenedBy, is_table, life_of, races, unites}
 use Rattle.rv_access.specs.Stepping.{MayReadIts, OnlyTakes, SameCourse, SettledTake, StepsAs}
 use Rattle.rv_access.proofs.Accesses.{course_plans, plans_stay, steps_plans}
-use Rattle.rv_access.proofs.Chosen.{raced_strategy}
+use Rattle.rv_access.proofs.Chosen.{chosen_apart, no_union, raced_strategy}
 use Rattle.rv_access.proofs.Counting.{OneUp, may_up, same_up}
 use Rattle.rv_join.specs.declared.level.Caught.TheVariants.{Ready}
 use Rattle.rv_join.specs.declared.level.Level.{Level}
@@ -36,7 +40,7 @@ use Rattle.rv_choice.specs.declared.choosing.Choice.{Choice}
 use Rattle.rv_choice.specs.Choice.{IsChosen, candidates_of}
 use Rattle.rv_judge.specs.declared.events.Strategy.TheVariants.{BackgroundOnly}
 use Rattle.rv_join.specs.declared.places.Asked.{Asked}
-use Rattle.rv_join.specs.Asking.{Asks, IsAsked}
+use Rattle.rv_join.specs.Asking.{Asks, IsAsked, indexes_from, lives_of, table_at}
 use Rattle.rv_join.specs.Levels.{StackFits, Stacked, down, first_in, first_of, used}
 use Rattle.rv_join.specs.Plans.{Gives, Planned, reads_with, step_of}
 use Rattle.rv_join.specs.Rules.{IsByRules}
@@ -298,15 +302,23 @@ all_spends PlanWorking had has c d old new gives spends = absurd (cc)
 
 -- At opening.
 
-pub life_is : (s : Select) (indexes : List IndexDef) (shown : Shown) (snap cursor : ℕ) (a : Asked) (q : Query) → 1 ≤ length s.tables → IsAsked s indexes snap cursor a → Asks a [] q → life_of q shown ≡ plan_life s indexes shown snap
-life_is s indexes shown snap cursor a q some asked asks =
+less_product : (r n c : ℕ) → r ≤ n → r * c ≤ n * c
+less_product r n c h = grind (arith, h)
+
+pub life_within : (s : Select) (indexes : List IndexDef) (shown : Shown) (snap cursor : ℕ) (a : Asked) (q : Query) → 1 ≤ length s.tables → IsAsked s indexes snap cursor a → Asks a [] q → life_of q shown ≤ plan_life s indexes shown snap
+life_within s indexes shown snap cursor a q some asked asks =
     let item = asked.items 0 some in
-    rw (asks.item.table ∙ item.table, asks.item.snap ∙ asked.snap, asks.item.over ∙ item.over) refl
+    let few = subst (λ (x : List (List Atom)). widths q.only ≤ widths x) asked.only (subst (λ (x : List (List Atom)). widths x ≤ widths a.only) (sym asks.only) (bound_widths 0 [] a.only)) in
+    let same : retrieval_life q shown ≡ life_bound (shown.pages (table_at s 0) snap) (cuts_and_entries (indexes_from (table_at s 0) 0 indexes) shown snap) = rw (asks.item.table ∙ item.table, asks.item.snap ∙ asked.snap, asks.item.over ∙ item.over) refl in
+    subst (λ (n : ℕ). life_of q shown ≤ lives_of s.only * n) same (less_product (lives_of q.only) (lives_of s.only) (retrieval_life q shown) (more (widths q.only) (widths s.only) few))
+  where
+    more : (n m : ℕ) → n ≤ m → n + 1 ≤ m + 1
+    more n m h = omega (arith, h)
 
 pub begins_life : (s : Select) (indexes : List IndexDef) (shown : Shown) (snap cursor : ℕ) (a : Asked) (v : Stacked) (c d : Counts) → 1 ≤ length s.tables → IsAsked s indexes snap cursor a → Asks a [] (query_of v.at.here) → v.at.row ≡ None → reads d + effort v.at.here shown ≤ reads c + life_of (query_of v.at.here) shown → reads d + level_effort shown v.at ≤ reads c + plan_life s indexes shown snap
 begins_life s indexes shown snap cursor a v c d some asked asks none life =
-    let same = life_is s indexes shown snap cursor a (query_of v.at.here) some asked asks in
-    rw (none, ← same) (omega (arith, life))
+    let most = life_within s indexes shown snap cursor a (query_of v.at.here) some asked asks in
+    rw none (omega (arith, life, most))
 
 -- what is said of the query that was asked is said of that of the access
 
@@ -326,11 +338,20 @@ pub opened_short : {E : Type 0} (r : Result Access E) (q : Query) (shown : Shown
 opened_short (Ok v) q shown c d begins short = λ e. (let is = short (subst (λ (x : Query). has_short x shown ≡ true) begins.asked e) in (is.settled, is.few))
 opened_short (Err e) q shown c d begins short = tt
 
-opened_by : (race : Bool) (shown : Shown) (cursor opening : ℕ) (choice : Choice) (v : Access) → IsChosen (query_of v).order (query_of v).goal (candidates_of (query_of v) shown) choice → (race ≡ true → BackgroundOnly ≡ choice.strategy) → OpenedBy race (query_of v) shown cursor opening choice v → IsByRules shown v
-opened_by false shown cursor opening choice (Competing v) chosen alone is = record { choice = is.choice; chosen = is.chosen; strategy = is.made.strategy; scans = is.made.scans }
-opened_by false shown cursor opening choice (Racing r) chosen alone is = absurd is
-opened_by true shown cursor opening choice (Competing v) chosen alone is = absurd is
-opened_by true shown cursor opening choice (Racing r) chosen alone is = record { choice = choice; chosen = chosen; strategy = alone refl; scans = is.scans }
+-- where indexes race the table would not be read
+raced_alone : (choice : Choice) (shown : Shown) (query : Query) → BackgroundOnly ≡ choice.strategy → unites query shown choice ≡ false
+raced_alone choice shown query e = no_union query shown choice (ap is_table (sym e))
+
+opened_by : (race unite : Bool) (shown : Shown) (cursor opening : ℕ) (choice : Choice) (v : Access) → IsChosen (query_of v).order (query_of v).goal (candidates_of (query_of v) shown) choice → (race ≡ true → BackgroundOnly ≡ choice.strategy) → unites (query_of v) shown choice ≡ unite → OpenedBy race unite (query_of v) shown cursor opening choice v → IsByRules shown v
+opened_by false false shown cursor opening choice (Competing v) chosen alone none is = record { choice = is.choice; chosen = is.chosen; stands = subst (λ (b : Bool). StandsBy b shown is.choice (Competing v)) (sym (chosen_apart v.query shown choice is.choice chosen is.chosen none)) (is.made.strategy, is.made.scans) }
+opened_by false false shown cursor opening choice (Racing r) chosen alone none is = absurd is
+opened_by false false shown cursor opening choice (Uniting u) chosen alone none is = absurd is
+opened_by false true shown cursor opening choice (Competing v) chosen alone some is = absurd is
+opened_by false true shown cursor opening choice (Racing r) chosen alone some is = absurd is
+opened_by false true shown cursor opening choice (Uniting u) chosen alone some is = record { choice = choice; chosen = chosen; stands = subst (λ (b : Bool). StandsBy b shown choice (Uniting u)) (sym some) (refl, is.members) }
+opened_by true unite shown cursor opening choice (Competing v) chosen alone either is = absurd is
+opened_by true unite shown cursor opening choice (Racing r) chosen alone either is = record { choice = choice; chosen = chosen; stands = subst (λ (b : Bool). StandsBy b shown choice (Racing r)) (sym (raced_alone choice shown (query_of (Racing r)) (alone refl))) (alone refl, is.scans) }
+opened_by true unite shown cursor opening choice (Uniting u) chosen alone either is = absurd is
 
 pub opened_rules : (race : Bool) (shown : Shown) (cursor opening : ℕ) (v : Access) → Opened race (query_of v) shown cursor opening v → IsByRules shown v
-opened_rules race shown cursor opening v opened = opened_by (race && races opened.choice (candidates_of (query_of v) shown)) shown cursor opening opened.choice v opened.chosen (raced_strategy race opened.choice (candidates_of (query_of v) shown)) opened.opened
+opened_rules race shown cursor opening v opened = opened_by (race && races opened.choice (candidates_of (query_of v) shown)) (unites (query_of v) shown opened.choice) shown cursor opening opened.choice v opened.chosen (raced_strategy race opened.choice (candidates_of (query_of v) shown)) refl opened.opened

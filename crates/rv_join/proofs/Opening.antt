@@ -16,7 +16,7 @@ use Rattle.rv_access.specs.Accesses.{AccessFits, Awaiting, Keeps, Tells, effort,
 use Rattle.rv_join.specs.declared.places.Asked.{Asked}
 use Rattle.rv_join.specs.declared.places.Item.{Item}
 use Rattle.rv_join.specs.declared.level.Level.{Level}
-use Rattle.rv_join.specs.Asking.{AreWide, Asks, CanRun, OpensItem, no_item, rows_at}
+use Rattle.rv_join.specs.Asking.{AreWide, Asks, CanRun, OpensItem, lives_of, no_item, rows_at}
 use Rattle.rv_join.specs.Levels.{LevelFits, below, over_held, over_rest, over_row, still, tables_of, under, widened}
 use Rattle.rv_join.specs.Work.{level_work, row_cost}
 use Rattle.rv_join.specs.Moves.{Descends, LevelStays}
@@ -89,7 +89,7 @@ descends a shown old row width outer v held is inside wide opens =
       fits = opened_fits a shown outer v in_it wide opens;
       deeper = long;
       none = refl;
-      work = subst (λ n. level_work a shown (record { outer = outer; row = None; here = v }) < row_cost shown a.snap (drop n a.items)) long (fresh_work a shown outer v in_it opens);
+      work = subst (λ n. level_work a shown (record { outer = outer; row = None; here = v }) < row_cost (lives_of a.only) shown a.snap (drop n a.items)) long (fresh_work a shown outer v in_it opens);
       bag = opened_is a shown outer v in_it opens ∙ rw (held, long, is) (under_same a shown (below a old) _ _ (alike_wide a old.outer width row));
     }
 

@@ -1,5 +1,5 @@
 -- WHAT A STEP OF A PLAN DOES TO ITS OPEN RETRIEVALS; a plan over one FROM item, whose calls are those of its one retrieval.
-use Rattle.std.specs.Prelude.{◌≡◌, ◌⊎◌, ℕ, ◌+◌, ◌<◌, ◌≤◌, ◌++◌, ◌∷◌, [], Bool, true, false, List, length, Option, None, IfSome}
+use Rattle.std.specs.Prelude.{◌≡◌, ◌⊎◌, ℕ, ◌+◌, ◌*◌, ◌<◌, ◌≤◌, ◌++◌, ◌∷◌, [], Bool, true, false, List, length, Option, None, IfSome}
 use Rattle.rv_judge.specs.Account.{life_bound}
 use Rattle.rv_judge.specs.Counting.{reads}
 use Rattle.rv_judge.specs.declared.counting.Counts.{Counts}
@@ -21,7 +21,7 @@ use Rattle.rv_join.specs.declared.plan.PlanStep.{PlanStep}
 use Rattle.rv_join.specs.declared.plan.PlanStep.TheVariants.{Row, End, Working}
 use Rattle.rv_join.specs.declared.stack.Moved.{Moved}
 use Rattle.rv_join.specs.declared.stack.Moved.TheVariants.{Gave, Done, Moving}
-use Rattle.rv_join.specs.Asking.{indexes_from, table_at}
+use Rattle.rv_join.specs.Asking.{indexes_from, lives_of, table_at}
 use Rattle.rv_join.specs.Levels.{Stacked, down, used}
 use Rattle.rv_join.specs.Plans.{Planned}
 use Rattle.rv_join.specs.Work.{held_rows}
@@ -138,4 +138,4 @@ pub record TakesOnce (shown : Shown) (c d : Counts) (old new : Level) : Type 0 w
 
 -- the bound at opening, of the select, its indexes and the reader's lists alone
 abbrev pub plan_life : Select → List IndexDef → Shown → ℕ → ℕ
-plan_life s indexes shown snap = life_bound (shown.pages (table_at s 0) snap) (cuts_and_entries (indexes_from (table_at s 0) 0 indexes) shown snap)
+plan_life s indexes shown snap = lives_of s.only * life_bound (shown.pages (table_at s 0) snap) (cuts_and_entries (indexes_from (table_at s 0) 0 indexes) shown snap)

@@ -1,5 +1,5 @@
 -- What a plan asks of each FROM item, and of its reader.
-use Rattle.std.specs.Prelude.{◌≡◌, ◌⊎◌, ℕ, ◌+◌, ◌<◌, ◌≤◌, ◌^◌, Bool, true, false, ◌&&◌, ◌||◌, nat_eq, nat_lt, List, [], ◌∷◌, ◌++◌, length, filter, map, if◌then◌else◌}
+use Rattle.std.specs.Prelude.{◌≡◌, ◌⊎◌, ℕ, ◌+◌, ◌*◌, ◌<◌, ◌≤◌, ◌^◌, Bool, true, false, ◌&&◌, ◌||◌, nat_eq, nat_lt, List, [], ◌∷◌, ◌++◌, length, filter, map, if◌then◌else◌}
 use Rattle.std.specs.List.{AllByRecursion, IsDistinct, list_all, list_any, slice_index_or}
 use Rattle.rv_value.specs.declared.value.Value.{Value}
 use Rattle.rv_value.specs.declared.record.Record.{Record}
@@ -10,6 +10,7 @@ use Rattle.rv_restrict.specs.declared.atom.Operand.TheVariants.{Literal, Column}
 use Rattle.rv_restrict.specs.declared.atom.Atom.{Atom}
 use Rattle.rv_restrict.specs.declared.atom.Atom.TheVariants.{Compare, Between, Among, IsNull, Starts, Const}
 use Rattle.rv_restrict.specs.Bind.{bound, rows_has, taken, truth_over, passes_at, passes_home}
+use Rattle.rv_restrict.specs.Branches.{widths}
 use Rattle.rv_restrict.specs.Parts.{stands_among}
 use Rattle.rv_restrict.specs.Truth.{is_true, names_only, qualifies}
 use Rattle.rv_catalog.specs.declared.def.Select.{Select}
@@ -204,9 +205,13 @@ pub record Asks (a : Asked) (outer : List (List Value)) (query : Query) : Type 0
   pub binds : (row : List Value) → qualifies query.only row ≡ holds a.only (length outer) (outer ++ row ∷ [])
   pub names : (p : ℕ → Bool) → names_only (passes_at (length outer) p) (taken (length outer) a.only) ≡ true → names_only (passes_home p) query.only ≡ true
 
--- no retrieval of an item has more effort when it is opened
-abbrev pub item_life : Shown → ℕ → Item → ℕ
-item_life shown snap i = life_bound (shown.pages i.table snap) (cuts_and_entries i.indexes shown snap)
+-- how many lives an access to an item may have: one, and one for each branch that a group may have
+abbrev pub lives_of : List (List Atom) → ℕ
+lives_of only = widths only + 1
+
+-- no access to an item has more effort when it is opened
+abbrev pub item_life : ℕ → Shown → ℕ → Item → ℕ
+item_life lives shown snap i = lives * life_bound (shown.pages i.table snap) (cuts_and_entries i.indexes shown snap)
 
 -- its rest are the rows of which the groups of the place are True
 pub record OpensItem (a : Asked) (shown : Shown) (outer : List (List Value)) (v : Access) : Type 0 where
@@ -214,5 +219,5 @@ pub record OpensItem (a : Asked) (shown : Shown) (outer : List (List Value)) (v 
   pub asks : Asks a outer (query_of v)
   pub awaiting : Awaiting v
   pub tells : Tells v
-  pub life : effort v shown ≤ item_life shown a.snap (item_at a (length outer))
+  pub life : effort v shown ≤ item_life (lives_of a.only) shown a.snap (item_at a (length outer))
   pub rest_is : rest v shown ≡ filter (λ (r : Record). holds a.only (length outer) (outer ++ r.values ∷ [])) (rows_at a shown (length outer))

@@ -15,6 +15,7 @@ use Rattle.rv_join.specs.declared.level.Caught.TheVariants.{Ready, Ended, Worked
 use Rattle.rv_join.specs.declared.stack.Moved.{Moved}
 use Rattle.rv_join.specs.declared.stack.Moved.TheVariants.{Gave, Done, Moving}
 use Rattle.rv_join.specs.Levels.{AllFit, LevelFits, Stacked, StackFits, bag, over_held, still, tables_of, under}
+use Rattle.rv_join.specs.Asking.{lives_of}
 use Rattle.rv_join.specs.Work.{items_below, level_work, levels_work, loops_work, row_cost}
 use Rattle.rv_join.specs.Order.{IsByFirst, IsLeastOf, Led, LevelLed}
 
@@ -48,7 +49,7 @@ pub record Descends (a : Asked) (shown : Shown) (old new : Level) : Type 0 where
   pub fits : LevelFits a shown new
   pub deeper : length new.outer ≡ length old.outer + 1
   pub none : new.row ≡ None
-  pub work : level_work a shown new < row_cost shown a.snap (items_below a old)
+  pub work : level_work a shown new < row_cost (lives_of a.only) shown a.snap (items_below a old)
   pub bag : still a shown new ≡ over_held a shown old old.row
 
 -- the bag stays
@@ -95,6 +96,6 @@ pub record StackStays (a : Asked) (shown : Shown) (old new : Stacked) : Type 0 w
 pub record Starts (a : Asked) (shown : Shown) (v : Stacked) : Type 0 where
   pub fits : StackFits a shown v
   pub top : v.above ≡ []
-  pub work : loops_work a shown v ≤ row_cost shown a.snap a.items
+  pub work : loops_work a shown v ≤ row_cost (lives_of a.only) shown a.snap a.items
   pub bag : bag a shown v ≡ under a shown (tables_of a) []
   pub led : IsByFirst a → Led a shown v

@@ -5,10 +5,9 @@ ghost use Rattle.rv_restrict.specs.Bind.{can_bind};
 ghost use Rattle.rv_restrict.specs.Groups.{groups_of};
 ghost use Rattle.rv_restrict.specs.Parts.{stands_among};
 ghost use Rattle.rv_judge.specs.Counting.{reads};
-ghost use Rattle.rv_retrieval.specs.Effort.{life_of};
 ghost use Rattle.rv_retrieval.specs.Short.{OnlyLeaves, has_short};
 ghost use Rattle.rv_access.specs.Accesses.{Settled, effort, fetches_left, query_of, trace_of};
-ghost use Rattle.rv_access.specs.Opened.{Opened};
+ghost use Rattle.rv_access.specs.Opened.{Opened, life_of};
 ghost use Rattle.rv_judge.specs.Tracing.{CountsAll};
 ghost use Rattle.rv_join.specs.Asking.{Adds, AreWide, Asks, CanPlan, CanRun, IsAsked, IsItem, OpensItem, atom_names, by_index, col_at, columns_of, goal_of, group_names, indexes_from, is_first, item_at, only_names, operand_names, order_at, same_column, select_uses, table_at};
 

@@ -13,7 +13,7 @@ ghost use Rattle.rv_judge.specs.Counting.{reads};
 ghost use Rattle.rv_retrieval.specs.Effort.{GiveSpends};
 ghost use Rattle.rv_retrieval.specs.Short.{OnlyLeaves, has_short};
 ghost use Rattle.rv_join.specs.Alone.{Fetches, GatherSpends, MovedSpends, PlanAsks, Spends, StepsOnce, TakesOnce, level_effort, plan_effort, plan_life};
-ghost use Rattle.rv_join.specs.Asking.{Asks, CanPlan, CanRun, IsAsked, item_at};
+ghost use Rattle.rv_join.specs.Asking.{Asks, CanPlan, CanRun, IsAsked, item_at, lives_of};
 ghost use Rattle.rv_join.specs.Levels.{StackFits, first_of, table_rows};
 ghost use Rattle.rv_join.specs.Moves.{Kept, Moves, Rises, StackStays, Starts};
 ghost use Rattle.rv_model.specs.Offering.{offers_over};
@@ -112,7 +112,7 @@ impl Plan {
         ensures asked { IfOk result (λ p. IsAsked select.now indexes.now snap cursor p.asked) }
         ensures race { IfOk result (λ p. p.asked.race ≡ race) }
         ensures leads { IfOk result (LeadsWith (R.shown reader.now)) }
-        ensures work { IfOk result (λ p. plan_work (R.shown reader.now) p ≤ row_cost (R.shown reader.now) p.asked.snap p.asked.items) }
+        ensures work { IfOk result (λ p. plan_work (R.shown reader.now) p ≤ row_cost (lives_of p.asked.only) (R.shown reader.now) p.asked.snap p.asked.items) }
         ensures counts { IfOk result (λ p. CountsAll (plan_trace p) steps.old steps.new) }
         ensures stage { IfOk result (λ p. p.stage ≡ stage_of select.now indexes.now) }
         ensures life { IfOk result (λ p. reads steps.new + plan_effort (R.shown reader.now) p ≤ reads steps.old + plan_life select.now indexes.now (R.shown reader.now) snap) }
