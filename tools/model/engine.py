@@ -143,12 +143,12 @@ class Uniting(Asked, Union):
     pass
 
 
-def access(query, item, judges, counts, log, race, union):
+def access(query, item, judges, counts, log, race):
     """A retrieval, or two indexes that race where that is asked and they can, or a union where the table would be read."""
     indexes = [Used(*index, query.groups, query.need) for index in query.indexes]
     if race and can_race(indexes, query.order, query.soon):
         return Racing(query, item, judges, log, indexes, query.pages, counts)
-    if union and can_unite(indexes, query.order):
+    if can_unite(indexes, query.order):
         members = members_of(query.groups, lambda atom: [Used(*index, [[atom]], query.need) for index in query.indexes])
         if members:
             return Uniting(query, item, judges, log, members, query.pages, counts)
@@ -161,9 +161,9 @@ def access(query, item, judges, counts, log, race, union):
 class Plan:
     """Retrievals in loops, one inside the other. It has the calls of database.py's Cursor."""
 
-    def __init__(self, select, tables, judges, steps, log, race=False, union=False):
+    def __init__(self, select, tables, judges, steps, log, race=False):
         self.select, self.tables, self.judges, self.steps, self.log = select, tables, judges, steps, log
-        self.race, self.union = race, union
+        self.race = race
         self.counts, self.open, self.rows, self.gathered = Counts(), [], [], None
         order = select.order
         first = [c for _, c in order]
@@ -181,7 +181,7 @@ class Plan:
         need = {c for at, c in self.select.returns + named + self.select.order if at == item}
         order = [c for _, c in self.select.order] if self.ordered and item == 0 else []
         query = Query(rows, pages, indexes, groups, need, order, self.select.soon)
-        self.open.append(access(query, item, self.judges, self.counts, self.log, self.race, self.union))
+        self.open.append(access(query, item, self.judges, self.counts, self.log, self.race))
 
     def step(self):
         """An offer, None where none came yet, or "end"."""
@@ -245,9 +245,9 @@ class Engine(Database):
     """The database with cursors over plans. A log, if one is given, is a list to which each retrieval of any cursor adds
     (item of FROM, kind, what) as `Retrieval.note` has them."""
 
-    def __init__(self, judge=0, steps=1, plain=False, log=None, race=False, union=False):
+    def __init__(self, judge=0, steps=1, plain=False, log=None, race=False):
         super().__init__()
-        self.log, self.race, self.union = log, race, union
+        self.log, self.race = log, race
         self.judges, self.judge, self.steps = [Threshold(), Patient(), Contrary()], judge, steps
         self.empty = Sorted if plain else Tree
         self.entries = {}  # of each index, at the last commit
@@ -290,7 +290,7 @@ class Engine(Database):
         for name in select.tables:
             indexes = [(i, made.columns, self.viewed(i)) for i, made in self.indexes.items() if made.table == name]
             tables.append((self.view(name), self.view_pages(name), indexes))
-        return Plan(select, tables, self, self.steps, self.log, self.race, self.union)
+        return Plan(select, tables, self, self.steps, self.log, self.race)
 
     def view_pages(self, name):
         """The pages of a table at the transaction's base, or up to the highest row that its changes give values."""

@@ -16,8 +16,8 @@ def is_refusal(reply: str) -> bool:
 class Session:
     """The engine with its calls one after another; any text of any session may come next."""
 
-    def __init__(self, judge: int = 0, steps: int = 1, plain: bool = False, log: list | None = None, race: bool = False, union: bool = False):
-        self.engine = Engine(judge, steps, plain, log, race, union)
+    def __init__(self, judge: int = 0, steps: int = 1, plain: bool = False, log: list | None = None, race: bool = False):
+        self.engine = Engine(judge, steps, plain, log, race)
 
     def call(self, session: int, text: str) -> str:
         """The reply of a call."""
@@ -40,11 +40,9 @@ class Session:
                 yield call, self.call(call.session, call.text)
 
 
-def run(
-    script: str, judge: int = 0, steps: int = 1, plain: bool = False, race: bool = False, union: bool = False
-) -> Iterator[tuple[int, str, str]]:
+def run(script: str, judge: int = 0, steps: int = 1, plain: bool = False, race: bool = False) -> Iterator[tuple[int, str, str]]:
     """Session, text and reply of each call of a script."""
-    for call, reply in Session(judge, steps, plain, race=race, union=union).run(calls_of(script)):
+    for call, reply in Session(judge, steps, plain, race=race).run(calls_of(script)):
         yield call.session, call.text, reply
 
 

@@ -13,7 +13,7 @@ class Unions(unittest.TestCase):
         lines = [line for line in MANY if both or "IB" not in line]
         lines += [f"1 INSERT INTO T VALUES ({i}, 0)" for i in range(40)] + ["1 COMMIT", "2 BEGIN READ ONLY"]
         lines += [f"2 OPEN C SELECT * FROM T WHERE {condition}"] + 41 * ["2 FETCH C"] + ["2 SHOW C"]
-        replies = [reply for _, _, reply in run("".join(line + "\n" for line in lines), judge, 0, union=True)]
+        replies = [reply for _, _, reply in run("".join(line + "\n" for line in lines), judge, 0)]
         return replies[-42:]
 
     def tells(self, condition: str, rows: list[int], told: str, judge: int = 1, both: bool = False) -> None:
