@@ -94,7 +94,8 @@ pub record IsBounded (shown : Shown) (s : Select) (indexes : List IndexDef) (sna
 
 -- OPEN adds a cursor last, under the next number, at the base of the session's transaction, whose plan is that of its select:
 -- drawn from what the store shows there with the transaction's changes, which is its view, with the strategy and the scans that the five rules choose by the store's own estimates,
--- with a race where one is asked and two of these scans can race, and with the bounds of such a plan.
+-- with a race where one is asked and two of these scans can race, with a union where the table would be read and a group has
+-- members, and with the bounds of such a plan.
 pub record OpensPlan (race : Bool) (shown : Shown) (s : Select) (db : State) (session : ℕ) (name : List ℕ) (old new : Plans) : Type 0 where
   pub cursor : Open
   pub added : new ≡ record old { opens = old.opens ++ cursor ∷ []; opened = old.opened + 1 }
