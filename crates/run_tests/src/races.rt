@@ -46,7 +46,14 @@ fn raced(alloc: Global, script: &str) -> Result<String, NoMemory> {
     let Ran {
         status: _status,
         core: _core,
-    } = run_plain(alloc, store, words.as_slice(), &mut source, &mut sink, judges);
+    } = run_plain(
+        alloc,
+        store,
+        words.as_slice(),
+        &mut source,
+        &mut sink,
+        judges,
+    );
     traces(alloc, sink.written())
 }
 

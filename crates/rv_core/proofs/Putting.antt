@@ -223,7 +223,7 @@ first_refused r f e h = ap (λ x. x >>= f) h
 
 -- so is that of its last test
 last_refused : {A : Type 0} (r : Result A Refusal) (test : A → Result (Unit {0}) Refusal) (a : A) (e : Refusal) → r ≡ Ok a → test a ≡ Err e → (r >>= (λ x. test x >>= (λ u. Ok x))) ≡ Err e
-last_refused r test a e is no = ap (λ x. x >>= (λ y. test y >>= (λ u. Ok y))) is ∙ ap (λ x. x >>= (λ u. Ok a)) no
+last_refused r test a e is told = ap (λ x. x >>= (λ y. test y >>= (λ u. Ok y))) is ∙ ap (λ x. x >>= (λ u. Ok a)) told
 
 pub insert_fault : (shown : Shown) (schema : Schema) (t : Transactions) (session table : ℕ) (values : List Value) (fault : TxnFault) → IsFault (inserting t session table) fault → IsFault (inserted_alone shown schema t session table values) fault
 insert_fault shown schema t session table values (Refused refusal) h = first_refused (calls.inserted t session table values) _ refusal (inserting_refused t session table values refusal h)

@@ -18,6 +18,7 @@ use Rattle.rv_reader.specs.Shown.{Shown}
 use Rattle.rv_scan.specs.Told.{width}
 use Rattle.rv_choice.specs.declared.query.Query.{Query}
 use Rattle.rv_choice.specs.Asked.{CanAsk, IsIndexOf}
+use Rattle.rv_judge.specs.declared.counting.Counts.{Counts}
 use Rattle.rv_judge.specs.Account.{life_bound}
 use Rattle.rv_retrieval.specs.Effort.{cuts_and_entries, life_of as retrieval_life}
 use Rattle.rv_final.specs.Rest.{qualifying}

@@ -1,4 +1,4 @@
-use Rattle.std.proofs.Common.{◌≡◌, [], arith, length, refl, subst, sym}
+use Rattle.std.proofs.Common.{◌≡◌, [], Ok, arith, length, refl, subst, sym}
 use Rattle.std.specs.Option.{option_copied}
 use Rattle.rv_model.specs.declared.transactions.Transactions.{Transactions}
 use Rattle.rv_model.specs.Transactions.{transaction_of}
@@ -12,7 +12,7 @@ pub changing-requires : goal.changing-requires
 changing-requires g c = can_change (g.S.Reader.shown c.args.store.now) c.args.catalog.now c.args.txns.now c.args.session c.args.table c.args.only.now c.requires.tied c.requires.there c.requires.over
 
 pub keep_up-requires-clause-can : goal.keep_up-requires-clause-can
-keep_up-requires-clause-can g c = change_keeps (g.S.Reader.shown c.args.store.now) c.args.catalog.now c.args.txns.now c.args.session c.args.table c.args.only.now (option_copied c.args.sets) c.in-Ok.new.items c.as_slice.result.now c.requires.tied c.last-newest.ensures.stored c.requires.there c.in-Ok.ensures.ok c.as_slice.ensures.value
+keep_up-requires-clause-can g c = change_keeps (g.S.Reader.shown c.args.store.now) c.args.catalog.now c.args.txns.now c.args.session c.args.table c.args.only.now (option_copied c.args.sets) c.in-Ok.new.items c.as_slice-2.result.now c.requires.tied c.last-newest.ensures.stored c.requires.there c.in-Ok.ensures.ok c.as_slice-2.ensures.value
 
 pub returns-in-Err-clause-fault : goal.returns-in-Err-clause-fault
 returns-in-Err-clause-fault g c = change_fault (g.S.Reader.shown c.args.store.now) c.args.catalog.now c.args.txns.now c.args.session c.args.table c.args.only.now (option_copied c.args.sets) c.in-Err.fault c.requires.there c.in-Err.ensures.fault
@@ -50,7 +50,7 @@ pub returns-in-Err-put_changes-clause-tied : goal.returns-in-Err-put_changes-cla
 returns-in-Err-put_changes-clause-tied g c = subst (λ (t : Transactions). IsTied (g.S.Reader.shown c.args.store.now) c.args.catalog.now t) (sym c.in-Err-put_changes.ensures.err) c.requires.tied
 
 pub returns-in-Ok-put_changes-clause-views : goal.returns-in-Ok-put_changes-clause-views
-returns-in-Ok-put_changes-clause-views g c = put_these (g.S.Reader.shown c.args.store.now) c.args.txns.now c.put_changes.new.self c.args.session c.in-Ok.new.items c.as_slice.result.now c.keep_up.new.views c.as_slice.ensures.value c.in-Ok-put_changes.ensures.ok c.keep_up.ensures
+returns-in-Ok-put_changes-clause-views g c = put_these (g.S.Reader.shown c.args.store.now) c.args.txns.now c.put_changes.new.self c.args.session c.in-Ok.new.items c.as_slice-2.result.now c.keep_up.new.views c.as_slice-2.ensures.value c.in-Ok-put_changes.ensures.ok c.keep_up.ensures
 
 pub returns-in-Err-put_changes-clause-views : goal.returns-in-Err-put_changes-clause-views
-returns-in-Err-put_changes-clause-views g c = put_back (g.S.Reader.shown c.args.store.now) c.args.txns.now c.put_changes.new.self c.args.session c.as_slice.result.now c.keep_up.new.views c.let_go.new.self c.in-Err-put_changes.ensures.err c.let_go.ensures c.keep_up.ensures
+returns-in-Err-put_changes-clause-views g c = put_back (g.S.Reader.shown c.args.store.now) c.args.txns.now c.put_changes.new.self c.args.session c.as_slice-2.result.now c.keep_up.new.views c.let_go.new.self c.in-Err-put_changes.ensures.err c.let_go.ensures c.keep_up.ensures

@@ -54,12 +54,12 @@ returns-in-Err-add_index-clause-sees g c = rw (← c.self.view_is) (sees_again (
 pub returns-clause-sees : goal.returns-clause-sees
 returns-clause-sees g c = rw (← c.self.view_is) (idle_sees (g.S.Reader.shown c.self.inside.store) (g.S.Reader.shown c.add_index.new.store) c.self.inside.catalog c.self.inside.txns c.self.inside.cursors c.self.inside.opened (sym c.active.ensures ∙ c.in_default.is) c.self.invariant.standing)
 
-pub returns-in-Some-row-clause-ok : goal.returns-in-Some-row-clause-ok
-returns-in-Some-row-clause-ok g c =
+pub returns-in-Some-equal-clause-ok : goal.returns-in-Some-equal-clause-ok
+returns-in-Some-equal-clause-ok g c =
     let new : IsNewIndex c.self.inside.catalog c.args.def = (rw (← c.self.view_is) at c.requires.new) in
     let shown = g.S.Reader.shown c.self.inside.store in
     let opens = seen shown c.self.inside.cursors in
-    let equal = rows_are_equal shown c.self.inside.catalog c.self.inside.txns opens c.args.def c.in-Some-row.row new.there (sym c.in-Some-row.is ∙ c.in-Ok.ensures) in
+    let equal = rows_are_equal shown c.self.inside.catalog c.self.inside.txns opens c.args.def c.in-Some-equal.row new.there (sym c.in-Some-equal.is ∙ c.in-Ok.ensures) in
     let room = few_room _ c.count_indexes.result c.count_indexes.ensures c.if-count_indexes-gt7.false in
     let refusal = equal_refused (db_of shown c.self.inside.catalog c.self.inside.txns opens) c.args.def _ (sym c.active.ensures ∙ c.in_default.is) room equal in
     rw (← c.self.view_is) (if_ok c.refused.result _ _ (λ replies k. refused_does _ (stand_of shown c.self.inside.catalog c.self.inside.txns opens) _ replies refusal k) c.refused.ensures)

@@ -40,3 +40,6 @@ returns-then-at-len-clause-lowers g c = rw (← c.self.view_is) (λ a shown fits
 
 pub returns-else-at-len-clause-lowers : goal.returns-else-at-len-clause-lowers
 returns-else-at-len-clause-lowers g c = rw (← c.self.view_is) (λ a shown fits. innermost_lowers c.give.result a shown (record { above = c.self.inside.above.items; at = c.self.inside.at; openings = c.self.inside.openings }) (record { above = c.self.inside.above.items; at = record c.self.inside.at { here = c.give.new.self }; openings = c.self.inside.openings }) (level_lowers c.give.result a shown c.self.inside.at c.give.new.self fits.at c.give.ensures.keeps c.give.ensures.spends) refl)
+
+pub returns-then-at-len-clause-obeys : goal.returns-then-at-len-clause-obeys
+returns-then-at-len-clause-obeys g c = rw (← c.self.view_is) (c.give_at.ensures.obeys c.self.inside.at)
