@@ -12,9 +12,10 @@ each with a low entry. What would be 33 becomes the first 16 and the last 17; a 
 halves. An entry belongs to the last child that does not begin above it. An estimate goes down from the root while one child
 may have the range; where k > 1 children may, at level l, it is (k - 1) * 16 ** l, and not exact.
 
-A retrieval is asked for the rows whose columns lie in spans, by some of the indexes, with some columns, in the order of
-the third column or in any, the first rows soon or all rows soon. How it goes is written in model/retrieval.py. Where a race
-is asked and indexes can race, how they do is written in model/race.py."""
+A retrieval is asked for the rows whose columns lie in spans, and of which one lies in one of further spans, by some of the
+indexes, with some columns, in the order of the third column or in any, the first rows soon or all rows soon. How it goes is
+written in model/retrieval.py. Where a race is asked and indexes can race, how they do is written in model/race.py, and where
+keys are put together in model/union.py."""
 
 import argparse
 import sys
@@ -22,6 +23,7 @@ import sys
 from model.race import Race, can_race
 from model.retrieval import LEAF, PAGE, Counts, Retrieval
 from model.trees import Tree
+from model.union import Union, can_unite
 
 NULL = (0, 0)
 NAMES = ["IA", "IB", "ICA", "IC"]
@@ -63,15 +65,18 @@ class Table:
 
 
 class Asked:
-    def __init__(self, spans, uses, whole=True, ordered=False, soon=False, race=False):
+    def __init__(self, spans, uses, whole=True, ordered=False, soon=False, race=False, either=()):
         self.spans = spans  # column -> (low, high)
+        self.either = either  # columns with spans of which one is enough
         self.uses = uses
-        self.needed = {0, 2} | ({1} if whole or 1 in spans else set())
+        self.needed = {0, 2} | ({1} if whole or 1 in spans or either else set())
         self.ordered = ordered and any(COLUMNS[i][0] == 2 for i in uses)
         self.soon, self.race = soon, race
 
     def qualifies(self, row):
-        return all(in_span(row[c], span) for c, span in self.spans.items())
+        return all(in_span(row[c], span) for c, span in self.spans.items()) and (
+            not self.either or any(in_span(row[c], span) for c, span in self.either)
+        )
 
 
 def in_span(v, span):
@@ -80,12 +85,14 @@ def in_span(v, span):
 
 
 class Index:
-    """An index as a query sees it: its range is the span of its first column, whole where that has none."""
+    """An index as a query sees it: its range is the span of its first column, whole where that has none. The spans are the
+    query's, or of a branch its one."""
 
-    def __init__(self, table, asked, number):
+    def __init__(self, table, asked, number, spans=None):
+        spans = asked.spans if spans is None else spans
         self.name, self.columns = NAMES[number], COLUMNS[number]
         self.leaves = table.leaves[number]
-        self.range = asked.spans.get(self.columns[0])
+        self.range = spans.get(self.columns[0])
         self.restricted = self.range is not None
         if table.trees[number] is not None:
             self.estimate, self.exact = table.trees[number].estimate(self)
@@ -93,7 +100,7 @@ class Index:
             self.estimate, self.exact = sum(self.side(key) == 0 for leaf in self.leaves for key, _ in leaf), True
         self.covers = asked.needed <= set(self.columns)
         # the part of the restriction that it tests by itself
-        self.part = {c: span for c, span in asked.spans.items() if c in self.columns}
+        self.part = {c: span for c, span in spans.items() if c in self.columns}
 
     def is_empty(self):
         return self.range is not None and self.range[0] > self.range[1]
@@ -189,12 +196,25 @@ class Racing(Driven, Race):
     pass
 
 
+class Uniting(Driven, Union):
+    pass
+
+
+def members(table, asked):
+    """An index for each of the further spans, of those that it bounds that with the least estimate; none where one has none."""
+    seen = [[Index(table, asked, number, {column: span}) for number in asked.uses] for column, span in asked.either]
+    bounded = [[index for index in indexes if index.restricted] for indexes in seen]
+    return [min(some, key=lambda index: index.estimate) for some in bounded] if len(seen) > 1 and all(bounded) else []
+
+
 def access(table, asked, judge):
-    """A retrieval, or two indexes that race where that is asked and they can."""
+    """A retrieval, or two indexes that race where that is asked and they can, or keys that are put together."""
     indexes = [Index(table, asked, number) for number in asked.uses]
     order = (2,) if asked.ordered else ()
     if asked.race and can_race(indexes, order, asked.soon):
         return Racing(table, asked, judge, indexes, table.pages, Counts())
+    if can_unite(indexes, order) and members(table, asked):
+        return Uniting(table, asked, judge, members(table, asked), table.pages, Counts())
     return Competing(table, asked, judge, indexes, table.pages, order, asked.soon, Counts())
 
 
@@ -348,6 +368,37 @@ def no_races():
     yield "no race of one", Asked({0: (60, 300)}, [IA, IB], race=True)
 
 
+def one_of(either, uses=(IA, IB)):
+    return Asked({}, list(uses), either=either)
+
+
+def few_unions():
+    forty = Table(40, "zero", paged=True)
+    ten = one_of([(0, (3, 8)), (0, (6, 12))])
+    nearly = one_of([(0, (0, 29)), (0, (6, 39))])
+    yield "paged, union", forty, ten, patient, Way(0)
+    yield "paged, union stays", forty, nearly, patient, Way(0)
+    yield "paged, union drops", forty, nearly, threshold, Way(0)
+
+
+def wide_unions():
+    apart = [(0, (60, 140)), (1, (300, 380))]
+    four = [(0, (10, 30)), (1, (100, 150)), (2, (3, 5)), (0, (20, 60))]
+    yield "union", one_of(apart)
+    yield "union, overlapping", one_of([(0, (60, 200)), (0, (150, 300))])
+    yield "union of four", one_of(four, range(4))
+    yield "union, twice the same", one_of([(0, (100, 160)), (1, (100, 160))])
+    yield "union by the lesser index", one_of([(2, (10, 12)), (0, (0, 40))], range(4))
+    yield "union and a span", Asked({2: (10, 14)}, [IA, IB], either=apart)
+
+
+def narrow_unions():
+    yield "union without a row", one_of([(0, (900, 950)), (1, (900, 950))])
+    yield "union, one empty", one_of([(0, (900, 950)), (1, (100, 160))])
+    yield "union, crossed", one_of([(0, (40, 10)), (0, (20, 30))])
+    yield "no union, an unbound branch", one_of([(0, (10, 30)), (1, (100, 150)), (2, (3, 5)), (0, (20, 60))])
+
+
 def write_kinds(out, table, some):
     for name, asked in some:
         out.write(name + "\n")
@@ -364,6 +415,10 @@ def main(out):
         out.write(f"{name}: {outcome(table, asked, judge, way)}\n")
     write_kinds(out, Table(400, "same"), [*kinds(), *races(), *no_races()])
     write_kinds(out, Table(400, "same", paged=True), [("paged, " + name, asked) for name, asked in races()])
+    for name, table, asked, judge, way in few_unions():
+        out.write(f"{name}: {outcome(table, asked, judge, way)}\n")
+    write_kinds(out, Table(400, "same"), [*wide_unions(), *narrow_unions()])
+    write_kinds(out, Table(400, "same", paged=True), [("paged, " + name, asked) for name, asked in wide_unions()])
 
 
 if __name__ == "__main__":

@@ -1,6 +1,7 @@
 -- That the query for what is asked can be asked of a loaded store.
 use Rattle.std.proofs.Common.{◌≡◌, ◌⊎◌, inl, inr, ℕ, ◌<◌, ◌≤◌, ◌+◌, List, [], ◌∷◌, ◌++◌, Bool, true, false, ◌&&◌, ◌||◌, ◌==◌, cond, Some, None, Option, nat_eq, refl, sym, ap, ◌∙◌, arith, length, map, subst}
 use Rattle.std.proofs.lemmas.List.{length_push, map-append}
+use Rattle.std.proofs.lemmas.List.Folds.{list_all-append}
 use Rattle.std.specs.Prelude.{is_some, nat_lt}
 use Rattle.std.proofs.lemmas.Bool.Decides.{nat_tests}
 use Rattle.std.proofs.lemmas.Cmp.{nat_eq_equiv}
@@ -12,7 +13,7 @@ use Rattle.rv_restrict.specs.declared.atom.Atom.{Atom}
 use Rattle.rv_restrict.specs.declared.atom.ColRef.{ColRef}
 use Rattle.rv_restrict.specs.Bind.{passes_home}
 use Rattle.rv_restrict.specs.Parts.{stands_among}
-use Rattle.rv_restrict.specs.Truth.{is_home, names_only, row_has}
+use Rattle.rv_restrict.specs.Truth.{atom_names_only, group_names_only, is_home, names_only, row_has}
 use Rattle.rv_reader.specs.Entries.{entries_of}
 use Rattle.rv_reader.specs.Shown.{Shown}
 use Rattle.rv_reader.specs.Storing.{AreWide}
@@ -21,8 +22,9 @@ use Rattle.rv_choice.specs.declared.query.Goal2.{Goal2}
 use Rattle.rv_choice.specs.declared.query.Query.{Query}
 use Rattle.rv_choice.specs.Asked.{CanAsk, IsIndexOf, begins_any}
 use Rattle.retrieval_table.specs.declared.asked.Span.{Span}
+use Rattle.retrieval_table.specs.declared.asked.Either.{Either}
 use Rattle.retrieval_table.specs.declared.asked.Asked.{Asked}
-use Rattle.retrieval_table.specs.Asking.{Chosen, IsOrder, IsOurs, is_column, needed, span_group, spans_of}
+use Rattle.retrieval_table.specs.Asking.{Chosen, IsOrder, IsOurs, either_atoms, either_group, is_column, needed, span_atoms, span_group, spans_of}
 use Rattle.retrieval_table.specs.Laying.{Offers, columns_of}
 use Rattle.retrieval_table.proofs.Kept.{are_columns}
 
@@ -82,39 +84,52 @@ our_indexes shown query (i ∷ indexes) table offers ours = (our_index shown que
 
 -- The restriction.
 
-spans_columns : (first second third : Option Span) → names_only is_column (span_group 0 first ++ span_group 1 second ++ span_group 2 third) ≡ true
-spans_columns None None None = refl
-spans_columns None None (Some t) = refl
-spans_columns None (Some s) None = refl
-spans_columns None (Some s) (Some t) = refl
-spans_columns (Some f) None None = refl
-spans_columns (Some f) None (Some t) = refl
-spans_columns (Some f) (Some s) None = refl
-spans_columns (Some f) (Some s) (Some t) = refl
+both_true : (a b : Bool) → a ≡ true → b ≡ true → (a && b) ≡ true
+both_true a b h i = grind arith
+
+and_true : (a : Bool) → (a && true) ≡ a
+and_true true = refl
+and_true false = refl
+
+atoms_more : (p : ColRef → Bool) (xs ys : List Atom) → group_names_only p xs ≡ true → group_names_only p ys ≡ true → group_names_only p (xs ++ ys) ≡ true
+atoms_more p xs ys h i = list_all-append (atom_names_only p) xs ys ∙ both_true (group_names_only p xs) (group_names_only p ys) h i
+
+groups_more : (p : ColRef → Bool) (xs ys : List (List Atom)) → names_only p xs ≡ true → names_only p ys ≡ true → names_only p (xs ++ ys) ≡ true
+groups_more p xs ys h i = list_all-append (group_names_only p) xs ys ∙ both_true (names_only p xs) (names_only p ys) h i
+
+atom_named : (p : ColRef → Bool) (column : ℕ) (span : Option Span) → p (record { place = 0; column = column }) ≡ true → group_names_only p (span_atoms column span) ≡ true
+atom_named p column None h = refl
+atom_named p column (Some s) h = and_true (p (record { place = 0; column = column })) ∙ h
+
+group_named : (p : ColRef → Bool) (column : ℕ) (span : Option Span) → p (record { place = 0; column = column }) ≡ true → names_only p (span_group column span) ≡ true
+group_named p column None h = refl
+group_named p column (Some s) h = and_true (group_names_only p (span_atoms column (Some s))) ∙ and_true (p (record { place = 0; column = column })) ∙ h
+
+either_named : (p : ColRef → Bool) (either : Option Either) → p (record { place = 0; column = 0 }) ≡ true → p (record { place = 0; column = 1 }) ≡ true → p (record { place = 0; column = 2 }) ≡ true → names_only p (either_group either) ≡ true
+either_named p None f s t = refl
+either_named p (Some e) f s t =
+    let again = atom_named p 0 e.again f in
+    let third = atoms_more p (span_atoms 2 e.third) (span_atoms 0 e.again) (atom_named p 2 e.third t) again in
+    let second = atoms_more p (span_atoms 1 e.second) (span_atoms 2 e.third ++ span_atoms 0 e.again) (atom_named p 1 e.second s) third in
+    and_true (group_names_only p (either_atoms e)) ∙ atoms_more p (span_atoms 0 e.first) (span_atoms 1 e.second ++ span_atoms 2 e.third ++ span_atoms 0 e.again) (atom_named p 0 e.first f) second
+
+spans_pass : (p : ColRef → Bool) (first second third : Option Span) (either : Option Either) → p (record { place = 0; column = 0 }) ≡ true → p (record { place = 0; column = 1 }) ≡ true → p (record { place = 0; column = 2 }) ≡ true → names_only p (span_group 0 first ++ span_group 1 second ++ span_group 2 third ++ either_group either) ≡ true
+spans_pass p first second third either f s t =
+    let behind = groups_more p (span_group 2 third) (either_group either) (group_named p 2 third t) (either_named p either f s t) in
+    let more = groups_more p (span_group 1 second) (span_group 2 third ++ either_group either) (group_named p 1 second s) behind in
+    groups_more p (span_group 0 first) (span_group 1 second ++ span_group 2 third ++ either_group either) (group_named p 0 first f) more
 
 pub asked_columns : (asked : Asked) (only : List (List Atom)) → only ≡ spans_of asked → names_only is_column only ≡ true
-asked_columns asked only is = rw is (spans_columns asked.first asked.second asked.third)
+asked_columns asked only is = rw is (spans_pass is_column asked.first asked.second asked.third asked.either refl refl refl)
 
-spans_named : (whole : Bool) (first second third : Option Span) → names_only (passes_home (stands_among (cond (whole || is_some second) (0 ∷ 1 ∷ 2 ∷ []) (0 ∷ 2 ∷ [])))) (span_group 0 first ++ span_group 1 second ++ span_group 2 third) ≡ true
-spans_named true None None None = refl
-spans_named true None None (Some t) = refl
-spans_named true None (Some s) None = refl
-spans_named true None (Some s) (Some t) = refl
-spans_named true (Some f) None None = refl
-spans_named true (Some f) None (Some t) = refl
-spans_named true (Some f) (Some s) None = refl
-spans_named true (Some f) (Some s) (Some t) = refl
-spans_named false None None None = refl
-spans_named false None None (Some t) = refl
-spans_named false None (Some s) None = refl
-spans_named false None (Some s) (Some t) = refl
-spans_named false (Some f) None None = refl
-spans_named false (Some f) None (Some t) = refl
-spans_named false (Some f) (Some s) None = refl
-spans_named false (Some f) (Some s) (Some t) = refl
+spans_named : (whole : Bool) (first second third : Option Span) (either : Option Either) → names_only (passes_home (stands_among (cond (whole || (is_some second || is_some either)) (0 ∷ 1 ∷ 2 ∷ []) (0 ∷ 2 ∷ [])))) (span_group 0 first ++ span_group 1 second ++ span_group 2 third ++ either_group either) ≡ true
+spans_named true first second third either = spans_pass (passes_home (stands_among (0 ∷ 1 ∷ 2 ∷ []))) first second third either refl refl refl
+spans_named false first (Some s) third either = spans_pass (passes_home (stands_among (0 ∷ 1 ∷ 2 ∷ []))) first (Some s) third either refl refl refl
+spans_named false first None third (Some e) = spans_pass (passes_home (stands_among (0 ∷ 1 ∷ 2 ∷ []))) first None third (Some e) refl refl refl
+spans_named false first None third None = groups_more (passes_home (stands_among (0 ∷ 2 ∷ []))) (span_group 0 first) (span_group 2 third ++ []) (group_named (passes_home (stands_among (0 ∷ 2 ∷ []))) 0 first refl) (groups_more (passes_home (stands_among (0 ∷ 2 ∷ []))) (span_group 2 third) [] (group_named (passes_home (stands_among (0 ∷ 2 ∷ []))) 2 third refl) refl)
 
 asked_named : (asked : Asked) (only : List (List Atom)) (need : List ℕ) → only ≡ spans_of asked → need ≡ needed asked → names_only (passes_home (stands_among need)) only ≡ true
-asked_named asked only need is all = rw (is, all) (spans_named asked.whole asked.first asked.second asked.third)
+asked_named asked only need is all = rw (is, all) (spans_named asked.whole asked.first asked.second asked.third asked.either)
 
 -- a row of three values has the columns
 pub row_columns : (only : List (List Atom)) (values : List Value) → names_only is_column only ≡ true → length values ≡ 3 → names_only (row_has values) only ≡ true
@@ -126,14 +141,13 @@ rows_columns only (r ∷ rows) names wide = rw (row_columns only r.values names 
 
 -- The order.
 
-third_needed : (whole : Bool) (second : Option Span) (c : ℕ) → (2 == c || false) ≡ true → stands_among (cond (whole || is_some second) (0 ∷ 1 ∷ 2 ∷ []) (0 ∷ 2 ∷ [])) c ≡ true
-third_needed true second c third = grind (arith, nat_tests, third)
-third_needed false None c third = grind (arith, nat_tests, third)
-third_needed false (Some s) c third = grind (arith, nat_tests, third)
+third_needed : (all : Bool) (c : ℕ) → (2 == c || false) ≡ true → stands_among (cond all (0 ∷ 1 ∷ 2 ∷ []) (0 ∷ 2 ∷ [])) c ≡ true
+third_needed true c third = grind (arith, nat_tests, third)
+third_needed false c third = grind (arith, nat_tests, third)
 
 order_needed : (asked : Asked) (indexes : List (ℕ × List ℕ)) (order need : List ℕ) → IsOrder indexes order → need ≡ needed asked → (c : ℕ) → stands_among order c ≡ true → stands_among need c ≡ true
 order_needed asked indexes order need (inl none) all c among = absurd (let no : false ≡ true = ap (λ (o : List ℕ). stands_among o c) (sym none) ∙ among in cc)
-order_needed asked indexes order need (inr third) all c among = rw all (third_needed asked.whole asked.second c (ap (λ (o : List ℕ). stands_among o c) (sym third.0) ∙ among))
+order_needed asked indexes order need (inr third) all c among = rw all (third_needed (asked.whole || (is_some asked.second || is_some asked.either)) c (ap (λ (o : List ℕ). stands_among o c) (sym third.0) ∙ among))
 
 order_begins : (indexes : List (ℕ × List ℕ)) (order : List ℕ) → IsOrder indexes order → (order ≡ []) ⊎ (begins_any indexes order ≡ true)
 order_begins indexes order (inl none) = inl none

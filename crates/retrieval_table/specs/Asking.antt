@@ -9,21 +9,34 @@ use Rattle.rv_restrict.specs.Truth.{is_home}
 use Rattle.rv_choice.specs.declared.query.Query.{Query}
 use Rattle.rv_choice.specs.Asked.{begins_any}
 use Rattle.retrieval_table.specs.declared.asked.Span.{Span}
+use Rattle.retrieval_table.specs.declared.asked.Either.{Either}
 use Rattle.retrieval_table.specs.declared.asked.Asked.{Asked}
 use Rattle.retrieval_table.specs.Laying.{columns_of}
 
 -- the columns needed
 abbrev pub needed : Asked → List ℕ
-needed asked = if asked.whole || is_some asked.second then 0 ∷ 1 ∷ 2 ∷ [] else 0 ∷ 2 ∷ []
+needed asked = if asked.whole || (is_some asked.second || is_some asked.either) then 0 ∷ 1 ∷ 2 ∷ [] else 0 ∷ 2 ∷ []
 
 -- a column lies in a span
+abbrev pub span_atoms : ℕ → Option Span → List Atom
+span_atoms column None = []
+span_atoms column (Some span) = Between (record { place = 0; column = column }) (Int span.low) (Int span.high) ∷ []
+
 abbrev pub span_group : ℕ → Option Span → List (List Atom)
 span_group column None = []
 span_group column (Some span) = (Between (record { place = 0; column = column }) (Int span.low) (Int span.high) ∷ []) ∷ []
 
--- the restriction: each column lies in its span, where it has one
+-- some column lies in its span
+abbrev pub either_atoms : Either → List Atom
+either_atoms e = span_atoms 0 e.first ++ span_atoms 1 e.second ++ span_atoms 2 e.third ++ span_atoms 0 e.again
+
+abbrev pub either_group : Option Either → List (List Atom)
+either_group None = []
+either_group (Some e) = either_atoms e ∷ []
+
+-- the restriction: each column lies in its span, where it has one, and one of those lies in its span of which one is enough
 abbrev pub spans_of : Asked → List (List Atom)
-spans_of asked = span_group 0 asked.first ++ span_group 1 asked.second ++ span_group 2 asked.third
+spans_of asked = span_group 0 asked.first ++ span_group 1 asked.second ++ span_group 2 asked.third ++ either_group asked.either
 
 -- a column of the table
 abbrev pub is_column : ColRef → Bool

@@ -6,7 +6,7 @@ ghost use Rattle.rv_restrict.specs.Groups.{groups_of};
 ghost use Rattle.rv_restrict.specs.declared.atom.Atom.TheVariants.{Between};
 ghost use Rattle.rv_restrict.specs.Parts.{stands_among};
 ghost use Rattle.rv_choice.specs.Asked.{CanAsk, begins_any};
-ghost use Rattle.retrieval_table.specs.Asking.{Chosen, IsOrder, IsQuery, needed, span_group, spans_of};
+ghost use Rattle.retrieval_table.specs.Asking.{Chosen, IsOrder, IsQuery, either_atoms, either_group, needed, span_atoms, span_group, spans_of};
 ghost use Rattle.retrieval_table.specs.Laying.{Offers};
 
 use crate::load::columns_of;
@@ -22,16 +22,27 @@ pub struct Span {
     pub high: i64,
 }
 
-/// What is asked of the table: the spans in which its columns are, by which of the indexes, with which columns, in the
+/// Spans of which one is enough, of the columns and again of the first.
+#[derive(Clone, Copy, PartialEq, Eq, Debug)]
+pub struct Either {
+    pub first: Option<Span>,
+    pub second: Option<Span>,
+    pub third: Option<Span>,
+    pub again: Option<Span>,
+}
+
+/// What is asked of the table: the spans in which its columns are, those of which one is enough, by which of the indexes, with which columns, in the
 /// order of the third column or in any order.
 #[derive(Clone, Copy, PartialEq, Eq, Debug)]
 pub struct Asked {
     pub first: Option<Span>,
     pub second: Option<Span>,
     pub third: Option<Span>,
+    pub either: Option<Either>,
     /// Which of the indexes there are.
     pub uses: [bool; 4],
-    /// Whether all columns are needed; else the first and the third, and the second only where it is restricted.
+    /// Whether all columns are needed; else the first and the third, and the second only where it is restricted. Where one of
+    /// several spans is enough all are needed.
     pub whole: bool,
     pub sorted: bool,
     pub goal: Goal2,
@@ -45,7 +56,7 @@ impl Asked {
         requires { column < 3 }
         ensures { result ≡ stands_among (needed self.now) column }
     {
-        self.whole || self.second.is_some() || column != 1
+        self.whole || self.second.is_some() || self.either.is_some() || column != 1
     }
 }
 
@@ -74,6 +85,42 @@ fn add_span(
     Ok(())
 }
 
+/// Adds the atom of a column's span.
+fn add_atom(atoms: &mut Vec<Atom>, column: u32, span: Option<Span>) -> Result<(), NoMemory>
+    ensures { OnOk result (atoms.new.items ≡ atoms.old.items ++ span_atoms column span) }
+{
+    if let Some(span) = span {
+        atoms.push(between(column, span))?;
+    }
+    Ok(())
+}
+
+/// The atoms of the spans of which one is enough.
+fn atoms_of(alloc: Global, either: Either) -> Result<Vec<Atom>, NoMemory>
+    ensures { IfOk result (λ atoms. atoms.items ≡ either_atoms either) }
+{
+    let mut atoms = Vec::new(alloc);
+    add_atom(&mut atoms, 0, either.first)?;
+    add_atom(&mut atoms, 1, either.second)?;
+    add_atom(&mut atoms, 2, either.third)?;
+    add_atom(&mut atoms, 0, either.again)?;
+    Ok(atoms)
+}
+
+/// Adds the group of the spans of which one is enough.
+fn add_either(
+    alloc: Global,
+    groups: &mut Vec<Vec<Atom>>,
+    either: Option<Either>,
+) -> Result<(), NoMemory>
+    ensures { OnOk result (groups_of groups.new.items ≡ groups_of groups.old.items ++ either_group either) }
+{
+    if let Some(either) = either {
+        groups.push(atoms_of(alloc, either)?)?;
+    }
+    Ok(())
+}
+
 /// The restriction.
 pub fn wanted(alloc: Global, asked: &Asked) -> Result<Restriction, NoMemory>
     ensures { IfOk result (λ only. only ≡ spans_of asked.now) }
@@ -82,6 +129,7 @@ pub fn wanted(alloc: Global, asked: &Asked) -> Result<Restriction, NoMemory>
     add_span(alloc, &mut groups, 0, asked.first)?;
     add_span(alloc, &mut groups, 1, asked.second)?;
     add_span(alloc, &mut groups, 2, asked.third)?;
+    add_either(alloc, &mut groups, asked.either)?;
     Ok(Restriction::from_groups(groups))
 }
 
@@ -116,7 +164,7 @@ fn indexes(alloc: Global, uses: [bool; 4]) -> Result<Vec<(u32, Items<u32>)>, NoM
 fn need(alloc: Global, asked: &Asked) -> Result<Vec<u32>, NoMemory>
     ensures { IfOk result (λ need. need.items ≡ needed asked.now) }
 {
-    if asked.whole || asked.second.is_some() {
+    if asked.whole || asked.second.is_some() || asked.either.is_some() {
         Ok(vec![in alloc; 0, 1, 2]?)
     } else {
         Ok(vec![in alloc; 0, 2]?)

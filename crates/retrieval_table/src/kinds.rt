@@ -85,10 +85,11 @@ const RULINGS: [Ruling; 8] = [
 ];
 
 /// Any row, by no index.
-const ANY: Asked = Asked {
+pub(crate) const ANY: Asked = Asked {
     first: None,
     second: None,
     third: None,
+    either: None,
     uses: [false, false, false, false],
     whole: true,
     sorted: false,
@@ -209,7 +210,7 @@ fn add_ways<R: Reader<Ledger = Uncounted>>(
     Ok(())
 }
 
-fn add_kind<R: Reader<Ledger = Uncounted>>(
+pub(crate) fn add_kind<R: Reader<Ledger = Uncounted>>(
     alloc: Global,
     reader: &R,
     loaded: Loaded,

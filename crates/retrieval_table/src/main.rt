@@ -15,17 +15,20 @@ mod lines;
 mod load;
 mod rows;
 mod trace;
+mod unions;
 
 use kinds::add_kinds;
 use rows::add_rows;
 use rv_value::NoMemory;
 use std::alloc::Global;
 use std::io;
+use unions::add_unions;
 
 fn all_lines(alloc: Global) -> Result<Vec<String>, NoMemory> {
     let mut lines = Vec::new(alloc);
     add_rows(alloc, &mut lines)?;
     add_kinds(alloc, &mut lines)?;
+    add_unions(alloc, &mut lines)?;
     Ok(lines)
 }
 

@@ -17,6 +17,7 @@ const BOTH: Asked = Asked {
     first: Some(Span { low: 10, high: 40 }),
     second: Some(Span { low: 30, high: 70 }),
     third: None,
+    either: None,
     uses: [true, true, false, false],
     whole: true,
     sorted: false,
@@ -29,6 +30,7 @@ const SOON: Asked = Asked {
     first: Some(Span { low: 10, high: 40 }),
     second: None,
     third: None,
+    either: None,
     uses: [true, false, false, false],
     whole: true,
     sorted: false,
@@ -44,6 +46,7 @@ const ALL_SOON: Asked = Asked {
     }),
     second: None,
     third: None,
+    either: None,
     uses: [true, false, false, false],
     whole: true,
     sorted: false,
@@ -69,6 +72,7 @@ const TWENTY_SORTED: Asked = Asked {
     first: None,
     second: Some(Span { low: 10, high: 29 }),
     third: None,
+    either: None,
     uses: [false, true, false, true],
     whole: true,
     sorted: true,
@@ -84,6 +88,7 @@ const ALL_BY_INDEX: Asked = Asked {
     }),
     second: None,
     third: None,
+    either: None,
     uses: [true, false, true, false],
     whole: false,
     sorted: false,
@@ -99,6 +104,7 @@ const TWO: Asked = Asked {
     }),
     second: None,
     third: Some(Span { low: 1, high: 3 }),
+    either: None,
     uses: [true, false, false, true],
     whole: true,
     sorted: false,
@@ -106,7 +112,7 @@ const TWO: Asked = Asked {
     race: true,
 };
 
-const NO_STEP: Way = Way {
+pub(crate) const NO_STEP: Way = Way {
     steps: 0,
     late: 0,
     times: 1,
@@ -129,7 +135,7 @@ const AFTER_THREE: Way = Way {
     after: Some(3),
 };
 
-fn add<R: Reader<Ledger = Uncounted>>(
+pub(crate) fn add<R: Reader<Ledger = Uncounted>>(
     alloc: Global,
     reader: &R,
     loaded: Loaded,
