@@ -105,9 +105,19 @@ def in_two() -> list[str]:
     return [*table, *stepped, *["2 FETCH C"] * 24, "2 SHOW C", "2 COMMIT"]
 
 
+def several(only: str, rows: int) -> list[str]:
+    """All rows of an OR of which each part bounds an index, and SHOW."""
+    return ["2 BEGIN READ ONLY", f"2 OPEN C SELECT * FROM T WHERE {only}", *["2 FETCH C"] * (rows + 1), "2 SHOW C", "2 COMMIT"]
+
+
 HALF = reading("A BETWEEN 10 AND 29", 4, 5, 17)
 THIRD = reading("A BETWEEN 10 AND 40", 4, 5, 28)
 ALL = reading("A >= 0", 1101, 0, 0)
+FIVE = several("A IN (5, 20, 20, NULL, 99)", 2)
+TWO_RANGES = several("A < 30 OR A > 5", 40)
+NOBODY = several("A IN (100, 200)", 0)
+SECOND_GROUP = several("(A IN (5, NULL) OR B <> 7) AND (A = 3 OR A = 4)", 2)
+GATHERED = several("A IN (3, 4) ORDER BY B", 2)
 
 LIST = "fast-first building scan IA list IA 20 final-list done pages 0 leaves 2 fetches 20"
 DROP = "fast-first building scan IA drop IA final-table done pages 2 leaves 1 fetches 0"
@@ -119,6 +129,8 @@ FIRST_ONE = "background-only background scan IA list IA 30 scan IB pages 0 leave
 TWO_LISTS = "background-only background scan IA list IA 30 scan IB list IB 23 final-list done pages 0 leaves 4 fetches 23"
 TWO_DROPS = "background-only background scan IA drop IA scan IB drop IB final-table pages 0 leaves 2 fetches 0"
 NO_LIST = "background-only background scan IA drop IA scan IB drop IB final-table done pages 2 leaves 2 fetches 0"
+UNION = "union background scan IA list IA {} final-list done pages 0 leaves {} fetches {}"
+NO_UNION = "union background scan IA drop IA final-table done pages 2 leaves 1 fetches 0"
 LIST_OF_MORE = "fast-first building scan IA list IA 31 final-list done pages 0 leaves 2 fetches 31"
 
 
@@ -139,6 +151,12 @@ def traces(plain: bool = False) -> Iterator[tuple[list[str], list[str], list[str
         yield ["--judge", "1", "--steps", "0"], in_two(), [FIRST_ONE, TWO_LISTS]
         yield ["--race", "--judge", "1", "--steps", "0"], in_two(), [IN_TURN, TWO_LISTS]
         yield ["--steps", "0", "--race"], in_two(), [TWO_DROPS, NO_LIST]
+        # Branches of one leaf ask nobody. Of the two ranges that are nearly all, threshold drops the first at its first leaf.
+        few = [FIVE, NOBODY, SECOND_GROUP, GATHERED]
+        told = [UNION.format(keys, leaves, keys) for keys, leaves in [(2, 4), (0, 2), (2, 2), (2, 2)]]
+        yield ["--steps", "0"], loaded(40) + sum(few, []), told
+        yield ["--race", "--judge", "1"], loaded(40) + sum(few, []) + TWO_RANGES, told + [UNION.format(40, 4, 40)]
+        yield [], loaded(40) + TWO_RANGES, [NO_UNION]
     else:
         yield ["--steps", "0"], loaded(80) + THIRD, [DROP_OF_MORE]
         yield ["--judge", "1", "--steps", "0"], loaded(80) + THIRD, [LIST_OF_MORE]
