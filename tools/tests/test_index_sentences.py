@@ -47,9 +47,14 @@ class Sentences(unittest.TestCase):
         self.assertIn(" scan IC", self.trace("SELECT * FROM T WHERE C STARTING WITH 'c0'"))
 
     def test_conditions_that_no_index_serves(self):
-        for condition in ("A <> 3", "A IN (3)", "A IN (3, 4)", "A = 3 OR A = 4", "(A = 3 OR A = 3)", "A = NULL", "A = B", "A < D", "B = 99"):
+        for condition in ("A <> 3", "A IN (3)", "A IN (3, NULL)", "A = 3 OR B = 99", "A = NULL", "A = B", "A < D", "B = 99"):
             told = self.trace(f"SELECT * FROM T WHERE {condition}", 400)
             self.assertEqual(told, "trace table final-table done pages 10 leaves 0 fetches 0", condition)
+
+    def test_parts_of_an_or_that_indexes_serve(self):
+        for condition in ("A IN (3, 4)", "A = 3 OR A = 4", "(A = 3 OR A = 3)", "A = 3 OR C = 'c01'", "B <> 1 AND (A IS NULL OR C > 'c38')"):
+            self.assertTrue(self.trace(f"SELECT * FROM T WHERE {condition}").startswith("trace union background scan I"), condition)
+        self.assertIn(" scan IC", self.trace("SELECT * FROM T WHERE A IN (3, 4) AND C STARTING WITH 'c0'"))  # a range comes first
 
     def test_second_column_behind_an_equality_bounds(self):
         self.assertIn("list IAB 1 final-list", self.trace("SELECT * FROM T WHERE A = 3 AND B = 1"))  # a short range, read at once
