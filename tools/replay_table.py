@@ -180,6 +180,20 @@ COURSES = [
     ("0,1", "background-only", TWO.format(30, 2, 2), False),
     ("0,1", "background-only", TWO.format(0, 1, 1), False),
     ("0,1", "background-only", "background scan I0 list I0 30 scan I1 drop I1 final-list", True),
+    ("0,1", "union", "background scan I0", True),
+    ("0,1", "union", "background scan I1 scan I0", True),
+    ("0,1", "union", "background scan I0 scan I1 list I0 40 final-list done", True),
+    ("0,1", "union", "background scan I1 drop I1 final-table", True),
+    ("0,1", "union", "background", False),
+    ("0,1", "union", "background scan I0 scan I0 list I0 40 final-list", False),
+    ("0", "union", "background scan I0 scan I1", False),
+    ("0,1", "union", "background scan I0 list I1 40 final-list", False),
+    ("0,1", "union", "background scan I0 list I0 40 final-table", False),
+    ("0,1", "union", "background scan I0 drop I0 final-list", False),
+    ("0,1", "union", "background scan I0 drop I0 scan I1", False),
+    ("0,1", "union", "background scan I0 list I0 40", False),
+    ("0,1", "union", "building scan I0 list I0 40 final-list", False),
+    ("0,1", "background-only", "background scan I0 scan I1 list I1 40 final-list", False),
 ]
 
 

@@ -35,7 +35,7 @@ REPLY = re.compile(
     f"|duplicate {NUMBER}(?: by (?:commit|txn) {NUMBER})?"
     f"|limit (?:{'|'.join(LIMITS.split())}) {NUMBER}"
     f"|row (?:{VALUE}(?:, {VALUE})*)?"
-    f"|trace (?:table|background-only|fast-first|sorted|index-only)(?: {EVENT})*"
+    f"|trace (?:table|background-only|fast-first|sorted|index-only|union)(?: {EVENT})*"
     f" pages {NUMBER} leaves {NUMBER} fetches {NUMBER}"
 )
 QUOTED = re.compile(r"'(?:[^']|'')*'")
