@@ -28,11 +28,15 @@ from model.program import run
 class Checked(Database):
     """The database, which looks at what STEP and SHOW answer too."""
 
+    def __init__(self, race=False):
+        super().__init__()
+        self.race = race
+
     def opened(self, select):
         cursor = super().opened(select)
         table = select.tables[0]
         indexes = [name for name, index in self.indexes.items() if index.table == table]
-        cursor.seen = Seen(indexes, len(self.view(table)), len(select.tables), select.soon, select.order)
+        cursor.seen = Seen(indexes, len(self.view(table)), len(select.tables), select.soon, select.order, self.race)
         return cursor
 
     def given(self, statement, reply):
@@ -505,7 +509,7 @@ def differs(ran, script, calls, broken, words, exact):
     told = ran.stdout.decode().split("\n")
     if len(told) != 2 * len(calls) + 1 or told[-1] != "":
         return f"{len(told) - 1} lines for {len(calls)} calls"
-    database = Checked()
+    database = Checked(words.get("race", False))
     sure = [reply for _, _, reply in run(script, **words)] if exact else None
     for at, (session, text, statement) in enumerate(calls):
         if told[2 * at] != f"{session} {text}":

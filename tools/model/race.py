@@ -34,6 +34,9 @@ class Race:
         self.number = 1  # of the piece awaited
         self.at, self.page, self.held = 0, 0, []  # the final stages
         self.control, self.last = "background", []
+        self.told = []  # the scans whose beginning was told
+        self.note("event", self.control)
+        self.tell_scans()
 
     # What is under way.
 
@@ -51,6 +54,13 @@ class Race:
         way = self.under_way()
         others = [scan for scan in way if scan is not self.served]
         return (others or way or [None])[0]
+
+    def tell_scans(self):
+        """Who watches is told which scans begin, both of a pair."""
+        for scan in self.under_way():
+            if scan not in self.told:
+                self.told.append(scan)
+                self.note("event", "scan " + scan.index.name)
 
     @property
     def events(self):
@@ -92,6 +102,7 @@ class Race:
         else:
             self.question(scan)
         self.served = scan
+        self.tell_scans()
         return True
 
     def completed(self, scan):
@@ -102,7 +113,7 @@ class Race:
         for other in others:
             other.keys = [n for n in other.keys if self.list.may_have(n)]
             other.kept = len(other.keys)
-        self.ends.append((scan, f"list {scan.index.name} {len(scan.keys)}"))
+        self.over(scan, f"list {scan.index.name} {len(scan.keys)}")
         if not scan.keys or not self.left():
             self.to("final-list")
 
@@ -115,17 +126,22 @@ class Race:
         self.note("ruled", Ruling(scan.index.name, scan.scanned, scan.kept, scan.index.estimate, cost(scan), least, verdict))
         final = "final-table" if self.list is None else "final-list"
         if verdict == "drop":
-            self.ends.append((scan, "drop " + scan.index.name))
+            self.over(scan, "drop " + scan.index.name)
             if not self.left():
                 self.to(final)
         elif verdict == "end":
             lower = self.under_way()[0]
-            self.ends.append((lower, "drop " + lower.index.name))
+            self.over(lower, "drop " + lower.index.name)
             self.to(final)
+
+    def over(self, scan, event):
+        self.ends.append((scan, event))
+        self.note("event", event)
 
     def to(self, control):
         self.control = control
         self.last.append(control)
+        self.note("event", control)
 
     # Steps.
 

@@ -11,6 +11,7 @@ use Rattle.rv_value.specs.declared.record.RowNo.{RowNo}
 use Rattle.rv_rows.specs.declared.changes.Change.{Change}
 use Rattle.rv_rows.specs.Changes.{rows_with_changes, with_changes}
 use Rattle.rv_lang.specs.declared.reply.Refusal.{Refusal}
+use Rattle.rv_lang.specs.declared.reply.Reply.TheVariants.{Inserted, Touched}
 use Rattle.rv_restrict.specs.declared.atom.Atom.{Atom}
 use Rattle.rv_restrict.specs.Truth.{qualifies}
 use Rattle.rv_catalog.specs.declared.def.IndexDef.{IndexDef}
@@ -23,7 +24,7 @@ use Rattle.rv_model.specs.declared.state.Cursor.{Cursor}
 use Rattle.rv_model.specs.declared.transactions.Transaction.{Transaction}
 use Rattle.rv_model.specs.declared.transactions.Transactions.{Transactions}
 use Rattle.rv_model.specs.Database.{no_index}
-use Rattle.rv_model.specs.Step.{changes_met, no_rivals_of, row_alone, rows_alone, rows_viewed}
+use Rattle.rv_model.specs.Step.{changed, changes_met, inserted, no_rivals_of, row_alone, rows_alone, rows_viewed}
 use Rattle.rv_model.specs.Transactions as calls
 use Rattle.rv_model.specs.Transactions.{transaction_at, transaction_of}
 use Rattle.rv_overlay.specs.declared.frozen.Frozen.{Frozen}
@@ -225,6 +226,15 @@ first_refused r f e h = ap (λ x. x >>= f) h
 last_refused : {A : Type 0} (r : Result A Refusal) (test : A → Result (Unit {0}) Refusal) (a : A) (e : Refusal) → r ≡ Ok a → test a ≡ Err e → (r >>= (λ x. test x >>= (λ u. Ok x))) ≡ Err e
 last_refused r test a e is told = ap (λ x. x >>= (λ y. test y >>= (λ u. Ok y))) is ∙ ap (λ x. x >>= (λ u. Ok a)) told
 
+-- a refusal stays one, whatever is answered where there is none
+tested_as : {B C : Type 0} (r : Result (Unit {0}) Refusal) (b : B) (c : C) (e : Refusal) → (r >>= (λ u. Ok b)) ≡ Err e → (r >>= (λ u. Ok c)) ≡ Err e
+tested_as (Ok u) b c e h = cc
+tested_as (Err x) b c e h = let same : x ≡ e = cc in ap (λ y. Err y) same
+
+refused_as : {A B C : Type 0} (r : Result A Refusal) (test : A → Result (Unit {0}) Refusal) (f : A → B) (g : A → C) (e : Refusal) → (r >>= (λ a. test a >>= (λ u. Ok (f a)))) ≡ Err e → (r >>= (λ a. test a >>= (λ u. Ok (g a)))) ≡ Err e
+refused_as (Ok a) test f g e h = tested_as (test a) (f a) (g a) e h
+refused_as (Err x) test f g e h = let same : x ≡ e = cc in ap (λ y. Err y) same
+
 pub insert_fault : (shown : Shown) (schema : Schema) (t : Transactions) (session table : ℕ) (values : List Value) (fault : TxnFault) → IsFault (inserting t session table) fault → IsFault (inserted_alone shown schema t session table values) fault
 insert_fault shown schema t session table values (Refused refusal) h = first_refused (calls.inserted t session table values) _ refusal (inserting_refused t session table values refusal h)
 insert_fault shown schema t session table values NoMemory h = tt
@@ -240,6 +250,12 @@ rival_fault shown schema t session table values row these (Refused refusal) is d
     last_refused (calls.inserted t session table values) (λ (more : RowNo × Transactions). row_alone (db_of shown schema t []) session table values more.0) _ refusal
     (inserted_by t session table values row due) (due_alone shown schema t session table values row these (Err refusal) is h)
 rival_fault shown schema t session table values row these NoMemory is due h = tt
+
+-- an INSERT that is refused over the store is refused by the database
+pub insert_refused : (shown : Shown) (schema : Schema) (t : Transactions) (cursors : List Cursor) (session table : ℕ) (values : List Value) (refusal : Refusal) → inserted_alone shown schema t session table values ≡ Err refusal → inserted (db_of shown schema t cursors) session table values ≡ Err refusal
+insert_refused shown schema t cursors session table values refusal h =
+    refused_as (calls.inserted t session table values) (λ (more : RowNo × Transactions). row_alone (db_of shown schema t []) session table values more.0) (λ (more : RowNo × Transactions). more)
+    (λ (more : RowNo × Transactions). (Inserted more.0, record (db_of shown schema t cursors) { transactions = more.1 })) refusal h
 
 pub insert_done : (t new : Transactions) (session table : ℕ) (values : List Value) (row : RowNo) → inserting t session table ≡ Ok row → new ≡ with_new t (transaction_of t.active session) (record { table = table; row = row; values = Some values }) → calls.inserted t session table values ≡ Ok (row, new)
 insert_done t new session table values row due is = inserted_by t session table values row due ∙ ap (λ (x : Transactions). Ok (row, x)) (sym is)
@@ -294,6 +310,12 @@ rivals_fault shown schema t session table only sets new these (Refused refusal) 
     (rows_same shown schema t [] session table only sets (transaction_of t.active session) there refl ∙ changed_by t session table only sets (shown.rows table) new due)
     (these_alone shown schema t session table only sets new these (Err refusal) there is due h)
 rivals_fault shown schema t session table only sets new these NoMemory there is due h = tt
+
+-- so is an UPDATE or a DELETE
+pub change_refused : (shown : Shown) (schema : Schema) (t : Transactions) (cursors : List Cursor) (session table : ℕ) (only : List (List Atom)) (sets : Option (List (ℕ × Value))) (refusal : Refusal) → changed_alone shown schema t session table sets only ≡ Err refusal → changed (db_of shown schema t cursors) session table sets only ≡ Err refusal
+change_refused shown schema t cursors session table only sets refusal h =
+    refused_as (changed_over shown schema t session table sets only) (λ (done : ℕ × Transactions). rows_alone (db_of shown schema t []) session table sets only) (λ (done : ℕ × Transactions). done)
+    (λ (done : ℕ × Transactions). (Touched done.0, record (db_of shown schema t cursors) { transactions = done.1 })) refusal h
 
 pub change_done : (t left : Transactions) (session table count : ℕ) (only : List (List Atom)) (sets : Option (List (ℕ × Value))) (rows : ℕ → List Record) (new : List Change) → changing t session table only sets rows ≡ Ok new → count ≡ length new → left ≡ with_these t (transaction_of t.active session) new
     → calls.changed t session table only sets rows ≡ Ok (count, left)

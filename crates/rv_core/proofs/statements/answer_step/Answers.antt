@@ -19,5 +19,5 @@ returns-in-Ok-clause-turn g c = if_ok c.turn.result _ _ (λ part k. part_turns_t
 pub returns-in-Ok-clause-lost : goal.returns-in-Ok-clause-lost
 returns-in-Ok-clause-lost g c = err_more c.turn.result _ _ (λ k. leaves_asked _ _ (Ok c.in-Ok.asked) _ _ _ _ (rw (c.catalog.ensures, c.at-said.ensures.is, c.in_ok-place.ensures.is) at c.in-Ok.ensures.gives) k) c.turn.ensures.lost
 
-pub returns-clause-lost : goal.returns-clause-lost
-returns-clause-lost g c = leaves_text _ _ _ _ _
+pub returns-in-Err-NoMemory-clause-lost : goal.returns-in-Err-NoMemory-clause-lost
+returns-in-Err-NoMemory-clause-lost g c = leaves_text _ _ _ _ _

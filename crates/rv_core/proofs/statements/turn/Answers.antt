@@ -1,3 +1,4 @@
+use Rattle.rv_core.specs.Obeying.{under}
 use Rattle.rv_core.proofs.Facts.{any_ok}
 use Rattle.rv_core.proofs.Handling.{parted_err, parted_ok, turns_other}
 use Rattle.rv_core.proofs.statements.turn.Goals as goal
@@ -10,7 +11,7 @@ returns-in-Err g c =
       ok = rw c.answered.ensures (parted_ok c.perform.result _ _ (rw is at c.perform.ensures.ok));
       handles = rw c.answered.ensures (parted_ok c.perform.result _ _ (rw is at c.perform.ensures.handles));
       refuses = λ refusal. rw c.answered.ensures (parted_ok c.perform.result _ _ (c.perform.ensures.refuses refusal));
-      turn = rw c.answered.ensures (parted_ok c.perform.result _ _ (any_ok c.perform.result _ (λ replies. turns_other _ c.args.asked _ replies.0 _ _ none)));
+      turn = rw c.answered.ensures (parted_ok c.perform.result _ _ (any_ok c.perform.result _ (λ replies. turns_other (under _ _ c.args.settings) c.args.asked _ replies.0 _ _ none)));
       lost = rw c.answered.ensures (parted_err c.perform.result _ (rw is at c.perform.ensures.lost));
       rules = c.perform.ensures.rules;
       sees = c.perform.ensures.sees;

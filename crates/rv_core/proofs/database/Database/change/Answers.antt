@@ -1,7 +1,12 @@
+use Rattle.std.proofs.Common.{◌≡◌, Err}
 use Rattle.std.specs.Option.{option_copied}
 use Rattle.rv_core.proofs.Databases.{changes_standing}
 use Rattle.rv_core.proofs.Standing.{db_changed}
-use Rattle.rv_core.specs.Db.{seen}
+use Rattle.rv_core.proofs.Facts.{if_ok}
+use Rattle.rv_core.proofs.Indexing.{refused_does}
+use Rattle.rv_core.proofs.Putting.{change_refused}
+use Rattle.rv_core.specs.Db.{seen, stand_of}
+use Rattle.rv_core.specs.Storing.{changed_alone}
 use Rattle.rv_core.proofs.database.Database.change.Goals as goal
 
 pub invariant_of-self-2 : goal.invariant_of-self-2
@@ -13,3 +18,11 @@ invariant_of-self-2 g c =
 
 pub returns-clause-ok : goal.returns-clause-ok
 returns-clause-ok g c = rw (← c.self.view_is) (db_changed (g.S.Reader.shown c.self.inside.store) c.self.inside.catalog c.self.inside.txns c.change_rows.new.txns (seen (g.S.Reader.shown c.self.inside.store) c.self.inside.cursors) c.args.session c.args.table c.args.only.now (option_copied c.args.sets) c.in-Ok.count c.in-Ok.ensures.ok c.in-Ok.ensures.alone)
+
+pub returns-in-Err-Refused-clause-ok : goal.returns-in-Err-Refused-clause-ok
+returns-in-Err-Refused-clause-ok g c =
+    let shown = g.S.Reader.shown c.self.inside.store in
+    let opens = seen shown c.self.inside.cursors in
+    let why : changed_alone shown c.self.inside.catalog c.self.inside.txns c.args.session c.args.table (option_copied c.args.sets) c.args.only.now ≡ Err c.in-Err-Refused.refusal = (rw c.in-Err-Refused.field-0-is at c.in-Err-Refused.ensures.fault) in
+    let refusal = change_refused shown c.self.inside.catalog c.self.inside.txns opens c.args.session c.args.table c.args.only.now (option_copied c.args.sets) c.in-Err-Refused.refusal why in
+    rw (c.in-Err-Refused.ensures.err, ← c.self.view_is) (if_ok c.refused.result _ _ (λ replies k. refused_does _ (stand_of shown c.self.inside.catalog c.self.inside.txns opens) _ replies refusal k) c.refused.ensures)

@@ -62,4 +62,4 @@ returns-in-Some-equal-clause-ok g c =
     let equal = rows_are_equal shown c.self.inside.catalog c.self.inside.txns opens c.args.def c.in-Some-equal.row new.there (sym c.in-Some-equal.is ∙ c.in-Ok.ensures) in
     let room = few_room _ c.count_indexes.result c.count_indexes.ensures c.if-count_indexes-gt7.false in
     let refusal = equal_refused (db_of shown c.self.inside.catalog c.self.inside.txns opens) c.args.def _ (sym c.active.ensures ∙ c.in_default.is) room equal in
-    rw (← c.self.view_is) (if_ok c.refused.result _ _ (λ replies k. refused_does _ (stand_of shown c.self.inside.catalog c.self.inside.txns opens) _ replies refusal k) c.refused.ensures)
+    rw (← c.self.view_is) (if_ok c.refused-in-Some-equal.result _ _ (λ replies k. refused_does _ (stand_of shown c.self.inside.catalog c.self.inside.txns opens) _ replies refusal k) c.refused-in-Some-equal.ensures)
