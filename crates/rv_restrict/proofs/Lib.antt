@@ -6,3 +6,4 @@ pub mod Names
 pub mod Places
 pub mod Short
 pub mod Tests
+pub mod Widths

@@ -1,5 +1,5 @@
 -- The branches of a group: restrictions of one atom each, of which the group is the OR.
-use Rattle.std.specs.Prelude.{ℕ, List, [], ◌∷◌, ◌++◌, not, filter, map}
+use Rattle.std.specs.Prelude.{ℕ, ◌+◌, List, [], ◌∷◌, ◌++◌, length, not, filter, map}
 use Rattle.std.specs.List.{slice_index_or}
 use Rattle.rv_value.specs.declared.value.Value.{Value}
 use Rattle.rv_restrict.specs.declared.atom.ColRef.{ColRef}
@@ -33,3 +33,20 @@ alone a = (a ∷ []) ∷ []
 abbrev pub branches_of : List Atom → List (List (List Atom))
 branches_of [] = []
 branches_of (a ∷ group) = map alone (alternatives a) ++ branches_of group
+
+-- HOW MANY BRANCHES A GROUP MAY HAVE, told by its form alone; binding makes no more of them
+abbrev pub width_of : Atom → ℕ
+width_of (Compare c op operand) = 1
+width_of (Between c low high) = 1
+width_of (Among c list) = length list + 1
+width_of (IsNull c negated) = 1
+width_of (Starts c text) = 1
+width_of (Const t) = 1
+
+abbrev pub group_width : List Atom → ℕ
+group_width [] = 0
+group_width (a ∷ group) = width_of a + group_width group
+
+abbrev pub widths : List (List Atom) → ℕ
+widths [] = 0
+widths (group ∷ groups) = group_width group + widths groups

@@ -14,7 +14,7 @@ use std::alloc::Global;
 impl Restriction {
     /// The branches of a group: a restriction for each of its atoms, and for IN one with `=` for each literal that is not
     /// NULL. A scan for each branch finds every row for which the group is True.
-    pub fn branches(&self, alloc: Global, group: u32) -> Result<Vec<Restriction>, NoMemory>
+    pub fn branches(&self, alloc: Global, group: usize) -> Result<Vec<Restriction>, NoMemory>
         requires { group < length self.now }
         ensures branches { IfOk result (λ bs. bs.items ≡ branches_of (group_at self.now group)) }
 
@@ -30,11 +30,11 @@ impl Restriction {
     }
 
     /// The atoms of the group in a place.
-    pub fn group(&self, group: u32) -> &[Atom]
+    pub fn group(&self, group: usize) -> &[Atom]
         requires { group < length self.now }
         ensures { result.now ≡ group_at self.now group }
     {
-        self.groups()[group as usize].as_slice()
+        self.groups()[group].as_slice()
     }
 }
 
