@@ -1,6 +1,8 @@
 -- A group is True exactly where some branch is, and each branch names only columns of the group.
-use Rattle.std.proofs.Common.{◌≡◌, List, [], ◌∷◌, ◌++◌, Bool, true, false, cond, not, ◌&&◌, ◌||◌, filter, map, refl, ap, sym, ◌∙◌, arith}
-use Rattle.std.specs.List.{list_all, list_any}
+use Rattle.std.proofs.Common.{◌≡◌, ℕ, ◌<◌, List, [], ◌∷◌, ◌++◌, length, subst, Bool, true, false, cond, not, ◌&&◌, ◌||◌, filter, map, refl, ap, sym, ◌∙◌, arith}
+use Rattle.std.specs.Prelude.{Vec}
+use Rattle.std.specs.List.{list_all, list_any, slice_index_or}
+use Rattle.std.proofs.lemmas.List.{get_or-map, length-map}
 use Rattle.std.proofs.lemmas.List.Folds.{list_all-append, list_any-append}
 use Rattle.rv_value.specs.declared.value.Value.{Value}
 use Rattle.rv_restrict.specs.declared.atom.ColRef.{ColRef}
@@ -9,8 +11,19 @@ use Rattle.rv_restrict.specs.declared.atom.Atom.{Atom}
 use Rattle.rv_restrict.specs.declared.atom.Atom.TheVariants.{Compare, Between, Among, IsNull, Starts, Const}
 use Rattle.rv_restrict.specs.declared.atom.Tri.{Tri}
 use Rattle.rv_restrict.specs.declared.atom.Tri.TheVariants.{True, False, Unknown}
-use Rattle.rv_restrict.specs.Branches.{alone, alternatives, branches_of, equal_to}
+use Rattle.rv_restrict.specs.Branches.{alone, alternatives, branches_of, equal_to, group_at}
+use Rattle.rv_restrict.specs.Groups.{groups_of}
 use Rattle.rv_restrict.specs.Truth.{among, atom_names_only, atom_truth, compared, greater, group_names_only, group_truth, is_null, is_true, lesser, names_only, truth_by}
+
+-- THE GROUPS of a restriction are as many as its vectors, and stand in their places
+
+pub long_as : {A : Type 0} (groups : List (Vec Atom A)) (only : List (List Atom)) → groups_of groups ≡ only → length groups ≡ length only
+long_as {A} groups only e = sym (length-map groups (λ (group : Vec Atom A). group.items)) ∙ ap (λ (xs : List (List Atom)). length xs) e
+
+pub group_in : {A : Type 0} (groups : List (Vec Atom A)) (only : List (List Atom)) (at : ℕ) (group : Vec Atom A) → groups_of groups ≡ only → at < length only → group ≡ slice_index_or groups at group → group.items ≡ group_at only at
+group_in {A} groups only at group e l is =
+    let there : at < length groups = subst (λ (n : ℕ). at < n) (sym (long_as groups only e)) l in
+    ap (λ (g : Vec Atom A). g.items) is ∙ sym (get_or-map (λ (g : Vec Atom A). g.items) groups at group [] there) ∙ ap (λ (xs : List (List Atom)). slice_index_or xs at []) e
 
 -- the truth of an OR
 or_true : (a b : Tri) → is_true (greater a b) ≡ (is_true a || is_true b)
