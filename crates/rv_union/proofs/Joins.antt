@@ -118,3 +118,10 @@ apart_nothing keys = record { apart = λ n. none (has_key n keys) }
 
 pub no_key : (keys : List ℕ) → length keys ≡ 0 → keys ≡ []
 no_key keys e = nil_from_length keys e
+
+-- a list without keys that was finished
+pub finished_none : (l m : Listed) → l ≡ record { keys = []; spare = 0; finished = false } → length m.keys ≡ length l.keys → m.finished ≡ true → m.spare ≡ l.spare → m ≡ record { keys = []; spare = 0; finished = true }
+finished_none l m e count done spare =
+    ap (λ (keys : List ℕ). record m { keys = keys }) (no_key m.keys (count ∙ ap (λ (x : Listed). length x.keys) e))
+    ∙ ap (λ (n : ℕ). record m { keys = []; spare = n }) (spare ∙ ap (λ (x : Listed). x.spare) e)
+    ∙ ap (λ (b : Bool). record m { keys = []; spare = 0; finished = b }) done

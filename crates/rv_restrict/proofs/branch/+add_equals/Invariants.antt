@@ -2,4 +2,4 @@ use Rattle.std.proofs.Common.{length}
 use Rattle.rv_restrict.proofs.branch.+add_equals.Given as goal
 
 abbrev pub decreases-add_equals : goal.decreases-add_equals
-decreases-add_equals g l = length l.list.now
+decreases-add_equals l = length l.list.now
