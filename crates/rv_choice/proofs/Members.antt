@@ -1,12 +1,9 @@
 -- The members of a union: which branches have one, and which group serves first.
 use Rattle.std.proofs.Common.{◌≡◌, ℕ, zero, suc, ◌+◌, ◌<◌, ◌≤◌, List, [], ◌∷◌, ◌++◌, length, map, Bool, true, false, ◌&&◌, ◌||◌, nat_le, nat_lt, refl, ap, sym, ◌∙◌, arith, subst, append_assoc, append-nil, Option, Some, None}
-use Rattle.std.specs.Prelude.{Vec}
 use Rattle.std.proofs.lemmas.Bool.Decides.{nat_tests}
-use Rattle.std.proofs.lemmas.List.{length-map}
 use Rattle.std.specs.List.{AllByRecursion, list_all, list_any, slice_index_or}
 use Rattle.rv_restrict.specs.declared.atom.Atom.{Atom}
 use Rattle.rv_restrict.specs.Branches.{branches_of, group_at}
-use Rattle.rv_restrict.specs.Groups.{groups_of}
 use Rattle.rv_reader.specs.Shown.{Shown}
 use Rattle.rv_jscan.specs.declared.jscan.ScanPlan.{ScanPlan}
 use Rattle.rv_choice.specs.declared.query.Query.{Query}
@@ -154,10 +151,6 @@ some_serve query shown plans u = one_of query.only u.group u.there u.suits
     one_of [] i l s = absurd (omega arith)
     one_of (group ∷ groups) zero l s = left_any (serves query shown group) (list_any (serves query shown) groups) s
     one_of (group ∷ groups) (suc i) l s = right_any (serves query shown group) (list_any (serves query shown) groups) (one_of groups i (omega arith) s)
-
--- as many groups as a restriction has
-pub long_as : {A : Type 0} (groups : List (Vec Atom A)) (only : List (List Atom)) → groups_of groups ≡ only → length groups ≡ length only
-long_as {A} groups only e = sym (length-map groups (λ (group : Vec Atom A). group.items)) ∙ ap (λ (xs : List (List Atom)). length xs) e
 
 -- the group in a place that there is serves, and none before it
 pub united : (query : Query) (shown : Shown) (group : ℕ) (plans : List ScanPlan) → group < length query.only → NoneServes query shown group → serves query shown (group_at query.only group) ≡ true → AreMembers query shown (branches_of (group_at query.only group)) plans → AreUnited query shown plans

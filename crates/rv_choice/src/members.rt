@@ -89,7 +89,7 @@ pub fn members<R: Reader>(
     ensures none { IfOk result (λ m. m ≡ None → some_serves query.now (R.shown reader.now) ≡ false) }
     ensures some { IfOk result (λ m. IfSome m (λ plans. AreUnited query.now (R.shown reader.now) plans.items)) }
 {
-    'groups: for group in 0..query.only.groups().len() {
+    'places: for group in 0..query.only.groups().len() {
         if let Some(plans) = members_of(alloc, reader, query, group)? {
             return Ok(Some(plans));
         }
