@@ -289,6 +289,10 @@ def target(house, source, rest):
     else:
         module = house.module(crate, ".".join(inner[1:]))
         found = None if module is None else module.get(name)
+        if module is None and len(inner) > 2:
+            # a constructor of a data type of specs/
+            module = house.module(crate, ".".join(inner[1:-1]))
+            found = None if module is None else module.get(inner[-1])
     if found is None:
         house.missing.append(".".join(path) + "." + name)
     return found
