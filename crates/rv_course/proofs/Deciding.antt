@@ -8,7 +8,7 @@ use Rattle.rv_judge.specs.declared.events.Control.{Control}
 use Rattle.rv_judge.specs.declared.events.Control.TheVariants.{Building, ForegroundAlone, BackgroundAlone, FinalTable}
 use Rattle.rv_judge.specs.declared.events.Event.{Event}
 use Rattle.rv_judge.specs.declared.events.Event.TheVariants.{At, Scan, List as ListOf, Drop, Full as FullEvent, Stop}
-use Rattle.rv_judge.specs.Runs.{Allowed, AllowedBy, AllowedRun, EachOnce, HasScans, IsRun, Turn, first_control, has_index, run_events, scans, start, start_events}
+use Rattle.rv_judge.specs.Runs.{Allowed, AllowedRun, EachOnce, HasScans, IsRun, Turn, first_control, has_index, run_events, scans, start, start_events}
 use Rattle.rv_course.specs.Reading.{are_apart, begun_by, is_known, is_read, place_at, reads, reads_all, reads_at, same_control}
 use Rattle.rv_course.specs.Told.{trace_of}
 use Rattle.rv_course.proofs.Controls.{both, left_true, no_way, not_true, right_true, same_is}

@@ -1,10 +1,9 @@
 -- How many branches a group may have.
-use Rattle.std.proofs.Common.{◌≡◌, ℕ, zero, suc, ◌+◌, ◌<◌, ◌≤◌, List, [], ◌∷◌, ◌++◌, Bool, true, false, cond, not, filter, map, length, length-append, refl, ap, sym, ◌∙◌, arith, slice_index_or, ◌==◌}
+use Rattle.std.proofs.Common.{◌≡◌, ℕ, zero, suc, ◌+◌, ◌<◌, ◌≤◌, List, [], ◌∷◌, ◌++◌, Bool, true, false, cond, not, filter, map, length, length-append, refl, ◌∙◌, arith, ◌==◌}
 use Rattle.std.proofs.lemmas.List.{length-map}
 use Rattle.rv_value.specs.declared.value.Value.{Value}
 use Rattle.rv_restrict.specs.declared.atom.ColRef.{ColRef}
 use Rattle.rv_restrict.specs.declared.atom.Op.{Op}
-use Rattle.rv_restrict.specs.declared.atom.Operand.{Operand}
 use Rattle.rv_restrict.specs.declared.atom.Operand.TheVariants.{Literal, Column}
 use Rattle.rv_restrict.specs.declared.atom.Atom.{Atom}
 use Rattle.rv_restrict.specs.declared.atom.Atom.TheVariants.{Compare, Between, Among, IsNull, Starts, Const}

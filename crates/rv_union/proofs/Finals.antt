@@ -1,5 +1,5 @@
 -- The final stage of a union.
-use Rattle.std.proofs.Common.{◌≡◌, ℕ, List, [], true, false, refl, ap, sym, ◌∙◌, arith, subst, Some, None, inl, inr, Result, Ok, Err, OnErr}
+use Rattle.std.proofs.Common.{◌≡◌, ℕ, List, [], true, false, refl, ap, sym, ◌∙◌, arith, subst, Some, None, Result, Ok, Err, OnErr}
 use Rattle.rv_value.specs.declared.record.Record.{Record}
 use Rattle.rv_rows.specs.Rows.{Ascend}
 use Rattle.rv_judge.specs.declared.counting.Counts.{Counts}

@@ -1,12 +1,10 @@
 -- What a union holds stays drawn from the entries that a reader shows.
-use Rattle.std.proofs.Common.{◌≡◌, ℕ, ◌+◌, ◌<◌, List, [], ◌∷◌, ◌++◌, length, drop, filter, Bool, true, false, not, cond, ◌&&◌, ◌||◌, refl, ap, sym, ◌∙◌, arith, subst, Option, Some, None, IfSome, IsPermutation, inl, inr, nat_eq, zero, suc}
-use Rattle.std.proofs.lemmas.Bool.{cases_Bool}
+use Rattle.std.proofs.Common.{◌≡◌, ℕ, ◌+◌, ◌<◌, List, [], ◌∷◌, ◌++◌, length, drop, filter, Bool, true, false, not, cond, ◌&&◌, ◌||◌, refl, ap, sym, ◌∙◌, arith, subst, Option, Some, None, IfSome, IsPermutation, nat_eq, zero, suc}
 use Rattle.std.proofs.lemmas.List.{drop_more}
 use Rattle.std.specs.List.{list_any}
 use Rattle.std.proofs.lemmas.List.Elements.{filter-append}
 use Rattle.std.proofs.lemmas.List.Sorted.{list_any-IsPermutation}
 use Rattle.rv_value.specs.declared.record.IndexEntry.{IndexEntry}
-use Rattle.rv_value.specs.declared.range.Range.{Range}
 use Rattle.rv_keys.specs.Keys.{has_key}
 use Rattle.rv_restrict.specs.Parts.{Parted, passes}
 use Rattle.rv_reader.specs.Entries.{comes_before, is_in}

@@ -1,15 +1,12 @@
 -- What the calls on the present member do to the union.
-use Rattle.std.proofs.Common.{◌≡◌, ◌↔◌, ℕ, ◌+◌, ◌-◌, ◌<◌, ◌≤◌, ◌++◌, List, length, length-append, Bool, true, false, not, ◌&&◌, ◌||◌, refl, ap, sym, ◌∙◌, arith, subst, Option, Some, None, is_some, IsTrue, nat_lt, Result, Ok, Err, IfOk, OnErr, OnOk}
-use Rattle.std.proofs.lemmas.Bool.Decides.{nat_tests}
+use Rattle.std.proofs.Common.{◌≡◌, ◌↔◌, ℕ, ◌+◌, ◌-◌, ◌<◌, ◌≤◌, ◌++◌, List, length, length-append, Bool, true, false, not, ◌&&◌, ◌||◌, refl, ap, sym, ◌∙◌, arith, subst, Option, Some, None, is_some, IsTrue, Result, Ok, Err, OnErr, OnOk}
 use Rattle.rv_value.specs.declared.record.IndexEntry.{IndexEntry}
 use Rattle.rv_judge.specs.declared.judging.Facts.{Facts}
 use Rattle.rv_judge.specs.Counting.{one_more}
 use Rattle.rv_judge.specs.Verdicts.{Ruling}
 use Rattle.rv_keys.specs.Keys.{has_key}
-use Rattle.rv_keylist.specs.Listed.{Listed}
 use Rattle.rv_restrict.specs.Parts.{Parted}
 use Rattle.rv_jscan.specs.declared.piece.PieceId.{PieceId}
-use Rattle.rv_jscan.specs.declared.jscan.ScanPlan.{ScanPlan}
 use Rattle.rv_jscan.specs.Entries.{has_entry}
 use Rattle.rv_jscan.specs.Joint.{passing}
 use Rattle.rv_jscan.specs.Lanes.{IsOwn, Laned, passed}
@@ -18,7 +15,7 @@ use Rattle.rv_jscan.specs.Steps.{piece_counted}
 use Rattle.rv_jscan.proofs.Kept.{kept_has}
 use Rattle.rv_union.specs.Given.{Awaits, next_id, with_lane}
 use Rattle.rv_union.specs.Rulings.{Completes, IsRuled, Obeys, accepted, facts_of, kept_of, lacks}
-use Rattle.rv_union.specs.Unioned.{AreApart, IsUnion, Unioned, present, scanning}
+use Rattle.rv_union.specs.Unioned.{AreApart, Unioned, present, scanning}
 use Rattle.rv_union.proofs.Efforts.{kept_few}
 use Rattle.rv_union.proofs.Joins.{key_append}
 

@@ -17,7 +17,7 @@ use Rattle.rv_final.specs.Rest.{qualifies_at, qualifying}
 use Rattle.rv_union.specs.Effort.{effort, lane_work, life_of, member_life, members_life, planned_work}
 use Rattle.rv_union.specs.Opened.{CanUnite, Opened, opened}
 use Rattle.rv_union.specs.Runs.{Tells, indexes_of}
-use Rattle.rv_union.specs.Unioned.{UnionFits, Unioned, meets_any, rest}
+use Rattle.rv_union.specs.Unioned.{UnionFits, Unioned, rest}
 use Rattle.rv_union.proofs.Few.{both_true}
 use Rattle.rv_union.proofs.Fits.{begun_lane, next_met}
 use Rattle.rv_union.proofs.Switches.{all_qualifying}

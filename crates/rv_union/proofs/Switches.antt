@@ -22,7 +22,7 @@ use Rattle.rv_jscan.specs.Lanes.{LaneFits, Laned, no_lane}
 use Rattle.rv_final.specs.Rest.{has_row, qualifies_at, qualifying, rest_by}
 use Rattle.rv_final.specs.Stage.{keys_left, list_left, table_left}
 use Rattle.rv_final.proofs.Rests.{same_rest}
-use Rattle.rv_union.specs.Rulings.{dropped, forgotten, going_on, gone, has_next, index_of, listed, next_member, over, told, told_scan, was_begun}
+use Rattle.rv_union.specs.Rulings.{dropped, forgotten, going_on, has_next, index_of, listed, next_member, over, told, told_scan, was_begun}
 use Rattle.rv_union.specs.Unioned.{AreMet, Covers, UnionFits, Unioned, builds, left_by, meets_any, owed, rest, rows_of, scanning}
 use Rattle.rv_union.proofs.Fits.{Gathers, begun_lane, next_met, none_met}
 

@@ -18,7 +18,7 @@ use Rattle.rv_judge.specs.declared.judging.Facts.{Facts}
 use Rattle.rv_judge.specs.declared.judging.Verdict.{Verdict}
 use Rattle.rv_judge.specs.declared.judging.Verdict.TheVariants.{Continue, AbandonScan, AbandonForeground, AbandonBackground}
 use Rattle.rv_judge.specs.Course.{next_control}
-use Rattle.rv_judge.specs.Runs.{Allowed, AllowedBy, EachOnce, UnionTail, has_index, tail_among, tail_events, union_events}
+use Rattle.rv_judge.specs.Runs.{Allowed, AllowedBy, UnionTail, has_index, tail_among, tail_events, union_events}
 use Rattle.rv_judge.specs.Runs.UnionTail.{Scanning, Fetching, Fetched, Reading, Read}
 use Rattle.rv_judge.specs.Tracing.{counted, with_events}
 use Rattle.rv_judge.specs.Verdicts.{Ruling}
@@ -31,11 +31,11 @@ use Rattle.rv_jscan.specs.Joint.{plan_at}
 use Rattle.rv_jscan.specs.Pieces.{Pieced}
 use Rattle.rv_jscan.specs.Steps.{held_next}
 use Rattle.rv_union.specs.Given.{Answers, TakesPiece}
-use Rattle.rv_union.specs.Rulings.{GivesOn, Obeys, accepted, dropped, going_on, gone, index_of, is_scan, joined, listed, next_member, over, ruled, told, told_scan, was_begun}
+use Rattle.rv_union.specs.Rulings.{GivesOn, Obeys, accepted, dropped, going_on, gone, index_of, joined, listed, next_member, over, ruled, told, was_begun}
 use Rattle.rv_union.specs.Runs.{IsOfUndropped, OfFewIndexes, Tells, indexes_of, is_drop, tail_control}
 use Rattle.rv_union.specs.Unioned.{Unioned, present, scanning}
 use Rattle.rv_union.proofs.Few.{all_among, both_true, few, once_push, pushed_there, some_index}
-use Rattle.rv_union.proofs.Switches.{dropped_leads, drops, is_scanning, listed_leads, over_as}
+use Rattle.rv_union.proofs.Switches.{dropped_leads, drops, listed_leads, over_as}
 
 -- THE EVENTS
 

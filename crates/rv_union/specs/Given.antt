@@ -1,5 +1,5 @@
 -- What the calls of a union on pieces answer.
-use Rattle.std.specs.Prelude.{◌≡◌, ℕ, Bool, true, false, not, ◌&&◌, Option, Some, None, is_some, if◌then◌else◌}
+use Rattle.std.specs.Prelude.{◌≡◌, Bool, true, false, not, ◌&&◌, Option, Some, None, is_some, if◌then◌else◌}
 use Rattle.rv_judge.specs.declared.counting.Counts.{Counts}
 use Rattle.rv_judge.specs.Counting.{leaf_read}
 use Rattle.rv_reader.specs.declared.reader.Chunk.{Chunk}
