@@ -42,7 +42,7 @@ use Rattle.rv_race.specs.Opened.{CanRace, Opened as RaceOpened}
 use Rattle.rv_race.specs.Raced.{RaceFits, Raced, rest as race_rest}
 use Rattle.rv_race.specs.Runs.{Tells as RaceTells, indexes_of}
 use Rattle.rv_access.specs.declared.access.Access.{Access}
-use Rattle.rv_access.specs.declared.access.Access.TheVariants.{Competing, Racing, Uniting}
+use Rattle.rv_access.specs.declared.access.Access.TheVariants.{Racing}
 use Rattle.rv_access.specs.declared.racing.RacedQuery.{RacedQuery}
 use Rattle.rv_access.specs.Accesses.{RacedFits, RacedTells}
 use Rattle.rv_access.specs.Opened.{Begins, BeginsRace, Competes, Opened, OpenedBy, Races, Unites, is_background_only, is_each, is_table, life_of, races, restricted, unites}

@@ -1,5 +1,5 @@
 -- The members that were chosen can be put together: each row that qualifies meets one of them.
-use Rattle.std.proofs.Common.{◌≡◌, ℕ, zero, suc, ◌+◌, ◌*◌, ◌-◌, ◌<◌, ◌≤◌, List, [], ◌∷◌, length, map, Bool, true, false, ◌&&◌, ◌||◌, nat_eq, nat_le, refl, ap, sym, ◌∙◌, arith, subst, inl, inr, Result, Ok, Err, IfOk}
+use Rattle.std.proofs.Common.{◌≡◌, ℕ, zero, suc, ◌+◌, ◌*◌, ◌-◌, ◌<◌, ◌≤◌, List, [], ◌∷◌, length, map, Bool, true, false, ◌&&◌, ◌||◌, nat_eq, nat_le, refl, ap, sym, ◌∙◌, arith, subst, inl, inr}
 use Rattle.std.specs.List.{AllByRecursion, list_all, list_any}
 use Rattle.std.proofs.lemmas.Bool.{cases_Bool}
 use Rattle.std.proofs.lemmas.Bool.Decides.{nat_tests}
@@ -21,7 +21,7 @@ use Rattle.rv_restrict.proofs.Widths.{branches_few, group_within}
 use Rattle.rv_reader.specs.Shown.{Shown}
 use Rattle.rv_jscan.specs.declared.jscan.ScanPlan.{ScanPlan}
 use Rattle.rv_jscan.specs.Entries.{Apart}
-use Rattle.rv_jscan.specs.Joint.{CanMake, meets, no_plan, plan_at}
+use Rattle.rv_jscan.specs.Joint.{CanMake, meets, no_plan}
 use Rattle.rv_choice.specs.declared.query.Query.{Query}
 use Rattle.rv_choice.specs.Asked.{CanAsk, with_only}
 use Rattle.rv_choice.specs.Members.{AreMembers, AreUnited, IsMember}
@@ -39,7 +39,6 @@ use Rattle.rv_union.specs.Runs.{OfFewIndexes, Tells as UnionTells, indexes_of}
 use Rattle.rv_union.specs.Unioned.{MembersFit, UnionFits, Unioned, meets_any, rest as union_rest}
 use Rattle.rv_access.specs.declared.access.Access.TheVariants.{Uniting}
 use Rattle.rv_access.specs.declared.uniting.UnitedQuery.{UnitedQuery}
-use Rattle.rv_access.specs.Accesses.{UnitedFits, UnitedTells}
 use Rattle.rv_access.specs.Opened.{Begins, BeginsUnion, life_of}
 
 left_true : (a b : Bool) → (a && b) ≡ true → a ≡ true

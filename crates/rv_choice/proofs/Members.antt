@@ -1,5 +1,5 @@
 -- The members of a union: which branches have one, and which group serves first.
-use Rattle.std.proofs.Common.{◌≡◌, ℕ, zero, suc, ◌+◌, ◌<◌, ◌≤◌, List, [], ◌∷◌, ◌++◌, length, map, Bool, true, false, ◌&&◌, ◌||◌, nat_le, nat_lt, refl, ap, sym, ◌∙◌, arith, subst, append_assoc, append-nil, Option, Some, None}
+use Rattle.std.proofs.Common.{◌≡◌, ℕ, zero, suc, ◌+◌, ◌<◌, ◌≤◌, List, [], ◌∷◌, ◌++◌, length, map, Bool, true, false, ◌&&◌, ◌||◌, nat_le, refl, ap, sym, ◌∙◌, arith, subst, append_assoc, append-nil, Some, None}
 use Rattle.std.proofs.lemmas.Bool.Decides.{nat_tests}
 use Rattle.std.specs.List.{AllByRecursion, list_all, list_any, slice_index_or}
 use Rattle.rv_restrict.specs.declared.atom.Atom.{Atom}
@@ -10,7 +10,7 @@ use Rattle.rv_choice.specs.declared.query.Query.{Query}
 use Rattle.rv_choice.specs.declared.choosing.Candidate.{Candidate}
 use Rattle.rv_choice.specs.declared.choosing.Role.TheVariants.{Restricted}
 use Rattle.rv_choice.specs.Asked.{CanAsk, IsIndexOf, IsPlanned, with_only}
-use Rattle.rv_choice.specs.Choice.{FirstLeast, IsLeastOf, NonePlays, candidate_at, candidate_of, candidates_of, no_candidate, plan_of}
+use Rattle.rv_choice.specs.Choice.{IsLeastOf, NonePlays, candidate_at, candidate_of, no_candidate, plan_of}
 use Rattle.rv_choice.specs.Members.{AddsMembers, AreMembers, AreUnited, IsMember, NoneServes, PutsMembers, is_bounded, seen_by, serves, some_restricted, some_serves}
 use Rattle.rv_choice.proofs.Choices.{IsCandidate, all_at, are_candidates, either_below}
 use Rattle.rv_choice.proofs.Suited.{index_of_any}

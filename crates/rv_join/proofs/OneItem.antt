@@ -43,7 +43,7 @@ use Rattle.rv_join.specs.declared.places.Asked.{Asked}
 use Rattle.rv_join.specs.Asking.{Asks, IsAsked, indexes_from, lives_of, table_at}
 use Rattle.rv_join.specs.Levels.{StackFits, Stacked, down, first_in, first_of, used}
 use Rattle.rv_join.specs.Plans.{Gives, Planned, reads_with, step_of}
-use Rattle.rv_join.specs.Rules.{IsByRules}
+use Rattle.rv_join.specs.Rules.{IsByRules, StandsBy}
 use Rattle.rv_join.specs.Work.{held_rows}
 use Rattle.rv_join.proofs.Accounting.{alone_above}
 
