@@ -146,9 +146,3 @@ abbrev pub is_race : Access → Bool
 is_race (Competing v) = false
 is_race (Racing r) = true
 is_race (Uniting u) = false
-
--- whether members are put together
-abbrev pub is_union : Access → Bool
-is_union (Competing v) = false
-is_union (Racing r) = false
-is_union (Uniting u) = true

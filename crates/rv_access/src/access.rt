@@ -12,7 +12,7 @@ ghost use Rattle.rv_retrieval.specs.Runs.{indexes_asked};
 ghost use Rattle.rv_retrieval.specs.Short.{OnlyLeaves, has_short};
 ghost use Rattle.rv_access.specs.Accesses.{AccessFits, Awaiting, Keeps, SamePlans, Settled, Tells, control_of, effort, fetches_left, held_of, number_of, query_of, rest, trace_of};
 ghost use Rattle.rv_access.specs.Given.{Answers, CountsPiece, GivesOn, IsOfUndropped, SamePieces, TakesLeaf, TakesPiece, awaited, piece_read};
-ghost use Rattle.rv_access.specs.Opened.{Begins, Competes, IsShort, Opened, OpenedBy, Races, Unites, is_background_only, is_each, is_race, is_table, is_union, life_of, races, restricted, unites};
+ghost use Rattle.rv_access.specs.Opened.{Begins, Competes, IsShort, Opened, OpenedBy, Races, Unites, is_background_only, is_each, is_race, is_table, life_of, races, restricted, unites};
 ghost use Rattle.rv_access.specs.Stepping.{GivesStep, MayReadIts, OnlyTakes, SameCourse, SettledTake, StepsAs};
 
 use crate::racing::RacedQuery;
@@ -315,17 +315,6 @@ impl Access {
             Access::Competing(_) => false,
             Access::Racing(_) => true,
             Access::Uniting(_) => false,
-        }
-    }
-
-    /// Whether members are put together.
-    pub fn is_union(&self) -> bool
-        ensures { result ≡ is_union self.now }
-    {
-        match self {
-            Access::Competing(_) => false,
-            Access::Racing(_) => false,
-            Access::Uniting(_) => true,
         }
     }
 

@@ -18,7 +18,7 @@ ghost use Rattle.rv_retrieval.specs.Short.{OnlyLeaves, has_short};
 ghost use Rattle.rv_retrieval.specs.Shape.{is_building};
 ghost use Rattle.rv_access.specs.Accesses.{AccessFits, SamePlans, Settled, control_of, effort, fetches_left, held_of, query_of, trace_of};
 ghost use Rattle.rv_access.specs.Given.{Answers, CountsPiece, GivesOn, SamePieces, TakesPiece, piece_read};
-ghost use Rattle.rv_access.specs.Opened.{Opened, is_race, is_union, life_of};
+ghost use Rattle.rv_access.specs.Opened.{Opened, is_race, life_of};
 ghost use Rattle.rv_judge.specs.Tracing.{CountsAll, CountsRise, SameCounts};
 
 use crate::level::{Caught, Level};
@@ -250,16 +250,6 @@ impl Stack {
         match self.above.first() {
             Some(level) => level.here.is_race(),
             None => self.at.here.is_race(),
-        }
-    }
-
-    /// Whether members are put together for the first FROM item.
-    pub fn first_united(&self) -> bool
-        ensures { result ≡ is_union (first_of self.now).here }
-    {
-        match self.above.first() {
-            Some(level) => level.here.is_union(),
-            None => self.at.here.is_union(),
         }
     }
 }
