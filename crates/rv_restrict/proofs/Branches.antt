@@ -55,12 +55,12 @@ one_true read a = or_false (is_true (truth_by read (alone a))) ∙ alone_true (a
 
 -- with NULL nothing is equal
 null_equal : (x v : Value) → is_null v ≡ true → compared x Eq v ≡ Unknown
-null_equal x v n = by (is_null x) (is_null v) n
+null_equal x v n = by (is_null x) (is_null v) _ n
   where
-    by : (a b : Bool) → b ≡ true → cond (a || b) Unknown (compared x Eq v) ≡ Unknown
-    by true b e = refl
-    by false true e = refl
-    by false false e = absurd (cc)
+    by : (a b : Bool) (t : Tri) → b ≡ true → cond (a || b) Unknown t ≡ Unknown
+    by true b t e = refl
+    by false true t e = refl
+    by false false t e = absurd (cc)
 
 equals_true : (read : ColRef → Value) (c : ColRef) (list : List Value) → some_true read (map alone (alternatives (Among c list))) ≡ is_true (among (read c) list)
 equals_true read c [] = refl
