@@ -5,7 +5,8 @@ model: status, transcript and standard error have to be the same, byte by byte.
 A damaged script is an example, a script of random_scripts.py or one at the limits, of which bytes, tokens or lines were changed,
 lost, doubled or moved; now and then the words of the command line are wrong too. A script at the limits has counts, sizes and
 numbers just below, at and just above each limit of the language, statements as long as a line may be, trees and lists at the
-sizes where they change, and all that with cursors that are fetched to their end.
+sizes where they change, rivals in unique indexes, and cursors over a transaction that changes on; and all that with cursors that
+are fetched to their end.
 
 With --rooms N each script is run N times more with a random part of the memory that it takes: each of these runs ends with
 status 0 and the same transcript, or with status 4, `no memory` and the transcript of the first calls.
