@@ -10,6 +10,7 @@ use std::test::Fail;
 
 /// The rows of the query, least in their first column, each as one number of two digits a column.
 const FIRST: [i64; 3] = [12, 16, 20];
+
 const REST: [i64; 17] = [
     24, 28, 113, 117, 121, 125, 129, 210, 214, 218, 222, 226, 311, 315, 319, 323, 327,
 ];

@@ -32,10 +32,12 @@ fn races_have_their_courses(rt: HostRuntime) -> Result<(), Fail> {
     let alloc = rt.alloc();
     let verdicts = vec![in alloc; Verdict::Continue, Verdict::AbandonScan]?;
     let second: Box<dyn Judge> = Box::new(alloc, Listed::new(verdicts))?;
-    let dropped = "2 SHOW C\n= trace background-only background scan IB drop IB scan IA list IA 30 final-list done pages 0 leaves 3 fetches 30\n";
+    let dropped =
+        "2 SHOW C\n= trace background-only background scan IB drop IB scan IA list IA 30 final-list done pages 0 leaves 3 fetches 30\n";
     assert!(rt; is_course(alloc, second, dropped)?);
     let patient: Box<dyn Judge> = Box::new(alloc, Patient::new())?;
-    let both = "2 SHOW C\n= trace background-only background scan IA list IA 30 scan IB list IB 23 final-list done pages 0 leaves 4 fetches 23\n";
+    let both =
+        "2 SHOW C\n= trace background-only background scan IA list IA 30 scan IB list IB 23 final-list done pages 0 leaves 4 fetches 23\n";
     assert!(rt; is_course(alloc, patient, both)?);
     Ok(())
 }

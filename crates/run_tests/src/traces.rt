@@ -44,10 +44,12 @@ fn is_course(
 fn judges_change_courses(rt: HostRuntime) -> Result<(), Fail> {
     let alloc = rt.alloc();
     let threshold: Box<dyn Judge> = Box::new(alloc, Threshold::new())?;
-    let dropped = "2 SHOW C\n= trace fast-first building scan IA drop IA final-table done pages 3 leaves 1 fetches 0\n";
+    let dropped =
+        "2 SHOW C\n= trace fast-first building scan IA drop IA final-table done pages 3 leaves 1 fetches 0\n";
     assert!(rt; is_course(alloc, threshold, THIRD, dropped)?);
     let patient: Box<dyn Judge> = Box::new(alloc, Patient::new())?;
-    let listed = "2 SHOW C\n= trace fast-first building scan IA list IA 31 final-list done pages 0 leaves 2 fetches 31\n";
+    let listed =
+        "2 SHOW C\n= trace fast-first building scan IA list IA 31 final-list done pages 0 leaves 2 fetches 31\n";
     assert!(rt; is_course(alloc, patient, THIRD, listed)?);
     Ok(())
 }
@@ -56,7 +58,8 @@ fn judges_change_courses(rt: HostRuntime) -> Result<(), Fail> {
 fn a_full_buffer_stops_the_foreground(rt: HostRuntime) -> Result<(), Fail> {
     let alloc = rt.alloc();
     let patient: Box<dyn Judge> = Box::new(alloc, Patient::new())?;
-    let full = "2 SHOW C\n= trace fast-first building scan IA full background list IA 1100 final-list done pages 0 leaves 35 fetches 1100\n";
+    let full =
+        "2 SHOW C\n= trace fast-first building scan IA full background list IA 1100 final-list done pages 0 leaves 35 fetches 1100\n";
     assert!(rt; is_course(alloc, patient, ALL, full)?);
     Ok(())
 }

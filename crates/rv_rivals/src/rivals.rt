@@ -324,7 +324,15 @@ fn in_other<S: Store + Reader<Ledger = Uncounted>>(
         but: row,
     };
     let base = transaction.base;
-    let found = lowest_seen(alloc, store, &other.view, index.number, base, sought, &changed)?;
+    let found = lowest_seen(
+        alloc,
+        store,
+        &other.view,
+        index.number,
+        base,
+        sought,
+        &changed,
+    )?;
     Ok(found)
 }
 
