@@ -5,7 +5,8 @@ model: status, transcript and standard error have to be the same, byte by byte.
 A damaged script is an example, a script of random_scripts.py or one at the limits, of which bytes, tokens or lines were changed,
 lost, doubled or moved; now and then the words of the command line are wrong too. A script at the limits has counts, sizes and
 numbers just below, at and just above each limit of the language, statements as long as a line may be, trees and lists at the
-sizes where they change, and all that with cursors that are fetched to their end.
+sizes where they change, rivals in unique indexes, and cursors over a transaction that changes on; and all that with cursors that
+are fetched to their end.
 
 With --rooms N each script is run N times more with a random part of the memory that it takes: each of these runs ends with
 status 0 and the same transcript, or with status 4, `no memory` and the transcript of the first calls.
@@ -118,7 +119,11 @@ class Edges:
         yield f"CREATE TABLE {self.made} ({', '.join(kinds)})"
         for _ in range(indexes):
             columns = self.rng.sample(range(len(widths)), self.rng.randint(1, min(4, len(widths))))
-            yield f"CREATE INDEX {self.name()} ON {self.made} ({', '.join(f'A{c}' for c in columns)})"
+            yield f"CREATE {self.unique()}INDEX {self.name()} ON {self.made} ({', '.join(f'A{c}' for c in columns)})"
+
+    def unique(self, part: float = 0.1) -> str:
+        """Now and then the word for a unique index, with its blank."""
+        return "UNIQUE " if self.rng.random() < part else ""
 
     def loaded(self, count: int) -> Iterator[str]:
         for _ in range(count):
@@ -222,6 +227,82 @@ class Edges:
         yield f"OPEN C SELECT * FROM {', '.join(f'{self.made} X{i}' for i in range(self.rng.choice([5, 9, 300])))}"
         yield "COMMIT"
 
+    def unique_at_limit(self):
+        """Unique indexes: rivals in the view, in the last commit and in other transactions, keys of each length, and NULLs, which
+        have none."""
+        rng, widths = self.rng, [None, self.rng.choice([None, 255]), None, None]
+        yield from self.table(widths)
+        columns = ", ".join(rng.sample(["A0", "A1", "A2", "A3"], rng.choice([0, 0, 1, 3]))) or "A0"
+        name = self.name()
+        index = f"CREATE UNIQUE INDEX {name} ON {self.made} ({columns})"
+        if rng.random() < 0.7:
+            yield index
+        key = lambda most: rng.choice([str(rng.randint(0, most))] * 9 + ["NULL"])
+        text = lambda: "NULL" if rng.random() < 0.1 else str(rng.randint(0, 2)) if widths[1] is None else shown("k" * rng.choice([254, 255]))
+        row = lambda most: f"INSERT INTO {self.made} VALUES ({key(most)}, {text()}, {key(1)}, {key(1)})"
+        yield "BEGIN"
+        for _ in range(rng.choice([2, 20, 33, 70])):
+            yield row(rng.choice([0, 100, 100]))
+        yield rng.choice(["COMMIT", "COMMIT", "ROLLBACK"])
+        yield index
+        yield f"CREATE UNIQUE INDEX {self.name()} ON {self.made} ({rng.choice(['A0', 'A2', 'A0, A1, A2, A3', 'A3, A0'])})"
+        sessions = rng.sample(range(1, 9), rng.choice([1, 2, 3, 8]))
+        active: set[int] = set()
+        for _ in range(60):
+            session, most = rng.choice(sessions), rng.choice([5, 20, 20])
+            if session not in active:
+                active.add(session)
+                yield session, "BEGIN"
+                yield session, f"OPEN C SELECT A0, A1 FROM {self.made} WHERE A0 <= {most} ORDER BY A0"
+            yield session, rng.choice([row(most)] * 8 + [f"UPDATE {self.made} SET A0 = {key(most)} WHERE A0 = {key(most)}"] * 5 + [
+                f"DELETE FROM {self.made} WHERE A0 = {key(most)}", f"UPDATE {self.made} SET A0 = NULL", f"UPDATE {self.made} SET A0 = 3",
+                f"UPDATE {self.made} SET A1 = {text()}, A2 = {key(1)} WHERE A0 >= {key(most)}", "FETCH C", "FETCH C", "SHOW C", "BEGIN", index,
+            ])  # fmt: skip
+            if rng.random() < 0.08:
+                active.discard(session)
+                yield session, rng.choice(["COMMIT", "COMMIT", "ROLLBACK"])
+
+    def own_changes(self):
+        """Cursors over the view of a transaction that changes on while they are open: at the sizes of leaves, pages and lists of
+        views, behind the last page, and more than 16 of them."""
+        rng = self.rng
+        yield from self.table([None, None])
+        yield f"CREATE {self.unique(0.3)}INDEX {self.name()} ON {self.made} (A1)"
+        yield f"CREATE INDEX {self.name()} ON {self.made} ({rng.choice(['A0', 'A0, A1'])})"
+        count = rng.choice([0, 1, 31, 32, 33, 64, 200])
+        yield "BEGIN"
+        yield from (f"INSERT INTO {self.made} VALUES ({i % rng.choice([7, 1000])}, {i})" for i in range(count))
+        yield "COMMIT"
+        yield "BEGIN"
+        if rng.random() < 0.3:
+            yield 2, "BEGIN"
+            yield 2, f"UPDATE {self.made} SET A0 = 0 WHERE A1 = {rng.randint(0, max(0, count - 1))}"
+        opened, last = [], count
+        for _ in range(rng.choice([1, 3, 6, 18, 18])):
+            for _ in range(rng.choice([1, 2])):
+                low, way = rng.randint(-1, last), rng.randrange(5)
+                if way < 3:
+                    many = rng.choice([1, 1, 15, 16, 17, 33, 130])
+                    yield from (f"INSERT INTO {self.made} VALUES ({rng.choice([i % 7, 5, i])}, {i})" for i in range(last, last + many))
+                    last += many
+                elif way == 3:
+                    yield f"DELETE FROM {self.made} WHERE A1 BETWEEN {low} AND {low + rng.choice([0, 5, 40])}"
+                else:
+                    yield f"UPDATE {self.made} SET A0 = {rng.choice(['5', '-1', 'NULL'])} WHERE A1 BETWEEN {low} AND {low + rng.choice([0, 5, 40])}"
+            where = rng.choice(["", " WHERE A0 >= 0", " WHERE A0 = 5", f" WHERE A1 >= {low} AND A0 <= 5", f" WHERE A1 BETWEEN {low} AND {low + 19}"])
+            order = rng.choice(["", "", " ORDER BY A0", " ORDER BY A1", " ORDER BY A0, A1"])
+            opened.append(self.name())
+            yield f"OPEN {opened[-1]} SELECT {rng.choice(['*', 'A0', 'A1'])} FROM {self.made}{where}{order}{self.goal()}"
+            for _ in range(rng.choice([0, 1, 4])):
+                yield f"{rng.choice(['FETCH', 'FETCH', 'SHOW'])} {rng.choice(opened)}"
+        for cursor in rng.sample(opened, min(4, len(opened))):
+            yield from [f"FETCH {cursor}"] * rng.choice([3, 60])
+            yield f"STEP {cursor} {rng.choice([1, 10000])}"
+            yield f"SHOW {cursor}"
+        yield rng.choice(["COMMIT", "ROLLBACK"])
+        yield "BEGIN READ ONLY"
+        yield from self.drained(f"SELECT A1 FROM {self.made} WHERE A0 >= 0", 10)
+
     def steps_at_limit(self):
         yield from self.table([None], 1)
         yield "BEGIN"
@@ -256,7 +337,7 @@ class Edges:
         size, name = 4094 + self.rng.choice([-1, 0, 0]), self.made
         shapes = [
             ("CREATE TABLE W (A BIGINT", ", B BIGINT", ")"), (f"CREATE INDEX W ON {name} (A0", ", A0", ")"),
-            (f"INSERT INTO {name} VALUES (1", ", NULL", ")"), (f"UPDATE {name} SET A0 = 1", ", A0 = 1", ""),
+            (f"CREATE UNIQUE INDEX W ON {name} (A0", ", A0", ")"), (f"INSERT INTO {name} VALUES (1", ", NULL", ")"), (f"UPDATE {name} SET A0 = 1", ", A0 = 1", ""),
             (f"DELETE FROM {name} WHERE A0 IN (1", ", 1", ")"), (f"OPEN C SELECT A0 FROM {name} WHERE A0 = 1", " OR A0 = 1", ""),
             (f"OPEN C SELECT A0 FROM {name} WHERE A0 = 1", " AND A0 = 1", ""), (f"OPEN C SELECT A0", ", A0", f" FROM {name}"),
             (f"OPEN C SELECT * FROM {name}", f", {name}", ""), (f"OPEN C SELECT * FROM {name} ORDER BY A0", ", A0", ""),
@@ -448,7 +529,7 @@ class Edges:
     SMALL = [
         names_at_limit, texts_at_limit, columns_at_limit, keys_at_limit, conditions_at_limit, selects_at_limit, steps_at_limit,
         integers_at_limit, longest_statements, widest_rows, indexes_at_limit, cursors_at_limit, sessions_in_conflict, tree_edges,
-        list_edges, widest_join,
+        list_edges, widest_join, unique_at_limit, unique_at_limit, own_changes, own_changes,
     ]  # fmt: skip
 
     def calls(self) -> Iterator[tuple[int, str]]:
@@ -603,10 +684,10 @@ class Damager:
 
 
 class SmallMaker(random_scripts.Maker):
-    """Makes random scripts whose joins are small, so that each is made soon."""
+    """Makes random scripts whose joins are small, so that each is made soon; a part of them has unique indexes."""
 
     def __init__(self, rng: random.Random):
-        super().__init__(rng)
+        super().__init__(rng, rng.random() < 0.4)
         self.huge = False
 
     def items(self) -> list[tuple]:

@@ -7,6 +7,8 @@
   sinks     a sink that takes 0, 1, 2 .. bytes and fails: 6 and just these bytes; a full device, a closed pipe
   judges    another judge from any call on, from OPEN to the end of a cursor, by a mark before that call: the same rows
   texts     4,094 parentheses, an IN of 33 literals, five FROM items
+  memory    each allocation of a run refused in turn, and 50 rooms in bytes: 0 and the transcript, or 4 and that of the first
+            calls (needs a C compiler as `cc`; left out where there is none, and told so)
   rows      the scripts that the cases are made of
 
 A sink's limit is that of the size of files; a source that fails is a connection that is reset behind its bytes. So each case
@@ -15,6 +17,7 @@ from __future__ import annotations
 
 import argparse
 import resource
+import shutil
 import signal
 import socket
 import subprocess
@@ -22,6 +25,7 @@ import tempfile
 from typing import Callable
 
 from ending import end
+from limited_memory import Shim, wrong_end
 
 Came = tuple[int, bytes, bytes]  # status, output, standard error
 
@@ -179,6 +183,27 @@ class Table:
                         good = sorted(found) == sorted(rows) and (name != "sorted" or list(map(first_value, found)) == list(map(first_value, rows)))
                         self.expect(f"{name}, judge {then} from call {at} on behind {first}", (status, b"" if good else output, words), (0, b"", b""))
 
+    # Memory.
+
+    def memory(self) -> None:
+        if shutil.which("cc") is None:
+            print("there is no C compiler: no memory is refused")
+            return
+        script, whole, told_calls = script_of(FIRST), (0, FIRST.encode(), b""), 0
+        with Shim() as shim:
+            enough = shim.run([self.program], script)
+            limits = [{"number": number} for number in range(1, enough.made + 2)]
+            limits += [{"room": max(1, enough.most * at // 50)} for at in range(50)]
+            for limit in limits:
+                ran = shim.run([self.program], script, **limit)
+                self.cases += 1
+                what = wrong_end(ran, whole)
+                if what is not None:
+                    self.wrong += 1
+                    print(f"{limit}: {what}")
+                told_calls += ran.status == 4 and ran.output != b""
+        self.expect("calls told before memory was wanting", (min(told_calls, 1), b"", b""), (1, b"", b""))
+
     # Texts, and rows.
 
     def texts(self) -> None:
@@ -197,6 +222,7 @@ class Table:
 
 CASES: dict[str, Callable[[Table], None]] = {
     "rows": Table.rows, "fronts": Table.fronts, "sources": Table.sources, "sinks": Table.sinks, "judges": Table.judges, "texts": Table.texts,
+    "memory": Table.memory,
 }  # fmt: skip
 
 

@@ -52,6 +52,7 @@ class Made(unittest.TestCase):
             (Edges.steps_at_limit, "limit steps", "stepped 0"), (Edges.integers_at_limit, "syntax", "inserted 0"),
             (Edges.tables_at_limit, "limit tables", "created"), (Edges.indexes_at_limit, "limit indexes", "opened"),
             (Edges.cursors_at_limit, "limit cursors", "opened"), (Edges.sessions_in_conflict, "no transaction", "held 0"),
+            (Edges.unique_at_limit, "duplicate 0", "inserted 0"), (Edges.own_changes, "limit cursors", "opened"),
         ]:  # fmt: skip
             found = self.replies(theme, 4 if theme in (Edges.tables_at_limit, Edges.cursors_at_limit) else 8)
             self.assertTrue(found[refused] and found[met], (theme, refused, met, found))

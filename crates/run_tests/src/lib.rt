@@ -1,12 +1,18 @@
-//! Tests of pieces that leave the core, of runs over the plain store, and of races. They stand in a crate of their own, since
-//! a crate with tests is proved twice.
+//! Tests of a core under all verdicts, over a store that refuses, with pieces that leave it and with races, and of runs over
+//! the plain store. They stand in a crate of their own, since a crate with tests is proved twice.
 #![tactic(auto)]
 
+#[cfg(test)]
+mod calls;
+#[cfg(test)]
+mod lists;
 #[cfg(test)]
 mod pieces;
 #[cfg(test)]
 mod plain;
 #[cfg(test)]
 mod races;
+#[cfg(test)]
+mod refusals;
 #[cfg(test)]
 mod traces;

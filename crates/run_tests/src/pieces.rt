@@ -1,55 +1,38 @@
-//! Pieces that leave the core: taken twice, given late, given after the cursor is closed.
-ghost use Rattle.std.specs.Prelude.{◌≡◌, ◌≤◌, length};
-
+//! Pieces that leave the core: taken twice, given late, given after the cursor is gone, and given to another core.
+use crate::calls::{fill, make, row};
 use rv_core::Core;
 use rv_jscan::{Given, Piece, PieceId, Taken, sieve};
 use rv_judge::{Judge, Patient, Steps, Threshold, Uncounted};
-use rv_lang::Reply;
 use rv_reader::{Reader, Store};
 use rv_store::Paged;
-use rv_value::{NoMemory, Value};
+use rv_value::NoMemory;
 use std::alloc::Global;
 use std::test::Fail;
 
-/// Session 2 makes a call; the first value of the row that it gives, where it gives one.
-fn made<S: Store + Reader<Ledger = Uncounted> + Drop>(
-    core: &mut Core<S>,
-    text: &str,
-) -> Result<Option<i64>, NoMemory>
-    requires { length text.now ≤ 4096 }
-{
-    let Reply::Row(values) = core.call(2, text)? else {
-        return Ok(None);
-    };
-    match values.as_slice().first() {
-        Some(Value::Int(number)) => Ok(Some(*number)),
-        _ => Ok(None),
-    }
+/// A core over the paged store.
+fn core_under(alloc: Global, judge: Box<dyn Judge>) -> Result<Core<Paged>, NoMemory> {
+    Ok(Core::new(alloc, Paged::new(alloc)?, judge, false, 0))
 }
 
-/// An indexed table of the numbers 0 to 39, and a cursor over half of them.
+/// The same under a judge that drops nothing.
+fn patient(alloc: Global) -> Result<Core<Paged>, NoMemory> {
+    let judge: Box<dyn Judge> = Box::new(alloc, Patient::new())?;
+    core_under(alloc, judge)
+}
+
+/// A table of the numbers 0 to 39, and a cursor over half of them.
 fn open<S: Store + Reader<Ledger = Uncounted> + Drop>(
     alloc: Global,
     core: &mut Core<S>,
 ) -> Result<(), NoMemory> {
-    let _ = made(core, "CREATE TABLE T (A BIGINT, B BIGINT)")?;
-    let _ = made(core, "CREATE INDEX IA ON T (A)")?;
-    let _ = made(core, "BEGIN")?;
-    for number in 0..40u32 {
-        let line = format!(in alloc; "INSERT INTO T VALUES ({number}, 0)")?;
-        if line.len() <= 4096 {
-            let _ = made(core, &line)?;
-        }
-    }
-    let _ = made(core, "COMMIT")?;
-    let _ = made(core, "BEGIN READ ONLY")?;
+    fill(alloc, core, 40)?;
     reopen(core)
 }
 
 fn reopen<S: Store + Reader<Ledger = Uncounted> + Drop>(
     core: &mut Core<S>,
 ) -> Result<(), NoMemory> {
-    let _ = made(
+    make(
         core,
         "OPEN C SELECT * FROM T WHERE A BETWEEN 10 AND 29 OPTIMIZE FOR FAST FIRST",
     )?;
@@ -59,7 +42,7 @@ fn reopen<S: Store + Reader<Ledger = Uncounted> + Drop>(
 /// How many rows FETCH gives until it gives none.
 fn left<S: Store + Reader<Ledger = Uncounted> + Drop>(core: &mut Core<S>) -> Result<u32, NoMemory> {
     for count in 0..100u32 {
-        if made(core, "FETCH C")?.is_none() {
+        if row(core, "FETCH C")?.is_none() {
             return Ok(count);
         }
     }
@@ -98,6 +81,14 @@ fn id(cursor: u64, opening: u64, number: u64) -> PieceId {
     }
 }
 
+/// The answer to the first piece of the first cursor where it is stale, and what is awaited.
+fn stale(now: Option<PieceId>) -> Option<Given> {
+    Some(Given::Stale {
+        asked: id(1, 1, 1),
+        now,
+    })
+}
+
 /// The first piece taken three times, and given: once, again, and once more after its cursor was closed and another opened.
 fn late<S: Store + Reader<Ledger = Uncounted> + Drop>(
     alloc: Global,
@@ -108,29 +99,45 @@ fn late<S: Store + Reader<Ledger = Uncounted> + Drop>(
     let second = taken(core)?;
     let third = taken(core)?;
     let accepted = given(core, first)? == Some(Given::Accepted);
-    let stale = Some(Given::Stale {
-        asked: id(1, 1, 1),
-        now: Some(id(1, 1, 2)),
-    });
-    let again = given(core, second)? == stale;
+    let again = given(core, second)? == stale(Some(id(1, 1, 2)));
     let rows = left(core)? == 20;
-    let _ = made(core, "CLOSE C")?;
+    make(core, "CLOSE C")?;
     reopen(core)?;
-    let closed = Some(Given::Stale {
-        asked: id(1, 1, 1),
-        now: None,
-    });
-    let gone = given(core, third)? == closed;
+    let gone = given(core, third)? == stale(None);
     let next = taken(core)?.is_some_and(|piece| piece.id() == id(2, 1, 1));
     Ok(accepted && again && rows && gone && next)
 }
 
 #[test]
 fn late_pieces_are_stale(rt: HostRuntime) -> Result<(), Fail> {
-    let alloc = rt.alloc();
-    let judge: Box<dyn Judge> = Box::new(alloc, Patient::new())?;
-    let mut core = Core::new(alloc, Paged::new(alloc)?, judge, false, 0);
-    assert!(rt; late(alloc, &mut core)?);
+    let mut core = patient(rt.alloc())?;
+    assert!(rt; late(rt.alloc(), &mut core)?);
+    Ok(())
+}
+
+/// The first piece is out while a call ends its cursor.
+fn ended<S: Store + Reader<Ledger = Uncounted> + Drop>(
+    alloc: Global,
+    core: &mut Core<S>,
+    text: &str,
+) -> Result<bool, NoMemory> {
+    open(alloc, core)?;
+    let piece = taken(core)?;
+    make(core, text)?;
+    Ok(given(core, piece)? == stale(None))
+}
+
+/// Whether it is stale then.
+fn is_ended_by(alloc: Global, text: &str) -> Result<bool, NoMemory> {
+    let mut core = patient(alloc)?;
+    ended(alloc, &mut core, text)
+}
+
+#[test]
+fn pieces_of_a_cursor_that_is_gone_are_stale(rt: HostRuntime) -> Result<(), Fail> {
+    for text in ["CLOSE C", "COMMIT", "ROLLBACK"] {
+        assert!(rt; is_ended_by(rt.alloc(), text)?, "{text}");
+    }
     Ok(())
 }
 
@@ -141,22 +148,42 @@ fn dropped<S: Store + Reader<Ledger = Uncounted> + Drop>(
 ) -> Result<bool, NoMemory> {
     open(alloc, core)?;
     let piece = taken(core)?;
-    let row = made(core, "FETCH C")? == Some(10);
-    let stale = Some(Given::Stale {
-        asked: id(1, 1, 1),
-        now: None,
-    });
-    let late = given(core, piece)? == stale;
+    let first = row(core, "FETCH C")? == Some(1000);
+    let late = given(core, piece)? == stale(None);
     let none = taken(core)?.is_none();
     let rows = left(core)? == 19;
-    Ok(row && late && none && rows)
+    Ok(first && late && none && rows)
 }
 
 #[test]
 fn a_piece_of_a_scan_that_was_dropped_is_stale(rt: HostRuntime) -> Result<(), Fail> {
-    let alloc = rt.alloc();
-    let judge: Box<dyn Judge> = Box::new(alloc, Threshold::new())?;
-    let mut core = Core::new(alloc, Paged::new(alloc)?, judge, false, 0);
-    assert!(rt; dropped(alloc, &mut core)?);
+    let judge: Box<dyn Judge> = Box::new(rt.alloc(), Threshold::new())?;
+    let mut core = core_under(rt.alloc(), judge)?;
+    assert!(rt; dropped(rt.alloc(), &mut core)?);
+    Ok(())
+}
+
+/// Two pieces of a core given to another one, whose own have the same entries, before that has taken its own and after it.
+fn elsewhere<S: Store + Reader<Ledger = Uncounted> + Drop>(
+    alloc: Global,
+    here: &mut Core<S>,
+    there: &mut Core<S>,
+) -> Result<bool, NoMemory> {
+    open(alloc, here)?;
+    open(alloc, there)?;
+    let first = taken(here)?;
+    let second = taken(here)?;
+    let early = given(there, first)? == stale(Some(id(1, 1, 1)));
+    let own = taken(there)?.is_some();
+    let accepted = given(there, second)? == Some(Given::Accepted);
+    let rows = left(there)? == 20;
+    Ok(early && own && accepted && rows)
+}
+
+#[test]
+fn another_core_takes_a_piece_by_its_content(rt: HostRuntime) -> Result<(), Fail> {
+    let mut here = patient(rt.alloc())?;
+    let mut there = patient(rt.alloc())?;
+    assert!(rt; elsewhere(rt.alloc(), &mut here, &mut there)?);
     Ok(())
 }

@@ -14,7 +14,7 @@ const TRANSCRIPT: &str =
     "1 CREATE TABLE T (A BIGINT, B BIGINT)\n= created\n1 CREATE INDEX IA ON T (A)\n= created\n1 BEGIN\n= began 1\n2 BEGIN\n= began 2\n1 INSERT INTO T VALUES (2, 6)\n= inserted 0\n1 INSERT INTO T VALUES (1, 5)\n= inserted 1\n1 COMMIT\n= committed 1\n2 OPEN C SELECT * FROM T\n= opened\n2 FETCH C\n= end\n2 COMMIT\n= committed 0\n2 BEGIN\n= began 3\n2 OPEN C SELECT B FROM T WHERE A > 0 ORDER BY A\n= opened\n2 FETCH C\n= row 5\n2 FETCH C\n= row 6\n2 FETCH C\n= end\n";
 
 /// The status of a run without automatic steps, under the supplied judges.
-pub fn run(alloc: Global, source: &mut MemSource, sink: &mut MemSink) -> Result<Status, NoMemory> {
+fn run(alloc: Global, source: &mut MemSource, sink: &mut MemSink) -> Result<Status, NoMemory> {
     let mut words = Vec::new(alloc);
     words.push(Text::read(alloc, "--steps=0")?)?;
     let mut judges: Vec<Box<dyn Judge>> = Vec::new(alloc);

@@ -102,6 +102,9 @@ pub fn open<R: Reader>(
     })
 }
 
+/// A level that is left goes with all that it holds. In a function of its own no other goal sees the parts that go.
+fn leave(_level: Level) {}
+
 /// The open levels: changes of fields, and looks.
 impl Stack {
     fn ready<R: Reader>(
@@ -133,7 +136,7 @@ impl Stack {
     {
         match self.above.pop() {
             Some(level) => {
-                let _left = mem::replace(&mut self.at, level);
+                leave(mem::replace(&mut self.at, level));
                 true
             }
             None => false,
@@ -145,7 +148,10 @@ impl Stack {
         ensures ok { OnOk result (self.new ≡ down self.old inner) }
         ensures err { OnErr result (self.new ≡ self.old) }
     {
-        self.above.reserve(1)?;
+        if self.above.reserve(1).is_err() {
+            leave(inner);
+            return Err(NoMemory);
+        }
         let mut outer = mem::replace(&mut self.at, inner);
         let _row = outer.row.take();
         self.above.push(outer).unwrap();

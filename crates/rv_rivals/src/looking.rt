@@ -1,5 +1,5 @@
 //! The lowest row with a key, found in an index.
-ghost use Rattle.std.specs.Prelude.{◌≡◌, ◌≤◌, ℕ, List, Some, true, IfOk, length};
+ghost use Rattle.std.specs.Prelude.{◌≡◌, ◌≤◌, ℕ, List, [], Some, true, IfOk, length};
 ghost use Rattle.std.specs.List.{list_any};
 ghost use Rattle.rv_value.specs.declared.record.Record.{Record as OneRecord};
 ghost use Rattle.rv_reader.specs.Entries.{column_of, run};
@@ -79,6 +79,24 @@ pub fn point(alloc: Global, key: &Key) -> Result<Range, NoMemory>
     })
 }
 
+/// A key that is looked for, and the range of the entries that have it: made once for all look-ups of a row.
+#[derive(Drop)]
+pub struct Sought {
+    pub key: Key,
+    pub range: Range,
+}
+
+impl Sought {
+    /// A key with its range.
+    pub fn new(alloc: Global, key: Key) -> Result<Sought, NoMemory>
+        ensures key { IfOk result (λ sought. sought.key ≡ key) }
+        ensures range { IfOk result (λ sought. sought.range ≡ point key) }
+    {
+        let range = point(alloc, &key)?;
+        Ok(Sought { key, range })
+    }
+}
+
 /// The first of entries whose row passes a test.
 pub fn first_of<T: RowTest>(entries: &[IndexEntry], test: &T) -> Option<RowNo>
     ensures { result ≡ first_row (T.keeps test.now) entries.now }
@@ -124,21 +142,34 @@ fn first_in<R: Reader<Ledger = Uncounted>, T: RowTest>(
     }
 }
 
+/// Whether a reader tells, reading nothing, that no entry is in a range.
+fn tells_none<R: Reader>(reader: &R, index: u32, snap: u64, range: &Range) -> bool
+    requires can { CanScan (R.shown reader.now) index snap }
+    requires suits { Suits (R.shown reader.now) index snap range.now }
+    ensures { result ≡ true → run ((R.shown reader.now).entries index snap) range.now ≡ [] }
+{
+    let estimate = reader.estimate(index, snap, range);
+    estimate.exact && estimate.value == 0
+}
+
 /// The lowest row with a key that passes a test: one look-up in the index, whatever else is in it.
 pub fn lowest_with<R: Reader<Ledger = Uncounted>, T: RowTest>(
     alloc: Global,
     reader: &R,
     index: u32,
     snap: u64,
-    key: &Key,
+    sought: &Sought,
     test: &T,
 ) -> Result<Option<RowNo>, NoMemory>
     requires can { CanScan (R.shown reader.now) index snap }
-    requires suits { Suits (R.shown reader.now) index snap (point key.now) }
-    ensures { IfOk result (λ row. (columns : List ℕ) (rows : List OneRecord) → Tells (R.shown reader.now) index snap columns rows → length key.now ≡ length columns → row ≡ lowest_with columns key.now (T.keeps test.now) rows) }
+    requires suits { Suits (R.shown reader.now) index snap sought.now.range }
+    requires range { sought.now.range ≡ point sought.now.key }
+    ensures { IfOk result (λ row. (columns : List ℕ) (rows : List OneRecord) → Tells (R.shown reader.now) index snap columns rows → length sought.now.key ≡ length columns → row ≡ lowest_with columns sought.now.key (T.keeps test.now) rows) }
 {
-    let range = point(alloc, key)?;
-    let row = first_in(alloc, reader, index, snap, &range, test)?;
+    if tells_none(reader, index, snap, &sought.range) {
+        return Ok(None);
+    }
+    let row = first_in(alloc, reader, index, snap, &sought.range, test)?;
     Ok(row)
 }
 
@@ -149,15 +180,16 @@ pub fn lowest_seen<S: Store + Reader<Ledger = Uncounted>, T: RowTest>(
     view: &Option<View>,
     index: u32,
     snap: u64,
-    key: &Key,
+    sought: &Sought,
     test: &T,
 ) -> Result<Option<RowNo>, NoMemory>
     requires lays { LaysSome (S.shown store.now) view.now }
     requires can { CanScan (laid_over (S.shown store.now) view.now) index snap }
-    requires suits { Suits (laid_over (S.shown store.now) view.now) index snap (point key.now) }
-    ensures { IfOk result (λ row. (columns : List ℕ) (rows : List OneRecord) → Tells (laid_over (S.shown store.now) view.now) index snap columns rows → length key.now ≡ length columns → row ≡ lowest_with columns key.now (T.keeps test.now) rows) }
+    requires suits { Suits (laid_over (S.shown store.now) view.now) index snap sought.now.range }
+    requires range { sought.now.range ≡ point sought.now.key }
+    ensures { IfOk result (λ row. (columns : List ℕ) (rows : List OneRecord) → Tells (laid_over (S.shown store.now) view.now) index snap columns rows → length sought.now.key ≡ length columns → row ≡ lowest_with columns sought.now.key (T.keeps test.now) rows) }
 {
     let seen = Seen::new(store, view);
-    let row = lowest_with(alloc, &seen, index, snap, key, test)?;
+    let row = lowest_with(alloc, &seen, index, snap, sought, test)?;
     Ok(row)
 }

@@ -12,9 +12,9 @@ ghost use Rattle.rv_model.specs.Transactions.{touched_by};
 ghost use Rattle.rv_own.specs.Views.{AreViews};
 ghost use Rattle.rv_txn.specs.Calls.{IsFault};
 ghost use Rattle.rv_rivals.specs.Lookups.{CanLook, CanTest, CanTestOther, HasIndex, IsPlace, IsStatement, all_none, entries_written, first_equal_to, first_with, neighbours_in, none_in, other_than, written_first};
-ghost use Rattle.rv_rivals.specs.Points.{lowest_with};
+ghost use Rattle.rv_rivals.specs.Points.{lowest_with, point};
 
-use crate::looking::{has_null, key_of, lowest_seen, lowest_with};
+use crate::looking::{Sought, has_null, key_of, lowest_seen, lowest_with};
 use crate::near::{Near, Other, near_of};
 use crate::rows::{Changed, Left, Unchanged};
 use crate::statement::{entries_of, lower_row, other_with};
@@ -26,7 +26,7 @@ use rv_own::Views;
 use rv_reader::{Reader, Store};
 use rv_rows::Change;
 use rv_txn::{TxnFault, Txns};
-use rv_value::{IndexEntry, Key, NoMemory, RowNo, Values};
+use rv_value::{IndexEntry, NoMemory, RowNo, Values};
 use std::alloc::Global;
 
 /// A unique index over the table that a statement writes, and the entries in it of the statement's rows.
@@ -206,7 +206,8 @@ fn rival_of<S: Store + Reader<Ledger = Uncounted>>(
     if has_null(&key) {
         return Ok(None);
     }
-    first_with(alloc, store, txns, index, near, row, &key)
+    let sought = Sought::new(alloc, key)?;
+    first_with(alloc, store, txns, index, near, row, &sought)
 }
 
 /// The refusal that shows the first other row with a key, in the order of the places.
@@ -217,18 +218,19 @@ fn first_with<S: Store + Reader<Ledger = Uncounted>>(
     index: &Unique<'_>,
     near: &Near<'_>,
     row: RowNo,
-    key: &Key,
+    sought: &Sought,
 ) -> Result<Option<Refusal>, NoMemory>
     requires can { CanTest (S.shown store.now) near.now.table index.now.number index.now.columns.now near.now.own.now near.now.view index.now.entries }
     requires others { AllByRecursion (λ o. CanTestOther (S.shown store.now) o.transaction.now o.view) near.now.others.items }
-    requires long { length key.now ≡ length index.now.columns.now }
-    ensures { IfOk result (λ found. (new : List OneChange) → IsStatement near.now.table row.0 near.now.new index.now.columns.now index.now.entries new → found ≡ first_with (S.shown store.now) (touched_by txns.now.touched near.now.table) index.now.columns.now key.now row.0 near.now.table near.now.own.now new (map (λ o. o.transaction.now) near.now.others.items)) }
+    requires long { length sought.now.key ≡ length index.now.columns.now }
+    requires range { sought.now.range ≡ point sought.now.key }
+    ensures { IfOk result (λ found. (new : List OneChange) → IsStatement near.now.table row.0 near.now.new index.now.columns.now index.now.entries new → found ≡ first_with (S.shown store.now) (touched_by txns.now.touched near.now.table) index.now.columns.now sought.now.key row.0 near.now.table near.now.own.now new (map (λ o. o.transaction.now) near.now.others.items)) }
 {
-    if let Some(row) = in_view(alloc, store, index, near, key, row)? {
+    if let Some(row) = in_view(alloc, store, index, near, sought, row)? {
         let by = Rival::View;
         return Ok(Some(Refusal::Duplicate { row, by }));
     }
-    if let Some(row) = at_commit(alloc, store, index, near, key)? {
+    if let Some(row) = at_commit(alloc, store, index, near, sought)? {
         let by = Rival::Commit(txns.written_by(near.table, row));
         return Ok(Some(Refusal::Duplicate { row, by }));
     }
@@ -238,7 +240,7 @@ fn first_with<S: Store + Reader<Ledger = Uncounted>>(
         index,
         near.table,
         near.others.as_slice(),
-        key,
+        sought,
         row,
     )
 }
@@ -250,12 +252,13 @@ fn in_view<S: Store + Reader<Ledger = Uncounted>>(
     store: &S,
     index: &Unique<'_>,
     near: &Near<'_>,
-    key: &Key,
+    sought: &Sought,
     row: RowNo,
 ) -> Result<Option<RowNo>, NoMemory>
     requires can { CanTest (S.shown store.now) near.now.table index.now.number index.now.columns.now near.now.own.now near.now.view index.now.entries }
-    requires long { length key.now ≡ length index.now.columns.now }
-    ensures { IfOk result (λ found. (new : List OneChange) → IsStatement near.now.table row.0 near.now.new index.now.columns.now index.now.entries new → found ≡ lowest_with index.now.columns.now key.now (other_than row.0) (rows_with_changes near.now.table (with_changes new near.now.own.now.changes) ((S.shown store.now).rows near.now.table near.now.own.now.base))) }
+    requires long { length sought.now.key ≡ length index.now.columns.now }
+    requires range { sought.now.range ≡ point sought.now.key }
+    ensures { IfOk result (λ found. (new : List OneChange) → IsStatement near.now.table row.0 near.now.new index.now.columns.now index.now.entries new → found ≡ lowest_with index.now.columns.now sought.now.key (other_than row.0) (rows_with_changes near.now.table (with_changes new near.now.own.now.changes) ((S.shown store.now).rows near.now.table near.now.own.now.base))) }
 {
     let unchanged = Unchanged {
         table: near.table,
@@ -268,10 +271,10 @@ fn in_view<S: Store + Reader<Ledger = Uncounted>>(
         &near.view,
         index.number,
         base,
-        key,
+        sought,
         &unchanged,
     )?;
-    let other = other_with(alloc, &index.entries, key, row)?;
+    let other = other_with(&index.entries, sought, row)?;
     Ok(lower_row(found, other))
 }
 
@@ -281,18 +284,19 @@ fn at_commit<S: Store + Reader<Ledger = Uncounted>>(
     store: &S,
     index: &Unique<'_>,
     near: &Near<'_>,
-    key: &Key,
+    sought: &Sought,
 ) -> Result<Option<RowNo>, NoMemory>
     requires can { CanTest (S.shown store.now) near.now.table index.now.number index.now.columns.now near.now.own.now near.now.view index.now.entries }
-    requires long { length key.now ≡ length index.now.columns.now }
-    ensures { IfOk result (λ found. (row : ℕ) (new : List OneChange) → IsStatement near.now.table row near.now.new index.now.columns.now index.now.entries new → found ≡ lowest_with index.now.columns.now key.now (other_than row) (rows_left near.now.table (with_changes new near.now.own.now.changes) ((S.shown store.now).rows near.now.table (S.shown store.now).newest))) }
+    requires long { length sought.now.key ≡ length index.now.columns.now }
+    requires range { sought.now.range ≡ point sought.now.key }
+    ensures { IfOk result (λ found. (row : ℕ) (new : List OneChange) → IsStatement near.now.table row near.now.new index.now.columns.now index.now.entries new → found ≡ lowest_with index.now.columns.now sought.now.key (other_than row) (rows_left near.now.table (with_changes new near.now.own.now.changes) ((S.shown store.now).rows near.now.table (S.shown store.now).newest))) }
 {
     let left = Left {
         table: near.table,
         own: &near.own.changes,
         new: &near.new,
     };
-    let found = lowest_with(alloc, store, index.number, store.last(), key, &left)?;
+    let found = lowest_with(alloc, store, index.number, store.last(), sought, &left)?;
     Ok(found)
 }
 
@@ -303,14 +307,15 @@ fn in_other<S: Store + Reader<Ledger = Uncounted>>(
     index: &Unique<'_>,
     table: u32,
     other: &Other<'_>,
-    key: &Key,
+    sought: &Sought,
     row: RowNo,
 ) -> Result<Option<RowNo>, NoMemory>
     requires stored { IsStored (S.shown store.now) }
     requires index { HasIndex (S.shown store.now) table index.now.number index.now.columns.now }
     requires other { CanTestOther (S.shown store.now) other.now.transaction.now other.now.view }
-    requires long { length key.now ≡ length index.now.columns.now }
-    ensures { IfOk result (λ found. found ≡ lowest_with index.now.columns.now key.now (other_than row.0) (rows_written table other.now.transaction.now.changes)) }
+    requires long { length sought.now.key ≡ length index.now.columns.now }
+    requires range { sought.now.range ≡ point sought.now.key }
+    ensures { IfOk result (λ found. found ≡ lowest_with index.now.columns.now sought.now.key (other_than row.0) (rows_written table other.now.transaction.now.changes)) }
 {
     let transaction = other.transaction;
     let changed = Changed {
@@ -319,7 +324,15 @@ fn in_other<S: Store + Reader<Ledger = Uncounted>>(
         but: row,
     };
     let base = transaction.base;
-    let found = lowest_seen(alloc, store, &other.view, index.number, base, key, &changed)?;
+    let found = lowest_seen(
+        alloc,
+        store,
+        &other.view,
+        index.number,
+        base,
+        sought,
+        &changed,
+    )?;
     Ok(found)
 }
 
@@ -330,17 +343,18 @@ fn in_others<S: Store + Reader<Ledger = Uncounted>>(
     index: &Unique<'_>,
     table: u32,
     others: &[Other<'_>],
-    key: &Key,
+    sought: &Sought,
     row: RowNo,
 ) -> Result<Option<Refusal>, NoMemory>
     requires stored { IsStored (S.shown store.now) }
     requires index { HasIndex (S.shown store.now) table index.now.number index.now.columns.now }
     requires others { AllByRecursion (λ o. CanTestOther (S.shown store.now) o.transaction.now o.view) others.now }
-    requires long { length key.now ≡ length index.now.columns.now }
-    ensures { IfOk result (λ found. found ≡ written_first index.now.columns.now key.now row.0 table (map (λ o. o.transaction.now) others.now)) }
+    requires long { length sought.now.key ≡ length index.now.columns.now }
+    requires range { sought.now.range ≡ point sought.now.key }
+    ensures { IfOk result (λ found. found ≡ written_first index.now.columns.now sought.now.key row.0 table (map (λ o. o.transaction.now) others.now)) }
 {
     'others: for other in others {
-        if let Some(row) = in_other(alloc, store, index, table, other, key, row)? {
+        if let Some(row) = in_other(alloc, store, index, table, other, sought, row)? {
             let by = Rival::Txn(other.transaction.number);
             return Ok(Some(Refusal::Duplicate { row, by }));
         }

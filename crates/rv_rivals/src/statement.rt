@@ -9,14 +9,14 @@ ghost use Rattle.rv_reader.specs.Entries.{entries_of as entries_are};
 ghost use Rattle.rv_overlay.specs.Keeping.{entry_at, with_some};
 ghost use Rattle.rv_overlay.specs.Rows.{changed_row};
 ghost use Rattle.rv_rivals.specs.Lookups.{AreEntries, entries_written, lower_row, other_than};
-ghost use Rattle.rv_rivals.specs.Points.{lowest_with};
+ghost use Rattle.rv_rivals.specs.Points.{lowest_with, point};
 
-use crate::looking::{first_of, key_of, point};
+use crate::looking::{Sought, first_of, key_of};
 use crate::rows::But;
 use rv_blocks::Blocks;
 use rv_overlay::fronts::span_of;
 use rv_rows::{Change, Changes};
-use rv_value::{IndexEntry, Key, NoMemory, RowNo};
+use rv_value::{IndexEntry, NoMemory, RowNo};
 use std::alloc::Global;
 
 /// The rows that a statement changes, without what it leaves of them.
@@ -79,16 +79,15 @@ pub fn entries_of(
 /// Of the rows that a statement writes the lowest other one that has the key of one of them. It takes logarithmic time: of
 /// two entries with the key one at least is of another row.
 pub fn other_with(
-    alloc: Global,
     entries: &Blocks<IndexEntry>,
-    key: &Key,
+    sought: &Sought,
     row: RowNo,
 ) -> Result<Option<RowNo>, NoMemory>
-    requires { AreEntries key.now entries.now }
-    ensures { IfOk result (λ found. (columns : List ℕ) (rows : List OneRecord) → Ascend rows → entries.now ≡ entries_are columns rows → length key.now ≡ length columns → found ≡ lowest_with columns key.now (other_than row.0) rows) }
+    requires are { AreEntries sought.now.key entries.now }
+    requires range { sought.now.range ≡ point sought.now.key }
+    ensures { IfOk result (λ found. (columns : List ℕ) (rows : List OneRecord) → Ascend rows → entries.now ≡ entries_are columns rows → length sought.now.key ≡ length columns → found ≡ lowest_with columns sought.now.key (other_than row.0) rows) }
 {
-    let range = point(alloc, key)?;
-    let span = span_of(entries, None, None, &range);
+    let span = span_of(entries, None, None, &sought.range);
     let run = entries.copy_run(span.at, span.count.min(2))?;
     Ok(first_of(run.as_slice(), &But { row }))
 }

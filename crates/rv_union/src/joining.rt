@@ -40,13 +40,14 @@ fn put_next(put: &mut KeyList, keys: &KeyList, others: &KeyList, i: u64, j: u64)
 {
     let _of_keys = keys.len();
     let _of_others = others.len();
-    let first = is_first(keys, others, i, j);
-    if first {
-        put.push(keys.get(i)).unwrap();
-    } else {
-        put.push(others.get(j)).unwrap();
+    if is_first(keys, others, i, j) {
+        let row = keys.get(i);
+        put.push(row).unwrap();
+        return true;
     }
-    first
+    let row = others.get(j);
+    put.push(row).unwrap();
+    false
 }
 
 /// How many keys of the first list were put once so many of both were, where `i` were before.

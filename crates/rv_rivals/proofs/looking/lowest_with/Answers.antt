@@ -1,10 +1,12 @@
-use Rattle.std.proofs.Common.{subst, sym}
-use Rattle.rv_reader.specs.Shown.{Suits}
+use Rattle.std.proofs.Common.{None, ap, sym}
+use Rattle.rv_rivals.specs.Points.{first_row}
 use Rattle.rv_rivals.proofs.Finding.{lowest_is}
 use Rattle.rv_rivals.proofs.looking.lowest_with.Goals as goal
 
-pub first_in-requires-clause-suits : goal.first_in-requires-clause-suits
-first_in-requires-clause-suits g c = subst (Suits (g.R.Reader.shown c.args.reader.now) c.args.index c.args.snap) (sym c.in_ok-range.ensures) c.requires.suits
-
 pub returns : goal.returns
-returns g c columns rows tells long = lowest_is (g.R.Reader.shown c.args.reader.now) c.args.index c.args.snap c.args.key.now (g.T.RowTest.keeps c.args.test.now) c.in_ok-range.range c.in_ok-row.row c.in_ok-range.ensures c.in_ok-row.ensures columns rows tells long
+returns g c columns rows tells long = lowest_is (g.R.Reader.shown c.args.reader.now) c.args.index c.args.snap c.args.sought.now.key (g.T.RowTest.keeps c.args.test.now) c.args.sought.now.range c.in_ok-row.row c.requires.range c.in_ok-row.ensures columns rows tells long
+
+pub returns-then-tells_none : goal.returns-then-tells_none
+returns-then-tells_none g c columns rows tells long =
+    lowest_is (g.R.Reader.shown c.args.reader.now) c.args.index c.args.snap c.args.sought.now.key (g.T.RowTest.keeps c.args.test.now) c.args.sought.now.range None c.requires.range
+    (ap (first_row (g.T.RowTest.keeps c.args.test.now)) (sym (c.tells_none.ensures c.if-tells_none.true))) columns rows tells long

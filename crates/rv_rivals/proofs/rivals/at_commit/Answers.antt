@@ -18,8 +18,8 @@ lowest_with-requires-clause-suits g c =
     let can = c.requires.can in
     let shown = g.S.Reader.shown c.args.store.now in
     let table = c.args.near.now.table in
-    subst (λ n. Suits shown c.args.index.now.number n (point c.args.key.now)) (sym c.last.ensures.newest) (suits shown c.args.index.now.number shown.newest c.args.index.now.columns.now (shown.rows table shown.newest) c.args.key.now
-    (store_tells shown table c.args.index.now.number shown.newest c.args.index.now.columns.now can.stored can.index (newest_at shown can.stored)) c.requires.long)
+    subst (λ r. Suits shown c.args.index.now.number c.last.result r) (sym c.requires.range) (subst (λ n. Suits shown c.args.index.now.number n (point c.args.sought.now.key)) (sym c.last.ensures.newest) (suits shown c.args.index.now.number shown.newest c.args.index.now.columns.now (shown.rows table shown.newest) c.args.sought.now.key
+    (store_tells shown table c.args.index.now.number shown.newest c.args.index.now.columns.now can.stored can.index (newest_at shown can.stored)) c.requires.long))
 
 pub returns : goal.returns
 returns g c row new st =
@@ -28,5 +28,5 @@ returns g c row new st =
     let table = c.args.near.now.table in
     let columns = c.args.index.now.columns.now in
     let tells = store_tells shown table c.args.index.now.number shown.newest columns can.stored can.index (newest_at shown can.stored) in
-    at_commit_is table row columns c.args.key.now (shown.rows table shown.newest) c.args.near.now.own.now.changes c.args.near.now.new new c.args.index.now.entries c.in_ok-found.found st
+    at_commit_is table row columns c.args.sought.now.key (shown.rows table shown.newest) c.args.near.now.own.now.changes c.args.near.now.new new c.args.index.now.entries c.in_ok-found.found st
     (c.in_ok-found.ensures columns (shown.rows table shown.newest) (subst (λ n. Tells shown c.args.index.now.number n columns (shown.rows table shown.newest)) (sym c.last.ensures.newest) tells) c.requires.long)

@@ -1,4 +1,5 @@
-use Rattle.std.proofs.Common.{[]}
+use Rattle.std.proofs.Common.{[], subst, sym}
+use Rattle.rv_reader.specs.Shown.{Suits}
 use Rattle.rv_overlay.proofs.Tabling.{applied_ascends}
 use Rattle.rv_rows.specs.Changes.{rows_with_changes}
 use Rattle.rv_view.specs.Sights.{laid_over}
@@ -21,11 +22,11 @@ lowest_seen-requires-clause-suits g c =
     let can = c.requires.can in
     let own = c.args.near.now.own.now in
     let shown = g.S.Reader.shown c.args.store.now in
-    suits (laid_over shown c.args.near.now.view) c.args.index.now.number own.base c.args.index.now.columns.now (rows_with_changes c.args.near.now.table own.changes (shown.rows c.args.near.now.table own.base)) c.args.key.now
-    (view_tells shown own c.args.near.now.view c.args.near.now.table c.args.index.now.number c.args.index.now.columns.now can.stored can.index can.at can.freezes) c.requires.long
+    subst (Suits (laid_over shown c.args.near.now.view) c.args.index.now.number own.base) (sym c.requires.range) (suits (laid_over shown c.args.near.now.view) c.args.index.now.number own.base c.args.index.now.columns.now (rows_with_changes c.args.near.now.table own.changes (shown.rows c.args.near.now.table own.base)) c.args.sought.now.key
+    (view_tells shown own c.args.near.now.view c.args.near.now.table c.args.index.now.number c.args.index.now.columns.now can.stored can.index can.at can.freezes) c.requires.long)
 
-pub other_with-requires : goal.other_with-requires
-other_with-requires g c = are_entries c.args.index.now.columns.now c.args.key.now c.args.index.now.entries c.requires.can.rows c.requires.long
+pub other_with-requires-clause-are : goal.other_with-requires-clause-are
+other_with-requires-clause-are g c = are_entries c.args.index.now.columns.now c.args.sought.now.key c.args.index.now.entries c.requires.can.rows c.requires.long
 
 pub returns : goal.returns
 returns g c new st =
@@ -36,7 +37,7 @@ returns g c new st =
     let columns = c.args.index.now.columns.now in
     let base = shown.rows table own.base in
     let tells = view_tells shown own c.args.near.now.view table c.args.index.now.number columns can.stored can.index can.at can.freezes in
-    in_view_is shown own c.args.near.now.view table c.args.row.0 columns c.args.key.now base c.args.near.now.new new c.args.index.now.entries c.in_ok-found.found c.in_ok-other.other c.lower_row.result
+    in_view_is shown own c.args.near.now.view table c.args.row.0 columns c.args.sought.now.key base c.args.near.now.new new c.args.index.now.entries c.in_ok-found.found c.in_ok-other.other c.lower_row.result
     (store_tells shown table c.args.index.now.number own.base columns can.stored can.index can.at).ascend can.freezes st
     (c.in_ok-found.ensures columns (rows_with_changes table own.changes base) tells c.requires.long)
     (c.in_ok-other.ensures columns (rows_written table new) (applied_ascends table new [] tt) st.told c.requires.long)
