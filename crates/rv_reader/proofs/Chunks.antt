@@ -1,5 +1,5 @@
 -- The leaves of an index, one after another, give a whole run, and their number falls.
-use Rattle.std.proofs.Common.{◌≡◌, ◌<◌, ◌≤◌, List, [], ◌∷◌, ◌++◌, Bool, true, false, not, ◌&&◌, cond, Option, Some, None, IfSome, inl, inr, refl, ap, sym, ◌∙◌, filter, length, arith, append-nil}
+use Rattle.std.proofs.Common.{◌≡◌, ◌<◌, ◌≤◌, List, [], ◌∷◌, ◌++◌, Bool, true, false, not, ◌&&◌, cond, Option, Some, None, IfSome, inl, inr, refl, ap, sym, ◌∙◌, filter, length, arith, append-nil, ◌+◌, subst}
 use Rattle.std.proofs.lemmas.Bool.{cases_Bool}
 use Rattle.std.specs.List.{list_all}
 use Rattle.rv_value.specs.declared.record.IndexEntry.{IndexEntry}
@@ -9,7 +9,7 @@ use Rattle.rv_value.specs.declared.range.Side.TheVariants.{Before, In, After}
 use Rattle.rv_value.specs.Ranges.{place, in_side}
 use Rattle.rv_reader.specs.declared.reader.Chunk.{Chunk}
 use Rattle.rv_reader.specs.Entries.{comes_before, Ascend, AreLong, is_in, reaches}
-use Rattle.rv_reader.specs.Leaves.{Leaf, IsChunk, is_from, is_wanted, is_below, is_taken, before_side, after_side, from_on, up_to, leaf_from, leaf_at, leaf_entries, is_passed, within, run_from, run_after, leaves_from, leaves_after}
+use Rattle.rv_reader.specs.Leaves.{Leaf, IsChunk, is_from, is_wanted, is_below, is_taken, before_side, after_side, from_on, up_to, leaf_from, leaf_at, leaf_entries, is_passed, within, run_from, run_after, leaves_from, leaves_after, is_ahead, leaves_for, leaves_behind}
 use Rattle.rv_reader.proofs.Filters.{both, filter_same, filter_twice, filter_none, filter_fewer, rising_cut}
 use Rattle.rv_reader.proofs.Orders.{one_way, below_through, follows, itself, key_not, order}
 use Rattle.rv_reader.proofs.Sides.{before_along, after_along}
@@ -269,3 +269,58 @@ next_long cuts range start long = (leaf_keeps (is_long range) (is_passed start r
 
 pub taken_within : (range : Range) (start next : Option IndexEntry) (e : IndexEntry) → is_long range e ≡ true → IfSome next (λ c. is_long range c ≡ true) → is_taken range start (within range next) e ≡ is_taken range start next e
 taken_within = below_within
+
+-- Fewer leaves may hold what is left of a range.
+
+turned_twice : (b : Bool) → not (not b) ≡ true → b ≡ true
+turned_twice true h = refl
+turned_twice false h = cc
+
+with_true : (a b : Bool) → b ≡ true → a ≡ (a && b)
+with_true true true h = refl
+with_true false true h = refl
+with_true a false h = cc
+
+-- what is ahead of the following cut is ahead of where the reading began
+ahead_more : (range : Range) (start : Option IndexEntry) (n c : IndexEntry) → is_long range n ≡ true → is_passed start range n ≡ false → (is_ahead (Some n) range c && is_long range c) ≡ true → is_ahead start range c ≡ true
+ahead_more range None n c l p h =
+    let parts = both (is_ahead (Some n) range c) (is_long range c) h in
+    let ahead = both (not (not (comes_before n c))) (not (after_side (place range c.key))) parts.0 in
+    let above : comes_before n c ≡ true = turned_twice (comes_before n c) ahead.0 in
+    elim (before_side (place range c.key)) as (λ b. before_side (place range c.key) ≡ b → (not b && not (after_side (place range c.key))) ≡ true) [
+      | true ↦ λ before. absurd (let bad : before_side (place range n.key) ≡ true = before_along range n.key c.key (key_not n c (one_way n c above)) l parts.1 before in let no : true ≡ false = sym bad ∙ p in cc)
+      | false ↦ λ other. ahead.1
+    ] refl
+ahead_more range (Some s) n c l p h =
+    let parts = both (is_ahead (Some n) range c) (is_long range c) h in
+    let ahead = both (not (not (comes_before n c))) (not (after_side (place range c.key))) parts.0 in
+    let above : comes_before n c ≡ true = turned_twice (comes_before n c) ahead.0 in
+    let first : comes_before s n ≡ true = turned_false (comes_before s n) p in
+    rw (follows s n c first above) ahead.1
+
+fewer_ahead : (range : Range) (cuts : List IndexEntry) (start : Option IndexEntry) (n : IndexEntry) → AreLong range cuts → is_long range n ≡ true → is_passed start range n ≡ false → after_side (place range n.key) ≡ false
+    → ((p q : IndexEntry → Bool) → ((c : IndexEntry) → p c ≡ true → q c ≡ true) → p n ≡ false → q n ≡ true → length (filter p cuts) < length (filter q cuts))
+    → leaves_for cuts range (Some n) + 1 ≤ leaves_for cuts range start
+fewer_ahead range cuts start n long l p other counts =
+    let test : IndexEntry → Bool = λ c. is_ahead (Some n) range c && is_long range c in
+    let same : filter (is_ahead (Some n) range) cuts ≡ filter test cuts = filter_same (is_long range) (is_ahead (Some n) range) test cuts long (λ c h. with_true (is_ahead (Some n) range c) (is_long range c) h) in
+    let few = counts test (is_ahead start range) (λ c h. ahead_more range start n c l p h) (rw (itself n) refl) (rw (p, other) refl) in
+    let count = ap length same in
+    omega arith
+
+behind_by : (range : Range) (cuts : List IndexEntry) (start next : Option IndexEntry) → AreLong range cuts → IfSome next (λ c. is_passed start range c ≡ false) → IfSome next (λ c. is_long range c ≡ true)
+    → ((p q : IndexEntry → Bool) → ((c : IndexEntry) → p c ≡ true → q c ≡ true) → IfSome next (λ n. p n ≡ false → q n ≡ true → length (filter p cuts) < length (filter q cuts)))
+    → leaves_behind cuts range (within range next) + 1 ≤ leaves_for cuts range start
+behind_by range cuts start None long p l counts = omega arith
+behind_by range cuts start (Some n) long p l counts =
+    elim (after_side (place range n.key)) as (λ b. after_side (place range n.key) ≡ b → leaves_behind cuts range (cond b None (Some n)) + 1 ≤ leaves_for cuts range start) [
+      | true ↦ λ after. omega arith
+      | false ↦ λ other. fewer_ahead range cuts start n long l p other (λ p q sharper. counts p q sharper)
+    ] refl
+
+-- once a leaf was read, one leaf less may hold what is left of the range
+pub leaves_nearer : (entries cuts : List IndexEntry) (range : Range) (start : Option IndexEntry) (chunk : Chunk) → AreLong range cuts → IsChunk entries cuts range start chunk → leaves_behind cuts range chunk.next + 1 ≤ leaves_for cuts range start
+leaves_nearer entries cuts range start chunk long is =
+    let passes = leaf_passes (is_passed start range) None cuts tt in
+    let keeps = leaf_keeps (is_long range) (is_passed start range) None cuts tt long in
+    subst (λ (o : Option IndexEntry). leaves_behind cuts range o + 1 ≤ leaves_for cuts range start) (sym is.following) (behind_by range cuts start (leaf_at cuts start range).next long passes.1 keeps.1 (λ p q sharper. next_counts p q (is_passed start range) None cuts sharper))

@@ -92,6 +92,19 @@ abbrev pub leaves_after : List IndexEntry → Option IndexEntry → ℕ
 leaves_after cuts None = 0
 leaves_after cuts (Some cut) = leaves_from cuts (Some cut)
 
+-- a cut is ahead of where a reading begins, and not behind the range
+abbrev pub is_ahead : Option IndexEntry → Range → IndexEntry → Bool
+is_ahead start range cut = not (is_passed start range cut) && not (after_side (place range cut.key))
+
+-- HOW MANY LEAVES MAY HOLD what is still to be read of a range: the one in which the reading begins, and one for each cut
+-- ahead; from a cut on where there is a following one
+abbrev pub leaves_for : List IndexEntry → Range → Option IndexEntry → ℕ
+leaves_for cuts range start = length (filter (is_ahead start range) cuts) + 1
+
+abbrev pub leaves_behind : List IndexEntry → Range → Option IndexEntry → ℕ
+leaves_behind cuts range None = 0
+leaves_behind cuts range (Some cut) = leaves_for cuts range (Some cut)
+
 -- one leaf's part of a range. The first two facts say what is read; from these it follows that the leaves one after
 -- another give the whole run, and that their number falls. A store's leaf has at most 32 entries, that of a view with a
 -- transaction's changes 16 more.

@@ -193,7 +193,7 @@ leaf_once c = let m = one_few c.leaves in omega arith
     one_few n = omega arith
 
 -- what does not depend on the counts and the trace
-with_turn : (old new : Unioned) → TakesLeaf old new → new ≡ record old { count = new.count; lane = new.lane; trace = new.trace }
+pub with_turn : (old new : Unioned) → TakesLeaf old new → new ≡ record old { count = new.count; lane = new.lane; trace = new.trace }
 with_turn old new t = subst (λ (x : Unioned). x ≡ record old { count = x.count; lane = x.lane; trace = x.trace }) (sym t.same) refl
 
 held_effort : (old : Unioned) (h : Option Chunk) (t : Trace) (shown : Shown) → scanning old.control ≡ true → effort (record (holding h old) { count = count_read old; trace = t }) shown + to_read old.lane.held ≡ effort old shown + to_read h
@@ -203,7 +203,7 @@ held_effort old h t shown back =
     let was = effort_scanning old shown back in
     omega arith
 
-none_held : (h : Option Chunk) (b : Bool) → (b && not (is_some h)) ≡ true → (h ≡ None) × (b ≡ true)
+pub none_held : (h : Option Chunk) (b : Bool) → (b && not (is_some h)) ≡ true → (h ≡ None) × (b ≡ true)
 none_held None b r = (refl, first b r)
   where
     first : (b : Bool) → (b && true) ≡ true → b ≡ true

@@ -1,5 +1,6 @@
 -- Two lists on their way into one.
 use Rattle.std.proofs.Common.{◌≡◌, ℕ, ◌+◌, ◌-◌, ◌<◌, ◌≤◌, List, [], ◌∷◌, ◌++◌, length, take, drop, Bool, true, false, ◌&&◌, ◌||◌, refl, ap, sym, ◌∙◌, arith, subst, append_assoc, Some, nat_eq, slice_get, zero, suc, IsPermutation}
+use Rattle.std.specs.Prelude.{if◌then◌else◌}
 use Rattle.std.proofs.lemmas.Bool.Decides.{nat_tests}
 use Rattle.std.proofs.lemmas.List.{nil_from_length, take-append-drop, take_all, take_more}
 use Rattle.std.proofs.lemmas.List.Folds.{list_any-append}
@@ -89,6 +90,35 @@ first_put keys others put new i j k m e n =
     let all : IsPermutation ((front ++ behind) ++ k ∷ []) (put ++ k ∷ []) = IsPermutation-append_left (k ∷ []) (front ++ behind) put m.put in
     let to : IsPermutation (front ++ (behind ++ k ∷ [])) new = subst (λ (x : List ℕ). IsPermutation x new) (append_assoc front behind (k ∷ [])) (subst (IsPermutation ((front ++ behind) ++ k ∷ [])) (sym n) all) in
     record { put = subst (λ (x : List ℕ). IsPermutation x new) (sym grown) (IsPermutation-trans (front ++ (k ∷ [] ++ behind)) (front ++ (behind ++ k ∷ [])) new moved to) }
+
+-- how far both lists were put, so many of both
+pub record Goes (keys others put : List ℕ) (done i : ℕ) : Type 0 where
+  pub front : i ≤ done
+  pub within : i ≤ length keys
+  pub behind : done - i ≤ length others
+  pub merges : Merges keys others i (done - i) put
+
+pub goes_on : (keys others put : List ℕ) (done i next : ℕ) (first : Bool) → i ≤ done → i ≤ length keys → done - i ≤ length others → next ≡ (if first then i + 1 else i) → (first ≡ true → (i < length keys) × Merges keys others (i + 1) (done - i) put) → (first ≡ false → (done - i < length others) × Merges keys others i (done - i + 1) put) → Goes keys others put (done + 1) next
+goes_on keys others put done i next true l w b e f g =
+    let parts = f refl in
+    let below : i < length keys = parts.0 in
+    let same : done - i ≡ (done + 1) - (i + 1) = omega arith in
+    record {
+      front = omega arith;
+      within = omega arith;
+      behind = omega arith;
+      merges = subst (λ (x : ℕ). Merges keys others x ((done + 1) - x) put) (sym e) (subst (λ (j : ℕ). Merges keys others (i + 1) j put) same parts.1);
+    }
+goes_on keys others put done i next false l w b e f g =
+    let parts = g refl in
+    let below : done - i < length others = parts.0 in
+    let same : done - i + 1 ≡ (done + 1) - i = omega arith in
+    record {
+      front = omega arith;
+      within = omega arith;
+      behind = omega arith;
+      merges = subst (λ (x : ℕ). Merges keys others x ((done + 1) - x) put) (sym e) (subst (λ (j : ℕ). Merges keys others i j put) same parts.1);
+    }
 
 -- at the beginning and at the end
 

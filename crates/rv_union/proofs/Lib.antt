@@ -5,6 +5,7 @@ pub mod Gives
 pub mod Few
 pub mod Tellings
 pub mod Efforts
+pub mod Leaves
 pub mod Takes
 pub mod Finals
 pub mod Openings

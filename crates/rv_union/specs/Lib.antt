@@ -3,5 +3,6 @@ pub mod Given
 pub mod Rulings
 pub mod Runs
 pub mod Effort
+pub mod Leaves
 pub mod Opened
 pub mod Joins

@@ -3,6 +3,7 @@ ghost use Rattle.rv_judge.specs.Tracing.{SameCounts};
 ghost use Rattle.rv_reader.specs.Shown.{Shown};
 ghost use Rattle.rv_jscan.specs.Steps.{held_next};
 ghost use Rattle.rv_union.specs.Effort.{GiveSpends, effort};
+ghost use Rattle.rv_union.specs.Leaves.{leaves_left};
 ghost use Rattle.rv_union.specs.Given.{Answers, Awaits};
 ghost use Rattle.rv_union.specs.Rulings.{Completes, GivesOn, IsRuled, Obeys, accepted, dropped, facts_of, going_on, has_next, listed, over, ruled, told_scan};
 ghost use Rattle.rv_union.specs.Runs.{Tells};
@@ -198,6 +199,7 @@ impl Union {
         ensures tells { Tells self.old → Tells self.new }
         ensures less { (shown : Shown) → UnionFits self.old shown → effort self.new shown ≤ effort self.old shown }
         ensures spends { (shown : Shown) → UnionFits self.old shown → IfOk result (λ g. GiveSpends g (effort self.old shown) (effort self.new shown)) }
+        ensures nearer { (shown : Shown) → leaves_left self.new shown ≤ leaves_left self.old shown }
         ensures reads { _steps.new ≡ _steps.old }
     {
         self.give_piece(sieved, judge)

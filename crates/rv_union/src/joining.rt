@@ -41,12 +41,12 @@ fn put_next(put: &mut KeyList, keys: &KeyList, others: &KeyList, i: u64, j: u64)
     let _of_keys = keys.len();
     let _of_others = others.len();
     if is_first(keys, others, i, j) {
-        let row = keys.get(i);
-        put.push(row).unwrap();
+        let key = keys.get(i);
+        put.push(key).unwrap();
         return true;
     }
-    let row = others.get(j);
-    put.push(row).unwrap();
+    let other = others.get(j);
+    put.push(other).unwrap();
     false
 }
 

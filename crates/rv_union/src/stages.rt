@@ -4,6 +4,7 @@ ghost use Rattle.rv_judge.specs.declared.judging.Facts.{Facts};
 ghost use Rattle.rv_judge.specs.Verdicts.{Ruling};
 ghost use Rattle.rv_final.specs.Work.{Falls, Tries};
 ghost use Rattle.rv_union.specs.Effort.{Spends, effort};
+ghost use Rattle.rv_union.specs.Leaves.{LeavesFall, leaves_left};
 ghost use Rattle.rv_union.specs.Opened.{Does, DoesStep, EndsIn, MayRead, OnlyTakes, Steady, StepsAs};
 ghost use Rattle.rv_union.specs.Unioned.{UnionFits, SameUnion, rest};
 ghost use Rattle.rv_union.specs.Runs.{Tells};
@@ -36,6 +37,7 @@ impl Union {
         ensures stays { would judge.new ≡ would judge.old }
         ensures may_read { MayRead self.old.control self.old steps.old steps.new }
         ensures tries { Tries steps.old steps.new (effort self.old (R.shown reader.now)) (effort self.new (R.shown reader.now)) }
+        ensures nearer { IfOk result (λ s. LeavesFall steps.old steps.new (leaves_left self.old (R.shown reader.now)) (leaves_left self.new (R.shown reader.now))) }
         ensures falls { IfOk result (λ s. Falls s steps.old steps.new (effort self.old (R.shown reader.now)) (effort self.new (R.shown reader.now))) }
     {
         match self.take_piece(reader, steps)? {
@@ -63,6 +65,7 @@ impl Union {
         ensures still { OnErr result (OnlyTakes self.old self.new) }
         ensures may_read { MayRead self.old.control self.old steps.old steps.new }
         ensures tries { Tries steps.old steps.new (effort self.old (R.shown reader.now)) (effort self.new (R.shown reader.now)) }
+        ensures nearer { IfOk result (λ s. LeavesFall steps.old steps.new (leaves_left self.old (R.shown reader.now)) (leaves_left self.new (R.shown reader.now))) }
         ensures falls { IfOk result (λ s. Falls s steps.old steps.new (effort self.old (R.shown reader.now)) (effort self.new (R.shown reader.now))) }
     {
         match self.scan_list(reader, steps)? {
@@ -91,6 +94,7 @@ impl Union {
         ensures still { OnErr result (OnlyTakes self.old self.new) }
         ensures may_read { MayRead self.old.control self.old steps.old steps.new }
         ensures tries { Tries steps.old steps.new (effort self.old (R.shown reader.now)) (effort self.new (R.shown reader.now)) }
+        ensures nearer { IfOk result (λ s. LeavesFall steps.old steps.new (leaves_left self.old (R.shown reader.now)) (leaves_left self.new (R.shown reader.now))) }
         ensures falls { IfOk result (λ s. Falls s steps.old steps.new (effort self.old (R.shown reader.now)) (effort self.new (R.shown reader.now))) }
     {
         match self.scan_last(reader, steps)? {
@@ -122,6 +126,7 @@ impl Union {
         ensures stays { would judge.new ≡ would judge.old }
         ensures may_read { MayRead self.old.control self.old steps.old steps.new }
         ensures tries { Tries steps.old steps.new (effort self.old (R.shown reader.now)) (effort self.new (R.shown reader.now)) }
+        ensures nearer { IfOk result (λ s. LeavesFall steps.old steps.new (leaves_left self.old (R.shown reader.now)) (leaves_left self.new (R.shown reader.now))) }
         ensures falls { IfOk result (λ s. Falls s steps.old steps.new (effort self.old (R.shown reader.now)) (effort self.new (R.shown reader.now))) }
     {
         match self.control() {
@@ -158,6 +163,7 @@ impl Union {
         ensures stays { would judge.new ≡ would judge.old }
         ensures may_read { MayRead self.old.control self.old steps.old steps.new }
         ensures tries { Tries steps.old steps.new (effort self.old (R.shown reader.now)) (effort self.new (R.shown reader.now)) }
+        ensures nearer { IfOk result (λ s. LeavesFall steps.old steps.new (leaves_left self.old (R.shown reader.now)) (leaves_left self.new (R.shown reader.now))) }
         ensures spends { IfOk result (λ s. Spends s steps.old steps.new (effort self.old (R.shown reader.now)) (effort self.new (R.shown reader.now))) }
     {
         let before = steps.counts();

@@ -3,6 +3,7 @@ ghost use Rattle.rv_judge.specs.Counting.{reads};
 ghost use Rattle.rv_judge.specs.Tracing.{CountsRise};
 ghost use Rattle.rv_final.specs.Work.{Tries};
 ghost use Rattle.rv_union.specs.Effort.{effort};
+ghost use Rattle.rv_union.specs.Leaves.{LeavesFall, leaves_left};
 ghost use Rattle.rv_union.specs.Given.{Awaits, TakesLeaf, TakesPiece, awaited, count_read, piece_read};
 ghost use Rattle.rv_union.specs.Runs.{IsOfUndropped, Tells};
 ghost use Rattle.rv_union.specs.Unioned.{SameUnion, UnionFits, rest, scanning};
@@ -73,6 +74,7 @@ impl Union {
         ensures tells { Tells self.old → Tells self.new }
         ensures undropped { Tells self.old → IfOk result (IsOfUndropped self.new) }
         ensures tries { Tries steps.old steps.new (effort self.old (R.shown reader.now)) (effort self.new (R.shown reader.now)) }
+        ensures nearer { IfOk result (λ taken. LeavesFall steps.old steps.new (leaves_left self.old (R.shown reader.now)) (leaves_left self.new (R.shown reader.now))) }
         ensures spends { IfOk result (λ taken. reads steps.new + effort self.new (R.shown reader.now) ≤ reads steps.old + effort self.old (R.shown reader.now)) }
     {
         let before = steps.counts();

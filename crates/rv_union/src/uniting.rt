@@ -12,6 +12,7 @@ ghost use Rattle.rv_final.specs.Rest.{StepMarks, qualifying};
 ghost use Rattle.rv_final.specs.Stage.{FetchesKey, LastFits, PassesKeys, first_key, list_left, table_left};
 ghost use Rattle.rv_final.specs.Work.{Falls, Tries};
 ghost use Rattle.rv_union.specs.Effort.{effort, keys_work, life_of, table_work};
+ghost use Rattle.rv_union.specs.Leaves.{leaves_left, planned_leaves};
 ghost use Rattle.rv_union.specs.Given.{Awaits, awaited, count_read, next_id, with_lane};
 ghost use Rattle.rv_union.specs.Opened.{CanUnite, Opened};
 ghost use Rattle.rv_union.specs.Rulings.{facts_of, forgotten, gone, has_next, index_of, joined, lacks, next_member, position, told, was_begun};
@@ -204,6 +205,7 @@ impl Union {
         ensures rest { IfOk result (λ u. rest u (R.shown reader.now) ≡ qualifying only ((R.shown reader.now).rows table snap)) }
         ensures tells { IfOk result Tells }
         ensures life { IfOk result (λ u. effort u (R.shown reader.now) < life_of table snap members.items (R.shown reader.now)) }
+        ensures ahead { IfOk result (λ u. leaves_left u (R.shown reader.now) ≡ planned_leaves members.items (R.shown reader.now) snap) }
         ensures reads { _steps.new ≡ _steps.old }
     {
         let pages = reader.sizes(table, snap).pages;

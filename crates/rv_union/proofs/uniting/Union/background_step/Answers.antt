@@ -7,6 +7,8 @@ use Rattle.rv_union.proofs.Stepped.{only_took, background_read, below, gave_stea
 use Rattle.rv_union.proofs.Gives.{gives_stay}
 use Rattle.rv_union.proofs.Lanes.{right_of}
 use Rattle.rv_union.proofs.Takes.{took_parts, took_rest, took_steady}
+use Rattle.rv_jscan.specs.declared.jscan.Taken.TheVariants.{Piece}
+use Rattle.rv_union.proofs.Leaves.{given_leaves, piece_leaves, took_leaves}
 use Rattle.rv_union.proofs.uniting.Union.background_step.Goals as goal
 
 pub unreachable-requires : goal.unreachable-requires
@@ -88,3 +90,11 @@ returns-in_err-piece-clause-still g c = kept_if_not _ _ (only_took c.args.self.n
 
 pub returns-in_err-_given-in-Piece-clause-still : goal.returns-in_err-_given-in-Piece-clause-still
 returns-in_err-_given-in-Piece-clause-still g c = kept_if_not _ _ (subst (OnlyTakes c.args.self.now) (sym c.in_err-_given-in-Piece.ensures.err) (only_took c.args.self.now c.take_piece.new.self c.take_piece.ensures.leaves c.take_piece.ensures.told))
+
+pub returns-clause-nearer : goal.returns-clause-nearer
+returns-clause-nearer g c =
+    let shown = g.R.Reader.shown c.args.reader.now in
+    let mid = c.take_piece.new.self in
+    let piece = rw c.in-Piece.is at c.in_ok-piece.ensures.taken in
+    let took = took_leaves (Piece c.in-Piece.piece) c.args.self.now mid shown c.args.steps.now c.take_piece.new.steps c.take_piece.ensures.leaves c.take_piece.ensures.fits piece c.take_piece.ensures.reads in
+    piece_leaves _ _ _ _ _ took (given_leaves (right_of c.give_piece.ensures.stays) _ _ c.sieve.result c.in_ok-_given-in-Piece._given mid c.give_piece.new.self shown c.in_ok-_given-in-Piece.ensures.given c.in_ok-_given-in-Piece.ensures.obeys)

@@ -1,6 +1,7 @@
 use Rattle.rv_union.proofs.Efforts.{spends_by}
 use Rattle.rv_union.proofs.Stepped.{only_counted, counted_does, counted_tries, counts_rise, ends_if, falls_if, rest_if, step_if}
 use Rattle.rv_union.proofs.Takes.{counted_fits, counted_union, counted_tells}
+use Rattle.rv_union.proofs.Leaves.{leaves_if}
 use Rattle.rv_union.proofs.uniting.Union.step.Goals as goal
 
 pub returns-clause-does : goal.returns-clause-does
@@ -35,3 +36,6 @@ returns-clause-spends g c = spends_by c.stage_step-stepped.result _ _ _ _ (retur
 
 pub returns-clause-still : goal.returns-clause-still
 returns-clause-still g c = only_counted c.stage_step-stepped.result c.args.self.now c.stage_step-stepped.new.self c.note_counts.new.self _ _ (rw c.counts.ensures at rw c.counts-before.ensures at c.note_counts.ensures) c.stage_step-stepped.ensures.still
+
+pub returns-clause-nearer : goal.returns-clause-nearer
+returns-clause-nearer g c = leaves_if c.stage_step-stepped.result c.args.steps.now c.stage_step-stepped.new.steps _ c.stage_step-stepped.new.self c.note_counts.new.self _ (g.R.Reader.shown c.args.reader.now) (rw c.counts.ensures at rw c.counts-before.ensures at c.note_counts.ensures) c.stage_step-stepped.ensures.nearer

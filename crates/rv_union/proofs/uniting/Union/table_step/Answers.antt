@@ -5,6 +5,10 @@ use Rattle.rv_union.specs.Opened.{OnlyTakes}
 use Rattle.rv_union.specs.Unioned.{Unioned}
 use Rattle.rv_union.proofs.Finals.{ended_steady, ended_step, ended_tries, ends_done, table_does, table_falls, table_over, table_scanned, table_steady, table_tries}
 use Rattle.rv_union.proofs.Stepped.{kept_if_not, only_itself, table_read}
+use Rattle.std.proofs.Common.{refl}
+use Rattle.rv_judge.specs.declared.events.Control.TheVariants.{Done}
+use Rattle.rv_judge.specs.Counting.{page_read}
+use Rattle.rv_union.proofs.Leaves.{none_left, stage_leaves}
 use Rattle.rv_union.proofs.uniting.Union.table_step.Goals as goal
 
 pub returns-in-Found-clause-does : goal.returns-in-Found-clause-does
@@ -87,3 +91,12 @@ returns-in_err-found-clause-may_read g c = table_read c.args.self.now _ _ c.requ
 
 pub returns-in_err-found-clause-still : goal.returns-in_err-found-clause-still
 returns-in_err-found-clause-still g c = kept_if_not _ _ (subst (OnlyTakes c.args.self.now) (sym c.in_err-found.ensures.err) (only_itself c.args.self.now))
+
+pub returns-in-Found-clause-nearer : goal.returns-in-Found-clause-nearer
+returns-in-Found-clause-nearer g c = stage_leaves page_read c.args.steps.now c.scan_last.new.steps _ _ (λ d. refl) c.scan_last.ensures.may_read (none_left c.scan_last.new.self (g.R.Reader.shown c.args.reader.now) FinalTable (ap (λ (x : Unioned). x.control) c.scan_last.ensures.same ∙ c.requires.control) refl)
+
+pub returns-in-Working-clause-nearer : goal.returns-in-Working-clause-nearer
+returns-in-Working-clause-nearer g c = stage_leaves page_read c.args.steps.now c.scan_last.new.steps _ _ (λ d. refl) c.scan_last.ensures.may_read (none_left c.scan_last.new.self (g.R.Reader.shown c.args.reader.now) FinalTable (ap (λ (x : Unioned). x.control) c.scan_last.ensures.same ∙ c.requires.control) refl)
+
+pub returns-in-End-clause-nearer : goal.returns-in-End-clause-nearer
+returns-in-End-clause-nearer g c = stage_leaves page_read c.args.steps.now c.scan_last.new.steps _ _ (λ d. refl) c.scan_last.ensures.may_read (none_left c.go.new.self (g.R.Reader.shown c.args.reader.now) Done (returns-in-End-clause-ends g c) refl)

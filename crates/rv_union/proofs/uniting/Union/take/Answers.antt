@@ -5,6 +5,8 @@ use Rattle.rv_union.specs.Given.{awaited}
 use Rattle.rv_union.proofs.Efforts.{leaf_spends, take_spends}
 use Rattle.rv_union.proofs.Takes.{counted_fits, counted_leaves, counted_union, counted_tells, took_awaits, took_union, took_rest, took_tells}
 use Rattle.rv_union.proofs.Tellings.{undropped_piece}
+use Rattle.rv_union.specs.Leaves.{leaves_left}
+use Rattle.rv_union.proofs.Leaves.{takes_leaves}
 use Rattle.rv_union.proofs.uniting.Union.take.Goals as goal
 
 pub returns-clause-leaves : goal.returns-clause-leaves
@@ -35,3 +37,6 @@ returns-clause-tries g c = leaf_spends c.args.self.now c.note_counts.new.self (g
 
 pub returns-clause-spends : goal.returns-clause-spends
 returns-clause-spends g c = take_spends c.take_piece-taken.result c.args.self.now c.note_counts.new.self c.take_piece-taken.new.self (g.R.Reader.shown c.args.reader.now) c.args.steps.now c.take_piece-taken.new.steps c.take_piece-taken.ensures.leaves (ap (λ (x : Unioned). effort x (g.R.Reader.shown c.args.reader.now)) c.note_counts.ensures) c.take_piece-taken.ensures.taken c.take_piece-taken.ensures.reads
+
+pub returns-clause-nearer : goal.returns-clause-nearer
+returns-clause-nearer g c = takes_leaves c.take_piece-taken.result c.args.self.now c.note_counts.new.self c.take_piece-taken.new.self (g.R.Reader.shown c.args.reader.now) c.args.steps.now c.take_piece-taken.new.steps c.take_piece-taken.ensures.leaves c.take_piece-taken.ensures.fits (ap (λ (x : Unioned). leaves_left x (g.R.Reader.shown c.args.reader.now)) c.note_counts.ensures) c.take_piece-taken.ensures.taken c.take_piece-taken.ensures.reads
