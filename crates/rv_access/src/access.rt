@@ -1,10 +1,11 @@
 ghost use Rattle.std.specs.Prelude.{◌≡◌, ◌+◌, ◌≤◌, ◌&&◌, true, false, nat_le, IfOk, OnErr, Ok};
+ghost use Rattle.std.specs.List.{AllByRecursion};
 ghost use Rattle.rv_judge.specs.Counting.{reads};
 ghost use Rattle.rv_judge.specs.Runs.{Allowed};
 ghost use Rattle.rv_judge.specs.Tracing.{CountsRise, SameCounts};
 ghost use Rattle.rv_reader.specs.Shown.{Shown};
 ghost use Rattle.rv_choice.specs.Asked.{CanAsk};
-ghost use Rattle.rv_choice.specs.Choice.{IsChosen, candidates_of};
+ghost use Rattle.rv_choice.specs.Choice.{IsChosen, IsRight, candidates_of};
 ghost use Rattle.rv_choice.specs.Members.{AreUnited};
 ghost use Rattle.rv_final.specs.Work.{Tries};
 ghost use Rattle.rv_retrieval.specs.Effort.{FgSpends, GiveSpends};
@@ -114,16 +115,21 @@ fn will_race(race: bool, choice: Choice, candidates: &[Candidate]) -> bool
 }
 
 impl Access {
-    /// Opens a retrieval.
+    /// Opens a retrieval with what was chosen.
     fn open_competing<R: Reader>(
         alloc: Global,
         reader: &R,
         query: Query,
+        candidates: &[Candidate],
+        choice: Choice,
         cursor: u64,
         opening: u64,
         steps: &mut Steps<R::Ledger>,
     ) -> Result<Access, NoMemory>
-        requires { CanAsk query (R.shown reader.now) }
+        requires can { CanAsk query (R.shown reader.now) }
+        requires candidates { candidates.now ≡ candidates_of query (R.shown reader.now) }
+        requires choice { IsChosen query.order query.goal candidates.now choice }
+        requires right { AllByRecursion (IsRight (R.shown reader.now) query.snap) candidates.now }
         ensures competes { IfOk result (Competes query (R.shown reader.now) cursor opening) }
         ensures begins { IfOk result (Begins query (R.shown reader.now) steps.old steps.new) }
         ensures reads { reads steps.new ≤ reads steps.old + life_of query (R.shown reader.now) }
@@ -131,7 +137,9 @@ impl Access {
         ensures only { OnlyLeaves steps.old steps.new }
         ensures unread { has_short query (R.shown reader.now) ≡ false → steps.new ≡ steps.old }
     {
-        let retrieval = Retrieval::open(alloc, reader, query, cursor, opening, steps)?;
+        let retrieval = Retrieval::open_chosen(
+            alloc, reader, query, candidates, choice, cursor, opening, steps,
+        )?;
         Ok(Access::Competing(retrieval))
     }
 
@@ -202,6 +210,7 @@ impl Access {
         requires can { CanAsk query (R.shown reader.now) }
         requires candidates { candidates.now ≡ candidates_of query (R.shown reader.now) }
         requires choice { IsChosen query.order query.goal candidates.now choice }
+        requires right { AllByRecursion (IsRight (R.shown reader.now) query.snap) candidates.now }
         ensures opened { IfOk result (OpenedBy false (unites query (R.shown reader.now) choice) query (R.shown reader.now) cursor opening choice) }
         ensures begins { IfOk result (Begins query (R.shown reader.now) steps.old steps.new) }
         ensures reads { reads steps.new ≤ reads steps.old + life_of query (R.shown reader.now) }
@@ -210,13 +219,17 @@ impl Access {
         ensures unread { has_short query (R.shown reader.now) ≡ false → steps.new ≡ steps.old }
     {
         if !is_table(choice.strategy) {
-            return Access::open_competing(alloc, reader, query, cursor, opening, steps);
+            return Access::open_competing(
+                alloc, reader, query, candidates, choice, cursor, opening, steps,
+            );
         }
         match members(alloc, reader, &query)? {
             Some(members) => Access::open_united(
                 alloc, reader, query, candidates, choice, members, cursor, opening, steps,
             ),
-            None => Access::open_competing(alloc, reader, query, cursor, opening, steps),
+            None => Access::open_competing(
+                alloc, reader, query, candidates, choice, cursor, opening, steps,
+            ),
         }
     }
 

@@ -219,6 +219,42 @@ impl Retrieval {
         )
     }
 
+    /// Opens a retrieval with what was chosen for a query, as `open` does.
+    pub fn open_chosen<R: Reader>(
+        alloc: Global,
+        reader: &R,
+        query: Query,
+        candidates: &[Candidate],
+        choice: Choice,
+        cursor: u64,
+        opening: u64,
+        steps: &mut Steps<R::Ledger>,
+    ) -> Result<Retrieval, NoMemory>
+        requires can { CanAsk query (R.shown reader.now) }
+        requires candidates { candidates.now ≡ candidates_of query (R.shown reader.now) }
+        requires choice { IsChosen query.order query.goal candidates.now choice }
+        requires right { AllByRecursion (IsRight (R.shown reader.now) query.snap) candidates.now }
+        ensures opened { IfOk result (λ r. Opened query (R.shown reader.now) cursor opening r) }
+        ensures counts { IfOk result (λ r. CountsAll r.trace steps.old steps.new) }
+        ensures tells { IfOk result Tells }
+        ensures fits { IfOk result (λ r. RetrievalFits r (R.shown reader.now)) }
+        ensures rest { IfOk result (λ r. rest r (R.shown reader.now) ≡ qualifying query.only ((R.shown reader.now).rows query.table query.snap)) }
+        ensures life { IfOk result (λ r. reads steps.new + effort r (R.shown reader.now) ≤ reads steps.old + life_of query (R.shown reader.now)) }
+        ensures effort { IfOk result (λ r. effort r (R.shown reader.now) ≤ life_of query (R.shown reader.now)) }
+        ensures reads { reads steps.new ≤ reads steps.old + life_of query (R.shown reader.now) }
+        ensures awaiting { IfOk result (λ r. Awaiting r) }
+        ensures short { has_short query (R.shown reader.now) ≡ true → IfOk result (λ r. Settled r × (fetches_left r (R.shown reader.now) ≤ 20)) }
+        ensures only { OnlyLeaves steps.old steps.new }
+        ensures unread { has_short query (R.shown reader.now) ≡ false → steps.new ≡ steps.old }
+    {
+        let before = steps.counts();
+        let mut retrieval =
+            Retrieval::chosen(alloc, reader, query, candidates, choice, cursor, opening)?;
+        retrieval.settle(choice.background, reader, steps)?;
+        retrieval.count(before, steps.counts());
+        Ok(retrieval)
+    }
+
     /// Opens a retrieval: it looks at the ranges that the restriction has for the indexes and at their estimates, and
     /// chooses the strategy, the foreground's scan and the background's.
     ///
@@ -246,10 +282,9 @@ impl Retrieval {
         ensures only { OnlyLeaves steps.old steps.new }
         ensures unread { has_short query (R.shown reader.now) ≡ false → steps.new ≡ steps.old }
     {
-        let before = steps.counts();
         let candidates = candidates(alloc, reader, &query)?;
         let choice = choose(candidates.as_slice(), query.order.as_slice(), query.goal);
-        let mut retrieval = Retrieval::chosen(
+        Retrieval::open_chosen(
             alloc,
             reader,
             query,
@@ -257,9 +292,7 @@ impl Retrieval {
             choice,
             cursor,
             opening,
-        )?;
-        retrieval.settle(choice.background, reader, steps)?;
-        retrieval.count(before, steps.counts());
-        Ok(retrieval)
+            steps,
+        )
     }
 }

@@ -14,10 +14,10 @@ returns-clause-begins g c = record {
 }
 
 pub returns-clause-reads : goal.returns-clause-reads
-returns-clause-reads g c = short_lived c.args.query (g.R.Reader.shown c.args.reader.now) _ _ c.open.ensures.reads
+returns-clause-reads g c = short_lived c.args.query (g.R.Reader.shown c.args.reader.now) _ _ c.open_chosen.ensures.reads
 
 pub returns-in_err-retrieval-clause-reads : goal.returns-in_err-retrieval-clause-reads
-returns-in_err-retrieval-clause-reads g c = short_lived c.args.query (g.R.Reader.shown c.args.reader.now) _ _ c.open.ensures.reads
+returns-in_err-retrieval-clause-reads g c = short_lived c.args.query (g.R.Reader.shown c.args.reader.now) _ _ c.open_chosen.ensures.reads
 
 pub returns-clause-short : goal.returns-clause-short
 returns-clause-short g c h = record { settled = (c.in_ok-retrieval.ensures.short h).0; few = (c.in_ok-retrieval.ensures.short h).1 }
