@@ -1,8 +1,7 @@
 //! Two lists of keys become one.
 ghost use Rattle.std.specs.Prelude.{◌≡◌, ◌+◌, ◌<◌, ◌≤◌, ◌++◌, ◌^◌, [], length, true, false, IsPermutation, if◌then◌else◌};
 ghost use Rattle.std.specs.List.Sorted.{IsStrictlyIncreasing};
-ghost use Rattle.rv_union.specs.Joins.{Merges};
-ghost use Rattle.rv_union.specs.Unioned.{AreApart};
+ghost use Rattle.rv_union.specs.Joins.{AreApart, Merges};
 
 use rv_keylist::KeyList;
 
