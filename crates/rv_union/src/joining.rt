@@ -94,5 +94,7 @@ pub fn join_lane(room: KeyList, keys: &KeyList, lane: Lane) -> KeyList
     ensures ascend { IsStrictlyIncreasing result.keys }
     ensures finished { result.finished ≡ true }
 {
-    join(room, keys, &lane.into_list())
+    let list = lane.into_list();
+    let joined = join(room, keys, &list);
+    joined
 }
