@@ -35,27 +35,27 @@ abbrev without : ℕ → List ℕ → List ℕ
 without i [] = []
 without i (y ∷ ys) = cond (nat_eq y i) ys (y ∷ without i ys)
 
+less_step : (b : Bool) (y : ℕ) (ys zs : List ℕ) (has : Bool) → (b || has) ≡ true → (has ≡ true → length zs + 1 ≡ length ys) → length (cond b ys (y ∷ zs)) + 1 ≡ length (y ∷ ys)
+less_step true y ys zs has h f = omega arith
+less_step false y ys zs has h f = let less = f h in omega arith
+
 one_less : (i : ℕ) (ys : List ℕ) → has_index i ys ≡ true → length (without i ys) + 1 ≡ length ys
 one_less i [] h = absurd (cc)
-one_less i (y ∷ ys) h = by (nat_eq y i) refl h
-  where
-    by : (b : Bool) → nat_eq y i ≡ b → (b || has_index i ys) ≡ true → length (cond b ys (y ∷ without i ys)) + 1 ≡ length (y ∷ ys)
-    by true e h = omega arith
-    by false e h = let less = one_less i ys h in omega arith
+one_less i (y ∷ ys) h = less_step (nat_eq y i) y ys (without i ys) (has_index i ys) h (one_less i ys)
+
+first_true : (a b : Bool) → a ≡ true → (a || b) ≡ true
+first_true a b h = grind arith
+
+second_true : (a b : Bool) → b ≡ true → (a || b) ≡ true
+second_true a b h = grind arith
+
+stay_step : (i k y : ℕ) (b : Bool) (ys zs : List ℕ) → nat_eq y i ≡ b → nat_eq i k ≡ false → (nat_eq y k || has_index k ys) ≡ true → (has_index k ys ≡ true → has_index k zs ≡ true) → has_index k (cond b ys (y ∷ zs)) ≡ true
+stay_step i k y true ys zs e apart h f = either (nat_eq y k) (has_index k ys) (has_index k ys) h (λ same. absurd (let bad : true ≡ false = sym same ∙ ap (λ (n : ℕ). nat_eq n k) (number y i e) ∙ apart in cc)) (λ there. there)
+stay_step i k y false ys zs e apart h f = either (nat_eq y k) (has_index k ys) (nat_eq y k || has_index k zs) h (λ same. first_true (nat_eq y k) (has_index k zs) same) (λ there. second_true (nat_eq y k) (has_index k zs) (f there))
 
 others_stay : (i k : ℕ) (ys : List ℕ) → nat_eq i k ≡ false → has_index k ys ≡ true → has_index k (without i ys) ≡ true
 others_stay i k [] apart h = h
-others_stay i k (y ∷ ys) apart h = by (nat_eq y i) refl
-  where
-    by : (b : Bool) → nat_eq y i ≡ b → has_index k (cond b ys (y ∷ without i ys)) ≡ true
-    by true e = either (nat_eq y k) (has_index k ys) (has_index k ys) h (λ same. absurd (let bad : true ≡ false = sym same ∙ ap (λ (n : ℕ). nat_eq n k) (number y i e) ∙ apart in cc)) (λ there. there)
-    by false e = either (nat_eq y k) (has_index k ys) (nat_eq y k || has_index k (without i ys)) h (λ same. first (nat_eq y k) (has_index k (without i ys)) same) (λ there. second (nat_eq y k) (has_index k (without i ys)) (others_stay i k ys apart there))
-
-    first : (a b : Bool) → a ≡ true → (a || b) ≡ true
-    first a b h = grind arith
-
-    second : (a b : Bool) → b ≡ true → (a || b) ≡ true
-    second a b h = grind arith
+others_stay i k (y ∷ ys) apart h = stay_step i k y (nat_eq y i) ys (without i ys) refl apart h (others_stay i k ys apart)
 
 all_stay : (i : ℕ) (xs ys : List ℕ) → has_index i xs ≡ false → list_all (λ k. has_index k ys) xs ≡ true → list_all (λ k. has_index k (without i ys)) xs ≡ true
 all_stay i [] ys apart h = refl

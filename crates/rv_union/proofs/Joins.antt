@@ -1,5 +1,5 @@
 -- Two lists on their way into one.
-use Rattle.std.proofs.Common.{◌≡◌, ℕ, ◌+◌, ◌-◌, ◌<◌, ◌≤◌, List, [], ◌∷◌, ◌++◌, length, take, drop, Bool, true, false, ◌&&◌, ◌||◌, refl, ap, sym, ◌∙◌, arith, subst, append_assoc, Some, nat_eq, slice_get, zero, suc, IsPermutation}
+use Rattle.std.proofs.Common.{◌≡◌, ℕ, ◌+◌, ◌-◌, ◌<◌, ◌≤◌, List, [], ◌∷◌, ◌++◌, length, take, drop, Bool, true, false, ◌&&◌, ◌||◌, refl, ap, sym, ◌∙◌, arith, subst, append_assoc, Some, nat_eq, slice_get, zero, suc, IsPermutation, IsOk, OnOk, Result, Ok, Err}
 use Rattle.std.specs.Prelude.{if◌then◌else◌}
 use Rattle.std.proofs.lemmas.Bool.Decides.{nat_tests}
 use Rattle.std.proofs.lemmas.List.{nil_from_length, take-append-drop, take_all, take_more}
@@ -9,8 +9,7 @@ use Rattle.std.proofs.lemmas.Option.{get_or_from_slice_get, slice_get_within}
 use Rattle.rv_keys.specs.Keys.{has_key, Once}
 use Rattle.rv_keys.proofs.Onces.{Once-head, Once-tail}
 use Rattle.rv_keylist.specs.Listed.{Listed}
-use Rattle.rv_union.specs.Joins.{Merges}
-use Rattle.rv_union.specs.Unioned.{AreApart}
+use Rattle.rv_union.specs.Joins.{AreApart, Merges}
 
 pub key_append : (n : ℕ) (xs ys : List ℕ) → has_key n (xs ++ ys) ≡ (has_key n xs || has_key n ys)
 key_append n xs ys = list_any-append (nat_eq n) xs ys
@@ -71,6 +70,11 @@ pub second_new : (keys others put : List ℕ) (i j k : ℕ) → Merges keys othe
 second_new keys others put i j k m a once e = put_lacks keys others put i j k m (take_lacks k i keys (this_off (has_key k keys) (has_key k others) (key_there others j k e) (a.apart k))) (key_new others j k once e)
 
 -- one key more
+
+-- what a push that was made leaves
+pub pushed_keys : {X E : Type 0} (r : Result X E) (l m : Listed) (k : ℕ) → IsOk r → OnOk r (m ≡ record l { keys = l.keys ++ k ∷ []; spare = l.spare - 1 }) → m.keys ≡ l.keys ++ k ∷ []
+pushed_keys (Ok x) l m k ok e = ap (λ (x : Listed). x.keys) e
+pushed_keys (Err x) l m k ok e = absurd (let bad : false ≡ true = ok in cc)
 
 more : (keys : List ℕ) (i k : ℕ) → slice_get keys i ≡ Some k → take (i + 1) keys ≡ take i keys ++ k ∷ []
 more keys i k e = take_more keys i k (slice_get_within keys i k e) ∙ ap (λ (x : ℕ). take i keys ++ x ∷ []) (get_or_from_slice_get keys i k k e)

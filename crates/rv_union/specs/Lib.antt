@@ -1,3 +1,4 @@
+pub mod Joins
 pub mod Unioned
 pub mod Given
 pub mod Rulings
@@ -5,4 +6,3 @@ pub mod Runs
 pub mod Effort
 pub mod Leaves
 pub mod Opened
-pub mod Joins

@@ -34,12 +34,12 @@ use Rattle.rv_union.specs.Runs.{OfFewIndexes, Tells}
 use Rattle.rv_union.specs.Unioned.{MembersFit, SameUnion, UnionFits, Unioned, rest, rows_of}
 
 -- Members over at most eight indexes can be put together over a table of a reader.
-pub record CanUnite (table snap : ℕ) (only : List (List Atom)) (members : List ScanPlan) (shown : Shown) : Type 0 where
+pub record CanUnite (table snap : ℕ) (only : List (List Atom)) (plans : List ScanPlan) (shown : Shown) : Type 0 where
   pub ascend : Ascend (shown.rows table snap)
   pub read : CanRead shown table snap
   pub columns : HaveColumns only (shown.rows table snap)
-  pub members : MembersFit members (qualifies_at only (shown.rows table snap)) shown snap
-  pub few : OfFewIndexes members
+  pub members : MembersFit plans (qualifies_at only (shown.rows table snap)) shown snap
+  pub few : OfFewIndexes plans
 
 -- a union's trace begins with the control and the first member's index
 abbrev pub first_trace : List ScanPlan → Trace

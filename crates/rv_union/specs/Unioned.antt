@@ -20,6 +20,7 @@ use Rattle.rv_jscan.specs.Entries.{Apart, has_entry}
 use Rattle.rv_jscan.specs.Joint.{CanMake, meets, passing, plan_at}
 use Rattle.rv_jscan.specs.Lanes.{LaneFits, Laned}
 use Rattle.rv_final.specs.Rest.{qualifies_at, rest_by}
+use Rattle.rv_union.specs.Joins.{AreApart}
 use Rattle.rv_final.specs.Stage.{LastFits, Unbegun, list_left, table_left}
 
 -- Everything that a union keeps. `plans` are its members, which never change; `member` is the position of the present one,
@@ -42,10 +43,6 @@ pub record Unioned : Type 0 where
   pub at : ℕ
   pub last : Place
   pub trace : Trace
-
--- no key is of both lists
-pub record AreApart (keys others : List ℕ) : Type 0 where
-  pub apart : (n : ℕ) → (has_key n keys && has_key n others) ≡ false
 
 -- what holds of the parts alone: the present member adds only rows that the members before it had not
 pub record IsUnion (plans : List ScanPlan) (member : ℕ) (lane : Laned) (keys : Listed) : Type 0 where

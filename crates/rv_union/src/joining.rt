@@ -1,9 +1,9 @@
 //! Two lists of keys become one.
 ghost use Rattle.std.specs.Prelude.{◌≡◌, ◌+◌, ◌<◌, ◌≤◌, ◌++◌, ◌^◌, [], length, true, false, IsPermutation, if◌then◌else◌};
 ghost use Rattle.std.specs.List.Sorted.{IsStrictlyIncreasing};
-ghost use Rattle.rv_union.specs.Joins.{Merges};
-ghost use Rattle.rv_union.specs.Unioned.{AreApart};
+ghost use Rattle.rv_union.specs.Joins.{AreApart, Merges};
 
+use rv_jscan::Lane;
 use rv_keylist::KeyList;
 
 /// Whether the next key comes of the first list, where keys are left: the lesser one does.
@@ -60,7 +60,7 @@ fn next_place(first: bool, i: u64) -> u64
 
 /// The keys of two finished lists that have none in common, as one finished list. It takes one pass, and no memory, since
 /// room was made for all of them in a list without keys.
-pub fn join(room: KeyList, keys: &KeyList, others: &KeyList) -> KeyList
+fn join(room: KeyList, keys: &KeyList, others: &KeyList) -> KeyList
     requires empty { room.keys ≡ [] }
     requires open { room.finished ≡ false }
     requires enough { length keys.now.keys + length others.now.keys ≤ room.spare }
@@ -81,4 +81,20 @@ pub fn join(room: KeyList, keys: &KeyList, others: &KeyList) -> KeyList
     }
     put.finish();
     put
+}
+
+/// The keys of a finished list, and those that a scan has built and that it has not, as one finished list.
+pub fn join_lane(room: KeyList, keys: &KeyList, lane: Lane) -> KeyList
+    requires empty { room.keys ≡ [] }
+    requires open { room.finished ≡ false }
+    requires enough { length keys.now.keys + length lane.building ≤ room.spare }
+    requires small { length keys.now.keys + length lane.building < 2 ^ 32 }
+    requires apart { AreApart keys.now.keys lane.building }
+    ensures built { IsPermutation (keys.now.keys ++ lane.building) result.keys }
+    ensures ascend { IsStrictlyIncreasing result.keys }
+    ensures finished { result.finished ≡ true }
+{
+    let list = lane.into_list();
+    let joined = join(room, keys, &list);
+    joined
 }

@@ -19,7 +19,7 @@ ghost use Rattle.rv_union.specs.Rulings.{facts_of, forgotten, gone, has_next, in
 ghost use Rattle.rv_union.specs.Runs.{Tells, indexes_of};
 ghost use Rattle.rv_union.specs.Unioned.{UnionFits, present, rest, rows_of, scanning};
 
-use crate::joining::join;
+use crate::joining::join_lane;
 use rv_final::Final;
 use rv_jscan::{Admits, Lane, Piece, PieceId, ScanCounts, ScanPlan, Sieved};
 use rv_judge::{Control, Counts, Event, Facts, Happening, Steps, Strategy, Trace, course, project};
@@ -476,7 +476,7 @@ impl Union {
         ensures ascend { IsStrictlyIncreasing self.new.keys }
     {
         let lane = mem::replace(&mut self.lane, Lane::new(self.alloc));
-        let keys = join(room, &self.keys, &lane.into_list());
+        let keys = join_lane(room, &self.keys, lane);
         let _before = mem::replace(&mut self.keys, keys);
     }
 

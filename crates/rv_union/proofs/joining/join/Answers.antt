@@ -17,7 +17,7 @@ each-init c = record {
 
 pub each-preserved : goal.each-preserved
 each-preserved c =
-    let goes = goes_on c.args.keys.now.keys c.args.others.now.keys c.put_next-first.new.put.keys c.each.done c.each.of_keys c.next_place.result c.put_next-first.result c.each.invariant.front c.each.invariant.within c.each.invariant.behind c.next_place.ensures c.put_next-first.ensures.first c.put_next-first.ensures.second in
+    let goes = goes_on c.args.keys.now.keys c.args.others.now.keys c.put_next-first.new.put.keys c.each.done c.each.of_keys c.next_place-of_keys.result c.put_next-first.result c.each.invariant.front c.each.invariant.within c.each.invariant.behind c.next_place-of_keys.ensures c.put_next-first.ensures.first c.put_next-first.ensures.second in
     record {
       total = c.each.invariant.total;
       here = let l = c.each-test.true in omega arith;
@@ -34,4 +34,4 @@ returns-clause-keys c =
     let end = c.each-test.false in
     let total = c.each.invariant.total in
     let front = c.each.invariant.front in
-    IsPermutation-trans _ c.each.put.keys c.finish.new.put.keys (all_put c.args.keys.now.keys c.args.others.now.keys c.each.put.keys c.each.of_keys _ c.each.invariant.merges c.each.invariant.within c.each.invariant.behind (omega arith)) c.finish.ensures.keys
+    IsPermutation-trans _ c.each.put.keys c.finish.new.self.keys (all_put c.args.keys.now.keys c.args.others.now.keys c.each.put.keys c.each.of_keys _ c.each.invariant.merges c.each.invariant.within c.each.invariant.behind (omega arith)) c.finish.ensures.keys
