@@ -1,5 +1,5 @@
 -- What the calls on the present member do to the union.
-use Rattle.std.proofs.Common.{◌≡◌, ◌↔◌, ℕ, ◌+◌, ◌-◌, ◌<◌, ◌≤◌, ◌++◌, List, length, length-append, Bool, true, false, not, ◌&&◌, ◌||◌, refl, ap, sym, ◌∙◌, arith, subst, Option, Some, None, is_some, IsTrue, Result, Ok, Err, OnErr, OnOk}
+use Rattle.std.proofs.Common.{◌≡◌, ◌↔◌, ℕ, ◌+◌, ◌-◌, ◌<◌, ◌≤◌, ◌++◌, List, length, length-append, Bool, true, false, not, ◌&&◌, ◌||◌, refl, ap, sym, ◌∙◌, arith, subst, Option, Some, None, is_some, IsTrue, Result, Ok, Err, OnErr}
 use Rattle.rv_value.specs.declared.record.IndexEntry.{IndexEntry}
 use Rattle.rv_judge.specs.declared.judging.Facts.{Facts}
 use Rattle.rv_judge.specs.Counting.{one_more}
@@ -88,13 +88,9 @@ small_room old mid piece last more most m e room =
 abbrev pub right_of : {A : Type 0} {x y : A} → x ≡ y → A
 right_of {A} {x} {y} p = y
 
-pub obeys_last : {X E : Type 0} (r : Result X E) (would : ℕ → Facts → Ruling) (state : ℕ) (piece : Pieced) (old new : Unioned) (last : Bool) (next : Option IndexEntry) → is_some next ≡ not last → last ≡ true → OnOk r (Completes (accepted piece true old) new) → OnOk r (Obeys would state state piece next old new)
-obeys_last (Err x) would state piece old new last next n is c = tt
-obeys_last (Ok x) would state piece old new true None n is c = (c, refl)
-obeys_last (Ok x) would state piece old new true (Some cut) n is c = absurd (cc)
-obeys_last (Ok x) would state piece old new false next n is c = absurd (cc)
-
-pub obeys_asked : (would : ℕ → Facts → Ruling) (state after : ℕ) (piece : Pieced) (old mid new : Unioned) (last : Bool) (next : Option IndexEntry) → is_some next ≡ not last → last ≡ false → mid ≡ accepted piece false old → IsRuled (would state (facts_of mid)) after mid new → Obeys would state after piece next old new
-obeys_asked would state after piece old mid new false (Some cut) n is m rules = subst (λ (x : Unioned). IsRuled (would state (facts_of x)) after x new) m rules
-obeys_asked would state after piece old mid new false None n is m rules = absurd (cc)
-obeys_asked would state after piece old mid new true next n is m rules = absurd (cc)
+-- where it was the last one its member completed, else the judge is asked
+pub obeys_by : (would : ℕ → Facts → Ruling) (state after : ℕ) (piece : Pieced) (old mid new : Unioned) (last : Bool) (next : Option IndexEntry) → is_some next ≡ not last → (last ≡ true → Completes (accepted piece true old) mid) → (last ≡ false → mid ≡ accepted piece false old) → (last ≡ true → new ≡ mid) → (last ≡ true → after ≡ state) → (last ≡ false → IsRuled (would state (facts_of mid)) after mid new) → Obeys would state after piece next old new
+obeys_by would state after piece old mid new true None n done more same quiet rules = (subst (Completes (accepted piece true old)) (sym (same refl)) (done refl), quiet refl)
+obeys_by would state after piece old mid new true (Some cut) n done more same quiet rules = absurd (cc)
+obeys_by would state after piece old mid new false (Some cut) n done more same quiet rules = subst (λ (x : Unioned). IsRuled (would state (facts_of x)) after x new) (more refl) (rules refl)
+obeys_by would state after piece old mid new false None n done more same quiet rules = absurd (cc)

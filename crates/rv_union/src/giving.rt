@@ -142,6 +142,32 @@ impl Union {
         Ok(())
     }
 
+    /// Takes the awaited piece up; where it is the last one its member completed.
+    fn accept_as(&mut self, sieved: &Sieved, last: bool) -> Result<(), NoMemory>
+        requires { Awaits self.old sieved.now }
+        ensures last { last ≡ true → OnOk result (Completes (accepted sieved.now true self.old) self.new) }
+        ensures more { last ≡ false → OnOk result (self.new ≡ accepted sieved.now false self.old) }
+        ensures err { OnErr result (self.new ≡ self.old) }
+    {
+        if last {
+            self.accept_last(sieved)
+        } else {
+            self.accept(sieved, false)
+        }
+    }
+
+    /// Asks the judge about the present member, unless its last piece was taken up.
+    fn ask_unless(&mut self, last: bool, judge: &mut Box<dyn Judge>)
+        ensures last { last ≡ true → self.new ≡ self.old }
+        ensures quiet { last ≡ true → state judge.new ≡ state judge.old }
+        ensures ruled { last ≡ false → IsRuled (would judge.old (state judge.old) (facts_of self.old)) (state judge.new) self.old self.new }
+        ensures stays { would judge.new ≡ would judge.old }
+    {
+        if !last {
+            self.ask(judge);
+        }
+    }
+
     /// Takes up the awaited piece. Where it is the last one its member completed, else the judge is asked.
     fn take_up(&mut self, sieved: &Sieved, judge: &mut Box<dyn Judge>) -> Result<(), NoMemory>
         requires { Awaits self.old sieved.now }
@@ -150,13 +176,10 @@ impl Union {
         ensures quiet { OnErr result (state judge.new ≡ state judge.old) }
         ensures stays { would judge.new ≡ would judge.old }
     {
-        if self.is_last() {
-            self.accept_last(sieved)
-        } else {
-            self.accept(sieved, false)?;
-            self.ask(judge);
-            Ok(())
-        }
+        let last = self.is_last();
+        self.accept_as(sieved, last)?;
+        self.ask_unless(last, judge);
+        Ok(())
     }
 
     pub(crate) fn give_piece(

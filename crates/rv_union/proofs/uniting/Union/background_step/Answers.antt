@@ -8,6 +8,7 @@ use Rattle.rv_union.proofs.Gives.{gives_stay}
 use Rattle.rv_union.proofs.Lanes.{right_of}
 use Rattle.rv_union.proofs.Takes.{took_parts, took_rest, took_steady}
 use Rattle.rv_jscan.specs.declared.jscan.Taken.TheVariants.{Piece}
+use Rattle.rv_union.specs.Leaves.{leaves_left}
 use Rattle.rv_union.proofs.Leaves.{given_leaves, piece_leaves, took_leaves}
 use Rattle.rv_union.proofs.uniting.Union.background_step.Goals as goal
 
@@ -97,4 +98,4 @@ returns-clause-nearer g c =
     let mid = c.take_piece.new.self in
     let piece = rw c.in-Piece.is at c.in_ok-piece.ensures.taken in
     let took = took_leaves (Piece c.in-Piece.piece) c.args.self.now mid shown c.args.steps.now c.take_piece.new.steps c.take_piece.ensures.leaves c.take_piece.ensures.fits piece c.take_piece.ensures.reads in
-    piece_leaves _ _ _ _ _ took (given_leaves (right_of c.give_piece.ensures.stays) _ _ c.sieve.result c.in_ok-_given-in-Piece._given mid c.give_piece.new.self shown c.in_ok-_given-in-Piece.ensures.given c.in_ok-_given-in-Piece.ensures.obeys)
+    piece_leaves c.args.steps.now c.take_piece.new.steps (leaves_left c.args.self.now shown) (leaves_left mid shown) (leaves_left c.give_piece.new.self shown) took (given_leaves (right_of c.give_piece.ensures.stays) _ _ c.sieve.result c.in_ok-_given-in-Piece._given mid c.give_piece.new.self shown c.in_ok-_given-in-Piece.ensures.given c.in_ok-_given-in-Piece.ensures.obeys)
