@@ -203,15 +203,7 @@ fn add_wide<R: Reader<Ledger = Uncounted>>(
         by_all(THIRD),
         lines,
     )?;
-    add_union(
-        alloc,
-        reader,
-        loaded,
-        of,
-        "union and a span",
-        whole,
-        lines,
-    )
+    add_union(alloc, reader, loaded, of, "union and a span", whole, lines)
 }
 
 /// Where a span has no row, and where the table is read all the same.

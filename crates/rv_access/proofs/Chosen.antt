@@ -26,7 +26,7 @@ use Rattle.rv_choice.specs.declared.choosing.Role.{Role}
 use Rattle.rv_choice.specs.declared.choosing.Role.TheVariants.{Short, Sufficient, Restricted}
 use Rattle.rv_choice.specs.Choice.{AreScans, IsChosen, IsLeastOf, candidates_of, choice_of, is_scanned, order_index, plan_of, restricted_choice}
 use Rattle.rv_choice.specs.Members.{AreUnited, some_serves}
-use Rattle.rv_choice.proofs.Members.{some_serve}
+use Rattle.rv_choice.proofs.OfMembers.{some_serve}
 use Rattle.rv_choice.specs.Leading.{front_begun, front_candidate}
 use Rattle.rv_final.specs.Rest.{qualifying}
 use Rattle.rv_retrieval.specs.Effort.{life_of as retrieval_life}

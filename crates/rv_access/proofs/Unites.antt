@@ -26,7 +26,7 @@ use Rattle.rv_choice.specs.declared.query.Query.{Query}
 use Rattle.rv_choice.specs.Asked.{CanAsk, with_only}
 use Rattle.rv_choice.specs.Members.{AreMembers, AreUnited, IsMember}
 use Rattle.rv_choice.proofs.Choices.{all_at}
-use Rattle.rv_choice.proofs.Members.{member_has, member_planned}
+use Rattle.rv_choice.proofs.OfMembers.{member_has, member_planned}
 use Rattle.rv_final.specs.Rest.{qualifies_at, qualifying}
 use Rattle.rv_retrieval.specs.Effort.{cuts_and_entries, life_of as retrieval_life}
 use Rattle.rv_retrieval.specs.Runs.{indexes_asked}

@@ -1,3 +1,3 @@
 pub mod Choices
 pub mod Suited
-pub mod Members
+pub mod OfMembers

@@ -4,10 +4,10 @@
 
 mod choosing;
 mod leading;
-mod members;
 mod query;
+mod uniting;
 
 pub use choosing::{Background, Candidate, Choice, Role, candidates, choose, scans};
 pub use leading::{foreground, guarantee};
-pub use members::members;
 pub use query::{Goal2, Query, ordered};
+pub use uniting::members;

@@ -248,8 +248,9 @@ impl Retrieval {
         ensures unread { has_short query (R.shown reader.now) ≡ false → steps.new ≡ steps.old }
     {
         let before = steps.counts();
-        let mut retrieval =
-            Retrieval::chosen(alloc, reader, query, candidates, choice, cursor, opening)?;
+        let mut retrieval = Retrieval::chosen(
+            alloc, reader, query, candidates, choice, cursor, opening,
+        )?;
         retrieval.settle(choice.background, reader, steps)?;
         retrieval.count(before, steps.counts());
         Ok(retrieval)

@@ -1,5 +1,5 @@
 use Rattle.std.proofs.Common.{length}
-use Rattle.rv_choice.proofs.members.+add_members.Given as goal
+use Rattle.rv_choice.proofs.uniting.+add_members.Given as goal
 
 abbrev pub decreases-add_members : goal.decreases-add_members
 decreases-add_members g l = length l.branches.now

@@ -1,5 +1,5 @@
 use Rattle.rv_choice.specs.Members.{NoneServes}
-use Rattle.rv_choice.proofs.members.members.Given as goal
+use Rattle.rv_choice.proofs.uniting.members.Given as goal
 
 -- no group before serves
 abbrev pub invariant-places : goal.invariant-places

@@ -1,7 +1,7 @@
 use Rattle.std.proofs.Common.{ℕ, ◌<◌, arith, subst}
 use Rattle.rv_restrict.proofs.Branches.{long_as}
-use Rattle.rv_choice.proofs.Members.{none_before, none_here, none_serves, united}
-use Rattle.rv_choice.proofs.members.members.Goals as goal
+use Rattle.rv_choice.proofs.OfMembers.{none_before, none_here, none_serves, united}
+use Rattle.rv_choice.proofs.uniting.members.Goals as goal
 
 pub places-init : goal.places-init
 places-init g c = none_before c.args.query.now (g.R.Reader.shown c.args.reader.now)

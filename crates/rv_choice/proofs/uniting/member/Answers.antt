@@ -1,6 +1,6 @@
 use Rattle.std.proofs.Common.{rules, ◌≡◌}
-use Rattle.rv_choice.proofs.Members.{is_member, unbounded}
-use Rattle.rv_choice.proofs.members.member.Goals as goal
+use Rattle.rv_choice.proofs.OfMembers.{is_member, unbounded}
+use Rattle.rv_choice.proofs.uniting.member.Goals as goal
 
 pub returns-in-None-clause-none : goal.returns-in-None-clause-none
 returns-in-None-clause-none g c = λ none. unbounded c.args.query.now (g.R.Reader.shown c.args.reader.now) c.args.branch.now c.in_ok-candidates.candidates.items c.in_ok-candidates.ensures.are (rw (c.as_slice.ensures.value, c.in-None.is) at c.least.ensures)
