@@ -38,11 +38,7 @@ impl Restriction {
     }
 }
 
-fn add_branches(
-    alloc: Global,
-    atoms: &[Atom],
-    found: &mut Vec<Restriction>,
-) -> Result<(), NoMemory>
+fn add_branches(alloc: Global, atoms: &[Atom], found: &mut Vec<Restriction>) -> Result<(), NoMemory>
     ensures { OnOk result (found.new.items ≡ found.old.items ++ branches_of atoms.now) }
 {
     match atoms {

@@ -209,9 +209,7 @@ impl Union {
         ensures reads { _steps.new ≡ _steps.old }
     {
         let pages = reader.sizes(table, snap).pages;
-        Ok(Union::make(
-            alloc, table, snap, only, members, cursor, opening, pages,
-        ))
+        Ok(Union::make(alloc, table, snap, only, members, cursor, opening, pages))
     }
 
     /// Which sides run.
