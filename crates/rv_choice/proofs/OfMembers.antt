@@ -1,5 +1,5 @@
 -- The members of a union: which branches have one, and which group serves first.
-use Rattle.std.proofs.Common.{◌≡◌, ℕ, zero, suc, ◌+◌, ◌<◌, ◌≤◌, List, [], ◌∷◌, ◌++◌, length, map, Bool, true, false, ◌&&◌, ◌||◌, nat_le, refl, ap, sym, ◌∙◌, arith, subst, append_assoc, append-nil, Some, None}
+use Rattle.std.proofs.Common.{◌≡◌, ℕ, zero, suc, ◌+◌, ◌<◌, ◌≤◌, List, [], ◌∷◌, ◌++◌, length, map, Bool, true, false, ◌&&◌, ◌||◌, nat_le, refl, ap, sym, ◌∙◌, arith, subst, append_assoc, append-nil, Some, None, Result, Ok, Err, IfOk}
 use Rattle.std.proofs.lemmas.Bool.Decides.{nat_tests}
 use Rattle.std.specs.List.{AllByRecursion, list_all, list_any, slice_index_or}
 use Rattle.rv_restrict.specs.declared.atom.Atom.{Atom}
@@ -97,6 +97,11 @@ one_more query shown branch branches plan old put new true m p a = record {
   put = a.put ∙ ap (λ (xs : List ScanPlan). xs ++ a.added) p ∙ append_assoc old (plan ∷ []) a.added;
 }
 one_more query shown branch branches plan old put new false m p a = not_second (is_bounded query shown branch) (list_all (is_bounded query shown) branches) a
+
+-- where the rest answers
+pub more_if : {E : Type 0} (r : Result Bool E) (query : Query) (shown : Shown) (branch : List (List Atom)) (branches : List (List (List Atom))) (plan : ScanPlan) (old put new : List ScanPlan) → IsMember query shown branch plan → put ≡ old ++ plan ∷ [] → IfOk r (AddsMembers query shown branches put new) → IfOk r (AddsMembers query shown (branch ∷ branches) old new)
+more_if (Ok all) query shown branch branches plan old put new m p a = one_more query shown branch branches plan old put new all m p a
+more_if (Err x) query shown branch branches plan old put new m p a = tt
 
 all_bounded : (query : Query) (shown : Shown) (branches : List (List (List Atom))) (plans : List ScanPlan) → AreMembers query shown branches plans → list_all (is_bounded query shown) branches ≡ true
 all_bounded query shown [] [] m = refl
