@@ -91,10 +91,7 @@ fn first_guarantee(strategy: Strategy, pages: u64, entries: u64) -> u64
     ensures { result ≡ first_guarantee strategy pages entries }
 {
     match strategy {
-        Strategy::Table
-        | Strategy::BackgroundOnly
-        | Strategy::FastFirst
-        | Strategy::Union => pages,
+        Strategy::Table | Strategy::BackgroundOnly | Strategy::FastFirst | Strategy::Union => pages,
         Strategy::Sorted => entries,
         Strategy::IndexOnly => entries.div_ceil(16),
     }

@@ -32,6 +32,7 @@ fn member<R: Reader>(
 }
 
 /// Adds a member for each branch. Returns whether each has one.
+#[tactic(auto, using(crate::proofs::OfMembers::no_branches, crate::proofs::OfMembers::first_without, crate::proofs::OfMembers::more_if))]
 fn add_members<R: Reader>(
     alloc: Global,
     reader: &R,
