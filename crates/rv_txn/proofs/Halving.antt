@@ -69,6 +69,12 @@ changing_is t session table only sets rows new h =
     let free = bind_ok (unharmed t session (transaction_at t.active o.0).base table there) _ new space.2 in
     (o.0, o.1, sym (ok_is (map (change_of table sets) there) new free.2), written_by t session o.0 o.1)
 
+-- a transaction that may write is the session's
+pub writing_is : (t : Transactions) (session : ℕ) (own : Transaction) → writing t.active session ≡ Ok own → (place : ℕ) × (transaction_of t.active session ≡ Some place) × (transaction_at t.active place ≡ own)
+writing_is t session own h =
+    let w = bind_ok (writer t.active session) _ own h in
+    (w.0, written_by t session w.0 w.1, ok_is (transaction_at t.active w.0) own w.2)
+
 -- the rows that were found being those that are met, the changes that are due are those of these rows
 pub changing_met : (t : Transactions) (session table : ℕ) (only : List (List Atom)) (sets : Option (List (ℕ × Value))) (rows : ℕ → List Record) (own : Transaction) (found : List Record) → writing t.active session ≡ Ok own → found ≡ met own table only rows
     → changing t session table only sets rows ≡ changing_found t session table sets found
