@@ -8,5 +8,6 @@ mod pieces;
 mod plain;
 #[cfg(test)]
 mod races;
+mod searches;
 #[cfg(test)]
 mod traces;
