@@ -1,4 +1,4 @@
-//! Tests of pieces that leave the core, of runs over the plain store, and of races. They stand in a crate of their own, since
+//! Tests of pieces that leave the core, of runs over the plain store, of races and of searches. They stand in a crate of their own, since
 //! a crate with tests is proved twice.
 #![tactic(auto)]
 
@@ -8,6 +8,7 @@ mod pieces;
 mod plain;
 #[cfg(test)]
 mod races;
+#[cfg(test)]
 mod searches;
 #[cfg(test)]
 mod traces;
