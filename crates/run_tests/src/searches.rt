@@ -47,7 +47,7 @@ fn load<S: Store + Reader<Ledger = Uncounted> + Drop>(
 fn updated(alloc: Global, fails: Vec<u32>) -> Result<Option<u64>, NoMemory> {
     let store = Refusing::new(Plain::new(alloc)?, fails);
     let judge: Box<dyn Judge> = Box::new(alloc, Patient::new())?;
-    let mut core = Core::new(alloc, store, judge, 0);
+    let mut core = Core::new(alloc, store, judge, false, 0);
     load(alloc, &mut core, 1100)?;
     touched(&mut core, "UPDATE T SET B = 1 WHERE A BETWEEN 20 AND 22")
 }
