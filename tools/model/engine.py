@@ -289,7 +289,8 @@ class Engine(Database):
         if all(range_for(bound, columns).is_whole() for _, columns, _ in indexes):
             return every
         query = Query(self.view(name), self.view_pages(name), indexes, bound, columns_of(bound), [], False)
-        search, numbers = access(query, 0, self, Counts(), None, False), []
+        used = [Used(*index, bound, query.need) for index in indexes]
+        search, numbers = Competing(query, 0, self, None, used, query.pages, query.order, query.soon, Counts()), []
         while (number := search.step()) != "end":
             numbers += [] if number is None else [number]
         assert sorted(numbers) == every, "a search finds the rows that qualify"

@@ -1,14 +1,11 @@
 -- A search over what the session's transaction sees: it can be asked, and finds the rows that UPDATE and DELETE change.
-use Rattle.std.proofs.Common.{◌≡◌, ℕ, zero, suc, ◌+◌, ◌<◌, ◌≤◌, List, [], ◌∷◌, Bool, true, false, ◌&&◌, Option, Some, None, Result, Ok, Err, IfSome, refl, ap, sym, ◌∙◌, subst, inl, arith, length, nat_lt, nat_eq, if◌then◌else◌, cond}
+use Rattle.std.proofs.Common.{◌≡◌, ℕ, zero, suc, ◌+◌, ◌<◌, ◌≤◌, List, [], ◌∷◌, Bool, true, false, ◌&&◌, Option, Some, None, Ok, IfSome, refl, ap, sym, ◌∙◌, subst, inl, arith, length, nat_lt, nat_eq, if◌then◌else◌, cond}
 use Rattle.std.specs.List.{AllByRecursion, list_all}
 use Rattle.std.proofs.lemmas.Bool.Decides.{nat_tests}
 use Rattle.rv_value.specs.declared.record.Record.{Record}
-use Rattle.rv_value.specs.declared.value.Value.{Value}
 use Rattle.rv_rows.specs.declared.changes.Change.{Change}
 use Rattle.rv_rows.specs.Changes.{rows_with_changes}
-use Rattle.rv_lang.specs.declared.reply.Refusal.{Refusal}
 use Rattle.rv_restrict.specs.declared.atom.Atom.{Atom}
-use Rattle.rv_restrict.specs.declared.atom.ColRef.{ColRef}
 use Rattle.rv_restrict.specs.Bind.{passes_home}
 use Rattle.rv_restrict.specs.Parts.{stands_among}
 use Rattle.rv_restrict.specs.Truth.{is_home, names_only, row_has}
@@ -19,7 +16,7 @@ use Rattle.rv_catalog.specs.declared.def.IndexDef.{IndexDef}
 use Rattle.rv_catalog.specs.declared.def.Select.{Select}
 use Rattle.rv_catalog.specs.Fits.{IsQueryOf, is_column, is_over_table}
 use Rattle.rv_catalog.specs.Schema.{Schema}
-use Rattle.rv_reader.specs.Shown.{Shown, CanRead, IsSnapshot}
+use Rattle.rv_reader.specs.Shown.{Shown, CanRead}
 use Rattle.rv_reader.specs.Storing.{IsStored}
 use Rattle.rv_model.specs.declared.transactions.Transaction.{Transaction}
 use Rattle.rv_model.specs.declared.transactions.Transactions.{Transactions}

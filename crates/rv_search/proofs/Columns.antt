@@ -1,5 +1,5 @@
 -- A restriction that names columns of the first place alone names those that it names.
-use Rattle.std.proofs.Common.{◌≡◌, ℕ, List, [], ◌∷◌, ◌++◌, Bool, true, false, ◌&&◌, ◌||◌, ◌==◌, refl, inl, inr, arith}
+use Rattle.std.proofs.Common.{◌≡◌, ℕ, List, [], ◌∷◌, ◌++◌, Bool, true, ◌||◌, ◌==◌, refl, inl, inr, arith}
 use Rattle.std.proofs.lemmas.Bool.{cases_Bool}
 use Rattle.rv_restrict.specs.declared.atom.ColRef.{ColRef}
 use Rattle.rv_restrict.specs.declared.atom.Operand.TheVariants.{Literal, Column}
