@@ -199,7 +199,6 @@ fn add_row<R: Reader>(
 }
 
 /// The rows of these numbers, in their order; a number of which the table has no row gives none. It reads no page.
-#[tactic(auto, using(crate::proofs::Fetching::rows_next))]
 pub fn rows_of<R: Reader>(
     alloc: Global,
     reader: &R,
@@ -212,7 +211,7 @@ pub fn rows_of<R: Reader>(
     ensures rows { IfOk result (λ rows. rows.items ≡ rows_of ((R.shown reader.now).rows table snap) found.now) }
     ensures pages { steps.new.pages ≡ steps.old.pages }
 {
-    let mut rows = Vec::with_capacity(alloc, found.len())?;
+    let mut rows = Vec::new(alloc);
     'numbers: for number in found {
         add_row(alloc, reader, table, snap, *number, &mut rows, steps)?;
     }

@@ -1,4 +1,4 @@
-use Rattle.std.proofs.Common.{◌≡◌, ◌+◌, ◌++◌, drop}
+use Rattle.std.proofs.Common.{◌≡◌, ◌++◌, drop}
 use Rattle.rv_search.specs.Searching.{rows_of}
 use Rattle.rv_search.proofs.search.rows_of.Given as goal
 
