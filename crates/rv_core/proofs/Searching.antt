@@ -32,7 +32,7 @@ use Rattle.rv_choice.specs.Asked.{CanAsk, IsIndexOf}
 use Rattle.rv_final.specs.Rest.{qualifying}
 use Rattle.rv_search.specs.Named.{columns_named}
 use Rattle.rv_search.specs.Searching.{search_of}
-use Rattle.rv_search.proofs.Columns.{named_home}
+use Rattle.rv_search.proofs.Columns.{named_home, none_needed}
 use Rattle.rv_join.specs.declared.places.Asked.{Asked}
 use Rattle.rv_join.specs.Asking.{CanPlan, CanRun, CanRunItem, IsAsked, IsIndexAt, IsItem, by_index, have_column, indexes_from, item_at}
 use Rattle.rv_join.proofs.Running.{can_run}
@@ -131,9 +131,6 @@ seen_have shown touched table snap c (Some f) stored read low viewed =
 indexes_asked : (query : Query) (shown : Shown) (is : List (ℕ × List ℕ)) → AllByRecursion (λ (i : ℕ × List ℕ). IsIndexAt shown query.table query.snap i.0 i.1) is → AllByRecursion (λ (i : ℕ × List ℕ). IsIndexOf query shown i.0 i.1) is
 indexes_asked query shown [] all = all
 indexes_asked query shown (i ∷ is) all = let here = all.0 in (record { can = here.can; some = here.some; few = here.few; different = here.different; entries = here.entries; cuts = here.cuts }, indexes_asked query shown is all.1)
-
-none_needed : (c : ℕ) (b : Bool) → stands_among [] c ≡ true → b ≡ true
-none_needed c b h = absurd (cc)
 
 pub can_search : (shown : Shown) (schema : Schema) (txns : Transactions) (table snap : ℕ) (only : List (List Atom)) (frozen : Option Frozen) → IsTied shown schema txns → IsStored shown → CanRead shown table snap → table < length schema.tables → is_over_table schema.tables table only ≡ true → length schema.indexes ≤ 512
     → IfSome frozen (IsViewed shown txns.touched snap) → CanAsk (search_of table snap only (indexes_from table 0 schema.indexes)) (seen_at shown snap frozen)

@@ -68,3 +68,7 @@ only_in p cols (g ∷ only) h all =
 -- the columns named suffice for a restriction over one row
 pub named_home : (p : ℕ → Bool) (only : List (List Atom)) → names_only (passes_home p) only ≡ true → names_only (passes_home (stands_among (columns_named only))) only ≡ true
 named_home p only h = only_in p (columns_named only) only h (λ c there. there)
+
+-- a search without an order needs no column for it
+pub none_needed : (c : ℕ) (b : Bool) → stands_among [] c ≡ true → b ≡ true
+none_needed c b h = absurd (cc)
