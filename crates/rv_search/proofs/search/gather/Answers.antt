@@ -18,6 +18,9 @@ turns-preserved g c =
       unasked = λ settled. (c.forward.ensures.unasked (before.gathers.settled settled) ∙ before.unasked settled);
     }
 
+pub turns-smaller : goal.turns-smaller
+turns-smaller g c = c.in_ok-forward.ensures.nearer c.if-branch.false
+
 pub returns-then-branch-clause-found : goal.returns-then-branch-clause-found
 returns-then-branch-clause-found g c =
     let shown = g.R.Reader.shown c.args.reader.now in
