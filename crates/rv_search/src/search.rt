@@ -181,15 +181,15 @@ fn add_row<R: Reader>(
     reader: &R,
     table: u32,
     snap: u64,
-    row: RowNo,
+    row: &RowNo,
     rows: &mut Vec<Record>,
     steps: &mut Steps<R::Ledger>,
 ) -> Result<(), NoMemory>
     requires can { CanRead (R.shown reader.now) table snap }
-    ensures rows { OnOk result (rows.new.items ≡ rows.old.items ++ rows_of ((R.shown reader.now).rows table snap) (row ∷ [])) }
+    ensures rows { OnOk result (rows.new.items ≡ rows.old.items ++ rows_of ((R.shown reader.now).rows table snap) (row.now ∷ [])) }
     ensures pages { steps.new.pages ≡ steps.old.pages }
 {
-    match reader.fetch(alloc, table, snap, row, steps)? {
+    match reader.fetch(alloc, table, snap, *row, steps)? {
         Some(record) => {
             rows.push(record)?;
             Ok(())
@@ -213,7 +213,7 @@ pub fn rows_of<R: Reader>(
 {
     let mut rows = Vec::new(alloc);
     'numbers: for number in found {
-        add_row(alloc, reader, table, snap, *number, &mut rows, steps)?;
+        add_row(alloc, reader, table, snap, number, &mut rows, steps)?;
     }
     Ok(rows)
 }

@@ -9,7 +9,7 @@ use Rattle.retrieval_table.proofs.searches.found_in.Goals as goal
 pub find-requires : goal.find-requires
 find-requires g c =
     let chosen : Chosen 4 c.from_vec.result = rw c.from_vec.ensures c.in_ok-indexes.ensures in
-    can_search (g.R.Reader.shown c.args.reader.now) c.args.loaded.snap c.args.asked.now c.in_ok-only.only c.from_vec.result c.in_ok-only.ensures chosen c.requires.offers
+    record { can = can_search (g.R.Reader.shown c.args.reader.now) c.args.loaded.snap c.args.asked.now c.in_ok-only.only c.from_vec.result c.in_ok-only.ensures chosen c.requires.offers }
 
 pub returns : goal.returns
 returns g c = c.in_ok-found.ensures.found ∙ ap (λ (only : List (List Atom)). numbers (qualifying only ((g.R.Reader.shown c.args.reader.now).rows 0 c.args.loaded.snap))) c.in_ok-only.ensures

@@ -17,7 +17,7 @@ use Rattle.rv_search.proofs.Sorted.{sorted_numbers}
 use Rattle.rv_search.proofs.search.find.Goals as goal
 
 pub gathered-requires : goal.gathered-requires
-gathered-requires g c = subst (λ (q : Query). CanAsk q (g.R.Reader.shown c.args.reader.now)) (sym c.in_ok-query.ensures) c.requires.can
+gathered-requires g c = record { can = subst (λ (q : Query). CanAsk q (g.R.Reader.shown c.args.reader.now)) (sym c.in_ok-query.ensures) c.requires.can }
 
 pub returns-clause-found : goal.returns-clause-found
 returns-clause-found g c =
@@ -41,8 +41,8 @@ returns-clause-records g c = λ short. (c.in_ok-found.ensures.records (subst (λ
 pub returns-clause-unasked : goal.returns-clause-unasked
 returns-clause-unasked g c = λ short. (c.gathered.ensures.unasked (subst (λ (q : Query). has_short q (g.R.Reader.shown c.args.reader.now) ≡ true) (sym c.in_ok-query.ensures) short))
 
-pub returns-in_err-gathered-clause-unasked : goal.returns-in_err-gathered-clause-unasked
-returns-in_err-gathered-clause-unasked g c = λ short. (c.gathered.ensures.unasked (subst (λ (q : Query). has_short q (g.R.Reader.shown c.args.reader.now) ≡ true) (sym c.in_ok-query.ensures) short))
+pub returns-in_err-found-clause-unasked : goal.returns-in_err-found-clause-unasked
+returns-in_err-found-clause-unasked g c = λ short. (c.gathered.ensures.unasked (subst (λ (q : Query). has_short q (g.R.Reader.shown c.args.reader.now) ≡ true) (sym c.in_ok-query.ensures) short))
 
 pub returns-in_err-sort_by_key-clause-unasked : goal.returns-in_err-sort_by_key-clause-unasked
 returns-in_err-sort_by_key-clause-unasked g c = λ short. (c.gathered.ensures.unasked (subst (λ (q : Query). has_short q (g.R.Reader.shown c.args.reader.now) ≡ true) (sym c.in_ok-query.ensures) short))

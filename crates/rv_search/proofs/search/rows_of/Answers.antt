@@ -1,4 +1,5 @@
-use Rattle.std.proofs.Common.{◌≡◌, ◌+◌, ◌++◌, ◌∷◌, ◌∙◌, [], List, drop, ap, sym, rules, append_assoc}
+use Rattle.std.proofs.Common.{◌≡◌, ◌+◌, ◌++◌, ◌∷◌, ◌∙◌, [], List, drop, ap, sym, append_assoc}
+use Rattle.std.specs.List.{slice_index_or}
 use Rattle.std.proofs.lemmas.List.{drop_more}
 use Rattle.rv_value.specs.declared.record.Record.{Record}
 use Rattle.rv_value.specs.declared.record.RowNo.{RowNo}
@@ -11,13 +12,13 @@ numbers-preserved g c =
     let all = (g.R.Reader.shown c.args.reader.now).rows c.args.table c.args.snap in
     let ns = c.args.found.now in
     let before = c.numbers.rows.items in
-    let item = c.number-item.result in
+    let none : RowNo = record { 0 = 0 } in
+    let item = slice_index_or ns c.numbers.number-index none in
     let behind = drop (c.numbers.number-index + 1) ns in
-    let split : drop c.numbers.number-index ns ≡ item ∷ behind = drop_more ns c.numbers.number-index item c.numbers-test.true ∙ ap (λ (x : RowNo). x ∷ behind) (sym c.number-item.is) in
-    let added : c.add_row.new.rows.items ≡ before ++ rows_of all (item ∷ []) = search rules in
+    let split : drop c.numbers.number-index ns ≡ item ∷ behind = drop_more ns c.numbers.number-index none c.numbers-test.true in
     record {
       rows =
-        ap (λ (rs : List Record). rs ++ rows_of all behind) added
+        ap (λ (rs : List Record). rs ++ rows_of all behind) c.in_ok-add_row.ensures.rows
         ∙ append_assoc before (rows_of all (item ∷ [])) (rows_of all behind)
         ∙ ap (λ (rs : List Record). before ++ rs) (sym (rows_next all item behind))
         ∙ ap (λ (xs : List RowNo). before ++ rows_of all xs) (sym split)
