@@ -20,8 +20,8 @@ mod trace;
 
 use kinds::add_kinds;
 use rows::add_rows;
-use searches::add_searches;
 use rv_value::NoMemory;
+use searches::add_searches;
 use std::alloc::Global;
 use std::io;
 

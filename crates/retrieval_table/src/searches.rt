@@ -93,12 +93,13 @@ fn add<R: Reader<Ledger = Uncounted>>(
     let found = found_in(alloc, reader, loaded, asked, judge, &mut steps)?;
     let rows = rows_text(alloc, found.as_slice())?;
     let counts = steps.counts();
-    lines.push(
-        format!(in alloc;
-            "search, {name}: {}; pages {} leaves {} fetches {}",
-            rows.as_str(), counts.pages, counts.leaves, counts.records
-        )?,
-    )?;
+    lines.push(format!(in alloc;
+        "search, {name}: {}; pages {} leaves {} fetches {}",
+        rows.as_str(),
+        counts.pages,
+        counts.leaves,
+        counts.records
+    )?)?;
     Ok(())
 }
 

@@ -96,9 +96,10 @@ above low (x ∷ xs) all = (all 0 x (omega arith), above low xs (λ j d h. all (
 
 climbs : (xs : List RowNo) → IsNonDecreasingBy (λ (x : RowNo). x.0) xs → Climbs xs
 climbs [] up = tt
-climbs (x ∷ xs) up =
-    (above x.0 xs (λ j d h. up 0 (suc j) d (omega arith) (omega (arith, h))),
-    climbs xs (λ i j d low high. up (suc i) (suc j) d (omega (arith, low)) (omega (arith, high))))
+climbs (x ∷ xs) up = (
+  above x.0 xs (λ j d h. up 0 (suc j) d (omega arith) (omega (arith, h))),
+  climbs xs (λ i j d low high. up (suc i) (suc j) d (omega (arith, low)) (omega (arith, high))),
+)
 
 -- The numbers of the rows of a table climb.
 

@@ -18,10 +18,10 @@ numbers-preserved g c =
     let split : drop c.numbers.number-index ns ≡ item ∷ behind = drop_more ns c.numbers.number-index none c.numbers-test.true in
     record {
       rows =
-        ap (λ (rs : List Record). rs ++ rows_of all behind) c.in_ok-add_row.ensures.rows
-        ∙ append_assoc before (rows_of all (item ∷ [])) (rows_of all behind)
-        ∙ ap (λ (rs : List Record). before ++ rs) (sym (rows_next all item behind))
-        ∙ ap (λ (xs : List RowNo). before ++ rows_of all xs) (sym split)
-        ∙ c.numbers.invariant.rows;
+          ap (λ (rs : List Record). rs ++ rows_of all behind) c.in_ok-add_row.ensures.rows
+          ∙ append_assoc before (rows_of all (item ∷ [])) (rows_of all behind)
+          ∙ ap (λ (rs : List Record). before ++ rs) (sym (rows_next all item behind))
+          ∙ ap (λ (xs : List RowNo). before ++ rows_of all xs) (sym split)
+          ∙ c.numbers.invariant.rows;
       pages = c.add_row.ensures.pages ∙ c.numbers.invariant.pages;
     }
