@@ -9,5 +9,4 @@ mod plan;
 mod stack;
 mod steps;
 
-pub use places::indexes_over;
 pub use plan::{Plan, PlanStep};

@@ -195,8 +195,7 @@ fn add_indexes(
     }
 }
 
-/// The indexes over a table in order of creation, each with its number, which is its position, and its columns.
-pub fn indexes_over(
+fn indexes_over(
     alloc: Global,
     table: u32,
     indexes: &[IndexDef],
