@@ -1,5 +1,5 @@
 //! Calls on the catalog and the store that go together.
-ghost use Rattle.std.specs.Prelude.{◌≡◌, ◌<◌, ◌≤◌, ◌-◌, ◌^◌, ◌++◌, ◌∷◌, [], None, Ok, Err, true, IfOk, IfErr, OnOk, OnErr, IfSome, length};
+ghost use Rattle.std.specs.Prelude.{◌≡◌, ◌+◌, ◌<◌, ◌≤◌, ◌-◌, ◌^◌, ◌++◌, ◌∷◌, [], None, Ok, Err, true, IfOk, IfErr, OnOk, OnErr, IfSome, length};
 ghost use Rattle.std.specs.List.{AllByRecursion, slice_index_or};
 ghost use Rattle.std.specs.Option.{option_copied};
 ghost use Rattle.rv_catalog.specs.Fits.{IsRowOf, is_over_table};
@@ -36,7 +36,7 @@ use rv_rows::Change;
 use rv_search::{any_narrows, found_rows};
 use rv_snapshot::Snapshot;
 use rv_txn::{Finished, TxnFault, Txns, met_rows};
-use rv_value::{Items, NoMemory, Record, RowNo, Value, Values};
+use rv_value::{Duplicate, Items, NoMemory, Record, RowNo, Value, Values};
 use rv_view::{Seen, View};
 use std::alloc::Global;
 
@@ -406,10 +406,7 @@ fn due_changes<S: Store + Reader<Ledger = Uncounted>>(
         Ok(rows) => rows,
         Err(NoMemory) => return Err(TxnFault::NoMemory),
     };
-    match txns.changing_found(session, table, sets, rows.as_slice()) {
-        Ok(new) => Ok(new),
-        Err(fault) => Err(fault),
-    }
+    txns.changing_found(session, table, sets, rows.as_slice())
 }
 
 /// UPDATE, which sets columns, and DELETE, which sets none: how many rows are changed, none of which has a rival then. What is

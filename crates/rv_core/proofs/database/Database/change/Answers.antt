@@ -9,6 +9,9 @@ use Rattle.rv_core.specs.Db.{seen, stand_of}
 use Rattle.rv_core.specs.Storing.{changed_alone}
 use Rattle.rv_core.proofs.database.Database.change.Goals as goal
 
+pub change_rows-requires-clause-over : goal.change_rows-requires-clause-over
+change_rows-requires-clause-over g c = rw (← c.self.view_is) at c.requires.over
+
 pub invariant_of-self-2 : goal.invariant_of-self-2
 invariant_of-self-2 g c =
     record {
