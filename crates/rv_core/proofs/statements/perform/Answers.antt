@@ -31,3 +31,9 @@ returns-in-Delete-clause-refuses g c refusal = rw c.in-Delete.is (any_ok c.chang
 
 pub returns-in-Delete-clause-lost : goal.returns-in-Delete-clause-lost
 returns-in-Delete-clause-lost g c = rw c.in-Delete.is (on_err c.change-in-Delete.result _ ((searches c.args.database.now c.change-in-Delete.new.self c.args.database.now.stand.db c.args.session _ _ c.change-in-Delete.ensures.opens c.change-in-Delete.ensures.opened c.change-in-Delete.ensures.unasked).asks))
+
+pub returns-in-Fetch-clause-refuses : goal.returns-in-Fetch-clause-refuses
+returns-in-Fetch-clause-refuses g c refusal = rw c.in-Fetch.is (c.fetch.ensures.refuses refusal)
+
+pub returns-in-Step-clause-refuses : goal.returns-in-Step-clause-refuses
+returns-in-Step-clause-refuses g c refusal = rw c.in-Step.is (c.step.ensures.refuses refusal)
