@@ -11,6 +11,9 @@ store), runs each script too. Both are replayed, and their transcripts are equal
 STEP, whose replies depend on the store's leaves and estimates, and which row a FETCH gives. There both give a row or both
 `end`, and when a cursor comes to its end both gave the same rows.
 
+With --changes most calls are UPDATE and DELETE by conditions of every form, of few rows and of many, of the own transaction's rows
+too, on tables with indexes; cursors come between, so that traces tell what the searches have asked of the judge.
+
 With --unique about half of the indexes are unique, values are spread so that about half of the INSERTs have no rival, and up to
 eight sessions write at once; at the end of each script no two rows of the evaluation are equal in a unique index.
 
@@ -70,10 +73,10 @@ class Checked(Database):
 class Maker:
     """Makes a script of random statements and spells it. It follows what they do, so that most are answered well."""
 
-    def __init__(self, rng, unique=False):
-        self.rng, self.unique = rng, unique
+    def __init__(self, rng, unique=False, changes=False):
+        self.rng, self.unique, self.changes = rng, unique, changes
         self.database = Database()
-        self.large = rng.random() < 0.4  # the table T has many rows, so that trees have several leaves
+        self.large = rng.random() < (0.8 if changes else 0.4)  # the table T has many rows, so that trees have several leaves
         self.huge = self.large and rng.random() < 0.06  # so many that what was given is remembered no more
 
     @property
@@ -293,9 +296,19 @@ class Maker:
         for _ in range(rng.choice([1, 1, 1, 2, 2, 3])):
             column = self.column(table)
             sets.append((column, self.value(self.width([(table, table)], (None, column)))))
-        groups, where = self.where([(table, table)])
+        groups, where = self.chosen(table)
         text = self.spelled("UPDATE", table, "SET") + " " + ", ".join(f"{c} = {shown(v)}" for c, v in sets) + where
         return ("change", table, sets, groups), text
+
+    def chosen(self, table):
+        """The condition of an UPDATE or DELETE."""
+        way = self.rng.random() if self.changes else 1
+        if way < 0.2 and self.large and table == "T" and "T" in self.known:
+            return self.wide()
+        if way < 0.45:
+            atoms, text, _ = self.group([(table, table)], 1)
+            return [atoms], " WHERE " + text
+        return self.where([(table, table)])
 
     def replaced(self, table):
         """An UPDATE of the few rows that have one value."""
@@ -306,7 +319,7 @@ class Maker:
 
     def delete(self):
         table = self.table()
-        groups, where = self.where([(table, table)])
+        groups, where = self.chosen(table)
         return ("change", table, None, groups), self.spelled("DELETE", "FROM", table) + where
 
     def filled(self):
@@ -338,6 +351,8 @@ class Maker:
             return self.create() if rng.random() < 0.3 else self.index()
         if self.unique and way < 0.6:
             return self.insert() if way < 0.4 else self.update()
+        if self.changes and way < 0.7:
+            return self.insert() if way < 0.1 else self.update() if way < 0.5 else self.delete() if way < 0.6 else self.open()
         if way < 0.05:
             return self.begin()
         if way < 0.14:
@@ -578,10 +593,11 @@ def main():
     how.add_argument("--exact", action="store_true", help="each transcript is the one of the slow model")
     how.add_argument("--beside", metavar="PROGRAM", help="compare with this program too")
     parser.add_argument("--unique", action="store_true", help="with unique indexes, in up to eight sessions")
+    parser.add_argument("--changes", action="store_true", help="with many UPDATE and DELETE by conditions of every form")
     asked = parser.parse_args()
     count, seed, wrong = asked.count, asked.seed, 0
     for number in range(count):
-        script, calls, broken, words = Maker(random.Random(seed * 1_000_000 + number), asked.unique).script()
+        script, calls, broken, words = Maker(random.Random(seed * 1_000_000 + number), asked.unique, asked.changes).script()
         ran = transcript(asked.program, script, words)
         difference = differs(ran, script, calls, broken, words, asked.exact)
         if difference is None and asked.beside is not None:

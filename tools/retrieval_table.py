@@ -15,7 +15,8 @@ may have the range; where k > 1 children may, at level l, it is (k - 1) * 16 ** 
 A retrieval is asked for the rows whose columns lie in spans, and of which one lies in one of further spans, by some of the
 indexes, with some columns, in the order of the third column or in any, the first rows soon or all rows soon. How it goes is
 written in model/retrieval.py. Where a race is asked and indexes can race, how they do is written in model/race.py, and where
-keys are put together in model/union.py."""
+keys are put together in model/union.py. A search is a retrieval that
+needs the columns in which it is restricted, in any order, all rows soon."""
 
 import argparse
 import sys
@@ -410,9 +411,36 @@ def write_kinds(out, table, some):
                 before = told
 
 
+def searches():
+    """Searches whose reads are known from hand."""
+    forty = Table(40, "zero", paged=True)
+    yield "short range", forty, {0: (20, 22)}, [IA], threshold
+    eighty = Table(80, "same")
+    both = {0: (10, 40), 1: (30, 70)}
+    yield "two lists", eighty, both, [IA, IB], patient
+    yield "two scans dropped", eighty, both, [IA, IB], threshold
+    yield "by index alone", eighty, {0: (10, MUCH)}, [IA], patient
+    yield "by pages", eighty, {0: (10, 40)}, [], patient
+
+
+def found(table, spans, uses, judge):
+    """What a search finds and reads."""
+    asked = Asked(spans, uses)
+    asked.needed = set(spans)
+    search = Competing(table, asked, judge, [Index(table, asked, i) for i in uses], table.pages, (), False, Counts())
+    rows = []
+    while (row := search.step()) != "end":
+        rows += [] if row is None else [row]
+    assert sorted(rows) == [n for n, row in enumerate(table.rows) if asked.qualifies(row)]
+    counts = search.counts
+    return f"{rows_text(sorted(rows))}; pages {counts.pages} leaves {counts.leaves} fetches {counts.fetches}"
+
+
 def main(out):
     for name, table, asked, judge, way in singles():
         out.write(f"{name}: {outcome(table, asked, judge, way)}\n")
+    for name, table, spans, uses, judge in searches():
+        out.write(f"search, {name}: {found(table, spans, uses, judge)}\n")
     write_kinds(out, Table(400, "same"), [*kinds(), *races(), *no_races()])
     write_kinds(out, Table(400, "same", paged=True), [("paged, " + name, asked) for name, asked in races()])
     for name, table, asked, judge, way in few_unions():

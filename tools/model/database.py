@@ -272,7 +272,7 @@ class Database:
         self.kinds(groups, placed, items)
         self.need_transaction(writes=True)
         view = self.view(name)
-        hit = [n for n in sorted(view) if qualifies(placed, lambda p: view[n][p[1]])]
+        hit = self.found(name, placed)
         self.may_change(name, hit)
         written = {}
         for number in hit if sets is not None else []:
@@ -283,6 +283,11 @@ class Database:
         for number in hit:
             self.own.new[name, number] = written.get(number)
         return f"touched {len(hit)}"
+
+    def found(self, name, groups):
+        """The numbers of the rows of the view for which a condition over places is True, ascending."""
+        view = self.view(name)
+        return [n for n in sorted(view) if qualifies(groups, lambda p: view[n][p[1]])]
 
     def need_no_rival(self, name, written):
         """Refuses where one of the rows to be written, by number, has a rival: another row that equals it in a unique index,

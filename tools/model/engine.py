@@ -286,11 +286,27 @@ class Engine(Database):
         return reply
 
     def opened(self, select):
-        tables = []
-        for name in select.tables:
-            indexes = [(i, made.columns, self.viewed(i)) for i, made in self.indexes.items() if made.table == name]
-            tables.append((self.view(name), self.view_pages(name), indexes))
+        tables = [(self.view(name), self.view_pages(name), self.viewed_indexes(name)) for name in select.tables]
         return Plan(select, tables, self, self.steps, self.log, self.race)
+
+    def found(self, name, groups):
+        """The rows that UPDATE and DELETE change. Where the condition gives an index of the table a range they are found by a
+        search: a retrieval, never a race, that needs what the condition names, in any order, all rows soon."""
+        every = super().found(name, groups)
+        bound = bound_groups(groups, 0, [])
+        indexes = self.viewed_indexes(name)
+        if all(range_for(bound, columns).is_whole() for _, columns, _ in indexes):
+            return every
+        query = Query(self.view(name), self.view_pages(name), indexes, bound, columns_of(bound), [], False)
+        used = [Used(*index, bound, query.need) for index in indexes]
+        search, numbers = Competing(query, 0, self, None, used, query.pages, query.order, query.soon, Counts()), []
+        while (number := search.step()) != "end":
+            numbers += [] if number is None else [number]
+        assert sorted(numbers) == every, "a search finds the rows that qualify"
+        return every
+
+    def viewed_indexes(self, name):
+        return [(i, made.columns, self.viewed(i)) for i, made in self.indexes.items() if made.table == name]
 
     def view_pages(self, name):
         """The pages of a table at the transaction's base, or up to the highest row that its changes give values."""

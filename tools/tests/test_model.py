@@ -38,6 +38,24 @@ class Language(unittest.TestCase):
 
 
 class Program(unittest.TestCase):
+    def test_a_search_asks_the_judge(self):
+        lines = ["CREATE TABLE T (A BIGINT, B BIGINT)", "CREATE INDEX IA ON T (A)", "BEGIN"]
+        lines += [f"INSERT INTO T VALUES ({i}, 0)" for i in range(80)] + ["COMMIT"]
+        asked = {
+            "BEGIN": (80, 0),
+            "UPDATE T SET B = 1 WHERE A BETWEEN 20 AND 22": (3, 0),  # few entries: listed at once
+            "UPDATE T SET B = 1 WHERE A BETWEEN 10 AND 60": (51, 0),  # the index has what the condition names
+            "UPDATE T SET B = 2 WHERE B = 1": (51, 0),  # no index serves: page by page
+            "UPDATE T SET B = 3 WHERE A BETWEEN 10 AND 60 AND B = 2": (51, 3),
+            "DELETE FROM T WHERE A >= 40 AND B < 3": (19, 4),  # two leaves, of which the last asks nobody
+        }
+        session = Session(judge=2, steps=0)
+        for line in lines:
+            session.call(1, line)
+        for text, (rows, questions) in asked.items():
+            reply = session.call(1, text)
+            self.assertEqual((reply, session.engine.judges[2].turn), ("began 2" if text == "BEGIN" else f"touched {rows}", questions), text)
+
     def test_log_of_reads(self):
         log: list[tuple] = []
         session = Session(log=log)

@@ -21,6 +21,9 @@ use Rattle.rv_scan.specs.Due.{HaveColumns}
 use Rattle.rv_choice.specs.declared.query.Goal2.{Goal2}
 use Rattle.rv_choice.specs.declared.query.Query.{Query}
 use Rattle.rv_choice.specs.Asked.{CanAsk, IsIndexOf, begins_any}
+use Rattle.rv_search.specs.Named.{columns_named}
+use Rattle.rv_search.specs.Searching.{search_of}
+use Rattle.rv_search.proofs.Columns.{named_home, none_needed}
 use Rattle.retrieval_table.specs.declared.asked.Span.{Span}
 use Rattle.retrieval_table.specs.declared.asked.Either.{Either}
 use Rattle.retrieval_table.specs.declared.asked.Asked.{Asked}
@@ -164,4 +167,18 @@ can_ask shown snap asked only indexes need order goal is chosen all ordered offe
   named = asked_named asked only need is all;
   ordered = order_begins indexes order ordered;
   needs = order_needed asked indexes order need ordered all;
+}
+
+-- and so can a search
+pub can_search : (shown : Shown) (snap : ℕ) (asked : Asked) (only : List (List Atom)) (indexes : List (ℕ × List ℕ)) → only ≡ spans_of asked → Chosen 4 indexes → Offers shown snap → CanAsk (search_of 0 snap only indexes) shown
+can_search shown snap asked only indexes is chosen offers = record {
+  ascend = offers.ascend;
+  read = offers.read;
+  columns = rows_columns only (shown.rows 0 snap) (asked_columns asked only is) offers.wide;
+  few = (let few = chosen.few in omega arith);
+  different = chosen.different;
+  indexes = our_indexes shown (search_of 0 snap only indexes) indexes refl offers chosen.ours;
+  named = named_home (λ c. nat_lt c 3) only (asked_columns asked only is);
+  ordered = inl refl;
+  needs = λ c among. none_needed c (stands_among (columns_named only) c) among;
 }

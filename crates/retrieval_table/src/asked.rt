@@ -150,7 +150,8 @@ fn add_index(
     Ok(())
 }
 
-fn indexes(alloc: Global, uses: [bool; 4]) -> Result<Vec<(u32, Items<u32>)>, NoMemory>
+/// The indexes that are used.
+pub fn indexes(alloc: Global, uses: [bool; 4]) -> Result<Vec<(u32, Items<u32>)>, NoMemory>
     ensures { IfOk result (λ indexes. Chosen 4 indexes.items) }
 {
     let mut indexes = Vec::new(alloc);

@@ -9,7 +9,7 @@ use crate::asked::{Asked, query};
 use crate::checked::is_right;
 use crate::drive::{Driven, Way, drive};
 use crate::judges::{Ruling, verdicts};
-use crate::lines::rows_text;
+use crate::lines::{numbers, rows_text};
 use crate::load::Loaded;
 use crate::trace::trace_text;
 use rv_access::Access;
@@ -37,7 +37,8 @@ fn told(
 {
     let rows = driven.rows.as_slice();
     let right = is_right(alloc, asked, rows, loaded.rows, loaded.filling)?;
-    let rows = rows_text(alloc, rows)?;
+    let numbers = numbers(alloc, rows)?;
+    let rows = rows_text(alloc, numbers.as_slice())?;
     let trace = trace_text(alloc, access.trace())?;
     let word = verdict_word(right, driven.ended);
     Ok(format!(in alloc; "{word}, {}; {}", rows.as_str(), trace.as_str())?)

@@ -1,6 +1,6 @@
 //! The rows given, in words.
 
-use rv_value::{NoMemory, Record};
+use rv_value::{NoMemory, Record, RowNo};
 use std::alloc::Global;
 
 /// Row numbers that came one after another, each by one higher than the one before.
@@ -26,20 +26,20 @@ fn lengthened(runs: &mut Vec<Run>, run: Run, row: u64) -> Result<Run, NoMemory> 
     }
 }
 
-fn runs_behind(alloc: Global, first: u64, rows: &[Record]) -> Result<Vec<Run>, NoMemory> {
+fn runs_behind(alloc: Global, first: u64, rows: &[RowNo]) -> Result<Vec<Run>, NoMemory> {
     let mut runs = Vec::new(alloc);
     let mut run = Run { first, last: first };
     'rows: for row in rows {
-        run = lengthened(&mut runs, run, row.row.0)?;
+        run = lengthened(&mut runs, run, row.0)?;
     }
     runs.push(run)?;
     Ok(runs)
 }
 
-fn runs(alloc: Global, rows: &[Record]) -> Result<Vec<Run>, NoMemory> {
+fn runs(alloc: Global, rows: &[RowNo]) -> Result<Vec<Run>, NoMemory> {
     match rows {
         [] => Ok(Vec::new(alloc)),
-        [first, behind @ ..] => runs_behind(alloc, first.row.0, behind),
+        [first, behind @ ..] => runs_behind(alloc, first.0, behind),
     }
 }
 
@@ -56,17 +56,26 @@ fn mixed(mix: u64, row: u64) -> u64 {
 }
 
 /// A number that tells one list of rows from most others.
-fn mix(rows: &[Record]) -> u64 {
+fn mix(rows: &[RowNo]) -> u64 {
     let mut mix = 0;
     'rows: for row in rows {
-        mix = mixed(mix, row.row.0);
+        mix = mixed(mix, row.0);
     }
     mix
 }
 
+/// The numbers of rows.
+pub fn numbers(alloc: Global, rows: &[Record]) -> Result<Vec<RowNo>, NoMemory> {
+    let mut numbers = Vec::new(alloc);
+    'rows: for row in rows {
+        numbers.push(row.row)?;
+    }
+    Ok(numbers)
+}
+
 /// The rows in the order in which they came: how many, and then their runs, or where there are more than 40 of them a
 /// number that is mixed of all rows.
-pub fn rows_text(alloc: Global, rows: &[Record]) -> Result<String, NoMemory> {
+pub fn rows_text(alloc: Global, rows: &[RowNo]) -> Result<String, NoMemory> {
     let runs = runs(alloc, rows)?;
     let mut text = format!(in alloc; "{} rows", rows.len())?;
     if runs.len() > 40 {

@@ -1,5 +1,5 @@
-//! Tests of a core under all verdicts, over a store that refuses, with pieces that leave it and with races, and of runs over
-//! the plain store. They stand in a crate of their own, since a crate with tests is proved twice.
+//! Tests of a core under all verdicts, over a store that refuses, with pieces that leave it, with races and with searches, and of
+//! runs over the plain store. They stand in a crate of their own, since a crate with tests is proved twice.
 #![tactic(auto)]
 
 #[cfg(test)]
@@ -14,5 +14,7 @@ mod plain;
 mod races;
 #[cfg(test)]
 mod refusals;
+#[cfg(test)]
+mod searches;
 #[cfg(test)]
 mod traces;

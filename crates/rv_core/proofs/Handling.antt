@@ -14,11 +14,12 @@ use Rattle.rv_reader.specs.Shown.{Shown}
 use Rattle.rv_model.specs.declared.state.State.{State}
 use Rattle.rv_model.specs.Database.{cursor_named}
 use Rattle.rv_model.specs.Step.{understood}
+use Rattle.rv_txn.specs.Calls.{writing}
 use Rattle.rv_cursor.specs.declared.cursor.Open.{Open}
 use Rattle.rv_join.specs.Plans.{Planned}
 use Rattle.rv_core.specs.Db.{Stand, Whole, open_named}
 use Rattle.rv_core.specs.Doing.{DoesAsked, Executes, Fetches, PartIs, parted}
-use Rattle.rv_core.specs.Obeying.{AnyOf, Handles, HandlesText, Leaves, LeavesText, MovesNamed, Plans, Turns, TurnsText, Under, Works, WorksText, is_fetch, plans_of}
+use Rattle.rv_core.specs.Obeying.{AnyOf, Handles, HandlesText, Leaves, LeavesText, MovesNamed, Plans, Refuses, Searches, Turns, TurnsText, Under, Works, WorksText, is_fetch, plans_of}
 use Rattle.rv_core.proofs.Facts.{get_there}
 
 -- Results.
@@ -48,6 +49,17 @@ err_more (Err e) P Q more p = more p
 
 pub plans_same : {S : Type 0} (w d : Whole S) (judge : ℕ) → d.opens ≡ w.opens → d.opened ≡ w.opened → plans_of d judge ≡ plans_of w judge
 plans_same w d judge opens opened = rw (opens, opened) refl
+
+-- A search was made, which may have asked the judge.
+
+asked_on : {S : Type 0} (w d : Whole S) (before after : ℕ) → d.opens ≡ w.opens → d.opened ≡ w.opened → plans_of d after ≡ record (plans_of w before) { judge = after }
+asked_on w d before after opens opened = rw (opens, opened) refl
+
+pub searches : {S : Type 0} (w d : Whole S) (db : State) (session before after : ℕ) → d.opens ≡ w.opens → d.opened ≡ w.opened → ((refusal : Refusal) → writing db.transactions.active session ≡ Err refusal → after ≡ before) → Searches db session (plans_of w before) (plans_of d after)
+searches w d db session before after opens opened unasked = record {
+  asks = asked_on w d before after opens opened;
+  unasked = λ refusal refused. (asked_on w d before after opens opened ∙ ap (plans_of w) (unasked refusal refused));
+}
 
 pub set_got : {X : Type 0} (xs : List X) (i : ℕ) (x : X) → slice_get xs i ≡ Some x → slice_set xs i x ≡ xs
 set_got [] i x h = refl
@@ -100,8 +112,8 @@ pub leaves_text : (u : Under) (statement : Option Statement) (db : State) (sessi
 leaves_text u statement db session p = record { left = leaves_same u (understood db.schema statement) session p }
 
 -- the text asks this, and so the call handles the plans as this asks
-pub handles_text : (u : Under) (statement : Option Statement) (asked : Result Resolved Refusal) (db : State) (session : ℕ) (reply : Reply) (old new : Plans) → understood db.schema statement ≡ asked → Handles u asked db session reply old new → ((refusal : Refusal) → reply ≡ Refused refusal → new ≡ old) → HandlesText u statement db session reply old new
-handles_text u statement asked db session reply old new is handles refused = record { asked = subst (λ (a : Result Resolved Refusal). Handles u a db session reply old new) (sym is) handles; refused = refused }
+pub handles_text : (u : Under) (statement : Option Statement) (asked : Result Resolved Refusal) (db : State) (session : ℕ) (reply : Reply) (old new : Plans) → understood db.schema statement ≡ asked → Handles u asked db session reply old new → ((refusal : Refusal) → reply ≡ Refused refusal → Refuses asked old new) → HandlesText u statement db session reply old new
+handles_text u statement asked db session reply old new is handles refused = record { asked = subst (λ (a : Result Resolved Refusal). Handles u a db session reply old new) (sym is) handles; refused = λ refusal e. subst (λ (a : Result Resolved Refusal). Refuses a old new) (sym is) (refused refusal e) }
 
 pub leaves_asked : (u : Under) (statement : Option Statement) (asked : Result Resolved Refusal) (db : State) (session : ℕ) (old new : Plans) → understood db.schema statement ≡ asked → Leaves u asked session old new → LeavesText u statement db session old new
 leaves_asked u statement asked db session old new is leaves = record { left = subst (λ (a : Result Resolved Refusal). Leaves u a session old new) (sym is) leaves }
@@ -132,7 +144,7 @@ turns_other u (asks.Close name) session reply old new is = tt
 
 pub part_handles : (u : Under) (statement : Option Statement) (asked : Resolved) (db : State) (session : ℕ) (part : Option (Reply × Reply)) (old new : Plans) → understood db.schema statement ≡ Ok asked
     → PartIs (λ (replies : Reply × Reply). Handles u (Ok asked) db session replies.0 old new) (Works u (Ok asked) session old new) part
-    → ((refusal : Refusal) → PartIs (λ (replies : Reply × Reply). replies.0 ≡ Refused refusal → new ≡ old) (Unit {0}) part)
+    → ((refusal : Refusal) → PartIs (λ (replies : Reply × Reply). replies.0 ≡ Refused refusal → Refuses (Ok asked) old new) (Unit {0}) part)
     → PartIs (λ (replies : Reply × Reply). HandlesText u statement db session replies.0 old new) (WorksText u statement db session old new) part
 part_handles u statement asked db session (Some replies) old new is handles refuses = handles_text u statement (Ok asked) db session replies.0 old new is handles refuses
 part_handles u statement asked db session None old new is works refuses = record { works = subst (λ (a : Result Resolved Refusal). Works u a session old new) (sym is) works }

@@ -9,6 +9,7 @@ pub mod Planning
 pub mod Plans
 pub mod Putting
 pub mod Rivals
+pub mod Searching
 pub mod Facts
 pub mod Few
 pub mod Handling

@@ -108,7 +108,7 @@ all_at n (t ∷ ts) (suc p) all h = all_at n ts p (both_right (nat_lt t n) (list
 table_there : (schema : Schema) (s : Select) (p : ℕ) → IsQueryOf schema s → p < length s.tables → table_at s p < length schema.tables
 table_there schema s p query h = all_at (length schema.tables) s.tables p query.there h
 
-have_wide : (c columns : ℕ) (rows : List Record) → AreWide columns rows → c < columns → have_column c rows ≡ true
+pub have_wide : (c columns : ℕ) (rows : List Record) → AreWide columns rows → c < columns → have_column c rows ≡ true
 have_wide c columns [] wide h = refl
 have_wide c columns (r ∷ rows) wide h =
     let long : c < length r.values = omega (arith, wide.0, h) in

@@ -34,9 +34,9 @@ use Rattle.rv_own.specs.Views.{AreOwn, AreViews, CanKeep, CanView, Freezes, othe
 use Rattle.rv_own.proofs.Bases.{are_own, others_again}
 use Rattle.rv_txn.specs.declared.txns.TxnFault.{TxnFault}
 use Rattle.rv_txn.specs.declared.txns.TxnFault.TheVariants.{Refused, NoMemory}
-use Rattle.rv_txn.specs.Calls.{IsFault}
-use Rattle.rv_txn.specs.Halves.{changing, inserting, with_new, with_these}
-use Rattle.rv_txn.proofs.Halving.{changed_by, changing_is, changing_refused, inserted_by, inserting_refused}
+use Rattle.rv_txn.specs.Calls.{IsFault, writing}
+use Rattle.rv_txn.specs.Halves.{changing, changing_found, inserting, with_new, with_these}
+use Rattle.rv_txn.proofs.Halving.{changed_by, changing_is, changing_met, changing_refused, inserted_by, inserting_refused}
 use Rattle.rv_core.specs.Db.{HasIndex, IsOwn, IsTied, IsViewed, db_of}
 use Rattle.rv_core.specs.Doing.{opening_base}
 use Rattle.rv_core.specs.Storing.{changed_alone, changed_over, inserted_alone, lone_over}
@@ -261,6 +261,20 @@ pub insert_done : (t new : Transactions) (session table : ℕ) (values : List Va
 insert_done t new session table values row due is = inserted_by t session table values row due ∙ ap (λ (x : Transactions). Ok (row, x)) (sym is)
 
 -- ---- UPDATE and DELETE
+
+-- the changes of rows that were found are those of the rows that are met
+pub found_due : (t : Transactions) (session table : ℕ) (only : List (List Atom)) (sets : Option (List (ℕ × Value))) (rows : ℕ → List Record) (own : Transaction) (found lent : List Record) (new : List Change) → writing t.active session ≡ Ok own → found ≡ calls.met own table only rows → lent ≡ found
+    → changing_found t session table sets lent ≡ Ok new → changing t session table only sets rows ≡ Ok new
+found_due t session table only sets rows own found lent new writes met same due = changing_met t session table only sets rows own lent writes (same ∙ met) ∙ due
+
+pub found_fault : (t : Transactions) (session table : ℕ) (only : List (List Atom)) (sets : Option (List (ℕ × Value))) (rows : ℕ → List Record) (own : Transaction) (found lent : List Record) (fault : TxnFault) → writing t.active session ≡ Ok own → found ≡ calls.met own table only rows → lent ≡ found
+    → IsFault (changing_found t session table sets lent) fault → IsFault (changing t session table only sets rows) fault
+found_fault t session table only sets rows own found lent (Refused refusal) writes met same due = changing_met t session table only sets rows own lent writes (same ∙ met) ∙ due
+found_fault t session table only sets rows own found lent NoMemory writes met same due = tt
+
+-- one that may write is not one that may not
+pub writes_not : {X : Type 0} (t : Transactions) (session : ℕ) (own : Transaction) (refusal : Refusal) → writing t.active session ≡ Ok own → writing t.active session ≡ Err refusal → X
+writes_not t session own refusal writes refused = let both : ◌≡◌ {A = Result Transaction Refusal} (Ok own) (Err refusal) = sym writes ∙ refused in absurd (cc)
 
 -- the changes that are due may be kept up with
 pub change_keeps : (shown : Shown) (schema : Schema) (txns : Transactions) (session table : ℕ) (only : List (List Atom)) (sets : Option (List (ℕ × Value))) (new these : List Change) → IsTied shown schema txns → IsStored shown → table < length schema.tables → changing txns session table only sets (shown.rows table) ≡ Ok new

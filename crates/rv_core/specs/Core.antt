@@ -49,7 +49,7 @@ entry session phase text reply = record { session = session; phase = phase; text
 
 -- AN ANSWERED CALL, made under a judge that stood and now stands there: the history gains exactly the entry of this call, and
 -- the database is the step by it. The store keeps what the transactions need. The plans are handled as the call asks, and a
--- refused call leaves them.
+-- refused call leaves them; a search of an UPDATE or DELETE may have asked the judge.
 pub record Answers {S : Type 0} (u : Under) (judge ruled : ℕ) (old new : Shown S) (session : ℕ) (text : List ℕ) (reply : Reply) : Type 0 where
   pub gained : new.history ≡ old.history ++ entry session old.phase text reply ∷ []
   pub same_phase : new.phase ≡ old.phase
@@ -59,7 +59,8 @@ pub record Answers {S : Type 0} (u : Under) (judge ruled : ℕ) (old new : Shown
   pub numbers : new.opened ≤ old.opened + 1
   pub plans : HandlesText u (statement_of text) old.db session reply (plans_in old judge) (plans_in new ruled)
 
--- A CALL FOR WHICH NO MEMORY WAS FOUND: nothing is changed, but that a FETCH or STEP may have moved the plan of its cursor
+-- A CALL FOR WHICH NO MEMORY WAS FOUND: nothing is changed, but that a FETCH or STEP may have moved the plan of its cursor, and
+-- that an UPDATE or DELETE may have asked the judge
 pub record Unanswered {S : Type 0} (u : Under) (judge ruled : ℕ) (old new : Shown S) (session : ℕ) (text : List ℕ) : Type 0 where
   pub kept : new ≡ record old { store = new.store; opens = new.opens }
   pub plans : LeavesText u (statement_of text) old.db session (plans_in old judge) (plans_in new ruled)

@@ -17,6 +17,7 @@ use Rattle.rv_model.specs.declared.state.State.{State}
 use Rattle.rv_model.specs.Showing.{shown_trace}
 use Rattle.rv_model.specs.Step.{rows_viewed, understood}
 use Rattle.rv_model.specs.Transactions.{transaction_of}
+use Rattle.rv_txn.specs.Calls.{writing}
 use Rattle.rv_access.specs.Accesses.{Settled, fetches_left, query_of}
 use Rattle.rv_retrieval.specs.Short.{has_short}
 use Rattle.rv_join.specs.Alone.{plan_effort, plan_life}
@@ -137,11 +138,22 @@ abbrev pub closed_in : Option ℕ → List Open → List Open
 closed_in None opens = opens
 closed_in (Some place) opens = remove opens place
 
+-- a search may ask the judge, and leaves the plans of all cursors
+abbrev pub AsksJudge : Plans → Plans → Type 0
+AsksJudge old new = new ≡ record old { judge = new.judge }
+
+-- UPDATE AND DELETE SEARCH, but not where the session has no transaction that may write
+pub record Searches (db : State) (session : ℕ) (old new : Plans) : Type 0 where
+  pub asks : AsksJudge old new
+  pub unasked : (refusal : Refusal) → writing db.transactions.active session ≡ Err refusal → new ≡ old
+
 -- WHAT AN ANSWERED CALL DOES TO THE PLANS, by what it asks
 abbrev pub Handles : Under → Result Resolved Refusal → State → ℕ → Reply → Plans → Plans → Type 0
 Handles u (Ok (asks.Open name s)) db session reply old new = reply ≡ Opened → OpensPlan u.settings.race u.store s db session name old new
 Handles u (Ok (asks.Fetch name)) db session reply old new = MovesNamed (FetchOf u.settings.steps u.would) u.store (open_named old.opens session name) old new
 Handles u (Ok (asks.Step name n)) db session reply old new = StepsTold u n (open_named old.opens session name) reply old new
+Handles u (Ok (asks.Update table sets only)) db session reply old new = Searches db session old new
+Handles u (Ok (asks.Delete table only)) db session reply old new = Searches db session old new
 Handles u (Ok (asks.Show name)) db session reply old new = TellsPlan (open_named old.opens session name) db.schema.indexes old.opens reply × (new ≡ old)
 Handles u (Ok asks.Commit) db session reply old new = new ≡ record old { opens = ended_by reply session old.opens }
 Handles u (Ok asks.Rollback) db session reply old new = new ≡ record old { opens = ended_by reply session old.opens }
@@ -149,10 +161,17 @@ Handles u (Ok (asks.Close name)) db session reply old new = new ≡ record old {
 Handles u (Ok other) db session reply old new = new ≡ old
 Handles u (Err refusal) db session reply old new = new ≡ old
 
--- the same of the statement of a text, where there is one; and a refused call leaves the plans, whatever it asked
+-- WHAT A REFUSED CALL DOES TO THE PLANS: nothing, but that UPDATE and DELETE may have searched before they were refused
+abbrev pub Refuses : Result Resolved Refusal → Plans → Plans → Type 0
+Refuses (Ok (asks.Update table sets only)) old new = AsksJudge old new
+Refuses (Ok (asks.Delete table only)) old new = AsksJudge old new
+Refuses (Ok other) old new = new ≡ old
+Refuses (Err refusal) old new = new ≡ old
+
+-- the same of the statement of a text, where there is one; and what a refused call leaves
 pub record HandlesText (u : Under) (statement : Option Statement) (db : State) (session : ℕ) (reply : Reply) (old new : Plans) : Type 0 where
   pub asked : Handles u (understood db.schema statement) db session reply old new
-  pub refused : (refusal : Refusal) → reply ≡ Refused refusal → new ≡ old
+  pub refused : (refusal : Refusal) → reply ≡ Refused refusal → Refuses (understood db.schema statement) old new
 
 -- WHAT ONE TURN'S PART OF A CALL DOES WHERE IT WORKS ON: the call is a FETCH of an open cursor, whose plan's step answered
 -- Working
@@ -177,11 +196,13 @@ Turns u (Err refusal) session reply old new = Unit {0}
 pub record TurnsText (u : Under) (statement : Option Statement) (db : State) (session : ℕ) (reply : Reply) (old new : Plans) : Type 0 where
   pub turn : Turns u (understood db.schema statement) session reply old new
 
--- WHAT A CALL DOES TO THE PLANS FOR WHICH NO MEMORY WAS FOUND: FETCH and STEP may have moved their cursor's plan, and no other
--- call does anything
+-- WHAT A CALL DOES TO THE PLANS FOR WHICH NO MEMORY WAS FOUND: FETCH and STEP may have moved their cursor's plan, UPDATE and
+-- DELETE may have searched, and no other call does anything
 abbrev pub Leaves : Under → Result Resolved Refusal → ℕ → Plans → Plans → Type 0
 Leaves u (Ok (asks.Fetch name)) session old new = MovesNamed (AnyOf u.would) u.store (open_named old.opens session name) old new
 Leaves u (Ok (asks.Step name n)) session old new = MovesNamed (AnyOf u.would) u.store (open_named old.opens session name) old new
+Leaves u (Ok (asks.Update table sets only)) session old new = AsksJudge old new
+Leaves u (Ok (asks.Delete table only)) session old new = AsksJudge old new
 Leaves u (Ok other) session old new = new ≡ old
 Leaves u (Err refusal) session old new = new ≡ old
 

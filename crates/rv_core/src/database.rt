@@ -1,5 +1,5 @@
 //! The database: a catalog, a store, transactions and cursors, and what each statement does to them.
-ghost use Rattle.std.specs.Prelude.{◌≡◌, ◌<◌, ◌≤◌, ◌+◌, ◌-◌, ◌^◌, ℕ, [], true, IfOk, IsSome, None, Some, OnErr, length};
+ghost use Rattle.std.specs.Prelude.{◌≡◌, ◌<◌, ◌≤◌, ◌+◌, ◌-◌, ◌^◌, ℕ, [], true, Err, IfOk, IsSome, None, Some, OnErr, length};
 ghost use Rattle.std.specs.Option.{option_copied};
 ghost use Rattle.rv_catalog.specs.Fits.{IsNewIndex, IsNewTable, IsQueryOf, IsRowOf, is_over_table};
 ghost use Rattle.rv_model.specs.Database.{empty};
@@ -7,6 +7,7 @@ ghost use Rattle.rv_model.specs.Standing.{HasRoom};
 ghost use Rattle.rv_model.specs.Step.{began, changed, closed, committed, created, indexed, inserted, opened, rolled_back, rows_viewed};
 ghost use Rattle.rv_model.specs.Transactions.{transaction_of};
 ghost use Rattle.rv_core.specs.declared.settings.Settings.{Settings};
+ghost use Rattle.rv_txn.specs.Calls.{writing};
 ghost use Rattle.rv_core.specs.Core.{horizon_of};
 ghost use Rattle.rv_core.specs.Db.{open_named};
 ghost use Rattle.rv_core.specs.Doing.{Does, Fetches, PartIs, Shows, StepsOn};
@@ -222,7 +223,7 @@ impl<S: Store + Reader<Ledger = Uncounted> + Drop> Database<S> {
         Ok((Reply::Inserted(row), Reply::Inserted(row)))
     }
 
-    /// UPDATE, which sets columns, and DELETE, which sets none.
+    /// UPDATE, which sets columns, and DELETE, which sets none. The judge rules on the scans of the search for their rows.
     #[tactic(auto, using(crate::proofs::Keeping::sees_same))]
     pub fn change(
         &mut self,
@@ -230,6 +231,7 @@ impl<S: Store + Reader<Ledger = Uncounted> + Drop> Database<S> {
         table: u32,
         sets: Option<&[(u32, Value)]>,
         only: &Restriction,
+        judge: &mut Box<dyn Judge>,
     ) -> Result<(Reply, Reply), NoMemory>
         requires there { table < length self.old.stand.db.schema.tables }
         requires over { is_over_table self.old.stand.db.schema.tables table only.now ≡ true }
@@ -238,6 +240,8 @@ impl<S: Store + Reader<Ledger = Uncounted> + Drop> Database<S> {
         ensures err { OnErr result (self.new.stand ≡ self.old.stand) }
         ensures opened { self.new.opened ≡ self.old.opened }
         ensures opens { self.new.opens ≡ self.old.opens }
+        ensures rules { would judge.new ≡ would judge.old }
+        ensures unasked { (refusal : TheRefusal) → writing self.old.stand.db.transactions.active session ≡ Err refusal → state judge.new ≡ state judge.old }
     {
         let count = match change_rows(
             self.alloc,
@@ -249,6 +253,7 @@ impl<S: Store + Reader<Ledger = Uncounted> + Drop> Database<S> {
             table,
             sets,
             only,
+            judge,
         ) {
             Ok(count) => count,
             Err(TxnFault::Refused(refusal)) => return refused(self.alloc, refusal),

@@ -115,7 +115,7 @@ impl<S: Store + Reader<Ledger = Uncounted> + Drop> Core<S> {
     }
 
     /// Makes a session's call: the reply is given and written to the history with the text. On `NoMemory` nothing is changed
-    /// but how far the plans of cursors have come.
+    /// but how far the plans of cursors have come, and where the judge stands.
     pub fn call(&mut self, session: u8, text: &str) -> Result<Reply, NoMemory>
         requires from { 1 ≤ session }
         requires to { session ≤ 8 }

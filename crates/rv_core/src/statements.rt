@@ -8,7 +8,7 @@ ghost use Rattle.rv_model.specs.Standing.{HasRoom};
 ghost use Rattle.rv_model.specs.Step.{understood};
 ghost use Rattle.rv_core.specs.Core.{horizon_of};
 ghost use Rattle.rv_core.specs.Doing.{DoesAsked, Executes, IsWhole, PartIs};
-ghost use Rattle.rv_core.specs.Obeying.{Handles, HandlesText, Leaves, LeavesText, SeesSame, Turns, TurnsText, Works, WorksText, is_fetch, plans_of, under};
+ghost use Rattle.rv_core.specs.Obeying.{Handles, HandlesText, Leaves, LeavesText, Refuses, SeesSame, Turns, TurnsText, Works, WorksText, is_fetch, plans_of, under};
 ghost use Rattle.rv_catalog.specs.declared.def.Resolved.TheVariants.{Fetch};
 ghost use Rattle.rv_lang.specs.declared.reply.Refusal.{Refusal as TheRefusal};
 ghost use Rattle.rv_lang.specs.declared.reply.Reply.TheVariants.{Refused};
@@ -116,7 +116,7 @@ fn turn<S: Store + Reader<Ledger = Uncounted> + Drop>(
     ensures sees { SeesSame (S.shown database.old.store) (S.shown database.new.store) database.new.opens }
     ensures ok { IfOk result (PartIs (λ replies. DoesAsked (Ok asked) database.old.stand session replies database.new.stand) (database.new ≡ record database.old { opens = database.new.opens })) }
     ensures handles { IfOk result (PartIs (λ replies. Handles (under (S.shown database.old.store) (would judge.old) settings) (Ok asked) database.old.stand.db session replies.0 (plans_of database.old (state judge.old)) (plans_of database.new (state judge.new))) (Works (under (S.shown database.old.store) (would judge.old) settings) (Ok asked) session (plans_of database.old (state judge.old)) (plans_of database.new (state judge.new)))) }
-    ensures refuses { (refusal : TheRefusal) → IfOk result (PartIs (λ replies. replies.0 ≡ Refused refusal → plans_of database.new (state judge.new) ≡ plans_of database.old (state judge.old)) (Unit {0})) }
+    ensures refuses { (refusal : TheRefusal) → IfOk result (PartIs (λ replies. replies.0 ≡ Refused refusal → Refuses (Ok asked) (plans_of database.old (state judge.old)) (plans_of database.new (state judge.new))) (Unit {0})) }
     ensures turn { IfOk result (PartIs (λ replies. Turns (under (S.shown database.old.store) (would judge.old) settings) (Ok asked) session replies.0 (plans_of database.old (state judge.old)) (plans_of database.new (state judge.new))) (Unit {0})) }
     ensures lost { OnErr result (Leaves (under (S.shown database.old.store) (would judge.old) settings) (Ok asked) session (plans_of database.old (state judge.old)) (plans_of database.new (state judge.new))) }
     ensures rules { would judge.new ≡ would judge.old }
@@ -190,7 +190,7 @@ fn perform<S: Store + Reader<Ledger = Uncounted> + Drop>(
     ensures sees { SeesSame (S.shown database.old.store) (S.shown database.new.store) database.new.opens }
     ensures ok { IfOk result (λ replies. DoesAsked (Ok asked) database.old.stand session replies database.new.stand) }
     ensures handles { IfOk result (λ replies. Handles (under (S.shown database.old.store) (would judge.old) settings) (Ok asked) database.old.stand.db session replies.0 (plans_of database.old (state judge.old)) (plans_of database.new (state judge.new))) }
-    ensures refuses { (refusal : TheRefusal) → IfOk result (λ replies. replies.0 ≡ Refused refusal → plans_of database.new (state judge.new) ≡ plans_of database.old (state judge.old)) }
+    ensures refuses { (refusal : TheRefusal) → IfOk result (λ replies. replies.0 ≡ Refused refusal → Refuses (Ok asked) (plans_of database.old (state judge.old)) (plans_of database.new (state judge.new))) }
     ensures lost { OnErr result (Leaves (under (S.shown database.old.store) (would judge.old) settings) (Ok asked) session (plans_of database.old (state judge.old)) (plans_of database.new (state judge.new))) }
     ensures rules { would judge.new ≡ would judge.old }
     ensures err { OnErr result (database.new.stand ≡ database.old.stand) }
@@ -203,9 +203,9 @@ fn perform<S: Store + Reader<Ledger = Uncounted> + Drop>(
         Resolved::Begin { read_only } => database.begin(session, read_only),
         Resolved::Insert { table, values } => database.insert(session, table, values),
         Resolved::Update { table, sets, only } => {
-            database.change(session, table, Some(sets.as_slice()), &only)
+            database.change(session, table, Some(sets.as_slice()), &only, judge)
         }
-        Resolved::Delete { table, only } => database.change(session, table, None, &only),
+        Resolved::Delete { table, only } => database.change(session, table, None, &only, judge),
         Resolved::Commit => database.commit(session),
         Resolved::Rollback => database.rollback(session),
         Resolved::Open { cursor, select } => database.open(session, cursor, &select, settings.race),

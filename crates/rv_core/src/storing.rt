@@ -1,15 +1,23 @@
 //! Calls on the catalog and the store that go together.
-ghost use Rattle.std.specs.Prelude.{◌≡◌, ◌<◌, ◌≤◌, ◌-◌, ◌^◌, ◌++◌, ◌∷◌, [], None, Ok, true, IfOk, IfErr, OnOk, OnErr, IfSome, length};
+ghost use Rattle.std.specs.Prelude.{◌≡◌, ◌+◌, ◌<◌, ◌≤◌, ◌-◌, ◌^◌, ◌++◌, ◌∷◌, [], None, Ok, Err, true, IfOk, IfErr, OnOk, OnErr, IfSome, length};
 ghost use Rattle.std.specs.List.{AllByRecursion, slice_index_or};
 ghost use Rattle.std.specs.Option.{option_copied};
 ghost use Rattle.rv_catalog.specs.Fits.{IsRowOf, is_over_table};
 ghost use Rattle.rv_catalog.specs.Kept.{indexes_over};
 ghost use Rattle.rv_catalog.specs.Schema.{index_named, table_named};
 ghost use Rattle.rv_reader.specs.Storing.{AreColumns, CanCommit, Created, Indexed, IsSame, IsStored};
-ghost use Rattle.rv_txn.specs.Calls.{IsFault};
-ghost use Rattle.rv_txn.specs.Halves.{with_these};
+ghost use Rattle.rv_txn.specs.Calls.{IsFault, writing};
+ghost use Rattle.rv_txn.specs.Halves.{changing, with_these};
+ghost use Rattle.rv_lang.specs.declared.reply.Refusal.{Refusal as TheRefusal};
+ghost use Rattle.rv_view.specs.Sights.{LaysSome};
+ghost use Rattle.rv_snapshot.specs.Alone.{alone};
+ghost use Rattle.rv_choice.specs.Asked.{CanAsk};
+ghost use Rattle.rv_final.specs.Rest.{qualifying};
+ghost use Rattle.rv_search.specs.Searching.{search_of};
+ghost use Rattle.rv_join.specs.Asking.{indexes_from};
+ghost use Rattle.rv_cursor.specs.Left.{seen_at};
 ghost use Rattle.rv_model.specs.Database.{no_index};
-ghost use Rattle.rv_model.specs.Transactions.{inserted, transaction_at, transaction_of};
+ghost use Rattle.rv_model.specs.Transactions.{inserted, met, transaction_at, transaction_of};
 ghost use Rattle.rv_rows.specs.declared.changes.Change.{Change as OneChange};
 ghost use Rattle.rv_rows.specs.Changes.{Rise};
 ghost use Rattle.rv_own.specs.Views.{AreViews, CanKeep, Freezes};
@@ -18,15 +26,18 @@ ghost use Rattle.rv_model.specs.Step.{row_alone, rows_alone};
 ghost use Rattle.rv_core.specs.Storing.{CommitsTo, changed_alone, changed_over, inserted_alone, lone_over};
 
 use rv_catalog::{Catalog, IndexDef, TableDef};
-use rv_judge::Uncounted;
+use rv_judge::{Judge, Steps, Uncounted};
+use rv_model::Transaction;
 use rv_own::Views;
 use rv_reader::{Reader, Store};
 use rv_restrict::Restriction;
 use rv_rivals::no_rivals;
 use rv_rows::Change;
-use rv_txn::{Finished, TxnFault, Txns};
-use rv_value::{NoMemory, RowNo, Value, Values};
-use rv_view::View;
+use rv_search::{any_narrows, found_rows};
+use rv_snapshot::Snapshot;
+use rv_txn::{Finished, TxnFault, Txns, met_rows};
+use rv_value::{Duplicate, Items, NoMemory, Record, RowNo, Value, Values};
+use rv_view::{Seen, View};
 use std::alloc::Global;
 
 /// A table more in both. Without memory neither has it.
@@ -222,8 +233,184 @@ pub fn insert_row<S: Store + Reader<Ledger = Uncounted>>(
     }
 }
 
+/// Adds the indexes over a table, each with its number, of which the first is given.
+fn add_indexes(
+    alloc: Global,
+    table: u32,
+    number: u32,
+    indexes: &[IndexDef],
+    found: &mut Vec<(u32, Items<u32>)>,
+) -> Result<(), NoMemory>
+    requires { number + length indexes.now < 2 ^ 32 }
+    ensures { OnOk result (found.new.items ≡ found.old.items ++ indexes_from table number indexes.now) }
+{
+    match indexes {
+        [] => Ok(()),
+        [index, more @ ..] => {
+            if index.table == table {
+                found.push((number, index.columns.copy(alloc)?))?;
+            }
+            add_indexes(alloc, table, number + 1, more, found)
+        }
+    }
+}
+
+/// The indexes over a table in order of creation, each with its number, which is its position, and its columns.
+fn indexes_of(
+    alloc: Global,
+    table: u32,
+    indexes: &[IndexDef],
+) -> Result<Items<(u32, Items<u32>)>, NoMemory>
+    requires { length indexes.now < 2 ^ 32 }
+    ensures { IfOk result (λ found. found ≡ indexes_from table 0 indexes.now) }
+{
+    let mut found = Vec::new(alloc);
+    add_indexes(alloc, table, 0, indexes, &mut found)?;
+    Ok(Items::from_vec(found))
+}
+
+/// The rows of a table at a snapshot for which WHERE is True, found by a search, with a transaction's view laid over the
+/// snapshot where one is given.
+fn rows_seen<R: Reader>(
+    alloc: Global,
+    reader: &R,
+    table: u32,
+    snap: u64,
+    view: &Option<View>,
+    only: &Restriction,
+    indexes: Items<(u32, Items<u32>)>,
+    judge: &mut Box<dyn Judge>,
+    steps: &mut Steps<R::Ledger>,
+) -> Result<Vec<Record>, NoMemory>
+    requires lays { LaysSome (alone (R.shown reader.now) snap) view.now }
+    requires can { CanAsk (search_of table snap only.now indexes) (seen_at (R.shown reader.now) snap view.now) }
+    ensures rows { IfOk result (λ rows. rows.items ≡ qualifying only.now ((seen_at (R.shown reader.now) snap view.now).rows table snap)) }
+    ensures stays { would judge.new ≡ would judge.old }
+{
+    let at = Snapshot { reader, snap };
+    found_rows(
+        alloc,
+        &Seen { reader: &at, view },
+        table,
+        snap,
+        only,
+        indexes,
+        judge,
+        steps,
+    )
+}
+
+/// The rows of a table in the view of the session's transaction for which WHERE is True, found by a search at its base under
+/// its changes.
+fn searched_rows<S: Store + Reader<Ledger = Uncounted>>(
+    alloc: Global,
+    catalog: &Catalog,
+    store: &S,
+    txns: &Txns,
+    views: &mut Views,
+    session: u8,
+    own: &Transaction,
+    table: u32,
+    only: &Restriction,
+    indexes: Items<(u32, Items<u32>)>,
+    judge: &mut Box<dyn Judge>,
+) -> Result<Vec<Record>, NoMemory>
+    requires tied { IsTied (S.shown store.now) catalog.now txns.now }
+    requires there { table < length catalog.now.tables }
+    requires over { is_over_table catalog.now.tables table only.now ≡ true }
+    requires few { length catalog.now.indexes ≤ 512 }
+    requires indexes { indexes ≡ indexes_from table 0 catalog.now.indexes }
+    requires writes { writing txns.now.active session ≡ Ok own.now }
+    requires views { AreViews (S.shown store.now) txns.now.active views.old }
+    ensures rows { IfOk result (λ rows. rows.items ≡ met own.now table only.now ((S.shown store.now).rows table)) }
+    ensures views { AreViews (S.shown store.now) txns.now.active views.new }
+    ensures stays { would judge.new ≡ would judge.old }
+{
+    // What a store tells with its newest commit holds of all its rows.
+    let _newest = store.last();
+    let view = freeze(catalog, store, txns, views, session)?;
+    let mut steps = Steps::new(Uncounted);
+    let rows = rows_seen(
+        alloc, store, table, own.base, &view, only, indexes, judge, &mut steps,
+    )?;
+    Ok(rows)
+}
+
+/// The rows of a table in the view of the session's transaction for which WHERE is True. Where WHERE gives an index of the
+/// table a range they are found by a search, else page by page as the store lends them.
+fn met_by<S: Store + Reader<Ledger = Uncounted>>(
+    alloc: Global,
+    catalog: &Catalog,
+    store: &S,
+    txns: &Txns,
+    views: &mut Views,
+    session: u8,
+    own: &Transaction,
+    table: u32,
+    only: &Restriction,
+    judge: &mut Box<dyn Judge>,
+) -> Result<Vec<Record>, NoMemory>
+    requires tied { IsTied (S.shown store.now) catalog.now txns.now }
+    requires there { table < length catalog.now.tables }
+    requires over { is_over_table catalog.now.tables table only.now ≡ true }
+    requires writes { writing txns.now.active session ≡ Ok own.now }
+    requires views { AreViews (S.shown store.now) txns.now.active views.old }
+    ensures rows { IfOk result (λ rows. rows.items ≡ met own.now table only.now ((S.shown store.now).rows table)) }
+    ensures views { AreViews (S.shown store.now) txns.now.active views.new }
+    ensures stays { would judge.new ≡ would judge.old }
+{
+    // What a store tells with its newest commit holds of its indexes.
+    let _newest = store.last();
+    let indexes = indexes_of(alloc, table, catalog.indexes())?;
+    let searched = any_narrows(alloc, only, indexes.as_slice())?;
+    if searched {
+        searched_rows(
+            alloc, catalog, store, txns, views, session, own, table, only, indexes, judge,
+        )
+    } else {
+        met_rows(alloc, own, store, table, only)
+    }
+}
+
+/// The changes that an UPDATE or DELETE would make. A session that has no transaction which may write is refused before any
+/// search. What is kept of views may be made anew for it.
+fn due_changes<S: Store + Reader<Ledger = Uncounted>>(
+    alloc: Global,
+    catalog: &Catalog,
+    store: &S,
+    txns: &Txns,
+    views: &mut Views,
+    session: u8,
+    table: u32,
+    sets: Option<&[(u32, Value)]>,
+    only: &Restriction,
+    judge: &mut Box<dyn Judge>,
+) -> Result<Vec<Change>, TxnFault>
+    requires tied { IsTied (S.shown store.now) catalog.now txns.now }
+    requires there { table < length catalog.now.tables }
+    requires over { is_over_table catalog.now.tables table only.now ≡ true }
+    requires views { AreViews (S.shown store.now) txns.now.active views.old }
+    ensures ok { IfOk result (λ new. changing txns.now session table only.now (option_copied sets.entry) ((S.shown store.now).rows table) ≡ Ok new.items) }
+    ensures fault { IfErr result (λ fault. IsFault (changing txns.now session table only.now (option_copied sets.entry) ((S.shown store.now).rows table)) fault) }
+    ensures views { AreViews (S.shown store.now) txns.now.active views.new }
+    ensures stays { would judge.new ≡ would judge.old }
+    ensures unasked { (refusal : TheRefusal) → writing txns.now.active session ≡ Err refusal → state judge.new ≡ state judge.old }
+{
+    let own = match txns.writing(session) {
+        Ok(own) => own,
+        Err(refusal) => return Err(TxnFault::Refused(refusal)),
+    };
+    let rows = match met_by(
+        alloc, catalog, store, txns, views, session, own, table, only, judge,
+    ) {
+        Ok(rows) => rows,
+        Err(NoMemory) => return Err(TxnFault::NoMemory),
+    };
+    txns.changing_found(session, table, sets, rows.as_slice())
+}
+
 /// UPDATE, which sets columns, and DELETE, which sets none: how many rows are changed, none of which has a rival then. What is
-/// kept of the transaction's view is kept up with them.
+/// kept of the transaction's view is kept up with them. The judge rules on the scans of the search.
 pub fn change_rows<S: Store + Reader<Ledger = Uncounted>>(
     alloc: Global,
     catalog: &Catalog,
@@ -234,6 +421,7 @@ pub fn change_rows<S: Store + Reader<Ledger = Uncounted>>(
     table: u32,
     sets: Option<&[(u32, Value)]>,
     only: &Restriction,
+    judge: &mut Box<dyn Judge>,
 ) -> Result<u64, TxnFault>
     requires tied { IsTied (S.shown store.now) catalog.now txns.old }
     requires there { table < length catalog.now.tables }
@@ -245,10 +433,14 @@ pub fn change_rows<S: Store + Reader<Ledger = Uncounted>>(
     ensures err { OnErr result (txns.new ≡ txns.old) }
     ensures tied { IsTied (S.shown store.now) catalog.now txns.new }
     ensures views { AreViews (S.shown store.now) txns.new.active views.new }
+    ensures stays { would judge.new ≡ would judge.old }
+    ensures unasked { (refusal : TheRefusal) → writing txns.old.active session ≡ Err refusal → state judge.new ≡ state judge.old }
 {
     // What a store tells with its newest commit holds of all its rows.
     let _newest = store.last();
-    let new = match txns.changing(session, store, table, only, sets) {
+    let new = match due_changes(
+        alloc, catalog, store, txns, views, session, table, sets, only, judge,
+    ) {
         Ok(new) => new,
         Err(fault) => return Err(fault),
     };

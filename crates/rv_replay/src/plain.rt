@@ -20,6 +20,7 @@ use crate::telling::{may_step, may_tell};
 use rv_catalog::{BindFault, Catalog, IndexDef, Resolved, Select, TableDef};
 use rv_core::database::Database;
 use rv_core::statements::understand;
+use rv_judge::{Judge, Patient};
 use rv_lang::{Refusal, Reply, Statement};
 use rv_parse::read_statement;
 use rv_restrict::Restriction;
@@ -124,7 +125,10 @@ impl PlainDatabase {
         requires over { is_over_table self.old.schema.tables table only.now ≡ true }
         ensures { IfOk result (λ reply. Done (changed self.old session table (option_copied sets.entry) only.now) self.old reply self.new) }
     {
-        let replies = self.database.change(session, table, sets, only)?;
+        let mut judge: Box<dyn Judge> = Box::new(self.alloc, Patient::new())?;
+        let replies = self
+            .database
+            .change(session, table, sets, only, &mut judge)?;
         Ok(first(replies))
     }
 

@@ -11,9 +11,11 @@ use Rattle.rv_lang.specs.declared.reply.Refusal.TheVariants.{NoTransaction, Read
 use Rattle.rv_restrict.specs.declared.atom.Atom.{Atom}
 use Rattle.rv_catalog.specs.Answers.{◌>>=◌, ok_or, refuse_if}
 use Rattle.rv_catalog.proofs.Steps.{bind_ok, ok_is, was_some}
+use Rattle.rv_model.specs.declared.transactions.Transaction.{Transaction}
 use Rattle.rv_model.specs.declared.transactions.Transactions.{Transactions}
 use Rattle.rv_model.specs.Transactions.{change_of, changed, changed_with, inserted, met, next_row, transaction_at, transaction_of, unharmed, with_row, writer}
-use Rattle.rv_txn.specs.Halves.{changing, inserting, with_new, with_these}
+use Rattle.rv_txn.specs.Calls.{writing}
+use Rattle.rv_txn.specs.Halves.{changing, changing_found, changing_rows, inserting, with_new, with_these}
 
 -- the place of the session's transaction, which may write
 written_by : (t : Transactions) (session own : ℕ) → writer t.active session ≡ Ok own → transaction_of t.active session ≡ Some own
@@ -67,6 +69,22 @@ changing_is t session table only sets rows new h =
     let free = bind_ok (unharmed t session (transaction_at t.active o.0).base table there) _ new space.2 in
     (o.0, o.1, sym (ok_is (map (change_of table sets) there) new free.2), written_by t session o.0 o.1)
 
+-- a transaction that may write is the session's
+pub writing_is : (t : Transactions) (session : ℕ) (own : Transaction) → writing t.active session ≡ Ok own → (place : ℕ) × (transaction_of t.active session ≡ Some place) × (transaction_at t.active place ≡ own)
+writing_is t session own h =
+    let w = bind_ok (writer t.active session) _ own h in
+    (w.0, written_by t session w.0 w.1, ok_is (transaction_at t.active w.0) own w.2)
+
+-- the rows that were found being those that are met, the changes that are due are those of these rows
+pub changing_met : (t : Transactions) (session table : ℕ) (only : List (List Atom)) (sets : Option (List (ℕ × Value))) (rows : ℕ → List Record) (own : Transaction) (found : List Record) → writing t.active session ≡ Ok own → found ≡ met own table only rows
+    → changing t session table only sets rows ≡ changing_found t session table sets found
+changing_met t session table only sets rows own found writes is =
+    let w = bind_ok (writer t.active session) _ own writes in
+    let here : transaction_at t.active w.0 ≡ own = ok_is (transaction_at t.active w.0) own w.2 in
+    bound (writer t.active session) (λ n. changing_rows t session n table sets (met (transaction_at t.active n) table only rows)) w.0 w.1
+    ∙ ap (changing_rows t session w.0 table sets) (ap (λ (u : Transaction). met u table only rows) here ∙ sym is)
+    ∙ sym (bound (writer t.active session) (λ n. changing_rows t session n table sets found) w.0 w.1)
+
 -- A refusal of the first half is that of the whole.
 
 refused_first : {A B C : Type 0} (r : Result A Refusal) (f : A → Result B Refusal) (g : A → Result C Refusal) (e : Refusal) → ((a : A) → f a ≡ Err e → g a ≡ Err e) → (r >>= f) ≡ Err e → (r >>= g) ≡ Err e
@@ -91,4 +109,14 @@ changing_refused t session table only sets rows e h =
     refused_first (refuse_if (nat_lt 100000 (changed_with (transaction_at t.active own).changes table there)) (Limit Pending 100000)) _ _ e
     (λ u. refused_first (unharmed t session (transaction_at t.active own).base table there) _ _ e
     (λ v. never _ _ e)))
+    h
+
+-- a transaction that may not write changes nothing
+impossible : {A B : Type 0} (a : A) (r : Result B Refusal) (e : Refusal) → ◌≡◌ {A = Result A Refusal} (Ok a) (Err e) → r ≡ Err e
+impossible a r e h = absurd (cc)
+
+pub changing_unwritten : (t : Transactions) (session table : ℕ) (only : List (List Atom)) (sets : Option (List (ℕ × Value))) (rows : ℕ → List Record) (e : Refusal) → writing t.active session ≡ Err e → changing t session table only sets rows ≡ Err e
+changing_unwritten t session table only sets rows e h =
+    refused_first (writer t.active session) (λ n. Ok (transaction_at t.active n)) (λ n. changing_rows t session n table sets (met (transaction_at t.active n) table only rows)) e
+    (λ own. impossible (transaction_at t.active own) (changing_rows t session own table sets (met (transaction_at t.active own) table only rows)) e)
     h

@@ -6,7 +6,7 @@ use Rattle.rv_lang.specs.declared.reply.Refusal.TheVariants.{NoTransaction}
 use Rattle.rv_catalog.specs.Answers.{◌>>=◌, ok_or}
 use Rattle.rv_model.specs.declared.transactions.Transaction.{Transaction}
 use Rattle.rv_model.specs.declared.transactions.Transactions.{Transactions}
-use Rattle.rv_model.specs.Transactions.{transaction_of, transaction_at, without}
+use Rattle.rv_model.specs.Transactions.{transaction_of, transaction_at, without, writer}
 use Rattle.rv_txn.specs.declared.txns.TxnFault.{TxnFault}
 use Rattle.rv_txn.specs.declared.txns.TxnFault.TheVariants.{Refused, NoMemory}
 use Rattle.rv_txn.specs.declared.txns.Standing.{Standing}
@@ -15,6 +15,12 @@ use Rattle.rv_txn.specs.declared.txns.Standing.{Standing}
 abbrev pub IsFault : {A : Type 0} → Result A Refusal → TxnFault → Type 0
 IsFault due (Refused refusal) = due ≡ Err refusal
 IsFault due NoMemory = Unit {0}
+
+-- the session's transaction, which has to be one that may write
+abbrev pub writing : List Transaction → ℕ → Result Transaction Refusal
+writing active session = do
+  own ← writer active session
+  Ok (transaction_at active own)
 
 -- what a commit needs of the session's transaction: its number, its base and its changes
 abbrev pub finished : Transactions → ℕ → Result (ℕ × ℕ × List Change) Refusal

@@ -29,6 +29,13 @@ changing_rows t session own table sets rows = do
   free ← unharmed t session (transaction_at t.active own).base table rows
   Ok (map (change_of table sets) rows)
 
+-- the same of rows that were found
+abbrev pub changing_found : Transactions → ℕ → ℕ → Option (List (ℕ × Value)) → List Record → Result (List Change) Refusal
+changing_found t session table sets rows = do
+  own ← writer t.active session
+  changing_rows t session own table sets rows
+
+-- and of those for which a restriction is True, over the rows that the table has at each commit
 abbrev pub changing : Transactions → ℕ → ℕ → List (List Atom) → Option (List (ℕ × Value)) → (ℕ → List Record) → Result (List Change) Refusal
 changing t session table only sets rows = do
   own ← writer t.active session

@@ -8,5 +8,5 @@ mod conflicts;
 mod touched;
 mod txns;
 
-pub use changing::{kept_rows, viewed_rows};
+pub use changing::{kept_rows, met_rows, viewed_rows};
 pub use txns::{Finished, Standing, TxnFault, Txns};

@@ -2,23 +2,19 @@ ghost use Rattle.std.specs.Prelude.{◌≡◌, ◌<◌, ◌-◌, ◌^◌, true, 
 ghost use Rattle.rv_rows.specs.Changes.{Rise};
 ghost use Rattle.rv_model.specs.Transactions.{began, done, horizon, lowest, no_transactions, touched_by, transaction_at, transaction_of};
 ghost use Rattle.std.specs.Option.{option_copied, option_map};
-ghost use Rattle.rv_txn.specs.Changing.{CanChange};
 ghost use Rattle.rv_txn.specs.Apart.{are_apart};
-ghost use Rattle.rv_txn.specs.Calls.{IsFault, finished, rolled_back, standing};
-ghost use Rattle.rv_txn.specs.Halves.{changing, inserting, with_new, with_these};
+ghost use Rattle.rv_txn.specs.Calls.{IsFault, finished, rolled_back, standing, writing};
+ghost use Rattle.rv_txn.specs.Halves.{changing_found, inserting, with_new, with_these};
 
 use crate::active::{
     changes_at, horizon, limit, lowest, standing_at, transaction_at, transaction_of, writer,
 };
-use crate::changing::{changes_of, is_full, met_rows};
+use crate::changing::{changes_of, is_full};
 use crate::conflicts::unharmed;
 use crate::touched::{next_row, put_and_take, touch_all, touched_by};
-use rv_judge::Uncounted;
 use rv_model::{Refusal, Transaction, Transactions, Which};
-use rv_reader::{Reader, Store};
-use rv_restrict::Restriction;
 use rv_rows::{Change, Changes};
-use rv_value::{Items, NoMemory, RowNo, Value};
+use rv_value::{Items, NoMemory, Record, RowNo, Value};
 use std::alloc::Global;
 use std::marker::Model;
 
@@ -176,26 +172,35 @@ impl Txns {
         )
     }
 
-    /// The changes that an UPDATE, which sets columns, or a DELETE, which sets none, would make. It changes nothing.
-    pub fn changing<S: Store + Reader<Ledger = Uncounted>>(
+    /// The session's transaction, which has to be one that may write; else the refusal. It takes no memory.
+    pub fn writing(&self, session: u8) -> Result<&Transaction, Refusal>
+        ensures ok { IfOk result (λ own. writing self.now.active session ≡ Ok own.now) }
+        ensures fault { IfErr result (λ refusal. writing self.now.active session ≡ Err refusal) }
+    {
+        match writer(&self.transactions.active, session) {
+            Ok(own) => Ok(transaction_at(&self.transactions.active, own)),
+            Err(refusal) => Err(refusal),
+        }
+    }
+
+    /// The changes that an UPDATE, which sets columns, or a DELETE, which sets none, would make of rows that were found in the
+    /// view of the session's transaction, in ascending order. It changes nothing.
+    pub fn changing_found(
         &self,
         session: u8,
-        store: &S,
         table: u32,
-        only: &Restriction,
         sets: Option<&[(u32, Value)]>,
+        rows: &[Record],
     ) -> Result<Vec<Change>, TxnFault>
-        requires { IfSome (transaction_of self.now.active session) (λ own. CanChange (S.shown store.now) (transaction_at self.now.active own) table only.now) }
-        ensures ok { IfOk result (λ new. changing self.now session table only.now (option_copied sets.entry) ((S.shown store.now).rows table) ≡ Ok new.items) }
-        ensures fault { IfErr result (λ fault. IsFault (changing self.now session table only.now (option_copied sets.entry) ((S.shown store.now).rows table)) fault) }
+        ensures ok { IfOk result (λ new. changing_found self.now session table (option_copied sets.entry) rows.now ≡ Ok new.items) }
+        ensures fault { IfErr result (λ fault. IsFault (changing_found self.now session table (option_copied sets.entry) rows.now) fault) }
     {
         let own = match writer(&self.transactions.active, session) {
             Ok(own) => own,
             Err(refusal) => return Err(TxnFault::Refused(refusal)),
         };
         let transaction = transaction_at(&self.transactions.active, own);
-        let rows = met_rows(self.alloc, transaction, store, table, only)?;
-        if is_full(&transaction.changes, table, rows.as_slice()) {
+        if is_full(&transaction.changes, table, rows) {
             return Err(TxnFault::Refused(limit(Which::Pending, 100_000)));
         }
         match unharmed(
@@ -204,12 +209,12 @@ impl Txns {
             session,
             transaction.base,
             table,
-            rows.as_slice(),
+            rows,
         ) {
             Ok(()) => {}
             Err(refusal) => return Err(TxnFault::Refused(refusal)),
         }
-        let new = changes_of(self.alloc, table, sets, rows.as_slice())?;
+        let new = changes_of(self.alloc, table, sets, rows)?;
         Ok(new)
     }
 

@@ -10,7 +10,7 @@ returns-in-Err g c =
     record {
       ok = rw c.answered.ensures (parted_ok c.perform.result _ _ (rw is at c.perform.ensures.ok));
       handles = rw c.answered.ensures (parted_ok c.perform.result _ _ (rw is at c.perform.ensures.handles));
-      refuses = λ refusal. rw c.answered.ensures (parted_ok c.perform.result _ _ (c.perform.ensures.refuses refusal));
+      refuses = λ refusal. rw c.answered.ensures (parted_ok c.perform.result _ _ (rw is at (c.perform.ensures.refuses refusal)));
       turn = rw c.answered.ensures (parted_ok c.perform.result _ _ (any_ok c.perform.result _ (λ replies. turns_other (under _ _ c.args.settings) c.args.asked _ replies.0 _ _ none)));
       lost = rw c.answered.ensures (parted_err c.perform.result _ (rw is at c.perform.ensures.lost));
       rules = c.perform.ensures.rules;
@@ -19,3 +19,6 @@ returns-in-Err g c =
       opened = c.perform.ensures.opened;
       unopened = rw c.answered.ensures (parted_err c.perform.result _ c.perform.ensures.unopened);
     }
+
+pub returns-in-Ok-clause-refuses : goal.returns-in-Ok-clause-refuses
+returns-in-Ok-clause-refuses g c refusal = rw c.in-Ok.ensures.name (c.fetch_step.ensures.refuses refusal)

@@ -5,11 +5,8 @@ use Rattle.rv_model.specs.Transactions.{transaction_of}
 use Rattle.rv_core.specs.Db.{IsTied}
 use Rattle.rv_core.proofs.Putting.{change_done, change_fault, change_keeps, put_back, put_these, rivals_fault, these_alone}
 use Rattle.rv_core.proofs.Rivals.{these_of, these_rise}
-use Rattle.rv_core.proofs.Standing.{can_change, rows_same, tied_changed}
+use Rattle.rv_core.proofs.Standing.{rows_same, tied_changed}
 use Rattle.rv_core.proofs.storing.change_rows.Goals as goal
-
-pub changing-requires : goal.changing-requires
-changing-requires g c = can_change (g.S.Reader.shown c.args.store.now) c.args.catalog.now c.args.txns.now c.args.session c.args.table c.args.only.now c.requires.tied c.requires.there c.requires.over
 
 pub keep_up-requires-clause-can : goal.keep_up-requires-clause-can
 keep_up-requires-clause-can g c = change_keeps (g.S.Reader.shown c.args.store.now) c.args.catalog.now c.args.txns.now c.args.session c.args.table c.args.only.now (option_copied c.args.sets) c.in-Ok.new.items c.as_slice-2.result.now c.requires.tied c.last-newest.ensures.stored c.requires.there c.in-Ok.ensures.ok c.as_slice-2.ensures.value

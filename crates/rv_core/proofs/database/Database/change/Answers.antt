@@ -9,6 +9,9 @@ use Rattle.rv_core.specs.Db.{seen, stand_of}
 use Rattle.rv_core.specs.Storing.{changed_alone}
 use Rattle.rv_core.proofs.database.Database.change.Goals as goal
 
+pub change_rows-requires-clause-over : goal.change_rows-requires-clause-over
+change_rows-requires-clause-over g c = rw (← c.self.view_is) at c.requires.over
+
 pub invariant_of-self-2 : goal.invariant_of-self-2
 invariant_of-self-2 g c =
     record {
@@ -26,3 +29,12 @@ returns-in-Err-Refused-clause-ok g c =
     let why : changed_alone shown c.self.inside.catalog c.self.inside.txns c.args.session c.args.table (option_copied c.args.sets) c.args.only.now ≡ Err c.in-Err-Refused.refusal = (rw c.in-Err-Refused.field-0-is at c.in-Err-Refused.ensures.fault) in
     let refusal = change_refused shown c.self.inside.catalog c.self.inside.txns opens c.args.session c.args.table c.args.only.now (option_copied c.args.sets) c.in-Err-Refused.refusal why in
     rw (c.in-Err-Refused.ensures.err, ← c.self.view_is) (if_ok c.refused.result _ _ (λ replies k. refused_does _ (stand_of shown c.self.inside.catalog c.self.inside.txns opens) _ replies refusal k) c.refused.ensures)
+
+pub returns-in-Err-Refused-clause-unasked : goal.returns-in-Err-Refused-clause-unasked
+returns-in-Err-Refused-clause-unasked g c = rw (← c.self.view_is) c.change_rows.ensures.unasked
+
+pub returns-in-Err-NoMemory-clause-unasked : goal.returns-in-Err-NoMemory-clause-unasked
+returns-in-Err-NoMemory-clause-unasked g c = rw (← c.self.view_is) c.change_rows.ensures.unasked
+
+pub returns-clause-unasked : goal.returns-clause-unasked
+returns-clause-unasked g c = rw (← c.self.view_is) c.change_rows.ensures.unasked

@@ -1,0 +1,165 @@
+-- A search over what the session's transaction sees: it can be asked, and finds the rows that UPDATE and DELETE change.
+use Rattle.std.proofs.Common.{◌≡◌, ℕ, zero, suc, ◌+◌, ◌<◌, ◌≤◌, List, [], ◌∷◌, Bool, true, false, ◌&&◌, Option, Some, None, Ok, IfSome, refl, ap, sym, ◌∙◌, subst, inl, arith, length, nat_lt, nat_eq, if◌then◌else◌, cond}
+use Rattle.std.specs.List.{AllByRecursion, list_all}
+use Rattle.std.proofs.lemmas.Bool.Decides.{nat_tests}
+use Rattle.rv_value.specs.declared.record.Record.{Record}
+use Rattle.rv_rows.specs.declared.changes.Change.{Change}
+use Rattle.rv_rows.specs.Changes.{rows_with_changes}
+use Rattle.rv_restrict.specs.declared.atom.Atom.{Atom}
+use Rattle.rv_restrict.specs.Bind.{passes_home}
+use Rattle.rv_restrict.specs.Parts.{stands_among}
+use Rattle.rv_restrict.specs.Truth.{is_home, names_only, row_has}
+use Rattle.rv_restrict.proofs.Names.{names_weaker}
+use Rattle.rv_restrict.proofs.Tests.{and_both, and_left, and_right}
+use Rattle.rv_catalog.specs.declared.def.Goal.TheVariants.{TotalTime}
+use Rattle.rv_catalog.specs.declared.def.IndexDef.{IndexDef}
+use Rattle.rv_catalog.specs.declared.def.Select.{Select}
+use Rattle.rv_catalog.specs.Fits.{IsQueryOf, is_column, is_over_table}
+use Rattle.rv_catalog.specs.Schema.{Schema}
+use Rattle.rv_reader.specs.Shown.{Shown, CanRead}
+use Rattle.rv_reader.specs.Storing.{IsStored}
+use Rattle.rv_model.specs.declared.transactions.Transaction.{Transaction}
+use Rattle.rv_model.specs.declared.transactions.Transactions.{Transactions}
+use Rattle.rv_model.specs.Transactions.{met, transaction_at, transaction_of}
+use Rattle.rv_overlay.specs.declared.frozen.Frozen.{Frozen}
+use Rattle.rv_own.specs.Views.{Freezes}
+use Rattle.rv_txn.specs.Calls.{writing}
+use Rattle.rv_txn.specs.Changing.{CanChange}
+use Rattle.rv_txn.proofs.Halving.{writing_is}
+use Rattle.rv_choice.specs.declared.query.Query.{Query}
+use Rattle.rv_choice.specs.declared.query.Goal2.TheVariants.{TotalTime as Late}
+use Rattle.rv_choice.specs.Asked.{CanAsk, IsIndexOf}
+use Rattle.rv_final.specs.Rest.{qualifying}
+use Rattle.rv_search.specs.Named.{columns_named}
+use Rattle.rv_search.specs.Searching.{search_of}
+use Rattle.rv_search.proofs.Columns.{named_home, none_needed}
+use Rattle.rv_join.specs.declared.places.Asked.{Asked}
+use Rattle.rv_join.specs.Asking.{CanPlan, CanRun, CanRunItem, IsAsked, IsIndexAt, IsItem, by_index, have_column, indexes_from, item_at}
+use Rattle.rv_join.proofs.Running.{can_run}
+use Rattle.rv_cursor.specs.Left.{seen_at}
+use Rattle.rv_core.specs.Db.{IsTied, IsViewed}
+use Rattle.rv_core.proofs.Planning.{have_wide}
+use Rattle.rv_core.proofs.Plans.{plans}
+use Rattle.rv_core.proofs.Putting.{frozen_viewed}
+use Rattle.rv_core.proofs.Standing.{can_change}
+use Rattle.rv_core.proofs.Viewing.{have_viewed, own_have, seen_view}
+
+-- THE SESSION'S TRANSACTION, which may write.
+
+pub can_met : (shown : Shown) (schema : Schema) (txns : Transactions) (session table : ℕ) (only : List (List Atom)) (own : Transaction) → IsTied shown schema txns → table < length schema.tables → is_over_table schema.tables table only ≡ true → writing txns.active session ≡ Ok own → CanChange shown own table only
+can_met shown schema txns session table only own tied there over writes =
+    let w = writing_is txns session own writes in
+    let here : CanChange shown (transaction_at txns.active w.0) table only = subst (λ (o : Option ℕ). IfSome o (λ n. CanChange shown (transaction_at txns.active n) table only)) w.1 (can_change shown schema txns session table only tied there over) in
+    subst (λ (t : Transaction). CanChange shown t table only) w.2 here
+
+pub search_viewed : (shown : Shown) (schema : Schema) (txns : Transactions) (session : ℕ) (own : Transaction) (frozen : Option Frozen) → IsTied shown schema txns → writing txns.active session ≡ Ok own
+    → IfSome (transaction_of txns.active session) (λ n. Freezes shown (transaction_at txns.active n) frozen) → IfSome frozen (IsViewed shown txns.touched own.base)
+search_viewed shown schema txns session own frozen tied writes freezes =
+    let w = writing_is txns session own writes in
+    frozen_viewed shown schema txns session own.base w.0 frozen tied w.1 (ap (λ (t : Transaction). t.base) w.2) freezes
+
+pub search_freezes : (shown : Shown) (txns : Transactions) (session : ℕ) (own : Transaction) (frozen : Option Frozen) → writing txns.active session ≡ Ok own
+    → IfSome (transaction_of txns.active session) (λ n. Freezes shown (transaction_at txns.active n) frozen) → Freezes shown own frozen
+search_freezes shown txns session own frozen writes freezes =
+    let w = writing_is txns session own writes in
+    subst (λ (t : Transaction). Freezes shown t frozen) w.2 (subst (λ (o : Option ℕ). IfSome o (λ n. Freezes shown (transaction_at txns.active n) frozen)) w.1 freezes)
+
+-- what a search finds over what was frozen is what the transaction meets
+pub view_met : (shown : Shown) (t : Transaction) (frozen : Option Frozen) (table : ℕ) (only : List (List Atom)) → CanRead shown table t.base → Freezes shown t frozen → qualifying only ((seen_at shown t.base frozen).rows table t.base) ≡ met t table only (shown.rows table)
+view_met shown t None table only can none =
+    ap (qualifying only) (seen_view shown t.base table None can tt)
+    ∙ ap (λ (cs : List Change). qualifying only (rows_with_changes table cs (shown.rows table t.base))) (sym none)
+view_met shown t (Some f) table only can is =
+    ap (qualifying only) (seen_view shown t.base table (Some f) can is.base)
+    ∙ ap (λ (cs : List Change). qualifying only (rows_with_changes table cs (shown.rows table t.base))) is.changes
+
+-- THE SEARCH CAN BE ASKED. What is known of a plan over the whole table is known of its indexes.
+
+abbrev whole : ℕ → Select
+whole table = record { tables = table ∷ []; only = []; returns = []; order = []; goal = TotalTime }
+
+abbrev whole_asked : ℕ → ℕ → List IndexDef → Asked
+whole_asked table snap indexes = record { items = record { table = table; indexes = indexes_from table 0 indexes; need = []; order = [] } ∷ []; only = []; returns = []; order = []; goal = Late; snap = snap; cursor = 0; race = false }
+
+either_way : (b : Bool) (xs : List ℕ) → xs ≡ (if b then xs else xs)
+either_way true xs = refl
+either_way false xs = refl
+
+whole_item : (table snap : ℕ) (indexes : List IndexDef) (p : ℕ) → p < 1 → IsItem (whole table) indexes p (item_at (whole_asked table snap indexes) p)
+whole_item table snap indexes zero h = record { table = refl; over = refl; need = λ c. refl; order = either_way (nat_eq 0 0 && by_index (whole table) indexes) [] }
+whole_item table snap indexes (suc p) h = absurd (omega (arith, h))
+
+whole_is : (table snap : ℕ) (indexes : List IndexDef) → IsAsked (whole table) indexes snap 0 (whole_asked table snap indexes)
+whole_is table snap indexes = record {
+  count = refl;
+  items = λ p h. whole_item table snap indexes p h;
+  only = refl;
+  returns = refl;
+  order = refl;
+  goal = refl;
+  snap = refl;
+  cursor = refl;
+}
+
+whole_query : (schema : Schema) (table : ℕ) → table < length schema.tables → IsQueryOf schema (whole table)
+whole_query schema table there =
+    let low : nat_lt table (length schema.tables) ≡ true = grind (arith, nat_tests, there) in
+    record { joined = omega arith; there = and_both (nat_lt table (length schema.tables)) true low refl; only = refl; returns = refl; order = refl }
+
+-- each row has the columns that a restriction over the table names
+have_all : (columns : ℕ) (only : List (List Atom)) (rows : List Record) → names_only (passes_home (is_column columns)) only ≡ true → ((c : ℕ) → is_column columns c ≡ true → have_column c rows ≡ true) → list_all (λ (r : Record). names_only (row_has r.values) only) rows ≡ true
+have_all columns only [] named have = refl
+have_all columns only (r ∷ rows) named have =
+    and_both (names_only (row_has r.values) only) (list_all (λ (x : Record). names_only (row_has x.values) only) rows)
+    (names_weaker (passes_home (is_column columns)) (row_has r.values) (λ c h.
+    and_both (is_home c) (nat_lt c.column (length r.values)) (and_left (is_home c) (is_column columns c.column) h)
+    (and_left (nat_lt c.column (length r.values)) (have_column c.column rows) (have c.column (and_right (is_home c) (is_column columns c.column) h)))) only named)
+    (have_all columns only rows named (λ c low. and_right (nat_lt c (length r.values)) (have_column c rows) (have c low)))
+
+below : (c n : ℕ) → is_column n c ≡ true → c < n
+below c n h = grind (arith, nat_tests)
+
+seen_have : (shown : Shown) (touched : List (List ℕ)) (table snap c : ℕ) (frozen : Option Frozen) → IsStored shown → CanRead shown table snap → c < shown.columns table → IfSome frozen (IsViewed shown touched snap) → have_column c ((seen_at shown snap frozen).rows table snap) ≡ true
+seen_have shown touched table snap c None stored read low viewed =
+    subst (λ (rows : List Record). have_column c rows ≡ true) (sym (seen_view shown snap table None read tt))
+    (have_wide c (shown.columns table) (shown.rows table snap) (stored.wide table snap read) low)
+seen_have shown touched table snap c (Some f) stored read low viewed =
+    subst (λ (rows : List Record). have_column c rows ≡ true) (sym (seen_view shown snap table (Some f) read viewed.base))
+    (have_viewed table c f.changes (shown.rows table snap) (own_have shown touched table c f.changes low viewed.changes)
+    (have_wide c (shown.columns table) (shown.rows table snap) (stored.wide table snap read) low))
+
+indexes_asked : (query : Query) (shown : Shown) (is : List (ℕ × List ℕ)) → AllByRecursion (λ (i : ℕ × List ℕ). IsIndexAt shown query.table query.snap i.0 i.1) is → AllByRecursion (λ (i : ℕ × List ℕ). IsIndexOf query shown i.0 i.1) is
+indexes_asked query shown [] all = all
+indexes_asked query shown (i ∷ is) all = let here = all.0 in (record { can = here.can; some = here.some; few = here.few; different = here.different; entries = here.entries; cuts = here.cuts }, indexes_asked query shown is all.1)
+
+pub can_search : (shown : Shown) (schema : Schema) (txns : Transactions) (table snap : ℕ) (only : List (List Atom)) (frozen : Option Frozen) → IsTied shown schema txns → IsStored shown → CanRead shown table snap → table < length schema.tables → is_over_table schema.tables table only ≡ true → length schema.indexes ≤ 512
+    → IfSome frozen (IsViewed shown txns.touched snap) → CanAsk (search_of table snap only (indexes_from table 0 schema.indexes)) (seen_at shown snap frozen)
+can_search shown schema txns table snap only frozen tied stored read there over few viewed =
+    let seen = seen_at shown snap frozen in
+    let indexes = indexes_from table 0 schema.indexes in
+    let asked = whole_asked table snap schema.indexes in
+    let can : CanPlan (whole table) schema.indexes seen snap = plans shown schema txns (whole table) snap frozen schema.indexes tied stored read.snapshot (whole_query schema table there) (omega arith) refl few (stored.ascend table snap read, tt) viewed in
+    let run : CanRun asked seen = can_run (whole table) schema.indexes seen snap 0 asked can (whole_is table snap schema.indexes) in
+    let item : CanRunItem asked seen 0 = run.each 0 (omega arith) in
+    let named : names_only (passes_home (is_column (shown.columns table))) only ≡ true = rw (tied.columns table there) over in
+    record {
+      ascend = item.ascend;
+      read = item.read;
+      columns = have_all (shown.columns table) only (seen.rows table snap) named (λ c low. seen_have shown txns.touched table snap c frozen stored read (below c (shown.columns table) low) viewed);
+      few = item.few;
+      different = item.different;
+      indexes = indexes_asked (search_of table snap only indexes) seen indexes item.indexes;
+      named = named_home (is_column (shown.columns table)) only named;
+      ordered = inl refl;
+      needs = λ c h. none_needed c (stands_among (columns_named only) c) h;
+    }
+
+-- each index has at most four columns
+pub few_columns : (table number : ℕ) (ds : List IndexDef) → AllByRecursion (λ (d : IndexDef). (1 ≤ length d.columns) × (length d.columns ≤ 4)) ds → AllByRecursion (λ (i : ℕ × List ℕ). length i.1 ≤ 4) (indexes_from table number ds)
+few_columns table number [] all = tt
+few_columns table number (d ∷ ds) all =
+    let more = few_columns table (number + 1) ds all.1 in
+    elim (nat_eq d.table table) as (λ b. AllByRecursion (λ (i : ℕ × List ℕ). length i.1 ≤ 4) (cond b ((number, d.columns) ∷ indexes_from table (number + 1) ds) (indexes_from table (number + 1) ds))) [
+      | true ↦ (all.0.1, more)
+      | false ↦ more
+    ]

@@ -1,0 +1,4 @@
+pub mod Columns
+pub mod Fetching
+pub mod Gathering
+pub mod Sorted
