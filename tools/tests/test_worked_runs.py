@@ -28,7 +28,7 @@ class WorkedRuns(unittest.TestCase):
         return [str(path)]
 
     def test_the_model_passes(self):
-        self.assertEqual(self.counted(MODEL, "try_scripts", "try_traces"), (72, 0))
+        self.assertEqual(self.counted(MODEL, "try_scripts", "try_traces"), (75, 0))
 
     def test_the_model_over_the_plain_store_passes(self):
         runs = Runs([*MODEL, "--plain"])
