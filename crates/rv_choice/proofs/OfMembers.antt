@@ -1,6 +1,7 @@
 -- The members of a union: which branches have one, and which group serves first.
 use Rattle.std.proofs.Common.{◌≡◌, ℕ, zero, suc, ◌+◌, ◌<◌, ◌≤◌, List, [], ◌∷◌, ◌++◌, length, map, Bool, true, false, ◌&&◌, ◌||◌, nat_le, refl, ap, sym, ◌∙◌, arith, subst, append_assoc, append-nil, Some, None, Result, Ok, Err, IfOk}
 use Rattle.std.proofs.lemmas.Bool.Decides.{nat_tests}
+use Rattle.std.proofs.lemmas.List.{get_or_read_under}
 use Rattle.std.specs.List.{AllByRecursion, list_all, list_any, slice_index_or}
 use Rattle.rv_restrict.specs.declared.atom.Atom.{Atom}
 use Rattle.rv_restrict.specs.Branches.{branches_of, group_at}
@@ -49,11 +50,11 @@ pub unbounded : (query : Query) (shown : Shown) (branch : List (List Atom)) (cs 
 unbounded query shown branch cs e n = ap some_restricted (sym e) ∙ none_plays cs n
 
 -- the least one that is
-pub is_member : (query : Query) (shown : Shown) (branch : List (List Atom)) (cs : List Candidate) (at : ℕ) (plan : ScanPlan) → cs ≡ seen_by query shown branch → IsLeastOf Restricted cs (Some at) → plan ≡ plan_of branch (candidate_at cs at) → IsMember query shown branch plan
-is_member query shown branch cs at plan e l p = record {
+pub is_member : (query : Query) (shown : Shown) (branch : List (List Atom)) (cs : List Candidate) (at : ℕ) (c : Candidate) (plan : ScanPlan) → cs ≡ seen_by query shown branch → IsLeastOf Restricted cs (Some at) → c ≡ slice_index_or cs at c → plan ≡ plan_of branch c → IsMember query shown branch plan
+is_member query shown branch cs at c plan e l r p = record {
   at = at;
   least = subst (λ (xs : List Candidate). IsLeastOf Restricted xs (Some at)) e l;
-  is = p ∙ ap (λ (xs : List Candidate). plan_of branch (candidate_at xs at)) e;
+  is = p ∙ ap (plan_of branch) (get_or_read_under cs at (length cs) c no_candidate r l.below refl) ∙ ap (λ (xs : List Candidate). plan_of branch (candidate_at xs at)) e;
 }
 
 pub bounded : (query : Query) (shown : Shown) (branch : List (List Atom)) (plan : ScanPlan) → IsMember query shown branch plan → is_bounded query shown branch ≡ true

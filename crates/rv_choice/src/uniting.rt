@@ -73,11 +73,8 @@ fn members_of<R: Reader>(
         return Ok(None);
     }
     let mut found = Vec::new(alloc);
-    if add_members(alloc, reader, query, branches.as_slice(), &mut found)? {
-        Ok(Some(found))
-    } else {
-        Ok(None)
-    }
+    let all = add_members(alloc, reader, query, branches.as_slice(), &mut found)?;
+    if all { Ok(Some(found)) } else { Ok(None) }
 }
 
 /// The members of the first group that has two branches or more, each of which bounds an index; None where no group has.
