@@ -118,8 +118,8 @@ too_few query shown group bs e l = not_first (nat_le 2 (length (branches_of grou
     number n l = grind (arith, nat_tests)
 
 -- a branch without a member
-pub one_without : (query : Query) (shown : Shown) (group : List Atom) (bs : List (List (List Atom))) (old new : List ScanPlan) → bs ≡ branches_of group → AddsMembers query shown bs old new false → serves query shown group ≡ false
-one_without query shown group bs old new e a = not_second (nat_le 2 (length (branches_of group))) (list_all (is_bounded query shown) (branches_of group)) (ap (list_all (is_bounded query shown)) (sym e) ∙ a)
+pub one_without : (query : Query) (shown : Shown) (group : List Atom) (bs : List (List (List Atom))) → bs ≡ branches_of group → list_all (is_bounded query shown) bs ≡ false → serves query shown group ≡ false
+one_without query shown group bs e a = not_second (nat_le 2 (length (branches_of group))) (list_all (is_bounded query shown) (branches_of group)) (ap (list_all (is_bounded query shown)) (sym e) ∙ a)
 
 -- all have one
 pub group_members : (query : Query) (shown : Shown) (group : List Atom) (bs : List (List (List Atom))) (old new : List ScanPlan) → bs ≡ branches_of group → old ≡ [] → AddsMembers query shown bs old new true → AreMembers query shown (branches_of group) new

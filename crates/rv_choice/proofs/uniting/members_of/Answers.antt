@@ -15,4 +15,4 @@ pub returns-then-all-clause-some : goal.returns-then-all-clause-some
 returns-then-all-clause-some g c = group_members c.args.query.now (g.R.Reader.shown c.args.reader.now) (group_at c.args.query.now.only c.args.group) c.in_ok-branches.branches.items _ c.add_members.new.members.items c.in_ok-branches.ensures.branches c.new-found.ensures.items (rw (c.as_slice.ensures.value, c.if-all.true) at c.in_ok-all.ensures)
 
 pub returns-clause-none : goal.returns-clause-none
-returns-clause-none g c = λ none. one_without c.args.query.now (g.R.Reader.shown c.args.reader.now) (group_at c.args.query.now.only c.args.group) c.in_ok-branches.branches.items _ _ c.in_ok-branches.ensures.branches (rw (c.as_slice.ensures.value, c.if-all.false) at c.in_ok-all.ensures)
+returns-clause-none g c = λ none. one_without c.args.query.now (g.R.Reader.shown c.args.reader.now) (group_at c.args.query.now.only c.args.group) c.in_ok-branches.branches.items c.in_ok-branches.ensures.branches (rw (c.as_slice.ensures.value, c.if-all.false) at c.in_ok-all.ensures)
