@@ -1,4 +1,3 @@
-use Rattle.std.proofs.Common.{◌≡◌}
 use Rattle.rv_choice.proofs.OfMembers.{is_member, unbounded}
 use Rattle.rv_choice.proofs.uniting.member.Goals as goal
 

@@ -1,4 +1,4 @@
-use Rattle.std.proofs.Common.{◌≡◌, arith, []}
+use Rattle.std.proofs.Common.{arith}
 use Rattle.rv_restrict.specs.Branches.{group_at}
 use Rattle.rv_choice.proofs.OfMembers.{group_members, group_serves, one_without, too_few}
 use Rattle.rv_choice.proofs.uniting.members_of.Goals as goal
