@@ -22,7 +22,7 @@ use Rattle.rv_jscan.proofs.Parts.{Apart-run, has_append}
 use Rattle.rv_union.specs.Given.{Awaits}
 use Rattle.rv_union.specs.Rulings.{kept_of, lacks}
 use Rattle.rv_union.specs.Unioned.{AreMet, MembersFit, UnionFits, Unioned, ahead, builds, found, meets_any, owed, present}
-use Rattle.rv_union.proofs.Joins.{key_append}
+use Rattle.rv_keyset.proofs.Lists.{key_append}
 
 -- A member that begins.
 

@@ -1,4 +1,3 @@
-pub mod Joins
 pub mod Fits
 pub mod Switches
 pub mod Gives

@@ -1,4 +1,3 @@
-pub mod Joins
 pub mod Unioned
 pub mod Given
 pub mod Rulings

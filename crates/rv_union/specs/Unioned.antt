@@ -5,7 +5,7 @@ use Rattle.rv_value.specs.declared.record.Record.{Record}
 use Rattle.rv_value.specs.declared.record.IndexEntry.{IndexEntry}
 use Rattle.rv_rows.specs.Rows.{Ascend}
 use Rattle.rv_keys.specs.Keys.{has_key}
-use Rattle.rv_keylist.specs.Listed.{Listed}
+use Rattle.rv_keyset.specs.Sets.{AreApart}
 use Rattle.rv_judge.specs.declared.events.Control.{Control}
 use Rattle.rv_judge.specs.declared.events.Control.TheVariants.{Building, ForegroundAlone, BackgroundAlone, FinalList, FinalTable, Done}
 use Rattle.rv_judge.specs.declared.events.Trace.{Trace}
@@ -20,7 +20,6 @@ use Rattle.rv_jscan.specs.Entries.{Apart, has_entry}
 use Rattle.rv_jscan.specs.Joint.{CanMake, meets, passing, plan_at}
 use Rattle.rv_jscan.specs.Lanes.{LaneFits, Laned}
 use Rattle.rv_final.specs.Rest.{qualifies_at, rest_by}
-use Rattle.rv_union.specs.Joins.{AreApart}
 use Rattle.rv_final.specs.Stage.{LastFits, Unbegun, list_left, table_left}
 
 -- Everything that a union keeps. `plans` are its members, which never change; `member` is the position of the present one,
@@ -45,10 +44,9 @@ pub record Unioned : Type 0 where
   pub trace : Trace
 
 -- what holds of the parts alone: the present member adds only rows that the members before it had not
-pub record IsUnion (plans : List ScanPlan) (member : ℕ) (lane : Laned) (keys : Listed) : Type 0 where
+pub record IsUnion (plans : List ScanPlan) (member : ℕ) (lane : Laned) (keys : List ℕ) : Type 0 where
   pub there : member < length plans
-  pub finished : keys.finished ≡ true
-  pub new : AreApart keys.keys lane.building
+  pub new : AreApart keys lane.building
 
 -- the present member
 abbrev pub present : Unioned → ScanPlan

@@ -1,4 +1,4 @@
-ghost use Rattle.std.specs.Prelude.{◌≡◌, ◌+◌, ◌<◌, ◌≤◌, ◌++◌, ◌^◌, ℕ, List, Some, None, [], true, false, not, is_some, length, min, IfOk, IsPermutation, IsTrue, OnErr, OnOk, ◌↔◌};
+ghost use Rattle.std.specs.Prelude.{⊤, ◌≡◌, ◌+◌, ◌<◌, ◌≤◌, ◌++◌, ◌^◌, ℕ, List, Some, None, [], true, false, not, is_some, length, min, IfOk, IsPermutation, IsTrue, OnErr, OnOk, ◌↔◌};
 ghost use Rattle.std.specs.List.Sorted.{IsStrictlyIncreasing};
 ghost use Rattle.rv_judge.specs.Counting.{one_more, page_read, record_read};
 ghost use Rattle.rv_judge.specs.Runs.{Allowed};
@@ -19,11 +19,12 @@ ghost use Rattle.rv_union.specs.Rulings.{facts_of, forgotten, gone, has_next, in
 ghost use Rattle.rv_union.specs.Runs.{Tells, indexes_of};
 ghost use Rattle.rv_union.specs.Unioned.{UnionFits, present, rest, rows_of, scanning};
 
-use crate::joining::join_lane;
+use crate::joining::add_lane;
 use rv_final::Final;
 use rv_jscan::{Admits, Lane, Piece, PieceId, ScanCounts, ScanPlan, Sieved};
 use rv_judge::{Control, Counts, Event, Facts, Happening, Steps, Strategy, Trace, course, project};
 use rv_keylist::KeyList;
+use rv_keyset::KeySet;
 use rv_reader::Reader;
 use rv_restrict::Restriction;
 use rv_scan::Scanned;
@@ -49,7 +50,7 @@ pub struct Union {
     lane: Lane,
     count: ScanCounts,
     number: u64,
-    keys: KeyList,
+    keys: KeySet,
     control: Control,
     guaranteed: u64,
     ending: Final,
@@ -63,17 +64,17 @@ impl Model for Union {
 
     ghost view = { λ u. record { table = u.table; snap = u.snap; cursor = u.cursor; opening = u.opening; only = u.only; plans = u.plans.items; member = u.member; lane = u.lane; count = u.count; number = u.number; keys = u.keys.keys; control = u.control; guaranteed = u.guaranteed; at = u.ending.at; last = u.ending.last; trace = u.trace } };
 
-    ghost invariant = { λ u. IsUnion u.plans.items u.member u.lane u.keys };
+    ghost invariant = { λ u. IsUnion u.plans.items u.member u.lane u.keys.keys };
 }
 
-/// The rows that a finished list has not.
+/// The rows that a set has not.
 #[derive(Clone, Copy)]
 struct Lacking<'a> {
-    keys: &'a KeyList,
+    keys: &'a KeySet,
 }
 
 impl<'a> Admits for Lacking<'a> {
-    ghost ready = { λ lacking. lacking.keys.now.finished ≡ true };
+    ghost ready = { λ lacking. ⊤ };
 
     ghost admits = { λ lacking. lacks lacking.keys.now.keys };
 
@@ -88,15 +89,6 @@ fn plan_in(plans: &Vec<ScanPlan>, at: usize) -> &ScanPlan
     ensures { result.now ≡ plan_at plans.now.items at }
 {
     &plans[at]
-}
-
-/// A finished list without keys. It takes no memory.
-fn no_keys(alloc: Global) -> KeyList
-    ensures { result ≡ record { keys = []; spare = 0; finished = true } }
-{
-    let mut keys = KeyList::new(alloc);
-    keys.finish();
-    keys
 }
 
 fn nothing_counted() -> ScanCounts
@@ -145,7 +137,7 @@ fn was_begun(events: &[Event], index: u32) -> bool
 }
 
 impl Union {
-    /// A union before its first piece, over a table of so many pages.
+    /// A union before its first piece, without keys, over a table of so many pages.
     fn make(
         alloc: Global,
         table: u32,
@@ -155,8 +147,10 @@ impl Union {
         cursor: u64,
         opening: u64,
         pages: u32,
+        keys: KeySet,
     ) -> Union
-        requires { 1 ≤ length members.items }
+        requires some { 1 ≤ length members.items }
+        requires none { keys.keys ≡ [] }
         ensures { Opened table snap only members.items cursor opening pages result }
     {
         let first = plan_in(&members, 0).index;
@@ -176,7 +170,7 @@ impl Union {
             lane: Lane::new(alloc),
             count: nothing_counted(),
             number: 1,
-            keys: no_keys(alloc),
+            keys,
             control: Control::BackgroundAlone,
             guaranteed: u64::from(pages),
             ending,
@@ -185,8 +179,8 @@ impl Union {
     }
 
     /// Opens a union of members over at most eight indexes: one for each branch of a group of the restriction, with the
-    /// range and the part that the branch has for its index. It reads nothing and takes no memory. `cursor` and `opening` go
-    /// into the ids of its pieces.
+    /// range and the part that the branch has for its index. It reads nothing. `cursor` and `opening` go into the ids of its
+    /// pieces. `NoMemory` comes where there is no room for the places of its keys.
     pub fn open<R: Reader>(
         alloc: Global,
         reader: &R,
@@ -209,7 +203,10 @@ impl Union {
         ensures reads { _steps.new ≡ _steps.old }
     {
         let pages = reader.sizes(table, snap).pages;
-        Ok(Union::make(alloc, table, snap, only, members, cursor, opening, pages))
+        let keys = KeySet::new(alloc)?;
+        Ok(Union::make(
+            alloc, table, snap, only, members, cursor, opening, pages, keys,
+        ))
     }
 
     /// Which sides run.
@@ -473,9 +470,9 @@ impl Union {
         ensures built { IsPermutation (self.old.keys ++ self.old.lane.building) self.new.keys }
         ensures ascend { IsStrictlyIncreasing self.new.keys }
     {
+        let last = !self.has_next();
         let lane = mem::replace(&mut self.lane, Lane::new(self.alloc));
-        let keys = join_lane(room, &self.keys, lane);
-        let _before = mem::replace(&mut self.keys, keys);
+        add_lane(&mut self.keys, room, lane, last);
     }
 
     /// The next member is the present one.
@@ -491,7 +488,7 @@ impl Union {
     pub(crate) fn forget(&mut self)
         ensures { self.new ≡ forgotten self.old }
     {
-        let _keys = mem::replace(&mut self.keys, no_keys(self.alloc));
+        self.keys.clear();
         let _lane = mem::replace(&mut self.lane, Lane::new(self.alloc));
     }
 
@@ -511,12 +508,13 @@ impl Union {
         ensures falls { IfOk result (λ s. Falls s steps.old steps.new (keys_work self.old) (keys_work self.new)) }
         ensures records { IfOk result (λ s. steps.new.records + keys_work self.new ≤ steps.old.records + keys_work self.old) }
     {
+        self.keys.gather()?;
         self.ending.list_step(
             reader,
             self.table,
             self.snap,
             &self.only,
-            Some(&self.keys),
+            Some(self.keys.list()),
             None,
             steps,
         )

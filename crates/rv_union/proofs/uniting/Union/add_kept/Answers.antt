@@ -1,6 +1,6 @@
 use Rattle.std.proofs.Common.{subst, sym}
 use Rattle.rv_jscan.specs.Lanes.{Laned}
-use Rattle.rv_union.specs.Joins.{AreApart}
+use Rattle.rv_keyset.specs.Sets.{AreApart}
 use Rattle.rv_union.proofs.Lanes.{kept_apart}
 use Rattle.rv_union.proofs.uniting.Union.add_kept.Goals as goal
 
@@ -9,6 +9,5 @@ invariant_of-self-2 c =
     let u = c.self.inside in
     record {
       there = c.self.invariant.there;
-      finished = c.self.invariant.finished;
       new = subst (λ (l : Laned). AreApart u.keys.keys l.building) (sym c.in_ok-_last.ensures.ok) (kept_apart u.keys.keys u.lane.building c.args.sieved.now.part c.args.sieved.now.entries c.self.invariant.new);
     }
