@@ -11,7 +11,7 @@ use Rattle.rv_judge.specs.declared.counting.Counts.{Counts}
 use Rattle.rv_judge.specs.declared.events.Control.{Control}
 use Rattle.rv_judge.specs.declared.events.Control.TheVariants.{Building}
 use Rattle.rv_judge.specs.declared.events.Strategy.{Strategy}
-use Rattle.rv_judge.specs.declared.events.Strategy.TheVariants.{Table, BackgroundOnly, FastFirst}
+use Rattle.rv_judge.specs.declared.events.Strategy.TheVariants.{Table, BackgroundOnly, FastFirst, Union}
 use Rattle.rv_judge.specs.declared.judging.Facts.{Facts}
 use Rattle.rv_judge.specs.Verdicts.{Ruling}
 use Rattle.rv_restrict.specs.Truth.{qualifies}
@@ -117,10 +117,11 @@ fast_behind (Ok s) would state after shown c d v mid new ec es e f none b =
     subst (λ (k : Kind). DoesAs k would state after shown c d s v new) (sym kind) (b.0, passed_first would state after v mid new e f b.1)
 
 -- a step while both sides run, of a strategy whose foreground gives nothing, is a background step
-background_kind : (control : Control) (strategy : Strategy) (fresh : Option ℕ) → control ≡ Building → (strategy ≡ Table) ⊎ (strategy ≡ BackgroundOnly) → kind_of control strategy fresh ≡ Piece
+background_kind : (control : Control) (strategy : Strategy) (fresh : Option ℕ) → control ≡ Building → (strategy ≡ Table) ⊎ ((strategy ≡ BackgroundOnly) ⊎ (strategy ≡ Union)) → kind_of control strategy fresh ≡ Piece
 background_kind control strategy fresh both (inl table) = rw (both, table) refl
-background_kind control strategy fresh both (inr alone) = rw (both, alone) refl
+background_kind control strategy fresh both (inr (inl alone)) = rw (both, alone) refl
+background_kind control strategy fresh both (inr (inr union)) = rw (both, union) refl
 
-pub piece_does : {E : Type 0} (r : Result Scanned E) (would : ℕ → Facts → Ruling) (state after : ℕ) (shown : Shown) (c d : Counts) (old new : Shape) → old.control ≡ Building → (old.strategy ≡ Table) ⊎ (old.strategy ≡ BackgroundOnly) → IfOk r (λ s. (s ≡ Working) × StepsBackground would state after old new) → IfOk r (λ s. DoesIts would state after shown c d s old new)
+pub piece_does : {E : Type 0} (r : Result Scanned E) (would : ℕ → Facts → Ruling) (state after : ℕ) (shown : Shown) (c d : Counts) (old new : Shape) → old.control ≡ Building → (old.strategy ≡ Table) ⊎ ((old.strategy ≡ BackgroundOnly) ⊎ (old.strategy ≡ Union)) → IfOk r (λ s. (s ≡ Working) × StepsBackground would state after old new) → IfOk r (λ s. DoesIts would state after shown c d s old new)
 piece_does (Ok s) would state after shown c d old new both which h = subst (λ (k : Kind). DoesAs k would state after shown c d s old new) (sym (background_kind old.control old.strategy (fresh_of old) both which)) h
 piece_does (Err e) would state after shown c d old new both which h = tt
