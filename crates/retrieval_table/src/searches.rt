@@ -20,6 +20,7 @@ const THREE: Asked = Asked {
     first: Some(Span { low: 20, high: 22 }),
     second: None,
     third: None,
+    either: None,
     uses: [true, false, false, false],
     whole: false,
     sorted: false,

@@ -1,18 +1,21 @@
 -- What SHOW answers has the names of indexes of the schema.
-use Rattle.std.proofs.Common.{◌≡◌, ℕ, ◌+◌, ◌∷◌, ◌++◌, [], List, Option, Some, None, Bool, true, false, ◌&&◌, ◌||◌, refl, sym, ◌∙◌, subst, length, nat_eq, if◌then◌else◌, arith}
+use Rattle.std.proofs.Common.{◌≡◌, ℕ, ◌+◌, ◌∷◌, ◌++◌, [], List, Option, Some, None, Bool, true, false, ◌&&◌, ◌||◌, refl, sym, ◌∙◌, subst, length, map, nat_eq, if◌then◌else◌, arith}
 use Rattle.std.proofs.lemmas.Bool.Decides.{nat_tests}
 use Rattle.std.proofs.Math.Seq.{get_or-append_seam}
 use Rattle.std.specs.Prelude.{IfSome}
 use Rattle.std.specs.List.{AllByRecursion, slice_index_or, list_all}
 use Rattle.rv_judge.specs.declared.events.Strategy.{Strategy}
+use Rattle.rv_judge.specs.declared.events.Strategy.TheVariants.{Table, BackgroundOnly, FastFirst, Sorted, IndexOnly, Union}
 use Rattle.rv_judge.specs.declared.events.Control.{Control}
 use Rattle.rv_judge.specs.declared.events.Event.{Event}
 use Rattle.rv_judge.specs.declared.events.Event.TheVariants as events
+use Rattle.rv_judge.specs.declared.events.Trace.{Trace}
 use Rattle.rv_judge.specs.declared.events.Happening.{Happening}
 use Rattle.rv_judge.specs.declared.events.Happening.TheVariants.{ScanEnded, Ruled, Full, FrontEnded, FinalEnded}
 use Rattle.rv_judge.specs.declared.judging.Verdict.TheVariants.{Continue, AbandonScan, AbandonForeground, AbandonBackground}
 use Rattle.rv_judge.specs.Course.{has_row, next_control, scan_over_more}
-use Rattle.rv_judge.specs.Runs.{Standing, Turn, after, begun, events_of, first_control, has_index, idle, led_events, listed_after, moved, own_events, run_events, scan_events, scans, start, start_events}
+use Rattle.rv_judge.specs.Runs.{Allowed, AllowedBy, AllowedRun, AllowedUnion, Standing, Turn, UnionTail, after, begun, events_of, first_control, has_index, idle, led_events, listed_after, moved, own_events, run_events, scan_events, scans, start, start_events, tail_among, tail_events}
+use Rattle.rv_judge.specs.Runs.UnionTail.{Scanning, Fetching, Fetched, Reading, Read}
 use Rattle.rv_lang.specs.declared.reply.Shown.{Shown}
 use Rattle.rv_catalog.specs.declared.def.IndexDef.{IndexDef}
 use Rattle.rv_model.specs.Database.{index_at, no_index}
@@ -150,16 +153,48 @@ named_plain indexes (events.Drop i) p = p
 named_plain indexes events.Full p = tt
 named_plain indexes events.Stop p = tt
 
+run_plain : (P : ℕ → Type 0) (trace : Trace) (indexes : List ℕ) → AllByRecursion P indexes → AllowedRun trace indexes → AllByRecursion (OfEvent P) trace.events.items
+run_plain P trace indexes h a =
+    let begins = start_of P trace.strategy a.planned (known_all P indexes a.planned h a.known) in
+    subst (AllByRecursion (OfEvent P)) (sym a.told) (all_append (OfEvent P) (start_events trace.strategy a.planned)
+    (run_events trace.strategy (start trace.strategy a.planned) a.turns)
+    (tt, scan_of P (start trace.strategy a.planned).scan begins.0)
+    (run_of P trace.strategy (start trace.strategy a.planned) a.turns begins))
+
+scans_of : (P : ℕ → Type 0) (begun : List ℕ) → AllByRecursion P begun → AllByRecursion (OfEvent P) (map (λ (i : ℕ). events.Scan i) begun)
+scans_of P [] h = tt
+scans_of P (i ∷ begun) h = (h.0, scans_of P begun h.1)
+
+tail_of : (P : ℕ → Type 0) (tail : UnionTail) (begun : List ℕ) → AllByRecursion P begun → tail_among tail begun ≡ true → AllByRecursion (OfEvent P) (tail_events tail)
+tail_of P Scanning begun h e = tt
+tail_of P (Fetching i keys) begun h e = (known_one P i begun h e, (tt, tt))
+tail_of P (Fetched i keys) begun h e = (known_one P i begun h e, (tt, (tt, tt)))
+tail_of P (Reading i) begun h e = (known_one P i begun h e, (tt, tt))
+tail_of P (Read i) begun h e = (known_one P i begun h e, (tt, (tt, tt)))
+
+union_plain : (P : ℕ → Type 0) (trace : Trace) (indexes : List ℕ) → AllByRecursion P indexes → AllowedUnion trace indexes → AllByRecursion (OfEvent P) trace.events.items
+union_plain P trace indexes h a =
+    let begun_are = known_all P indexes a.begun h a.known in
+    subst (AllByRecursion (OfEvent P)) (sym a.told) (
+      tt,
+      all_append (OfEvent P) (map (λ (i : ℕ). events.Scan i) a.begun) (tail_events a.tail)
+          (scans_of P a.begun begun_are) (tail_of P a.tail a.begun begun_are a.among),
+    )
+
+trace_plain : (P : ℕ → Type 0) (trace : Trace) (indexes : List ℕ) → AllByRecursion P indexes → Allowed trace indexes → AllByRecursion (OfEvent P) trace.events.items
+trace_plain P trace indexes h a = by trace.strategy a
+  where
+    by : (st : Strategy) → AllowedBy st trace indexes → AllByRecursion (OfEvent P) trace.events.items
+    by Table a = run_plain P trace indexes h a
+    by BackgroundOnly a = run_plain P trace indexes h a
+    by FastFirst a = run_plain P trace indexes h a
+    by Sorted a = run_plain P trace indexes h a
+    by IndexOnly a = run_plain P trace indexes h a
+    by Union a = union_plain P trace indexes h a
+
 pub shown_plain : (indexes : List IndexDef) (table : ℕ) (shown : Shown) → AllByRecursion IsPlainIndex indexes → ShowsTrace indexes table shown
     → AllByRecursion IsPlainEvent shown.events
 shown_plain indexes table shown h shows =
-    let P : ℕ → Type 0 = IsPlainNumber indexes in
-    let planned = known_all P (numbers_over table 0 indexes) shows.allowed.planned (numbers_plain indexes table indexes [] 0 refl refl h) shows.allowed.known in
-    let begins = start_of P shows.trace.strategy shows.allowed.planned planned in
-    let all = all_append (OfEvent P) (start_events shows.trace.strategy shows.allowed.planned)
-    (run_events shows.trace.strategy (start shows.trace.strategy shows.allowed.planned) shows.allowed.turns)
-    (tt, scan_of P (start shows.trace.strategy shows.allowed.planned).scan begins.0)
-    (run_of P shows.trace.strategy (start shows.trace.strategy shows.allowed.planned) shows.allowed.turns begins) in
     subst (λ (t : Shown). AllByRecursion IsPlainEvent t.events) (sym shows.names)
-    (all_map (OfEvent P) IsPlainEvent (shown_event indexes) (named_plain indexes) shows.trace.events.items
-    (subst (AllByRecursion (OfEvent P)) (sym shows.allowed.told) all))
+    (all_map (OfEvent (IsPlainNumber indexes)) IsPlainEvent (shown_event indexes) (named_plain indexes) shows.trace.events.items
+    (trace_plain (IsPlainNumber indexes) shows.trace (numbers_over table 0 indexes) (numbers_plain indexes table indexes [] 0 refl refl h) shows.allowed))

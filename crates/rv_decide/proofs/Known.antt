@@ -105,14 +105,17 @@ ends_known indexes c (Drop i ∷ es) h = no_way (sym h)
 ends_known indexes c (FullEvent ∷ es) h = no_way (sym h)
 ends_known indexes c (Stop ∷ es) h = no_way (sym h)
 
+-- an index is this one, or one whose scan begins behind
+begun_step : (indexes : List ℕ) (i j : ℕ) (behind b : Bool) → nat_eq j i ≡ b → (b || behind) ≡ true → has_index j indexes ≡ true → (behind ≡ true → has_index i indexes ≡ true) → has_index i indexes ≡ true
+begun_step indexes i j behind true same h known more = subst (λ (n : ℕ). has_index n indexes ≡ true) (number_is j i same) known
+begun_step indexes i j behind false same h known more = more h
+
 -- an index whose scan some event begins is known
 begun_known : (indexes : List ℕ) (i : ℕ) (es : List Event) → list_all (is_known indexes) es ≡ true → list_any (begins_scan i) es ≡ true → has_index i indexes ≡ true
 begun_known indexes i [] all h = no_way (sym h)
-begun_known indexes i (Scan j ∷ es) all h = by (nat_eq j i) refl h
-  where
-    by : (b : Bool) → nat_eq j i ≡ b → (b || list_any (begins_scan i) es) ≡ true → has_index i indexes ≡ true
-    by true same h = subst (λ (n : ℕ). has_index n indexes ≡ true) (number_is j i same) (left_true _ _ all)
-    by false same h = begun_known indexes i es (right_true (has_index j indexes) _ all) h
+begun_known indexes i (Scan j ∷ es) all h =
+    begun_step indexes i j (list_any (begins_scan i) es) (nat_eq j i) refl h (left_true _ _ all)
+    (λ (behind : list_any (begins_scan i) es ≡ true). begun_known indexes i es (right_true (has_index j indexes) _ all) behind)
 begun_known indexes i (At to ∷ es) all h = begun_known indexes i es all h
 begun_known indexes i (ListOf k keys ∷ es) all h = begun_known indexes i es all h
 begun_known indexes i (Drop k ∷ es) all h = begun_known indexes i es all h
