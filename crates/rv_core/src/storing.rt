@@ -26,6 +26,7 @@ ghost use Rattle.rv_model.specs.Step.{row_alone, rows_alone};
 ghost use Rattle.rv_core.specs.Storing.{CommitsTo, changed_alone, changed_over, inserted_alone, lone_over};
 
 use rv_catalog::{Catalog, IndexDef, TableDef};
+use rv_join::indexes_over;
 use rv_judge::{Judge, Steps, Uncounted};
 use rv_model::Transaction;
 use rv_own::Views;
@@ -233,42 +234,6 @@ pub fn insert_row<S: Store + Reader<Ledger = Uncounted>>(
     }
 }
 
-/// Adds the indexes over a table, each with its number, of which the first is given.
-fn add_indexes(
-    alloc: Global,
-    table: u32,
-    number: u32,
-    indexes: &[IndexDef],
-    found: &mut Vec<(u32, Items<u32>)>,
-) -> Result<(), NoMemory>
-    requires { number + length indexes.now < 2 ^ 32 }
-    ensures { OnOk result (found.new.items ≡ found.old.items ++ indexes_from table number indexes.now) }
-{
-    match indexes {
-        [] => Ok(()),
-        [index, more @ ..] => {
-            if index.table == table {
-                found.push((number, index.columns.copy(alloc)?))?;
-            }
-            add_indexes(alloc, table, number + 1, more, found)
-        }
-    }
-}
-
-/// The indexes over a table in order of creation, each with its number, which is its position, and its columns.
-fn indexes_of(
-    alloc: Global,
-    table: u32,
-    indexes: &[IndexDef],
-) -> Result<Items<(u32, Items<u32>)>, NoMemory>
-    requires { length indexes.now < 2 ^ 32 }
-    ensures { IfOk result (λ found. found ≡ indexes_from table 0 indexes.now) }
-{
-    let mut found = Vec::new(alloc);
-    add_indexes(alloc, table, 0, indexes, &mut found)?;
-    Ok(Items::from_vec(found))
-}
-
 /// The rows of a table at a snapshot for which WHERE is True, found by a search, with a transaction's view laid over the
 /// snapshot where one is given.
 fn rows_seen<R: Reader>(
@@ -361,7 +326,7 @@ fn met_by<S: Store + Reader<Ledger = Uncounted>>(
 {
     // What a store tells with its newest commit holds of its indexes.
     let _newest = store.last();
-    let indexes = indexes_of(alloc, table, catalog.indexes())?;
+    let indexes = indexes_over(alloc, table, catalog.indexes())?;
     let searched = any_narrows(alloc, only, indexes.as_slice())?;
     if searched {
         searched_rows(

@@ -9,4 +9,5 @@ mod plan;
 mod stack;
 mod steps;
 
+pub use places::indexes_over;
 pub use plan::{Plan, PlanStep};

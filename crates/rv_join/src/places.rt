@@ -194,7 +194,8 @@ fn add_indexes(
     }
 }
 
-fn indexes_over(
+/// The indexes over a table in order of creation, each with its number, which is its position, and its columns.
+pub fn indexes_over(
     alloc: Global,
     table: u32,
     indexes: &[IndexDef],
