@@ -315,29 +315,29 @@ chosen_of : (query : Query) (shown : Shown) (choice : Choice) (order : List ℕ)
 chosen_of query shown choice order cs o e chosen = subst (λ (xs : List Candidate). IsChosen query.order query.goal xs choice) e (subst (λ (xs : List ℕ). IsChosen xs query.goal cs choice) o chosen)
 
 -- the same where it is used by a call on what was chosen
-pub chosen_for : (query : Query) (choice : Choice) (order : List ℕ) (cs : List Candidate) → order ≡ query.order → IsChosen order query.goal cs choice → IsChosen query.order query.goal cs choice
-chosen_for query choice order cs o chosen = subst (λ (xs : List ℕ). IsChosen xs query.goal cs choice) o chosen
+pub chosen_for : (query : Query) (choice : Choice) (order : List ℕ) (cs ds : List Candidate) → order ≡ query.order → cs ≡ ds → IsChosen order query.goal cs choice → IsChosen query.order query.goal ds choice
+chosen_for query choice order cs ds o e chosen = subst (λ (xs : List Candidate). IsChosen query.order query.goal xs choice) e (subst (λ (xs : List ℕ). IsChosen xs query.goal cs choice) o chosen)
 
-pub can_race_so : (race : Bool) (choice : Choice) (cs : List Candidate) → (race && races choice cs) ≡ true → races choice cs ≡ true
-can_race_so race choice cs h = right_true race (races choice cs) h
+pub can_race_so : (race : Bool) (choice : Choice) (cs ds : List Candidate) → cs ≡ ds → (race && races choice cs) ≡ true → races choice ds ≡ true
+can_race_so race choice cs ds e h = subst (λ (xs : List Candidate). races choice xs ≡ true) e (right_true race (races choice cs) h)
 
 -- a race was asked, and runs
-pub raced : {E : Type 0} (r : Result Access E) (race : Bool) (query : Query) (shown : Shown) (cursor opening : ℕ) (choice : Choice) (order : List ℕ) (cs : List Candidate) → order ≡ query.order → cs ≡ candidates_of query shown → IsChosen order query.goal cs choice → (race && races choice cs) ≡ true → IfOk r (Races query shown cursor opening choice) → IfOk r (Opened race query shown cursor opening)
-raced (Ok a) race query shown cursor opening choice order cs o e chosen can is = record {
+pub raced : {E : Type 0} (r : Result Access E) (race : Bool) (query : Query) (shown : Shown) (cursor opening : ℕ) (choice : Choice) (order : List ℕ) (cs ds : List Candidate) → order ≡ query.order → cs ≡ candidates_of query shown → ds ≡ candidates_of query shown → IsChosen order query.goal cs choice → (race && races choice ds) ≡ true → IfOk r (Races query shown cursor opening choice) → IfOk r (Opened race query shown cursor opening)
+raced (Ok a) race query shown cursor opening choice order cs ds o e f chosen can is = record {
   choice = choice;
   chosen = chosen_of query shown choice order cs o e chosen;
-  opened = subst (λ (b : Bool). OpenedBy b (unites query shown choice) query shown cursor opening choice a) (sym (sym (ap (λ (xs : List Candidate). race && races choice xs) e) ∙ can)) is;
+  opened = subst (λ (b : Bool). OpenedBy b (unites query shown choice) query shown cursor opening choice a) (sym (sym (ap (λ (xs : List Candidate). race && races choice xs) f) ∙ can)) is;
 }
-raced (Err x) race query shown cursor opening choice order cs o e chosen can is = tt
+raced (Err x) race query shown cursor opening choice order cs ds o e f chosen can is = tt
 
 -- none runs
-pub unraced : {E : Type 0} (r : Result Access E) (race : Bool) (query : Query) (shown : Shown) (cursor opening : ℕ) (choice : Choice) (order : List ℕ) (cs : List Candidate) → order ≡ query.order → cs ≡ candidates_of query shown → IsChosen order query.goal cs choice → (race && races choice cs) ≡ false → IfOk r (OpenedBy false (unites query shown choice) query shown cursor opening choice) → IfOk r (Opened race query shown cursor opening)
-unraced (Ok a) race query shown cursor opening choice order cs o e chosen none is = record {
+pub unraced : {E : Type 0} (r : Result Access E) (race : Bool) (query : Query) (shown : Shown) (cursor opening : ℕ) (choice : Choice) (order : List ℕ) (cs ds : List Candidate) → order ≡ query.order → cs ≡ candidates_of query shown → ds ≡ candidates_of query shown → IsChosen order query.goal cs choice → (race && races choice ds) ≡ false → IfOk r (OpenedBy false (unites query shown choice) query shown cursor opening choice) → IfOk r (Opened race query shown cursor opening)
+unraced (Ok a) race query shown cursor opening choice order cs ds o e f chosen none is = record {
   choice = choice;
   chosen = chosen_of query shown choice order cs o e chosen;
-  opened = subst (λ (b : Bool). OpenedBy b (unites query shown choice) query shown cursor opening choice a) (sym (sym (ap (λ (xs : List Candidate). race && races choice xs) e) ∙ none)) is;
+  opened = subst (λ (b : Bool). OpenedBy b (unites query shown choice) query shown cursor opening choice a) (sym (sym (ap (λ (xs : List Candidate). race && races choice xs) f) ∙ none)) is;
 }
-unraced (Err x) race query shown cursor opening choice order cs o e chosen none is = tt
+unraced (Err x) race query shown cursor opening choice order cs ds o e f chosen none is = tt
 
 -- a union was opened, or none
 
