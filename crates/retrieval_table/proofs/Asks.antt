@@ -111,16 +111,15 @@ group_named p column (Some s) h = and_true (group_names_only p (span_atoms colum
 either_named : (p : ColRef → Bool) (either : Option Either) → p (record { place = 0; column = 0 }) ≡ true → p (record { place = 0; column = 1 }) ≡ true → p (record { place = 0; column = 2 }) ≡ true → names_only p (either_group either) ≡ true
 either_named p None f s t = refl
 either_named p (Some e) f s t =
-    let again = atom_named p 0 e.again f in
-    let third = atoms_more p (span_atoms 2 e.third) (span_atoms 0 e.again) (atom_named p 2 e.third t) again in
-    let second = atoms_more p (span_atoms 1 e.second) (span_atoms 2 e.third ++ span_atoms 0 e.again) (atom_named p 1 e.second s) third in
-    and_true (group_names_only p (either_atoms e)) ∙ atoms_more p (span_atoms 0 e.first) (span_atoms 1 e.second ++ span_atoms 2 e.third ++ span_atoms 0 e.again) (atom_named p 0 e.first f) second
+    let two = atoms_more p (span_atoms 0 e.first) (span_atoms 1 e.second) (atom_named p 0 e.first f) (atom_named p 1 e.second s) in
+    let three = atoms_more p (span_atoms 0 e.first ++ span_atoms 1 e.second) (span_atoms 2 e.third) two (atom_named p 2 e.third t) in
+    and_true (group_names_only p (either_atoms e)) ∙ atoms_more p (span_atoms 0 e.first ++ span_atoms 1 e.second ++ span_atoms 2 e.third) (span_atoms 0 e.again) three (atom_named p 0 e.again f)
 
 spans_pass : (p : ColRef → Bool) (first second third : Option Span) (either : Option Either) → p (record { place = 0; column = 0 }) ≡ true → p (record { place = 0; column = 1 }) ≡ true → p (record { place = 0; column = 2 }) ≡ true → names_only p (span_group 0 first ++ span_group 1 second ++ span_group 2 third ++ either_group either) ≡ true
 spans_pass p first second third either f s t =
-    let behind = groups_more p (span_group 2 third) (either_group either) (group_named p 2 third t) (either_named p either f s t) in
-    let more = groups_more p (span_group 1 second) (span_group 2 third ++ either_group either) (group_named p 1 second s) behind in
-    groups_more p (span_group 0 first) (span_group 1 second ++ span_group 2 third ++ either_group either) (group_named p 0 first f) more
+    let two = groups_more p (span_group 0 first) (span_group 1 second) (group_named p 0 first f) (group_named p 1 second s) in
+    let three = groups_more p (span_group 0 first ++ span_group 1 second) (span_group 2 third) two (group_named p 2 third t) in
+    groups_more p (span_group 0 first ++ span_group 1 second ++ span_group 2 third) (either_group either) three (either_named p either f s t)
 
 pub asked_columns : (asked : Asked) (only : List (List Atom)) → only ≡ spans_of asked → names_only is_column only ≡ true
 asked_columns asked only is = rw is (spans_pass is_column asked.first asked.second asked.third asked.either refl refl refl)
@@ -129,7 +128,10 @@ spans_named : (whole : Bool) (first second third : Option Span) (either : Option
 spans_named true first second third either = spans_pass (passes_home (stands_among (0 ∷ 1 ∷ 2 ∷ []))) first second third either refl refl refl
 spans_named false first (Some s) third either = spans_pass (passes_home (stands_among (0 ∷ 1 ∷ 2 ∷ []))) first (Some s) third either refl refl refl
 spans_named false first None third (Some e) = spans_pass (passes_home (stands_among (0 ∷ 1 ∷ 2 ∷ []))) first None third (Some e) refl refl refl
-spans_named false first None third None = groups_more (passes_home (stands_among (0 ∷ 2 ∷ []))) (span_group 0 first) (span_group 2 third ++ []) (group_named (passes_home (stands_among (0 ∷ 2 ∷ []))) 0 first refl) (groups_more (passes_home (stands_among (0 ∷ 2 ∷ []))) (span_group 2 third) [] (group_named (passes_home (stands_among (0 ∷ 2 ∷ []))) 2 third refl) refl)
+spans_named false first None third None =
+    let named = passes_home (stands_among (0 ∷ 2 ∷ [])) in
+    let one = groups_more named (span_group 0 first) [] (group_named named 0 first refl) refl in
+    groups_more named (span_group 0 first ++ [] ++ span_group 2 third) [] (groups_more named (span_group 0 first ++ []) (span_group 2 third) one (group_named named 2 third refl)) refl
 
 asked_named : (asked : Asked) (only : List (List Atom)) (need : List ℕ) → only ≡ spans_of asked → need ≡ needed asked → names_only (passes_home (stands_among need)) only ≡ true
 asked_named asked only need is all = rw (is, all) (spans_named asked.whole asked.first asked.second asked.third asked.either)
