@@ -161,7 +161,7 @@ pub fn keep_change<R: Reader<Ledger = Uncounted>>(
     keep_size(
         &mut frozen.sizes,
         written,
-        change.table,
+        change,
         size,
         old.as_ref(),
         new.as_ref(),
