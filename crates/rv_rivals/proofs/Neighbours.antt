@@ -153,9 +153,12 @@ pub none_unique : (near : List Neighbour) (rows : List Record) → all_alone [] 
 none_unique near [] = refl
 none_unique near (r ∷ rows) = none_unique near rows
 
-pub no_columns : (indexes : List IndexDef) → [] ≡ map (λ (d : IndexDef). d.columns) indexes → indexes ≡ []
-no_columns [] h = refl
-no_columns (d ∷ ds) h = cc
+pub none_over : (table : ℕ) (indexes : List IndexDef) → list_any (λ (d : IndexDef). d.unique && (d.table == table)) indexes ≡ false → unique_over table indexes ≡ []
+none_over table [] none = refl
+none_over table (d ∷ ds) none = elim (cases_Bool (d.unique && (d.table == table))) [
+  | inl t ↦ (let no = rw t at none in cc)
+  | inr f ↦ (let rest = rw f at none in rw f (none_over table ds rest))
+]
 
 -- what was tested beside a transaction is what the definition tests
 pub assembled : (shown : Shown) (txns : Transactions) (own near_own : Transaction) (table near_table : ℕ) (new : List Change) (indexes : List IndexDef) (theirs : List Transaction) (columns : List (List ℕ)) → near_table ≡ table → near_own ≡ own

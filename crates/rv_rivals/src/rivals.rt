@@ -1,6 +1,6 @@
 //! The first rival of the rows that a statement writes.
-ghost use Rattle.std.specs.Prelude.{◌≡◌, ◌<◌, ◌≤◌, ◌^◌, ℕ, List, [], ◌∷◌, ◌++◌, Some, IfErr, IfOk, OnOk, Ok, map, length, slice_get};
-ghost use Rattle.std.specs.List.{AllByRecursion};
+ghost use Rattle.std.specs.Prelude.{◌≡◌, ◌<◌, ◌≤◌, ◌^◌, ◌==◌, ◌&&◌, ℕ, List, [], ◌∷◌, ◌++◌, Some, IfErr, IfOk, OnOk, Ok, map, length, slice_get};
+ghost use Rattle.std.specs.List.{AllByRecursion, list_any};
 ghost use Rattle.rv_value.specs.declared.record.Record.{Record as OneRecord};
 ghost use Rattle.rv_rows.specs.declared.changes.Change.{Change as OneChange};
 ghost use Rattle.rv_rows.specs.Merging.{values_row};
@@ -56,12 +56,21 @@ pub fn no_rivals<S: Store + Reader<Ledger = Uncounted>>(
     ensures fault { IfErr result (λ fault. IsFault (all_alone (unique_over table indexes.now) (neighbours_in (S.shown store.now) txns.now own.now table new.now) (rows_written table new.now)) fault) }
     ensures views { AreViews (S.shown store.now) txns.now.active views.new }
 {
-    let unique = unique_over(alloc, indexes, table, new)?;
-    if unique.is_empty() {
+    if !has_unique(indexes, table) {
         return Ok(());
     }
+    let unique = unique_over(alloc, indexes, table, new)?;
     let near = near_of(alloc, store, indexes, txns, views, own, table, new)?;
     test_rows(alloc, store, txns, unique.as_slice(), &near, new)
+}
+
+/// Whether some index is a unique one over a table.
+fn has_unique(indexes: &[IndexDef], table: u32) -> bool
+    ensures { result ≡ list_any (λ (d : OneIndex). d.unique && (d.table == table)) indexes.now }
+{
+    indexes
+        .iter()
+        .any(|index| index.unique && index.table == table)
 }
 
 /// Adds an index, where it is a unique one over the table.

@@ -38,6 +38,13 @@ HasPages places count = (table : ℕ) → HasRange (page_places table) places 0 
 abbrev pub HasNodes : List Place → (ℕ → ℕ) → Type 0
 HasNodes places count = (index : ℕ) → HasRange (node_places index) places 0 (count index)
 
+-- each list of all places that are there, which had those that were counted, has those that are counted now
+abbrev pub AreListed : (ℕ → ℕ → Place) → (ℕ → ℕ) → List ℕ → List ℕ → Type 0
+AreListed place count old new = (places : List Place)
+    → ((k : ℕ) → HasRange (place k) places 0 (count k))
+    → ((k : ℕ) → HasRange (place k) places 0 (slice_index_or old k 0))
+    → (k : ℕ) → HasRange (place k) places 0 (slice_index_or new k 0)
+
 -- every page and every node stands in the list
 pub record HasAll (places : List Place) (tables : List Table) (indexes : List Index) : Type 0 where
   pub pages : HasPages places (λ table. length (table_at tables table).records.pages)

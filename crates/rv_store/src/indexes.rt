@@ -1,4 +1,4 @@
-ghost use Rattle.std.specs.Prelude.{◌≡◌, ◌==◌, ℕ, ◌+◌, ◌<◌, ◌≤◌, drop, filter, length, nat_le, nat_lt, not, take, IfOk, OnOk};
+ghost use Rattle.std.specs.Prelude.{◌≡◌, ◌==◌, ℕ, ◌+◌, ◌<◌, ◌≤◌, [], true, drop, filter, length, nat_le, nat_lt, not, take, IfOk, OnOk};
 ghost use Rattle.std.specs.Option.{option_copied};
 ghost use Rattle.rv_rows.specs.declared.changes.Change.{Change as OneChange};
 ghost use Rattle.rv_rows.specs.Rows.{Ascend};
@@ -160,11 +160,28 @@ fn count_up_to(changes: &[Change], table: u32) -> usize
     changes.partition_point(|change| change.table <= table)
 }
 
-/// The changes of a table among those of a commit. They stand together, and are found by halves.
+/// Whether a table comes before those of all changes of a commit, or behind them.
+fn is_beyond(changes: &[Change], table: u32) -> bool
+    requires { Rise changes.now }
+    ensures { result ≡ true → filter (λ (c : OneChange). c.table == table) changes.now ≡ [] }
+{
+    let count = changes.len();
+    if count == 0 {
+        return true;
+    }
+    let last = count - 1;
+    table < changes[0].table || changes[last].table < table
+}
+
+/// The changes of a table among those of a commit. They stand together, and are found by halves, where the first and the
+/// last change do not tell that there are none.
 fn changes_over(changes: &[Change], table: u32) -> &[Change]
     requires { Rise changes.now }
     ensures { result.now ≡ filter (λ (c : OneChange). c.table == table) changes.now }
 {
+    if is_beyond(changes, table) {
+        return &[];
+    }
     let (_, from) = changes.split_at(count_before(changes, table));
     let (own, _) = from.split_at(count_up_to(from, table));
     own

@@ -1,8 +1,6 @@
-ghost use Rattle.std.specs.Prelude.{◌≡◌, ◌<◌, ◌≤◌, ℕ, [], length, map, slice_get, IfOk, OnErr, OnOk};
+ghost use Rattle.std.specs.Prelude.{◌≡◌, ◌<◌, ◌≤◌, ℕ, [], length, slice_get, OnErr, OnOk};
 ghost use Rattle.std.specs.List.{slice_index_or};
-ghost use Rattle.rv_store.specs.declared.tables.Table.{Table as OneTable};
-ghost use Rattle.rv_store.specs.declared.indexes.Index.{Index as OneIndex};
-ghost use Rattle.rv_store.specs.Places.{next_place, node_places, page_places, AreIndexesFrom, AreSameFrom, HasAll, HasRange, IsLonger, IsNodePurged, IsPagePurged};
+ghost use Rattle.rv_store.specs.Places.{next_place, node_places, page_places, AreIndexesFrom, AreListed, AreSameFrom, HasAll, HasRange, IsLonger, IsNodePurged, IsPagePurged};
 ghost use Rattle.rv_store.specs.Indexes.{index_at};
 ghost use Rattle.rv_store.specs.Tables.{table_at};
 
@@ -21,7 +19,8 @@ pub enum Place {
 }
 
 /// The record pages and nodes in the order in which they came, and the one that the next sweep purges. The counts are
-/// of the pages of each table and of the nodes of each index that stand in the list.
+/// of the pages of each table and of the nodes of each index that stand in the list; only those are counted anew of which
+/// some came.
 ///
 /// Beside them stand the pages and nodes that commits have written since the last sweep, which purges them first, out of
 /// turn. Contracts do not see them: the turn comes to each place without them.
@@ -123,36 +122,85 @@ impl Places {
         ensures ok { OnOk result (HasAll self.new.places tables.now indexes.now) }
         ensures err { OnErr result (self.new ≡ self.old) }
     {
-        let pages = count_pages(self.alloc, tables)?;
-        let nodes = count_nodes(self.alloc, indexes)?;
         let mut more = Vec::new(self.alloc);
         list_pages(&mut more, self.pages.as_slice(), tables)?;
         list_nodes(&mut more, self.nodes.as_slice(), indexes)?;
+        fill(&mut self.pages, tables.len())?;
+        fill(&mut self.nodes, indexes.len())?;
+        let listed = self.places.len();
         self.places.append(&mut more)?;
-        self.pages = pages;
-        self.nodes = nodes;
+        let came = &self.places.as_slice()[listed..];
+        count_places(&mut self.pages, &mut self.nodes, tables, indexes, came);
         Ok(())
     }
 }
 
-fn count_pages(alloc: Global, tables: &[Table]) -> Result<Vec<usize>, NoMemory>
-    ensures { IfOk result (λ counts. counts.items ≡ map (λ (t : OneTable). length t.records.pages) tables.now) }
+/// Puts zeros behind counts, so that there are so many of them.
+fn fill(counts: &mut Vec<usize>, count: usize) -> Result<(), NoMemory>
+    ensures { (at : ℕ) → slice_index_or counts.new.items at 0 ≡ slice_index_or counts.old.items at 0 }
 {
-    let mut counts = Vec::new(alloc);
-    'tables: for table in tables {
-        counts.push(table.records.len())?;
+    'counts: for _at in counts.len()..count {
+        counts.push(0)?;
     }
-    Ok(counts)
+    Ok(())
 }
 
-fn count_nodes(alloc: Global, indexes: &[Index]) -> Result<Vec<usize>, NoMemory>
-    ensures { IfOk result (λ counts. counts.items ≡ map (λ (i : OneIndex). length i.tree) indexes.now) }
+/// Counts the pages of a table anew, which are all listed.
+#[tactic(auto, using(crate::proofs::Placing::listed_none))]
+fn count_pages(pages: &mut Vec<usize>, tables: &[Table], table: u32)
+    ensures { AreListed page_places (λ (t : ℕ). length (table_at tables.now t).records.pages) pages.old.items pages.new.items }
 {
-    let mut counts = Vec::new(alloc);
-    'indexes: for index in indexes {
-        counts.push(index.tree.len())?;
+    let table = table as usize;
+    if table >= tables.len() || table >= pages.len() {
+        return;
     }
-    Ok(counts)
+    pages[table] = tables[table].records.len();
+}
+
+/// Counts the nodes of an index anew, which are all listed.
+#[tactic(auto, using(crate::proofs::Placing::listed_none))]
+fn count_nodes(nodes: &mut Vec<usize>, indexes: &[Index], index: u32)
+    ensures { AreListed node_places (λ (i : ℕ). length (index_at indexes.now i).tree) nodes.old.items nodes.new.items }
+{
+    let index = index as usize;
+    if index >= indexes.len() || index >= nodes.len() {
+        return;
+    }
+    nodes[index] = indexes[index].tree.len();
+}
+
+/// Counts the pages of the table, or the nodes of the index, of which a place came.
+#[tactic(auto, using(crate::proofs::Placing::listed_none))]
+fn count_place(
+    pages: &mut Vec<usize>,
+    nodes: &mut Vec<usize>,
+    tables: &[Table],
+    indexes: &[Index],
+    place: Place,
+)
+    ensures pages { AreListed page_places (λ (t : ℕ). length (table_at tables.now t).records.pages) pages.old.items pages.new.items }
+    ensures nodes { AreListed node_places (λ (i : ℕ). length (index_at indexes.now i).tree) nodes.old.items nodes.new.items }
+{
+    match place {
+        Place::Page { table, n: _ } => count_pages(pages, tables, table),
+        Place::Node { index, id: _ } => count_nodes(nodes, indexes, index),
+    }
+}
+
+/// Counts the pages of the tables, and the nodes of the indexes, of which places came.
+fn count_places(
+    pages: &mut Vec<usize>,
+    nodes: &mut Vec<usize>,
+    tables: &[Table],
+    indexes: &[Index],
+    came: &[Place],
+)
+    ensures pages { AreListed page_places (λ (t : ℕ). length (table_at tables.now t).records.pages) pages.old.items pages.new.items }
+    ensures nodes { AreListed node_places (λ (i : ℕ). length (index_at indexes.now i).tree) nodes.old.items nodes.new.items }
+{
+    'came: for place in came {
+        count_place(pages, nodes, tables, indexes, *place);
+    }
 }
 
 /// The count in a place, 0 where it came later.

@@ -1,5 +1,5 @@
 -- What a further change leaves is what is kept, from what each part of the work ensures.
-use Rattle.std.proofs.Common.{◌≡◌, ℕ, ◌-◌, ◌<◌, ◌≤◌, ◌^◌, List, [], ◌∷◌, true, false, ◌==◌, cond, Option, Some, None, IfSome, ap, sym, subst, ◌∙◌, length, arith}
+use Rattle.std.proofs.Common.{◌≡◌, ℕ, ◌-◌, ◌<◌, ◌≤◌, ◌^◌, List, [], ◌∷◌, true, false, ◌==◌, cond, Option, Some, None, IfSome, refl, ap, sym, subst, ◌∙◌, length, arith}
 use Rattle.std.specs.List.{AllByRecursion}
 use Rattle.rv_value.specs.declared.record.Record.{Record}
 use Rattle.rv_rows.specs.declared.changes.Change.{Change}
@@ -17,11 +17,11 @@ use Rattle.rv_overlay.specs.Freezing.{KeepsSize}
 use Rattle.rv_overlay.specs.Rows.{change_of, changed_row}
 use Rattle.rv_overlay.proofs.Freezing.{applied_fits}
 use Rattle.rv_overlay.proofs.Runs.{change_before, change_first}
-use Rattle.rv_overlay.proofs.Tabling.{row_applied}
-use Rattle.rv_view.specs.Making.{AreIndexes, Keeps, by_table, last_of, one_if, parts_after, rows_or, size_after, written_after, written_of}
+use Rattle.rv_overlay.proofs.Tabling.{pages_untouched, row_applied}
+use Rattle.rv_view.specs.Making.{AreIndexes, Keeps, by_table, last_of, one_if, pages_or, pages_up, parts_after, rows_or, size_after, written_after, written_of}
 use Rattle.rv_view.proofs.Keeping.{all_put, rows_are, stays_kept}
 use Rattle.rv_view.proofs.Rows.{pages_fit, rows_few}
-use Rattle.rv_view.proofs.Written.{last_low, written_rise, written_with}
+use Rattle.rv_view.proofs.Written.{last_low, pages_written, written_rise, written_with}
 
 -- The counts fit.
 
@@ -60,6 +60,17 @@ pub next_low : (c : Change) (changes written next : List Change) → AllByRecurs
 next_low c changes written next lows low told is =
     let whole : next ≡ written_of (with_change c changes) = is ∙ ap (written_after c) told ∙ sym (written_with c changes) in
     subst (λ w. IfSome (last_of c.table w) (λ (d : Change). d.row.0 < 4294967296)) (sym whole) (last_low 4294967296 c.table (with_change c changes) (all_put (λ (d : Change). d.row.0 < 4294967296) c changes low lows))
+
+-- How far the pages of the table are told to reach before the change.
+
+pub pages_before : (rows : List Record) (pages told : ℕ) (c : Change) (changes written : List Change) (size : Option TableSize) → Rise changes → IfSome size (KeepsSize rows pages c.table changes) → (size ≡ None → touches c.table changes ≡ false)
+    → told ≡ pages → written ≡ written_of changes → pages_or told size ≡ pages_up (last_of c.table written) told
+pages_before rows pages told c changes written size rise keeps other is told_is =
+    by size keeps other ∙ pages_written c.table changes told rise ∙ ap (λ w. pages_up (last_of c.table w) told) (sym told_is)
+  where
+    by : (s : Option TableSize) → IfSome s (KeepsSize rows pages c.table changes) → (s ≡ None → touches c.table changes ≡ false) → pages_or told s ≡ pages_after c.table changes told
+    by None k o = sym (pages_untouched c.table changes told (o refl))
+    by (Some s) k o = k.pages_told ∙ ap (pages_after c.table changes) (sym is)
 
 -- All together.
 

@@ -1,5 +1,5 @@
 -- The parts of a view, and a list of changes, one more at a time.
-use Rattle.std.proofs.Common.{◌≡◌, ℕ, zero, suc, ◌+◌, List, [], ◌∷◌, ◌++◌, true, Option, Some, refl, ap, sym, subst, ◌∙◌, filter, take, drop, length}
+use Rattle.std.proofs.Common.{◌≡◌, ℕ, zero, suc, ◌+◌, ◌<◌, arith, List, [], ◌∷◌, ◌++◌, true, Option, Some, refl, ap, sym, subst, ◌∙◌, filter, take, drop, length}
 use Rattle.std.specs.Prelude.{slice_get, slice_set}
 use Rattle.std.proofs.lemmas.List.Folds.{list_all-append}
 use Rattle.std.specs.List.{AllByRecursion, list_all}
@@ -20,6 +20,26 @@ pub all_at : {X : Type 0} (P : X → Type 0) (xs : List X) (i : ℕ) (x : X) →
 all_at P [] i x all is = cc
 all_at P (y ∷ ys) zero x all is = subst P (some_is y x is) all.0
 all_at P (y ∷ ys) (suc i) x all is = all_at P ys i x all.1 is
+
+-- The part of a place.
+
+pub record There (ps : List Part) (k : ℕ) : Type 0 where
+  pub part : Part
+  pub is : slice_get ps k ≡ Some part
+
+pub part_there : (ps : List Part) (k : ℕ) → k < length ps → There ps k
+part_there [] k low = absurd (omega (arith, low))
+part_there (p ∷ ps) zero low = record { part = p; is = refl }
+part_there (p ∷ ps) (suc k) low =
+    let rest = part_there ps k (omega (arith, low)) in
+    record { part = rest.part; is = rest.is }
+
+-- A part put where it stood leaves the parts as they are.
+
+pub put_back : (ps : List Part) (k : ℕ) (p : Part) → slice_get ps k ≡ Some p → slice_set ps k p ≡ ps
+put_back [] k p is = cc
+put_back (q ∷ ps) zero p is = ap (λ x. x ∷ ps) (sym (some_is q p is))
+put_back (q ∷ ps) (suc k) p is = ap (λ xs. q ∷ xs) (put_back ps k p is)
 
 -- One part more is brought up to date.
 

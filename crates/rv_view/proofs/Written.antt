@@ -1,5 +1,5 @@
 -- Which rows are written, and how far the pages of a table reach.
-use Rattle.std.proofs.Common.{◌≡◌, ℕ, suc, ◌+◌, ◌-◌, ◌/◌, ◌<◌, zero, List, [], ◌∷◌, ◌++◌, Bool, true, false, ◌==◌, cond, Some, IfSome, is_some, inl, inr, refl, ap, sym, ◌∙◌, map, filter, length, arith}
+use Rattle.std.proofs.Common.{◌≡◌, ℕ, suc, ◌+◌, ◌-◌, ◌/◌, ◌<◌, ◌≤◌, zero, List, [], ◌∷◌, ◌++◌, Bool, true, false, ◌==◌, cond, Some, IfSome, is_some, inl, inr, refl, ap, sym, ◌∙◌, map, filter, length, arith}
 use Rattle.std.specs.Prelude.{max, slice_get}
 use Rattle.std.proofs.lemmas.Bool.{cases_Bool}
 use Rattle.std.proofs.lemmas.Bool.Decides.{nat_tests}
@@ -7,6 +7,7 @@ use Rattle.std.specs.List.{AllByRecursion, list_all}
 use Rattle.rv_rows.specs.declared.changes.Change.{Change}
 use Rattle.rv_rows.specs.Changes.{Rise, is_before, with_change}
 use Rattle.rv_rows.specs.Rising.{put_in}
+use Rattle.rv_rows.proofs.Chains.{by_row}
 use Rattle.rv_rows.proofs.Filters.{both}
 use Rattle.rv_rows.proofs.Puts.{rising_filter}
 use Rattle.rv_blocks.specs.Taking.{take_from}
@@ -158,3 +159,118 @@ pub pages_written : (table : ℕ) (cs : List Change) (pages : ℕ) → Rise cs �
 pages_written table cs pages rise =
     pages_are table cs pages
     ∙ up_last table (of_table table (written_of cs)) pages (rising_filter is_before (λ (c : Change). c.table == table) (written_of cs) (written_rise cs rise)) (all_own (λ (c : Change). c.table == table) (written_of cs))
+
+-- How far they reach after one change more.
+
+own_last : (table : ℕ) (cs : List Change) (pages : ℕ) → Rise cs → pages_over (of_table table cs) pages ≡ pages_up (last_of table cs) pages
+own_last table cs pages rise = up_last table (of_table table cs) pages (rising_filter is_before (λ (c : Change). c.table == table) cs rise) (all_own (λ (c : Change). c.table == table) cs)
+
+over_max : (cs : List Change) (pages n : ℕ) → pages_over cs (max pages n) ≡ max (pages_over cs pages) n
+over_max [] pages n = refl
+over_max (c ∷ cs) pages n =
+    let up = c.row.0 / 32 + 1 in
+    let turned : max (max pages n) up ≡ max (max pages up) n = omega arith in
+    ap (pages_over cs) turned ∙ over_max cs (max pages up) n
+
+over_middle : (xs : List Change) (c : Change) (ys : List Change) (pages : ℕ) → pages_over (xs ++ c ∷ ys) pages ≡ max (pages_over (xs ++ ys) pages) (c.row.0 / 32 + 1)
+over_middle [] c ys pages = over_max ys pages (c.row.0 / 32 + 1)
+over_middle (x ∷ xs) c ys pages = over_middle xs c ys (max pages (x.row.0 / 32 + 1))
+
+own_joined : (table : ℕ) (xs ys : List Change) → of_table table (xs ++ ys) ≡ of_table table xs ++ of_table table ys
+own_joined table [] ys = refl
+own_joined table (x ∷ xs) ys =
+    let rest = own_joined table xs ys in
+    elim (x.table == table) as (λ b. cond b (x ∷ of_table table (xs ++ ys)) (of_table table (xs ++ ys)) ≡ cond b (x ∷ of_table table xs) (of_table table xs) ++ of_table table ys) [
+      | true ↦ ap (λ zs. x ∷ zs) rest
+      | false ↦ rest
+    ]
+
+-- one change more in the middle
+own_middle : (table : ℕ) (xs : List Change) (c : Change) (ys : List Change) (pages : ℕ) → pages_over (of_table table (xs ++ c ∷ ys)) pages ≡ cond (c.table == table) (max (pages_over (of_table table (xs ++ ys)) pages) (c.row.0 / 32 + 1)) (pages_over (of_table table (xs ++ ys)) pages)
+own_middle table xs c ys pages =
+    let mine = of_table table xs in
+    let rest = of_table table ys in
+    let back = sym (own_joined table xs ys) in
+    ap (λ zs. pages_over zs pages) (own_joined table xs (c ∷ ys)) ∙ elim (c.table == table) as (λ b. pages_over (mine ++ cond b (c ∷ rest) rest) pages ≡ cond b (max (pages_over (of_table table (xs ++ ys)) pages) (c.row.0 / 32 + 1)) (pages_over (of_table table (xs ++ ys)) pages)) [
+      | true ↦ over_middle mine c rest pages ∙ ap (λ zs. max (pages_over zs pages) (c.row.0 / 32 + 1)) back
+      | false ↦ ap (λ zs. pages_over zs pages) back
+    ]
+
+-- without what stands in the place of a change they reach as far, or as the change reached farther
+record Between (less all up : ℕ) : Type 0 where
+  low : less ≤ all
+  high : all ≤ max less up
+
+raised : (less all up n : ℕ) → Between less all up → Between (max less n) (max all n) up
+raised less all up n b = (let low = b.low in let high = b.high in record { low = omega (arith, low); high = omega (arith, high) })
+
+between : (c : Change) (cs : List Change) (pages : ℕ) → Between (pages_over (of_table c.table (take_from is_before c cs)) pages) (pages_over (of_table c.table cs) pages) (c.row.0 / 32 + 1)
+between c [] pages = record { low = omega arith; high = omega arith }
+between c (d ∷ ds) pages =
+    let table = c.table in
+    let up = c.row.0 / 32 + 1 in
+    let du = d.row.0 / 32 + 1 in
+    let front = filter (λ x. is_before x c) ds in
+    let back = filter (λ x. is_before c x) ds in
+    let less = pages_over (of_table table (front ++ back)) pages in
+    let all = pages_over (of_table table ds) pages in
+    let was : Between less all up = between c ds pages in
+    let whole : pages_over (of_table table (d ∷ ds)) pages ≡ cond (d.table == table) (max all du) all = own_middle table [] d ds pages in
+    let more : Between (cond (d.table == table) (max less du) less) (cond (d.table == table) (max all du) all) up =
+    elim (d.table == table) as (λ b. Between (cond b (max less du) less) (cond b (max all du) all) up) [ true ↦ raised less all up du was | false ↦ was ] in
+    elim (cases_Bool (is_before d c)) [
+      | inl t ↦
+          let other : is_before c d ≡ false = by_row.one_way d c t in
+          let left : pages_over (of_table table (d ∷ front ++ back)) pages ≡ cond (d.table == table) (max less du) less = own_middle table [] d (front ++ back) pages in
+          rw (t, other, left, whole) more
+      | inr f ↦ elim (cases_Bool (is_before c d)) [
+        | inl u ↦
+            let left : pages_over (of_table table (front ++ d ∷ back)) pages ≡ cond (d.table == table) (max less du) less = own_middle table front d back pages in
+            rw (f, u, left, whole) more
+        | inr v ↦
+            let own : d.table == table ≡ true = grind (arith, nat_tests) in
+            let same : d.row.0 ≡ c.row.0 = grind (arith, nat_tests) in
+            let low = was.low in
+            let high = was.high in
+            let here : Between less (max all du) up = record { low = omega (arith, low); high = (let reach : du ≡ up = ap (λ n. n / 32 + 1) same in omega (arith, high, reach)) } in
+            rw (f, v, whole, own) here
+      ]
+    ]
+
+written_is : (c : Change) (cs : List Change) → written_after c cs ≡ cond (is_some c.values) (put_in is_before (bare c) cs) (take_from is_before c cs)
+written_is c cs = ap (λ (p : Change → Change → Bool). cond (is_some c.values) (put_in p (bare c) cs) (take_from p c cs)) change_first
+
+-- a row that is given values
+pub pages_put : (c : Change) (cs : List Change) (pages : ℕ) → Rise cs → Rise (written_after c cs) → is_some c.values ≡ true
+    → max (pages_up (last_of c.table cs) pages) (c.row.0 / 32 + 1) ≡ pages_up (last_of c.table (written_after c cs)) pages
+pages_put c cs pages rise next is =
+    let table = c.table in
+    let up = c.row.0 / 32 + 1 in
+    let front = filter (λ x. is_before x c) cs in
+    let back = filter (λ x. is_before c x) cs in
+    let less = pages_over (of_table table (front ++ back)) pages in
+    let was : Between less (pages_over (of_table table cs) pages) up = between c cs pages in
+    let low = was.low in
+    let high = was.high in
+    let own : c.table == c.table ≡ true = grind (arith, nat_tests) in
+    let whole : written_after c cs ≡ front ++ bare c ∷ back = written_is c cs ∙ ap (λ b. cond b (put_in is_before (bare c) cs) (take_from is_before c cs)) is in
+    let all : pages_over (of_table table (written_after c cs)) pages ≡ max less up = ap (λ zs. pages_over (of_table table zs) pages) whole ∙ own_middle table front (bare c) back pages ∙ ap (λ b. cond b (max less up) less) own in
+    let before = own_last table cs pages rise in
+    let after = own_last table (written_after c cs) pages next in
+    omega (arith, low, high, all, before, after)
+
+-- a row below the last page that is taken away
+pub pages_taken : (c : Change) (cs : List Change) (pages : ℕ) → Rise cs → Rise (written_after c cs) → is_some c.values ≡ false → c.row.0 / 32 + 1 < pages_up (last_of c.table cs) pages
+    → pages_up (last_of c.table cs) pages ≡ pages_up (last_of c.table (written_after c cs)) pages
+pages_taken c cs pages rise next none reach =
+    let table = c.table in
+    let up = c.row.0 / 32 + 1 in
+    let less = pages_over (of_table table (take_from is_before c cs)) pages in
+    let was : Between less (pages_over (of_table table cs) pages) up = between c cs pages in
+    let low = was.low in
+    let high = was.high in
+    let whole : written_after c cs ≡ take_from is_before c cs = written_is c cs ∙ ap (λ b. cond b (put_in is_before (bare c) cs) (take_from is_before c cs)) none in
+    let all : pages_over (of_table table (written_after c cs)) pages ≡ less = ap (λ zs. pages_over (of_table table zs) pages) whole in
+    let before = own_last table cs pages rise in
+    let after = own_last table (written_after c cs) pages next in
+    omega (arith, low, high, all, before, after, reach)

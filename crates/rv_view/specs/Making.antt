@@ -112,6 +112,11 @@ abbrev pub rows_or : ℕ → Option TableSize → ℕ
 rows_or rows None = rows
 rows_or rows (Some s) = s.rows
 
+-- its pages, so too
+abbrev pub pages_or : ℕ → Option TableSize → ℕ
+pages_or pages None = pages
+pages_or pages (Some s) = s.pages
+
 abbrev pub by_table : TableSize → TableSize → Bool
 by_table a b = nat_lt a.table b.table
 

@@ -1,10 +1,12 @@
 //! How what is frozen is made of a transaction's changes, and brought up to date with each further one.
-ghost use Rattle.std.specs.Prelude.{◌≡◌, ◌≤◌, ◌<◌, length, IfOk, OnOk};
+ghost use Rattle.std.specs.Prelude.{◌≡◌, ◌≤◌, ◌<◌, Some, length, slice_get, slice_set, IfOk, OnOk};
 ghost use Rattle.std.specs.List.{AllByRecursion};
 ghost use Rattle.std.specs.Option.{option_copied};
 ghost use Rattle.rv_catalog.specs.declared.def.IndexDef.{IndexDef as OneIndex};
 ghost use Rattle.rv_rows.specs.Changes.{Rise, with_change};
 ghost use Rattle.rv_rows.specs.declared.changes.Change.{Change as OneChange};
+ghost use Rattle.rv_overlay.specs.declared.frozen.Part.{Part as OnePart};
+ghost use Rattle.rv_overlay.specs.Keeping.{entry_at, moved};
 ghost use Rattle.rv_reader.specs.Shown.{CanRead};
 ghost use Rattle.rv_reader.specs.Tables.{IsTable};
 ghost use Rattle.rv_view.specs.Making.{AreIndexes, Keeps, empty_part, part_after, parts_after, unchanged};
@@ -20,10 +22,30 @@ use rv_rows::Change;
 use rv_value::{Duplicate, Items, NoMemory, Record};
 use std::alloc::Global;
 
-/// The lists of an index, brought up to date: those of another table stay.
+/// The lists of an index of the changed table, brought up to date.
 fn keep_part(
     alloc: Global,
     part: &mut Part,
+    columns: &[u32],
+    base: Option<&Record>,
+    old: Option<&Record>,
+    new: Option<&Record>,
+) -> Result<(), NoMemory>
+    requires some { 1 ≤ length columns.now }
+    requires few { length columns.now ≤ 4 }
+    ensures { OnOk result (part.new ≡ moved (entry_at columns.now (option_copied base.entry)) (entry_at columns.now (option_copied old.entry)) (entry_at columns.now (option_copied new.entry)) part.old) }
+{
+    let base = entry_at(alloc, base, columns)?;
+    let old = entry_at(alloc, old, columns)?;
+    let new = entry_at(alloc, new, columns)?;
+    part.change(base, old, new)
+}
+
+/// The lists of the index of a place, brought up to date: those of another table stay, and are not looked up.
+fn keep_at(
+    alloc: Global,
+    parts: &mut Items<Part>,
+    place: usize,
     index: &IndexDef,
     table: u32,
     base: Option<&Record>,
@@ -32,19 +54,18 @@ fn keep_part(
 ) -> Result<(), NoMemory>
     requires some { 1 ≤ length index.now.columns }
     requires few { length index.now.columns ≤ 4 }
-    ensures { OnOk result (part.new ≡ part_after index.now table (option_copied base.entry) (option_copied old.entry) (option_copied new.entry) part.old) }
+    requires there { place < length parts.old }
+    ensures { OnOk result ((part : OnePart) → slice_get parts.old place ≡ Some part → parts.new ≡ slice_set parts.old place (part_after index.now table (option_copied base.entry) (option_copied old.entry) (option_copied new.entry) part)) }
 {
     if index.table != table {
         return Ok(());
     }
     let columns = index.columns.as_slice();
-    let base = entry_at(alloc, base, columns)?;
-    let old = entry_at(alloc, old, columns)?;
-    let new = entry_at(alloc, new, columns)?;
-    part.change(base, old, new)
+    keep_part(alloc, parts.at_mut(place), columns, base, old, new)?;
+    Ok(())
 }
 
-/// The lists of all indexes, brought up to date.
+/// The lists of the indexes of a table, brought up to date. Of an index of another table the table alone is looked at.
 fn keep_parts(
     alloc: Global,
     parts: &mut Items<Part>,
@@ -60,7 +81,7 @@ fn keep_parts(
 {
     let mut place = 0;
     'indexes: for index in indexes {
-        keep_part(alloc, parts.at_mut(place), index, table, base, old, new)?;
+        keep_at(alloc, parts, place, index, table, base, old, new)?;
         place += 1;
     }
     Ok(())
@@ -140,7 +161,7 @@ pub fn keep_change<R: Reader<Ledger = Uncounted>>(
     keep_size(
         &mut frozen.sizes,
         written,
-        change.table,
+        change,
         size,
         old.as_ref(),
         new.as_ref(),

@@ -1,7 +1,6 @@
-use Rattle.std.proofs.Common.{◌≡◌, ◌∙◌, [], ap, arith, length, map, subst, sym}
-use Rattle.std.proofs.lemmas.Bool.Decides.{nat_tests}
+use Rattle.std.proofs.Common.{◌≡◌, ◌∙◌, [], inl, inr, ap, map, subst, sym}
+use Rattle.std.proofs.lemmas.Bool.{cases_Bool}
 use Rattle.rv_model.specs.Rivals.{all_alone, rows_written, unique_over}
-use Rattle.rv_own.proofs.Steps.{no_items}
 use Rattle.rv_txn.specs.Calls.{IsFault}
 use Rattle.std.specs.List.{AllByRecursion}
 use Rattle.rv_rows.specs.declared.changes.Change.{Change}
@@ -10,7 +9,7 @@ use Rattle.rv_rivals.specs.declared.near.Other.{Other}
 use Rattle.rv_rivals.specs.declared.rivals.Unique.{Unique}
 use Rattle.rv_rivals.specs.Lookups.{CanTest, IsPlace, entries_written, neighbours_in}
 use Rattle.rv_rivals.proofs.Nearing.{all_both, can_test, others_can, own_has}
-use Rattle.rv_rivals.proofs.Neighbours.{assembled, no_columns, none_unique}
+use Rattle.rv_rivals.proofs.Neighbours.{assembled, none_over, none_unique}
 use Rattle.rv_rivals.proofs.Testing.{if_err, ok_more}
 use Rattle.rv_rivals.proofs.rivals.no_rivals.Goals as goal
 
@@ -38,15 +37,14 @@ test_rows-requires-clause-can g c =
     (subst (λ n. AllByRecursion (λ (u : Unique). CanTest shown n u.number u.columns.now c.in_ok-near.near.own.now c.in_ok-near.near.view u.entries) c.in_ok-unique.unique.items) (sym c.in_ok-near.ensures.table)
     (subst (λ t. AllByRecursion (λ (u : Unique). CanTest shown c.args.table u.number u.columns.now t c.in_ok-near.near.view u.entries) c.in_ok-unique.unique.items) (sym c.in_ok-near.ensures.own) here))
 
-pub returns-then-is_empty-clause-ok : goal.returns-then-is_empty-clause-ok
-returns-then-is_empty-clause-ok g c =
-    let told = c.is_empty.ensures in
-    let yes = c.if-is_empty.true in
-    let count : length c.in_ok-unique.unique.items ≡ 0 = grind (arith, nat_tests, told, yes) in
-    let items = no_items c.in_ok-unique.unique.items count in
-    let none = no_columns (unique_over c.args.table c.args.indexes.now) (sym (ap (map (λ (u : Unique). u.columns.now)) items) ∙ c.in_ok-unique.ensures.columns) in
-    let near = neighbours_in (g.S.Reader.shown c.args.store.now) c.args.txns.now c.args.own.now c.args.table c.args.new.now in
-    ap (λ ds. all_alone ds near (rows_written c.args.table c.args.new.now)) none ∙ none_unique near (rows_written c.args.table c.args.new.now)
+pub returns-then-not-has_unique-clause-ok : goal.returns-then-not-has_unique-clause-ok
+returns-then-not-has_unique-clause-ok g c = elim (cases_Bool c.has_unique.result) [
+  | inl t ↦ (let no = rw t at c.if-not-has_unique.true in cc)
+  | inr f ↦
+      let none = none_over c.args.table c.args.indexes.now (sym c.has_unique.ensures ∙ f) in
+      let near = neighbours_in (g.S.Reader.shown c.args.store.now) c.args.txns.now c.args.own.now c.args.table c.args.new.now in
+      ap (λ ds. all_alone ds near (rows_written c.args.table c.args.new.now)) none ∙ none_unique near (rows_written c.args.table c.args.new.now)
+]
 
 pub returns-clause-ok : goal.returns-clause-ok
 returns-clause-ok g c = ok_more c.test_rows.result _ _ (λ k.

@@ -1,11 +1,13 @@
-use Rattle.std.proofs.Common.{◌≡◌, ◌<◌, ◌∙◌, ap, arith}
+use Rattle.std.proofs.Common.{◌≡◌, ◌<◌, ◌∙◌, ap, arith, subst, sym}
 use Rattle.rv_rows.specs.declared.changes.Change.{Change}
+use Rattle.rv_rows.specs.Changes.{Rise}
 use Rattle.rv_rows.specs.Rising.{put_in}
 use Rattle.rv_overlay.specs.Overlaid.{size_of}
 use Rattle.rv_overlay.specs.Rows.{changed_row}
 use Rattle.rv_overlay.proofs.Runs.{change_before, change_first}
 use Rattle.rv_view.specs.Making.{by_table, parts_after, size_after}
-use Rattle.rv_view.proofs.Changing.{kept_change, next_low, next_rise, rows_ready}
+use Rattle.rv_view.proofs.Changing.{kept_change, next_low, next_rise, pages_before, rows_ready}
+use Rattle.rv_view.proofs.Written.{written_rise}
 use Rattle.rv_view.proofs.making.keep_change.Goals as goal
 
 pub keep_size-requires-clause-rise : goal.keep_size-requires-clause-rise
@@ -48,7 +50,10 @@ returns-clause-keeps g c =
     let size = c.sizes_at-size.result in
     let old = c.in_ok-old.ensures ∙ (λ i. changed_row (c.change_of-earlier.ensures i) (c.as_ref.ensures.value i)) in
     let parts = c.in_ok-keep_parts.ensures ∙ (λ i. parts_after c.args.indexes.now change.table (c.as_ref-2.ensures.value i) (c.as_ref-3.ensures.value i) (c.as_ref-4.ensures.value i) f.parts) in
-    let sizes = c.in_ok-keep_size.ensures ∙ (λ i. put_in by_table (size_after change.table size.rows size.pages (c.as_ref-5.ensures.value i) (c.as_ref-6.ensures.value i) c.keep_written.new.written f.sizes) f.sizes) in
+    let rise = subst Rise (sym c.requires.keeps.told) (written_rise f.changes c.requires.keeps.rise) in
+    let before = pages_before (shown.rows change.table f.base) (shown.pages change.table f.base) size.pages change f.changes c.args.written.now (size_of change.table f.sizes) c.requires.keeps.rise
+    (c.requires.keeps.sized change.table c.requires.can) (c.requires.keeps.others change.table) c.sizes_at-size.ensures.pages c.requires.keeps.told in
+    let sizes = c.in_ok-keep_size.ensures c.args.written.now rise c.in_ok-keep_written.ensures before ∙ (λ i. put_in by_table (size_after change.table size.rows size.pages (c.as_ref-5.ensures.value i) (c.as_ref-6.ensures.value i) c.keep_written.new.written f.sizes) f.sizes) in
     let changes = c.in_ok-put.ensures.ok ∙ ap (λ (x : Change). put_in change_before x f.changes) c.in_ok-copy.ensures in
     kept_change shown c.args.indexes.now change f c.args.written.now c.keep_written.new.written c.in_ok-base.base c.in_ok-old.old c.in_ok-new.new size.rows size.pages c.put.new.self c.keep_size.new.sizes c.keep_parts.new.parts
     c.requires.indexes c.requires.can c.sizes_at-size.ensures.table c.sizes_at-size.ensures.small c.requires.low c.requires.keeps

@@ -1,14 +1,14 @@
-use Rattle.std.proofs.Common.{◌≡◌, ◌+◌, suc, ◌∙◌, ap, arith, length, refl, Some, slice_set, take}
+use Rattle.std.proofs.Common.{◌≡◌, ◌+◌, ◌<◌, suc, ◌∙◌, ap, arith, length, refl, Some, slice_set, take}
 use Rattle.std.specs.Option.{option_copied}
 use Rattle.std.specs.Prelude.{slice_get}
 use Rattle.std.proofs.lemmas.Option.{slice_get_read}
-use Rattle.rv_view.specs.Making.{parts_after}
+use Rattle.rv_view.specs.Making.{part_after, parts_after}
 use Rattle.rv_view.proofs.Keeping.{parts_length}
-use Rattle.rv_view.proofs.Parts.{parts_step}
+use Rattle.rv_view.proofs.Parts.{part_there, parts_step}
 use Rattle.rv_view.proofs.making.keep_parts.Goals as goal
 
-pub at_mut-requires : goal.at_mut-requires
-at_mut-requires c =
+pub keep_at-requires-clause-there : goal.keep_at-requires-clause-there
+keep_at-requires-clause-there c =
     let place = c.indexes.invariant.place in
     let low = c.indexes-test.true in
     let same = c.requires.same in
@@ -25,11 +25,17 @@ indexes-preserved c =
     let place = c.indexes.invariant.place in
     let told = c.indexes.invariant.parts in
     let is : slice_get indexes k ≡ Some c.index-item.result = slice_get_read indexes (length indexes) k c.index-item.result refl c.indexes-test.true c.index-item.is in
-    let got : slice_get (parts_after (take k indexes) c.args.table base old new c.args.parts.now) k ≡ Some c.at_mut.result.now = rw (told, place) at c.at_mut.ensures.value in
     let more : suc k ≡ k + 1 = omega arith in
+    let low = c.indexes-test.true in
+    let same = c.requires.same in
+    let before = parts_after (take k indexes) c.args.table base old new c.args.parts.now in
+    let count : length before ≡ length c.args.parts.now = parts_length (take k indexes) c.args.table base old new c.args.parts.now in
+    let one = part_there before k (omega (arith, low, same, count)) in
+    let at : slice_get c.indexes.parts c.indexes.place ≡ Some one.part = (λ i. slice_get (told i) (place i)) ∙ one.is in
     record {
       place = ap (λ n. n + 1) place;
-      parts = (λ i. slice_set (told i) (place i) (c.in_ok-keep_part.ensures i))
-          ∙ parts_step indexes k c.index-item.result c.args.table base old new c.args.parts.now c.at_mut.result.now is got
+      parts = c.in_ok-keep_at.ensures one.part at
+          ∙ (λ i. slice_set (told i) (place i) (part_after c.index-item.result c.args.table base old new one.part))
+          ∙ parts_step indexes k c.index-item.result c.args.table base old new c.args.parts.now one.part is one.is
           ∙ ap (λ n. parts_after (take n indexes) c.args.table base old new c.args.parts.now) more;
     }
