@@ -48,34 +48,34 @@ def some(truths):
 FORMS = [
     (1, "", []),
     (1, "0.a between 1 4", [[lambda r: None if r[0][0] is None else 1 <= r[0][0] <= 4]]),
-    (1, "0.b in 2 0 / 0.c null & 0.a <> 2 / false", [
+    (1, "0.b in 2 0/0.c null&0.a <> 2/false", [
         [lambda r: in_list(r[0][1], (2, 0)), lambda r: r[0][2] is None],
         [lambda r: compare(r[0][0], "<>", 2), lambda r: False],
     ]),
     (2, "0.a = 1.a", [[lambda r: compare(r[0][0], "=", r[1][0])]]),
-    (2, "1.b = 0.b & 0.c <> 1.c / 1.c null", [
+    (2, "1.b = 0.b&0.c <> 1.c/1.c null", [
         [lambda r: compare(r[1][1], "=", r[0][1])],
         [lambda r: compare(r[0][2], "<>", r[1][2]), lambda r: r[1][2] is None],
     ]),
-    (2, "0.b = 1 / 1.c = 2", [[lambda r: compare(r[0][1], "=", 1), lambda r: compare(r[1][2], "=", 2)]]),
-    (2, "0.a >= 2 & 1.a <= 0.a & 0.b null / 0.c = 1.c / 1.a < 2", [
+    (2, "0.b = 1/1.c = 2", [[lambda r: compare(r[0][1], "=", 1), lambda r: compare(r[1][2], "=", 2)]]),
+    (2, "0.a >= 2&1.a <= 0.a&0.b null/0.c = 1.c/1.a < 2", [
         [lambda r: compare(r[0][0], ">=", 2)],
         [lambda r: compare(r[1][0], "<=", r[0][0])],
         [lambda r: r[0][1] is None, lambda r: compare(r[0][2], "=", r[1][2]), lambda r: compare(r[1][0], "<", 2)],
     ]),
-    (2, "0.b null & 1.c <> 0.c", [[lambda r: r[0][1] is None], [lambda r: compare(r[1][2], "<>", r[0][2])]]),
-    (3, "2.b = 0.b & 1.a = 2.a", [[lambda r: compare(r[2][1], "=", r[0][1])], [lambda r: compare(r[1][0], "=", r[2][0])]]),
-    (3, "0.c < 2.c / 1.b null & 0.a <= 3 & 2.a > 1.a", [
+    (2, "0.b null&1.c <> 0.c", [[lambda r: r[0][1] is None], [lambda r: compare(r[1][2], "<>", r[0][2])]]),
+    (3, "2.b = 0.b&1.a = 2.a", [[lambda r: compare(r[2][1], "=", r[0][1])], [lambda r: compare(r[1][0], "=", r[2][0])]]),
+    (3, "0.c < 2.c/1.b null&0.a <= 3&2.a > 1.a", [
         [lambda r: compare(r[0][2], "<", r[2][2]), lambda r: r[1][1] is None],
         [lambda r: compare(r[0][0], "<=", 3)],
         [lambda r: compare(r[2][0], ">", r[1][0])],
     ]),
-    (4, "3.c = 0.c & 1.b = 2.b / 3.a > 1.a & 0.a <= 2", [
+    (4, "3.c = 0.c&1.b = 2.b/3.a > 1.a&0.a <= 2", [
         [lambda r: compare(r[3][2], "=", r[0][2])],
         [lambda r: compare(r[1][1], "=", r[2][1]), lambda r: compare(r[3][0], ">", r[1][0])],
         [lambda r: compare(r[0][0], "<=", 2)],
     ]),
-    (4, "1.a = 0.a & 2.a = 1.a & 3.a = 2.a", [
+    (4, "1.a = 0.a&2.a = 1.a&3.a = 2.a", [
         [lambda r: compare(r[1][0], "=", r[0][0])],
         [lambda r: compare(r[2][0], "=", r[1][0])],
         [lambda r: compare(r[3][0], "=", r[2][0])],
@@ -152,7 +152,7 @@ def lines():
         matches = rows - 1
         leaves = rows + (matches - 1) // 32
         yield line_of(rows, [0, 1], 3, 0, "reads", 0), f"{told([0, 1], 3, [], rows)}, pages {pages} leaves {leaves} fetches {matches}"
-    yield "three;0 1 2;0.a = 1.a & 1.b = 2.a & 2.a >= 11;;0.a 2.a;threshold;0;soon;rows", "; ".join(three())
+    yield "three;0 1 2;0.a = 1.a&1.b = 2.a&2.a >= 11;;0.a 2.a;threshold;0;soon;rows", "; ".join(three())
 
 
 # A join of three tables without an index: each scan of a table reads each of its pages, the second table's once for each row

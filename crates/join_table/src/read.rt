@@ -36,7 +36,7 @@ pub struct Asked<'a> {
     pub rows: &'a str,
     /// The tables of the FROM list.
     pub from: &'a str,
-    /// Groups parted by ` & `, their atoms parted by ` / `.
+    /// Groups parted by `&`, their atoms parted by `/`.
     pub only: &'a str,
     pub order: &'a str,
     pub returns: &'a str,
@@ -126,22 +126,22 @@ pub fn columns(alloc: Global, text: &str) -> Result<Vec<ColRef>, Fault> {
     Ok(found)
 }
 
-/// The groups that ` & ` parts; none in an empty text.
+/// The groups that `&` parts; none in an empty text.
 pub fn restriction(alloc: Global, text: &str) -> Result<Restriction, Fault> {
     let mut found = Vec::new(alloc);
     if text.is_empty() {
         return Ok(Restriction::from_groups(found));
     }
-    'groups: for part in text.split(" & ") {
+    'groups: for part in text.split('&') {
         found.push(group(alloc, part)?)?;
     }
     Ok(Restriction::from_groups(found))
 }
 
-/// The atoms that ` / ` parts.
+/// The atoms that `/` parts.
 fn group(alloc: Global, text: &str) -> Result<Vec<Atom>, Fault> {
     let mut found = Vec::new(alloc);
-    'atoms: for part in text.split(" / ") {
+    'atoms: for part in text.split('/') {
         found.push(atom(alloc, part)?)?;
     }
     Ok(found)
