@@ -1,7 +1,16 @@
 use Rattle.std.proofs.Common.{Ok, ap}
 use Rattle.rv_join.specs.Plans.{plan_rest}
-use Rattle.join_table.proofs.Drives.{given_all}
+use Rattle.join_table.proofs.Drives.{given_all, gives_none, gives_stays}
 use Rattle.join_table.proofs.drive.drive.Goals as goal
+
+pub steps-init : goal.steps-init
+steps-init g c = gives_none (g.R.Reader.shown c.args.reader.now) c.args.plan.now c.requires
+
+pub steps-preserved : goal.steps-preserved
+steps-preserved g c =
+    let shown = g.R.Reader.shown c.args.reader.now in
+    let due = plan_rest shown c.args.plan.now in
+    gives_stays shown due c.forward.new.offers.items c.forward.new.plan c.background.new.plan (c.in_ok-forward.ensures.gives due c.steps.invariant) c.background.ensures
 
 pub returns-then-branch : goal.returns-then-branch
 returns-then-branch g c = λ ended.

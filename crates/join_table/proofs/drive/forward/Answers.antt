@@ -15,3 +15,14 @@ pub returns-in-End-clause-gives : goal.returns-in-End-clause-gives
 returns-in-End-clause-gives g c = λ due gives.
     let step = rw c.in-End.is at c.in_ok-offer.ensures.step in
     gives_end (g.R.Reader.shown c.args.reader.now) due c.args.offers.now.items c.args.plan.now c.step.new.self gives c.step.ensures.fits step
+
+pub returns-in_ok-push-in-Row-clause-ends : goal.returns-in_ok-push-in-Row-clause-ends
+returns-in_ok-push-in-Row-clause-ends g c = λ e. absurd (cc)
+
+pub returns-in-Working-clause-ends : goal.returns-in-Working-clause-ends
+returns-in-Working-clause-ends g c = λ e. absurd (cc)
+
+pub returns-in-End-clause-ends : goal.returns-in-End-clause-ends
+returns-in-End-clause-ends g c = λ e.
+    let step = rw c.in-End.is at c.in_ok-offer.ensures.step in
+    step.step.1
