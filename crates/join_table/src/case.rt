@@ -4,6 +4,7 @@ ghost use Rattle.std.specs.List.Sorted.{IsPermutation};
 ghost use Rattle.rv_model.specs.Offering.{offers_over};
 ghost use Rattle.rv_plain.specs.Kept.{shown_of};
 ghost use Rattle.rv_join.specs.Levels.{table_rows};
+ghost use Rattle.rv_join.specs.Plans.{PlanFits, plan_rest};
 ghost use Rattle.join_table.specs.Asking.{HasIndexes, IsOurs};
 ghost use Rattle.join_table.specs.Laying.{Offers};
 
@@ -20,9 +21,28 @@ use rv_reader::Reader;
 use rv_value::NoMemory;
 use std::alloc::Global;
 
+/// What is left goes, with all that it holds. A function of any type calls its drop, and sees none of its parts: a plan has so many
+/// that what its cases cost is minutes of the prover.
+fn leave<T: Drop>(_left: T) {}
+
+/// Drives a plan to its end, and tells its trace then.
+fn followed<R: Reader<Ledger = Uncounted>>(
+    alloc: Global,
+    reader: &R,
+    plan: &mut Plan,
+    judge: &mut Box<dyn Judge>,
+    so_many: u32,
+    steps: &mut Steps<Uncounted>,
+) -> Result<(Driven, Trace), NoMemory>
+    requires { PlanFits (R.shown reader.now) plan.old }
+    ensures { IfOk result (λ found. found.0.ended ≡ true → IsPermutation (plan_rest (R.shown reader.now) plan.old) found.0.offers.items) }
+{
+    let driven = drive(alloc, reader, plan, judge, so_many, steps)?;
+    Ok((driven, plan.trace()))
+}
+
 /// Opens a plan of a select, and drives it to its end. The offers of one that ended are those of the definition, each as
 /// often.
-#[tactic(auto, using(crate::proofs::Asks::can_plan))]
 fn planned<R: Reader<Ledger = Uncounted>>(
     alloc: Global,
     reader: &R,
@@ -39,8 +59,9 @@ fn planned<R: Reader<Ledger = Uncounted>>(
 {
     let mut steps = Steps::new(Uncounted);
     let mut plan = Plan::open(alloc, reader, select, indexes, snap, 1, false, &mut steps)?;
-    let driven = drive(alloc, reader, &mut plan, judge, so_many, &mut steps)?;
-    Ok((driven, plan.trace()))
+    let found = followed(alloc, reader, &mut plan, judge, so_many, &mut steps);
+    leave(plan);
+    found
 }
 
 /// A judge of the three, by its name.

@@ -6,6 +6,9 @@ use Rattle.join_table.proofs.drive.drive.Goals as goal
 pub steps-init : goal.steps-init
 steps-init g c = gives_none (g.R.Reader.shown c.args.reader.now) c.args.plan.now c.requires
 
+pub forward-requires : goal.forward-requires
+forward-requires g c = c.steps.invariant.fits
+
 pub steps-preserved : goal.steps-preserved
 steps-preserved g c =
     let shown = g.R.Reader.shown c.args.reader.now in
