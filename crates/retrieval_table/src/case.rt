@@ -44,6 +44,10 @@ fn told(
     Ok(format!(in alloc; "{word}, {}; {}", rows.as_str(), trace.as_str())?)
 }
 
+/// What is left goes, with all that it holds. A function of any type calls its drop, and sees none of its parts: an access has
+/// so many that what its cases cost is minutes of the prover.
+fn leave<T: Drop>(_left: T) {}
+
 /// Opens an access for what is asked, and drives it to its end. The rows of one that ended are those of the snapshot
 /// that qualify, each once.
 fn retrieve<R: Reader<Ledger = Uncounted>>(
@@ -71,8 +75,13 @@ fn retrieve<R: Reader<Ledger = Uncounted>>(
     };
     let mut steps = Steps::new(Uncounted);
     let mut access = Access::open(alloc, reader, query, asked.race, 1, 1, &mut steps)?;
-    let driven = drive(alloc, reader, &mut access, &mut judge, way, &mut steps)?;
-    Ok((driven, access))
+    match drive(alloc, reader, &mut access, &mut judge, way, &mut steps) {
+        Ok(driven) => Ok((driven, access)),
+        Err(NoMemory) => {
+            leave(access);
+            Err(NoMemory)
+        }
+    }
 }
 
 /// What comes of an access.
@@ -87,5 +96,7 @@ pub fn outcome<R: Reader<Ledger = Uncounted>>(
     requires { Stands (R.shown reader.now) loaded }
 {
     let (driven, access) = retrieve(alloc, reader, loaded, asked, ruling, way)?;
-    told(alloc, loaded, asked, &driven, &access)
+    let line = told(alloc, loaded, asked, &driven, &access);
+    leave(access);
+    line
 }
