@@ -102,8 +102,9 @@ pub fn open<R: Reader>(
     })
 }
 
-/// A level that is left goes with all that it holds. In a function of its own no other goal sees the parts that go.
-fn leave(_level: Level) {}
+/// A level that is left goes with all that it holds. A function of any type calls its drop, and sees none of its parts, which are
+/// so many that their cases cost minutes of the prover.
+fn leave<T: Drop>(_left: T) {}
 
 /// The open levels: changes of fields, and looks.
 impl Stack {
