@@ -4,7 +4,7 @@ use Rattle.join_table.proofs.Drives.{given_all, gives_none, gives_stays}
 use Rattle.join_table.proofs.drive.drive.Goals as goal
 
 pub steps-init : goal.steps-init
-steps-init g c = gives_none (g.R.Reader.shown c.args.reader.now) c.args.plan.now c.requires
+steps-init g c = rw c.new-offers.ensures.items (gives_none (g.R.Reader.shown c.args.reader.now) c.args.plan.now c.requires)
 
 pub forward-requires : goal.forward-requires
 forward-requires g c = c.steps.invariant.fits
