@@ -1,4 +1,4 @@
 use Rattle.rv_core.proofs.cursors.close_at.Goals as goal
 
 pub returns : goal.returns
-returns c = c.remove-closed.ensures.rest
+returns c = c.remove.ensures.rest
