@@ -34,7 +34,8 @@ abbrev pub either_group : Option Either → List (List Atom)
 either_group None = []
 either_group (Some e) = either_atoms e ∷ []
 
--- the restriction: each column lies in its span, where it has one, and one of those lies in its span of which one is enough
+-- the restriction: each column lies in its span, where it has one, and one of those lies in its span of which one is
+-- enough
 abbrev pub spans_of : Asked → List (List Atom)
 spans_of asked = span_group 0 asked.first ++ span_group 1 asked.second ++ span_group 2 asked.third ++ either_group asked.either
 

@@ -1,4 +1,5 @@
--- THE WORDS THAT ARE COMMON TO ALL KINDS OF ACCESS to one table: what an access is asked, where it stands, what it owes.
+-- THE WORDS THAT ARE COMMON TO ALL KINDS OF ACCESS to one table: what an access is asked, where it stands, what it
+-- owes.
 use Rattle.std.specs.Prelude.{◌≡◌, ℕ, true, List, [], Option}
 use Rattle.std.specs.List.{list_all}
 use Rattle.rv_value.specs.declared.record.Record.{Record}
@@ -130,7 +131,8 @@ effort (Competing v) shown = retrieval_effort v shown
 effort (Racing r) shown = race_effort r.race shown
 effort (Uniting u) shown = union_effort u.union shown
 
--- a short index was scanned at opening: no piece is awaited, and the table is not scanned. A race and a union have none.
+-- a short index was scanned at opening: no piece is awaited, and the table is not scanned. A race and a union have
+-- none.
 abbrev pub Settled : Access → Type 0
 Settled (Competing v) = RetrievalSettled v
 Settled (Racing r) = ⊥

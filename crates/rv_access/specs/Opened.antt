@@ -59,7 +59,8 @@ is_table Sorted = false
 is_table IndexOnly = false
 is_table Union = false
 
--- WHERE MEMBERS ARE PUT TOGETHER: the table would be read, and a group has two branches or more that bound an index each
+-- WHERE MEMBERS ARE PUT TOGETHER: the table would be read, and a group has two branches or more that bound an index
+-- each
 abbrev pub unites : Query → Shown → Choice → Bool
 unites query shown choice = is_table choice.strategy && some_serves query shown
 
@@ -117,15 +118,15 @@ OpenedBy true united query shown cursor opening choice a = Races query shown cur
 OpenedBy false true query shown cursor opening choice a = Unites query shown cursor opening a
 OpenedBy false false query shown cursor opening choice a = Competes query shown cursor opening a
 
--- THE STRATEGY AND THE SCANS ARE THOSE OF THE FIVE RULES. Where a race is asked and indexes can race they do. Where the table
--- would be read and a group serves its members are put together.
+-- THE STRATEGY AND THE SCANS ARE THOSE OF THE FIVE RULES. Where a race is asked and indexes can race they do. Where
+-- the table would be read and a group serves its members are put together.
 pub record Opened (race : Bool) (query : Query) (shown : Shown) (cursor opening : ℕ) (a : Access) : Type 0 where
   pub choice : Choice
   pub chosen : IsChosen query.order query.goal (candidates_of query shown) choice
   pub opened : OpenedBy (race && races choice (candidates_of query shown)) (unites query shown choice) query shown cursor opening choice a
 
--- WHAT IT IS WHERE IT BEGINS: it owes each record that qualifies; what the opening has read is counted, and the effort is
--- below the bound that the reader's lists give
+-- WHAT IT IS WHERE IT BEGINS: it owes each record that qualifies; what the opening has read is counted, and the
+-- effort is below the bound that the reader's lists give
 pub record Begins (query : Query) (shown : Shown) (c d : Counts) (a : Access) : Type 0 where
   pub asked : query_of a ≡ query
   pub fits : AccessFits a shown

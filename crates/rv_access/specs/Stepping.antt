@@ -22,7 +22,8 @@ use Rattle.rv_access.specs.declared.racing.RacedQuery.{RacedQuery}
 use Rattle.rv_access.specs.declared.uniting.UnitedQuery.{UnitedQuery}
 use Rattle.rv_access.specs.Accesses.{Alike, Settled, fetches_left, query_of, rest}
 
--- WHAT A STEP GIVES: it takes one record out of the rest, least in the order columns, or leaves the rest, or the rest is empty
+-- WHAT A STEP GIVES: it takes one record out of the rest, least in the order columns, or leaves the rest, or the rest
+-- is empty
 abbrev pub GivesStep : Access → Access → Shown → Fg → Type 0
 GivesStep old new shown (Row r) = TakesOut (query_of old).need r (rest old shown) (rest new shown) × IsLeast (query_of old).order r (rest old shown)
 GivesStep old new shown Working = rest new shown ≡ rest old shown
@@ -74,7 +75,8 @@ pub record UnitedOnly (old new : UnitedQuery) : Type 0 where
   pub same : new ≡ record old { union = new.union }
   pub only : UnionOnly old.union new.union
 
--- WHAT A STEP LEAVES THAT FOUND NO MEMORY: the awaited leaf may have been taken, and keys passed over. No piece is accepted.
+-- WHAT A STEP LEAVES THAT FOUND NO MEMORY: the awaited leaf may have been taken, and keys passed over. No piece is
+-- accepted.
 abbrev pub OnlyTakes : Access → Access → Type 0
 OnlyTakes old new = Alike RetrievalOnly RacedOnly UnitedOnly old new
 

@@ -22,8 +22,8 @@ some_restricted cs = list_any (λ (c : Candidate). c.restricted) cs
 abbrev pub is_bounded : Query → Shown → List (List Atom) → Bool
 is_bounded query shown branch = some_restricted (seen_by query shown branch)
 
--- THE MEMBER OF A BRANCH: of the indexes for which its range is not whole the one with the least estimate, of equal ones the
--- one created first, with the range and the part that the branch has for it
+-- THE MEMBER OF A BRANCH: of the indexes for which its range is not whole the one with the least estimate, of equal
+-- ones the one created first, with the range and the part that the branch has for it
 pub record IsMember (query : Query) (shown : Shown) (branch : List (List Atom)) (plan : ScanPlan) : Type 0 where
   pub at : ℕ
   pub least : IsLeastOf Restricted (seen_by query shown branch) (Some at)

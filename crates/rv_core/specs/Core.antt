@@ -34,8 +34,8 @@ plans_in shown judge = record { opens = shown.opens; opened = shown.opened; judg
 abbrev pub horizon_of : State → ℕ
 horizon_of db = horizon db.transactions.active db.last
 
--- The history is legal, the phase is that of the last entry or later, and the database is the one after the history. The
--- store keeps what the transactions need, and no older snapshot.
+-- The history is legal, the phase is that of the last entry or later, and the database is the one after the history.
+-- The store keeps what the transactions need, and no older snapshot.
 pub record IsSound {S : Type 0} (shown : Shown S) : Type 0 where
   pub legal : IsLegal shown.history
   pub database : shown.db ≡ after shown.history
@@ -47,9 +47,9 @@ pub record IsSound {S : Type 0} (shown : Shown S) : Type 0 where
 abbrev pub entry : ℕ → ℕ → List ℕ → Reply → Entry
 entry session phase text reply = record { session = session; phase = phase; text = text; reply = reply }
 
--- AN ANSWERED CALL, made under a judge that stood and now stands there: the history gains exactly the entry of this call, and
--- the database is the step by it. The store keeps what the transactions need. The plans are handled as the call asks, and a
--- refused call leaves them; a search of an UPDATE or DELETE may have asked the judge.
+-- AN ANSWERED CALL, made under a judge that stood and now stands there: the history gains exactly the entry of this
+-- call, and the database is the step by it. The store keeps what the transactions need. The plans are handled as the
+-- call asks, and a refused call leaves them; a search of an UPDATE or DELETE may have asked the judge.
 pub record Answers {S : Type 0} (u : Under) (judge ruled : ℕ) (old new : Shown S) (session : ℕ) (text : List ℕ) (reply : Reply) : Type 0 where
   pub gained : new.history ≡ old.history ++ entry session old.phase text reply ∷ []
   pub same_phase : new.phase ≡ old.phase
@@ -59,8 +59,8 @@ pub record Answers {S : Type 0} (u : Under) (judge ruled : ℕ) (old new : Shown
   pub numbers : new.opened ≤ old.opened + 1
   pub plans : HandlesText u (statement_of text) old.db session reply (plans_in old judge) (plans_in new ruled)
 
--- A CALL FOR WHICH NO MEMORY WAS FOUND: nothing is changed, but that a FETCH or STEP may have moved the plan of its cursor, and
--- that an UPDATE or DELETE may have asked the judge
+-- A CALL FOR WHICH NO MEMORY WAS FOUND: nothing is changed, but that a FETCH or STEP may have moved the plan of its
+-- cursor, and that an UPDATE or DELETE may have asked the judge
 pub record Unanswered {S : Type 0} (u : Under) (judge ruled : ℕ) (old new : Shown S) (session : ℕ) (text : List ℕ) : Type 0 where
   pub kept : new ≡ record old { store = new.store; opens = new.opens }
   pub plans : LeavesText u (statement_of text) old.db session (plans_in old judge) (plans_in new ruled)

@@ -31,8 +31,8 @@ use Rattle.rv_cursor.specs.Moves.{FetchMoves, Moves, Ruled, StepsBacks, TurnMove
 use Rattle.rv_core.specs.declared.settings.Settings.{Settings}
 use Rattle.rv_core.specs.Db.{Whole, base_of, open_named}
 
--- WHAT A CALL IS MADE UNDER: what the store shows, what the judge would rule, and what was set: how many background steps may
--- follow each foreground step of a FETCH, and whether indexes may race
+-- WHAT A CALL IS MADE UNDER: what the store shows, what the judge would rule, and what was set: how many background
+-- steps may follow each foreground step of a FETCH, and whether indexes may race
 pub record Under : Type 0 where
   pub store : Shown
   pub would : ℕ → Facts → Ruling
@@ -50,8 +50,8 @@ pub record Plans : Type 0 where
 abbrev pub plans_of : {S : Type 0} → Whole S → ℕ → Plans
 plans_of w judge = record { opens = w.opens; opened = w.opened; judge = judge }
 
--- WHAT THE OPEN CURSORS SEE STAYS: at the snapshot of each the store shows the rows, pages, entries, cuts and estimates that it
--- showed before
+-- WHAT THE OPEN CURSORS SEE STAYS: at the snapshot of each the store shows the rows, pages, entries, cuts and
+-- estimates that it showed before
 pub record SeesSame (old new : Shown) (opens : List Open) : Type 0 where
   pub each : AllByRecursion (λ (c : Open). seen_by new c ≡ seen_by old c) opens
 
@@ -69,8 +69,8 @@ abbrev pub MovesNamed : (Open → Shown → Ruled → Ruled → Type 0) → Show
 MovesNamed way shown None old new = new ≡ old
 MovesNamed way shown (Some place) old new = (new.opened ≡ old.opened) × MovesAt way shown place old.judge new.judge old.opens new.opens
 
--- the ways in which a cursor's plan moves: by calls of the plan alone; by a FETCH, which leaves it where a row is in hand; and
--- by one turn of a FETCH, which makes a reply or works on
+-- the ways in which a cursor's plan moves: by calls of the plan alone; by a FETCH, which leaves it where a row is in
+-- hand; and by one turn of a FETCH, which makes a reply or works on
 abbrev pub AnyOf : (ℕ → Facts → Ruling) → Open → Shown → Ruled → Ruled → Type 0
 AnyOf would c shown old new = Moves would shown old new
 
@@ -81,11 +81,10 @@ pub record FetchOf (most : ℕ) (would : ℕ → Facts → Ruling) (c : Open) (s
 abbrev pub TurnOf : Option (Reply × Reply) → ℕ → (ℕ → Facts → Ruling) → Open → Shown → Ruled → Ruled → Type 0
 TurnOf part most would c shown old new = TurnMoves c.hand part most would shown old new
 
--- THE BOUNDS WITH WHICH A PLAN BEGINS. It has read leaves alone. These reads and the effort of the first FROM item's retrieval
--- are together at most a number of the store's pages, cuts and entries and of the branches that the groups may have, and so is the
--- work left of all items. Where a restricted
--- index of the first item has an exact estimate of at most 20, the background is over, and at most 20 records are left to be
--- fetched.
+-- THE BOUNDS WITH WHICH A PLAN BEGINS. It has read leaves alone. These reads and the effort of the first FROM item's
+-- retrieval are together at most a number of the store's pages, cuts and entries and of the branches that the groups
+-- may have, and so is the work left of all items. Where a restricted index of the first item has an exact estimate of
+-- at most 20, the background is over, and at most 20 records are left to be fetched.
 pub record IsBounded (shown : Shown) (s : Select) (indexes : List IndexDef) (snap : ℕ) (p : Planned) : Type 0 where
   pub work : plan_work shown p ≤ row_cost (lives_of p.asked.only) shown snap p.asked.items
   pub life : reads p.reads + plan_effort shown p ≤ plan_life s indexes shown snap
@@ -93,10 +92,11 @@ pub record IsBounded (shown : Shown) (s : Select) (indexes : List IndexDef) (sna
   pub records : p.reads.records ≡ 0
   pub short : has_short (query_of p.stack.at.here) shown ≡ true → Settled p.stack.at.here × (fetches_left p.stack.at.here shown ≤ 20)
 
--- OPEN adds a cursor last, under the next number, at the base of the session's transaction, whose plan is that of its select:
--- drawn from what the store shows there with the transaction's changes, which is its view, with the strategy and the scans that the five rules choose by the store's own estimates,
--- with a race where one is asked and two of these scans can race, with a union where the table would be read and a group has
--- members, and with the bounds of such a plan.
+-- OPEN adds a cursor last, under the next number, at the base of the session's transaction, whose plan is that of its
+-- select: drawn from what the store shows there with the transaction's changes, which is its view, with the strategy
+-- and the scans that the five rules choose by the store's own estimates, with a race where one is asked and two of
+-- these scans can race, with a union where the table would be read and a group has members, and with the bounds of
+-- such a plan.
 pub record OpensPlan (race : Bool) (shown : Shown) (s : Select) (db : State) (session : ℕ) (name : List ℕ) (old new : Plans) : Type 0 where
   pub cursor : Open
   pub added : new ≡ record old { opens = old.opens ++ cursor ∷ []; opened = old.opened + 1 }
@@ -173,8 +173,8 @@ pub record HandlesText (u : Under) (statement : Option Statement) (db : State) (
   pub asked : Handles u (understood db.schema statement) db session reply old new
   pub refused : (refusal : Refusal) → reply ≡ Refused refusal → Refuses (understood db.schema statement) old new
 
--- WHAT ONE TURN'S PART OF A CALL DOES WHERE IT WORKS ON: the call is a FETCH of an open cursor, whose plan's step answered
--- Working
+-- WHAT ONE TURN'S PART OF A CALL DOES WHERE IT WORKS ON: the call is a FETCH of an open cursor, whose plan's step
+-- answered Working
 abbrev pub Works : Under → Result Resolved Refusal → ℕ → Plans → Plans → Type 0
 Works u (Ok (asks.Fetch name)) session old new = IsSome (open_named old.opens session name) × MovesNamed (TurnOf None u.settings.steps u.would) u.store (open_named old.opens session name) old new
 Works u (Ok other) session old new = ⊥
@@ -196,8 +196,8 @@ Turns u (Err refusal) session reply old new = Unit {0}
 pub record TurnsText (u : Under) (statement : Option Statement) (db : State) (session : ℕ) (reply : Reply) (old new : Plans) : Type 0 where
   pub turn : Turns u (understood db.schema statement) session reply old new
 
--- WHAT A CALL DOES TO THE PLANS FOR WHICH NO MEMORY WAS FOUND: FETCH and STEP may have moved their cursor's plan, UPDATE and
--- DELETE may have searched, and no other call does anything
+-- WHAT A CALL DOES TO THE PLANS FOR WHICH NO MEMORY WAS FOUND: FETCH and STEP may have moved their cursor's plan,
+-- UPDATE and DELETE may have searched, and no other call does anything
 abbrev pub Leaves : Under → Result Resolved Refusal → ℕ → Plans → Plans → Type 0
 Leaves u (Ok (asks.Fetch name)) session old new = MovesNamed (AnyOf u.would) u.store (open_named old.opens session name) old new
 Leaves u (Ok (asks.Step name n)) session old new = MovesNamed (AnyOf u.would) u.store (open_named old.opens session name) old new

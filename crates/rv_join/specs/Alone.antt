@@ -1,4 +1,5 @@
--- WHAT A STEP OF A PLAN DOES TO ITS OPEN RETRIEVALS; a plan over one FROM item, whose calls are those of its one retrieval.
+-- WHAT A STEP OF A PLAN DOES TO ITS OPEN RETRIEVALS; a plan over one FROM item, whose calls are those of its one
+-- retrieval.
 use Rattle.std.specs.Prelude.{◌≡◌, ◌⊎◌, ℕ, ◌+◌, ◌*◌, ◌<◌, ◌≤◌, ◌++◌, ◌∷◌, [], Bool, true, false, List, length, Option, None, IfSome}
 use Rattle.rv_judge.specs.Account.{life_bound}
 use Rattle.rv_judge.specs.Counting.{reads}
@@ -29,9 +30,9 @@ use Rattle.rv_join.specs.Work.{held_rows}
 abbrev pub IsAlone : Planned → Type 0
 IsAlone p = length p.asked.items ≡ 1
 
--- A step of the retrieval was made, which answered this, or for which memory was wanting: it did and read what a foreground
--- step does and may read, and asked the judge as one does; without memory it may have taken a leaf, and accepted no piece.
--- Where a short index was scanned at opening it asked no judge and read no page.
+-- A step of the retrieval was made, which answered this, or for which memory was wanting: it did and read what a
+-- foreground step does and may read, and asked the judge as one does; without memory it may have taken a leaf, and
+-- accepted no piece. Where a short index was scanned at opening it asked no judge and read no page.
 pub record FgCalls (fg : Option Fg) (would : ℕ → Facts → Ruling) (state after : ℕ) (shown : Shown) (c d : Counts) (old new : Access) : Type 0 where
   pub does : IfSome fg (λ s. StepsAs would state after shown c d s old new)
   pub wants : fg ≡ None → (after ≡ state) × SameCourse old new × OnlyTakes old new
@@ -40,8 +41,8 @@ pub record FgCalls (fg : Option Fg) (would : ℕ → Facts → Ruling) (state af
   pub records : Settled old → IfSome fg (λ s. d.records + fetches_left new shown ≤ c.records + fetches_left old shown)
   pub fewer : fg ≡ None → fetches_left new shown ≤ fetches_left old shown
 
--- WHAT AN ANSWERED STEP MAY FETCH where a short index was scanned at opening: the records fetched and those that may still be
--- fetched are together no more than before
+-- WHAT AN ANSWERED STEP MAY FETCH where a short index was scanned at opening: the records fetched and those that may
+-- still be fetched are together no more than before
 pub record Fetches (shown : Shown) (c d : Counts) (old new : Access) : Type 0 where
   pub records : Settled old → d.records + fetches_left new shown ≤ c.records + fetches_left old shown
 
@@ -56,14 +57,14 @@ level_effort shown l = effort l.here shown + held_rows l.row
 abbrev pub plan_effort : Shown → Planned → ℕ
 plan_effort shown p = level_effort shown p.stack.at
 
--- WHAT A STEP DOES TO THE ONE RETRIEVAL, whatever it answers: at most one step of it, which reads at most once and does not
--- raise the effort
+-- WHAT A STEP DOES TO THE ONE RETRIEVAL, whatever it answers: at most one step of it, which reads at most once and
+-- does not raise the effort
 pub record StepsOnce (would : ℕ → Facts → Ruling) (state after : ℕ) (shown : Shown) (c d : Counts) (old new : Level) : Type 0 where
   pub calls : CallsOnce would state after shown c d old.here new.here
   pub tries : Tries c d (level_effort shown old) (level_effort shown new)
 
--- HOW NESTED LOOPS GO ON once the innermost retrieval was called: they rest; the row that it holds is used; the next item's
--- retrieval is opened over that row; or the level above is returned to
+-- HOW NESTED LOOPS GO ON once the innermost retrieval was called: they rest; the row that it holds is used; the next
+-- item's retrieval is opened over that row; or the level above is returned to
 pub data Onward : Type 0 where
   Rests : Onward
   Uses : Onward
@@ -90,8 +91,8 @@ pub record StackCalls (would : ℕ → Facts → Ruling) (state after : ℕ) (sh
 abbrev pub StackAsks : (ℕ → Facts → Ruling) → ℕ → ℕ → Shown → Counts → Stacked → Stacked → Type 0
 StackAsks would state after shown before old new = StackCalls would state after shown before old new ⊎ ((new ≡ old) × (after ≡ state))
 
--- A STEP OF A PLAN, whatever it answers: at most one step of the innermost open retrieval, upon which the judge is asked and
--- obeyed as by that step, and never else
+-- A STEP OF A PLAN, whatever it answers: at most one step of the innermost open retrieval, upon which the judge is
+-- asked and obeyed as by that step, and never else
 abbrev pub PlanAsks : (ℕ → Facts → Ruling) → ℕ → ℕ → Shown → Counts → Planned → Planned → Type 0
 PlanAsks would state after shown before old new = StackAsks would state after shown before old.stack new.stack
 

@@ -14,8 +14,8 @@ abbrev pub StandsBy : Bool → Shown → Choice → Access → Type 0
 StandsBy true shown choice v = (strategy_of v ≡ Union) × AreUnited (query_of v) shown (planned_of v)
 StandsBy false shown choice v = (strategy_of v ≡ choice.strategy) × AreScans (query_of v).only (candidates_of (query_of v) shown) choice.background (planned_of v)
 
--- ITS STRATEGY AND PLANNED SCANS ARE THOSE OF THE FIVE RULES, for what it was asked; where the table would be read and a group
--- serves, they are those of a union
+-- ITS STRATEGY AND PLANNED SCANS ARE THOSE OF THE FIVE RULES, for what it was asked; where the table would be read
+-- and a group serves, they are those of a union
 pub record IsByRules (shown : Shown) (v : Access) : Type 0 where
   pub choice : Choice
   pub chosen : IsChosen (query_of v).order (query_of v).goal (candidates_of (query_of v) shown) choice

@@ -9,8 +9,8 @@ use Rattle.rv_join.specs.declared.level.Level.{Level}
 use Rattle.rv_join.specs.Asking.{item_life, lives_of}
 use Rattle.rv_join.specs.Levels.{Stacked}
 
--- what a row of the items before these may cost: an access to the next item is opened, of so many lives at most, gives at
--- most the rows of its table, and ends
+-- what a row of the items before these may cost: an access to the next item is opened, of so many lives at most,
+-- gives at most the rows of its table, and ends
 abbrev pub row_cost : ℕ → Shown → ℕ → List Item → ℕ
 row_cost lives shown snap [] = 1
 row_cost lives shown snap (i ∷ is) = item_life lives shown snap i + 2 + length (shown.rows i.table snap) * row_cost lives shown snap is

@@ -96,8 +96,8 @@ leaves_after cuts (Some cut) = leaves_from cuts (Some cut)
 abbrev pub is_ahead : Option IndexEntry → Range → IndexEntry → Bool
 is_ahead start range cut = not (is_passed start range cut) && not (after_side (place range cut.key))
 
--- HOW MANY LEAVES MAY HOLD what is still to be read of a range: the one in which the reading begins, and one for each cut
--- ahead; from a cut on where there is a following one
+-- HOW MANY LEAVES MAY HOLD what is still to be read of a range: the one in which the reading begins, and one for each
+-- cut ahead; from a cut on where there is a following one
 abbrev pub leaves_for : List IndexEntry → Range → Option IndexEntry → ℕ
 leaves_for cuts range start = length (filter (is_ahead start range) cuts) + 1
 

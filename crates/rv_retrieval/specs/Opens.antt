@@ -50,7 +50,8 @@ fg_of (Found r) = Row r
 fg_of Working = FgWorking
 fg_of End = FgEnd
 
--- WHAT A STEP DOES: it takes one record out of the rest, least in the order columns, or leaves the rest, or the rest is empty
+-- WHAT A STEP DOES: it takes one record out of the rest, least in the order columns, or leaves the rest, or the rest
+-- is empty
 abbrev pub GivesStep : Shape → Shape → Shown → Fg → Type 0
 GivesStep old new shown (Row r) = TakesOut old.query.need r (rest old shown) (rest new shown) × IsLeast old.query.order r (rest old shown)
 GivesStep old new shown FgWorking = rest new shown ≡ rest old shown

@@ -27,8 +27,9 @@ use Rattle.rv_scan.specs.declared.skip.Scanned.TheVariants.{Found, Working, End}
 use Rattle.rv_final.specs.Rest.{IsLeast, Steps, rest_by, qualifies_at, Agree, has_row}
 use Rattle.rv_final.specs.Stage.{LastFits, Unbegun, keys_left}
 
--- Everything that a retrieval keeps. `borrowed` counts the keys that fast-first has borrowed of the list that it borrows
--- from, `at` those of the complete list that the final stage has passed, and `last` is the final scan of the table.
+-- Everything that a retrieval keeps. `borrowed` counts the keys that fast-first has borrowed of the list that it
+-- borrows from, `at` those of the complete list that the final stage has passed, and `last` is the final scan of the
+-- table.
 pub record Shape : Type 0 where
   pub query : Query
   pub strategy : Strategy
@@ -137,8 +138,8 @@ is_early Pages = false
 is_early Nowhere = false
 
 -- the foreground's scan was drawn from what a reader shows; its index has every row that qualifies, where it is scanned
--- alone, as in an index-only retrieval, every column needed, and where the retrieval is ordered it begins with the order
--- columns
+-- alone, as in an index-only retrieval, every column needed, and where the retrieval is ordered it begins with the
+-- order columns
 pub record FrontFits (query : Query) (strategy : Strategy) (f : Front) (shown : Shown) : Type 0 where
   pub can : CanFront f query.only query.table shown query.snap
   pub follows : Follows (walk_of f) (shown.entries (walk_of f).index query.snap)

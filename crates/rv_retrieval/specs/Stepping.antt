@@ -35,8 +35,8 @@ use Rattle.rv_scan.specs.Fronts.{FrontMayRead, FrontReads, SameFront}
 use Rattle.rv_scan.specs.Reads.{OneAtMost}
 use Rattle.rv_judge.specs.Tracing.{SameCounts, counted, noted}
 
--- WHAT EVERY STEP KEEPS, whatever it answers: the query, the foreground's scan but for its place, and that a scan is under
--- way where pieces are awaited. It writes no counts into the trace; its caller does.
+-- WHAT EVERY STEP KEEPS, whatever it answers: the query, the foreground's scan but for its place, and that a scan is
+-- under way where pieces are awaited. It writes no counts into the trace; its caller does.
 pub record Steady (old new : Shape) : Type 0 where
   pub counts : SameCounts old.trace new.trace
   pub query : new.query ≡ old.query
@@ -110,8 +110,8 @@ pub record Borrows (key : ℕ) (shown : Shown) (before after : Counts) (s : Scan
   pub looks : s ≡ looked old.query.only (row_at (rows_of old shown) key)
   pub left : RemembersBy s (record old { borrowed = new.borrowed }) new
 
--- What a step is: the fetch of a fresh key, a background step, a step of the foreground's scan that remembers nothing or
--- what it gives, the fetch of a key of the complete list, a step through the table, or nothing.
+-- What a step is: the fetch of a fresh key, a background step, a step of the foreground's scan that remembers nothing
+-- or what it gives, the fetch of a key of the complete list, a step through the table, or nothing.
 pub data Kind : Type 0 where
   Borrow : ℕ → Kind
   Piece : Kind
@@ -183,8 +183,8 @@ ReadsAs Over v s c d = d ≡ c
 abbrev pub ReadsIts : Shape → Counts → Counts → Scanned → Type 0
 ReadsIts v c d s = ReadsAs (kind_of v.control v.strategy (fresh_of v)) v s c d
 
--- WHAT A STEP LEAVES THAT FOUND NO MEMORY: the awaited leaf may have been taken and keys of delivered rows passed over. No
--- piece is accepted.
+-- WHAT A STEP LEAVES THAT FOUND NO MEMORY: the awaited leaf may have been taken and keys of delivered rows passed
+-- over. No piece is accepted.
 pub record OnlyTakes (old new : Shape) : Type 0 where
   pub same : new ≡ record old { joint = new.joint; borrowed = new.borrowed; at = new.at; trace = new.trace }
   pub leaves : (new.joint ≡ old.joint) ⊎ TakesLeaf old new.joint

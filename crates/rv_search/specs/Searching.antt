@@ -17,8 +17,8 @@ use Rattle.rv_retrieval.specs.Shape.{RetrievalFits, Shape, rest}
 use Rattle.rv_retrieval.specs.Short.{Settled, fetches_left}
 use Rattle.rv_search.specs.Named.{columns_named}
 
--- WHAT A SEARCH ASKS: the rows of a table at a snapshot for which a restriction is True, in any order. The columns that the
--- restriction names are needed, and all rows are wanted soon.
+-- WHAT A SEARCH ASKS: the rows of a table at a snapshot for which a restriction is True, in any order. The columns
+-- that the restriction names are needed, and all rows are wanted soon.
 abbrev pub search_of : ℕ → ℕ → List (List Atom) → List (ℕ × List ℕ) → Query
 search_of table snap only indexes = record { table = table; snap = snap; only = only; indexes = indexes; need = columns_named only; order = []; goal = TotalTime }
 
@@ -39,9 +39,10 @@ abbrev pub rows_of : List Record → List RowNo → List Record
 rows_of rows [] = []
 rows_of rows (n ∷ ns) = with_found (row_at rows n.0) (rows_of rows ns)
 
--- WHAT STEPS OF A SEARCH LEAVE: the rows found and those that the retrieval still owes are, each once, those that were found
--- and owed before; what was read and the effort that is left are together no more than before. Where a short index was scanned
--- at opening no page is read, and the records fetched and those that may still be fetched are no more than before.
+-- WHAT STEPS OF A SEARCH LEAVE: the rows found and those that the retrieval still owes are, each once, those that
+-- were found and owed before; what was read and the effort that is left are together no more than before. Where a
+-- short index was scanned at opening no page is read, and the records fetched and those that may still be fetched are
+-- no more than before.
 pub record Gathers (shown : Shown) (c d : Counts) (before after : List RowNo) (old new : Shape) : Type 0 where
   pub fits : RetrievalFits new shown
   pub awaiting : Awaiting new

@@ -1,5 +1,5 @@
--- INSERT, UPDATE AND DELETE IN TWO HALVES: what is due, which changes nothing; and what is put, which wants memory alone.
--- Between the two whoever holds the transaction's view brings it up to date.
+-- INSERT, UPDATE AND DELETE IN TWO HALVES: what is due, which changes nothing; and what is put, which wants memory
+-- alone. Between the two whoever holds the transaction's view brings it up to date.
 use Rattle.std.specs.Prelude.{ℕ, List, Option, Some, None, Result, Ok, nat_lt, length, map}
 use Rattle.rv_value.specs.declared.value.Value.{Value}
 use Rattle.rv_value.specs.declared.record.Record.{Record}

@@ -106,8 +106,8 @@ pub record OnePiece (would : ℕ → Facts → Ruling) (state after : ℕ) (old 
   pub awaits : Awaits taken piece
   pub obeys : GivesOn would state after piece Accepted taken new
 
--- WHAT A STEP DOES AND READS, by the control: one piece, upon which the judge is asked and obeyed as by a give; the fetch of
--- the next key of the list; a step through the table; or nothing
+-- WHAT A STEP DOES AND READS, by the control: one piece, upon which the judge is asked and obeyed as by a give; the
+-- fetch of the next key of the list; a step through the table; or nothing
 abbrev pub DoesAs : Control → (ℕ → Facts → Ruling) → ℕ → ℕ → Shown → Counts → Counts → Scanned → Unioned → Unioned → Type 0
 DoesAs Building would state after shown c d s old new = ⊥
 DoesAs ForegroundAlone would state after shown c d s old new = ⊥
@@ -128,7 +128,8 @@ MayRead FinalList u c d = OneAtMost record_read c d
 MayRead FinalTable u c d = OneAtMost page_read c d
 MayRead Done u c d = d ≡ c
 
--- WHAT A STEP LEAVES THAT FOUND NO MEMORY: the awaited leaf may have been taken. No piece is accepted and no member ends.
+-- WHAT A STEP LEAVES THAT FOUND NO MEMORY: the awaited leaf may have been taken. No piece is accepted and no member
+-- ends.
 pub record OnlyTakes (old new : Unioned) : Type 0 where
   pub same : new ≡ record (holding new.lane.held old) { count = new.count; at = new.at; trace = new.trace }
   pub events : new.trace.events ≡ old.trace.events

@@ -26,8 +26,8 @@ use Rattle.rv_jscan.specs.Steps.{held_next, piece_counted}
 use Rattle.rv_union.specs.Given.{with_lane}
 use Rattle.rv_union.specs.Unioned.{Unioned, present}
 
--- A PIECE IS ACCEPTED: those of its rows are added that no member before had put there, it is counted, and the member goes
--- on to the next cut. `last` tells that there is none.
+-- A PIECE IS ACCEPTED: those of its rows are added that no member before had put there, it is counted, and the member
+-- goes on to the next cut. `last` tells that there is none.
 
 -- a list has a row not
 abbrev pub lacks : List ℕ → ℕ → Bool
@@ -42,8 +42,8 @@ accepted piece last u = record (with_lane (passed (lacks u.keys) piece u.lane) u
   number = one_more u.number;
 }
 
--- WHAT THE JUDGE IS TOLD of the present member: what it kept are the keys that it added. What is projected is that its scan
--- is finished and its list fetched, and with it the keys that the members before have added.
+-- WHAT THE JUDGE IS TOLD of the present member: what it kept are the keys that it added. What is projected is that
+-- its scan is finished and its list fetched, and with it the keys that the members before have added.
 
 abbrev pub account_of : Unioned → ScanAccount
 account_of u = record { estimate = (present u).estimate; scanned = u.count.scanned; kept = u.count.kept; leaves = u.count.leaves }
@@ -71,8 +71,8 @@ told event u = record u { trace = noted u.trace event }
 abbrev pub gone : Happening → Unioned → Unioned
 gone happening u = record u { control = next_control Union u.control happening; trace = noted u.trace (At (next_control Union u.control happening)) }
 
--- A MEMBER ENDED: what it built and the keys before it are one list, and the next member begins. Its index is told where it
--- is scanned for the first time. After the last member the list is fetched.
+-- A MEMBER ENDED: what it built and the keys before it are one list, and the next member begins. Its index is told
+-- where it is scanned for the first time. After the last member the list is fetched.
 
 abbrev pub joined : List ℕ → Unioned → Unioned
 joined keys u = record (with_lane no_lane u) { keys = keys }

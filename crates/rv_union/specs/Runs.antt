@@ -31,8 +31,8 @@ tail_control (Fetched i keys) = Done
 tail_control (Reading i) = FinalTable
 tail_control (Read i) = Done
 
--- WHAT THE TRACE TELLS: a Scan for each index, once, where a member was first begun on it, the present one's among them; and
--- then, as far as the union has come, the list or the drop of one of these indexes, and the end
+-- WHAT THE TRACE TELLS: a Scan for each index, once, where a member was first begun on it, the present one's among
+-- them; and then, as far as the union has come, the list or the drop of one of these indexes, and the end
 pub record Tells (u : Unioned) : Type 0 where
   pub named : u.trace.strategy ≡ Union
   pub begun : List ℕ

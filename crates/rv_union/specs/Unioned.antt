@@ -22,9 +22,10 @@ use Rattle.rv_jscan.specs.Lanes.{LaneFits, Laned}
 use Rattle.rv_final.specs.Rest.{qualifies_at, rest_by}
 use Rattle.rv_final.specs.Stage.{LastFits, Unbegun, list_left, table_left}
 
--- Everything that a union keeps. `plans` are its members, which never change; `member` is the position of the present one,
--- `lane` where that one stands in its index, and `count` what it did. `keys` are those that the members before it have put
--- together, ascending. `at` counts the keys that the final stage has passed, and `last` is the final scan of the table.
+-- Everything that a union keeps. `plans` are its members, which never change; `member` is the position of the present
+-- one, `lane` where that one stands in its index, and `count` what it did. `keys` are those that the members before
+-- it have put together, ascending. `at` counts the keys that the final stage has passed, and `last` is the final scan
+-- of the table.
 pub record Unioned : Type 0 where
   pub table : ℕ
   pub snap : ℕ
@@ -73,8 +74,8 @@ of_union Done = true
 abbrev pub rows_of : Unioned → Shown → List Record
 rows_of u shown = shown.rows u.table u.snap
 
--- whether a row is still to be given, if it qualifies: each one while members are scanned, then those of the keys left of
--- the list, or on the pages left of the table
+-- whether a row is still to be given, if it qualifies: each one while members are scanned, then those of the keys
+-- left of the list, or on the pages left of the table
 abbrev pub left_by : Control → List ℕ → ℕ → Place → List Record → ℕ → Bool
 left_by Building keys at last rows n = false
 left_by ForegroundAlone keys at last rows n = false
@@ -98,7 +99,8 @@ owed u shown n = qualifies_at u.only (rows_of u shown) n
 abbrev pub meets_any : List ScanPlan → Shown → ℕ → ℕ → Bool
 meets_any plans shown snap n = list_any (λ (p : ScanPlan). meets p shown snap n) plans
 
--- The members can be scanned. The entries of an index are of different rows, and EACH ROW THAT IS OWED MEETS SOME MEMBER.
+-- The members can be scanned. The entries of an index are of different rows, and EACH ROW THAT IS OWED MEETS SOME
+-- MEMBER.
 pub record MembersFit (plans : List ScanPlan) (owed : ℕ → Bool) (shown : Shown) (snap : ℕ) : Type 0 where
   pub each : (i : ℕ) → i < length plans → CanMake (plan_at plans i) shown snap
   pub apart : (i : ℕ) → i < length plans → Apart (shown.entries (plan_at plans i).index snap)
