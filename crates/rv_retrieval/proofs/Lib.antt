@@ -23,3 +23,4 @@ pub mod BothSides
 pub mod Fetches
 pub mod Shorts
 pub mod Waiting
+pub mod Remembering
