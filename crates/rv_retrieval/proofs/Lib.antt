@@ -24,3 +24,4 @@ pub mod Fetches
 pub mod Shorts
 pub mod Waiting
 pub mod Remembering
+pub mod Worked

@@ -6,8 +6,8 @@ ghost use Rattle.rv_reader.specs.Tables.{row_at};
 ghost use Rattle.rv_scan.specs.Alongs.{Follows, looked};
 ghost use Rattle.rv_scan.specs.Places.{Fits as PlaceFits, PageReads, unseen, work as pages_work};
 ghost use Rattle.rv_scan.specs.Due.{HaveColumns};
-ghost use Rattle.rv_jscan.specs.Joint.{CanTake, JointFits, keys_of, under_way};
-ghost use Rattle.rv_jscan.specs.Steps.{Gives, Nearer, TakeLeaves, Takes, abandoned, awaited_id, begun, counts_read, steps_read};
+ghost use Rattle.rv_jscan.specs.Joint.{CanTake, JointFits, keys_of, leaves_ahead, under_way};
+ghost use Rattle.rv_jscan.specs.Steps.{Gives, Nearer, TakeLeaves, Takes, Works, abandoned, awaited_id, begun, counts_read, steps_read};
 ghost use Rattle.rv_judge.specs.Account.{facts_of, guarantee_with};
 ghost use Rattle.rv_judge.specs.Counting.{page_read};
 ghost use Rattle.rv_retrieval.specs.Accounts.{NextBorrowed, account_of};
@@ -263,6 +263,26 @@ impl Retrieval {
         ensures only { OnlyLeaves steps.old steps.new }
     {
         self.joint.take(reader, steps)
+    }
+
+    /// Takes up the awaited leaf where it stands, without a piece; false where no scan is under way.
+    pub(crate) fn step_joint<R: Reader>(
+        &mut self,
+        reader: &R,
+        steps: &mut Steps<R::Ledger>,
+    ) -> Result<bool, NoMemory>
+        requires can { CanTake self.old.joint (R.shown reader.now) }
+        requires fits { JointFits self.old.joint (R.shown reader.now) }
+        ensures same { self.new ≡ record self.old { joint = self.new.joint } }
+        ensures works { IfOk result (λ more. more ≡ true → Works (R.shown reader.now) self.old.joint self.new.joint) }
+        ensures none { IfOk result (λ more. more ≡ false → (under_way self.old.joint ≡ false) × (self.new.joint ≡ self.old.joint)) }
+        ensures err { OnErr result (TakeLeaves self.old.joint self.new.joint) }
+        ensures fits { JointFits self.new.joint (R.shown reader.now) }
+        ensures nearer { IfOk result (λ more. more ≡ true → leaves_ahead self.new.joint (R.shown reader.now) < leaves_ahead self.old.joint (R.shown reader.now)) }
+        ensures reads { steps.new ≡ steps_read self.old.joint steps.old }
+        ensures only { OnlyLeaves steps.old steps.new }
+    {
+        self.joint.step(reader, steps)
     }
 
     pub(crate) fn drop_scan(&mut self)
