@@ -5,3 +5,4 @@ pub mod Kept
 pub mod Fits
 pub mod Leaves
 pub mod Lanes
+pub mod Works

@@ -14,7 +14,7 @@ use Rattle.rv_jscan.specs.declared.jscan.Taken.TheVariants.{Piece, Nothing}
 use Rattle.rv_jscan.specs.declared.jscan.Given.{Given}
 use Rattle.rv_jscan.specs.declared.jscan.Given.TheVariants.{Accepted, Stale}
 use Rattle.rv_jscan.specs.Pieces.{Pieced, kept_by, may}
-use Rattle.rv_jscan.specs.Joint.{Joint, counts_at, leaves_ahead, no_counts, present, under_way}
+use Rattle.rv_jscan.specs.Joint.{Joint, JointFits, counts_at, leaves_ahead, no_counts, present, under_way}
 
 abbrev pub eight : ScanCounts → List ScanCounts
 eight c = c ∷ c ∷ c ∷ c ∷ c ∷ c ∷ c ∷ c ∷ []
@@ -114,6 +114,11 @@ abbrev pub held_next : Option Chunk → Option IndexEntry
 held_next None = None
 held_next (Some chunk) = chunk.next
 
+-- the entries of the leaf held
+abbrev pub held_entries : Option Chunk → List IndexEntry
+held_entries None = []
+held_entries (Some chunk) = chunk.entries
+
 -- what a give answers and leaves
 abbrev pub Gives : Joint → Pieced → Given → Joint → Type 0
 Gives old piece Accepted new = Awaits old piece × Accepts old new piece.entries (held_next old.held)
@@ -123,3 +128,11 @@ Gives old piece (Stale asked now) new = ¬ Awaits old piece × (asked ≡ piece.
 abbrev pub Nearer : Joint → Joint → Given → Shown → Type 0
 Nearer old new Accepted shown = leaves_ahead new shown < leaves_ahead old shown
 Nearer old new (Stale asked now) shown = Unit {0}
+
+-- WHAT A STEP DOES: what a take, a sieve and a give of the awaited piece do together.
+pub record Works (shown : Shown) (old new : Joint) : Type 0 where
+  pub taken : Joint
+  pub piece : Pieced
+  pub leaves : TakeLeaves old taken
+  pub fits : JointFits taken shown
+  pub gives : Gives taken piece Accepted new

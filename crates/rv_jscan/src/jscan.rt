@@ -4,9 +4,9 @@ ghost use Rattle.std.specs.List.Sorted.{IsStrictlyIncreasing};
 ghost use Rattle.rv_judge.specs.Counting.{one_more};
 ghost use Rattle.rv_reader.specs.Shown.{Shown};
 ghost use Rattle.rv_jscan.specs.Entries.{Apart};
-ghost use Rattle.rv_jscan.specs.Joint.{CanMake, CanTake, Covers, JointFits, counts_at, keys_of, plan_at, present, under_way};
-ghost use Rattle.rv_jscan.specs.Lanes.{IsOwn, LaneFits, lane_of, leaf_once};
-ghost use Rattle.rv_jscan.specs.Steps.{Accepts, Awaits, Gives, Nearer, TakeLeaves, Takes, abandoned, awaited_id, begun, counts_read, held_next, kept_of, next_id, one_leaf, piece_counted, steps_read};
+ghost use Rattle.rv_jscan.specs.Joint.{CanMake, CanTake, Covers, JointFits, counts_at, keys_of, leaves_ahead, plan_at, present, under_way};
+ghost use Rattle.rv_jscan.specs.Lanes.{HasKeys, IsOwn, LaneFits, lane_of, leaf_once};
+ghost use Rattle.rv_jscan.specs.Steps.{Accepts, Awaits, Gives, Nearer, TakeLeaves, Takes, Works, abandoned, awaited_id, begun, counts_read, held_entries, held_next, kept_of, next_id, one_leaf, piece_counted, steps_read};
 
 use crate::keeping::Within;
 use crate::lane::Lane;
@@ -430,6 +430,106 @@ impl Jscan {
         }
         self.accept(&sieved)?;
         Ok(Given::Accepted)
+    }
+
+    /// Reads the leaf that the present scan awaits, where it is not held.
+    fn reach_lane<R: Reader>(
+        &mut self,
+        reader: &R,
+        steps: &mut Steps<R::Ledger>,
+    ) -> Result<(), NoMemory>
+        requires way { under_way self.old ≡ true }
+        requires can { CanMake (present self.old) (R.shown reader.now) self.old.snap }
+        requires fits { LaneFits (present self.old) (R.shown reader.now) self.old.snap (lane_of self.old) }
+        ensures same { self.new ≡ record self.old { held = self.new.held } }
+        ensures held { is_some self.old.held ≡ true → self.new ≡ self.old }
+        ensures some { OnOk result (IsSome self.new.held) }
+        ensures fits { LaneFits (present self.old) (R.shown reader.now) self.old.snap (lane_of self.new) }
+        ensures reads { steps.new ≡ leaf_once (lane_of self.old) steps.old }
+    {
+        let plan = plan_in(&self.plans, self.ended);
+        self.lane.reach(self.alloc, reader, plan, self.snap, steps)
+    }
+
+    /// Reads the awaited leaf, where it is not held.
+    fn reach<R: Reader>(&mut self, reader: &R, steps: &mut Steps<R::Ledger>) -> Result<(), NoMemory>
+        requires way { under_way self.old ≡ true }
+        requires can { CanTake self.old (R.shown reader.now) }
+        requires fits { JointFits self.old (R.shown reader.now) }
+        ensures leaves { TakeLeaves self.old self.new }
+        ensures some { OnOk result (IsSome self.new.held) }
+        ensures fits { JointFits self.new (R.shown reader.now) }
+        ensures reads { steps.new ≡ steps_read self.old steps.old }
+    {
+        self.count_read();
+        self.reach_lane(reader, steps)
+    }
+
+    /// Adds what the leaf that is held gives to the list being built, and goes on to the following cut; true where there is
+    /// none.
+    fn add_held(&mut self) -> Result<bool, NoMemory>
+        requires way { under_way self.old ≡ true }
+        requires held { IsSome self.old.held }
+        requires keys { IfSome self.old.held (HasKeys (present self.old)) }
+        ensures last { IfOk result (λ last. is_some (held_next self.old.held) ≡ not last) }
+        ensures ok { OnOk result (self.new ≡ record self.old { place = held_next self.old.held; held = None; building = self.old.building ++ kept_of self.old (held_entries self.old.held) }) }
+        ensures err { OnErr result (self.new ≡ self.old) }
+    {
+        let within = Within {
+            list: self.list.as_ref(),
+        };
+        let plan = plan_in(&self.plans, self.ended);
+        self.lane.pass(&plan.part, &within)
+    }
+
+    fn held_len(&self) -> u64
+        ensures { result ≡ length (held_entries self.now.held) }
+    {
+        self.lane.held_len()
+    }
+
+    /// Takes up the leaf that is held, as `accept` takes up its piece.
+    fn accept_held(&mut self) -> Result<(), NoMemory>
+        requires way { under_way self.old ≡ true }
+        requires held { IsSome self.old.held }
+        requires keys { IfSome self.old.held (HasKeys (present self.old)) }
+        ensures ok { OnOk result (Accepts self.old self.new (held_entries self.old.held) (held_next self.old.held)) }
+        ensures err { OnErr result (self.new ≡ self.old) }
+    {
+        let before = self.built();
+        let entries = self.held_len();
+        let last = self.add_held()?;
+        let added = self.built() - before;
+        self.count(entries, added, last);
+        if last {
+            self.complete();
+        }
+        Ok(())
+    }
+
+    /// Reads the awaited leaf, where it is not held, and takes it up: what a take, a sieve and a give of its piece do
+    /// together, without a copy of it and of the part of the restriction. False exactly where no scan is under way.
+    /// `NoMemory` leaves the leaf held, where it was read, and none of its rows is added.
+    pub fn step<R: Reader>(
+        &mut self,
+        reader: &R,
+        steps: &mut Steps<R::Ledger>,
+    ) -> Result<bool, NoMemory>
+        requires can { CanTake self.old (R.shown reader.now) }
+        requires fits { JointFits self.old (R.shown reader.now) }
+        ensures works { IfOk result (λ more. more ≡ true → Works (R.shown reader.now) self.old self.new) }
+        ensures none { IfOk result (λ more. more ≡ false → (under_way self.old ≡ false) × (self.new ≡ self.old)) }
+        ensures err { OnErr result (TakeLeaves self.old self.new) }
+        ensures fits { JointFits self.new (R.shown reader.now) }
+        ensures nearer { IfOk result (λ more. more ≡ true → leaves_ahead self.new (R.shown reader.now) < leaves_ahead self.old (R.shown reader.now)) }
+        ensures reads { steps.new ≡ steps_read self.old steps.old }
+    {
+        if !self.is_under_way() {
+            return Ok(false);
+        }
+        self.reach(reader, steps)?;
+        self.accept_held()?;
+        Ok(true)
     }
 
     fn drop_scan(&mut self)

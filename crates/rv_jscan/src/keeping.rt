@@ -1,13 +1,18 @@
-ghost use Rattle.std.specs.Prelude.{◌≡◌, ℕ, ◌+◌, ◌<◌, ◌≤◌, ◌++◌, ◌∷◌, ◌&&◌, Bool, [], true, false, IfSome, OnOk, OnErr, if◌then◌else◌};
+ghost use Rattle.std.specs.Prelude.{◌≡◌, ℕ, ◌+◌, ◌<◌, ◌≤◌, ◌++◌, ◌∷◌, ◌&&◌, Bool, [], true, false, length, IfSome, OnOk, OnErr, if◌then◌else◌};
+ghost use Rattle.std.specs.List.{slice_index_or};
 ghost use Rattle.std.specs.Option.{option_copied};
+ghost use Rattle.rv_value.specs.declared.record.IndexEntry.{IndexEntry as OneEntry};
 ghost use Rattle.rv_keys.specs.Keys.{has_key};
+ghost use Rattle.rv_restrict.specs.Parts.{passes};
+ghost use Rattle.rv_reader.specs.Storing.{AreKeys};
 ghost use Rattle.rv_jscan.specs.Entries.{Apart, Disjoint};
 ghost use Rattle.rv_jscan.specs.Joint.{keys_of};
 ghost use Rattle.rv_jscan.specs.Pieces.{kept_by, may};
 
 use crate::piece::Sieved;
 use rv_keylist::KeyList;
-use rv_value::{NoMemory, RowNo};
+use rv_restrict::Part;
+use rv_value::{IndexEntry, NoMemory, RowNo};
 
 /// A test on rows, by which a list that is being built takes them up.
 pub trait Admits {
@@ -73,6 +78,54 @@ pub fn add_marked<T: Admits>(
     let mut i: u32 = 0;
     'entries: while (i as usize) < sieved.entries().len() {
         add_one(building, test, sieved.row(i), sieved.marked(i));
+        i += 1;
+    }
+    Ok(())
+}
+
+/// The row of the entry in a place.
+fn row_at(entries: &[IndexEntry], i: u32) -> RowNo
+    requires { i < length entries.now }
+    ensures { (d : OneEntry) → result ≡ (slice_index_or entries.now i d).row }
+{
+    entries[i as usize].row
+}
+
+/// Whether a part passes the entry in a place.
+fn passes_at(part: &Part, entries: &[IndexEntry], i: u32) -> bool
+    requires within { i < length entries.now }
+    requires keys { AreKeys (length part.now.columns) entries.now }
+    ensures { (d : OneEntry) → result ≡ passes part.now (slice_index_or entries.now i d).key }
+{
+    part.pass(&entries[i as usize].key)
+}
+
+/// Adds the rows of the entries of a leaf that a part passes and the test admits, as `add_marked` does of a piece of it.
+pub fn add_passing<T: Admits>(
+    building: &mut KeyList,
+    entries: &[IndexEntry],
+    part: &Part,
+    test: &T,
+) -> Result<(), NoMemory>
+    requires open { building.old.finished ≡ false }
+    requires ready { T.ready test.now }
+    requires short { length entries.now ≤ 64 }
+    requires part { AreKeys (length part.now.columns) entries.now }
+    requires apart { Apart entries.now }
+    requires fresh { Disjoint building.old.keys entries.now }
+    ensures ok { OnOk result (building.new.keys ≡ building.old.keys ++ kept_by (T.admits test.now) part.now entries.now) }
+    ensures err { OnErr result (building.new.keys ≡ building.old.keys) }
+    ensures open { building.new.finished ≡ false }
+{
+    building.reserve(entries.len() as u32)?;
+    let mut i: u32 = 0;
+    'entries: while (i as usize) < entries.len() {
+        add_one(
+            building,
+            test,
+            row_at(entries, i),
+            passes_at(part, entries, i),
+        );
         i += 1;
     }
     Ok(())

@@ -5,14 +5,16 @@ ghost use Rattle.rv_jscan.specs.Entries.{Apart, Disjoint};
 ghost use Rattle.rv_jscan.specs.Joint.{CanMake};
 ghost use Rattle.rv_jscan.specs.Lanes.{HasKeys, IsLeafAt, IsOwn, LaneFits, leaf_once, narrowed_lane, no_lane, passed};
 ghost use Rattle.rv_jscan.specs.Pieces.{kept_by};
-ghost use Rattle.rv_jscan.specs.Steps.{HasEntries, held_next};
+ghost use Rattle.rv_jscan.specs.Steps.{HasEntries, held_entries, held_next};
+ghost use Rattle.rv_reader.specs.Storing.{AreKeys};
 
 use crate::jscan::ScanPlan;
-use crate::keeping::{Admits, add_marked};
+use crate::keeping::{Admits, add_marked, add_passing};
 use crate::piece::{Piece, PieceId, Sieved};
 use rv_judge::Steps;
 use rv_keylist::KeyList;
 use rv_reader::{Chunk, Reader};
+use rv_restrict::Part;
 use rv_value::{Duplicate, IndexEntry, NoMemory, copy_slice};
 use std::alloc::Global;
 use std::marker::Model;
@@ -57,6 +59,30 @@ fn next_of(held: Option<Chunk>) -> Option<IndexEntry>
             next
         }
         None => None,
+    }
+}
+
+/// Adds the rows of the entries of a leaf that a part passes and the test admits.
+fn add_leaf<T: Admits>(
+    building: &mut KeyList,
+    leaf: &Option<Chunk>,
+    part: &Part,
+    test: &T,
+) -> Result<(), NoMemory>
+    requires open { building.old.finished ≡ false }
+    requires ready { T.ready test.now }
+    requires some { IsSome leaf.now }
+    requires short { IfSome leaf.now (λ h. length h.entries ≤ 48) }
+    requires keys { IfSome leaf.now (λ h. AreKeys (length part.now.columns) h.entries) }
+    requires apart { IfSome leaf.now (λ h. Apart h.entries) }
+    requires fresh { IfSome leaf.now (λ h. Disjoint building.old.keys h.entries) }
+    ensures ok { OnOk result (building.new.keys ≡ building.old.keys ++ kept_by (T.admits test.now) part.now (held_entries leaf.now)) }
+    ensures err { OnErr result (building.new.keys ≡ building.old.keys) }
+    ensures open { building.new.finished ≡ false }
+{
+    match leaf {
+        Some(leaf) => add_passing(building, leaf.entries.as_slice(), part, test),
+        None => unreachable!(),
     }
 }
 
@@ -164,6 +190,32 @@ impl Lane {
         Ok(piece)
     }
 
+    /// Reads the awaited leaf, where it is not held, and holds it. `NoMemory` leaves all as it was.
+    pub fn reach<R: Reader>(
+        &mut self,
+        alloc: Global,
+        reader: &R,
+        plan: &ScanPlan,
+        snap: u64,
+        steps: &mut Steps<R::Ledger>,
+    ) -> Result<(), NoMemory>
+        requires can { CanMake plan.now (R.shown reader.now) snap }
+        requires fits { LaneFits plan.now (R.shown reader.now) snap self.old }
+        ensures same { self.new ≡ record self.old { held = self.new.held } }
+        ensures held { is_some self.old.held ≡ true → self.new ≡ self.old }
+        ensures some { OnOk result (IsSome self.new.held) }
+        ensures err { OnErr result (self.new ≡ self.old) }
+        ensures fits { LaneFits plan.now (R.shown reader.now) snap self.new }
+        ensures reads { steps.new ≡ leaf_once self.old steps.old }
+    {
+        if self.held.is_some() {
+            return Ok(());
+        }
+        let held = self.leaf(alloc, reader, plan, snap, steps)?;
+        self.hold(held);
+        Ok(())
+    }
+
     fn copy_held(&self, alloc: Global, plan: &ScanPlan, id: PieceId) -> Result<Piece, NoMemory>
         requires held { IsSome self.now.held }
         requires keys { IfSome self.now.held (HasKeys plan.now) }
@@ -227,6 +279,30 @@ impl Lane {
         Ok(next_of(self.held.take()))
     }
 
+    /// The number of entries of the leaf that is held.
+    pub fn held_len(&self) -> u64
+        ensures { result ≡ length (held_entries self.now.held) }
+    {
+        match &self.held {
+            Some(held) => held.entries.len() as u64,
+            None => 0,
+        }
+    }
+
+    /// Adds the rows of the entries of the leaf that is held which a part passes and the test admits, and lets the leaf go;
+    /// the cut that follows it.
+    fn add_held<T: Admits>(&mut self, part: &Part, test: &T) -> Result<Option<IndexEntry>, NoMemory>
+        requires held { IsSome self.old.held }
+        requires keys { IfSome self.old.held (λ h. AreKeys (length part.now.columns) h.entries) }
+        requires ready { T.ready test.now }
+        ensures next { IfOk result (λ next. next ≡ held_next self.old.held) }
+        ensures ok { OnOk result (self.new ≡ record self.old { building = self.old.building ++ kept_by (T.admits test.now) part.now (held_entries self.old.held); held = None }) }
+        ensures err { OnErr result (self.new ≡ self.old) }
+    {
+        add_leaf(&mut self.building, &self.held, part, test)?;
+        Ok(next_of(self.held.take()))
+    }
+
     /// Goes to the cut that follows; true where none does.
     fn go(&mut self, next: Option<IndexEntry>) -> bool
         ensures place { self.new ≡ record self.old { place = next } }
@@ -248,6 +324,20 @@ impl Lane {
         ensures err { OnErr result (self.new ≡ self.old) }
     {
         let next = self.add_kept(sieved, test)?;
+        Ok(self.go(next))
+    }
+
+    /// Takes up the leaf that is held, as `accept` takes up its piece once it is sieved by this part, but without a copy.
+    /// `NoMemory` leaves all as it was.
+    pub fn pass<T: Admits>(&mut self, part: &Part, test: &T) -> Result<bool, NoMemory>
+        requires held { IsSome self.old.held }
+        requires keys { IfSome self.old.held (λ h. AreKeys (length part.now.columns) h.entries) }
+        requires ready { T.ready test.now }
+        ensures last { IfOk result (λ last. is_some (held_next self.old.held) ≡ not last) }
+        ensures ok { OnOk result (self.new ≡ record { place = held_next self.old.held; held = None; building = self.old.building ++ kept_by (T.admits test.now) part.now (held_entries self.old.held) }) }
+        ensures err { OnErr result (self.new ≡ self.old) }
+    {
+        let next = self.add_held(part, test)?;
         Ok(self.go(next))
     }
 

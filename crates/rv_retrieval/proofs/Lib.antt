@@ -23,3 +23,5 @@ pub mod BothSides
 pub mod Fetches
 pub mod Shorts
 pub mod Waiting
+pub mod Remembering
+pub mod Worked

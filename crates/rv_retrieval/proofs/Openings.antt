@@ -52,21 +52,9 @@ nothing_awaited v back a n = absurd (let bad : Some (next_id v.joint) ≡ None =
 
 -- The scan at opening.
 
-gives_less : (old new : Joint) (piece : Pieced) (g : Given) (shown : Shown) (borrowed : ℕ) → Gives old piece g new → JointFits old shown → back_work new borrowed shown ≤ back_work old borrowed shown
+pub gives_less : (old new : Joint) (piece : Pieced) (g : Given) (shown : Shown) (borrowed : ℕ) → Gives old piece g new → JointFits old shown → back_work new borrowed shown ≤ back_work old borrowed shown
 gives_less old new piece Accepted shown borrowed g f = let less = accepted_less old new piece shown borrowed g.0 g.1 f in omega arith
 gives_less old new piece (Stale asked now) shown borrowed g f = let same = ap (λ (j : Joint). back_work j borrowed shown) g.3 in omega arith
-
-pub joint_tries : (v mid : Shape) (shown : Shown) (before after : Counts) → TakeLeaves v.joint mid.joint → after ≡ steps_read v.joint before → (reads after ≤ reads before + 1) × (back_work mid.joint 0 shown ≤ back_work v.joint 0 shown)
-joint_tries v mid shown before after t r = leaf_spends v.joint mid.joint shown 0 before after t r
-
-pub joint_gave : (mid new : Shape) (piece : Pieced) (g : Given) (shown : Shown) → Gives mid.joint piece g new.joint → JointFits mid.joint shown → back_work new.joint 0 shown ≤ back_work mid.joint 0 shown
-joint_gave mid new piece g shown gives f = gives_less mid.joint new.joint piece g shown 0 gives f
-
-pub joint_spends : (v mid new : Shape) (piece : Pieced) (taken : Taken) (g : Given) (shown : Shown) (before after : Counts) → TakeLeaves v.joint mid.joint → Takes mid.joint taken → after ≡ steps_read v.joint before → Gives mid.joint piece g new.joint → JointFits mid.joint shown → reads after + back_work new.joint 0 shown ≤ reads before + back_work v.joint 0 shown
-joint_spends v mid new piece taken g shown before after t k r gives f =
-    let took = take_spends v.joint mid.joint shown 0 before after taken t k r in
-    let gave = gives_less mid.joint new.joint piece g shown 0 gives f in
-    omega arith
 
 -- what the scan and its end leave
 over_less : (v mid new : Shape) (shown : Shown) → mid ≡ record v { joint = mid.joint } → new ≡ scan_over 0 mid → effort new shown ≤ sum_of v.control (back_work mid.joint 0 shown) (front_work v shown) (table_work v shown) (keys_work (record v { joint = mid.joint }))
@@ -109,6 +97,3 @@ at_once_tried v shown before after back z spent =
 
 pub below : (a b c : ℕ) → a < b → b ≤ c → a < c
 below a b c h i = omega arith
-
-pub most : (a b c : ℕ) → a ≤ b → b ≤ c → a ≤ c
-most a b c h i = omega arith

@@ -1,5 +1,6 @@
 pub mod Fronts
 pub mod Shape
+pub mod Room
 pub mod Given
 pub mod Telling
 pub mod Accounts

@@ -21,7 +21,7 @@ use crate::retrieval::Retrieval;
 use rv_choice::{
     Background, Candidate, Choice, Query, candidates, choose, foreground, guarantee, scans,
 };
-use rv_jscan::{ScanPlan, Taken, sieve};
+use rv_jscan::ScanPlan;
 use rv_judge::{Event, Steps, Strategy};
 use rv_reader::Reader;
 use rv_scan::Front;
@@ -66,7 +66,7 @@ impl Retrieval {
         Ok(retrieval)
     }
 
-    /// Takes, sieves and gives the next piece; false where none is awaited.
+    /// Takes up the next leaf; false where none is awaited.
     fn scan_piece<R: Reader>(
         &mut self,
         reader: &R,
@@ -86,13 +86,7 @@ impl Retrieval {
         ensures keys { keys_most self.new.joint (R.shown reader.now) ≤ keys_most self.old.joint (R.shown reader.now) }
         ensures only { OnlyLeaves steps.old steps.new }
     {
-        match self.take_joint(reader, steps)? {
-            Taken::Piece(piece) => {
-                let _accepted = self.give_joint(sieve(piece))?;
-                Ok(true)
-            }
-            Taken::Nothing => Ok(false),
-        }
+        self.step_joint(reader, steps)
     }
 
     /// Scans to the end what the background is to scan.

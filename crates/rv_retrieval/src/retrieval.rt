@@ -1,4 +1,4 @@
-ghost use Rattle.std.specs.Prelude.{if◌then◌else◌, ◌≡◌, ℕ, List, ◌+◌, ◌-◌, ◌^◌, ◌<◌, ◌≤◌, ◌++◌, ◌∷◌, [], ◌&&◌, ◌==◌, ◌⊎◌, true, false, is_some, length, min, Some, None, IfOk, IfSome, IsSome, IsTrue, OnOk, OnErr, Ok};
+ghost use Rattle.std.specs.Prelude.{if◌then◌else◌, ◌≡◌, ℕ, List, ◌+◌, ◌-◌, ◌^◌, ◌<◌, ◌≤◌, ◌++◌, ◌∷◌, [], ◌&&◌, ◌==◌, ◌⊎◌, true, false, is_some, length, min, Some, None, IfOk, IfSome, IsTrue, OnOk, OnErr, Ok};
 ghost use Rattle.std.specs.Option.{option_copied};
 ghost use Rattle.rv_keys.specs.Keys.{has_key};
 ghost use Rattle.rv_reader.specs.Shown.{Shown, CanRead};
@@ -6,8 +6,8 @@ ghost use Rattle.rv_reader.specs.Tables.{row_at};
 ghost use Rattle.rv_scan.specs.Alongs.{Follows, looked};
 ghost use Rattle.rv_scan.specs.Places.{Fits as PlaceFits, PageReads, unseen, work as pages_work};
 ghost use Rattle.rv_scan.specs.Due.{HaveColumns};
-ghost use Rattle.rv_jscan.specs.Joint.{CanTake, JointFits, keys_of, under_way};
-ghost use Rattle.rv_jscan.specs.Steps.{Gives, Nearer, TakeLeaves, Takes, abandoned, awaited_id, begun, counts_read, steps_read};
+ghost use Rattle.rv_jscan.specs.Joint.{CanTake, JointFits, keys_of, leaves_ahead, under_way};
+ghost use Rattle.rv_jscan.specs.Steps.{Gives, Nearer, TakeLeaves, Takes, Works, abandoned, awaited_id, begun, counts_read, steps_read};
 ghost use Rattle.rv_judge.specs.Account.{facts_of, guarantee_with};
 ghost use Rattle.rv_judge.specs.Counting.{page_read};
 ghost use Rattle.rv_retrieval.specs.Accounts.{NextBorrowed, account_of};
@@ -20,6 +20,8 @@ ghost use Rattle.rv_judge.specs.Runs.{Allowed};
 ghost use Rattle.rv_final.specs.Rest.{StepMarks, qualifying};
 ghost use Rattle.rv_retrieval.specs.Runs.{Tells, indexes_asked};
 ghost use Rattle.rv_retrieval.specs.Shape.{LeastOf, Remembers, RetrievalFits, Source, left_at, lending, front_entries, is_background, is_led, is_sorted, rest, rows_of};
+ghost use Rattle.rv_retrieval.specs.Room.{HasRoom, must_remember, rows_given};
+ghost use Rattle.rv_delivered.specs.Rows.{AddsRow};
 ghost use Rattle.rv_final.specs.Stage.{LastFits, PassesKeys, given_as};
 ghost use Rattle.rv_retrieval.specs.Stepping.{ListReads, WalkReads};
 ghost use Rattle.rv_retrieval.specs.Telling.{index_of, list_len};
@@ -81,6 +83,32 @@ fn first_control(strategy: Strategy, scans: bool) -> Control
     }
 }
 
+/// Room for the rows that a foreground gives while a background runs beside it. Where no such row is remembered there is
+/// none, and no memory is taken.
+fn room(alloc: Global, strategy: Strategy) -> Result<Option<Delivered>, NoMemory>
+    ensures room { IfOk result (HasRoom strategy) }
+    ensures none { IfOk result (λ room. rows_given room ≡ []) }
+{
+    match strategy {
+        Strategy::FastFirst | Strategy::IndexOnly => Ok(Some(Delivered::new(alloc)?)),
+        Strategy::Table | Strategy::BackgroundOnly | Strategy::Sorted | Strategy::Union => Ok(None),
+    }
+}
+
+/// Puts a row to those that are remembered.
+fn put(delivered: &mut Option<Delivered>, row: RowNo)
+    requires some { is_some delivered.old ≡ true }
+    requires room { length (rows_given delivered.old) < 1024 }
+    requires fresh { has_key row.0 (rows_given delivered.old) ≡ false }
+    ensures adds { AddsRow (rows_given delivered.old) (rows_given delivered.new) row.0 }
+    ensures some { is_some delivered.new ≡ is_some delivered.old }
+{
+    match delivered {
+        Some(delivered) => delivered.add(row),
+        None => unreachable!(),
+    }
+}
+
 /// A retrieval from one table at a snapshot.
 #[derive(Drop)]
 pub struct Retrieval {
@@ -90,7 +118,7 @@ pub struct Retrieval {
     control: Control,
     joint: Jscan,
     front: Front,
-    delivered: Delivered,
+    delivered: Option<Delivered>,
     borrowed: u64,
     ending: Final,
     guaranteed: u64,
@@ -98,11 +126,14 @@ pub struct Retrieval {
 }
 
 impl Model for Retrieval {
+    ghost use Rattle.rv_retrieval.specs.Room.{HasRoom, rows_given};
     ghost use Rattle.rv_retrieval.specs.Shape.{Shape};
 
     ghost Value = { Shape };
 
-    ghost view = { λ r. record { query = r.query; strategy = r.strategy; control = r.control; joint = r.joint; front = r.front; delivered = r.delivered; borrowed = r.borrowed; at = r.ending.at; last = r.ending.last; guaranteed = r.guaranteed; trace = r.trace } };
+    ghost view = { λ r. record { query = r.query; strategy = r.strategy; control = r.control; joint = r.joint; front = r.front; delivered = rows_given r.delivered; borrowed = r.borrowed; at = r.ending.at; last = r.ending.last; guaranteed = r.guaranteed; trace = r.trace } };
+
+    ghost invariant = { λ r. HasRoom r.strategy r.delivered };
 }
 
 impl Retrieval {
@@ -149,7 +180,10 @@ impl Retrieval {
     pub(crate) fn was_delivered(&self, row: RowNo) -> bool
         ensures { result ≡ has_key row.0 self.now.delivered }
     {
-        self.delivered.has(row)
+        match &self.delivered {
+            Some(delivered) => delivered.has(row),
+            None => false,
+        }
     }
 
     /// The row of a number, where it qualifies. It is one record read.
@@ -231,6 +265,26 @@ impl Retrieval {
         self.joint.take(reader, steps)
     }
 
+    /// Takes up the awaited leaf where it stands, without a piece; false where no scan is under way.
+    pub(crate) fn step_joint<R: Reader>(
+        &mut self,
+        reader: &R,
+        steps: &mut Steps<R::Ledger>,
+    ) -> Result<bool, NoMemory>
+        requires can { CanTake self.old.joint (R.shown reader.now) }
+        requires fits { JointFits self.old.joint (R.shown reader.now) }
+        ensures same { self.new ≡ record self.old { joint = self.new.joint } }
+        ensures works { IfOk result (λ more. more ≡ true → Works (R.shown reader.now) self.old.joint self.new.joint) }
+        ensures none { IfOk result (λ more. more ≡ false → (under_way self.old.joint ≡ false) × (self.new.joint ≡ self.old.joint)) }
+        ensures err { OnErr result (TakeLeaves self.old.joint self.new.joint) }
+        ensures fits { JointFits self.new.joint (R.shown reader.now) }
+        ensures nearer { IfOk result (λ more. more ≡ true → leaves_ahead self.new.joint (R.shown reader.now) < leaves_ahead self.old.joint (R.shown reader.now)) }
+        ensures reads { steps.new ≡ steps_read self.old.joint steps.old }
+        ensures only { OnlyLeaves steps.old steps.new }
+    {
+        self.joint.step(reader, steps)
+    }
+
     pub(crate) fn drop_scan(&mut self)
         requires { under_way self.old.joint ≡ true }
         ensures same { self.new ≡ record self.old { joint = abandoned self.old.joint } }
@@ -306,7 +360,7 @@ impl Retrieval {
             self.query.snap,
             &self.query.only,
             self.joint.list(),
-            Some(&self.delivered),
+            self.delivered.as_ref(),
             steps,
         )
     }
@@ -328,7 +382,7 @@ impl Retrieval {
         ensures falls { IfOk result (λ s. Falls s steps.old steps.new (table_work self.old (R.shown reader.now)) (table_work self.new (R.shown reader.now))) }
     {
         self.ending
-            .table_step(reader, &self.query.only, Some(&self.delivered), steps)
+            .table_step(reader, &self.query.only, self.delivered.as_ref(), steps)
     }
 
     /// The next key of the list that is borrowed from.
@@ -356,19 +410,35 @@ impl Retrieval {
     }
 
     pub(crate) fn remember(&mut self, row: RowNo)
+        requires strategy { must_remember self.old.strategy ≡ true }
         requires room { length self.old.delivered < 1024 }
         requires fresh { has_key row.0 self.old.delivered ≡ false }
         ensures { Remembers self.old self.new row.0 }
     {
-        self.delivered.add(row);
+        put(&mut self.delivered, row);
+    }
+
+    /// The number of rows that are remembered.
+    fn remembered(&self) -> u32
+        ensures { result ≡ length self.now.delivered }
+    {
+        match &self.delivered {
+            Some(delivered) => delivered.len(),
+            None => 0,
+        }
     }
 
     pub(crate) fn is_full(&self) -> bool
         ensures full { result ≡ (length self.now.delivered == 1024) }
         ensures most { length self.now.delivered ≤ 1024 }
     {
-        let _len = self.delivered.len();
-        self.delivered.full()
+        match &self.delivered {
+            Some(delivered) => {
+                let _len = delivered.len();
+                delivered.full()
+            }
+            None => false,
+        }
     }
 
     /// What the judge is told of the scan under way.
@@ -389,7 +459,7 @@ impl Retrieval {
             spent: self.joint.leaves(scan),
             projected: project(estimate.max(scanned), scanned, kept),
             guaranteed: self.guaranteed,
-            delivered: u64::from(self.delivered.len()),
+            delivered: u64::from(self.remembered()),
         }
     }
 }
@@ -415,7 +485,7 @@ impl Retrieval {
         ensures unborrowed { IfOk result (λ r. r.borrowed ≡ 0) }
         ensures last { (rows : List OneRecord) (pages : ℕ) → IfOk result (λ r. pages_work r.last rows pages ≡ length rows + pages) }
     {
-        let delivered = Delivered::new(alloc)?;
+        let delivered = room(alloc, strategy)?;
         let control = first_control(strategy, has_scans(scans.as_slice()));
         let ending = Final::new(alloc, query.table, query.snap);
         let joint = Jscan::new(alloc, query.table, query.snap, scans, cursor, opening);

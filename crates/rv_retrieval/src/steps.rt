@@ -10,6 +10,7 @@ ghost use Rattle.rv_jscan.specs.Joint.{under_way};
 ghost use Rattle.rv_retrieval.specs.Accounts.{IsFresh, first_fresh};
 ghost use Rattle.rv_scan.specs.Fronts.{SameFront, FrontMayRead, FrontReads};
 ghost use Rattle.rv_retrieval.specs.Opens.{GivesStep, fg_of};
+ghost use Rattle.rv_retrieval.specs.Room.{must_remember};
 ghost use Rattle.rv_retrieval.specs.Runs.{SameCourse, Tells};
 ghost use Rattle.rv_retrieval.specs.Shape.{Delivers, DoesStep, EndsIn, RetrievalFits, Source, is_background, is_building, is_index_only, rest, source, lending, rows_of};
 ghost use Rattle.rv_retrieval.specs.Stepping.{Borrows, DoesIts, ListReads, MayReadIts, OnlyTakes, ReadsIts, Remembered, RemembersBy, Steady, StepsAs, WalkReads, ended_by};
@@ -137,6 +138,7 @@ impl Retrieval {
 
     /// Remembers a row that is given; a full buffer changes the control.
     fn deliver(&mut self, row: RowNo)
+        requires strategy { must_remember self.old.strategy ≡ true }
         requires room { length self.old.delivered < 1024 }
         requires fresh { has_key row.0 self.old.delivered ≡ false }
         ensures delivers { Delivers self.old self.new row.0 }

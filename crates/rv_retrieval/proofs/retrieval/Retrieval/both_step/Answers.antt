@@ -2,8 +2,10 @@ use Rattle.std.proofs.Common.{◌∙◌, ap, sym}
 use Rattle.rv_scan.specs.declared.skip.Scanned.TheVariants.{Working, End}
 use Rattle.rv_retrieval.proofs.Controls.{ended, ends_fits}
 use Rattle.rv_keys.specs.Keys.{has_key}
+use Rattle.rv_retrieval.specs.Room.{must_remember}
 use Rattle.rv_retrieval.specs.Shape.{Shape}
 use Rattle.rv_retrieval.proofs.Delivering.{both_found_does, both_found_fits, fresh_row, front_ends, moved_does, moved_fits}
+use Rattle.rv_retrieval.proofs.Remembering.{both_remember}
 use Rattle.rv_retrieval.proofs.Switching.{both_ahead}
 use Rattle.rv_retrieval.proofs.BothSides.{both_falls, both_tries}
 use Rattle.rv_retrieval.proofs.retrieval.Retrieval.both_step.Goals as goal
@@ -14,6 +16,9 @@ deliver-requires-clause-fresh g c =
     let v = c.args.self.now in
     let marks = rw c.in-Found.is at c.in_ok-record.ensures.marks in
     ap (λ (x : Shape). has_key c.in-Found.record.row.0 x.delivered) c.scan_front.ensures.same ∙ fresh_row v c.scan_front.new.self.front shown c.in-Found.record c.requires.fits c.requires.both marks
+
+pub deliver-requires-clause-strategy : goal.deliver-requires-clause-strategy
+deliver-requires-clause-strategy g c = ap (λ (x : Shape). must_remember x.strategy) c.scan_front.ensures.same ∙ both_remember c.args.self.now.control c.args.self.now.strategy c.requires.both
 
 pub returns-in-Found-clause-fits : goal.returns-in-Found-clause-fits
 returns-in-Found-clause-fits g c =

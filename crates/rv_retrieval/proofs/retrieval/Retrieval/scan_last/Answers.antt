@@ -1,4 +1,4 @@
-use Rattle.std.proofs.Common.{◌≡◌, ◌∙◌, ℕ, List, IfOk, OnErr, Some, ap, subst, sym}
+use Rattle.std.proofs.Common.{◌≡◌, ◌∙◌, ℕ, List, IfOk, OnErr, Option, Some, ap, subst, sym}
 use Rattle.rv_value.specs.declared.record.Record.{Record}
 use Rattle.rv_scan.specs.Places.{Fits as PlaceFits, work}
 use Rattle.rv_final.specs.Rest.{StepMarks}
@@ -7,6 +7,7 @@ use Rattle.rv_final.specs.Work.{Falls, Tries}
 use Rattle.rv_retrieval.specs.Effort.{table_work}
 use Rattle.rv_retrieval.specs.Shape.{Pages, Shape, left_at, rows_of}
 use Rattle.rv_retrieval.proofs.Controls.{only_last, pages_same, rows_same, stage_err, stage_of, with_stage}
+use Rattle.rv_retrieval.proofs.Remembering.{marks_of_table}
 use Rattle.rv_retrieval.proofs.retrieval.Retrieval.scan_last.Goals as goal
 
 pub returns-clause-same : goal.returns-clause-same
@@ -37,7 +38,11 @@ returns-clause-marks g c =
     let shown = g.R.Reader.shown c.args.reader.now in
     let v = c.args.self.now in
     let last = c.table_step.new.self.last in
-    let own = subst (λ (x : Shape). IfOk c.table_step.result (λ s. StepMarks v.query.need x.query.only (own_rows x.last shown) s (table_left x.last (own_rows x.last shown) (Some x.delivered)) (table_left last (own_rows x.last shown) (Some x.delivered)))) c.self.view_is (c.table_step.ensures.marks v.query.need) in
+    let i = c.self.inside in
+    let rows = own_rows i.ending.last shown in
+    let kept = subst (λ (d : Option (List ℕ)). IfOk c.table_step.result (λ s. StepMarks v.query.need i.query.only rows s (table_left i.ending.last rows d) (table_left last rows d))) c.as_ref.ensures.value (c.table_step.ensures.marks v.query.need) in
+    let given = marks_of_table c.table_step.result i.delivered v.query.need i.query.only rows rows i.ending.last last kept in
+    let own = subst (λ (x : Shape). IfOk c.table_step.result (λ s. StepMarks v.query.need x.query.only (own_rows x.last shown) s (table_left x.last (own_rows x.last shown) (Some x.delivered)) (table_left last (own_rows x.last shown) (Some x.delivered)))) c.self.view_is given in
     let moved = subst (λ (rs : List Record). IfOk c.table_step.result (λ s. StepMarks v.query.need v.query.only rs s (table_left v.last rs (Some v.delivered)) (table_left last rs (Some v.delivered)))) (rows_same v shown c.requires.fits) own in
     subst (λ (x : Shape). IfOk c.table_step.result (λ s. StepMarks v.query.need v.query.only (rows_of v shown) s (left_at Pages v shown) (left_at Pages (record x { last = last }) shown))) (sym c.self.view_is) moved
 

@@ -1,18 +1,20 @@
-use Rattle.rv_jscan.specs.declared.jscan.Taken.TheVariants.{Piece}
-use Rattle.rv_retrieval.proofs.Openings.{joint_gave, joint_spends, joint_tries, most}
-use Rattle.rv_retrieval.proofs.Shorts.{gives_keys}
+use Rattle.rv_retrieval.proofs.Worked.{worked_done, worked_keys, worked_less, worked_lists, worked_scans, worked_spends}
 use Rattle.rv_retrieval.proofs.retrieval.Retrieval.scan_piece.Goals as goal
 
-pub returns-in_ok-_accepted-in-Piece-clause-spends : goal.returns-in_ok-_accepted-in-Piece-clause-spends
-returns-in_ok-_accepted-in-Piece-clause-spends g c =
-    let shown = g.R.Reader.shown c.args.reader.now in
-    joint_spends c.args.self.now c.take_joint.new.self c.give_joint.new.self c.sieve.result (Piece c.in-Piece.piece) c.in_ok-_accepted-in-Piece._accepted shown c.args.steps.now c.take_joint.new.steps c.take_joint.ensures.leaves (rw c.in-Piece.is at c.in_ok-piece.ensures.taken) c.take_joint.ensures.reads c.in_ok-_accepted-in-Piece.ensures.given c.take_joint.ensures.fits
+pub returns-clause-scans : goal.returns-clause-scans
+returns-clause-scans g c = worked_scans c.step_joint.result (g.R.Reader.shown c.args.reader.now) c.args.self.now.joint c.step_joint.new.self.joint c.step_joint.ensures.works c.step_joint.ensures.none c.step_joint.ensures.err
 
-pub returns-in_ok-_accepted-in-Piece-clause-less : goal.returns-in_ok-_accepted-in-Piece-clause-less
-returns-in_ok-_accepted-in-Piece-clause-less g c =
-    let shown = g.R.Reader.shown c.args.reader.now in
-    let took = joint_tries c.args.self.now c.take_joint.new.self shown c.args.steps.now c.take_joint.new.steps c.take_joint.ensures.leaves c.take_joint.ensures.reads in
-    most _ _ _ (joint_gave c.take_joint.new.self c.give_joint.new.self c.sieve.result c.in_ok-_accepted-in-Piece._accepted shown c.in_ok-_accepted-in-Piece.ensures.given c.take_joint.ensures.fits) took.1
+pub returns-clause-done : goal.returns-clause-done
+returns-clause-done g c = worked_done c.step_joint.result c.args.self.now.joint c.step_joint.new.self.joint c.step_joint.ensures.none
 
-pub returns-in_ok-_accepted-in-Piece-clause-keys : goal.returns-in_ok-_accepted-in-Piece-clause-keys
-returns-in_ok-_accepted-in-Piece-clause-keys g c = gives_keys c.args.self.now.joint c.take_joint.new.self.joint c.give_joint.new.self.joint c.sieve.result c.in_ok-_accepted-in-Piece._accepted (g.R.Reader.shown c.args.reader.now) c.take_joint.ensures.leaves c.in_ok-_accepted-in-Piece.ensures.given c.take_joint.ensures.fits
+pub returns-clause-lists : goal.returns-clause-lists
+returns-clause-lists g c = worked_lists c.step_joint.result (g.R.Reader.shown c.args.reader.now) c.args.self.now.joint c.step_joint.new.self.joint c.step_joint.ensures.works c.step_joint.ensures.none c.step_joint.ensures.err
+
+pub returns-clause-spends : goal.returns-clause-spends
+returns-clause-spends g c = worked_spends c.step_joint.result (g.R.Reader.shown c.args.reader.now) c.args.self.now.joint c.step_joint.new.self.joint c.args.steps.now c.step_joint.new.steps c.step_joint.ensures.reads c.step_joint.ensures.works c.step_joint.ensures.none
+
+pub returns-clause-less : goal.returns-clause-less
+returns-clause-less g c = worked_less c.step_joint.result (g.R.Reader.shown c.args.reader.now) c.args.self.now.joint c.step_joint.new.self.joint c.args.steps.now c.step_joint.new.steps c.step_joint.ensures.reads c.step_joint.ensures.works c.step_joint.ensures.none c.step_joint.ensures.err
+
+pub returns-clause-keys : goal.returns-clause-keys
+returns-clause-keys g c = worked_keys c.step_joint.result (g.R.Reader.shown c.args.reader.now) c.args.self.now.joint c.step_joint.new.self.joint c.step_joint.ensures.works c.step_joint.ensures.none c.step_joint.ensures.err
