@@ -16,8 +16,8 @@ name. Prints them by file, with their lines and comments, or compares them with 
   tools/believed.py --instead OLD=NEW        as if NEW stood wherever OLD does, each CRATE/PATH/NAME of a definition
 
 The clauses of BESIDE are no part of the headline: they say under which judge each call is made, over all that a
-core's call does to plans, and so reach as much again. They are counted where --all is given, and the page has the
-total with them.
+core's call does to plans, and so reach more than three times as many besides. They are counted where --all is given,
+and the page has the total with them.
 
 The chapters of CHAPTERS may be left out by a reader who does not use them: to each belongs what the clauses reach
 through its definitions alone. Their lines, and those of the rest, are told behind the total.
