@@ -14,7 +14,7 @@ use Rattle.rv_script.specs.declared.scripts.Script.{Script}
 use Rattle.rv_model.specs.declared.entry.Entry.{Entry}
 use Rattle.rv_core.specs.declared.settings.Settings.{Settings}
 use Rattle.rv_core.specs.Core.{Answers, Shown}
-use Rattle.rv_core.specs.Obeying.{under}
+use Rattle.rv_core.specs.Obeying.{SeesSame, under}
 use Rattle.rv_run.specs.Judges.{all_but, by_number, filled, ruling_after}
 use Rattle.rv_run.specs.Ruling.{AnswersAll, AnswersFirst, AnswersUnder, Between, CallsUnder, FirstCallsUnder, Judging, RuledCall, between, fresh, in_phase, judging, ruled_by, ruled_from}
 use Rattle.rv_run.specs.Making.{Anywhere}
@@ -87,7 +87,7 @@ all_append shows settings [] ys old mid new a b = from_later shows settings ys o
         let core : (in_phase y.call.phase mid).core ≡ (in_phase y.call.phase old).core = ap (λ (b : Between _). (in_phase y.call.phase b).core) e in
         let store : mid.core.store ≡ old.core.store = ap (λ (b : Between _). b.core.store) e in
         let judges : mid.judges ≡ old.judges = ap (λ (b : Between _). b.judges) e in
-        record { judge = u.judge; seated = rw (← judges) u.seated; reply = u.reply; stands = u.stands; answers = rw (← core, ← store) u.answers; others = rw (← judges) u.others }
+        record { judge = u.judge; seated = rw (← judges) u.seated; reply = u.reply; stands = u.stands; answers = rw (← core, ← store) u.answers; others = rw (← judges) u.others; sees = rw (← store) u.sees }
 
     from_later : {S : Type 0} (shows : S → StoreShown) (settings : Settings) (ys : List RuledCall) (old mid new : Between S) → mid ≡ in_phase mid.core.phase old → AnswersAll shows settings ys mid new → AnswersAll shows settings ys old new
     from_later shows settings [] old mid new e b = b ∙ ap (in_phase new.core.phase) e
@@ -107,8 +107,8 @@ first_behind shows settings xs ys all old mid history a whole first = record {
 
 -- calls under one judge, wherever it sits
 
-pub call_ruled : {S : Type 0} (shows : S → StoreShown) (settings : Settings) (line : Line) (old new : Shown S) (would : ℕ → Facts → Ruling) (stood stands : ℕ) (reply : Reply) → Answers (under (shows old.store) would settings) stood stands old new line.session line.text reply → Anywhere (judging would stood) (judging would stands) (λ number js ks. AnswersUnder shows settings (ruled_by number (call line.session old.phase line.text)) (between old js) (between new ks))
-call_ruled shows settings line old new would stood stands reply a = λ number js at. record { judge = judging would stood; seated = at; reply = reply; stands = stands; answers = a; others = refl }
+pub call_ruled : {S : Type 0} (shows : S → StoreShown) (settings : Settings) (line : Line) (old new : Shown S) (would : ℕ → Facts → Ruling) (stood stands : ℕ) (reply : Reply) → Answers (under (shows old.store) would settings) stood stands old new line.session line.text reply → SeesSame (shows old.store) (shows new.store) new.opens → Anywhere (judging would stood) (judging would stands) (λ number js ks. AnswersUnder shows settings (ruled_by number (call line.session old.phase line.text)) (between old js) (between new ks))
+call_ruled shows settings line old new would stood stands reply a sees = λ number js at. record { judge = judging would stood; seated = at; reply = reply; stands = stands; answers = a; others = refl; sees = sees }
 
 pub none_ruled : {S : Type 0} (shows : S → StoreShown) (settings : Settings) (core : Shown S) (j : Judging) → Anywhere j j (λ number js ks. AnswersAll shows settings [] (between core js) (between core ks))
 none_ruled shows settings core j = λ number js at. ap (between core) (set_got js number j at)

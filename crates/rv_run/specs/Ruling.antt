@@ -11,7 +11,7 @@ use Rattle.rv_model.specs.declared.entry.Entry.{Entry}
 use Rattle.rv_words.specs.declared.choices.Asked.{Asked}
 use Rattle.rv_core.specs.declared.settings.Settings.{Settings}
 use Rattle.rv_core.specs.Core.{Answers, Shown}
-use Rattle.rv_core.specs.Obeying.{under}
+use Rattle.rv_core.specs.Obeying.{SeesSame, under}
 use Rattle.rv_run.specs.Script.{Call, calls_in}
 
 -- a judge: what it would rule, and where it stands
@@ -51,7 +51,8 @@ abbrev pub ruled_from : ℕ → ℕ → List Phase → List RuledCall
 ruled_from judge phase [] = []
 ruled_from judge phase (p ∷ ps) = map (ruled_by (unwrap_or p.judge judge)) (calls_in phase p.lines) ++ ruled_from (unwrap_or p.judge judge) (phase + 1) ps
 
--- A CALL IS ANSWERED UNDER ITS JUDGE, who rules from where he stands; no other judge moves.
+-- A CALL IS ANSWERED UNDER ITS JUDGE, who rules from where he stands; no other judge moves. What the cursors that are open
+-- behind it see is what they saw before it.
 pub record AnswersUnder {S : Type 0} (shows : S → StoreShown) (settings : Settings) (c : RuledCall) (old new : Between S) : Type 0 where
   pub judge : Judging
   pub seated : slice_get old.judges c.judge ≡ Some judge
@@ -59,6 +60,7 @@ pub record AnswersUnder {S : Type 0} (shows : S → StoreShown) (settings : Sett
   pub stands : ℕ
   pub answers : Answers (under (shows old.core.store) judge.would settings) judge.state stands (in_phase c.call.phase old).core new.core c.call.session c.call.text reply
   pub others : new.judges ≡ slice_set old.judges c.judge (judging judge.would stands)
+  pub sees : SeesSame (shows old.core.store) (shows new.core.store) new.core.opens
 
 -- these calls, one after another; behind the last one other phases may have begun
 abbrev pub AnswersAll : {S : Type 0} → (S → StoreShown) → Settings → List RuledCall → Between S → Between S → Type 0
