@@ -188,6 +188,7 @@ only_course old new only = record {
   turn = ap (λ (r : Raced). r.running.turn.scan) only.same;
   other = ap (λ (r : Raced). r.running.other) only.same;
   list = ap (λ (r : Raced). r.list) only.same;
+  named = only.named;
   events = only.events;
 }
 

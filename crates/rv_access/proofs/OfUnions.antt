@@ -126,6 +126,7 @@ only_course old new only = record {
   member = ap (λ (u : Unioned). u.member) only.same;
   lane = ap (λ (u : Unioned). u.lane) only.same;
   keys = ap (λ (u : Unioned). u.keys) only.same;
+  named = only.named;
   events = only.events;
 }
 

@@ -12,7 +12,7 @@ use Rattle.rv_jscan.specs.declared.jscan.Taken.TheVariants.{Piece, Nothing}
 use Rattle.rv_jscan.specs.Pieces.{Pieced}
 use Rattle.rv_retrieval.specs.Given.{AwaitsPiece as RetrievalAwaits, TakesLeaf as RetrievalTakes, awaited as retrieval_awaited}
 use Rattle.rv_retrieval.specs.Rulings.{GivesOn as RetrievalGives}
-use Rattle.rv_retrieval.specs.Runs.{IsOfUndropped as RetrievalUndropped}
+use Rattle.rv_retrieval.specs.Runs.{IsOfUndropped as RetrievalUndropped, SameCourse as RetrievalCourse}
 use Rattle.rv_retrieval.specs.Shape.{Shape}
 use Rattle.rv_retrieval.specs.Stepping.{piece_read as retrieval_read}
 use Rattle.rv_race.specs.Given.{Awaits as RaceAwaits, TakesLeaf as RaceTakes, awaited as race_awaited, piece_read as race_read}
@@ -55,10 +55,11 @@ piece_read (Competing v) c = retrieval_read v c
 piece_read (Racing r) c = race_read r.race c
 piece_read (Uniting u) c = union_read u.union c
 
--- what a take leaves: the leaf that it read may be held
+-- what a take leaves: the leaf that it read may be held, and the events stay
 pub record RetrievalLeaf (old new : Shape) : Type 0 where
   pub same : new ≡ record old { joint = new.joint; trace = new.trace }
   pub leaves : RetrievalTakes old new.joint
+  pub course : RetrievalCourse old new
 
 pub record RacedLeaf (old new : RacedQuery) : Type 0 where
   pub same : new ≡ record old { race = new.race }

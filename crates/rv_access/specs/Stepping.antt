@@ -88,6 +88,7 @@ pub record RacedCourse (old new : RacedQuery) : Type 0 where
   pub turn : turn_scan new.race ≡ turn_scan old.race
   pub other : new.race.running.other ≡ old.race.running.other
   pub list : new.race.list ≡ old.race.list
+  pub named : new.race.trace.strategy ≡ old.race.trace.strategy
   pub events : new.race.trace.events ≡ old.race.trace.events
 
 -- the control, the members, the keys and the events of a union stay
@@ -98,6 +99,7 @@ pub record UnitedCourse (old new : UnitedQuery) : Type 0 where
   pub member : new.union.member ≡ old.union.member
   pub lane : new.union.lane ≡ record old.union.lane { held = new.union.lane.held }
   pub keys : new.union.keys ≡ old.union.keys
+  pub named : new.union.trace.strategy ≡ old.union.trace.strategy
   pub events : new.union.trace.events ≡ old.union.trace.events
 
 -- THE CONTROL, THE SCANS AND THE EVENTS STAY

@@ -1,5 +1,5 @@
 -- What a step does and keeps, and what it reads is counted.
-use Rattle.std.proofs.Common.{◌≡◌, ℕ, ◌-◌, ◌<◌, ◌≤◌, [], refl, ap, sym, ◌∙◌, arith, subst, Result, Ok, Err, IfOk, OnErr}
+use Rattle.std.proofs.Common.{◌≡◌, ℕ, ◌-◌, ◌<◌, ◌≤◌, List, false, [], refl, ap, sym, ◌∙◌, arith, subst, Result, Ok, Err, IfOk, OnErr}
 use Rattle.rv_judge.specs.declared.counting.Counts.{Counts}
 use Rattle.rv_judge.specs.declared.events.Control.{Control}
 use Rattle.rv_judge.specs.declared.events.Control.TheVariants.{BackgroundAlone, FinalList, FinalTable, Done}
@@ -13,16 +13,18 @@ use Rattle.rv_scan.specs.Reads.{OneAtMost}
 use Rattle.rv_scan.specs.declared.skip.Scanned.{Scanned}
 use Rattle.rv_scan.specs.declared.skip.Scanned.TheVariants.{Found, Working, End}
 use Rattle.rv_jscan.specs.declared.jscan.Given.{Given}
+use Rattle.rv_jscan.specs.declared.jscan.ScanCounts.{ScanCounts}
 use Rattle.rv_jscan.specs.Pieces.{Pieced}
 use Rattle.rv_final.specs.Rest.{Steps}
 use Rattle.rv_final.specs.Work.{Falls, Tries}
 use Rattle.rv_race.specs.Effort.{effort, keys_work}
-use Rattle.rv_race.specs.Given.{Answers, TakesLeaf, holding, piece_read, turn_lane}
+use Rattle.rv_race.specs.Given.{Answers, TakesLeaf, counts_read, holding, piece_read, turn_lane}
 use Rattle.rv_race.specs.Opened.{Does, DoesAs, DoesStep, EndsIn, MayRead, OnlyTakes, Steady, StepsAs}
-use Rattle.rv_race.specs.Raced.{RaceFits, Raced, rest}
+use Rattle.rv_race.specs.Raced.{RaceFits, Raced, racing, rest}
 use Rattle.rv_race.specs.Rulings.{GivesOn}
 use Rattle.rv_race.proofs.Finals.{done_rest}
 use Rattle.rv_race.proofs.Gives.{gives_keep, gives_kin}
+use Rattle.rv_race.proofs.Takes.{none_counted, none_leaves}
 use Rattle.rv_race.proofs.Tellings.{gives_tell}
 
 pub kept_if_not : {X E : Type 0} (r : Result X E) (P : Type 0) → P → OnErr r P
@@ -115,29 +117,24 @@ counts_rise old mid new c d s e = subst (λ (x : Raced). CountsRise old.trace x.
 
 -- What a step leaves that found no memory.
 
-pub only_itself : (r : Raced) → OnlyTakes r r
-only_itself r = record { same = refl; events = refl; fewer = omega arith }
-
-pub only_if : {X E : Type 0} (x : Result X E) (old new : Raced) → OnErr x (new ≡ old) → OnErr x (OnlyTakes old new)
-only_if (Ok y) old new e = tt
-only_if (Err y) old new e = subst (OnlyTakes old) (sym e) (only_itself old)
-
 -- the awaited leaf was taken, or it was tried
-pub only_took : (old mid : Raced) → TakesLeaf old mid → mid.trace ≡ old.trace → OnlyTakes old mid
-only_took old mid t e = record {
-  same = subst (λ (x : Raced). x ≡ record (holding (turn_lane x).held old) { counts = x.counts; at = x.at; trace = x.trace }) (sym t.same) refl;
-  events = ap (λ (x : Trace). x.events) e;
+pub only_took : (old mid : Raced) → TakesLeaf old mid → OnlyTakes old mid
+only_took old mid t = record {
+  same = subst (λ (x : Raced). x ≡ record (holding (turn_lane x).held old) { counts = counts_read old; at = x.at; trace = x.trace }) (sym t.same) refl;
+  named = t.named;
+  events = t.events;
   fewer = subst (λ (n : ℕ). n ≤ keys_work old) (sym (ap keys_work t.same)) (omega arith);
 }
 
-pub only_gave : {X E : Type 0} (x : Result X E) (old mid new : Raced) → TakesLeaf old mid → mid.trace ≡ old.trace → OnErr x (new ≡ mid) → OnErr x (OnlyTakes old new)
-only_gave (Ok y) old mid new t e n = tt
-only_gave (Err y) old mid new t e n = subst (OnlyTakes old) (sym n) (only_took old mid t e)
+-- no piece is awaited
+pub only_itself : (r : Raced) → racing r.control ≡ false → OnlyTakes r r
+only_itself r off = only_took r r (none_leaves r off)
 
 -- keys may have been passed
-pub only_at_keys : (old new : Raced) (c d : Counts) → new ≡ record old { at = new.at } → Tries c d (keys_work old) (keys_work new) → OnlyTakes old new
-only_at_keys old new c d e t = record {
-  same = subst (λ (x : Raced). x ≡ record (holding (turn_lane x).held old) { counts = x.counts; at = x.at; trace = x.trace }) (sym e) refl;
+pub only_at_keys : (old new : Raced) (c d : Counts) → racing old.control ≡ false → new ≡ record old { at = new.at } → Tries c d (keys_work old) (keys_work new) → OnlyTakes old new
+only_at_keys old new c d off e t = record {
+  same = subst (λ (x : Raced). x ≡ record (holding (turn_lane x).held old) { counts = counts_read old; at = x.at; trace = x.trace }) (sym e) (ap (λ (cs : List ScanCounts). record old { counts = cs; at = new.at }) (sym (none_counted old off)));
+  named = ap (λ (x : Raced). x.trace.strategy) e;
   events = ap (λ (x : Raced). x.trace.events) e;
   fewer = t.less;
 }
@@ -146,7 +143,8 @@ only_at_keys old new c d e t = record {
 pub only_counted : {X E : Type 0} (x : Result X E) (old mid new : Raced) (c d : Counts) → new ≡ record mid { trace = counted mid.trace c d } → OnErr x (OnlyTakes old mid) → OnErr x (OnlyTakes old new)
 only_counted (Ok y) old mid new c d e o = tt
 only_counted (Err y) old mid new c d e o = record {
-  same = subst (λ (x : Raced). x ≡ record (holding (turn_lane x).held old) { counts = x.counts; at = x.at; trace = x.trace }) (sym e) (ap (λ (x : Raced). record x { trace = counted mid.trace c d }) o.same);
+  same = subst (λ (x : Raced). x ≡ record (holding (turn_lane x).held old) { counts = counts_read old; at = x.at; trace = x.trace }) (sym e) (ap (λ (x : Raced). record x { trace = counted mid.trace c d }) o.same);
+  named = ap (λ (x : Raced). x.trace.strategy) e ∙ o.named;
   events = ap (λ (x : Raced). x.trace.events) e ∙ o.events;
   fewer = subst (λ (n : ℕ). n ≤ keys_work old) (sym (ap keys_work e)) o.fewer;
 }

@@ -38,6 +38,8 @@ pub took_leaves : (old mid new : Raced) → racing old.control ≡ true → mid 
 took_leaves old mid new back m n h = record {
   same = took_same old mid new m n ∙ ap (λ (t : Trace). record (holding (turn_lane new).held old) { counts = counts_read old; trace = t }) (sym (took_trace old mid new m n));
   none = λ unread. ap (λ (x : Raced). x.running) (h (ap (λ (x : Raced). is_some (turn_lane x).held) m ∙ held_if (racing old.control) (is_some (turn_lane old).held) back unread) ∙ m);
+  named = ap (λ (t : Trace). t.strategy) (took_trace old mid new m n);
+  events = ap (λ (t : Trace). t.events) (took_trace old mid new m n);
 }
   where
     held_if : (w h : Bool) → w ≡ true → (w && not h) ≡ false → h ≡ true
@@ -91,17 +93,19 @@ took_untaken (Err x) old new e = ap (λ (y : Raced). (turn_lane y).held) e
 
 -- No scan is under way.
 
+pub none_counted : (r : Raced) → racing r.control ≡ false → counts_read r ≡ r.counts
+none_counted r off = ap (λ (b : Bool). if b then one_leaf r else r.counts) (no (racing r.control) (is_some (turn_lane r).held) off)
+  where
+    no : (w h : Bool) → w ≡ false → (w && not h) ≡ false
+    no w h o = grind arith
+
 pub none_leaves : (r : Raced) → racing r.control ≡ false → TakesLeaf r r
 none_leaves r off = record {
-  same = ap (λ (cs : List ScanCounts). record r { counts = cs }) (sym (ap (λ (b : Bool). if b then one_leaf r else r.counts) unread));
+  same = ap (λ (cs : List ScanCounts). record r { counts = cs }) (sym (none_counted r off));
   none = λ h. refl;
+  named = refl;
+  events = refl;
 }
-  where
-    unread : reads_leaf r ≡ false
-    unread = no (racing r.control) (is_some (turn_lane r).held) off
-      where
-        no : (w h : Bool) → w ≡ false → (w && not h) ≡ false
-        no w h o = grind arith
 
 pub none_read : (r : Raced) (c : Counts) → racing r.control ≡ false → c ≡ piece_read r c
 none_read r c off = sym (ap (λ (b : Bool). if b then leaf_read c else c) (no (racing r.control) (is_some (turn_lane r).held) off))
@@ -123,17 +127,17 @@ took_race old new t = subst (SameRace old) (sym (took_parts old new t)) record {
 pub took_awaits : (old new : Raced) → TakesLeaf old new → awaited new ≡ awaited old
 took_awaits old new t = ap awaited (took_parts old new t)
 
-pub took_tells : (old new : Raced) → TakesLeaf old new → new.trace.events.items ≡ old.trace.events.items → new.trace.strategy ≡ old.trace.strategy → Tells old → Tells new
-took_tells old new t items named tells =
+pub took_tells : (old new : Raced) → TakesLeaf old new → Tells old → Tells new
+took_tells old new t tells =
     let parts = took_parts old new t in
-    aside_tells old new (ap (λ (x : Raced). x.plans) parts) items named (ap (λ (x : Raced). x.list) parts) (ap (λ (x : Raced). x.running.other) t.same) (ap (λ (x : Raced). x.running.next) t.same) (ap turn_scan t.same) (ap (λ (x : Raced). x.control) parts) tells
+    aside_tells old new (ap (λ (x : Raced). x.plans) parts) (ap (λ (es : _). es.items) t.events) t.named (ap (λ (x : Raced). x.list) parts) (ap (λ (x : Raced). x.running.other) t.same) (ap (λ (x : Raced). x.running.next) t.same) (ap turn_scan t.same) (ap (λ (x : Raced). x.control) parts) tells
 
 pub took_steady : (old new : Raced) (shown : Shown) → TakesLeaf old new → new.trace ≡ old.trace → RaceFits new shown → Steady old new shown
 took_steady old new shown t e f = record {
   same = took_race old new t;
   counts = record { pages = ap (λ (x : Trace). x.pages) e; leaves = ap (λ (x : Trace). x.leaves) e; fetches = ap (λ (x : Trace). x.fetches) e };
   fits = f;
-  tells = took_tells old new t (ap (λ (x : Trace). x.events.items) e) (ap (λ (x : Trace). x.strategy) e);
+  tells = took_tells old new t;
 }
 
 -- What was read is counted.
@@ -155,8 +159,8 @@ counted_fits mid new t shown e f = subst (λ (x : Raced). RaceFits x shown) (sym
 pub counted_tells : (mid new : Raced) (c d : Counts) → new ≡ record mid { trace = counted mid.trace c d } → Tells mid → Tells new
 counted_tells mid new c d e t = subst Tells (sym e) (aside_tells mid (record mid { trace = counted mid.trace c d }) refl refl refl refl refl refl refl refl t)
 
-pub counted_leaves : (old mid new : Raced) (t : Trace) → new ≡ record mid { trace = t } → TakesLeaf old mid → TakesLeaf old new
-counted_leaves old mid new t e l = subst (TakesLeaf old) (sym e) (record { same = ap (λ (x : Raced). record x { trace = t }) l.same; none = l.none })
+pub counted_leaves : (old mid new : Raced) (c d : Counts) → new ≡ record mid { trace = counted mid.trace c d } → TakesLeaf old mid → TakesLeaf old new
+counted_leaves old mid new c d e l = subst (TakesLeaf old) (sym e) (record { same = ap (λ (x : Raced). record x { trace = counted mid.trace c d }) l.same; none = l.none; named = l.named; events = l.events })
 
 pub counted_race : (old mid new : Raced) (t : Trace) → new ≡ record mid { trace = t } → SameRace old mid → SameRace old new
 counted_race old mid new t e s = subst (SameRace old) (sym e) record { table = s.table; snap = s.snap; cursor = s.cursor; opening = s.opening; only = s.only; plans = s.plans }

@@ -71,7 +71,10 @@ with_lane l r = record r { running = record r.running { turn = record r.running.
 abbrev pub holding : Option Chunk → Raced → Raced
 holding held r = with_lane (record (turn_lane r) { held = held }) r
 
--- what a take leaves: the leaf that it read is counted and may be held; where it reads none all is as before
+-- what a take leaves: the leaf that it read is counted and may be held; where it reads none all is as before. The trace
+-- tells no more than before.
 pub record TakesLeaf (old new : Raced) : Type 0 where
   pub same : new ≡ record (holding (turn_lane new).held old) { counts = counts_read old; trace = new.trace }
   pub none : reads_leaf old ≡ false → new.running ≡ old.running
+  pub named : new.trace.strategy ≡ old.trace.strategy
+  pub events : new.trace.events ≡ old.trace.events

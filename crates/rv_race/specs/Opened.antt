@@ -29,7 +29,7 @@ use Rattle.rv_jscan.specs.Steps.{eight}
 use Rattle.rv_final.specs.Rest.{Steps, qualifies_at}
 use Rattle.rv_final.specs.Stage.{FetchesKey, Unbegun, first_key}
 use Rattle.rv_race.specs.Effort.{keys_work}
-use Rattle.rv_race.specs.Given.{Awaits, TakesLeaf, holding, piece_read, turn_lane}
+use Rattle.rv_race.specs.Given.{Awaits, TakesLeaf, counts_read, holding, piece_read, turn_lane}
 use Rattle.rv_race.specs.Raced.{PlansFit, RaceFits, Raced, SameRace, rest, rows_of}
 use Rattle.rv_race.specs.Rulings.{GivesOn, gone}
 use Rattle.rv_race.specs.Runs.{Tells, indexes_of}
@@ -131,7 +131,8 @@ MayRead Done r c d = d ≡ c
 
 -- WHAT A STEP LEAVES THAT FOUND NO MEMORY: the awaited leaf may have been taken. No piece is accepted and no scan ends.
 pub record OnlyTakes (old new : Raced) : Type 0 where
-  pub same : new ≡ record (holding (turn_lane new).held old) { counts = new.counts; at = new.at; trace = new.trace }
+  pub same : new ≡ record (holding (turn_lane new).held old) { counts = counts_read old; at = new.at; trace = new.trace }
+  pub named : new.trace.strategy ≡ old.trace.strategy
   pub events : new.trace.events ≡ old.trace.events
   pub fewer : keys_work new ≤ keys_work old
 

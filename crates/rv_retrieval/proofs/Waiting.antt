@@ -3,6 +3,7 @@ use Rattle.std.proofs.Common.{◌≡◌, ◌≤◌, ◌∙◌, ◌⊎◌, ℕ, B
 use Rattle.std.specs.Prelude.{if◌then◌else◌, Option, None}
 use Rattle.rv_value.specs.declared.record.IndexEntry.{IndexEntry}
 use Rattle.rv_keys.specs.Keys.{has_key}
+use Rattle.rv_judge.specs.declared.counting.Counts.{Counts}
 use Rattle.rv_judge.specs.Course.{building, fast_first}
 use Rattle.rv_judge.specs.declared.events.Control.{Control}
 use Rattle.rv_judge.specs.declared.events.Control.TheVariants.{Building, ForegroundAlone, BackgroundAlone, FinalList, FinalTable, Done}
@@ -15,11 +16,12 @@ use Rattle.rv_jscan.specs.Steps.{awaited_id}
 use Rattle.rv_retrieval.specs.Accounts.{fresh_of}
 use Rattle.rv_retrieval.specs.Effort.{Awaiting, keys_work}
 use Rattle.rv_retrieval.specs.Given.{TakesLeaf, TakesLeafBy, awaited}
+use Rattle.rv_retrieval.specs.Runs.{SameCourse}
 use Rattle.rv_retrieval.specs.Shape.{Shape, front_entries, is_background, lending}
 use Rattle.rv_final.specs.Stage.{keys_left}
 use Rattle.rv_retrieval.specs.Short.{fetches_by, fetches_left, scan_fetches}
 use Rattle.rv_retrieval.specs.Stepping.{OnlyTakes, Steady}
-use Rattle.rv_judge.specs.Tracing.{SameCounts}
+use Rattle.rv_judge.specs.Tracing.{SameCounts, counted}
 use Rattle.rv_scan.specs.Fronts.{SameFront}
 
 lends : (b : Bool) (old new : Joint) → TakesLeafBy b old new → lending new ≡ lending old
@@ -105,6 +107,25 @@ keeps_awaited old new e leaves = ap awaited e ∙ by (is_background old.control)
     by : (b : Bool) → TakesLeafBy b old.joint new.joint → (if b then awaited_id new.joint else None) ≡ (if b then awaited_id old.joint else None)
     by true t = ap awaited_id t.same
     by false e = refl
+
+-- a take leaves the course
+pub took_course : (old mid new : Shape) (c d : Counts) → mid ≡ record old { joint = mid.joint } → TakesLeaf old mid.joint → new ≡ record mid { trace = counted mid.trace c d } → SameCourse old new
+took_course old mid new c d m leaves n =
+    let scans = by (is_background old.control) leaves in
+    subst (SameCourse old) (sym n) record {
+      strategy = ap (λ (x : Shape). x.strategy) m;
+      control = ap (λ (x : Shape). x.control) m;
+      plans = scans.0;
+      ended = scans.1;
+      list = lists (is_background old.control) old.joint mid.joint leaves;
+      query = ap (λ (x : Shape). x.query) m;
+      named = ap (λ (x : Shape). x.trace.strategy) m;
+      events = ap (λ (x : Shape). x.trace.events) m;
+    }
+  where
+    by : (b : Bool) → TakesLeafBy b old.joint mid.joint → (mid.joint.plans ≡ old.joint.plans) × (mid.joint.ended ≡ old.joint.ended)
+    by true t = (ap (λ (j : Joint). j.plans) t.same, ap (λ (j : Joint). j.ended) t.same)
+    by false e = (ap (λ (j : Joint). j.plans) e, ap (λ (j : Joint). j.ended) e)
 
 -- What every step keeps.
 

@@ -242,6 +242,7 @@ impl Retrieval {
         ensures rest { rest self.new (R.shown reader.now) ≡ rest self.old (R.shown reader.now) }
         ensures same { self.new ≡ record self.old { joint = self.new.joint; trace = self.new.trace } }
         ensures leaves { TakesLeaf self.old self.new.joint }
+        ensures course { SameCourse self.old self.new }
         ensures awaits { awaited self.new ≡ awaited self.old }
         ensures untaken { OnErr result (self.new.joint.held ≡ self.old.joint.held) }
         ensures reads { steps.new ≡ piece_read self.old steps.old }

@@ -39,6 +39,8 @@ pub took_leaves : (old mid new : Unioned) → scanning old.control ≡ true → 
 took_leaves old mid new back m n h = record {
   same = took_same old mid new m n ∙ ap (λ (t : Trace). record (holding new.lane.held old) { count = count_read old; trace = t }) (sym (took_trace old mid new m n));
   none = λ unread. ap (λ (x : Unioned). x.lane) (h (ap (λ (x : Unioned). is_some x.lane.held) m ∙ held_if (scanning old.control) (is_some old.lane.held) back unread) ∙ m);
+  named = ap (λ (t : Trace). t.strategy) (took_trace old mid new m n);
+  events = ap (λ (t : Trace). t.events) (took_trace old mid new m n);
 }
   where
     held_if : (w h : Bool) → w ≡ true → (w && not h) ≡ false → h ≡ true
@@ -94,17 +96,19 @@ took_untaken (Err x) old new e = ap (λ (y : Unioned). y.lane.held) e
 
 -- No member is scanned.
 
+pub none_counted : (r : Unioned) → scanning r.control ≡ false → count_read r ≡ r.count
+none_counted r off = ap (λ (b : Bool). if b then leaf_counted r.count else r.count) (no (scanning r.control) (is_some r.lane.held) off)
+  where
+    no : (w h : Bool) → w ≡ false → (w && not h) ≡ false
+    no w h o = grind arith
+
 pub none_leaves : (r : Unioned) → scanning r.control ≡ false → TakesLeaf r r
 none_leaves r off = record {
-  same = ap (λ (c : ScanCounts). record r { count = c }) (sym (ap (λ (b : Bool). if b then leaf_counted r.count else r.count) unread));
+  same = ap (λ (c : ScanCounts). record r { count = c }) (sym (none_counted r off));
   none = λ h. refl;
+  named = refl;
+  events = refl;
 }
-  where
-    unread : reads_leaf r ≡ false
-    unread = no (scanning r.control) (is_some r.lane.held) off
-      where
-        no : (w h : Bool) → w ≡ false → (w && not h) ≡ false
-        no w h o = grind arith
 
 pub none_read : (r : Unioned) (c : Counts) → scanning r.control ≡ false → c ≡ piece_read r c
 none_read r c off = sym (ap (λ (b : Bool). if b then leaf_read c else c) (no (scanning r.control) (is_some r.lane.held) off))
@@ -126,17 +130,17 @@ took_union old new t = subst (SameUnion old) (sym (took_parts old new t)) record
 pub took_awaits : (old new : Unioned) → TakesLeaf old new → awaited new ≡ awaited old
 took_awaits old new t = ap awaited (took_parts old new t)
 
-pub took_tells : (old new : Unioned) → TakesLeaf old new → new.trace.events.items ≡ old.trace.events.items → new.trace.strategy ≡ old.trace.strategy → Tells old → Tells new
-took_tells old new t items named tells =
+pub took_tells : (old new : Unioned) → TakesLeaf old new → Tells old → Tells new
+took_tells old new t tells =
     let parts = took_parts old new t in
-    aside_tells old new (ap (λ (x : Unioned). x.plans) parts) (ap (λ (x : Unioned). x.member) parts) items named (ap (λ (x : Unioned). x.control) parts) tells
+    aside_tells old new (ap (λ (x : Unioned). x.plans) parts) (ap (λ (x : Unioned). x.member) parts) (ap (λ (es : _). es.items) t.events) t.named (ap (λ (x : Unioned). x.control) parts) tells
 
 pub took_steady : (old new : Unioned) (shown : Shown) → TakesLeaf old new → new.trace ≡ old.trace → UnionFits new shown → Steady old new shown
 took_steady old new shown t e f = record {
   same = took_union old new t;
   counts = record { pages = ap (λ (x : Trace). x.pages) e; leaves = ap (λ (x : Trace). x.leaves) e; fetches = ap (λ (x : Trace). x.fetches) e };
   fits = f;
-  tells = took_tells old new t (ap (λ (x : Trace). x.events.items) e) (ap (λ (x : Trace). x.strategy) e);
+  tells = took_tells old new t;
 }
 
 -- What was read is counted.
@@ -161,8 +165,8 @@ counted_fits mid new t shown e f = subst (λ (x : Unioned). UnionFits x shown) (
 pub counted_tells : (mid new : Unioned) (c d : Counts) → new ≡ record mid { trace = counted mid.trace c d } → Tells mid → Tells new
 counted_tells mid new c d e t = subst Tells (sym e) (aside_tells mid (record mid { trace = counted mid.trace c d }) refl refl refl refl refl t)
 
-pub counted_leaves : (old mid new : Unioned) (t : Trace) → new ≡ record mid { trace = t } → TakesLeaf old mid → TakesLeaf old new
-counted_leaves old mid new t e l = subst (TakesLeaf old) (sym e) (record { same = ap (λ (x : Unioned). record x { trace = t }) l.same; none = l.none })
+pub counted_leaves : (old mid new : Unioned) (c d : Counts) → new ≡ record mid { trace = counted mid.trace c d } → TakesLeaf old mid → TakesLeaf old new
+counted_leaves old mid new c d e l = subst (TakesLeaf old) (sym e) (record { same = ap (λ (x : Unioned). record x { trace = counted mid.trace c d }) l.same; none = l.none; named = l.named; events = l.events })
 
 pub counted_union : (old mid new : Unioned) (t : Trace) → new ≡ record mid { trace = t } → SameUnion old mid → SameUnion old new
 counted_union old mid new t e s = subst (SameUnion old) (sym e) record { table = s.table; snap = s.snap; cursor = s.cursor; opening = s.opening; only = s.only; plans = s.plans }

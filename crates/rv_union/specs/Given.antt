@@ -56,7 +56,10 @@ with_lane l u = record u { lane = l }
 abbrev pub holding : Option Chunk → Unioned → Unioned
 holding held u = with_lane (record u.lane { held = held }) u
 
--- what a take leaves: the leaf that it read is counted and may be held; where it reads none all is as before
+-- what a take leaves: the leaf that it read is counted and may be held; where it reads none all is as before. The trace
+-- tells no more than before.
 pub record TakesLeaf (old new : Unioned) : Type 0 where
   pub same : new ≡ record (holding new.lane.held old) { count = count_read old; trace = new.trace }
   pub none : reads_leaf old ≡ false → new.lane ≡ old.lane
+  pub named : new.trace.strategy ≡ old.trace.strategy
+  pub events : new.trace.events ≡ old.trace.events

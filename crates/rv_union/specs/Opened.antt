@@ -28,7 +28,7 @@ use Rattle.rv_jscan.specs.Pieces.{Pieced}
 use Rattle.rv_final.specs.Rest.{Steps, qualifies_at}
 use Rattle.rv_final.specs.Stage.{FetchesKey, Unbegun, first_key}
 use Rattle.rv_union.specs.Effort.{keys_work}
-use Rattle.rv_union.specs.Given.{Awaits, TakesLeaf, holding, piece_read}
+use Rattle.rv_union.specs.Given.{Awaits, TakesLeaf, count_read, holding, piece_read}
 use Rattle.rv_union.specs.Rulings.{GivesOn, gone}
 use Rattle.rv_union.specs.Runs.{OfFewIndexes, Tells}
 use Rattle.rv_union.specs.Unioned.{MembersFit, SameUnion, UnionFits, Unioned, rest, rows_of}
@@ -131,7 +131,8 @@ MayRead Done u c d = d ≡ c
 -- WHAT A STEP LEAVES THAT FOUND NO MEMORY: the awaited leaf may have been taken. No piece is accepted and no member
 -- ends.
 pub record OnlyTakes (old new : Unioned) : Type 0 where
-  pub same : new ≡ record (holding new.lane.held old) { count = new.count; at = new.at; trace = new.trace }
+  pub same : new ≡ record (holding new.lane.held old) { count = count_read old; at = new.at; trace = new.trace }
+  pub named : new.trace.strategy ≡ old.trace.strategy
   pub events : new.trace.events ≡ old.trace.events
   pub fewer : keys_work new ≤ keys_work old
 

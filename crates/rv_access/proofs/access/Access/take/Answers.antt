@@ -13,7 +13,7 @@ pub returns-in-Racing-clause-taken : goal.returns-in-Racing-clause-taken
 returns-in-Racing-clause-taken g c = race_takes c.take-in-Racing.result c.take-in-Racing.new.self c.take-in-Racing.ensures.taken
 
 pub returns-in-Competing-clause-leaves : goal.returns-in-Competing-clause-leaves
-returns-in-Competing-clause-leaves g c = rw c.in-Competing.is (record { same = c.take.ensures.same; leaves = c.take.ensures.leaves })
+returns-in-Competing-clause-leaves g c = rw c.in-Competing.is (record { same = c.take.ensures.same; leaves = c.take.ensures.leaves; course = c.take.ensures.course })
 
 pub returns-in-Racing-clause-query : goal.returns-in-Racing-clause-query
 returns-in-Racing-clause-query g c = rw c.in-Racing.is (leaf_query _ _ c.take-in-Racing.ensures.leaves)

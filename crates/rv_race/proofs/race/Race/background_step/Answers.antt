@@ -84,7 +84,7 @@ returns-in_err-_given-in-Piece-clause-tries g c =
     tries_on _ _ _ _ _ _ (leaf_spends c.args.self.now mid shown c.args.steps.now c.take_piece.new.steps c.take_piece.ensures.leaves c.take_piece.ensures.reads) refl (gives_less c.give_piece.result (right_of c.give_piece.ensures.stays) _ _ c.sieve.result mid c.give_piece.new.self shown c.give_piece.ensures.given c.give_piece.ensures.obeys c.give_piece.ensures.err c.take_piece.ensures.fits)
 
 pub returns-in_err-piece-clause-still : goal.returns-in_err-piece-clause-still
-returns-in_err-piece-clause-still g c = kept_if_not _ _ (only_took c.args.self.now c.take_piece.new.self c.take_piece.ensures.leaves c.take_piece.ensures.told)
+returns-in_err-piece-clause-still g c = kept_if_not _ _ (only_took c.args.self.now c.take_piece.new.self c.take_piece.ensures.leaves)
 
 pub returns-in_err-_given-in-Piece-clause-still : goal.returns-in_err-_given-in-Piece-clause-still
-returns-in_err-_given-in-Piece-clause-still g c = kept_if_not _ _ (subst (OnlyTakes c.args.self.now) (sym c.in_err-_given-in-Piece.ensures.err) (only_took c.args.self.now c.take_piece.new.self c.take_piece.ensures.leaves c.take_piece.ensures.told))
+returns-in_err-_given-in-Piece-clause-still g c = kept_if_not _ _ (subst (OnlyTakes c.args.self.now) (sym c.in_err-_given-in-Piece.ensures.err) (only_took c.args.self.now c.take_piece.new.self c.take_piece.ensures.leaves))

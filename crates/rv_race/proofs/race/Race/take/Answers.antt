@@ -8,7 +8,7 @@ use Rattle.rv_race.proofs.Tellings.{undropped_piece}
 use Rattle.rv_race.proofs.race.Race.take.Goals as goal
 
 pub returns-clause-leaves : goal.returns-clause-leaves
-returns-clause-leaves g c = counted_leaves c.args.self.now c.take_piece-taken.new.self c.count.new.self _ c.count.ensures c.take_piece-taken.ensures.leaves
+returns-clause-leaves g c = counted_leaves c.args.self.now c.take_piece-taken.new.self c.count.new.self _ _ c.count.ensures c.take_piece-taken.ensures.leaves
 
 pub returns-clause-same : goal.returns-clause-same
 returns-clause-same g c = counted_race c.args.self.now c.take_piece-taken.new.self c.count.new.self _ c.count.ensures (took_race c.args.self.now c.take_piece-taken.new.self c.take_piece-taken.ensures.leaves)
@@ -23,9 +23,7 @@ pub returns-clause-awaits : goal.returns-clause-awaits
 returns-clause-awaits g c = ap awaited c.count.ensures ∙ took_awaits c.args.self.now c.take_piece-taken.new.self c.take_piece-taken.ensures.leaves
 
 pub returns-clause-tells : goal.returns-clause-tells
-returns-clause-tells g c t =
-    let told = c.take_piece-taken.ensures.told in
-    counted_tells c.take_piece-taken.new.self c.count.new.self _ _ c.count.ensures (took_tells c.args.self.now c.take_piece-taken.new.self c.take_piece-taken.ensures.leaves (ap (λ (x : _). x.events.items) told) (ap (λ (x : _). x.strategy) told) t)
+returns-clause-tells g c t = counted_tells c.take_piece-taken.new.self c.count.new.self _ _ c.count.ensures (took_tells c.args.self.now c.take_piece-taken.new.self c.take_piece-taken.ensures.leaves t)
 
 pub returns-clause-undropped : goal.returns-clause-undropped
 returns-clause-undropped g c t = undropped_piece c.take_piece-taken.result c.take_piece-taken.new.self c.count.new.self _ _ c.take_piece-taken.ensures.taken c.count.ensures (returns-clause-tells g c t)

@@ -10,7 +10,7 @@ use Rattle.rv_union.proofs.Leaves.{takes_leaves}
 use Rattle.rv_union.proofs.uniting.Union.take.Goals as goal
 
 pub returns-clause-leaves : goal.returns-clause-leaves
-returns-clause-leaves g c = counted_leaves c.args.self.now c.take_piece-taken.new.self c.note_counts.new.self _ c.note_counts.ensures c.take_piece-taken.ensures.leaves
+returns-clause-leaves g c = counted_leaves c.args.self.now c.take_piece-taken.new.self c.note_counts.new.self _ _ c.note_counts.ensures c.take_piece-taken.ensures.leaves
 
 pub returns-clause-same : goal.returns-clause-same
 returns-clause-same g c = counted_union c.args.self.now c.take_piece-taken.new.self c.note_counts.new.self _ c.note_counts.ensures (took_union c.args.self.now c.take_piece-taken.new.self c.take_piece-taken.ensures.leaves)
@@ -25,9 +25,7 @@ pub returns-clause-awaits : goal.returns-clause-awaits
 returns-clause-awaits g c = ap awaited c.note_counts.ensures ∙ took_awaits c.args.self.now c.take_piece-taken.new.self c.take_piece-taken.ensures.leaves
 
 pub returns-clause-tells : goal.returns-clause-tells
-returns-clause-tells g c t =
-    let told = c.take_piece-taken.ensures.told in
-    counted_tells c.take_piece-taken.new.self c.note_counts.new.self _ _ c.note_counts.ensures (took_tells c.args.self.now c.take_piece-taken.new.self c.take_piece-taken.ensures.leaves (ap (λ (x : _). x.events.items) told) (ap (λ (x : _). x.strategy) told) t)
+returns-clause-tells g c t = counted_tells c.take_piece-taken.new.self c.note_counts.new.self _ _ c.note_counts.ensures (took_tells c.args.self.now c.take_piece-taken.new.self c.take_piece-taken.ensures.leaves t)
 
 pub returns-clause-undropped : goal.returns-clause-undropped
 returns-clause-undropped g c t = undropped_piece c.take_piece-taken.result c.take_piece-taken.new.self c.note_counts.new.self _ _ c.take_piece-taken.ensures.taken c.note_counts.ensures (returns-clause-tells g c t)
