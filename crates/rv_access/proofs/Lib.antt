@@ -6,3 +6,4 @@ pub mod OfRaces
 pub mod Accesses
 pub mod OfUnions
 pub mod Unites
+pub mod Nearing

@@ -2,3 +2,4 @@ pub mod Accesses
 pub mod Given
 pub mod Stepping
 pub mod Opened
+pub mod Ahead

@@ -11,6 +11,7 @@ ghost use Rattle.rv_final.specs.Work.{Tries};
 ghost use Rattle.rv_retrieval.specs.Effort.{FgSpends, GiveSpends};
 ghost use Rattle.rv_retrieval.specs.Runs.{indexes_asked};
 ghost use Rattle.rv_retrieval.specs.Short.{OnlyLeaves, has_short};
+ghost use Rattle.rv_access.specs.Ahead.{AllAhead, LeavesNear, is_union, leaves_ahead};
 ghost use Rattle.rv_access.specs.Accesses.{AccessFits, Awaiting, Keeps, SamePlans, Settled, Tells, control_of, effort, fetches_left, held_of, number_of, query_of, rest, trace_of};
 ghost use Rattle.rv_access.specs.Given.{Answers, CountsPiece, GivesOn, IsOfUndropped, SamePieces, TakesLeaf, TakesPiece, awaited, piece_read};
 ghost use Rattle.rv_access.specs.Opened.{Begins, Competes, IsShort, Opened, OpenedBy, Races, Unites, is_background_only, is_each, is_race, is_table, life_of, races, restricted, unites};
@@ -133,6 +134,7 @@ impl Access {
         ensures competes { IfOk result (Competes query (R.shown reader.now) cursor opening) }
         ensures begins { IfOk result (Begins query (R.shown reader.now) steps.old steps.new) }
         ensures reads { reads steps.new ≤ reads steps.old + life_of query (R.shown reader.now) }
+        ensures ahead { IfOk result (AllAhead (R.shown reader.now)) }
         ensures short { has_short query (R.shown reader.now) ≡ true → IfOk result (IsShort (R.shown reader.now)) }
         ensures only { OnlyLeaves steps.old steps.new }
         ensures unread { has_short query (R.shown reader.now) ≡ false → steps.new ≡ steps.old }
@@ -160,6 +162,7 @@ impl Access {
         requires races { races choice candidates.now ≡ true }
         ensures races { IfOk result (Races query (R.shown reader.now) cursor opening choice) }
         ensures begins { IfOk result (Begins query (R.shown reader.now) steps.old steps.new) }
+        ensures ahead { IfOk result (AllAhead (R.shown reader.now)) }
         ensures short { has_short query (R.shown reader.now) ≡ false }
         ensures unread { steps.new ≡ steps.old }
     {
@@ -188,6 +191,7 @@ impl Access {
         requires members { AreUnited query (R.shown reader.now) members.items }
         ensures unites { IfOk result (Unites query (R.shown reader.now) cursor opening) }
         ensures begins { IfOk result (Begins query (R.shown reader.now) steps.old steps.new) }
+        ensures ahead { IfOk result (AllAhead (R.shown reader.now)) }
         ensures short { has_short query (R.shown reader.now) ≡ false }
         ensures unread { steps.new ≡ steps.old }
     {
@@ -214,6 +218,7 @@ impl Access {
         ensures opened { IfOk result (OpenedBy false (unites query (R.shown reader.now) choice) query (R.shown reader.now) cursor opening choice) }
         ensures begins { IfOk result (Begins query (R.shown reader.now) steps.old steps.new) }
         ensures reads { reads steps.new ≤ reads steps.old + life_of query (R.shown reader.now) }
+        ensures ahead { IfOk result (AllAhead (R.shown reader.now)) }
         ensures short { has_short query (R.shown reader.now) ≡ true → IfOk result (IsShort (R.shown reader.now)) }
         ensures only { OnlyLeaves steps.old steps.new }
         ensures unread { has_short query (R.shown reader.now) ≡ false → steps.new ≡ steps.old }
@@ -252,6 +257,7 @@ impl Access {
         ensures opened { IfOk result (Opened race query (R.shown reader.now) cursor opening) }
         ensures begins { IfOk result (Begins query (R.shown reader.now) steps.old steps.new) }
         ensures reads { reads steps.new ≤ reads steps.old + life_of query (R.shown reader.now) }
+        ensures ahead { IfOk result (AllAhead (R.shown reader.now)) }
         ensures short { has_short query (R.shown reader.now) ≡ true → IfOk result (IsShort (R.shown reader.now)) }
         ensures only { OnlyLeaves steps.old steps.new }
         ensures unread { has_short query (R.shown reader.now) ≡ false → steps.new ≡ steps.old }
@@ -360,6 +366,8 @@ impl Access {
         ensures tells { Tells self.old → Tells self.new }
         ensures tries { Tries steps.old steps.new (effort self.old (R.shown reader.now)) (effort self.new (R.shown reader.now)) }
         ensures spends { Awaiting self.old → IfOk result (λ fg. FgSpends fg steps.old steps.new (effort self.old (R.shown reader.now)) (effort self.new (R.shown reader.now))) }
+        ensures kind { is_union self.new ≡ is_union self.old }
+        ensures nearer { IfOk result (λ fg. LeavesNear (R.shown reader.now) steps.old steps.new self.old self.new) }
         ensures awaiting { Awaiting self.old → Awaiting self.new }
         ensures settled { Settled self.old → Settled self.new }
         ensures unasked { Settled self.old → state judge.new ≡ state judge.old }
@@ -394,6 +402,8 @@ impl Access {
         ensures undropped { Tells self.old → IfOk result (IsOfUndropped self.new) }
         ensures tries { Tries steps.old steps.new (effort self.old (R.shown reader.now)) (effort self.new (R.shown reader.now)) }
         ensures spends { IfOk result (λ taken. reads steps.new + effort self.new (R.shown reader.now) ≤ reads steps.old + effort self.old (R.shown reader.now)) }
+        ensures kind { is_union self.new ≡ is_union self.old }
+        ensures nearer { IfOk result (λ taken. LeavesNear (R.shown reader.now) steps.old steps.new self.old self.new) }
         ensures awaiting { Awaiting self.old → Awaiting self.new }
         ensures settled { Settled self.old → SettledTake (R.shown reader.now) steps.old steps.new self.old self.new }
     {
@@ -425,6 +435,8 @@ impl Access {
         ensures tells { Tells self.old → Tells self.new }
         ensures less { (shown : Shown) → AccessFits self.old shown → effort self.new shown ≤ effort self.old shown }
         ensures spends { (shown : Shown) → AccessFits self.old shown → IfOk result (λ g. GiveSpends g (effort self.old shown) (effort self.new shown)) }
+        ensures kind { is_union self.new ≡ is_union self.old }
+        ensures nearer { (shown : Shown) → leaves_ahead self.new shown ≤ leaves_ahead self.old shown }
         ensures awaiting { Awaiting self.old → Awaiting self.new }
         ensures settled { Settled self.old → (self.new ≡ self.old) × (state judge.new ≡ state judge.old) }
         ensures reads { steps.new ≡ steps.old }

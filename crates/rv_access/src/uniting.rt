@@ -8,6 +8,7 @@ ghost use Rattle.rv_final.specs.Work.{Tries};
 ghost use Rattle.rv_retrieval.specs.Effort.{FgSpends};
 ghost use Rattle.rv_union.specs.Effort.{GiveSpends, effort};
 ghost use Rattle.rv_union.specs.Given.{Answers as UnionAnswers, TakesPiece as UnionTakesPiece, awaited, piece_read};
+ghost use Rattle.rv_union.specs.Leaves.{LeavesFall, leaves_left, planned_leaves};
 ghost use Rattle.rv_union.specs.Opened.{MayRead};
 ghost use Rattle.rv_union.specs.Runs.{IsOfUndropped};
 ghost use Rattle.rv_union.specs.Unioned.{rest};
@@ -49,6 +50,7 @@ impl UnitedQuery {
         requires members { AreUnited query (R.shown reader.now) members.items }
         ensures begins { IfOk result (BeginsUnion query (R.shown reader.now) cursor opening) }
         ensures counts { IfOk result (λ u. CountsAll u.union.trace steps.old steps.new) }
+        ensures ahead { IfOk result (λ u. leaves_left u.union (R.shown reader.now) ≡ planned_leaves u.union.plans (R.shown reader.now) query.snap) }
         ensures unread { steps.new ≡ steps.old }
     {
         let only = query.only.copy(alloc)?;
@@ -90,6 +92,7 @@ impl UnitedQuery {
         ensures tells { UnitedTells self.old → UnitedTells self.new }
         ensures tries { Tries steps.old steps.new (effort self.old.union (R.shown reader.now)) (effort self.new.union (R.shown reader.now)) }
         ensures spends { IfOk result (λ fg. FgSpends fg steps.old steps.new (effort self.old.union (R.shown reader.now)) (effort self.new.union (R.shown reader.now))) }
+        ensures nearer { IfOk result (λ fg. LeavesFall steps.old steps.new (leaves_left self.old.union (R.shown reader.now)) (leaves_left self.new.union (R.shown reader.now))) }
     {
         let stepped = self.union.step(reader, judge, steps);
         match stepped {
@@ -117,6 +120,7 @@ impl UnitedQuery {
         ensures undropped { UnitedTells self.old → IfOk result (IsOfUndropped self.new.union) }
         ensures tries { Tries steps.old steps.new (effort self.old.union (R.shown reader.now)) (effort self.new.union (R.shown reader.now)) }
         ensures spends { IfOk result (λ taken. reads steps.new + effort self.new.union (R.shown reader.now) ≤ reads steps.old + effort self.old.union (R.shown reader.now)) }
+        ensures nearer { IfOk result (λ taken. LeavesFall steps.old steps.new (leaves_left self.old.union (R.shown reader.now)) (leaves_left self.new.union (R.shown reader.now))) }
     {
         self.union.take(reader, steps)
     }
@@ -141,6 +145,7 @@ impl UnitedQuery {
         ensures tells { UnitedTells self.old → UnitedTells self.new }
         ensures less { (shown : Shown) → UnitedFits self.old shown → effort self.new.union shown ≤ effort self.old.union shown }
         ensures spends { (shown : Shown) → UnitedFits self.old shown → IfOk result (λ g. GiveSpends g (effort self.old.union shown) (effort self.new.union shown)) }
+        ensures nearer { (shown : Shown) → leaves_left self.new.union shown ≤ leaves_left self.old.union shown }
         ensures reads { steps.new ≡ steps.old }
     {
         self.union.give(sieved, judge, steps)

@@ -1,4 +1,6 @@
+use Rattle.std.proofs.Common.{refl}
 use Rattle.rv_access.proofs.Accesses.{none_fewer, race_gives, retrieval_gives, union_gives}
+use Rattle.rv_access.proofs.Nearing.{none_near, union_near}
 use Rattle.rv_access.proofs.access.Access.fg_step.Goals as goal
 
 pub returns-in-Competing-clause-step : goal.returns-in-Competing-clause-step
@@ -33,3 +35,12 @@ returns-in-Uniting-clause-pages g c = rw c.in-Uniting.is (λ s. absurd s)
 
 pub returns-in-Uniting-clause-records : goal.returns-in-Uniting-clause-records
 returns-in-Uniting-clause-records g c = rw c.in-Uniting.is (λ s. absurd s)
+
+pub returns-in-Competing-clause-nearer : goal.returns-in-Competing-clause-nearer
+returns-in-Competing-clause-nearer g c = rw c.in-Competing.is (none_near c.fg_step.result _ _ _ _ _ refl)
+
+pub returns-in-Racing-clause-nearer : goal.returns-in-Racing-clause-nearer
+returns-in-Racing-clause-nearer g c = rw c.in-Racing.is (none_near c.fg_step-in-Racing.result _ _ _ _ _ refl)
+
+pub returns-in-Uniting-clause-nearer : goal.returns-in-Uniting-clause-nearer
+returns-in-Uniting-clause-nearer g c = rw c.in-Uniting.is (union_near c.fg_step-in-Uniting.result (g.R.Reader.shown c.args.reader.now) _ _ c.in-Uniting.united c.fg_step-in-Uniting.new.self c.fg_step-in-Uniting.ensures.nearer)

@@ -1,3 +1,6 @@
+use Rattle.std.proofs.Common.{refl}
+use Rattle.rv_access.specs.declared.access.Access.TheVariants.{Competing}
+use Rattle.rv_access.proofs.Nearing.{none_ahead}
 use Rattle.rv_access.proofs.Chosen.{short_lived, short_whole}
 use Rattle.rv_access.proofs.access.Access.open_competing.Goals as goal
 
@@ -21,3 +24,6 @@ returns-in_err-retrieval-clause-reads g c = short_lived c.args.query (g.R.Reader
 
 pub returns-clause-short : goal.returns-clause-short
 returns-clause-short g c h = record { settled = (c.in_ok-retrieval.ensures.short h).0; few = (c.in_ok-retrieval.ensures.short h).1 }
+
+pub returns-clause-ahead : goal.returns-clause-ahead
+returns-clause-ahead g c = none_ahead (g.R.Reader.shown c.args.reader.now) (Competing c.in_ok-retrieval.retrieval) refl

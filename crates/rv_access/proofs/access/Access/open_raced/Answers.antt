@@ -1,3 +1,6 @@
+use Rattle.std.proofs.Common.{refl}
+use Rattle.rv_access.specs.declared.access.Access.TheVariants.{Racing}
+use Rattle.rv_access.proofs.Nearing.{none_ahead}
 use Rattle.rv_access.proofs.Chosen.{begun_race, not_short}
 use Rattle.rv_access.proofs.access.Access.open_raced.Goals as goal
 
@@ -14,3 +17,6 @@ returns-clause-short g c = not_short c.args.query (g.R.Reader.shown c.args.reade
 
 pub returns-in_err-raced-clause-short : goal.returns-in_err-raced-clause-short
 returns-in_err-raced-clause-short g c = not_short c.args.query (g.R.Reader.shown c.args.reader.now) c.args.choice c.args.candidates.now c.requires.candidates c.requires.choice c.requires.races
+
+pub returns-clause-ahead : goal.returns-clause-ahead
+returns-clause-ahead g c = none_ahead (g.R.Reader.shown c.args.reader.now) (Racing c.in_ok-raced.raced) refl

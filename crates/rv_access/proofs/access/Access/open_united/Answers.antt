@@ -1,4 +1,5 @@
 use Rattle.rv_access.proofs.Chosen.{table_not_short, table_unordered}
+use Rattle.rv_access.proofs.Nearing.{all_ahead}
 use Rattle.rv_access.proofs.Unites.{begun_union}
 use Rattle.rv_access.proofs.access.Access.open_united.Goals as goal
 
@@ -16,3 +17,6 @@ returns-clause-short g c = table_not_short c.args.query (g.R.Reader.shown c.args
 
 pub returns-in_err-united-clause-short : goal.returns-in_err-united-clause-short
 returns-in_err-united-clause-short g c = table_not_short c.args.query (g.R.Reader.shown c.args.reader.now) c.args.choice c.args.candidates.now c.requires.candidates c.requires.choice c.requires.table
+
+pub returns-clause-ahead : goal.returns-clause-ahead
+returns-clause-ahead g c = all_ahead c.args.query (g.R.Reader.shown c.args.reader.now) c.in_ok-united.united c.in_ok-united.ensures.begins.united.asked c.in_ok-united.ensures.ahead

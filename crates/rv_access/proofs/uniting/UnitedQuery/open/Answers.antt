@@ -1,3 +1,4 @@
+use Rattle.rv_access.proofs.Nearing.{opened_ahead}
 use Rattle.rv_access.proofs.Unites.{begins_union, can_unite, members_some, opened_counts}
 use Rattle.rv_access.proofs.uniting.UnitedQuery.open.Goals as goal
 
@@ -12,3 +13,6 @@ returns-clause-begins g c = begins_union c.args.query (g.R.Reader.shown c.args.r
 
 pub returns-clause-counts : goal.returns-clause-counts
 returns-clause-counts g c = opened_counts c.args.query.table c.args.query.snap c.in_ok-only.only c.args.members.items c.args.cursor c.args.opening _ c.in_ok-union.union _ _ c.in_ok-union.ensures.opened c.open.ensures.reads
+
+pub returns-clause-ahead : goal.returns-clause-ahead
+returns-clause-ahead g c = opened_ahead c.args.query.table c.args.query.snap c.in_ok-only.only c.args.members.items c.args.cursor c.args.opening _ c.in_ok-union.union (g.R.Reader.shown c.args.reader.now) c.in_ok-union.ensures.opened c.in_ok-union.ensures.ahead
