@@ -1,4 +1,5 @@
--- HOW MANY LEAVES AN ACCESS MAY STILL READ where members are put together. Of a retrieval and of a race nothing is said here.
+-- HOW MANY LEAVES AN ACCESS MAY STILL READ where members are put together. Of a retrieval and of a race nothing is said
+-- here.
 use Rattle.std.specs.Prelude.{◌≡◌, ℕ, Bool, true, false}
 use Rattle.rv_judge.specs.declared.counting.Counts.{Counts}
 use Rattle.rv_reader.specs.Shown.{Shown}
