@@ -1,5 +1,5 @@
 -- What was chosen can race, and what a race and a retrieval are where they begin.
-use Rattle.std.proofs.Common.{◌∷◌, cond, suc, ◌≡◌, ℕ, ◌+◌, ◌-◌, ◌<◌, ◌≤◌, List, [], length, filter, map, Bool, true, false, ◌&&◌, nat_le, Option, Some, None, is_some, refl, ap, sym, ◌∙◌, arith, subst, Result, Ok, Err, IfOk}
+use Rattle.std.proofs.Common.{◌∷◌, cond, suc, ◌≡◌, ℕ, ◌+◌, ◌*◌, ◌-◌, ◌<◌, ◌≤◌, List, [], length, filter, map, Bool, true, false, ◌&&◌, nat_le, Option, Some, None, is_some, refl, ap, sym, ◌∙◌, arith, subst, Result, Ok, Err, IfOk}
 use Rattle.std.specs.List.{list_all}
 use Rattle.std.specs.Prelude.{◌||◌, if◌then◌else◌}
 use Rattle.std.proofs.lemmas.Bool.Decides.{nat_tests}
@@ -45,9 +45,8 @@ use Rattle.rv_access.specs.declared.access.Access.{Access}
 use Rattle.rv_access.specs.declared.access.Access.TheVariants.{Racing}
 use Rattle.rv_access.specs.declared.racing.RacedQuery.{RacedQuery}
 use Rattle.rv_access.specs.Accesses.{RacedFits, RacedTells}
-use Rattle.rv_access.specs.Opened.{Begins, BeginsRace, Competes, Opened, OpenedBy, Races, Unites, is_background_only, is_each, is_table, life_of, races, restricted, unites}
+use Rattle.rv_access.specs.Opened.{Begins, BeginsRace, Competes, Opened, OpenedBy, Races, Unites, is_background_only, is_each, is_table, races, restricted, unites}
 use Rattle.rv_access.proofs.Lives.{raced_life}
-use Rattle.rv_access.proofs.Unites.{one_life}
 
 no_way : {X : Type 0} → true ≡ false → X
 no_way bad = absurd (cc)
@@ -209,7 +208,6 @@ opened_counts table snap only scans cursor opening pages r c d opened same = rec
 
 pub begun_race : (query : Query) (shown : Shown) (c d : Counts) (r : RacedQuery) → r.query ≡ query → RacedFits r shown → race_rest r.race shown ≡ qualifying query.only (shown.rows query.table query.snap) → RacedTells r → race_effort r.race shown < retrieval_life query shown → CountsAll r.race.trace c d → d ≡ c → Begins query shown c d (Racing r)
 begun_race query shown c d r asked fits owes tells life counts unread =
-    let more = one_life query shown in
     record {
       asked = asked;
       fits = fits;
@@ -217,28 +215,15 @@ begun_race query shown c d r asked fits owes tells life counts unread =
       tells = tells;
       awaiting = tt;
       counts = counts;
-      life = within (reads c) (reads d) (race_effort r.race shown) (retrieval_life query shown) (life_of query shown) (ap reads unread) life more;
-      most = at_most (race_effort r.race shown) (retrieval_life query shown) (life_of query shown) life more;
+      life = within (reads c) (reads d) (race_effort r.race shown) (retrieval_life query shown) (ap reads unread) life;
+      most = at_most (race_effort r.race shown) (retrieval_life query shown) life;
     }
   where
-    within : (n m k l o : ℕ) → m ≡ n → k < l → l ≤ o → m + k ≤ n + o
-    within n m k l o e h f = omega (arith, e, h, f)
+    within : (n m k l : ℕ) → m ≡ n → k < l → m + k ≤ n + 1 * l
+    within n m k l e h = omega (arith, e, h)
 
-    at_most : (k l o : ℕ) → k < l → l ≤ o → k ≤ o
-    at_most k l o h f = omega (arith, h, f)
-
--- a retrieval has no longer life
-pub short_lived : (query : Query) (shown : Shown) (a b : ℕ) → a ≤ b + retrieval_life query shown → a ≤ b + life_of query shown
-short_lived query shown a b h = longer a b (retrieval_life query shown) (life_of query shown) h (one_life query shown)
-  where
-    longer : (a b c d : ℕ) → a ≤ b + c → c ≤ d → a ≤ b + d
-    longer a b c d h i = omega (arith, h, i)
-
-pub short_whole : (query : Query) (shown : Shown) (a : ℕ) → a ≤ retrieval_life query shown → a ≤ life_of query shown
-short_whole query shown a h = longer a (retrieval_life query shown) (life_of query shown) h (one_life query shown)
-  where
-    longer : (a c d : ℕ) → a ≤ c → c ≤ d → a ≤ d
-    longer a c d h i = omega (arith, h, i)
+    at_most : (k l : ℕ) → k < l → k ≤ 1 * l
+    at_most k l h = omega (arith, h)
 
 -- what is chosen of the same candidates has the same strategy, so far as it would read the table
 

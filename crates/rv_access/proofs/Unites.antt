@@ -214,30 +214,23 @@ members_short query shown [] (p ∷ plans) m = absurd m
 members_short query shown (b ∷ branches) [] m = absurd m
 members_short query shown (b ∷ branches) (p ∷ plans) m = times_more (member_life (shown.pages query.table query.snap) p shown query.snap) (members_life (shown.pages query.table query.snap) plans shown query.snap) (length plans) (retrieval_life query shown) (member_short query shown b p m.0) (members_short query shown branches plans m.1)
 
-pub united_life : (query : Query) (shown : Shown) (plans : List ScanPlan) (effort : ℕ) → AreUnited query shown plans → effort < union_life query.table query.snap plans shown → effort < life_of query shown
+pub united_life : (query : Query) (shown : Shown) (plans : List ScanPlan) (effort : ℕ) → AreUnited query shown plans → effort < union_life query.table query.snap plans shown → effort < widths query.only * retrieval_life query shown
 united_life query shown plans effort u l =
     let short = members_short query shown (branches_of (group_at query.only u.group)) plans u.members in
     let many = members_many query shown (branches_of (group_at query.only u.group)) plans u.members in
     let few = branches_few (group_at query.only u.group) in
     let within = group_within query.only u.group u.there in
-    let product = less_product (length plans) (widths query.only + 1) (retrieval_life query shown) (fit (length plans) (length (branches_of (group_at query.only u.group))) (group_width (group_at query.only u.group)) (widths query.only) many few within) in
-    close effort (union_life query.table query.snap plans shown) (length plans * retrieval_life query shown) (life_of query shown) l short product
+    let product = less_product (length plans) (widths query.only) (retrieval_life query shown) (fit (length plans) (length (branches_of (group_at query.only u.group))) (group_width (group_at query.only u.group)) (widths query.only) many few within) in
+    close effort (union_life query.table query.snap plans shown) (length plans * retrieval_life query shown) (widths query.only * retrieval_life query shown) l short product
   where
     less_product : (r n c : ℕ) → r ≤ n → r * c ≤ n * c
     less_product r n c h = grind (arith, h)
 
-    fit : (a b c d : ℕ) → a ≡ b → b ≤ c → c ≤ d → a ≤ d + 1
+    fit : (a b c d : ℕ) → a ≡ b → b ≤ c → c ≤ d → a ≤ d
     fit a b c d e f g = omega (arith, e, f, g)
 
     close : (a b c d : ℕ) → a < b → b ≤ c → c ≤ d → a < d
     close a b c d f g h = omega (arith, f, g, h)
-
--- one life is no more than that of an access
-pub one_life : (query : Query) (shown : Shown) → retrieval_life query shown ≤ life_of query shown
-one_life query shown = more (widths query.only) (retrieval_life query shown)
-  where
-    more : (n c : ℕ) → c ≤ (n + 1) * c
-    more n c = let same : (n + 1) * c ≡ n * c + c = grind arith in omega (arith, same)
 
 -- WHAT A UNION IS WHERE IT BEGINS
 
@@ -287,8 +280,8 @@ begun_union query shown cursor opening c d u begins counts unread = record {
   tells = begins.tells;
   awaiting = tt;
   counts = counts;
-  life = within (reads c) (reads d) (union_effort u.union shown) (life_of query shown) (ap reads unread) begins.life;
-  most = at_most (union_effort u.union shown) (life_of query shown) begins.life;
+  life = within (reads c) (reads d) (union_effort u.union shown) (life_of (Uniting u) query shown) (ap reads unread) begins.life;
+  most = at_most (union_effort u.union shown) (life_of (Uniting u) query shown) begins.life;
 }
   where
     within : (n m k l : ℕ) → m ≡ n → k < l → m + k ≤ n + l

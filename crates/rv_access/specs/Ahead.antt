@@ -1,5 +1,6 @@
--- HOW MANY LEAVES AN ACCESS MAY STILL READ where members are put together. Of a retrieval and of a race nothing is said here.
-use Rattle.std.specs.Prelude.{◌≡◌, ℕ, ◌+◌, ◌≤◌, Bool, true, false}
+-- HOW MANY LEAVES AN ACCESS MAY STILL READ where members are put together. Of a retrieval and of a race nothing is said
+-- here.
+use Rattle.std.specs.Prelude.{◌≡◌, ℕ, Bool, true, false}
 use Rattle.rv_judge.specs.declared.counting.Counts.{Counts}
 use Rattle.rv_reader.specs.Shown.{Shown}
 use Rattle.rv_union.specs.Leaves.{LeavesFall, leaves_left, planned_leaves}

@@ -5,6 +5,7 @@ use Rattle.rv_judge.specs.Counting.{reads}
 use Rattle.rv_judge.specs.Tracing.{CountsAll}
 use Rattle.rv_judge.specs.declared.events.Strategy.{Strategy}
 use Rattle.rv_judge.specs.declared.events.Strategy.TheVariants.{Table, BackgroundOnly, FastFirst, Sorted, IndexOnly, Union}
+use Rattle.rv_restrict.specs.declared.atom.Atom.{Atom}
 use Rattle.rv_reader.specs.Shown.{Shown}
 use Rattle.rv_choice.specs.declared.query.Query.{Query}
 use Rattle.rv_choice.specs.declared.choosing.Background.{Background}
@@ -64,9 +65,16 @@ is_table Union = false
 abbrev pub unites : Query → Shown → Choice → Bool
 unites query shown choice = is_table choice.strategy && some_serves query shown
 
--- THE LIFE OF AN ACCESS: a life bound for a retrieval or a race, or for each branch that a group may have
-abbrev pub life_of : Query → Shown → ℕ
-life_of query shown = (widths query.only + 1) * retrieval_life query shown
+-- HOW MANY LIFE BOUNDS: one of a retrieval and of a race; of a union one for each branch that the groups may
+-- have
+abbrev pub lives : Access → List (List Atom) → ℕ
+lives (Competing v) only = 1
+lives (Racing r) only = 1
+lives (Uniting u) only = widths only
+
+-- THE LIFE OF AN ACCESS, so many times that of a retrieval
+abbrev pub life_of : Access → Query → Shown → ℕ
+life_of a query shown = lives a query.only * retrieval_life query shown
 
 -- the race of what was chosen
 pub record IsRaced (query : Query) (shown : Shown) (cursor opening : ℕ) (choice : Choice) (r : RacedQuery) : Type 0 where
@@ -94,7 +102,7 @@ pub record BeginsUnion (query : Query) (shown : Shown) (cursor opening : ℕ) (u
   pub fits : UnitedFits u shown
   pub owes : union_rest u.union shown ≡ qualifying query.only (shown.rows query.table query.snap)
   pub tells : UnitedTells u
-  pub life : union_effort u.union shown < life_of query shown
+  pub life : union_effort u.union shown < life_of (Uniting u) query shown
 
 -- a retrieval was opened; a race of what was chosen was; a union was
 abbrev pub Competes : Query → Shown → ℕ → ℕ → Access → Type 0
@@ -125,8 +133,8 @@ pub record Opened (race : Bool) (query : Query) (shown : Shown) (cursor opening 
   pub chosen : IsChosen query.order query.goal (candidates_of query shown) choice
   pub opened : OpenedBy (race && races choice (candidates_of query shown)) (unites query shown choice) query shown cursor opening choice a
 
--- WHAT IT IS WHERE IT BEGINS: it owes each record that qualifies; what the opening has read is counted, and the
--- effort is below the bound that the reader's lists give
+-- WHAT IT IS WHERE IT BEGINS: it owes each record that qualifies; what the opening has read is counted, and with the
+-- effort it is within the life of an access of its kind
 pub record Begins (query : Query) (shown : Shown) (c d : Counts) (a : Access) : Type 0 where
   pub asked : query_of a ≡ query
   pub fits : AccessFits a shown
@@ -134,8 +142,8 @@ pub record Begins (query : Query) (shown : Shown) (c d : Counts) (a : Access) : 
   pub tells : Tells a
   pub awaiting : Awaiting a
   pub counts : CountsAll (trace_of a) c d
-  pub life : reads d + effort a shown ≤ reads c + life_of query shown
-  pub most : effort a shown ≤ life_of query shown
+  pub life : reads d + effort a shown ≤ reads c + life_of a query shown
+  pub most : effort a shown ≤ life_of a query shown
 
 -- where a short index was scanned at opening
 pub record IsShort (shown : Shown) (a : Access) : Type 0 where

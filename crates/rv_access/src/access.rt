@@ -8,13 +8,13 @@ ghost use Rattle.rv_choice.specs.Asked.{CanAsk};
 ghost use Rattle.rv_choice.specs.Choice.{IsChosen, IsRight, candidates_of};
 ghost use Rattle.rv_choice.specs.Members.{AreUnited};
 ghost use Rattle.rv_final.specs.Work.{Tries};
-ghost use Rattle.rv_retrieval.specs.Effort.{FgSpends, GiveSpends};
+ghost use Rattle.rv_retrieval.specs.Effort.{FgSpends, GiveSpends, life_of as retrieval_life};
 ghost use Rattle.rv_retrieval.specs.Runs.{indexes_asked};
 ghost use Rattle.rv_retrieval.specs.Short.{OnlyLeaves, has_short};
 ghost use Rattle.rv_access.specs.Ahead.{AllAhead, LeavesNear, is_union, leaves_ahead};
 ghost use Rattle.rv_access.specs.Accesses.{AccessFits, Awaiting, Keeps, SamePlans, Settled, Tells, control_of, effort, fetches_left, held_of, number_of, query_of, rest, trace_of};
 ghost use Rattle.rv_access.specs.Given.{Answers, CountsPiece, GivesOn, IsOfUndropped, SamePieces, TakesLeaf, TakesPiece, awaited, piece_read};
-ghost use Rattle.rv_access.specs.Opened.{Begins, Competes, IsShort, Opened, OpenedBy, Races, Unites, is_background_only, is_each, is_race, is_table, life_of, races, restricted, unites};
+ghost use Rattle.rv_access.specs.Opened.{Begins, Competes, IsShort, Opened, OpenedBy, Races, Unites, is_background_only, is_each, is_race, is_table, races, restricted, unites};
 ghost use Rattle.rv_access.specs.Stepping.{GivesStep, MayReadIts, OnlyTakes, SameCourse, SettledTake, StepsAs};
 
 use crate::racing::RacedQuery;
@@ -133,7 +133,7 @@ impl Access {
         requires right { AllByRecursion (IsRight (R.shown reader.now) query.snap) candidates.now }
         ensures competes { IfOk result (Competes query (R.shown reader.now) cursor opening) }
         ensures begins { IfOk result (Begins query (R.shown reader.now) steps.old steps.new) }
-        ensures reads { reads steps.new ≤ reads steps.old + life_of query (R.shown reader.now) }
+        ensures reads { reads steps.new ≤ reads steps.old + retrieval_life query (R.shown reader.now) }
         ensures ahead { IfOk result (AllAhead (R.shown reader.now)) }
         ensures short { has_short query (R.shown reader.now) ≡ true → IfOk result (IsShort (R.shown reader.now)) }
         ensures only { OnlyLeaves steps.old steps.new }
@@ -217,7 +217,7 @@ impl Access {
         requires right { AllByRecursion (IsRight (R.shown reader.now) query.snap) candidates.now }
         ensures opened { IfOk result (OpenedBy false (unites query (R.shown reader.now) choice) query (R.shown reader.now) cursor opening choice) }
         ensures begins { IfOk result (Begins query (R.shown reader.now) steps.old steps.new) }
-        ensures reads { reads steps.new ≤ reads steps.old + life_of query (R.shown reader.now) }
+        ensures reads { reads steps.new ≤ reads steps.old + retrieval_life query (R.shown reader.now) }
         ensures ahead { IfOk result (AllAhead (R.shown reader.now)) }
         ensures short { has_short query (R.shown reader.now) ≡ true → IfOk result (IsShort (R.shown reader.now)) }
         ensures only { OnlyLeaves steps.old steps.new }
@@ -256,7 +256,7 @@ impl Access {
         requires { CanAsk query (R.shown reader.now) }
         ensures opened { IfOk result (Opened race query (R.shown reader.now) cursor opening) }
         ensures begins { IfOk result (Begins query (R.shown reader.now) steps.old steps.new) }
-        ensures reads { reads steps.new ≤ reads steps.old + life_of query (R.shown reader.now) }
+        ensures reads { reads steps.new ≤ reads steps.old + retrieval_life query (R.shown reader.now) }
         ensures ahead { IfOk result (AllAhead (R.shown reader.now)) }
         ensures short { has_short query (R.shown reader.now) ≡ true → IfOk result (IsShort (R.shown reader.now)) }
         ensures only { OnlyLeaves steps.old steps.new }

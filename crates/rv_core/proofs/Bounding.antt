@@ -24,7 +24,7 @@ at_most before after count counted = omega (arith, counted)
 
 bounded : (shown : Shown) (s : Select) (indexes : List IndexDef) (snap : ℕ) (before after : Counts) (p : Planned) → before ≡ no_counts → OnlyLeaves before after → CountsAll (plan_trace p) before after
     → plan_work shown p ≤ row_cost (lives_of p.asked.only) shown snap p.asked.items
-    → reads after + plan_effort shown p ≤ reads before + plan_life s indexes shown snap
+    → reads after + plan_effort shown p ≤ reads before + plan_life s indexes shown snap p
     → (has_short (query_of p.stack.at.here) shown ≡ true → Settled p.stack.at.here × (fetches_left p.stack.at.here shown ≤ 20))
     → IsBounded shown s indexes snap p
 bounded shown s indexes snap before after p fresh only counted work life short =
@@ -37,7 +37,7 @@ bounded shown s indexes snap before after p fresh only counted work life short =
 pub opens_bounded : {E : Type 0} (r : Result Open E) (shown : Shown) (s : Select) (indexes : List IndexDef) (snap : ℕ) (before after : Counts) → before ≡ no_counts → OnlyLeaves before after
     → IfOk r (λ c. CountsAll (plan_trace c.plan) before after)
     → IfOk r (λ c. plan_work shown c.plan ≤ row_cost (lives_of c.plan.asked.only) shown snap c.plan.asked.items)
-    → IfOk r (λ c. reads after + plan_effort shown c.plan ≤ reads before + plan_life s indexes shown snap)
+    → IfOk r (λ c. reads after + plan_effort shown c.plan ≤ reads before + plan_life s indexes shown snap c.plan)
     → IfOk r (λ c. has_short (query_of c.plan.stack.at.here) shown ≡ true → Settled c.plan.stack.at.here × (fetches_left c.plan.stack.at.here shown ≤ 20))
     → IfOk r (λ c. IsBounded shown s indexes snap c.plan)
 opens_bounded (Err e) shown s indexes snap before after fresh only counted work life short = tt

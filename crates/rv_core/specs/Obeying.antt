@@ -81,13 +81,14 @@ pub record FetchOf (most : ℕ) (would : ℕ → Facts → Ruling) (c : Open) (s
 abbrev pub TurnOf : Option (Reply × Reply) → ℕ → (ℕ → Facts → Ruling) → Open → Shown → Ruled → Ruled → Type 0
 TurnOf part most would c shown old new = TurnMoves c.hand part most would shown old new
 
--- THE BOUNDS WITH WHICH A PLAN BEGINS. It has read leaves alone. These reads and the effort of the first FROM item's
--- retrieval are together at most a number of the store's pages, cuts and entries and of the branches that the groups
--- may have, and so is the work left of all items. Where a restricted index of the first item has an exact estimate of
--- at most 20, the background is over, and at most 20 records are left to be fetched.
+-- THE BOUNDS WITH WHICH A PLAN BEGINS. It has read leaves alone. These reads and the effort of the first FROM item are
+-- together at most a number of the store's pages, cuts and entries where a retrieval or a race reads it, and where a
+-- union does that number for each branch that the groups may have. The work left of all items is bounded likewise.
+-- Where a restricted index of the first item has an exact estimate of at most 20, the background is over, and at most
+-- 20 records are left to be fetched.
 pub record IsBounded (shown : Shown) (s : Select) (indexes : List IndexDef) (snap : ℕ) (p : Planned) : Type 0 where
   pub work : plan_work shown p ≤ row_cost (lives_of p.asked.only) shown snap p.asked.items
-  pub life : reads p.reads + plan_effort shown p ≤ plan_life s indexes shown snap
+  pub life : reads p.reads + plan_effort shown p ≤ plan_life s indexes shown snap p
   pub pages : p.reads.pages ≡ 0
   pub records : p.reads.records ≡ 0
   pub short : has_short (query_of p.stack.at.here) shown ≡ true → Settled p.stack.at.here × (fetches_left p.stack.at.here shown ≤ 20)

@@ -76,7 +76,7 @@ pub fn open_cursor<R: Reader>(
     ensures leads { IfOk result (λ c. LeadsWith (seen_at (R.shown reader.now) snap frozen) c.plan) }
     ensures stage { IfOk result (λ c. c.plan.stage ≡ stage_of select.now indexes.now) }
     ensures work { IfOk result (λ c. plan_work (seen_at (R.shown reader.now) snap frozen) c.plan ≤ row_cost (lives_of c.plan.asked.only) (seen_at (R.shown reader.now) snap frozen) snap c.plan.asked.items) }
-    ensures life { IfOk result (λ c. reads steps.new + plan_effort (seen_at (R.shown reader.now) snap frozen) c.plan ≤ reads steps.old + plan_life select.now indexes.now (seen_at (R.shown reader.now) snap frozen) snap) }
+    ensures life { IfOk result (λ c. reads steps.new + plan_effort (seen_at (R.shown reader.now) snap frozen) c.plan ≤ reads steps.old + plan_life select.now indexes.now (seen_at (R.shown reader.now) snap frozen) snap c.plan) }
     ensures short { IfOk result (λ c. has_short (query_of c.plan.stack.at.here) (seen_at (R.shown reader.now) snap frozen) ≡ true → Settled c.plan.stack.at.here × (fetches_left c.plan.stack.at.here (seen_at (R.shown reader.now) snap frozen) ≤ 20)) }
     ensures only { OnlyLeaves steps.old steps.new }
     ensures counts { IfOk result (λ c. CountsAll (plan_trace c.plan) steps.old steps.new) }

@@ -24,7 +24,8 @@ use Rattle.rv_retrieval.specs.Effort.{cuts_and_entries, life_of as retrieval_lif
 use Rattle.rv_final.specs.Rest.{qualifying}
 use Rattle.rv_access.specs.declared.access.Access.{Access}
 use Rattle.rv_access.specs.Accesses.{effort}
-use Rattle.rv_access.specs.Opened.{Begins, life_of}
+use Rattle.rv_access.proofs.Lives.{lives_most}
+use Rattle.rv_access.specs.Opened.{Begins, life_of, lives}
 use Rattle.rv_join.specs.declared.places.Asked.{Asked}
 use Rattle.rv_join.specs.Asking.{AreWide, Asks, CanRun, IsIndexAt, OpensItem, asked_uses, col_at, have_column, item_at, item_life, lives_of, only_names, rows_at, same_column}
 use Rattle.rv_join.specs.Levels.{widened}
@@ -97,15 +98,15 @@ less_product : (r n c : ℕ) → r ≤ n → r * c ≤ n * c
 less_product r n c h = grind (arith, h)
 
 -- the life of an access to an item, in the words of what is asked
-opens_life : (a : Asked) (shown : Shown) (outer : List (List Value)) (query : Query) (effort : ℕ) → Asks a outer query → effort ≤ life_of query shown → effort ≤ item_life (lives_of a.only) shown a.snap (item_at a (length outer))
-opens_life a shown outer query effort asks most =
+opens_life : (a : Asked) (shown : Shown) (outer : List (List Value)) (query : Query) (v : Access) (effort : ℕ) → Asks a outer query → effort ≤ life_of v query shown → effort ≤ item_life (lives_of a.only) shown a.snap (item_at a (length outer))
+opens_life a shown outer query v effort asks most =
     let few = subst (λ (x : List (List Atom)). widths x ≤ widths a.only) (sym asks.only) (bound_widths (length outer) outer a.only) in
-    let product = less_product (lives_of query.only) (lives_of a.only) (retrieval_life query shown) (more (widths query.only) (widths a.only) few) in
+    let product = less_product (lives v query.only) (lives_of a.only) (retrieval_life query shown) (more (lives v query.only) (widths query.only) (widths a.only) (lives_most v query.only) few) in
     let same : retrieval_life query shown ≡ life_bound (shown.pages (item_at a (length outer)).table a.snap) (cuts_and_entries (item_at a (length outer)).indexes shown a.snap) = ap (λ t. life_bound (shown.pages t query.snap) (cuts_and_entries query.indexes shown query.snap)) asks.item.table ∙ ap (λ n. life_bound (shown.pages (item_at a (length outer)).table n) (cuts_and_entries query.indexes shown n)) asks.item.snap ∙ ap (λ l. life_bound (shown.pages (item_at a (length outer)).table a.snap) (cuts_and_entries l shown a.snap)) asks.item.over in
-    subst (λ (n : ℕ). effort ≤ lives_of a.only * n) same (within effort (life_of query shown) (lives_of a.only * retrieval_life query shown) most product)
+    subst (λ (n : ℕ). effort ≤ lives_of a.only * n) same (within effort (life_of v query shown) (lives_of a.only * retrieval_life query shown) most product)
   where
-    more : (n m : ℕ) → n ≤ m → n + 1 ≤ m + 1
-    more n m h = omega (arith, h)
+    more : (k n m : ℕ) → k ≤ n + 1 → n ≤ m → k ≤ m + 1
+    more k n m h i = omega (arith, h, i)
 
     within : (a b c : ℕ) → a ≤ b → b ≤ c → a ≤ c
     within a b c h i = omega (arith, h, i)
@@ -117,7 +118,7 @@ opens_if (Ok v) a shown outer query c d asks begins = record {
   fits = begins.fits;
   awaiting = begins.awaiting;
   tells = begins.tells;
-  life = opens_life a shown outer query (effort v shown) asks begins.most;
+  life = opens_life a shown outer query v (effort v shown) asks begins.most;
   asks = subst (Asks a outer) (sym begins.asked) asks;
   rest_is = begins.owes ∙ ap (qualifying query.only) (ap (λ t. shown.rows t query.snap) asks.item.table ∙ ap (λ n. shown.rows (item_at a (length outer)).table n) asks.item.snap) ∙ filter_same _ _ (λ (x : Record). asks.binds x.values) (rows_at a shown (length outer));
 }

@@ -20,7 +20,8 @@ use Rattle.rv_judge.specs.Tracing.{CountsAll}
 use Rattle.rv_access.specs.declared.access.Access.{Access}
 use Rattle.rv_access.specs.declared.access.Access.TheVariants.{Competing, Racing, Uniting}
 use Rattle.rv_access.specs.Accesses.{SamePlans, Settled, effort, fetches_left, query_of, trace_of}
-use Rattle.rv_access.specs.Opened.{Begins, IsShort, Opened, OpenedBy, is_table, life_of, races, unites}
+use Rattle.rv_access.proofs.Lives.{lives_less}
+use Rattle.rv_access.specs.Opened.{Begins, IsShort, Opened, OpenedBy, is_table, life_of, lives, races, unites}
 use Rattle.rv_access.specs.Stepping.{MayReadIts, OnlyTakes, SameCourse, SettledTake, StepsAs}
 use Rattle.rv_access.proofs.Accesses.{course_plans, plans_stay, steps_plans}
 use Rattle.rv_access.proofs.Chosen.{chosen_apart, no_union, raced_strategy}
@@ -31,7 +32,7 @@ use Rattle.rv_join.specs.declared.plan.PlanStep.{PlanStep}
 use Rattle.rv_join.specs.declared.plan.PlanStep.TheVariants.{Row, End as PlanEnd, Working as PlanWorking}
 use Rattle.rv_join.specs.declared.stack.Moved.{Moved}
 use Rattle.rv_join.specs.declared.stack.Moved.TheVariants.{Gave, Done, Moving}
-use Rattle.rv_join.specs.Alone.{CallsOnce, Fetches, FewFetches, FgCalls, IsAlone, LevelSpends, MovedSpends, PlanSpends, Spends, StepsOnce, TakesOnce, level_effort, plan_life}
+use Rattle.rv_join.specs.Alone.{CallsOnce, Fetches, FewFetches, FgCalls, IsAlone, LevelSpends, MovedSpends, PlanSpends, Spends, StepsOnce, TakesOnce, level_effort}
 use Rattle.rv_catalog.specs.declared.def.IndexDef.{IndexDef}
 use Rattle.rv_catalog.specs.declared.def.Select.{Select}
 use Rattle.rv_model.specs.declared.state.Offer.{Offer}
@@ -40,7 +41,7 @@ use Rattle.rv_choice.specs.declared.choosing.Choice.{Choice}
 use Rattle.rv_choice.specs.Choice.{IsChosen, candidates_of}
 use Rattle.rv_judge.specs.declared.events.Strategy.TheVariants.{BackgroundOnly}
 use Rattle.rv_join.specs.declared.places.Asked.{Asked}
-use Rattle.rv_join.specs.Asking.{Asks, IsAsked, indexes_from, lives_of, table_at}
+use Rattle.rv_join.specs.Asking.{Asks, IsAsked, indexes_from, table_at}
 use Rattle.rv_join.specs.Levels.{StackFits, Stacked, down, first_in, first_of, used}
 use Rattle.rv_join.specs.Plans.{Gives, Planned, reads_with, step_of}
 use Rattle.rv_join.specs.Rules.{IsByRules, StandsBy}
@@ -305,20 +306,23 @@ all_spends PlanWorking had has c d old new gives spends = absurd (cc)
 less_product : (r n c : ℕ) → r ≤ n → r * c ≤ n * c
 less_product r n c h = grind (arith, h)
 
-pub life_within : (s : Select) (indexes : List IndexDef) (shown : Shown) (snap cursor : ℕ) (a : Asked) (q : Query) → 1 ≤ length s.tables → IsAsked s indexes snap cursor a → Asks a [] q → life_of q shown ≤ plan_life s indexes shown snap
-life_within s indexes shown snap cursor a q some asked asks =
+-- what is read by an access to the first FROM item, as a plan's life
+abbrev pub first_life : Select → List IndexDef → Shown → ℕ → Access → ℕ
+first_life s indexes shown snap v = lives v s.only * life_bound (shown.pages (table_at s 0) snap) (cuts_and_entries (indexes_from (table_at s 0) 0 indexes) shown snap)
+
+life_within : (s : Select) (indexes : List IndexDef) (shown : Shown) (snap cursor : ℕ) (a : Asked) (q : Query) (v : Access) → 1 ≤ length s.tables → IsAsked s indexes snap cursor a → Asks a [] q → life_of v q shown ≤ first_life s indexes shown snap v
+life_within s indexes shown snap cursor a q v some asked asks =
     let item = asked.items 0 some in
     let few = subst (λ (x : List (List Atom)). widths q.only ≤ widths x) asked.only (subst (λ (x : List (List Atom)). widths x ≤ widths a.only) (sym asks.only) (bound_widths 0 [] a.only)) in
     let same : retrieval_life q shown ≡ life_bound (shown.pages (table_at s 0) snap) (cuts_and_entries (indexes_from (table_at s 0) 0 indexes) shown snap) = rw (asks.item.table ∙ item.table, asks.item.snap ∙ asked.snap, asks.item.over ∙ item.over) refl in
-    subst (λ (n : ℕ). life_of q shown ≤ lives_of s.only * n) same (less_product (lives_of q.only) (lives_of s.only) (retrieval_life q shown) (more (widths q.only) (widths s.only) few))
-  where
-    more : (n m : ℕ) → n ≤ m → n + 1 ≤ m + 1
-    more n m h = omega (arith, h)
+    subst (λ (n : ℕ). life_of v q shown ≤ lives v s.only * n) same (less_product (lives v q.only) (lives v s.only) (retrieval_life q shown) (lives_less v q.only s.only few))
 
-pub begins_life : (s : Select) (indexes : List IndexDef) (shown : Shown) (snap cursor : ℕ) (a : Asked) (v : Stacked) (c d : Counts) → 1 ≤ length s.tables → IsAsked s indexes snap cursor a → Asks a [] (query_of v.at.here) → v.at.row ≡ None → reads d + effort v.at.here shown ≤ reads c + life_of (query_of v.at.here) shown → reads d + level_effort shown v.at ≤ reads c + plan_life s indexes shown snap
+pub begins_life : (s : Select) (indexes : List IndexDef) (shown : Shown) (snap cursor : ℕ) (a : Asked) (v : Stacked) (c d : Counts) → 1 ≤ length s.tables → IsAsked s indexes snap cursor a → Asks a [] (query_of v.at.here) → v.at.row ≡ None → reads d + effort v.at.here shown ≤ reads c + life_of v.at.here (query_of v.at.here) shown → reads d + level_effort shown v.at ≤ reads c + first_life s indexes shown snap v.at.here
 begins_life s indexes shown snap cursor a v c d some asked asks none life =
-    let most = life_within s indexes shown snap cursor a (query_of v.at.here) some asked asks in
-    rw none (omega (arith, life, most))
+    rw none (chained (reads d) (effort v.at.here shown) (reads c) (life_of v.at.here (query_of v.at.here) shown) (first_life s indexes shown snap v.at.here) life (life_within s indexes shown snap cursor a (query_of v.at.here) v.at.here some asked asks))
+  where
+    chained : (n m a b c : ℕ) → n + m ≤ a + b → b ≤ c → n + (m + 0) ≤ a + c
+    chained n m a b c h i = omega (arith, h, i)
 
 -- what is said of the query that was asked is said of that of the access
 
@@ -330,8 +334,8 @@ pub opened_counts : {E : Type 0} (r : Result Access E) (q : Query) (shown : Show
 opened_counts (Ok v) q shown c d begins = begins.counts
 opened_counts (Err e) q shown c d begins = tt
 
-pub opened_life : {E : Type 0} (r : Result Access E) (q : Query) (shown : Shown) (c d : Counts) → IfOk r (Begins q shown c d) → IfOk r (λ v. reads d + effort v shown ≤ reads c + life_of (query_of v) shown)
-opened_life (Ok v) q shown c d begins = subst (λ (x : Query). reads d + effort v shown ≤ reads c + life_of x shown) (sym begins.asked) begins.life
+pub opened_life : {E : Type 0} (r : Result Access E) (q : Query) (shown : Shown) (c d : Counts) → IfOk r (Begins q shown c d) → IfOk r (λ v. reads d + effort v shown ≤ reads c + life_of v (query_of v) shown)
+opened_life (Ok v) q shown c d begins = subst (λ (x : Query). reads d + effort v shown ≤ reads c + life_of v x shown) (sym begins.asked) begins.life
 opened_life (Err e) q shown c d begins = tt
 
 pub opened_short : {E : Type 0} (r : Result Access E) (q : Query) (shown : Shown) (c d : Counts) → IfOk r (Begins q shown c d) → (has_short q shown ≡ true → IfOk r (IsShort shown)) → IfOk r (λ v. has_short (query_of v) shown ≡ true → Settled v × (fetches_left v shown ≤ 20))

@@ -14,6 +14,7 @@ use Rattle.rv_retrieval.specs.Effort.{cuts_and_entries}
 use Rattle.rv_final.specs.Work.{Tries}
 use Rattle.rv_access.specs.declared.access.Access.{Access}
 use Rattle.rv_access.specs.Accesses.{Settled, effort, fetches_left}
+use Rattle.rv_access.specs.Opened.{lives}
 use Rattle.rv_access.specs.Stepping.{MayReadIts, OnlyTakes, SameCourse, StepsAs}
 use Rattle.rv_join.specs.declared.level.Caught.{Caught}
 use Rattle.rv_join.specs.declared.level.Caught.TheVariants.{Ready, Ended, Worked}
@@ -22,7 +23,7 @@ use Rattle.rv_join.specs.declared.plan.PlanStep.{PlanStep}
 use Rattle.rv_join.specs.declared.plan.PlanStep.TheVariants.{Row, End, Working}
 use Rattle.rv_join.specs.declared.stack.Moved.{Moved}
 use Rattle.rv_join.specs.declared.stack.Moved.TheVariants.{Gave, Done, Moving}
-use Rattle.rv_join.specs.Asking.{indexes_from, lives_of, table_at}
+use Rattle.rv_join.specs.Asking.{indexes_from, table_at}
 use Rattle.rv_join.specs.Levels.{Stacked, down, used}
 use Rattle.rv_join.specs.Plans.{Planned}
 use Rattle.rv_join.specs.Work.{held_rows}
@@ -137,6 +138,7 @@ pub record TakesOnce (shown : Shown) (c d : Counts) (old new : Level) : Type 0 w
   pub tries : Tries c d (level_effort shown old) (level_effort shown new)
   pub settled : Settled old.here → Settled new.here × (d ≡ c) × (fetches_left new.here shown ≡ fetches_left old.here shown)
 
--- the bound at opening, of the select, its indexes and the reader's lists alone
-abbrev pub plan_life : Select → List IndexDef → Shown → ℕ → ℕ
-plan_life s indexes shown snap = lives_of s.only * life_bound (shown.pages (table_at s 0) snap) (cuts_and_entries (indexes_from (table_at s 0) 0 indexes) shown snap)
+-- THE BOUND AT OPENING, of the select, its indexes and the reader's lists: where the first FROM item is read by a
+-- retrieval or a race, one life bound of its table; where by a union, one for each branch that the groups may have
+abbrev pub plan_life : Select → List IndexDef → Shown → ℕ → Planned → ℕ
+plan_life s indexes shown snap p = lives p.stack.at.here s.only * life_bound (shown.pages (table_at s 0) snap) (cuts_and_entries (indexes_from (table_at s 0) 0 indexes) shown snap)

@@ -365,7 +365,7 @@ pub fn open_item<R: Reader>(
     ensures opens { IfOk result (OpensItem asked.now (R.shown reader.now) outer.now) }
     ensures opened { IfOk result (λ v. Opened asked.now.race (query_of v) (R.shown reader.now) asked.now.cursor opening v) }
     ensures counts { IfOk result (λ v. CountsAll (trace_of v) steps.old steps.new) }
-    ensures life { IfOk result (λ v. reads steps.new + effort v (R.shown reader.now) ≤ reads steps.old + life_of (query_of v) (R.shown reader.now)) }
+    ensures life { IfOk result (λ v. reads steps.new + effort v (R.shown reader.now) ≤ reads steps.old + life_of v (query_of v) (R.shown reader.now)) }
     ensures short { IfOk result (λ v. has_short (query_of v) (R.shown reader.now) ≡ true → Settled v × (fetches_left v (R.shown reader.now) ≤ 20)) }
     ensures only { OnlyLeaves steps.old steps.new }
 {

@@ -115,7 +115,7 @@ impl Plan {
         ensures work { IfOk result (λ p. plan_work (R.shown reader.now) p ≤ row_cost (lives_of p.asked.only) (R.shown reader.now) p.asked.snap p.asked.items) }
         ensures counts { IfOk result (λ p. CountsAll (plan_trace p) steps.old steps.new) }
         ensures stage { IfOk result (λ p. p.stage ≡ stage_of select.now indexes.now) }
-        ensures life { IfOk result (λ p. reads steps.new + plan_effort (R.shown reader.now) p ≤ reads steps.old + plan_life select.now indexes.now (R.shown reader.now) snap) }
+        ensures life { IfOk result (λ p. reads steps.new + plan_effort (R.shown reader.now) p ≤ reads steps.old + plan_life select.now indexes.now (R.shown reader.now) snap p) }
         ensures short { IfOk result (λ p. has_short (query_of p.stack.at.here) (R.shown reader.now) ≡ true → Settled p.stack.at.here × (fetches_left p.stack.at.here (R.shown reader.now) ≤ 20)) }
         ensures only { OnlyLeaves steps.old steps.new }
     {

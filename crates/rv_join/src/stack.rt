@@ -85,7 +85,7 @@ pub fn open<R: Reader>(
     ensures asks { IfOk result (λ s. Asks asked.now [] (query_of s.at.here)) }
     ensures opened { IfOk result (λ s. Opened asked.now.race (query_of s.at.here) (R.shown reader.now) asked.now.cursor 1 s.at.here) }
     ensures counts { IfOk result (λ s. CountsAll (trace_of s.at.here) steps.old steps.new) }
-    ensures life { IfOk result (λ s. reads steps.new + effort s.at.here (R.shown reader.now) ≤ reads steps.old + life_of (query_of s.at.here) (R.shown reader.now)) }
+    ensures life { IfOk result (λ s. reads steps.new + effort s.at.here (R.shown reader.now) ≤ reads steps.old + life_of s.at.here (query_of s.at.here) (R.shown reader.now)) }
     ensures short { IfOk result (λ s. has_short (query_of s.at.here) (R.shown reader.now) ≡ true → Settled s.at.here × (fetches_left s.at.here (R.shown reader.now) ≤ 20)) }
     ensures only { OnlyLeaves steps.old steps.new }
     ensures row { IfOk result (λ s. s.at.row ≡ None) }

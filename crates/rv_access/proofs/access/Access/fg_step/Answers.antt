@@ -1,5 +1,6 @@
 use Rattle.std.proofs.Common.{refl}
 use Rattle.rv_access.proofs.Accesses.{none_fewer, race_gives, retrieval_gives, union_gives}
+use Rattle.rv_access.specs.declared.access.Access.TheVariants.{Competing, Racing}
 use Rattle.rv_access.proofs.Nearing.{none_near, union_near}
 use Rattle.rv_access.proofs.access.Access.fg_step.Goals as goal
 
@@ -37,10 +38,10 @@ pub returns-in-Uniting-clause-records : goal.returns-in-Uniting-clause-records
 returns-in-Uniting-clause-records g c = rw c.in-Uniting.is (λ s. absurd s)
 
 pub returns-in-Competing-clause-nearer : goal.returns-in-Competing-clause-nearer
-returns-in-Competing-clause-nearer g c = rw c.in-Competing.is (none_near c.fg_step.result _ _ _ _ _ refl)
+returns-in-Competing-clause-nearer g c = rw c.in-Competing.is (none_near c.fg_step.result (g.R.Reader.shown c.args.reader.now) c.args.steps.now c.fg_step.new.steps (Competing c.in-Competing.retrieval) (Competing c.fg_step.new.self) refl)
 
 pub returns-in-Racing-clause-nearer : goal.returns-in-Racing-clause-nearer
-returns-in-Racing-clause-nearer g c = rw c.in-Racing.is (none_near c.fg_step-in-Racing.result _ _ _ _ _ refl)
+returns-in-Racing-clause-nearer g c = rw c.in-Racing.is (none_near c.fg_step-in-Racing.result (g.R.Reader.shown c.args.reader.now) c.args.steps.now c.fg_step-in-Racing.new.steps (Racing c.in-Racing.raced) (Racing c.fg_step-in-Racing.new.self) refl)
 
 pub returns-in-Uniting-clause-nearer : goal.returns-in-Uniting-clause-nearer
-returns-in-Uniting-clause-nearer g c = rw c.in-Uniting.is (union_near c.fg_step-in-Uniting.result (g.R.Reader.shown c.args.reader.now) _ _ c.in-Uniting.united c.fg_step-in-Uniting.new.self c.fg_step-in-Uniting.ensures.nearer)
+returns-in-Uniting-clause-nearer g c = rw c.in-Uniting.is (union_near c.fg_step-in-Uniting.result (g.R.Reader.shown c.args.reader.now) c.args.steps.now c.fg_step-in-Uniting.new.steps c.in-Uniting.united c.fg_step-in-Uniting.new.self c.fg_step-in-Uniting.ensures.nearer)

@@ -1,7 +1,7 @@
 use Rattle.std.proofs.Common.{refl}
 use Rattle.rv_access.specs.declared.access.Access.TheVariants.{Competing}
 use Rattle.rv_access.proofs.Nearing.{none_ahead}
-use Rattle.rv_access.proofs.Chosen.{short_lived, short_whole}
+use Rattle.rv_access.proofs.Lives.{one_life, one_whole}
 use Rattle.rv_access.proofs.access.Access.open_competing.Goals as goal
 
 pub returns-clause-begins : goal.returns-clause-begins
@@ -12,15 +12,9 @@ returns-clause-begins g c = record {
   tells = c.in_ok-retrieval.ensures.tells;
   awaiting = c.in_ok-retrieval.ensures.awaiting;
   counts = c.in_ok-retrieval.ensures.counts;
-  life = short_lived c.args.query (g.R.Reader.shown c.args.reader.now) _ _ c.in_ok-retrieval.ensures.life;
-  most = short_whole c.args.query (g.R.Reader.shown c.args.reader.now) _ c.in_ok-retrieval.ensures.effort;
+  life = one_life _ _ _ c.in_ok-retrieval.ensures.life;
+  most = one_whole _ _ c.in_ok-retrieval.ensures.effort;
 }
-
-pub returns-clause-reads : goal.returns-clause-reads
-returns-clause-reads g c = short_lived c.args.query (g.R.Reader.shown c.args.reader.now) _ _ c.open_chosen.ensures.reads
-
-pub returns-in_err-retrieval-clause-reads : goal.returns-in_err-retrieval-clause-reads
-returns-in_err-retrieval-clause-reads g c = short_lived c.args.query (g.R.Reader.shown c.args.reader.now) _ _ c.open_chosen.ensures.reads
 
 pub returns-clause-short : goal.returns-clause-short
 returns-clause-short g c h = record { settled = (c.in_ok-retrieval.ensures.short h).0; few = (c.in_ok-retrieval.ensures.short h).1 }

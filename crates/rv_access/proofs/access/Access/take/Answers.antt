@@ -1,5 +1,6 @@
 use Rattle.std.proofs.Common.{refl}
 use Rattle.rv_access.proofs.Accesses.{race_takes, race_undropped, retrieval_takes, retrieval_undropped, settled_take, union_takes, union_undropped}
+use Rattle.rv_access.specs.declared.access.Access.TheVariants.{Competing, Racing}
 use Rattle.rv_access.proofs.Nearing.{none_near, union_near}
 use Rattle.rv_access.proofs.OfRaces.{leaf_pieces, leaf_plans, leaf_query}
 use Rattle.rv_access.proofs.OfUnions.{leaf_pieces as union_pieces, leaf_plans as union_plans, leaf_query as union_query}
@@ -61,10 +62,10 @@ pub returns-in-Uniting-clause-settled : goal.returns-in-Uniting-clause-settled
 returns-in-Uniting-clause-settled g c = rw c.in-Uniting.is (λ s. absurd s)
 
 pub returns-in-Competing-clause-nearer : goal.returns-in-Competing-clause-nearer
-returns-in-Competing-clause-nearer g c = rw c.in-Competing.is (none_near c.take.result _ _ _ _ _ refl)
+returns-in-Competing-clause-nearer g c = rw c.in-Competing.is (none_near c.take.result (g.R.Reader.shown c.args.reader.now) c.args.steps.now c.take.new.steps (Competing c.in-Competing.retrieval) (Competing c.take.new.self) refl)
 
 pub returns-in-Racing-clause-nearer : goal.returns-in-Racing-clause-nearer
-returns-in-Racing-clause-nearer g c = rw c.in-Racing.is (none_near c.take-in-Racing.result _ _ _ _ _ refl)
+returns-in-Racing-clause-nearer g c = rw c.in-Racing.is (none_near c.take-in-Racing.result (g.R.Reader.shown c.args.reader.now) c.args.steps.now c.take-in-Racing.new.steps (Racing c.in-Racing.raced) (Racing c.take-in-Racing.new.self) refl)
 
 pub returns-in-Uniting-clause-nearer : goal.returns-in-Uniting-clause-nearer
-returns-in-Uniting-clause-nearer g c = rw c.in-Uniting.is (union_near c.take-in-Uniting.result (g.R.Reader.shown c.args.reader.now) _ _ c.in-Uniting.united c.take-in-Uniting.new.self c.take-in-Uniting.ensures.nearer)
+returns-in-Uniting-clause-nearer g c = rw c.in-Uniting.is (union_near c.take-in-Uniting.result (g.R.Reader.shown c.args.reader.now) c.args.steps.now c.take-in-Uniting.new.steps c.in-Uniting.united c.take-in-Uniting.new.self c.take-in-Uniting.ensures.nearer)
