@@ -1,5 +1,5 @@
 -- What the steps of a search leave: one step after another, and the end.
-use Rattle.std.proofs.Common.{◌≡◌, ℕ, ◌+◌, ◌≤◌, List, [], ◌∷◌, ◌++◌, refl, ap, sym, subst, ◌∙◌, arith}
+use Rattle.std.proofs.Common.{◌≡◌, ℕ, ◌+◌, ◌≤◌, List, [], ◌∷◌, ◌++◌, refl, ap, sym, subst, ◌∙◌, arith, Result, Ok, Err, OnOk}
 use Rattle.std.specs.Prelude.{IsPermutation}
 use Rattle.std.proofs.lemmas.List.{append-nil, map-append}
 use Rattle.std.proofs.lemmas.List.Sorted.{IsPermutation-append_right, IsPermutation-middle, IsPermutation-refl, IsPermutation-trans}
@@ -115,3 +115,13 @@ reads_from c d e work life opened spent = omega (arith, opened, spent)
 
 pub records_from : (c d e left : ℕ) → d ≡ c → e ≤ d + left → left ≤ 20 → e ≤ c + 20
 records_from c d e left same most few = omega (arith, same, most, few)
+
+-- What is known of a search that ended, and what is known however it went.
+
+pub ok_more : {A E : Type 0} (r : Result A E) (P Q : Type 0) → (P → Q) → OnOk r P → OnOk r Q
+ok_more (Ok a) P Q more h = more h
+ok_more (Err e) P Q more h = tt
+
+pub ok_anyway : {A E : Type 0} (r : Result A E) (P : Type 0) → P → OnOk r P
+ok_anyway (Ok a) P h = h
+ok_anyway (Err e) P h = tt

@@ -124,6 +124,31 @@ fn gather<R: Reader>(
     }
 }
 
+/// The numbers of the rows that a retrieval gives, in the order in which it gives them.
+fn gathered_of<R: Reader>(
+    alloc: Global,
+    reader: &R,
+    retrieval: &mut Retrieval,
+    judge: &mut Box<dyn Judge>,
+    steps: &mut Steps<R::Ledger>,
+) -> Result<Vec<RowNo>, NoMemory>
+    requires fits { RetrievalFits retrieval.old (R.shown reader.now) }
+    requires awaiting { Awaiting retrieval.old }
+    ensures found { IfOk result (λ found. IsPermutation (numbers (rest retrieval.old (R.shown reader.now))) found.items) }
+    ensures reads { OnOk result (reads steps.new ≤ reads steps.old + effort retrieval.old (R.shown reader.now)) }
+    ensures pages { Settled retrieval.old → steps.new.pages ≡ steps.old.pages }
+    ensures records { Settled retrieval.old → OnOk result (steps.new.records ≤ steps.old.records + fetches_left retrieval.old (R.shown reader.now)) }
+    ensures unasked { Settled retrieval.old → state judge.new ≡ state judge.old }
+    ensures stays { would judge.new ≡ would judge.old }
+{
+    let mut found = Vec::new(alloc);
+    gather(reader, retrieval, judge, &mut found, steps)?;
+    Ok(found)
+}
+
+/// Lets a value of any type go. In a function of its own, which knows no parts of it.
+fn leave<T: Drop>(_left: T) {}
+
 /// The numbers of the rows for which a restriction is True, in the order in which they are found.
 fn gathered<R: Reader>(
     alloc: Global,
@@ -141,9 +166,9 @@ fn gathered<R: Reader>(
     ensures stays { would judge.new ≡ would judge.old }
 {
     let mut retrieval = Retrieval::open(alloc, reader, query, 0, 0, steps)?;
-    let mut found = Vec::new(alloc);
-    gather(reader, &mut retrieval, judge, &mut found, steps)?;
-    Ok(found)
+    let found = gathered_of(alloc, reader, &mut retrieval, judge, steps);
+    leave(retrieval);
+    found
 }
 
 /// The numbers of the rows of a table at a snapshot for which a restriction is True, ascending.

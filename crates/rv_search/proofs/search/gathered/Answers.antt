@@ -1,32 +1,33 @@
-use Rattle.std.proofs.Common.{ap, ◌∙◌}
+use Rattle.std.proofs.Common.{◌+◌, ◌≤◌, List, IfOk, ap, subst, ◌∙◌}
+use Rattle.std.specs.Prelude.{IsPermutation}
+use Rattle.rv_value.specs.declared.record.RowNo.{RowNo}
+use Rattle.rv_judge.specs.Counting.{reads}
 use Rattle.rv_retrieval.specs.Effort.{effort, life_of}
-use Rattle.rv_retrieval.specs.Shape.{rest}
 use Rattle.rv_retrieval.specs.Short.{fetches_left}
-use Rattle.rv_final.specs.Rest.{qualifying}
 use Rattle.rv_search.specs.Searching.{numbers}
-use Rattle.rv_search.proofs.Gathering.{found_from, reads_from, records_from}
+use Rattle.rv_search.proofs.Gathering.{ok_anyway, ok_more, reads_from, records_from}
 use Rattle.rv_search.proofs.search.gathered.Goals as goal
+
+pub gathered_of-found-requires : goal.gathered_of-found-requires
+gathered_of-found-requires g c = record { fits = c.in_ok-retrieval.ensures.fits; awaiting = c.in_ok-retrieval.ensures.awaiting }
 
 pub returns-clause-found : goal.returns-clause-found
 returns-clause-found g c =
-    let shown = g.R.Reader.shown c.args.reader.now in
-    found_from c.new-found.result.items c.gather.new.found.items (numbers (qualifying c.args.query.only (shown.rows c.args.query.table c.args.query.snap))) (rest c.in_ok-retrieval.retrieval shown) c.new-found.ensures.items (ap numbers c.in_ok-retrieval.ensures.rest) c.in_ok-gather.ensures.found
+    subst (λ (due : List RowNo). IfOk c.gathered_of-found.result (λ found. IsPermutation due found.items)) (ap numbers c.in_ok-retrieval.ensures.rest) c.gathered_of-found.ensures.found
 
 pub returns-clause-reads : goal.returns-clause-reads
 returns-clause-reads g c =
     let shown = g.R.Reader.shown c.args.reader.now in
-    reads_from c.args.steps.now c.open.new.steps c.gather.new.steps (effort c.in_ok-retrieval.retrieval shown) (life_of c.args.query shown) c.in_ok-retrieval.ensures.life c.in_ok-gather.ensures.reads
+    ok_more c.gathered_of-found.result (reads c.gathered_of-found.new.steps ≤ reads c.open.new.steps + effort c.in_ok-retrieval.retrieval shown) _ (reads_from c.args.steps.now c.open.new.steps c.gathered_of-found.new.steps (effort c.in_ok-retrieval.retrieval shown) (life_of c.args.query shown) c.in_ok-retrieval.ensures.life) c.gathered_of-found.ensures.reads
 
 pub returns-clause-pages : goal.returns-clause-pages
-returns-clause-pages g c = λ short. (c.gather.ensures.pages (c.in_ok-retrieval.ensures.short short).0 ∙ c.open.ensures.only.pages)
+returns-clause-pages g c = λ short. ok_anyway c.gathered_of-found.result _ (c.gathered_of-found.ensures.pages (c.in_ok-retrieval.ensures.short short).0 ∙ c.open.ensures.only.pages)
 
 pub returns-clause-records : goal.returns-clause-records
 returns-clause-records g c = λ short.
     (let few = c.in_ok-retrieval.ensures.short short in
-    records_from c.args.steps.now.records c.open.new.steps.records c.gather.new.steps.records (fetches_left c.in_ok-retrieval.retrieval (g.R.Reader.shown c.args.reader.now)) c.open.ensures.only.records (c.in_ok-gather.ensures.records few.0) few.1)
+    let left = fetches_left c.in_ok-retrieval.retrieval (g.R.Reader.shown c.args.reader.now) in
+    ok_more c.gathered_of-found.result (c.gathered_of-found.new.steps.records ≤ c.open.new.steps.records + left) _ (λ spent. records_from c.args.steps.now.records c.open.new.steps.records c.gathered_of-found.new.steps.records left c.open.ensures.only.records spent few.1) (c.gathered_of-found.ensures.records few.0))
 
 pub returns-clause-unasked : goal.returns-clause-unasked
-returns-clause-unasked g c = λ short. (c.gather.ensures.unasked (c.in_ok-retrieval.ensures.short short).0)
-
-pub returns-in_err-gather-clause-unasked : goal.returns-in_err-gather-clause-unasked
-returns-in_err-gather-clause-unasked g c = λ short. (c.gather.ensures.unasked (c.in_ok-retrieval.ensures.short short).0)
+returns-clause-unasked g c = λ short. (c.gathered_of-found.ensures.unasked (c.in_ok-retrieval.ensures.short short).0)
