@@ -1,5 +1,5 @@
 -- What calls do to the plans of open cursors, by what they ask.
-use Rattle.std.proofs.Common.{◌≡◌, ℕ, zero, suc, ◌==◌, ◌&&◌, ◌<◌, [], ◌∷◌, List, Bool, false, Option, Some, None, Result, Ok, Err, IfOk, OnErr, refl, ap, sym, ◌∙◌, subst, length, position, bytes_eq, slice_get, slice_set}
+use Rattle.std.proofs.Common.{◌≡◌, ◌⊎◌, inl, inr, ℕ, zero, suc, ◌==◌, ◌&&◌, ◌<◌, [], ◌∷◌, List, Bool, false, Option, Some, None, Result, Ok, Err, IfOk, OnErr, refl, ap, sym, ◌∙◌, subst, length, position, bytes_eq, slice_get, slice_set}
 use Rattle.std.proofs.lemmas.List.Quantifiers.{position-Some}
 use Rattle.rv_judge.specs.declared.judging.Facts.{Facts}
 use Rattle.rv_judge.specs.Verdicts.{Ruling}
@@ -14,12 +14,11 @@ use Rattle.rv_reader.specs.Shown.{Shown}
 use Rattle.rv_model.specs.declared.state.State.{State}
 use Rattle.rv_model.specs.Database.{cursor_named}
 use Rattle.rv_model.specs.Step.{understood}
-use Rattle.rv_txn.specs.Calls.{writing}
 use Rattle.rv_cursor.specs.declared.cursor.Open.{Open}
 use Rattle.rv_join.specs.Plans.{Planned}
 use Rattle.rv_core.specs.Db.{Stand, Whole, open_named}
 use Rattle.rv_core.specs.Doing.{DoesAsked, Executes, Fetches, PartIs, parted}
-use Rattle.rv_core.specs.Obeying.{AnyOf, Handles, HandlesText, Leaves, LeavesText, MovesNamed, Plans, Refuses, Searches, Turns, TurnsText, Under, Works, WorksText, is_fetch, plans_of}
+use Rattle.rv_core.specs.Obeying.{AnyOf, AsksJudge, Handles, HandlesText, Leaves, LeavesText, MovesNamed, Plans, Refuses, Turns, TurnsText, Under, Works, WorksText, is_fetch, plans_of}
 use Rattle.rv_core.proofs.Facts.{get_there}
 
 -- Results.
@@ -52,14 +51,15 @@ plans_same w d judge opens opened = rw (opens, opened) refl
 
 -- A search was made, which may have asked the judge.
 
-asked_on : {S : Type 0} (w d : Whole S) (before after : ℕ) → d.opens ≡ w.opens → d.opened ≡ w.opened → plans_of d after ≡ record (plans_of w before) { judge = after }
+asked_on : {S : Type 0} (w d : Whole S) (before after : ℕ) → d.opens ≡ w.opens → d.opened ≡ w.opened → AsksJudge (plans_of w before) (plans_of d after)
 asked_on w d before after opens opened = rw (opens, opened) refl
 
-pub searches : {S : Type 0} (w d : Whole S) (db : State) (session before after : ℕ) → d.opens ≡ w.opens → d.opened ≡ w.opened → ((refusal : Refusal) → writing db.transactions.active session ≡ Err refusal → after ≡ before) → Searches db session (plans_of w before) (plans_of d after)
-searches w d db session before after opens opened unasked = record {
-  asks = asked_on w d before after opens opened;
-  unasked = λ refusal refused. (asked_on w d before after opens opened ∙ ap (plans_of w) (unasked refusal refused));
-}
+pub asked_if : {S May : Type 0} (w d : Whole S) (before after : ℕ) → d.opens ≡ w.opens → d.opened ≡ w.opened → (after ≡ before) ⊎ May → AsksJudge (plans_of w before) (plans_of d after)
+asked_if w d before after opens opened asks = asked_on w d before after opens opened
+
+pub searches : {S May : Type 0} (w d : Whole S) (before after : ℕ) → d.opens ≡ w.opens → d.opened ≡ w.opened → (after ≡ before) ⊎ May → (plans_of d after ≡ plans_of w before) ⊎ (AsksJudge (plans_of w before) (plans_of d after) × May)
+searches w d before after opens opened (inl unasked) = inl (asked_on w d before after opens opened ∙ ap (plans_of w) unasked)
+searches w d before after opens opened (inr may) = inr (asked_on w d before after opens opened, may)
 
 pub set_got : {X : Type 0} (xs : List X) (i : ℕ) (x : X) → slice_get xs i ≡ Some x → slice_set xs i x ≡ xs
 set_got [] i x h = refl
@@ -92,31 +92,31 @@ rests_named : (would : ℕ → Facts → Ruling) (shown : Shown) (p : Plans) (se
 rests_named would shown p session name None e = refl
 rests_named would shown p session name (Some place) e = rests would shown p place (named_got p.opens session place name e)
 
-pub leaves_same : (u : Under) (asked : Result Resolved Refusal) (session : ℕ) (p : Plans) → Leaves u asked session p p
-leaves_same u (Ok (asks.CreateTable def)) session p = refl
-leaves_same u (Ok (asks.CreateIndex def)) session p = refl
-leaves_same u (Ok (asks.Begin ro)) session p = refl
-leaves_same u (Ok (asks.Insert table values)) session p = refl
-leaves_same u (Ok (asks.Update table sets only)) session p = refl
-leaves_same u (Ok (asks.Delete table only)) session p = refl
-leaves_same u (Ok asks.Commit) session p = refl
-leaves_same u (Ok asks.Rollback) session p = refl
-leaves_same u (Ok (asks.Open name s)) session p = refl
-leaves_same u (Ok (asks.Fetch name)) session p = rests_named u.would u.store p session name (open_named p.opens session name) refl
-leaves_same u (Ok (asks.Step name n)) session p = rests_named u.would u.store p session name (open_named p.opens session name) refl
-leaves_same u (Ok (asks.Show name)) session p = refl
-leaves_same u (Ok (asks.Close name)) session p = refl
-leaves_same u (Err refusal) session p = refl
+pub leaves_same : (u : Under) (asked : Result Resolved Refusal) (db : State) (session : ℕ) (p : Plans) → Leaves u asked db session p p
+leaves_same u (Ok (asks.CreateTable def)) db session p = refl
+leaves_same u (Ok (asks.CreateIndex def)) db session p = refl
+leaves_same u (Ok (asks.Begin ro)) db session p = refl
+leaves_same u (Ok (asks.Insert table values)) db session p = refl
+leaves_same u (Ok (asks.Update table sets only)) db session p = inl refl
+leaves_same u (Ok (asks.Delete table only)) db session p = inl refl
+leaves_same u (Ok asks.Commit) db session p = refl
+leaves_same u (Ok asks.Rollback) db session p = refl
+leaves_same u (Ok (asks.Open name s)) db session p = refl
+leaves_same u (Ok (asks.Fetch name)) db session p = rests_named u.would u.store p session name (open_named p.opens session name) refl
+leaves_same u (Ok (asks.Step name n)) db session p = rests_named u.would u.store p session name (open_named p.opens session name) refl
+leaves_same u (Ok (asks.Show name)) db session p = refl
+leaves_same u (Ok (asks.Close name)) db session p = refl
+leaves_same u (Err refusal) db session p = refl
 
 pub leaves_text : (u : Under) (statement : Option Statement) (db : State) (session : ℕ) (p : Plans) → LeavesText u statement db session p p
-leaves_text u statement db session p = record { left = leaves_same u (understood db.schema statement) session p }
+leaves_text u statement db session p = record { left = leaves_same u (understood db.schema statement) db session p }
 
 -- the text asks this, and so the call handles the plans as this asks
 pub handles_text : (u : Under) (statement : Option Statement) (asked : Result Resolved Refusal) (db : State) (session : ℕ) (reply : Reply) (old new : Plans) → understood db.schema statement ≡ asked → Handles u asked db session reply old new → ((refusal : Refusal) → reply ≡ Refused refusal → Refuses asked old new) → HandlesText u statement db session reply old new
 handles_text u statement asked db session reply old new is handles refused = record { asked = subst (λ (a : Result Resolved Refusal). Handles u a db session reply old new) (sym is) handles; refused = λ refusal e. subst (λ (a : Result Resolved Refusal). Refuses a old new) (sym is) (refused refusal e) }
 
-pub leaves_asked : (u : Under) (statement : Option Statement) (asked : Result Resolved Refusal) (db : State) (session : ℕ) (old new : Plans) → understood db.schema statement ≡ asked → Leaves u asked session old new → LeavesText u statement db session old new
-leaves_asked u statement asked db session old new is leaves = record { left = subst (λ (a : Result Resolved Refusal). Leaves u a session old new) (sym is) leaves }
+pub leaves_asked : (u : Under) (statement : Option Statement) (asked : Result Resolved Refusal) (db : State) (session : ℕ) (old new : Plans) → understood db.schema statement ≡ asked → Leaves u asked db session old new → LeavesText u statement db session old new
+leaves_asked u statement asked db session old new is leaves = record { left = subst (λ (a : Result Resolved Refusal). Leaves u a db session old new) (sym is) leaves }
 
 -- a plan that is as it was
 pub given_back : (cs : List Open) (place : ℕ) (c : Open) (plan : Planned) → slice_get cs place ≡ Some c → plan ≡ c.plan → slice_set cs place (record c { plan = plan }) ≡ cs

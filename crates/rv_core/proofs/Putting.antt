@@ -272,10 +272,6 @@ pub found_fault : (t : Transactions) (session table : ℕ) (only : List (List At
 found_fault t session table only sets rows own found lent (Refused refusal) writes met same due = changing_met t session table only sets rows own lent writes (same ∙ met) ∙ due
 found_fault t session table only sets rows own found lent NoMemory writes met same due = tt
 
--- one that may write is not one that may not
-pub writes_not : {X : Type 0} (t : Transactions) (session : ℕ) (own : Transaction) (refusal : Refusal) → writing t.active session ≡ Ok own → writing t.active session ≡ Err refusal → X
-writes_not t session own refusal writes refused = let both : ◌≡◌ {A = Result Transaction Refusal} (Ok own) (Err refusal) = sym writes ∙ refused in absurd (cc)
-
 -- the changes that are due may be kept up with
 pub change_keeps : (shown : Shown) (schema : Schema) (txns : Transactions) (session table : ℕ) (only : List (List Atom)) (sets : Option (List (ℕ × Value))) (new these : List Change) → IsTied shown schema txns → IsStored shown → table < length schema.tables → changing txns session table only sets (shown.rows table) ≡ Ok new
     → these ≡ new → IfSome (transaction_of txns.active session) (λ own. AllByRecursion (CanKeep shown (transaction_at txns.active own).base) these)

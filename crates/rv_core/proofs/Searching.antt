@@ -1,6 +1,7 @@
 -- A search over what the session's transaction sees: it can be asked, and finds the rows that UPDATE and DELETE change.
-use Rattle.std.proofs.Common.{◌≡◌, ℕ, zero, suc, ◌+◌, ◌<◌, ◌≤◌, List, [], ◌∷◌, Bool, true, false, ◌&&◌, Option, Some, None, Ok, IfSome, refl, ap, sym, ◌∙◌, subst, inl, arith, length, nat_lt, nat_eq, if◌then◌else◌, cond}
+use Rattle.std.proofs.Common.{◌≡◌, ◌⊎◌, ℕ, zero, suc, ◌+◌, ◌<◌, ◌≤◌, List, [], ◌∷◌, Bool, true, false, ◌&&◌, Option, Some, None, Ok, IfSome, refl, ap, sym, ◌∙◌, subst, inl, inr, arith, length, nat_lt, nat_eq, if◌then◌else◌, cond}
 use Rattle.std.specs.List.{AllByRecursion, list_all}
+use Rattle.std.proofs.lemmas.Bool.{cases_Bool}
 use Rattle.std.proofs.lemmas.Bool.Decides.{nat_tests}
 use Rattle.rv_value.specs.declared.record.Record.{Record}
 use Rattle.rv_rows.specs.declared.changes.Change.{Change}
@@ -31,6 +32,7 @@ use Rattle.rv_choice.specs.declared.query.Goal2.TheVariants.{TotalTime as Late}
 use Rattle.rv_choice.specs.Asked.{CanAsk, IsIndexOf}
 use Rattle.rv_final.specs.Rest.{qualifying}
 use Rattle.rv_search.specs.Named.{columns_named}
+use Rattle.rv_retrieval.specs.Short.{has_short}
 use Rattle.rv_search.specs.Searching.{search_of}
 use Rattle.rv_search.proofs.Columns.{named_home, none_needed}
 use Rattle.rv_join.specs.declared.places.Asked.{Asked}
@@ -38,6 +40,7 @@ use Rattle.rv_join.specs.Asking.{CanPlan, CanRun, CanRunItem, IsAsked, IsIndexAt
 use Rattle.rv_join.proofs.Running.{can_run}
 use Rattle.rv_cursor.specs.Left.{seen_at}
 use Rattle.rv_core.specs.Db.{IsTied, IsViewed}
+use Rattle.rv_core.specs.Obeying.{IsLong}
 use Rattle.rv_core.proofs.Planning.{have_wide}
 use Rattle.rv_core.proofs.Plans.{plans}
 use Rattle.rv_core.proofs.Putting.{frozen_viewed}
@@ -163,3 +166,13 @@ few_columns table number (d ∷ ds) all =
       | true ↦ (all.0.1, more)
       | false ↦ more
     ]
+
+-- WHERE A SEARCH ASKS THE JUDGE.
+
+-- over what was frozen no index has a short range, or nobody was asked
+pub asks_long : (shown : Shown) (own : Transaction) (table : ℕ) (only : List (List Atom)) (indexes : List (ℕ × List ℕ)) (view : Option Frozen) (before after : ℕ) → Freezes shown own view
+    → (has_short (search_of table own.base only indexes) (seen_at shown own.base view) ≡ true → after ≡ before) → (after ≡ before) ⊎ IsLong shown own table only indexes
+asks_long shown own table only indexes view before after frozen unasked = elim (cases_Bool (has_short (search_of table own.base only indexes) (seen_at shown own.base view))) [
+  | inl short ↦ inl (unasked short)
+  | inr none ↦ inr (record { view = view; frozen = frozen; none_short = none })
+]

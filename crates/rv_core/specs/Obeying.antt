@@ -1,9 +1,10 @@
 -- WHAT A CALL DOES TO THE PLANS OF THE OPEN CURSORS, and what it tells of them.
-use Rattle.std.specs.Prelude.{◌≡◌, ◌<◌, ◌≤◌, ◌+◌, ◌==◌, ℕ, Bool, true, false, List, [], ◌∷◌, ◌++◌, Option, Some, None, Result, Ok, Err, IfSome, IsSome, not, filter, remove, slice_get, slice_set}
+use Rattle.std.specs.Prelude.{◌≡◌, ◌⊎◌, ◌<◌, ◌≤◌, ◌+◌, ◌==◌, ℕ, Bool, true, false, List, [], ◌∷◌, ◌++◌, Option, Some, None, Result, Ok, Err, IfSome, IsSome, not, filter, remove, slice_get, slice_set}
 use Rattle.std.specs.List.{AllByRecursion}
 use Rattle.rv_judge.specs.declared.judging.Facts.{Facts}
 use Rattle.rv_judge.specs.Verdicts.{Ruling}
 use Rattle.rv_judge.specs.Counting.{reads}
+use Rattle.rv_restrict.specs.declared.atom.Atom.{Atom}
 use Rattle.rv_lang.specs.declared.statement.Statement.{Statement}
 use Rattle.rv_lang.specs.declared.reply.Refusal.{Refusal}
 use Rattle.rv_lang.specs.declared.reply.Reply.{Reply}
@@ -14,19 +15,23 @@ use Rattle.rv_catalog.specs.declared.def.Resolved.TheVariants as asks
 use Rattle.rv_catalog.specs.declared.def.Select.{Select}
 use Rattle.rv_reader.specs.Shown.{Shown}
 use Rattle.rv_model.specs.declared.state.State.{State}
+use Rattle.rv_model.specs.declared.transactions.Transaction.{Transaction}
 use Rattle.rv_model.specs.Showing.{shown_trace}
 use Rattle.rv_model.specs.Step.{rows_viewed, understood}
 use Rattle.rv_model.specs.Transactions.{transaction_of}
 use Rattle.rv_txn.specs.Calls.{writing}
+use Rattle.rv_overlay.specs.declared.frozen.Frozen.{Frozen}
+use Rattle.rv_own.specs.Views.{Freezes}
 use Rattle.rv_access.specs.Accesses.{Settled, fetches_left, query_of}
 use Rattle.rv_retrieval.specs.Short.{has_short}
+use Rattle.rv_search.specs.Searching.{any_narrows, search_of}
 use Rattle.rv_join.specs.Alone.{plan_effort, plan_life}
-use Rattle.rv_join.specs.Asking.{IsAsked, lives_of}
+use Rattle.rv_join.specs.Asking.{IsAsked, indexes_from, lives_of}
 use Rattle.rv_join.specs.Pieces.{counted_up, plan_awaited, plan_pieces}
 use Rattle.rv_join.specs.Plans.{LeadsWith, Planned, plan_trace, plan_work, stage_of}
 use Rattle.rv_join.specs.Work.{row_cost}
 use Rattle.rv_cursor.specs.declared.cursor.Open.{Open}
-use Rattle.rv_cursor.specs.Left.{CursorFits, SameCursor, seen_by}
+use Rattle.rv_cursor.specs.Left.{CursorFits, SameCursor, seen_at, seen_by}
 use Rattle.rv_cursor.specs.Moves.{FetchMoves, Moves, Ruled, StepsBacks, TurnMoves, ruled}
 use Rattle.rv_core.specs.declared.settings.Settings.{Settings}
 use Rattle.rv_core.specs.Db.{Whole, base_of, open_named}
@@ -143,18 +148,31 @@ closed_in (Some place) opens = remove opens place
 abbrev pub AsksJudge : Plans → Plans → Type 0
 AsksJudge old new = new ≡ record old { judge = new.judge }
 
--- UPDATE AND DELETE SEARCH, but not where the session has no transaction that may write
-pub record Searches (db : State) (session : ℕ) (old new : Plans) : Type 0 where
-  pub asks : AsksJudge old new
-  pub unasked : (refusal : Refusal) → writing db.transactions.active session ≡ Err refusal → new ≡ old
+-- in a view of the transaction no range that WHERE gives one of these indexes has an exact estimate of at most 20
+pub record IsLong (shown : Shown) (own : Transaction) (table : ℕ) (only : List (List Atom)) (indexes : List (ℕ × List ℕ)) : Type 0 where
+  pub view : Option Frozen
+  pub frozen : Freezes shown own view
+  pub none_short : has_short (search_of table own.base only indexes) (seen_at shown own.base view) ≡ false
+
+-- WHERE AN UPDATE OR DELETE MAY ASK THE JUDGE: the session's transaction may write, and WHERE gives an index of the table
+-- a range, but none with an exact estimate of at most 20
+pub record MayAsk (shown : Shown) (indexes : List IndexDef) (active : List Transaction) (session table : ℕ) (only : List (List Atom)) : Type 0 where
+  pub own : Transaction
+  pub writes : writing active session ≡ Ok own
+  pub narrows : any_narrows only (indexes_from table 0 indexes) ≡ true
+  pub long : IsLong shown own table only (indexes_from table 0 indexes)
+
+-- UPDATE AND DELETE SEARCH: the plans of all cursors stay, and so does the judge, but where it may be asked
+abbrev pub Searches : Under → State → ℕ → ℕ → List (List Atom) → Plans → Plans → Type 0
+Searches u db session table only old new = (new ≡ old) ⊎ (AsksJudge old new × MayAsk u.store db.schema.indexes db.transactions.active session table only)
 
 -- WHAT AN ANSWERED CALL DOES TO THE PLANS, by what it asks
 abbrev pub Handles : Under → Result Resolved Refusal → State → ℕ → Reply → Plans → Plans → Type 0
 Handles u (Ok (asks.Open name s)) db session reply old new = reply ≡ Opened → OpensPlan u.settings.race u.store s db session name old new
 Handles u (Ok (asks.Fetch name)) db session reply old new = MovesNamed (FetchOf u.settings.steps u.would) u.store (open_named old.opens session name) old new
 Handles u (Ok (asks.Step name n)) db session reply old new = StepsTold u n (open_named old.opens session name) reply old new
-Handles u (Ok (asks.Update table sets only)) db session reply old new = Searches db session old new
-Handles u (Ok (asks.Delete table only)) db session reply old new = Searches db session old new
+Handles u (Ok (asks.Update table sets only)) db session reply old new = Searches u db session table only old new
+Handles u (Ok (asks.Delete table only)) db session reply old new = Searches u db session table only old new
 Handles u (Ok (asks.Show name)) db session reply old new = TellsPlan (open_named old.opens session name) db.schema.indexes old.opens reply × (new ≡ old)
 Handles u (Ok asks.Commit) db session reply old new = new ≡ record old { opens = ended_by reply session old.opens }
 Handles u (Ok asks.Rollback) db session reply old new = new ≡ record old { opens = ended_by reply session old.opens }
@@ -199,13 +217,13 @@ pub record TurnsText (u : Under) (statement : Option Statement) (db : State) (se
 
 -- WHAT A CALL DOES TO THE PLANS FOR WHICH NO MEMORY WAS FOUND: FETCH and STEP may have moved their cursor's plan,
 -- UPDATE and DELETE may have searched, and no other call does anything
-abbrev pub Leaves : Under → Result Resolved Refusal → ℕ → Plans → Plans → Type 0
-Leaves u (Ok (asks.Fetch name)) session old new = MovesNamed (AnyOf u.would) u.store (open_named old.opens session name) old new
-Leaves u (Ok (asks.Step name n)) session old new = MovesNamed (AnyOf u.would) u.store (open_named old.opens session name) old new
-Leaves u (Ok (asks.Update table sets only)) session old new = AsksJudge old new
-Leaves u (Ok (asks.Delete table only)) session old new = AsksJudge old new
-Leaves u (Ok other) session old new = new ≡ old
-Leaves u (Err refusal) session old new = new ≡ old
+abbrev pub Leaves : Under → Result Resolved Refusal → State → ℕ → Plans → Plans → Type 0
+Leaves u (Ok (asks.Fetch name)) db session old new = MovesNamed (AnyOf u.would) u.store (open_named old.opens session name) old new
+Leaves u (Ok (asks.Step name n)) db session old new = MovesNamed (AnyOf u.would) u.store (open_named old.opens session name) old new
+Leaves u (Ok (asks.Update table sets only)) db session old new = Searches u db session table only old new
+Leaves u (Ok (asks.Delete table only)) db session old new = Searches u db session table only old new
+Leaves u (Ok other) db session old new = new ≡ old
+Leaves u (Err refusal) db session old new = new ≡ old
 
 pub record LeavesText (u : Under) (statement : Option Statement) (db : State) (session : ℕ) (old new : Plans) : Type 0 where
-  pub left : Leaves u (understood db.schema statement) session old new
+  pub left : Leaves u (understood db.schema statement) db session old new

@@ -1,5 +1,5 @@
 //! The database: a catalog, a store, transactions and cursors, and what each statement does to them.
-ghost use Rattle.std.specs.Prelude.{◌≡◌, ◌<◌, ◌≤◌, ◌+◌, ◌-◌, ◌^◌, ℕ, [], true, Err, IfOk, IsSome, None, Some, OnErr, length};
+ghost use Rattle.std.specs.Prelude.{◌≡◌, ◌⊎◌, ◌<◌, ◌≤◌, ◌+◌, ◌-◌, ◌^◌, ℕ, [], true, Err, IfOk, IsSome, None, Some, OnErr, length};
 ghost use Rattle.std.specs.Option.{option_copied};
 ghost use Rattle.rv_catalog.specs.Fits.{IsNewIndex, IsNewTable, IsQueryOf, IsRowOf, is_over_table};
 ghost use Rattle.rv_model.specs.Database.{empty};
@@ -7,11 +7,10 @@ ghost use Rattle.rv_model.specs.Standing.{HasRoom};
 ghost use Rattle.rv_model.specs.Step.{began, changed, closed, committed, created, indexed, inserted, opened, rolled_back, rows_viewed};
 ghost use Rattle.rv_model.specs.Transactions.{transaction_of};
 ghost use Rattle.rv_core.specs.declared.settings.Settings.{Settings};
-ghost use Rattle.rv_txn.specs.Calls.{writing};
 ghost use Rattle.rv_core.specs.Core.{horizon_of};
 ghost use Rattle.rv_core.specs.Db.{open_named};
 ghost use Rattle.rv_core.specs.Doing.{Does, Fetches, PartIs, Shows, StepsOn};
-ghost use Rattle.rv_core.specs.Obeying.{AnyOf, FetchOf, MovesNamed, OpensPlan, SeesSame, StepsTold, TellsPlan, TurnOf, closed_in, ended_by, plans_of, under};
+ghost use Rattle.rv_core.specs.Obeying.{AnyOf, FetchOf, MayAsk, MovesNamed, OpensPlan, SeesSame, StepsTold, TellsPlan, TurnOf, closed_in, ended_by, plans_of, under};
 ghost use Rattle.rv_core.specs.Pieces.{GivesTo, KeepsSettled, TakesNext, TriesNext, next_waiting, numbered};
 ghost use Rattle.rv_lang.specs.declared.reply.Refusal.{Refusal as TheRefusal};
 ghost use Rattle.rv_lang.specs.declared.reply.Reply.TheVariants.{Opened, Refused};
@@ -241,7 +240,7 @@ impl<S: Store + Reader<Ledger = Uncounted> + Drop> Database<S> {
         ensures opened { self.new.opened ≡ self.old.opened }
         ensures opens { self.new.opens ≡ self.old.opens }
         ensures rules { would judge.new ≡ would judge.old }
-        ensures unasked { (refusal : TheRefusal) → writing self.old.stand.db.transactions.active session ≡ Err refusal → state judge.new ≡ state judge.old }
+        ensures asks { (state judge.new ≡ state judge.old) ⊎ MayAsk (S.shown self.old.store) self.old.stand.db.schema.indexes self.old.stand.db.transactions.active session table only.now }
     {
         let count = match change_rows(
             self.alloc,

@@ -118,7 +118,7 @@ fn turn<S: Store + Reader<Ledger = Uncounted> + Drop>(
     ensures handles { IfOk result (PartIs (λ replies. Handles (under (S.shown database.old.store) (would judge.old) settings) (Ok asked) database.old.stand.db session replies.0 (plans_of database.old (state judge.old)) (plans_of database.new (state judge.new))) (Works (under (S.shown database.old.store) (would judge.old) settings) (Ok asked) session (plans_of database.old (state judge.old)) (plans_of database.new (state judge.new)))) }
     ensures refuses { (refusal : TheRefusal) → IfOk result (PartIs (λ replies. replies.0 ≡ Refused refusal → Refuses (Ok asked) (plans_of database.old (state judge.old)) (plans_of database.new (state judge.new))) (Unit {0})) }
     ensures turn { IfOk result (PartIs (λ replies. Turns (under (S.shown database.old.store) (would judge.old) settings) (Ok asked) session replies.0 (plans_of database.old (state judge.old)) (plans_of database.new (state judge.new))) (Unit {0})) }
-    ensures lost { OnErr result (Leaves (under (S.shown database.old.store) (would judge.old) settings) (Ok asked) session (plans_of database.old (state judge.old)) (plans_of database.new (state judge.new))) }
+    ensures lost { OnErr result (Leaves (under (S.shown database.old.store) (would judge.old) settings) (Ok asked) database.old.stand.db session (plans_of database.old (state judge.old)) (plans_of database.new (state judge.new))) }
     ensures rules { would judge.new ≡ would judge.old }
     ensures err { OnErr result (database.new.stand ≡ database.old.stand) }
     ensures opened { database.new.opened ≤ database.old.opened + 1 }
@@ -191,7 +191,7 @@ fn perform<S: Store + Reader<Ledger = Uncounted> + Drop>(
     ensures ok { IfOk result (λ replies. DoesAsked (Ok asked) database.old.stand session replies database.new.stand) }
     ensures handles { IfOk result (λ replies. Handles (under (S.shown database.old.store) (would judge.old) settings) (Ok asked) database.old.stand.db session replies.0 (plans_of database.old (state judge.old)) (plans_of database.new (state judge.new))) }
     ensures refuses { (refusal : TheRefusal) → IfOk result (λ replies. replies.0 ≡ Refused refusal → Refuses (Ok asked) (plans_of database.old (state judge.old)) (plans_of database.new (state judge.new))) }
-    ensures lost { OnErr result (Leaves (under (S.shown database.old.store) (would judge.old) settings) (Ok asked) session (plans_of database.old (state judge.old)) (plans_of database.new (state judge.new))) }
+    ensures lost { OnErr result (Leaves (under (S.shown database.old.store) (would judge.old) settings) (Ok asked) database.old.stand.db session (plans_of database.old (state judge.old)) (plans_of database.new (state judge.new))) }
     ensures rules { would judge.new ≡ would judge.old }
     ensures err { OnErr result (database.new.stand ≡ database.old.stand) }
     ensures opened { database.new.opened ≤ database.old.opened + 1 }

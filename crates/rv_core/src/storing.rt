@@ -1,5 +1,5 @@
 //! Calls on the catalog and the store that go together.
-ghost use Rattle.std.specs.Prelude.{◌≡◌, ◌+◌, ◌<◌, ◌≤◌, ◌-◌, ◌^◌, ◌++◌, ◌∷◌, [], None, Ok, Err, true, IfOk, IfErr, OnOk, OnErr, IfSome, length};
+ghost use Rattle.std.specs.Prelude.{◌≡◌, ◌⊎◌, ◌+◌, ◌<◌, ◌≤◌, ◌-◌, ◌^◌, ◌++◌, ◌∷◌, [], None, Ok, Err, true, IfOk, IfErr, OnOk, OnErr, IfSome, length};
 ghost use Rattle.std.specs.List.{AllByRecursion, slice_index_or};
 ghost use Rattle.std.specs.Option.{option_copied};
 ghost use Rattle.rv_catalog.specs.Fits.{IsRowOf, is_over_table};
@@ -8,11 +8,11 @@ ghost use Rattle.rv_catalog.specs.Schema.{index_named, table_named};
 ghost use Rattle.rv_reader.specs.Storing.{AreColumns, CanCommit, Created, Indexed, IsSame, IsStored};
 ghost use Rattle.rv_txn.specs.Calls.{IsFault, writing};
 ghost use Rattle.rv_txn.specs.Halves.{changing, with_these};
-ghost use Rattle.rv_lang.specs.declared.reply.Refusal.{Refusal as TheRefusal};
 ghost use Rattle.rv_view.specs.Sights.{LaysSome};
 ghost use Rattle.rv_snapshot.specs.Alone.{alone};
 ghost use Rattle.rv_choice.specs.Asked.{CanAsk};
 ghost use Rattle.rv_final.specs.Rest.{qualifying};
+ghost use Rattle.rv_retrieval.specs.Short.{has_short};
 ghost use Rattle.rv_search.specs.Searching.{search_of};
 ghost use Rattle.rv_join.specs.Asking.{indexes_from};
 ghost use Rattle.rv_cursor.specs.Left.{seen_at};
@@ -22,6 +22,7 @@ ghost use Rattle.rv_rows.specs.declared.changes.Change.{Change as OneChange};
 ghost use Rattle.rv_rows.specs.Changes.{Rise};
 ghost use Rattle.rv_own.specs.Views.{AreViews, CanKeep, Freezes};
 ghost use Rattle.rv_core.specs.Db.{IsTied, db_of};
+ghost use Rattle.rv_core.specs.Obeying.{IsLong, MayAsk};
 ghost use Rattle.rv_model.specs.Step.{row_alone, rows_alone};
 ghost use Rattle.rv_core.specs.Storing.{CommitsTo, changed_alone, changed_over, inserted_alone, lone_over};
 
@@ -251,6 +252,7 @@ fn rows_seen<R: Reader>(
     requires can { CanAsk (search_of table snap only.now indexes) (seen_at (R.shown reader.now) snap view.now) }
     ensures rows { IfOk result (λ rows. rows.items ≡ qualifying only.now ((seen_at (R.shown reader.now) snap view.now).rows table snap)) }
     ensures stays { would judge.new ≡ would judge.old }
+    ensures unasked { has_short (search_of table snap only.now indexes) (seen_at (R.shown reader.now) snap view.now) ≡ true → state judge.new ≡ state judge.old }
 {
     let at = Snapshot { reader, snap };
     found_rows(
@@ -290,6 +292,7 @@ fn searched_rows<S: Store + Reader<Ledger = Uncounted>>(
     ensures rows { IfOk result (λ rows. rows.items ≡ met own.now table only.now ((S.shown store.now).rows table)) }
     ensures views { AreViews (S.shown store.now) txns.now.active views.new }
     ensures stays { would judge.new ≡ would judge.old }
+    ensures asks { (state judge.new ≡ state judge.old) ⊎ IsLong (S.shown store.now) own.now table only.now indexes }
 {
     // What a store tells with its newest commit holds of all its rows.
     let _newest = store.last();
@@ -323,6 +326,7 @@ fn met_by<S: Store + Reader<Ledger = Uncounted>>(
     ensures rows { IfOk result (λ rows. rows.items ≡ met own.now table only.now ((S.shown store.now).rows table)) }
     ensures views { AreViews (S.shown store.now) txns.now.active views.new }
     ensures stays { would judge.new ≡ would judge.old }
+    ensures asks { (state judge.new ≡ state judge.old) ⊎ MayAsk (S.shown store.now) catalog.now.indexes txns.now.active session table only.now }
 {
     // What a store tells with its newest commit holds of its indexes.
     let _newest = store.last();
@@ -359,7 +363,7 @@ fn due_changes<S: Store + Reader<Ledger = Uncounted>>(
     ensures fault { IfErr result (λ fault. IsFault (changing txns.now session table only.now (option_copied sets.entry) ((S.shown store.now).rows table)) fault) }
     ensures views { AreViews (S.shown store.now) txns.now.active views.new }
     ensures stays { would judge.new ≡ would judge.old }
-    ensures unasked { (refusal : TheRefusal) → writing txns.now.active session ≡ Err refusal → state judge.new ≡ state judge.old }
+    ensures asks { (state judge.new ≡ state judge.old) ⊎ MayAsk (S.shown store.now) catalog.now.indexes txns.now.active session table only.now }
 {
     let own = match txns.writing(session) {
         Ok(own) => own,
@@ -399,7 +403,7 @@ pub fn change_rows<S: Store + Reader<Ledger = Uncounted>>(
     ensures tied { IsTied (S.shown store.now) catalog.now txns.new }
     ensures views { AreViews (S.shown store.now) txns.new.active views.new }
     ensures stays { would judge.new ≡ would judge.old }
-    ensures unasked { (refusal : TheRefusal) → writing txns.old.active session ≡ Err refusal → state judge.new ≡ state judge.old }
+    ensures asks { (state judge.new ≡ state judge.old) ⊎ MayAsk (S.shown store.now) catalog.now.indexes txns.old.active session table only.now }
 {
     // What a store tells with its newest commit holds of all its rows.
     let _newest = store.last();

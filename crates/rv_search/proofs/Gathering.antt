@@ -6,13 +6,13 @@ use Rattle.std.proofs.lemmas.List.Sorted.{IsPermutation-append_right, IsPermutat
 use Rattle.rv_value.specs.declared.record.Record.{Record}
 use Rattle.rv_value.specs.declared.record.RowNo.{RowNo}
 use Rattle.rv_judge.specs.declared.counting.Counts.{Counts}
-use Rattle.rv_judge.specs.Counting.{reads}
+use Rattle.rv_judge.specs.Counting.{reads, record_read}
 use Rattle.rv_reader.specs.Shown.{Shown}
 use Rattle.rv_final.specs.Rest.{TakesOut}
 use Rattle.rv_retrieval.specs.Effort.{Awaiting, effort}
 use Rattle.rv_retrieval.specs.Shape.{RetrievalFits, Shape, rest}
 use Rattle.rv_retrieval.specs.Short.{Settled, fetches_left}
-use Rattle.rv_search.specs.Searching.{Gathers, numbers}
+use Rattle.rv_search.specs.Searching.{Gathers, OnlyRecords, numbers}
 
 pub gathers_begun : (shown : Shown) (c : Counts) (found : List RowNo) (v : Shape) → RetrievalFits v shown → Awaiting v → Gathers shown c c found found v v
 gathers_begun shown c found v fits awaiting = record {
@@ -125,3 +125,28 @@ ok_more (Err e) P Q more h = tt
 pub ok_anyway : {A E : Type 0} (r : Result A E) (P : Type 0) → P → OnOk r P
 ok_anyway (Ok a) P h = h
 ok_anyway (Err e) P h = tt
+
+-- The fetch of what was found.
+
+pub fetched_none : (c : Counts) → OnlyRecords 0 c c
+fetched_none c = record { pages = refl; leaves = refl; records = omega arith }
+
+pub fetched_next : (n : ℕ) (c d e : Counts) → OnlyRecords n c d → e ≡ record_read d → OnlyRecords (n + 1) c e
+fetched_next n c d e before one =
+    let more = ap (λ (k : Counts). k.records) one in
+    let so_far = before.records in
+    record {
+      pages = ap (λ (k : Counts). k.pages) one ∙ before.pages;
+      leaves = ap (λ (k : Counts). k.leaves) one ∙ before.leaves;
+      records = omega (arith, more, so_far);
+    }
+
+pub fetched_most : (n most : ℕ) (c d : Counts) → n ≤ most → OnlyRecords n c d → OnlyRecords most c d
+fetched_most n most c d few fetched = let h = fetched.records in record { pages = fetched.pages; leaves = fetched.leaves; records = omega (arith, few, h) }
+
+pub reads_and : (c d e : Counts) (life most : ℕ) → reads d ≤ reads c + life → OnlyRecords most d e → reads e ≤ reads c + life + most
+reads_and c d e life most spent fetched =
+    let pages = fetched.pages in
+    let leaves = fetched.leaves in
+    let records = fetched.records in
+    omega (arith, spent, pages, leaves, records)

@@ -1,4 +1,5 @@
 pub mod Columns
 pub mod Fetching
+pub mod Few
 pub mod Gathering
 pub mod Sorted

@@ -51,3 +51,9 @@ pub record Gathers (shown : Shown) (c d : Counts) (before after : List RowNo) (o
   pub settled : Settled old → Settled new
   pub pages : Settled old → d.pages ≡ c.pages
   pub records : Settled old → d.records + fetches_left new shown ≤ c.records + fetches_left old shown
+
+-- WHAT THE FETCH OF SO MANY ROWS READS: at most one record for each, no page and no leaf
+pub record OnlyRecords (most : ℕ) (c d : Counts) : Type 0 where
+  pub pages : d.pages ≡ c.pages
+  pub leaves : d.leaves ≡ c.leaves
+  pub records : d.records ≤ c.records + most

@@ -1,7 +1,7 @@
 //! The rows of a table for which a restriction is True.
 ghost use Rattle.std.specs.Prelude.{◌≡◌, ℕ, ◌+◌, ◌<◌, ◌≤◌, List, [], ◌∷◌, ◌++◌, length, true, false, not, IfOk, OnOk, IsPermutation};
 ghost use Rattle.std.specs.List.{AllByRecursion};
-ghost use Rattle.rv_judge.specs.Counting.{reads};
+ghost use Rattle.rv_judge.specs.Counting.{reads, record_read};
 ghost use Rattle.rv_value.specs.Ranges.{is_whole};
 ghost use Rattle.rv_restrict.specs.Ranges.{range_for};
 ghost use Rattle.rv_reader.specs.Shown.{CanRead};
@@ -10,7 +10,7 @@ ghost use Rattle.rv_final.specs.Rest.{qualifying};
 ghost use Rattle.rv_retrieval.specs.Effort.{Awaiting, effort, life_of};
 ghost use Rattle.rv_retrieval.specs.Shape.{RetrievalFits, rest};
 ghost use Rattle.rv_retrieval.specs.Short.{Settled, fetches_left, has_short};
-ghost use Rattle.rv_search.specs.Searching.{Gathers, any_narrows, numbers, rows_of, search_of};
+ghost use Rattle.rv_search.specs.Searching.{Gathers, OnlyRecords, any_narrows, numbers, rows_of, search_of};
 
 use crate::named::columns_named;
 use rv_choice::{Goal2, Query};
@@ -162,6 +162,7 @@ fn gathered<R: Reader>(
     ensures reads { OnOk result (reads steps.new ≤ reads steps.old + life_of query (R.shown reader.now)) }
     ensures pages { has_short query (R.shown reader.now) ≡ true → OnOk result (steps.new.pages ≡ steps.old.pages) }
     ensures records { has_short query (R.shown reader.now) ≡ true → OnOk result (steps.new.records ≤ steps.old.records + 20) }
+    ensures few { query.order ≡ [] → has_short query (R.shown reader.now) ≡ true → IfOk result (λ found. length found.items ≤ 20) }
     ensures unasked { has_short query (R.shown reader.now) ≡ true → state judge.new ≡ state judge.old }
     ensures stays { would judge.new ≡ would judge.old }
 {
@@ -174,7 +175,7 @@ fn gathered<R: Reader>(
 /// The numbers of the rows of a table at a snapshot for which a restriction is True, ascending.
 ///
 /// They are found as a query finds them that returns what it restricts: where the restriction gives an index a range with
-/// exactly so few entries that they are scanned at once, by at most 20 records and no page. `indexes` are those of the
+/// exactly so few entries that they are scanned at once, at most 20 rows, by at most 20 records and no page. `indexes` are those of the
 /// table in order of creation. The judge rules on the scans, and decides what the search costs, never what it finds.
 pub fn find<R: Reader>(
     alloc: Global,
@@ -191,6 +192,7 @@ pub fn find<R: Reader>(
     ensures reads { OnOk result (reads steps.new ≤ reads steps.old + life_of (search_of table snap only.now indexes) (R.shown reader.now)) }
     ensures pages { has_short (search_of table snap only.now indexes) (R.shown reader.now) ≡ true → OnOk result (steps.new.pages ≡ steps.old.pages) }
     ensures records { has_short (search_of table snap only.now indexes) (R.shown reader.now) ≡ true → OnOk result (steps.new.records ≤ steps.old.records + 20) }
+    ensures few { has_short (search_of table snap only.now indexes) (R.shown reader.now) ≡ true → IfOk result (λ found. length found.items ≤ 20) }
     ensures unasked { has_short (search_of table snap only.now indexes) (R.shown reader.now) ≡ true → state judge.new ≡ state judge.old }
     ensures stays { would judge.new ≡ would judge.old }
 {
@@ -212,7 +214,7 @@ fn add_row<R: Reader>(
 ) -> Result<(), NoMemory>
     requires can { CanRead (R.shown reader.now) table snap }
     ensures rows { OnOk result (rows.new.items ≡ rows.old.items ++ rows_of ((R.shown reader.now).rows table snap) (row.now ∷ [])) }
-    ensures pages { steps.new.pages ≡ steps.old.pages }
+    ensures counted { steps.new ≡ record_read steps.old }
 {
     match reader.fetch(alloc, table, snap, *row, steps)? {
         Some(record) => {
@@ -223,7 +225,7 @@ fn add_row<R: Reader>(
     }
 }
 
-/// The rows of these numbers, in their order; a number of which the table has no row gives none. It reads no page.
+/// The rows of these numbers, in their order; a number of which the table has no row gives none. Each is fetched once.
 pub fn rows_of<R: Reader>(
     alloc: Global,
     reader: &R,
@@ -234,7 +236,7 @@ pub fn rows_of<R: Reader>(
 ) -> Result<Vec<Record>, NoMemory>
     requires can { CanRead (R.shown reader.now) table snap }
     ensures rows { IfOk result (λ rows. rows.items ≡ rows_of ((R.shown reader.now).rows table snap) found.now) }
-    ensures pages { steps.new.pages ≡ steps.old.pages }
+    ensures only { OnlyRecords (length found.now) steps.old steps.new }
 {
     let mut rows = Vec::new(alloc);
     'numbers: for number in found {
@@ -256,7 +258,9 @@ pub fn found_rows<R: Reader>(
 ) -> Result<Vec<Record>, NoMemory>
     requires can { CanAsk (search_of table snap only.now indexes) (R.shown reader.now) }
     ensures rows { IfOk result (λ rows. rows.items ≡ qualifying only.now ((R.shown reader.now).rows table snap)) }
+    ensures reads { IfOk result (λ rows. reads steps.new ≤ reads steps.old + life_of (search_of table snap only.now indexes) (R.shown reader.now) + length rows.items) }
     ensures pages { has_short (search_of table snap only.now indexes) (R.shown reader.now) ≡ true → OnOk result (steps.new.pages ≡ steps.old.pages) }
+    ensures records { has_short (search_of table snap only.now indexes) (R.shown reader.now) ≡ true → OnOk result (steps.new.records ≤ steps.old.records + 40) }
     ensures unasked { has_short (search_of table snap only.now indexes) (R.shown reader.now) ≡ true → state judge.new ≡ state judge.old }
     ensures stays { would judge.new ≡ would judge.old }
 {

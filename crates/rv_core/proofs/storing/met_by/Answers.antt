@@ -1,4 +1,4 @@
-use Rattle.std.proofs.Common.{ℕ, ◌∙◌, ◌≤◌, List, length, subst, sym, ap}
+use Rattle.std.proofs.Common.{ℕ, ◌∙◌, ◌≤◌, List, inl, length, refl, subst, sym, ap}
 use Rattle.std.specs.List.{AllByRecursion}
 use Rattle.rv_catalog.specs.declared.def.IndexDef.{IndexDef}
 use Rattle.rv_join.specs.Asking.{indexes_from}
@@ -19,3 +19,9 @@ searched_rows-requires-clause-indexes g c = c.in_ok-indexes.ensures ∙ ap (λ (
 
 pub met_rows-requires : goal.met_rows-requires
 met_rows-requires g c = can_met (g.S.Reader.shown c.args.store.now) c.args.catalog.now c.args.txns.now c.args.session c.args.table c.args.only.now c.args.own.now c.requires.tied c.requires.there c.requires.over c.requires.writes
+
+pub returns-in_err-indexes-clause-asks : goal.returns-in_err-indexes-clause-asks
+returns-in_err-indexes-clause-asks g c = inl refl
+
+pub returns-in_err-searched-clause-asks : goal.returns-in_err-searched-clause-asks
+returns-in_err-searched-clause-asks g c = inl refl

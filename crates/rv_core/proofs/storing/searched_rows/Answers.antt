@@ -1,8 +1,8 @@
-use Rattle.std.proofs.Common.{ℕ, ◌∙◌, List, subst, sym}
+use Rattle.std.proofs.Common.{ℕ, ◌∙◌, List, inl, refl, subst, sym}
 use Rattle.rv_choice.specs.Asked.{CanAsk}
 use Rattle.rv_search.specs.Searching.{search_of}
 use Rattle.rv_cursor.specs.Left.{seen_at}
-use Rattle.rv_core.proofs.Searching.{can_met, can_search, search_freezes, search_viewed, view_met}
+use Rattle.rv_core.proofs.Searching.{asks_long, can_met, can_search, search_freezes, search_viewed, view_met}
 use Rattle.rv_core.proofs.Viewing.{lays_some}
 use Rattle.rv_core.proofs.storing.searched_rows.Goals as goal
 
@@ -28,3 +28,18 @@ returns-clause-rows g c =
     let met = can_met shown c.args.catalog.now c.args.txns.now c.args.session c.args.table c.args.only.now own c.requires.tied c.requires.there c.requires.over c.requires.writes in
     c.in_ok-rows.ensures.rows
     ∙ view_met shown own c.in_ok-view.view c.args.table c.args.only.now met.rows (search_freezes shown c.args.txns.now c.args.session own c.in_ok-view.view c.requires.writes c.in_ok-view.ensures.freezes)
+
+pub returns-in_err-view-clause-asks : goal.returns-in_err-view-clause-asks
+returns-in_err-view-clause-asks g c = inl refl
+
+pub returns-in_err-rows-clause-asks : goal.returns-in_err-rows-clause-asks
+returns-in_err-rows-clause-asks g c =
+    let shown = g.S.Reader.shown c.args.store.now in
+    let own = c.args.own.now in
+    asks_long shown own c.args.table c.args.only.now c.args.indexes c.in_ok-view.view _ _ (search_freezes shown c.args.txns.now c.args.session own c.in_ok-view.view c.requires.writes c.in_ok-view.ensures.freezes) c.rows_seen.ensures.unasked
+
+pub returns-clause-asks : goal.returns-clause-asks
+returns-clause-asks g c =
+    let shown = g.S.Reader.shown c.args.store.now in
+    let own = c.args.own.now in
+    asks_long shown own c.args.table c.args.only.now c.args.indexes c.in_ok-view.view _ _ (search_freezes shown c.args.txns.now c.args.session own c.in_ok-view.view c.requires.writes c.in_ok-view.ensures.freezes) c.rows_seen.ensures.unasked

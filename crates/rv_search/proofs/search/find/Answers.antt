@@ -1,6 +1,6 @@
-use Rattle.std.proofs.Common.{◌≡◌, ◌+◌, ◌≤◌, rules, subst, sym, true}
+use Rattle.std.proofs.Common.{◌≡◌, ◌+◌, ◌≤◌, ap, arith, rules, subst, sym, true}
 use Rattle.std.specs.Prelude.{IsPermutation}
-use Rattle.std.proofs.lemmas.List.Sorted.{IsNonDecreasingBy-from_sort_by_key, IsPermutation-trans}
+use Rattle.std.proofs.lemmas.List.Sorted.{IsNonDecreasingBy-from_sort_by_key, IsPermutation-trans, length_permutation}
 use Rattle.rv_value.specs.declared.record.Record.{Record}
 use Rattle.rv_value.specs.declared.record.RowNo.{RowNo}
 use Rattle.rv_judge.specs.Counting.{reads}
@@ -46,3 +46,9 @@ returns-in_err-found-clause-unasked g c = λ short. (c.gathered.ensures.unasked 
 
 pub returns-in_err-sort_by_key-clause-unasked : goal.returns-in_err-sort_by_key-clause-unasked
 returns-in_err-sort_by_key-clause-unasked g c = λ short. (c.gathered.ensures.unasked (subst (λ (q : Query). has_short q (g.R.Reader.shown c.args.reader.now) ≡ true) (sym c.in_ok-query.ensures) short))
+
+pub returns-clause-few : goal.returns-clause-few
+returns-clause-few g c = λ short.
+    (let few = c.in_ok-found.ensures.few (ap (λ (q : Query). q.order) c.in_ok-query.ensures) (subst (λ (q : Query). has_short q (g.R.Reader.shown c.args.reader.now) ≡ true) (sym c.in_ok-query.ensures) short) in
+    let same = length_permutation c.in_ok-found.found.items _ c.sort_by_key.ensures.permutation in
+    omega (arith, few, same))

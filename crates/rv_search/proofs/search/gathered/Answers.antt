@@ -3,8 +3,10 @@ use Rattle.std.specs.Prelude.{IsPermutation}
 use Rattle.rv_value.specs.declared.record.RowNo.{RowNo}
 use Rattle.rv_judge.specs.Counting.{reads}
 use Rattle.rv_retrieval.specs.Effort.{effort, life_of}
+use Rattle.rv_retrieval.specs.Shape.{rest}
 use Rattle.rv_retrieval.specs.Short.{fetches_left}
 use Rattle.rv_search.specs.Searching.{numbers}
+use Rattle.rv_search.proofs.Few.{few_found, few_owed, if_ok}
 use Rattle.rv_search.proofs.Gathering.{ok_anyway, ok_more, reads_from, records_from}
 use Rattle.rv_search.proofs.search.gathered.Goals as goal
 
@@ -31,3 +33,10 @@ returns-clause-records g c = λ short.
 
 pub returns-clause-unasked : goal.returns-clause-unasked
 returns-clause-unasked g c = λ short. (c.gathered_of-found.ensures.unasked (c.in_ok-retrieval.ensures.short short).0)
+
+pub returns-clause-few : goal.returns-clause-few
+returns-clause-few g c = λ unordered short.
+    (let shown = g.R.Reader.shown c.args.reader.now in
+    let v = c.in_ok-retrieval.retrieval in
+    let owed = few_owed c.args.query shown 0 0 v unordered c.in_ok-retrieval.ensures.opened c.in_ok-retrieval.ensures.fits (c.in_ok-retrieval.ensures.short short) in
+    if_ok c.gathered_of-found.result (λ found. IsPermutation (numbers (rest v shown)) found.items) _ (λ found all. few_found (rest v shown) found.items owed all) c.gathered_of-found.ensures.found)

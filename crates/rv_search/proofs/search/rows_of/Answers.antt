@@ -1,10 +1,11 @@
-use Rattle.std.proofs.Common.{◌≡◌, ◌+◌, ◌++◌, ◌∷◌, ◌∙◌, [], List, drop, ap, sym, append_assoc}
+use Rattle.std.proofs.Common.{◌≡◌, ◌+◌, ◌++◌, ◌∷◌, ◌∙◌, [], List, drop, ap, arith, sym, append_assoc}
 use Rattle.std.specs.List.{slice_index_or}
 use Rattle.std.proofs.lemmas.List.{drop_more}
 use Rattle.rv_value.specs.declared.record.Record.{Record}
 use Rattle.rv_value.specs.declared.record.RowNo.{RowNo}
 use Rattle.rv_search.specs.Searching.{rows_of}
 use Rattle.rv_search.proofs.Fetching.{rows_next}
+use Rattle.rv_search.proofs.Gathering.{fetched_most, fetched_next, fetched_none}
 use Rattle.rv_search.proofs.search.rows_of.Goals as goal
 
 pub numbers-preserved : goal.numbers-preserved
@@ -23,5 +24,17 @@ numbers-preserved g c =
           ∙ ap (λ (rs : List Record). before ++ rs) (sym (rows_next all item behind))
           ∙ ap (λ (xs : List RowNo). before ++ rows_of all xs) (sym split)
           ∙ c.numbers.invariant.rows;
-      pages = c.add_row.ensures.pages ∙ c.numbers.invariant.pages;
+      only = fetched_next c.numbers.number-index c.args.steps.now c.numbers.steps c.add_row.new.steps c.numbers.invariant.only c.add_row.ensures.counted;
     }
+
+pub numbers-init : goal.numbers-init
+numbers-init g c = record {
+  rows = ap (λ (rs : List Record). rs ++ rows_of ((g.R.Reader.shown c.args.reader.now).rows c.args.table c.args.snap) c.args.found.now) c.new-rows.ensures.items;
+  only = fetched_none c.args.steps.now;
+}
+
+pub returns-clause-only : goal.returns-clause-only
+returns-clause-only g c = fetched_most _ _ _ _ (omega arith) c.numbers.invariant.only
+
+pub returns-in_err-add_row-clause-only : goal.returns-in_err-add_row-clause-only
+returns-in_err-add_row-clause-only g c = fetched_most _ _ _ _ (omega arith) (fetched_next c.numbers.number-index c.args.steps.now c.numbers.steps c.add_row.new.steps c.numbers.invariant.only c.add_row.ensures.counted)

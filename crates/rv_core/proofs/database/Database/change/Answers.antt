@@ -30,11 +30,11 @@ returns-in-Err-Refused-clause-ok g c =
     let refusal = change_refused shown c.self.inside.catalog c.self.inside.txns opens c.args.session c.args.table c.args.only.now (option_copied c.args.sets) c.in-Err-Refused.refusal why in
     rw (c.in-Err-Refused.ensures.err, ← c.self.view_is) (if_ok c.refused.result _ _ (λ replies k. refused_does _ (stand_of shown c.self.inside.catalog c.self.inside.txns opens) _ replies refusal k) c.refused.ensures)
 
-pub returns-in-Err-Refused-clause-unasked : goal.returns-in-Err-Refused-clause-unasked
-returns-in-Err-Refused-clause-unasked g c = rw (← c.self.view_is) c.change_rows.ensures.unasked
+pub returns-in-Err-Refused-clause-asks : goal.returns-in-Err-Refused-clause-asks
+returns-in-Err-Refused-clause-asks g c = rw (← c.self.view_is) c.change_rows.ensures.asks
 
-pub returns-in-Err-NoMemory-clause-unasked : goal.returns-in-Err-NoMemory-clause-unasked
-returns-in-Err-NoMemory-clause-unasked g c = rw (← c.self.view_is) c.change_rows.ensures.unasked
+pub returns-in-Err-NoMemory-clause-asks : goal.returns-in-Err-NoMemory-clause-asks
+returns-in-Err-NoMemory-clause-asks g c = rw (← c.self.view_is) c.change_rows.ensures.asks
 
-pub returns-clause-unasked : goal.returns-clause-unasked
-returns-clause-unasked g c = rw (← c.self.view_is) c.change_rows.ensures.unasked
+pub returns-clause-asks : goal.returns-clause-asks
+returns-clause-asks g c = rw (← c.self.view_is) c.change_rows.ensures.asks
