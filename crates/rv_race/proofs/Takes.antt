@@ -12,7 +12,7 @@ use Rattle.rv_jscan.specs.declared.jscan.ScanCounts.{ScanCounts}
 use Rattle.rv_jscan.specs.Joint.{CanMake}
 use Rattle.rv_jscan.specs.Lanes.{IsOwn, LaneFits, Laned, leaf_once}
 use Rattle.rv_jscan.specs.Pieces.{Pieced}
-use Rattle.rv_race.specs.Given.{Awaits, TakesLeaf, awaited, counts_read, holding, next_id, one_leaf, piece_read, reads_leaf, turn_lane, turn_plan, turn_scan, with_lane}
+use Rattle.rv_race.specs.Given.{Awaits, TakesLeaf, awaited, counts_read, holding, next_id, one_leaf, piece_read, turn_lane, turn_plan, turn_scan, with_lane}
 use Rattle.rv_race.specs.Opened.{Steady}
 use Rattle.rv_race.specs.Raced.{RaceFits, Raced, SameRace, racing, rest}
 use Rattle.rv_race.specs.Runs.{Tells}

@@ -14,13 +14,13 @@ use Rattle.rv_jscan.specs.declared.jscan.Taken.{Taken}
 use Rattle.rv_jscan.specs.declared.jscan.Taken.TheVariants.{Piece, Nothing}
 use Rattle.rv_jscan.specs.Joint.{Joint, JointFits, under_way}
 use Rattle.rv_jscan.specs.Pieces.{Pieced}
-use Rattle.rv_jscan.specs.Steps.{Gives, TakeLeaves, Takes, next_id, steps_read}
+use Rattle.rv_jscan.specs.Steps.{Gives, next_id}
 use Rattle.rv_retrieval.specs.Effort.{Awaiting, back_work, effort, front_work, keys_work, sum_of, table_work}
 use Rattle.rv_final.specs.Work.{Tries}
 use Rattle.rv_retrieval.specs.Given.{Answers, AwaitsPiece, TakesPiece}
 use Rattle.rv_retrieval.specs.Rulings.{GivesOn, scan_over}
 use Rattle.rv_retrieval.specs.Shape.{RetrievalFits, Shape, is_background}
-use Rattle.rv_retrieval.proofs.BackWork.{accepted_less, leaf_spends, take_spends}
+use Rattle.rv_retrieval.proofs.BackWork.{accepted_less}
 use Rattle.rv_retrieval.proofs.Courses.{sum_back}
 use Rattle.rv_retrieval.proofs.Efforts.{give_spends, scan_over_less}
 

@@ -13,7 +13,7 @@ use Rattle.rv_jscan.specs.Joint.{CanMake}
 use Rattle.rv_jscan.specs.Lanes.{IsOwn, LaneFits, Laned, leaf_once}
 use Rattle.rv_jscan.specs.Pieces.{Pieced}
 use Rattle.rv_jscan.specs.Steps.{leaf_counted}
-use Rattle.rv_union.specs.Given.{Awaits, TakesLeaf, awaited, count_read, holding, next_id, piece_read, reads_leaf, with_lane}
+use Rattle.rv_union.specs.Given.{Awaits, TakesLeaf, awaited, count_read, holding, next_id, piece_read, with_lane}
 use Rattle.rv_union.specs.Opened.{Steady}
 use Rattle.rv_union.specs.Unioned.{UnionFits, Unioned, SameUnion, present, scanning, rest}
 use Rattle.rv_union.specs.Runs.{Tells}
