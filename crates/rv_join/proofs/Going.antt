@@ -51,3 +51,7 @@ spends_then r shown c d old mid new spends same one = subst (λ (v : Stacked). I
 
 pub fetches_then : (shown : Shown) (c d : Counts) (old mid new : Planned) → (IsAlone old → Fetches shown c d old.stack.at.here mid.stack.at.here) → new.stack ≡ mid.stack → IsAlone old → Fetches shown c d old.stack.at.here new.stack.at.here
 fetches_then shown c d old mid new fetches same one = subst (λ (v : Stacked). Fetches shown c d old.stack.at.here v.at.here) (sym same) (fetches one)
+
+pub fetches_if : {X E : Type 0} (r : Result X E) (shown : Shown) (c d : Counts) (old mid new : Planned) → (IsAlone old → Fetches shown c d old.stack.at.here mid.stack.at.here) → new.stack ≡ mid.stack → IsAlone old → OnOk r (Fetches shown c d old.stack.at.here new.stack.at.here)
+fetches_if (Ok x) shown c d old mid new fetches same one = fetches_then shown c d old mid new fetches same one
+fetches_if (Err e) shown c d old mid new fetches same one = tt

@@ -7,6 +7,7 @@ pub mod Stacking
 pub mod Product
 pub mod Catching
 pub mod Calls
+pub mod Collecting
 pub mod Planning
 pub mod Binding
 pub mod Running

@@ -290,16 +290,24 @@ given_less (Err e) shown old new less = tt
 
 -- Plans.
 
-pub given_spends : (m : PlanStep) (had has : List Offer) → Gives m had has → (c : Counts) (n : ℕ) → PlanSpends m c c n n
-given_spends (Row o) had has gives c n = (omega arith, omega arith)
-given_spends PlanEnd had has gives c n = (omega arith, omega arith)
-given_spends PlanWorking had has gives c n = absurd (cc)
+one_given : (m : PlanStep) (had has : List Offer) → Gives m had has → (c : Counts) (n : ℕ) → PlanSpends m c c n n
+one_given (Row o) had has gives c n = (omega arith, omega arith)
+one_given PlanEnd had has gives c n = (omega arith, omega arith)
+one_given PlanWorking had has gives c n = absurd (cc)
+
+pub given_spends : {E : Type 0} (r : Result PlanStep E) (had has : List Offer) → IfOk r (λ m. Gives m had has) → (c : Counts) (n : ℕ) → IfOk r (λ m. PlanSpends m c c n n)
+given_spends (Ok m) had has gives c n = one_given m had has gives c n
+given_spends (Err e) had has gives c n = tt
 
 -- all are gathered, and the first is given
-pub all_spends : (m : PlanStep) (had has : List Offer) (c d : Counts) (old new : ℕ) → Gives m had has → Spends c d old new × (new ≤ old) → PlanSpends m c d old new
-all_spends (Row o) had has c d old new gives spends = spends
-all_spends PlanEnd had has c d old new gives spends = spends
-all_spends PlanWorking had has c d old new gives spends = absurd (cc)
+one_spends : (m : PlanStep) (had has : List Offer) (c d : Counts) (old new : ℕ) → Gives m had has → Spends c d old new × (new ≤ old) → PlanSpends m c d old new
+one_spends (Row o) had has c d old new gives spends = spends
+one_spends PlanEnd had has c d old new gives spends = spends
+one_spends PlanWorking had has c d old new gives spends = absurd (cc)
+
+pub all_spends : {E : Type 0} (r : Result PlanStep E) (had has : List Offer) (c d : Counts) (old new : ℕ) → IfOk r (λ m. Gives m had has) → Spends c d old new × (new ≤ old) → IfOk r (λ m. PlanSpends m c d old new)
+all_spends (Ok m) had has c d old new gives spends = one_spends m had has c d old new gives spends
+all_spends (Err e) had has c d old new gives spends = tt
 
 -- At opening.
 

@@ -1,5 +1,5 @@
 -- Plans: each step keeps what it keeps, and does to the rest what it answers.
-use Rattle.std.proofs.Common.{◌≡◌, ◌+◌, ◌<◌, ◌≤◌, List, [], ◌∷◌, ◌++◌, true, false, reverse, refl, ap, sym, ◌∙◌, arith, subst, suc, slice_index_or}
+use Rattle.std.proofs.Common.{◌≡◌, ◌+◌, ◌<◌, ◌≤◌, List, [], ◌∷◌, ◌++◌, true, false, reverse, Result, Ok, Err, IfOk, OnErr, refl, ap, sym, ◌∙◌, arith, subst, suc, slice_index_or}
 use Rattle.std.specs.Cmp.{IsStrictWeakOrder}
 use Rattle.std.specs.List.Sorted.{IsPermutation, IsSortedBy}
 use Rattle.std.proofs.lemmas.List.Sorted.{IsPermutation-refl, IsPermutation-append, IsPermutation-append_right, IsPermutation-middle, IsPermutation-trans, IsPermutation-sym, IsPermutation-reverse, ranks_by, sorted_far}
@@ -63,17 +63,8 @@ found_good shown Moving old new holds stage moves same = found_holds shown old n
 
 -- Gathering.
 
-pub pushed : {A : Type 0} (xs ys : List A) (o : A) (v : List A) → ys ≡ xs ++ o ∷ [] → v ≡ reverse xs → reverse ys ≡ o ∷ v
-pushed xs ys o v is value = rw (is, value) (reverse-append xs (o ∷ []))
-
-pub sorted_value : {A : Type 0} (xs ys zs v : List A) → v ≡ reverse xs → IsPermutation xs ys → zs ≡ reverse ys → IsPermutation v (reverse zs)
-sorted_value xs ys zs v value p is = rw (value, is) (IsPermutation-trans _ _ _ (IsPermutation-sym _ _ (IsPermutation-reverse xs)) (IsPermutation-trans _ _ _ p (IsPermutation-trans _ _ _ (IsPermutation-reverse ys) (IsPermutation-reverse (reverse ys)))))
-
 pub reversed : {A : Type 0} (xs ys : List A) → IsPermutation xs ys → IsPermutation (reverse xs) (reverse ys)
 reversed xs ys p = IsPermutation-trans _ _ _ (IsPermutation-sym _ _ (IsPermutation-reverse xs)) (IsPermutation-trans _ _ _ p (IsPermutation-reverse ys))
-
-pub reversed_value : {A : Type 0} (xs ys v : List A) → v ≡ reverse xs → IsPermutation xs ys → IsPermutation v (reverse ys)
-reversed_value xs ys v value p = rw value (reversed xs ys p)
 
 pub gathered_more : (a : Asked) (shown : Shown) (o : Offer) (old new : Stacked) (had has : List Offer) → Takes a shown o old new → has ≡ o ∷ had → GathersMore a shown old had new has
 gathered_more a shown o old new had has takes is = rw is (record {
@@ -148,6 +139,19 @@ given_good shown m old new holds stage gives same = rw same (record {
     up End gives = subst (λ l. IsSortedBy before l) (gives.0 ∙ sym gives.1) (holds.sorted stage)
     up Working gives = no_way gives
 
+-- an offer is given, or no memory was found for it
+pub given_step : {E : Type 0} (r : Result PlanStep E) (shown : Shown) (old new : Planned) → HoldsGood shown old → old.stage ≡ Giving → IfOk r (λ m. Gives m old.gathered new.gathered) → new ≡ record old { gathered = new.gathered } → IfOk r (λ m. PlanMoves shown m old new)
+given_step (Ok m) shown old new holds stage gives same = given_moves shown m old new holds stage gives same
+given_step (Err e) shown old new holds stage gives same = tt
+
+pub given_fits : {E : Type 0} (r : Result PlanStep E) (shown : Shown) (old new : Planned) → HoldsGood shown old → old.stage ≡ Giving → IfOk r (λ m. Gives m old.gathered new.gathered) → OnErr r (new ≡ old) → new ≡ record old { gathered = new.gathered } → HoldsGood shown new
+given_fits (Ok m) shown old new holds stage gives err same = given_good shown m old new holds stage gives same
+given_fits (Err e) shown old new holds stage gives err same = subst (HoldsGood shown) (sym err) holds
+
+pub not_given : {E : Type 0} (r : Result PlanStep E) (shown : Shown) (old new : Planned) → OnErr r (new ≡ old) → OnErr r (PlanKept shown old new)
+not_given (Ok m) shown old new err = tt
+not_given (Err e) shown old new err = rw err (record { asked = refl; rest_kept = IsPermutation-refl _; work = same_le (loops_work old.asked shown old.stack) })
+
 -- all is gathered and sorted
 pub sorted_good : (shown : Shown) (old mid new : Planned) → HoldsGood shown old → old.stage ≡ Gathering → GathersAll old.asked shown old.stack old.gathered mid.stack mid.gathered → mid ≡ record old { stack = mid.stack; gathered = mid.gathered } → Sorts mid new → HoldsGood shown new
 sorted_good shown old mid new holds stage all gathered sorts = rw (sorts.same, gathered) (record {
@@ -189,3 +193,15 @@ all_moves shown m old mid sorted new holds stage all gathered sorts gives same =
     stepped (Row o) step = record { out = rw old_is (IsPermutation-trans _ _ _ moved (rw sorted_is at step.out)); least = step.least }
     stepped End step = (rw old_is (none_before _ (subst (λ l. IsPermutation old.gathered l) (sym sorted_is ∙ step.0) moved)), step.1)
     stepped Working step = rw old_is (IsPermutation-trans _ _ _ moved (rw sorted_is at step))
+
+pub all_step : {E : Type 0} (r : Result PlanStep E) (shown : Shown) (old mid sorted new : Planned) → HoldsGood shown old → old.stage ≡ Gathering → GathersAll old.asked shown old.stack old.gathered mid.stack mid.gathered → mid ≡ record old { stack = mid.stack; gathered = mid.gathered } → Sorts mid sorted → IfOk r (λ m. Gives m sorted.gathered new.gathered) → new ≡ record sorted { gathered = new.gathered } → IfOk r (λ m. PlanMoves shown m old new)
+all_step (Ok m) shown old mid sorted new holds stage all gathered sorts gives same = all_moves shown m old mid sorted new holds stage all gathered sorts gives same
+all_step (Err e) shown old mid sorted new holds stage all gathered sorts gives same = tt
+
+-- all is sorted, and no memory was found to give the first
+pub all_failed : {E : Type 0} (r : Result PlanStep E) (shown : Shown) (old mid sorted new : Planned) → old.stage ≡ Gathering → GathersAll old.asked shown old.stack old.gathered mid.stack mid.gathered → mid ≡ record old { stack = mid.stack; gathered = mid.gathered } → Sorts mid sorted → OnErr r (new ≡ sorted) → OnErr r (PlanKept shown old new)
+all_failed (Ok m) shown old mid sorted new stage all gathered sorts err = tt
+all_failed (Err e) shown old mid sorted new stage all gathered sorts err = rw (err, sorts.same, gathered) (record { asked = refl; rest_kept = rw old_is (rw (← all.offers) sorts.moved); work = all.kept.work })
+  where
+    old_is : plan_rest shown old ≡ old.gathered
+    old_is = rw (stage, all.none) (append_nil old.gathered)

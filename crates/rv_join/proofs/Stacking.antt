@@ -1,5 +1,5 @@
 -- Each change of the open levels keeps the bag, but for an offer that is given.
-use Rattle.std.proofs.Common.{◌≡◌, ℕ, ◌+◌, ◌<◌, List, [], ◌∷◌, ◌++◌, length, map, true, Option, Some, None, IsSome, Result, Ok, Err, IfOk, OnErr, refl, ap, sym, ◌∙◌, arith, subst, suc}
+use Rattle.std.proofs.Common.{◌≡◌, ℕ, ◌+◌, ◌<◌, List, [], ◌∷◌, ◌++◌, length, map, true, Option, Some, None, IsSome, Result, Ok, Err, IfOk, OnOk, OnErr, refl, ap, sym, ◌∙◌, arith, subst, suc}
 use Rattle.std.specs.List.{flat_map}
 use Rattle.std.specs.List.Sorted.{IsPermutation}
 use Rattle.std.proofs.lemmas.Bool.Decides.{nat_tests}
@@ -149,6 +149,10 @@ kept_then a shown Moving old mid new kept moves = (kept_kept a shown old mid new
 pub kept_then_if : {E : Type 0} (a : Asked) (shown : Shown) (r : Result Moved E) (old mid new : Stacked) → Kept a shown old mid → IfOk r (λ m. Moves a shown m mid new) → IfOk r (λ m. Moves a shown m old new)
 kept_then_if a shown (Ok m) old mid new kept moves = kept_then a shown m old mid new kept moves
 kept_then_if a shown (Err e) old mid new kept moves = moves
+
+pub kept_if : {X E : Type 0} (r : Result X E) (P : Type 0) → P → OnOk r P
+kept_if (Ok x) P p = p
+kept_if (Err e) P p = tt
 
 pub kept_if_not : {X E : Type 0} (r : Result X E) (P : Type 0) → P → OnErr r P
 kept_if_not (Ok x) P p = tt

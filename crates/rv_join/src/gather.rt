@@ -1,23 +1,23 @@
 //! Offers that are gathered, sorted, and given in order.
-ghost use Rattle.std.specs.Prelude.{◌≡◌, ◌<◌, List, [], ◌∷◌, ◌++◌, length, reverse, IfOk, OnOk, OnErr};
+ghost use Rattle.std.specs.Prelude.{◌≡◌, [], ◌∷◌, length, IfOk, OnOk, OnErr};
 ghost use Rattle.std.specs.List.Sorted.{IsPermutation, IsSortedBy};
-ghost use Rattle.rv_value.specs.Order.{values_cmp};
 ghost use Rattle.rv_join.specs.Alone.{Fetches, GatherSpends, StackAsks, StepsOnce, level_effort};
 ghost use Rattle.rv_join.specs.Asking.{CanRun};
 ghost use Rattle.rv_access.specs.Accesses.{SamePlans};
+ghost use Rattle.rv_join.specs.Collected.{widths_of};
 ghost use Rattle.rv_join.specs.Levels.{StackFits, first_of};
 ghost use Rattle.rv_join.specs.Moves.{Kept, Rises};
 ghost use Rattle.rv_join.specs.Order.{before};
 ghost use Rattle.rv_join.specs.Plans.{Gathers, Taken};
 
+use crate::kept::{Widths, keep, sort, take, widths_of};
 use crate::places::Asked;
 use crate::stack::{Moved, Stack};
 use rv_judge::{Judge, Steps};
 use rv_model::Offer;
 use rv_reader::Reader;
-use rv_value::{NoMemory, cmp_values};
+use rv_value::{NoMemory, Value};
 use std::alloc::Global;
-use std::cmp::Ordering;
 use std::marker::Model;
 
 /// How a plan's offers come.
@@ -31,56 +31,39 @@ pub enum Stage {
     Giving,
 }
 
-/// Offers gathered, those to be given later in front.
+/// Offers gathered: their values one behind another, and where those of each begin, the first offer's last.
 #[derive(Drop)]
 pub struct Gathered {
-    offers: Vec<Offer>,
+    widths: Widths,
+    values: Vec<Value>,
+    starts: Vec<usize>,
 }
 
 impl Model for Gathered {
-    ghost use Rattle.std.specs.Prelude.{List, reverse};
-    ghost use Rattle.rv_model.specs.declared.state.Offer.{Offer};
+    ghost use Rattle.rv_join.specs.Collected.{AreKept, Collected, offers_at};
 
-    ghost Value = { List Offer };
+    ghost Value = { Collected };
 
-    ghost view = { λ g. reverse g.offers.items };
-}
+    ghost view = { λ g. record { widths = g.widths; offers = offers_at g.widths g.values.items g.starts.items } };
 
-/// By the order values alone.
-fn order_of(a: &Offer, b: &Offer) -> Ordering
-    ensures { result ≡ values_cmp a.now.order b.now.order }
-{
-    cmp_values(a.order.as_slice(), b.order.as_slice())
-}
-
-/// Sorted by the order values; those of equal ones stay in the order in which they came.
-fn sort_offers(offers: &mut Vec<Offer>) -> Result<(), NoMemory>
-    ensures same { IsPermutation offers.old.items offers.new.items }
-    ensures sorted { OnOk result (IsSortedBy before offers.new.items) }
-{
-    offers.sort_by(|a, b| order_of(a, b))?;
-    Ok(())
-}
-
-fn turn(offers: &mut Vec<Offer>)
-    ensures { offers.new.items ≡ reverse offers.old.items }
-{
-    offers.as_mut_slice().reverse();
+    ghost invariant = { λ g. AreKept g.widths g.values.items g.starts.items };
 }
 
 impl Gathered {
-    /// No offers.
-    pub fn new(alloc: Global) -> Gathered
-        ensures { result ≡ [] }
+    /// No offers of a plan.
+    pub fn new(alloc: Global, asked: &Asked) -> Gathered
+        ensures { result ≡ record { widths = widths_of asked.now; offers = [] } }
     {
         Gathered {
-            offers: Vec::new(alloc),
+            widths: widths_of(asked),
+            values: Vec::new(alloc),
+            starts: Vec::new(alloc),
         }
     }
 
     /// One step of nested loops, whose combination, if it gives one, is put to those gathered. The answer is whether all
     /// are gathered.
-    #[tactic(auto, using(crate::proofs::Planning::gathered_more, crate::proofs::Planning::moving_more, crate::proofs::OneItem::no_call, rv_access::proofs::Accesses::plans_stay))]
+    #[tactic(auto, using(crate::proofs::Planning::gathered_more, crate::proofs::Planning::moving_more, crate::proofs::OneItem::no_call, crate::proofs::Collecting::kept_same, rv_access::proofs::Accesses::plans_stay))]
     pub fn gather<R: Reader>(
         &mut self,
         alloc: Global,
@@ -92,7 +75,8 @@ impl Gathered {
     ) -> Result<bool, NoMemory>
         requires can { CanRun asked.now (R.shown reader.now) }
         requires fits { StackFits asked.now (R.shown reader.now) stack.old }
-        ensures gathers { IfOk result (λ all. Gathers all asked.now (R.shown reader.now) stack.old self.old stack.new self.new) }
+        requires widths { self.old.widths ≡ widths_of asked.now }
+        ensures gathers { IfOk result (λ all. Gathers all asked.now (R.shown reader.now) stack.old self.old.offers stack.new self.new.offers) }
         ensures alone { length asked.now.items ≡ 1 → Rises (first_of stack.old).here (first_of stack.new).here steps.old steps.new }
         ensures stays { would judge.new ≡ would judge.old }
         ensures asks { StackAsks (would judge.old) (state judge.old) (state judge.new) (R.shown reader.now) steps.old stack.old stack.new }
@@ -100,13 +84,16 @@ impl Gathered {
         ensures spends { length asked.now.items ≡ 1 → IfOk result (λ all. GatherSpends all steps.old steps.new (level_effort (R.shown reader.now) stack.old.at) (level_effort (R.shown reader.now) stack.new.at)) }
         ensures fetches { length asked.now.items ≡ 1 → OnOk result (Fetches (R.shown reader.now) steps.old steps.new stack.old.at.here stack.new.at.here) }
         ensures plans { SamePlans (first_of stack.old).here (first_of stack.new).here }
+        ensures widths { self.new.widths ≡ self.old.widths }
         ensures kept { OnErr result (Kept asked.now (R.shown reader.now) stack.old stack.new) }
         ensures same { OnErr result (self.new ≡ self.old) }
     {
-        self.offers.reserve(1)?;
+        let widths = self.widths;
+        self.values.reserve(widths.order + widths.returned)?;
+        self.starts.reserve(1)?;
         match stack.advance(alloc, asked, reader, judge, steps)? {
             Moved::Gave(offer) => {
-                self.offers.push(offer).unwrap();
+                keep(widths, &mut self.values, &mut self.starts, offer);
                 Ok(false)
             }
             Moved::Moving => Ok(false),
@@ -115,20 +102,20 @@ impl Gathered {
     }
 
     /// Sorts all that is gathered.
-    #[tactic(auto, using(crate::proofs::Planning::sorted_value))]
     pub fn sort(&mut self) -> Result<(), NoMemory>
-        ensures same { IsPermutation self.old self.new }
-        ensures sorted { OnOk result (IsSortedBy before self.new) }
+        ensures same { IsPermutation self.old.offers self.new.offers }
+        ensures sorted { OnOk result (IsSortedBy before self.new.offers) }
+        ensures widths { self.new.widths ≡ self.old.widths }
     {
-        sort_offers(&mut self.offers)?;
-        turn(&mut self.offers);
-        Ok(())
+        sort(self.widths, self.values.as_slice(), &mut self.starts)
     }
 
     /// Takes the first offer.
-    pub fn take(&mut self) -> Option<Offer>
-        ensures { Taken result self.old self.new }
+    pub fn take(&mut self, alloc: Global) -> Result<Option<Offer>, NoMemory>
+        ensures taken { IfOk result (λ offer. Taken offer self.old.offers self.new.offers) }
+        ensures widths { self.new.widths ≡ self.old.widths }
+        ensures err { OnErr result (self.new ≡ self.old) }
     {
-        self.offers.pop()
+        take(alloc, self.widths, self.values.as_slice(), &mut self.starts)
     }
 }

@@ -3,6 +3,7 @@
 #![tactic(auto)]
 
 mod gather;
+mod kept;
 mod level;
 mod places;
 mod plan;

@@ -60,7 +60,12 @@ impl Model for Plan {
 
     ghost Value = { Planned };
 
-    ghost view = { λ p. record { asked = p.asked; stack = p.stack; gathered = p.gathered; stage = p.stage; reads = p.reads } };
+    ghost view = { λ p. record { asked = p.asked; stack = p.stack; gathered = p.gathered.offers; stage = p.stage; reads = p.reads } };
+
+    ghost use Rattle.std.specs.Prelude.{◌≡◌};
+    ghost use Rattle.rv_join.specs.Collected.{widths_of};
+
+    ghost invariant = { λ p. p.gathered.widths ≡ widths_of p.asked };
 }
 
 /// The counts of a trace.
@@ -123,11 +128,12 @@ impl Plan {
         let asked = ask(alloc, select, indexes, snap, cursor, race)?;
         let stack = open(alloc, reader, &asked, steps)?;
         let reads = reads_of(&stack.first_trace());
+        let gathered = Gathered::new(alloc, &asked);
         Ok(Plan {
             alloc,
             asked,
             stack,
-            gathered: Gathered::new(alloc),
+            gathered,
             stage,
             reads,
         })
@@ -259,13 +265,14 @@ impl Plan {
     }
 
     /// Gives the next of the offers that are sorted.
-    pub(crate) fn give_next(&mut self) -> PlanStep
-        ensures given { Gives result self.old.gathered self.new.gathered }
+    pub(crate) fn give_next(&mut self) -> Result<PlanStep, NoMemory>
+        ensures given { IfOk result (λ m. Gives m self.old.gathered self.new.gathered) }
         ensures same { self.new ≡ record self.old { gathered = self.new.gathered } }
+        ensures err { OnErr result (self.new ≡ self.old) }
     {
-        match self.gathered.take() {
-            Some(offer) => PlanStep::Row(offer),
-            None => PlanStep::End,
+        match self.gathered.take(self.alloc)? {
+            Some(offer) => Ok(PlanStep::Row(offer)),
+            None => Ok(PlanStep::End),
         }
     }
 

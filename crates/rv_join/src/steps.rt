@@ -57,7 +57,7 @@ impl Plan {
     }
 
     /// A step where all offers are gathered first. At the last one they are sorted, and the first is given.
-    #[tactic(auto, using(crate::proofs::Planning::gather_moves, crate::proofs::Planning::gather_good, crate::proofs::Planning::gather_kept, crate::proofs::Planning::all_moves))]
+    #[tactic(auto, using(crate::proofs::Planning::gather_moves, crate::proofs::Planning::gather_good, crate::proofs::Planning::gather_kept, crate::proofs::Planning::all_step, crate::proofs::OneItem::all_spends))]
     fn gather_step<R: Reader>(
         &mut self,
         reader: &R,
@@ -80,20 +80,21 @@ impl Plan {
     {
         if self.gather(reader, judge, steps)? {
             self.sort()?;
-            Ok(self.give_next())
+            self.give_next()
         } else {
             Ok(PlanStep::Working)
         }
     }
 
     /// A step where the offers are sorted.
-    #[tactic(auto, using(crate::proofs::Planning::given_moves, crate::proofs::Planning::given_good, crate::proofs::OneItem::given_spends))]
-    fn give_step(&mut self) -> PlanStep
+    #[tactic(auto, using(crate::proofs::Planning::given_step, crate::proofs::OneItem::given_spends))]
+    fn give_step(&mut self) -> Result<PlanStep, NoMemory>
         requires stage { self.old.stage ≡ Stage.Giving }
-        ensures step { (shown : Shown) → HoldsGood shown self.old → PlanMoves shown result self.old self.new }
+        ensures step { (shown : Shown) → HoldsGood shown self.old → IfOk result (λ m. PlanMoves shown m self.old self.new) }
         ensures holds { (shown : Shown) → HoldsGood shown self.old → HoldsGood shown self.new }
-        ensures spends { (c : TheCounts) (n : ℕ) → PlanSpends result c c n n }
+        ensures spends { (c : TheCounts) (n : ℕ) → IfOk result (λ m. PlanSpends m c c n n) }
         ensures same { self.new ≡ record self.old { gathered = self.new.gathered } }
+        ensures err { OnErr result (self.new ≡ self.old) }
     {
         self.give_next()
     }
@@ -120,7 +121,7 @@ impl Plan {
         match self.stage() {
             Stage::AsFound => self.found_step(reader, judge, steps),
             Stage::Gathering => self.gather_step(reader, judge, steps),
-            Stage::Giving => Ok(self.give_step()),
+            Stage::Giving => self.give_step(),
         }
     }
 

@@ -104,3 +104,6 @@ returns-in-Ended-clause-fetches g c = λ one. (let same = alone_ended c.args.ask
 
 pub returns-in-Ready-clause-fetches : goal.returns-in-Ready-clause-fetches
 returns-in-Ready-clause-fetches g c = λ one. uses_fetches c.use_row.result (g.R.Reader.shown c.args.reader.now) c.args.steps.now c.ready.new.steps c.use_row.new.steps c.args.self.now.at.here c.ready.new.self c.use_row.new.self (c.use_row.ensures.used one) (c.use_row.ensures.alone one).1 c.in_ok-ready.ensures.fetches
+
+pub returns-in-Ended-clause-wide : goal.returns-in-Ended-clause-wide
+returns-in-Ended-clause-wide g c = c.end.ensures.wide c.args.asked.now
