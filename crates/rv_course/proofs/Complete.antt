@@ -1,6 +1,7 @@
 -- The events of a run are read.
-use Rattle.std.proofs.Common.{◌≡◌, ℕ, List, [], ◌∷◌, ◌++◌, Bool, true, false, ◌||◌, refl, sym, ap, ◌∙◌, subst, Option, Some, None, nat_lt}
+use Rattle.std.proofs.Common.{◌≡◌, ℕ, List, [], ◌∷◌, ◌++◌, Bool, true, false, refl, sym, ap, ◌∙◌, subst, Option, Some, None, nat_lt}
 use Rattle.std.specs.Prelude.{if◌then◌else◌, is_some}
+use Rattle.std.proofs.lemmas.Bool.{and_from, or_left, or_right}
 use Rattle.rv_judge.specs.declared.events.Strategy.{Strategy}
 use Rattle.rv_judge.specs.declared.events.Control.{Control}
 use Rattle.rv_judge.specs.declared.events.Event.{Event}
@@ -11,7 +12,7 @@ use Rattle.rv_judge.specs.declared.events.Happening.TheVariants.{ScanEnded, Rule
 use Rattle.rv_judge.specs.Course.{has_row, next_control, scan_over_more}
 use Rattle.rv_judge.specs.Runs.{IsRun, MayCome, Standing, Turn, after, events_of, is_more, led_events, listed_after, moved, own_events, run_events, scans}
 use Rattle.rv_course.specs.Reading.{begun_by, leads, leads_to, listed_by, may_narrow, reads}
-use Rattle.rv_course.proofs.Controls.{both, changes, continue_none, dropped_on, ended_on, no_way, same_number, same_self}
+use Rattle.rv_course.proofs.Controls.{changes, continue_none, dropped_on, ended_on, no_way, same_number, same_self}
 use Rattle.rv_course.proofs.Sound.{goes_to, led_at, standing}
 
 -- events are read from here on, and the scans that they begin are the next that are planned
@@ -23,15 +24,7 @@ pub record Read (s : Strategy) (from : Standing) (es : List Event) : Type 0 wher
 -- A happening that leads to another control.
 
 leads_next : (s : Strategy) (c : Control) (h : Happening) → scan_over_more h ≡ false → has_row s c h ≡ true → leads s c h (next_control s c h) ≡ true
-leads_next s c h over row = both _ _ (same_self (next_control s c h)) (changes s c h over row)
-
-or_left : (a b : Bool) → a ≡ true → (a || b) ≡ true
-or_left true b h = refl
-or_left false b h = no_way (sym h)
-
-or_right : (a b : Bool) → b ≡ true → (a || b) ≡ true
-or_right true b h = refl
-or_right false b h = h
+leads_next s c h over row = and_from _ _ (same_self (next_control s c h)) (changes s c h over row)
 
 -- where a happening with a row, that begins no further scan, leads
 moved_is : (s : Strategy) (c : Control) (scan : Option ℕ) (ahead : List ℕ) (listed : Option ℕ) (h : Happening) (keys : ℕ) → scan_over_more h ≡ false → moved (standing c scan ahead listed) (next_control s c h) h keys ≡ standing (next_control s c h) (if scans (next_control s c h) then scan else None) ahead (listed_after h keys listed)
@@ -44,10 +37,10 @@ IsOwn (Scan i) = ⊥
 IsOwn e = Unit {0}
 
 read_to : (s : Strategy) (c to : Control) (scan : Option ℕ) (ahead : List ℕ) (listed : Option ℕ) (own : Event) (es : List Event) → IsOwn own → leads_to s (record { control = c; scan = scan; listed = listed; own = Some own }) own to ≡ true → Read s (standing to (if scans to then scan else None) ahead (listed_by (Some own) listed)) es → Read s (standing c scan ahead listed) (own ∷ At to ∷ es)
-read_to s c to scan ahead listed (ListOf i keys) es is l r = record { read = both _ _ l r.read; behind = r.behind; ahead = r.ahead }
-read_to s c to scan ahead listed (Drop i) es is l r = record { read = both _ _ l r.read; behind = r.behind; ahead = r.ahead }
-read_to s c to scan ahead listed FullEvent es is l r = record { read = both _ _ l r.read; behind = r.behind; ahead = r.ahead }
-read_to s c to scan ahead listed Stop es is l r = record { read = both _ _ l r.read; behind = r.behind; ahead = r.ahead }
+read_to s c to scan ahead listed (ListOf i keys) es is l r = record { read = and_from _ _ l r.read; behind = r.behind; ahead = r.ahead }
+read_to s c to scan ahead listed (Drop i) es is l r = record { read = and_from _ _ l r.read; behind = r.behind; ahead = r.ahead }
+read_to s c to scan ahead listed FullEvent es is l r = record { read = and_from _ _ l r.read; behind = r.behind; ahead = r.ahead }
+read_to s c to scan ahead listed Stop es is l r = record { read = and_from _ _ l r.read; behind = r.behind; ahead = r.ahead }
 read_to s c to scan ahead listed (At d) es is l r = absurd is
 read_to s c to scan ahead listed (Scan i) es is l r = absurd is
 
@@ -56,26 +49,26 @@ abbrev Behind : Strategy → Control → Option ℕ → List ℕ → Option ℕ 
 Behind s c scan ahead listed h keys es = Read s (standing (next_control s c h) (if scans (next_control s c h) then scan else None) ahead (listed_after h keys listed)) es
 
 front_read : (s : Strategy) (c : Control) (scan : Option ℕ) (ahead : List ℕ) (listed : Option ℕ) (es : List Event) → has_row s c FrontEnded ≡ true → Behind s c scan ahead listed FrontEnded 0 es → Read s (standing c scan ahead listed) (At (next_control s c FrontEnded) ∷ es)
-front_read s c scan ahead listed es row r = record { read = both _ _ (or_left _ _ (leads_next s c FrontEnded refl row)) r.read; behind = r.behind; ahead = r.ahead }
+front_read s c scan ahead listed es row r = record { read = and_from _ _ (or_left _ _ (leads_next s c FrontEnded refl row)) r.read; behind = r.behind; ahead = r.ahead }
 
 final_read : (s : Strategy) (c : Control) (scan : Option ℕ) (ahead : List ℕ) (listed : Option ℕ) (es : List Event) → has_row s c FinalEnded ≡ true → Behind s c scan ahead listed FinalEnded 0 es → Read s (standing c scan ahead listed) (At (next_control s c FinalEnded) ∷ es)
-final_read s c scan ahead listed es row r = record { read = both _ _ (or_right _ _ (leads_next s c FinalEnded refl row)) r.read; behind = r.behind; ahead = r.ahead }
+final_read s c scan ahead listed es row r = record { read = and_from _ _ (or_right _ _ (leads_next s c FinalEnded refl row)) r.read; behind = r.behind; ahead = r.ahead }
 
 full_read : (s : Strategy) (c : Control) (scan : Option ℕ) (ahead : List ℕ) (listed : Option ℕ) (es : List Event) → has_row s c Full ≡ true → Behind s c scan ahead listed Full 0 es → Read s (standing c scan ahead listed) (FullEvent ∷ At (next_control s c Full) ∷ es)
 full_read s c scan ahead listed es row r = read_to s c (next_control s c Full) scan ahead listed FullEvent es tt (leads_next s c Full refl row) r
 
 listed_read : (s : Strategy) (c : Control) (i : ℕ) (ahead : List ℕ) (listed : Option ℕ) (keys : ℕ) (es : List Event) → has_row s c (ScanEnded false true) ≡ true → Behind s c (Some i) ahead listed (ScanEnded false true) keys es → Read s (standing c (Some i) ahead listed) (ListOf i keys ∷ At (next_control s c (ScanEnded false true)) ∷ es)
-listed_read s c i ahead listed keys es row r = read_to s c (next_control s c (ScanEnded false true)) (Some i) ahead listed (ListOf i keys) es tt (both _ _ (same_number i) (leads_next s c (ScanEnded false true) refl row)) r
+listed_read s c i ahead listed keys es row r = read_to s c (next_control s c (ScanEnded false true)) (Some i) ahead listed (ListOf i keys) es tt (and_from _ _ (same_number i) (leads_next s c (ScanEnded false true) refl row)) r
 
 dropped_read : (s : Strategy) (c : Control) (i : ℕ) (ahead : List ℕ) (listed : Option ℕ) (es : List Event) (l : Bool) → l ≡ is_some listed → has_row s c (Ruled AbandonScan false l) ≡ true → Behind s c (Some i) ahead listed (Ruled AbandonScan false l) 0 es → Read s (standing c (Some i) ahead listed) (Drop i ∷ At (next_control s c (Ruled AbandonScan false l)) ∷ es)
 dropped_read s c i ahead listed es l is row r =
     read_to s c (next_control s c (Ruled AbandonScan false l)) (Some i) ahead listed (Drop i) es tt
-    (both _ _ (same_number i) (or_left _ _ (subst (λ (b : Bool). leads s c (Ruled AbandonScan false b) (next_control s c (Ruled AbandonScan false l)) ≡ true) is (leads_next s c (Ruled AbandonScan false l) refl row)))) r
+    (and_from _ _ (same_number i) (or_left _ _ (subst (λ (b : Bool). leads s c (Ruled AbandonScan false b) (next_control s c (Ruled AbandonScan false l)) ≡ true) is (leads_next s c (Ruled AbandonScan false l) refl row)))) r
 
 given_up_read : (s : Strategy) (c : Control) (i : ℕ) (ahead : List ℕ) (listed : Option ℕ) (es : List Event) (m l : Bool) → l ≡ is_some listed → has_row s c (Ruled AbandonBackground m l) ≡ true → Behind s c (Some i) ahead listed (Ruled AbandonBackground m l) 0 es → Read s (standing c (Some i) ahead listed) (Drop i ∷ At (next_control s c (Ruled AbandonBackground m l)) ∷ es)
 given_up_read s c i ahead listed es m l is row r =
     read_to s c (next_control s c (Ruled AbandonBackground m l)) (Some i) ahead listed (Drop i) es tt
-    (both _ _ (same_number i) (or_right _ _ (subst (λ (b : Bool). leads s c (Ruled AbandonBackground false b) (next_control s c (Ruled AbandonBackground m l)) ≡ true) is (leads_next s c (Ruled AbandonBackground m l) refl row)))) r
+    (and_from _ _ (same_number i) (or_right _ _ (subst (λ (b : Bool). leads s c (Ruled AbandonBackground false b) (next_control s c (Ruled AbandonBackground m l)) ≡ true) is (leads_next s c (Ruled AbandonBackground m l) refl row)))) r
 
 stopped_read : (s : Strategy) (c : Control) (i : ℕ) (ahead : List ℕ) (listed : Option ℕ) (es : List Event) (m l : Bool) → has_row s c (Ruled AbandonForeground m l) ≡ true → Behind s c (Some i) ahead listed (Ruled AbandonForeground m l) 0 es → Read s (standing c (Some i) ahead listed) (Stop ∷ At (next_control s c (Ruled AbandonForeground m l)) ∷ es)
 stopped_read s c i ahead listed es m l row r = read_to s c (next_control s c (Ruled AbandonForeground m l)) (Some i) ahead listed Stop es tt (leads_next s c (Ruled AbandonForeground m l) refl row) r
@@ -83,14 +76,14 @@ stopped_read s c i ahead listed es m l row r = read_to s c (next_control s c (Ru
 -- A happening that leads to a further scan.
 
 listed_further : (s : Strategy) (c : Control) (i j : ℕ) (ahead : List ℕ) (listed : Option ℕ) (keys : ℕ) (es : List Event) → nat_lt 0 keys ≡ true → Read s (standing c (Some j) ahead (Some keys)) es → Read s (standing c (Some i) (j ∷ ahead) listed) (ListOf i keys ∷ Scan j ∷ es)
-listed_further s c i j ahead listed keys es some r = record { read = both _ _ (both _ _ (same_number i) some) r.read; behind = r.behind; ahead = ap (λ xs. j ∷ xs) r.ahead }
+listed_further s c i j ahead listed keys es some r = record { read = and_from _ _ (and_from _ _ (same_number i) some) r.read; behind = r.behind; ahead = ap (λ xs. j ∷ xs) r.ahead }
 
 may_more : (listed : Option ℕ) (j : ℕ) (ahead : List ℕ) → true ≡ is_more (j ∷ ahead) listed → may_narrow listed ≡ true
 may_more None j ahead m = refl
 may_more (Some keys) j ahead m = sym m
 
 dropped_further : (s : Strategy) (c : Control) (i j : ℕ) (ahead : List ℕ) (listed : Option ℕ) (es : List Event) → may_narrow listed ≡ true → Read s (standing c (Some j) ahead listed) es → Read s (standing c (Some i) (j ∷ ahead) listed) (Drop i ∷ Scan j ∷ es)
-dropped_further s c i j ahead listed es some r = record { read = both _ _ (both _ _ (same_number i) some) r.read; behind = r.behind; ahead = ap (λ xs. j ∷ xs) r.ahead }
+dropped_further s c i j ahead listed es some r = record { read = and_from _ _ (and_from _ _ (same_number i) some) r.read; behind = r.behind; ahead = ap (λ xs. j ∷ xs) r.ahead }
 
 -- A turn with a row.
 

@@ -3,6 +3,8 @@ use Rattle.std.proofs.Common.{◌≡◌, ℕ, List, [], ◌∷◌, Bool, true, f
 use Rattle.std.specs.Prelude.{if◌then◌else◌}
 use Rattle.std.specs.List.{list_all, list_any}
 use Rattle.std.proofs.lemmas.Bool.Decides.{nat_tests}
+use Rattle.std.proofs.lemmas.Bool.{eqb-true, not-true}
+use Rattle.std.specs.Cmp.{first_so, second_so}
 use Rattle.rv_judge.specs.declared.events.Strategy.{Strategy}
 use Rattle.rv_judge.specs.declared.events.Control.{Control}
 use Rattle.rv_judge.specs.declared.events.Control.TheVariants.{Building, ForegroundAlone, BackgroundAlone, FinalList, FinalTable, Done}
@@ -15,31 +17,11 @@ use Rattle.rv_course.specs.Reading.{leads, rank, same_control}
 
 -- Bools.
 
-pub left_true : (a b : Bool) → (a && b) ≡ true → a ≡ true
-left_true a b h = grind arith
-
-pub right_true : (a b : Bool) → (a && b) ≡ true → b ≡ true
-right_true a b h = grind arith
-
-pub both : (a b : Bool) → a ≡ true → b ≡ true → (a && b) ≡ true
-both a b h i = grind arith
-
-pub not_true : (b : Bool) → not b ≡ true → b ≡ false
-not_true true h = absurd (cc)
-not_true false h = refl
-
-pub true_not : (b : Bool) → b ≡ false → not b ≡ true
-true_not true h = absurd (cc)
-true_not false h = refl
-
 pub no_way : {X : Type 0} → true ≡ false → X
 no_way bad = absurd (cc)
 
 pub same_number : (n : ℕ) → nat_eq n n ≡ true
 same_number n = grind (arith, nat_tests)
-
-pub number_is : (m n : ℕ) → nat_eq m n ≡ true → m ≡ n
-number_is m n h = grind (arith, nat_tests)
 
 -- Controls are told by their ranks.
 
@@ -56,7 +38,7 @@ ranked FinalTable = refl
 ranked Done = refl
 
 pub same_is : (a b : Control) → same_control a b ≡ true → a ≡ b
-same_is a b h = sym (ranked a) ∙ (ap control_of (number_is _ _ h) ∙ ranked b)
+same_is a b h = sym (ranked a) ∙ (ap control_of (eqb-true _ _ h) ∙ ranked b)
 
 pub same_self : (c : Control) → same_control c c ≡ true
 same_self c = same_number (rank c)
@@ -72,7 +54,7 @@ stays (r ∷ rows) s c h none = pick (stands r s c h) (stays rows s c h) none
     pick false on none = on none
 
 pub leads_is : (s : Strategy) (c : Control) (h : Happening) (to : Control) → leads s c h to ≡ true → next_control s c h ≡ to
-leads_is s c h to l = same_is _ _ (left_true _ _ l)
+leads_is s c h to l = same_is _ _ (first_so _ _ l)
 
 pub leads_stands : (s : Strategy) (c : Control) (h : Happening) (to : Control) → leads s c h to ≡ true → has_row s c h ≡ true
 leads_stands s c h to l = by (has_row s c h) refl
@@ -81,7 +63,7 @@ leads_stands s c h to l = by (has_row s c h) refl
     by true e = refl
     by false e =
         let stay = sym (leads_is s c h to l) ∙ stays course s c h e in
-        let other = not_true _ (right_true _ _ l) in
+        let other = not-true _ (second_so _ _ l) in
         no_way (sym (same_self c) ∙ (ap (λ x. same_control x c) (sym stay) ∙ other))
 
 -- Where a row stands, the control changes, but for a further scan.
@@ -95,7 +77,7 @@ changing c r = not (r.at c) || not (same_control (r.next c) c)
 
 changes_by : (rows : List Row) (s : Strategy) (c : Control) (h : Happening) → list_all (changing c) rows ≡ true → list_any (λ (r : Row). stands r s c h) rows ≡ true → not (same_control (next_by rows s c h) c) ≡ true
 changes_by [] s c h all some = no_way (sym some)
-changes_by (r ∷ rows) s c h all some = pick (r.at c) (r.under s) (r.upon h) (changes_by rows s c h (right_true _ _ all)) (left_true _ _ all) some
+changes_by (r ∷ rows) s c h all some = pick (r.at c) (r.under s) (r.upon h) (changes_by rows s c h (second_so _ _ all)) (first_so _ _ all) some
   where
     pick : (at under upon : Bool) → (list_any (λ (r : Row). stands r s c h) rows ≡ true → not (same_control (next_by rows s c h) c) ≡ true) → (not at || not (same_control (r.next c) c)) ≡ true → ((at && under && upon) || list_any (λ (r : Row). stands r s c h) rows) ≡ true → not (same_control (if at && under && upon then r.next c else next_by rows s c h) c) ≡ true
     pick true true true on a some = a
@@ -122,7 +104,7 @@ silent h r = not (r.upon h)
 
 none_stands : (rows : List Row) (s : Strategy) (c : Control) (h : Happening) → list_all (silent h) rows ≡ true → list_any (λ (r : Row). stands r s c h) rows ≡ false
 none_stands [] s c h all = refl
-none_stands (r ∷ rows) s c h all = pick (r.at c) (r.under s) (r.upon h) (none_stands rows s c h (right_true _ _ all)) (left_true _ _ all)
+none_stands (r ∷ rows) s c h all = pick (r.at c) (r.under s) (r.upon h) (none_stands rows s c h (second_so _ _ all)) (first_so _ _ all)
   where
     pick : (at under upon : Bool) → list_any (λ (r : Row). stands r s c h) rows ≡ false → not upon ≡ true → ((at && under && upon) || list_any (λ (r : Row). stands r s c h) rows) ≡ false
     pick at under true none a = no_way (sym a)
@@ -175,10 +157,10 @@ ending c h r = not (r.upon h) || not (scans (r.next c))
 
 ends_by : (rows : List Row) (s : Strategy) (c : Control) (h : Happening) → list_all (ending c h) rows ≡ true → list_any (λ (r : Row). stands r s c h) rows ≡ true → scans (next_by rows s c h) ≡ false
 ends_by [] s c h all some = no_way (sym some)
-ends_by (r ∷ rows) s c h all some = pick (r.at c) (r.under s) (r.upon h) (ends_by rows s c h (right_true _ _ all)) (left_true _ _ all) some
+ends_by (r ∷ rows) s c h all some = pick (r.at c) (r.under s) (r.upon h) (ends_by rows s c h (second_so _ _ all)) (first_so _ _ all) some
   where
     pick : (at under upon : Bool) → (list_any (λ (r : Row). stands r s c h) rows ≡ true → scans (next_by rows s c h) ≡ false) → (not upon || not (scans (r.next c))) ≡ true → ((at && under && upon) || list_any (λ (r : Row). stands r s c h) rows) ≡ true → scans (if at && under && upon then r.next c else next_by rows s c h) ≡ false
-    pick true true true on a some = not_true _ a
+    pick true true true on a some = not-true _ a
     pick true true false on a some = on some
     pick true false upon on a some = on some
     pick false under upon on a some = on some

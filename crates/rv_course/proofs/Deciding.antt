@@ -2,6 +2,8 @@
 use Rattle.std.proofs.Common.{◌≡◌, ◌↔◌, ℕ, List, [], ◌∷◌, ◌++◌, Bool, true, false, not, ◌&&◌, refl, sym, ap, ◌∙◌, subst, Some, None}
 use Rattle.std.specs.Bool.{IsTrue}
 use Rattle.std.specs.List.{list_all}
+use Rattle.std.proofs.lemmas.Bool.{and_from, not-true}
+use Rattle.std.specs.Cmp.{first_so, second_so}
 use Rattle.rv_judge.specs.declared.events.Strategy.{Strategy}
 use Rattle.rv_judge.specs.declared.events.Strategy.TheVariants.{Table, BackgroundOnly, FastFirst, Sorted, IndexOnly, Union}
 use Rattle.rv_judge.specs.declared.events.Control.{Control}
@@ -11,7 +13,7 @@ use Rattle.rv_judge.specs.declared.events.Event.TheVariants.{At, Scan, List as L
 use Rattle.rv_judge.specs.Runs.{Allowed, AllowedRun, EachOnce, HasScans, IsRun, Turn, first_control, has_index, run_events, scans, start, start_events}
 use Rattle.rv_course.specs.Reading.{are_apart, begun_by, is_known, is_read, place_at, reads, reads_all, reads_at, same_control}
 use Rattle.rv_course.specs.Told.{trace_of}
-use Rattle.rv_course.proofs.Controls.{both, left_true, no_way, not_true, right_true, same_is}
+use Rattle.rv_course.proofs.Controls.{no_way, same_is}
 use Rattle.rv_course.proofs.Scanned.{apart, front_known, front_once, known, no_scans, once}
 use Rattle.rv_course.proofs.Sound.{Runs, sound, standing}
 use Rattle.rv_course.proofs.Complete.{Read, complete}
@@ -25,13 +27,13 @@ record Whole (s : Strategy) (planned : List ℕ) (es : List Event) : Type 0 wher
   pub ahead : planned ≡ begun_by es ++ behind
 
 idle_reads : (s : Strategy) (c : Control) (es : List Event) → same_control c (first_control s []) ≡ true → not (scans c) ≡ true → reads s (place_at c None) es ≡ true → reads_at s c es ≡ true
-idle_reads s c [] first none r = both _ _ (both _ _ first none) r
+idle_reads s c [] first none r = and_from _ _ (and_from _ _ first none) r
 idle_reads s c (Scan i ∷ es) first none r = no_way (sym r)
-idle_reads s c (At to ∷ es) first none r = both _ _ (both _ _ first none) r
-idle_reads s c (ListOf i keys ∷ es) first none r = both _ _ (both _ _ first none) r
-idle_reads s c (Drop i ∷ es) first none r = both _ _ (both _ _ first none) r
-idle_reads s c (FullEvent ∷ es) first none r = both _ _ (both _ _ first none) r
-idle_reads s c (Stop ∷ es) first none r = both _ _ (both _ _ first none) r
+idle_reads s c (At to ∷ es) first none r = and_from _ _ (and_from _ _ first none) r
+idle_reads s c (ListOf i keys ∷ es) first none r = and_from _ _ (and_from _ _ first none) r
+idle_reads s c (Drop i ∷ es) first none r = and_from _ _ (and_from _ _ first none) r
+idle_reads s c (FullEvent ∷ es) first none r = and_from _ _ (and_from _ _ first none) r
+idle_reads s c (Stop ∷ es) first none r = and_from _ _ (and_from _ _ first none) r
 
 opens : (s : Strategy) (planned : List ℕ) (es : List Event) → HasScans s planned → Read s (start s planned) es → Whole s planned (start_events s planned ++ es)
 opens Table planned es has r = record { read = idle_reads Table FinalTable es refl refl r.read; behind = r.behind; ahead = r.ahead }
@@ -53,7 +55,7 @@ run_reads s events indexes a =
     let w = whole s events indexes a in
     let all = subst (λ xs. list_all (λ i. has_index i indexes) xs ≡ true) w.ahead a.known in
     let each = subst EachOnce w.ahead a.once in
-    both _ _ (both _ _ (known indexes events ∙ front_known indexes (begun_by events) w.behind all) (apart events (front_once (begun_by events) w.behind each))) w.read
+    and_from _ _ (and_from _ _ (known indexes events ∙ front_known indexes (begun_by events) w.behind all) (apart events (front_once (begun_by events) w.behind each))) w.read
 
 allowed_read : (s : Strategy) (events : List Event) (indexes : List ℕ) → Allowed (trace_of s events) indexes → is_read s events indexes ≡ true
 allowed_read Table events indexes a = run_reads Table events indexes a
@@ -112,21 +114,21 @@ opened_idle IndexOnly c es first way =
 -- without a first scan
 idle_opened : (s : Strategy) (c : Control) (es : List Event) → (same_control c (first_control s []) && not (scans c) && reads s (place_at c None) es) ≡ true → Opened s (begun_by es) (At c ∷ es)
 idle_opened s c es r =
-    let front = left_true _ _ r in
-    let read = right_true (same_control c (first_control s []) && not (scans c)) _ r in
-    let way = not_true _ (right_true (same_control c (first_control s [])) _ front) in
+    let front = first_so _ _ r in
+    let read = second_so (same_control c (first_control s []) && not (scans c)) _ r in
+    let way = not-true _ (second_so (same_control c (first_control s [])) _ front) in
     let none = no_scans s c None None None es refl read in
     let run = sound s c None None None es (λ (h : false ≡ true). no_way (sym h)) read in
     subst (λ xs. Runs s (standing c None xs None) es → Opened s xs (At c ∷ es)) (sym none)
-    (opened_idle s c es (same_is _ _ (left_true _ _ front)) way) run
+    (opened_idle s c es (same_is _ _ (first_so _ _ front)) way) run
 
 opened_at : (s : Strategy) → has_runs s ≡ true → (c : Control) (es : List Event) → reads_at s c es ≡ true → Opened s (begun_by es) (At c ∷ es)
 opened_at s h c [] r = idle_opened s c [] r
 opened_at s h c (Scan i ∷ es) r =
-    let front = left_true _ _ r in
-    let read = right_true (same_control c (first_control s (i ∷ [])) && scans c) _ r in
-    let way = right_true (same_control c (first_control s (i ∷ []))) _ front in
-    opened_scan s h c i (begun_by es) es (same_is _ _ (left_true _ _ front)) way (sound s c (Some i) None None es (λ (h : true ≡ true). way) read)
+    let front = first_so _ _ r in
+    let read = second_so (same_control c (first_control s (i ∷ [])) && scans c) _ r in
+    let way = second_so (same_control c (first_control s (i ∷ []))) _ front in
+    opened_scan s h c i (begun_by es) es (same_is _ _ (first_so _ _ front)) way (sound s c (Some i) None None es (λ (h : true ≡ true). way) read)
 opened_at s h c (At to ∷ es) r = idle_opened s c (At to ∷ es) r
 opened_at s h c (ListOf i keys ∷ es) r = idle_opened s c (ListOf i keys ∷ es) r
 opened_at s h c (Drop i ∷ es) r = idle_opened s c (Drop i ∷ es) r
@@ -144,12 +146,12 @@ opened s h (Stop ∷ es) r = no_way (sym r)
 
 run_read : (s : Strategy) (events : List Event) (indexes : List ℕ) → has_runs s ≡ true → (list_all (is_known indexes) events && are_apart events && reads_all s events) ≡ true → AllowedRun (trace_of s events) indexes
 run_read s events indexes h r =
-    let front = left_true _ _ r in
-    let o = opened s h events (right_true (list_all (is_known indexes) events && are_apart events) _ r) in
+    let front = first_so _ _ r in
+    let o = opened s h events (second_so (list_all (is_known indexes) events && are_apart events) _ r) in
     record {
       planned = begun_by events;
-      known = sym (known indexes events) ∙ left_true _ _ front;
-      once = once events (right_true (list_all (is_known indexes) events) _ front);
+      known = sym (known indexes events) ∙ first_so _ _ front;
+      once = once events (second_so (list_all (is_known indexes) events) _ front);
       scanned = o.scanned;
       turns = o.turns;
       run = o.run;

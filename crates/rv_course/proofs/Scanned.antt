@@ -2,6 +2,8 @@
 use Rattle.std.proofs.Common.{◌≡◌, ℕ, List, [], ◌∷◌, ◌++◌, Bool, true, false, ◌&&◌, ◌||◌, refl, sym, ap, ◌∙◌, Option, Some, None, nat_eq}
 use Rattle.std.specs.Prelude.{if◌then◌else◌}
 use Rattle.std.specs.List.{list_all, list_any}
+use Rattle.std.proofs.lemmas.Bool.{and_from, not-true, not_from_false, or_from}
+use Rattle.std.specs.Cmp.{first_so, second_so}
 use Rattle.rv_judge.specs.declared.events.Strategy.{Strategy}
 use Rattle.rv_judge.specs.declared.events.Control.{Control}
 use Rattle.rv_judge.specs.declared.events.Event.{Event}
@@ -9,7 +11,7 @@ use Rattle.rv_judge.specs.declared.events.Event.TheVariants.{At, Scan, List as L
 use Rattle.rv_judge.specs.Runs.{EachOnce, has_index, scans}
 use Rattle.rv_course.specs.declared.reading.Place.{Place}
 use Rattle.rv_course.specs.Reading.{are_apart, begins_scan, begun_by, goes_on, is_known, listed_by, reads}
-use Rattle.rv_course.proofs.Controls.{both, left_true, no_way, not_true, right_true, true_not}
+use Rattle.rv_course.proofs.Controls.{no_way}
 
 pub known : (indexes : List ℕ) (es : List Event) → list_all (is_known indexes) es ≡ list_all (λ i. has_index i indexes) (begun_by es)
 known indexes [] = refl
@@ -31,7 +33,7 @@ begun i (Stop ∷ es) = begun i es
 
 pub once : (es : List Event) → are_apart es ≡ true → EachOnce (begun_by es)
 once [] a = tt
-once (Scan i ∷ es) a = (sym (begun i es) ∙ not_true _ (left_true _ _ a), once es (right_true _ _ a))
+once (Scan i ∷ es) a = (sym (begun i es) ∙ not-true _ (first_so _ _ a), once es (second_so _ _ a))
 once (At to ∷ es) a = once es a
 once (ListOf i keys ∷ es) a = once es a
 once (Drop i ∷ es) a = once es a
@@ -40,7 +42,7 @@ once (Stop ∷ es) a = once es a
 
 pub apart : (es : List Event) → EachOnce (begun_by es) → are_apart es ≡ true
 apart [] o = refl
-apart (Scan i ∷ es) o = both _ _ (true_not _ (begun i es ∙ o.0)) (apart es o.1)
+apart (Scan i ∷ es) o = and_from _ _ (not_from_false _ (begun i es ∙ o.0)) (apart es o.1)
 apart (At to ∷ es) o = apart es o
 apart (ListOf i keys ∷ es) o = apart es o
 apart (Drop i ∷ es) o = apart es o
@@ -57,17 +59,13 @@ right_false : (a b : Bool) → (a || b) ≡ false → b ≡ false
 right_false true b h = no_way h
 right_false false b h = h
 
-or_false : (a b : Bool) → a ≡ false → b ≡ false → (a || b) ≡ false
-or_false true b h k = no_way h
-or_false false b h k = k
-
 pub front_known : (indexes xs ys : List ℕ) → list_all (λ i. has_index i indexes) (xs ++ ys) ≡ true → list_all (λ i. has_index i indexes) xs ≡ true
 front_known indexes [] ys a = refl
-front_known indexes (x ∷ xs) ys a = both _ _ (left_true _ _ a) (front_known indexes xs ys (right_true _ _ a))
+front_known indexes (x ∷ xs) ys a = and_from _ _ (first_so _ _ a) (front_known indexes xs ys (second_so _ _ a))
 
 front_misses : (i : ℕ) (xs ys : List ℕ) → has_index i (xs ++ ys) ≡ false → has_index i xs ≡ false
 front_misses i [] ys a = refl
-front_misses i (x ∷ xs) ys a = or_false _ _ (left_false _ _ a) (front_misses i xs ys (right_false (nat_eq x i) _ a))
+front_misses i (x ∷ xs) ys a = or_from _ _ (left_false _ _ a) (front_misses i xs ys (right_false (nat_eq x i) _ a))
 
 pub front_once : (xs ys : List ℕ) → EachOnce (xs ++ ys) → EachOnce xs
 front_once [] ys o = tt
@@ -92,10 +90,10 @@ none_goes_on p own e g = no_way (sym g ∙ idle own)
 
 pub no_scans : (s : Strategy) (c : Control) (scan listed : Option ℕ) (own : Option Event) (es : List Event) → scan ≡ None → reads s (record { control = c; scan = scan; listed = listed; own = own }) es ≡ true → begun_by es ≡ []
 no_scans s c scan listed own [] e r = refl
-no_scans s c scan listed own (At to ∷ es) e r = no_scans s to (if scans to then scan else None) (listed_by own listed) None es (none_kept (scans to) scan e) (right_true _ _ r)
+no_scans s c scan listed own (At to ∷ es) e r = no_scans s to (if scans to then scan else None) (listed_by own listed) None es (none_kept (scans to) scan e) (second_so _ _ r)
 no_scans s c scan listed None (Scan i ∷ es) e r = no_way (sym r)
-no_scans s c scan listed (Some own) (Scan i ∷ es) e r = none_goes_on (record { control = c; scan = scan; listed = listed; own = Some own }) own e (left_true _ _ r)
-no_scans s c scan listed own (ListOf i keys ∷ es) e r = no_scans s c scan listed (Some (ListOf i keys)) es e (right_true _ _ r)
-no_scans s c scan listed own (Drop i ∷ es) e r = no_scans s c scan listed (Some (Drop i)) es e (right_true _ _ r)
-no_scans s c scan listed own (FullEvent ∷ es) e r = no_scans s c scan listed (Some FullEvent) es e (right_true _ _ r)
-no_scans s c scan listed own (Stop ∷ es) e r = no_scans s c scan listed (Some Stop) es e (right_true _ _ r)
+no_scans s c scan listed (Some own) (Scan i ∷ es) e r = none_goes_on (record { control = c; scan = scan; listed = listed; own = Some own }) own e (first_so _ _ r)
+no_scans s c scan listed own (ListOf i keys ∷ es) e r = no_scans s c scan listed (Some (ListOf i keys)) es e (second_so _ _ r)
+no_scans s c scan listed own (Drop i ∷ es) e r = no_scans s c scan listed (Some (Drop i)) es e (second_so _ _ r)
+no_scans s c scan listed own (FullEvent ∷ es) e r = no_scans s c scan listed (Some FullEvent) es e (second_so _ _ r)
+no_scans s c scan listed own (Stop ∷ es) e r = no_scans s c scan listed (Some Stop) es e (second_so _ _ r)

@@ -1,6 +1,8 @@
 -- Events that are read are those of a run.
 use Rattle.std.proofs.Common.{◌≡◌, ℕ, List, [], ◌∷◌, ◌++◌, Bool, true, false, ◌||◌, refl, sym, ap, ◌∙◌, subst, Option, Some, None, nat_lt}
 use Rattle.std.specs.Prelude.{if◌then◌else◌, is_some}
+use Rattle.std.proofs.lemmas.Bool.{eqb-true}
+use Rattle.std.specs.Cmp.{first_so, second_so}
 use Rattle.rv_judge.specs.declared.events.Strategy.{Strategy}
 use Rattle.rv_judge.specs.declared.events.Control.{Control}
 use Rattle.rv_judge.specs.declared.events.Event.{Event}
@@ -11,7 +13,7 @@ use Rattle.rv_judge.specs.declared.events.Happening.TheVariants.{ScanEnded, Rule
 use Rattle.rv_judge.specs.Course.{has_row, next_control, scan_over_more}
 use Rattle.rv_judge.specs.Runs.{IsRun, MayCome, Standing, Turn, after, events_of, idle, is_more, led_events, listed_after, moved, own_events, run_events, scans}
 use Rattle.rv_course.specs.Reading.{begun_by, goes_on, is_scanning, leads, leads_to, listed_by, may_narrow, reads}
-use Rattle.rv_course.proofs.Controls.{background_ends, drop_ends, dropped_on, ended_on, has_dropped_on, has_ended_on, leads_is, leads_stands, left_true, no_way, number_is, right_true, scan_ends}
+use Rattle.rv_course.proofs.Controls.{background_ends, drop_ends, dropped_on, ended_on, has_dropped_on, has_ended_on, leads_is, leads_stands, no_way, scan_ends}
 use Rattle.rv_course.proofs.Scanned.{no_scans}
 
 abbrev pub standing : Control → Option ℕ → List ℕ → Option ℕ → Standing
@@ -71,7 +73,7 @@ either false b h f g = g h
 
 scan_is : (scan : Option ℕ) (i : ℕ) → is_scanning scan i ≡ true → scan ≡ Some i
 scan_is None i h = no_way (sym h)
-scan_is (Some j) i h = ap (λ n. Some n) (number_is j i h)
+scan_is (Some j) i h = ap (λ n. Some n) (eqb-true j i h)
 
 is_there : (scan : Option ℕ) (i : ℕ) → scan ≡ Some i → is_some scan ≡ true
 is_there scan i e = ap is_some e
@@ -108,14 +110,14 @@ full_to s c to (Some i) listed es l r = moves_to s c to (Some i) (begun_by es) l
 
 own_to : (s : Strategy) (c to : Control) (scan listed : Option ℕ) (own : Event) (es : List Event) → leads_to s (record { control = c; scan = scan; listed = listed; own = Some own }) own to ≡ true → (scans to ≡ false → begun_by es ≡ []) → Runs s (standing to (if scans to then scan else None) (begun_by es) (listed_by (Some own) listed)) es → Runs s (standing c scan (begun_by es) listed) (own ∷ At to ∷ es)
 own_to s c to scan listed (ListOf i keys) es l none r =
-    let ends = right_true (is_scanning scan i) _ l in
-    listed_to s c to listed i keys es ends (none (scan_ends s c to ends)) scan (scan_is scan i (left_true _ _ l)) r
+    let ends = second_so (is_scanning scan i) _ l in
+    listed_to s c to listed i keys es ends (none (scan_ends s c to ends)) scan (scan_is scan i (first_so _ _ l)) r
 own_to s c to scan listed (Drop i) es l none r =
-    let under = scan_is scan i (left_true _ _ l) in
-    either _ _ (right_true (is_scanning scan i) _ l)
+    let under = scan_is scan i (first_so _ _ l) in
+    either _ _ (second_so (is_scanning scan i) _ l)
     (λ (ends : leads s c (Ruled AbandonScan false (is_some listed)) to ≡ true). dropped_to s c to listed i es ends (none (drop_ends s c to (is_some listed) ends)) scan under r)
     (λ (ends : leads s c (Ruled AbandonBackground false (is_some listed)) to ≡ true). given_up_to s c to listed i es ends (none (background_ends s c to (is_some listed) ends)) scan under r)
-own_to s c to scan listed Stop es l none r = stopped_to s c to scan listed es (left_true _ _ l) (right_true (is_some scan) _ l) r
+own_to s c to scan listed Stop es l none r = stopped_to s c to scan listed es (first_so _ _ l) (second_so (is_some scan) _ l) r
 own_to s c to scan listed FullEvent es l none r = full_to s c to scan listed es l r
 own_to s c to scan listed (At d) es l none r = no_way (sym l)
 own_to s c to scan listed (Scan i) es l none r = no_way (sym l)
@@ -151,11 +153,11 @@ dropped_further s c listed i j ahead es way some scan under r =
 
 own_on : (s : Strategy) (c : Control) (scan listed : Option ℕ) (own : Event) (j : ℕ) (es : List Event) → (is_some scan ≡ true → scans c ≡ true) → goes_on (record { control = c; scan = scan; listed = listed; own = Some own }) own ≡ true → Runs s (standing c (Some j) (begun_by es) (listed_by (Some own) listed)) es → Runs s (standing c scan (j ∷ begun_by es) listed) (own ∷ Scan j ∷ es)
 own_on s c scan listed (ListOf i keys) j es way g r =
-    let under = scan_is scan i (left_true _ _ g) in
-    listed_on s c listed i j keys (begun_by es) es (way (ap is_some under)) (right_true (is_scanning scan i) _ g) scan under r
+    let under = scan_is scan i (first_so _ _ g) in
+    listed_on s c listed i j keys (begun_by es) es (way (ap is_some under)) (second_so (is_scanning scan i) _ g) scan under r
 own_on s c scan listed (Drop i) j es way g r =
-    let under = scan_is scan i (left_true _ _ g) in
-    dropped_further s c listed i j (begun_by es) es (way (ap is_some under)) (right_true (is_scanning scan i) _ g) scan under r
+    let under = scan_is scan i (first_so _ _ g) in
+    dropped_further s c listed i j (begun_by es) es (way (ap is_some under)) (second_so (is_scanning scan i) _ g) scan under r
 own_on s c scan listed (At to) j es way g r = no_way (sym g)
 own_on s c scan listed (Scan i) j es way g r = no_way (sym g)
 own_on s c scan listed FullEvent j es way g r = no_way (sym g)
@@ -179,8 +181,8 @@ pub sound : (s : Strategy) (c : Control) (scan listed : Option ℕ) (own : Optio
 sound s c scan listed None [] way r = record { turns = []; run = tt; told = refl }
 sound s c scan listed (Some own) [] way r = no_way (sym r)
 sound s c scan listed None (At to ∷ es) way r =
-    let on = sound s to (if scans to then scan else None) listed None es (kept_way (scans to) scan) (right_true _ _ r) in
-    either _ _ (left_true _ _ r)
+    let on = sound s to (if scans to then scan else None) listed None es (kept_way (scans to) scan) (second_so _ _ r) in
+    either _ _ (first_so _ _ r)
     (λ (l : leads s c FrontEnded to ≡ true). front_to s c to scan (begun_by es) listed es l on)
     (λ (l : leads s c FinalEnded to ≡ true). final_to s c to scan (begun_by es) listed es l on)
 sound s c scan listed None (Scan i ∷ es) way r = no_way (sym r)
@@ -189,13 +191,13 @@ sound s c scan listed None (Drop i ∷ es) way r = sound s c scan listed (Some (
 sound s c scan listed None (FullEvent ∷ es) way r = sound s c scan listed (Some FullEvent) es way r
 sound s c scan listed None (Stop ∷ es) way r = sound s c scan listed (Some Stop) es way r
 sound s c scan listed (Some own) (At to ∷ es) way r =
-    own_to s c to scan listed own es (left_true _ _ r)
-    (λ (h : scans to ≡ false). no_scans s to (if scans to then scan else None) (listed_by (Some own) listed) None es (none_idle (scans to) scan h) (right_true _ _ r))
-    (sound s to (if scans to then scan else None) (listed_by (Some own) listed) None es (kept_way (scans to) scan) (right_true _ _ r))
+    own_to s c to scan listed own es (first_so _ _ r)
+    (λ (h : scans to ≡ false). no_scans s to (if scans to then scan else None) (listed_by (Some own) listed) None es (none_idle (scans to) scan h) (second_so _ _ r))
+    (sound s to (if scans to then scan else None) (listed_by (Some own) listed) None es (kept_way (scans to) scan) (second_so _ _ r))
 sound s c scan listed (Some own) (Scan j ∷ es) way r =
-    let g = left_true _ _ r in
+    let g = first_so _ _ r in
     own_on s c scan listed own j es way g
-    (sound s c (Some j) (listed_by (Some own) listed) None es (λ (h : true ≡ true). way (under_way scan own g)) (right_true _ _ r))
+    (sound s c (Some j) (listed_by (Some own) listed) None es (λ (h : true ≡ true). way (under_way scan own g)) (second_so _ _ r))
   where
     under_way : (scan : Option ℕ) (own : Event) → goes_on (record { control = c; scan = scan; listed = listed; own = Some own }) own ≡ true → is_some scan ≡ true
     under_way (Some i) own g = refl

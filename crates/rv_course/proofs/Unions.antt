@@ -1,6 +1,8 @@
 -- The events of a union are read, and no others.
 use Rattle.std.proofs.Common.{◌≡◌, ◌⊎◌, ℕ, ◌≤◌, List, [], ◌∷◌, ◌++◌, length, map, Bool, true, ◌&&◌, refl, sym, ap, ◌∙◌, subst, arith, inl, inr}
 use Rattle.std.specs.List.{list_all, list_any}
+use Rattle.std.specs.Cmp.{first_so, second_so}
+use Rattle.std.proofs.lemmas.Bool.{and_from}
 use Rattle.rv_judge.specs.declared.events.Strategy.TheVariants.{Union}
 use Rattle.rv_judge.specs.declared.events.Control.{Control}
 use Rattle.rv_judge.specs.declared.events.Control.TheVariants.{BackgroundAlone, FinalList, FinalTable, Done}
@@ -10,7 +12,7 @@ use Rattle.rv_judge.specs.Runs.{AllowedUnion, EachOnce, UnionTail, has_index, ta
 use Rattle.rv_judge.specs.Runs.UnionTail.{Scanning, Fetching, Fetched, Reading, Read}
 use Rattle.rv_course.specs.Reading.{are_apart, begins_scan, begun_by, ends_in, is_known, is_over, reads_scans, reads_tail, reads_union, same_control}
 use Rattle.rv_course.specs.Told.{trace_of}
-use Rattle.rv_course.proofs.Controls.{both, left_true, no_way, right_true, same_is}
+use Rattle.rv_course.proofs.Controls.{no_way, same_is}
 use Rattle.rv_course.proofs.Scanned.{apart, begun, known, once}
 
 -- WHAT IS READ IS OF A UNION
@@ -27,10 +29,10 @@ over_is (Stop ∷ es) h = no_way (sym h)
 
 ends_is : (c : Control) (es : List Event) → ends_in c es ≡ true → (es ≡ At c ∷ []) ⊎ (es ≡ At c ∷ At Done ∷ [])
 ends_is c [] h = no_way (sym h)
-ends_is c (At to ∷ es) h = by (over_is es (right_true (same_control to c) _ h))
+ends_is c (At to ∷ es) h = by (over_is es (second_so (same_control to c) _ h))
   where
     same : to ≡ c
-    same = same_is to c (left_true _ _ h)
+    same = same_is to c (first_so _ _ h)
 
     by : ((es ≡ []) ⊎ (es ≡ At Done ∷ [])) → (At to ∷ es ≡ At c ∷ []) ⊎ (At to ∷ es ≡ At c ∷ At Done ∷ [])
     by (inl e) = inl (ap (λ (x : List Event). At to ∷ x) e ∙ ap (λ (x : Control). At x ∷ []) same)
@@ -58,8 +60,8 @@ drop_tailed all i es there (inr e) = subst (λ (x : List Event). Tailed all (Dro
 tailed : (all es : List Event) → reads_tail all es ≡ true → Tailed all es
 tailed all [] h = record { tail = Scanning; among = refl; told = refl }
 tailed all (Scan i ∷ es) h = let t = tailed all es h in record { tail = t.tail; among = t.among; told = ap (λ (x : List Event). Scan i ∷ x) t.told }
-tailed all (ListOf i keys ∷ es) h = list_tailed all i keys es (sym (begun i all) ∙ left_true _ _ h) (ends_is FinalList es (right_true (list_any (begins_scan i) all) _ h))
-tailed all (Drop i ∷ es) h = drop_tailed all i es (sym (begun i all) ∙ left_true _ _ h) (ends_is FinalTable es (right_true (list_any (begins_scan i) all) _ h))
+tailed all (ListOf i keys ∷ es) h = list_tailed all i keys es (sym (begun i all) ∙ first_so _ _ h) (ends_is FinalList es (second_so (list_any (begins_scan i) all) _ h))
+tailed all (Drop i ∷ es) h = drop_tailed all i es (sym (begun i all) ∙ first_so _ _ h) (ends_is FinalTable es (second_so (list_any (begins_scan i) all) _ h))
 tailed all (At to ∷ es) h = no_way (sym h)
 tailed all (FullEvent ∷ es) h = no_way (sym h)
 tailed all (Stop ∷ es) h = no_way (sym h)
@@ -85,7 +87,7 @@ scans_read c (Stop ∷ es) indexes e h all each = no_way (sym h)
 
 union_at : (events : List Event) (indexes : List ℕ) → reads_union events ≡ true → list_all (λ i. has_index i indexes) (begun_by events) ≡ true → EachOnce (begun_by events) → AllowedUnion (trace_of Union events) indexes
 union_at [] indexes h all each = no_way (sym h)
-union_at (At c ∷ es) indexes h all each = scans_read c es indexes (same_is c BackgroundAlone (left_true _ _ h)) (right_true (same_control c BackgroundAlone) _ h) all each
+union_at (At c ∷ es) indexes h all each = scans_read c es indexes (same_is c BackgroundAlone (first_so _ _ h)) (second_so (same_control c BackgroundAlone) _ h) all each
 union_at (Scan i ∷ es) indexes h all each = no_way (sym h)
 union_at (ListOf i keys ∷ es) indexes h all each = no_way (sym h)
 union_at (Drop i ∷ es) indexes h all each = no_way (sym h)
@@ -94,8 +96,8 @@ union_at (Stop ∷ es) indexes h all each = no_way (sym h)
 
 pub union_read : (events : List Event) (indexes : List ℕ) → (list_all (is_known indexes) events && are_apart events && reads_union events) ≡ true → AllowedUnion (trace_of Union events) indexes
 union_read events indexes r =
-    let front = left_true _ _ r in
-    union_at events indexes (right_true (list_all (is_known indexes) events && are_apart events) _ r) (sym (known indexes events) ∙ left_true _ _ front) (once events (right_true (list_all (is_known indexes) events) _ front))
+    let front = first_so _ _ r in
+    union_at events indexes (second_so (list_all (is_known indexes) events && are_apart events) _ r) (sym (known indexes events) ∙ first_so _ _ front) (once events (second_so (list_all (is_known indexes) events) _ front))
 
 -- WHAT IS OF A UNION IS READ
 
@@ -108,7 +110,7 @@ begun_tail [] (Read i) = refl
 begun_tail (i ∷ more) tail = ap (λ (x : List ℕ). i ∷ x) (begun_tail more tail)
 
 and_true : (a : Bool) → a ≡ true → (a && true) ≡ true
-and_true a h = both a true h refl
+and_true a h = and_from a true h refl
 
 tail_reads : (all : List Event) (more : List ℕ) (tail : UnionTail) → tail_among tail (begun_by all) ≡ true → reads_tail all (map (λ (i : ℕ). Scan i) more ++ tail_events tail) ≡ true
 tail_reads all [] Scanning h = refl
@@ -123,7 +125,7 @@ told_reads indexes more i tail all each among =
     let events = union_events (i ∷ more) tail in
     let scans = Scan i ∷ (map (λ (k : ℕ). Scan k) more ++ tail_events tail) in
     let these : begun_by events ≡ i ∷ more = ap (λ (x : List ℕ). i ∷ x) (begun_tail more tail) in
-    both _ _ (both _ _ (known indexes events ∙ ap (list_all (λ k. has_index k indexes)) these ∙ all) (apart events (subst EachOnce (sym these) each)))
+    and_from _ _ (and_from _ _ (known indexes events ∙ ap (list_all (λ k. has_index k indexes)) these ∙ all) (apart events (subst EachOnce (sym these) each)))
     (tail_reads scans more tail (ap (tail_among tail) (ap (λ (x : List ℕ). i ∷ x) (begun_tail more tail)) ∙ among))
 
 pub union_reads : (events : List Event) (indexes : List ℕ) → AllowedUnion (trace_of Union events) indexes → (list_all (is_known indexes) events && are_apart events && reads_union events) ≡ true

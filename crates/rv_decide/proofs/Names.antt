@@ -1,11 +1,13 @@
 -- The number of an index, found again by its name.
-use Rattle.std.proofs.Common.{◌≡◌, ◌≢◌, ℕ, zero, suc, ◌+◌, ◌<◌, ◌≤◌, List, [], ◌∷◌, ◌++◌, refl, sym, ap, ◌∙◌, subst, arith, Bool, true, false, ◌==◌, ◌&&◌, ◌||◌, Option, Some, None, position, length, get_or, nat_lt, nat_eq, map, bytes_eq}
+use Rattle.std.proofs.Common.{◌≡◌, ℕ, zero, suc, ◌+◌, ◌<◌, List, [], ◌∷◌, refl, sym, ap, ◌∙◌, subst, arith, Bool, true, false, ◌==◌, ◌&&◌, ◌||◌, Option, Some, None, length, get_or, nat_lt, nat_eq, map, bytes_eq}
 use Rattle.std.specs.Prelude.{if◌then◌else◌}
 use Rattle.std.specs.List.{list_all, list_any, position_or_len}
 use Rattle.std.proofs.lemmas.Bool.Decides.{nat_tests}
 use Rattle.std.proofs.lemmas.List.Quantifiers.{position-Some}
 use Rattle.std.proofs.lemmas.List.Sums.{position_or_len_is}
 use Rattle.std.proofs.lemmas.Slice.Eq.{bytes_eq-Decides}
+use Rattle.std.specs.Cmp.{first_so, second_so}
+use Rattle.std.proofs.lemmas.Bool.{and_from, eqb-true}
 use Rattle.rv_judge.specs.declared.events.Event.{Event}
 use Rattle.rv_judge.specs.declared.events.Event.TheVariants as events
 use Rattle.rv_judge.specs.Runs.{has_index}
@@ -14,8 +16,8 @@ use Rattle.rv_lang.specs.declared.reply.ShownEvent.TheVariants as told
 use Rattle.rv_catalog.specs.declared.def.IndexDef.{IndexDef}
 use Rattle.rv_model.specs.Database.{index_at, no_index}
 use Rattle.rv_model.specs.Showing.{numbers_over, shown_event}
-use Rattle.rv_course.proofs.Controls.{both, left_true, no_way, number_is, right_true, same_number}
-use Rattle.rv_decide.specs.Naming.{AreNamedApart, is_named}
+use Rattle.rv_course.proofs.Controls.{no_way}
+use Rattle.rv_decide.specs.Naming.{AreNamedApart}
 use Rattle.rv_decide.specs.Reading.{drop_of, event_of, events_of, is_of, list_of, number_of, scan_of, with_first}
 
 -- Events with numbers go to the events that are shown so.
@@ -23,7 +25,7 @@ use Rattle.rv_decide.specs.Reading.{drop_of, event_of, events_of, is_of, list_of
 named_of : (indexes : List IndexDef) (table : ℕ) (name : List ℕ) (i : ℕ) → number_of indexes table name ≡ Some i → (index_at indexes i).name ≡ name
 named_of indexes table name i e =
     let found = position-Some (is_of table name) indexes i no_index e in
-    (bytes_eq-Decides (index_at indexes i).name name).0 (right_true _ _ found.1)
+    (bytes_eq-Decides (index_at indexes i).name name).0 (second_so _ _ found.1)
 
 some_is : {A : Type 0} {x y : A} → Some x ≡ Some y → x ≡ y
 some_is e = cc
@@ -75,7 +77,7 @@ stands table number (d ∷ ds) i h = by (d.table == table) refl (stands table (n
     later s = record { place = suc s.place; at = omega (arith, s.at); within = omega (arith, s.within); over = s.over }
 
     or : (b : Bool) → (d.table == table) ≡ true → (has_index i (numbers_over table (number + 1) ds) ≡ true → Stands table (number + 1) ds i) → nat_eq number i ≡ b → (b || has_index i (numbers_over table (number + 1) ds)) ≡ true → Stands table number (d ∷ ds) i
-    or true over rest e h = record { place = 0; at = sym (number_is number i e) ∙ (omega arith); within = omega arith; over = over }
+    or true over rest e h = record { place = 0; at = sym (eqb-true number i e) ∙ (omega arith); within = omega arith; over = over }
     or false over rest e h = record { place = suc (rest h).place; at = omega (arith, (rest h).at); within = omega (arith, (rest h).within); over = (rest h).over }
 
     by : (b : Bool) → (d.table == table) ≡ b → (has_index i (numbers_over table (number + 1) ds) ≡ true → Stands table (number + 1) ds i) → has_index i (if b then number ∷ numbers_over table (number + 1) ds else numbers_over table (number + 1) ds) ≡ true → Stands table number (d ∷ ds) i
@@ -112,7 +114,7 @@ found_at : (ds : List IndexDef) (table place : ℕ) → AreNamedApart ds → pla
 found_at ds table place apart within over =
     let p = is_of table (get_or ds place no_index).name in
     let none : (k : ℕ) → k < place → p (get_or ds k no_index) ≡ false = λ k before. and_false _ _ (apart_at ds k place apart before within) in
-    let here : p (get_or ds place no_index) ≡ true = both _ _ over ((bytes_eq-Decides (get_or ds place no_index).name (get_or ds place no_index).name).1 refl) in
+    let here : p (get_or ds place no_index) ≡ true = and_from _ _ over ((bytes_eq-Decides (get_or ds place no_index).name (get_or ds place no_index).name).1 refl) in
     let e : position_or_len p ds ≡ place = position_or_len_is p ds place no_index (omega (arith, within)) none (λ there. here) in
     rw (e, is_below place (length ds) within) refl
 
@@ -140,6 +142,6 @@ read_one indexes table events.Stop apart known = refl
 pub read_all : (indexes : List IndexDef) (table : ℕ) (es : List Event) → AreNamedApart indexes → list_all (names_known (numbers_over table 0 indexes)) es ≡ true → events_of indexes table (map (shown_event indexes) es) ≡ Some es
 read_all indexes table [] apart known = refl
 read_all indexes table (e ∷ es) apart known =
-    let first = read_one indexes table e apart (left_true _ _ known) in
-    let rest = read_all indexes table es apart (right_true (names_known (numbers_over table 0 indexes) e) _ known) in
+    let first = read_one indexes table e apart (first_so _ _ known) in
+    let rest = read_all indexes table es apart (second_so (names_known (numbers_over table 0 indexes) e) _ known) in
     ap (λ o. with_first o (events_of indexes table (map (shown_event indexes) es))) first ∙ ap (with_first (Some e)) rest
