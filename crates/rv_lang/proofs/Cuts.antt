@@ -2,11 +2,11 @@
 use Rattle.std.proofs.Common.{◌≡◌, ℕ, zero, suc, ◌+◌, ◌<◌, ◌≤◌, List, [], ◌∷◌, ◌++◌, Option, Some, None, length, refl, sym, ap, ◌∙◌, arith, subst, true, ◌==◌}
 use Rattle.std.specs.Prelude.{IfSome}
 use Rattle.std.proofs.lemmas.Bool.{eqb-true}
+use Rattle.std.proofs.lemmas.Option.{same_Some}
 use Rattle.rv_lang.specs.declared.token.Token.{Token}
 use Rattle.rv_lang.specs.Tokens.{is_blank, past, IsLongest, Cuts, NoToken, IsCutTo}
 use Rattle.rv_lang.specs.Lexing.{token_at, with_first, tokens_then, tokens_within, tokens_of}
 use Rattle.rv_lang.proofs.Runs.{past_le}
-use Rattle.rv_lang.proofs.TextLengths.{some_is}
 use Rattle.rv_lang.proofs.Longest.{Begins, token_is, token_shorter, longest_of, none_of, read_longest}
 
 -- one token more
@@ -36,7 +36,7 @@ ended_here rest h t after l = h.1 l.front t after l.whole l.is
 
 one_longest : (bytes : List ℕ) (t u : Token) (r s : List ℕ) → IsLongest bytes t r → IsLongest bytes u s → (t ≡ u) × (r ≡ s)
 one_longest bytes t u r s l m =
-    let e = some_is (t, r) (u, s) (sym (read_longest bytes t r l) ∙ read_longest bytes u s m) in
+    let e = same_Some (t, r) (u, s) (sym (read_longest bytes t r l) ∙ read_longest bytes u s m) in
     (ap (λ (x : Token × List ℕ). x.0) e, ap (λ (x : Token × List ℕ). x.1) e)
 
 pub cut_once : (bytes : List ℕ) (ts us : List Token) (r s : List ℕ) → Cuts bytes ts r → Ended r → Cuts bytes us s → Ended s → (ts ≡ us) × (r ≡ s)

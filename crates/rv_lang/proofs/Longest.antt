@@ -1,10 +1,10 @@
 -- The token that is read is the longest one, and the longest one is read.
-use Rattle.std.proofs.Common.{◌≡◌, ℕ, ◌<◌, ◌≤◌, ◌^◌, List, [], ◌∷◌, ◌++◌, Option, Some, None, true, false, nat_eq, nat_lt, nat_le, length, refl, sym, ap, ◌∙◌, arith, append_assoc, length-append, drop, map, inl, inr, ⊎_elim, subst, ℤ, pos, neg_ℤ}
+use Rattle.std.proofs.Common.{◌≡◌, ℕ, ◌<◌, ◌≤◌, ◌^◌, List, [], ◌∷◌, ◌++◌, Option, Some, None, true, false, nat_eq, nat_lt, nat_le, length, refl, sym, ap, ◌∙◌, arith, append_assoc, length-append, drop, map, inl, inr, ⊎_elim, subst, ℤ, pos}
 use Rattle.std.specs.Prelude.{IfSome}
 use Rattle.std.specs.List.{list_all}
 use Rattle.std.specs.Char.{is_ascii_alphabetic, is_ascii_digit, to_ascii_uppercase}
 use Rattle.std.proofs.lemmas.List.{drop_at}
-use Rattle.std.proofs.lemmas.Bool.{eqb-true}
+use Rattle.std.proofs.lemmas.Bool.{eqb-true, and_parts}
 use Rattle.std.proofs.lemmas.Bool.Decides.{nat_tests}
 use Rattle.rv_lang.specs.declared.token.Token.{Token}
 use Rattle.rv_lang.specs.declared.token.Token.TheVariants.{Word, Int, Str, Symbol}
@@ -12,7 +12,7 @@ use Rattle.rv_lang.specs.declared.token.Symbol.{Symbol as OneSymbol}
 use Rattle.rv_lang.specs.declared.token.Symbol.TheVariants as symbols
 use Rattle.rv_lang.specs.Tokens.{is_word_byte, is_text_byte, quotes_twice, past, value_after, symbol_text, IsToken, IsLongest, IsWord, IsNumber, IsDigits, NoWordByte}
 use Rattle.rv_lang.specs.Lexing.{run, begins_word, number_of, negative_at, text_body, second, symbol_at, token_at}
-use Rattle.rv_lang.proofs.Runs.{by, and_parts, run_past, run_all, run_same, past_shorter, past_exact, run_exact, Stops, stops_nil, stops_at}
+use Rattle.rv_lang.proofs.Runs.{by, run_past, run_all, run_same, past_shorter, past_exact, run_exact, Stops, stops_nil, stops_at}
 use Rattle.rv_lang.proofs.Texts.{IsText, text_is, Reaches, text_reaches}
 
 -- a token at the front of the bytes

@@ -1,6 +1,7 @@
 -- Cases of a test, and runs of bytes that pass one.
-use Rattle.std.proofs.Common.{◌≡◌, ℕ, ◌≤◌, List, [], ◌∷◌, ◌++◌, Bool, true, false, ◌&&◌, length, refl, ap, arith}
+use Rattle.std.proofs.Common.{◌≡◌, ℕ, ◌≤◌, List, [], ◌∷◌, ◌++◌, Bool, true, false, length, refl, ap, arith}
 use Rattle.std.specs.List.{list_all}
+use Rattle.std.proofs.lemmas.Bool.{and_parts}
 use Rattle.rv_lang.specs.Tokens.{past}
 use Rattle.rv_lang.specs.Lexing.{run}
 
@@ -8,10 +9,6 @@ use Rattle.rv_lang.specs.Lexing.{run}
 pub by : {C : Type 0} (b : Bool) → (b ≡ true → C) → (b ≡ false → C) → C
 by true y n = y refl
 by false y n = n refl
-
-pub and_parts : (a b : Bool) → (a && b) ≡ true → (a ≡ true) × (b ≡ true)
-and_parts true b h = (refl, h)
-and_parts false b h = absurd cc
 
 pub run_past : (p : ℕ → Bool) (bs : List ℕ) → run p bs ++ past p bs ≡ bs
 run_past p [] = refl

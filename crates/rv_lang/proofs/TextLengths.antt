@@ -2,6 +2,7 @@
 use Rattle.std.proofs.Common.{◌≡◌, ℕ, suc, ◌+◌, ◌<◌, List, [], ◌∷◌, Option, Some, None, false, nat_eq, length, refl, ap, ◌∙◌, arith, take, drop, add-one, if◌then◌else◌}
 use Rattle.std.specs.Prelude.{IfSome}
 use Rattle.std.proofs.lemmas.Bool.{eqb-true}
+use Rattle.std.proofs.lemmas.Option.{same_Some}
 use Rattle.rv_lang.specs.declared.token.Token.{Token}
 use Rattle.rv_lang.specs.declared.token.Token.TheVariants.{Str}
 use Rattle.rv_lang.specs.Tokens.{is_text_byte}
@@ -112,12 +113,9 @@ cut_none_of : (bs : List ℕ) (o : Option ℕ) → parts_of bs o ≡ None → wi
 cut_none_of bs (Some n) e = absurd cc
 cut_none_of bs None e = refl
 
-pub some_is : {A : Type 0} (x y : A) → Some x ≡ Some y → x ≡ y
-some_is x y e = cc
-
 pub cut_some_of : (bs : List ℕ) (o : Option ℕ) (front rest : List ℕ) → parts_of bs o ≡ Some (front, rest) → with_len bs o ≡ Some (kept false front, rest)
 cut_some_of bs (Some n) front rest e =
-    let p = some_is (take n bs, drop (n + 1) bs) (front, rest) e in
+    let p = same_Some (take n bs, drop (n + 1) bs) (front, rest) e in
     let a : take n bs ≡ front = ap (λ (x : List ℕ × List ℕ). x.0) p in
     let b : drop (n + 1) bs ≡ rest = ap (λ (x : List ℕ × List ℕ). x.1) p in
     rw (← a, ← b, add-one) refl

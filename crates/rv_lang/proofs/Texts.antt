@@ -2,10 +2,10 @@
 use Rattle.std.proofs.Common.{◌≡◌, ℕ, ◌≤◌, List, [], ◌∷◌, ◌++◌, Option, Some, None, true, false, nat_eq, length, refl, ap, arith, length-append}
 use Rattle.std.specs.Prelude.{IfSome}
 use Rattle.std.specs.List.{list_all}
-use Rattle.std.proofs.lemmas.Bool.{eqb-true}
+use Rattle.std.proofs.lemmas.Bool.{eqb-true, and_parts}
 use Rattle.rv_lang.specs.Tokens.{is_text_byte, quotes_twice}
 use Rattle.rv_lang.specs.Lexing.{push_front, or_here, text_body}
-use Rattle.rv_lang.proofs.Runs.{by, and_parts}
+use Rattle.rv_lang.proofs.Runs.{by}
 
 -- what a text's reading gives is a spelling of it
 pub record IsText (bs : List ℕ) (x : List ℕ × List ℕ) : Type 0 where

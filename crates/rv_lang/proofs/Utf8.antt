@@ -4,7 +4,7 @@ use Rattle.std.specs.Prelude.{IfSome}
 use Rattle.std.specs.List.{list_all}
 use Rattle.std.specs.Char.{is_ascii_alphabetic, is_ascii_digit}
 use Rattle.std.proofs.lemmas.List.{take_at, drop_at, append-nil}
-use Rattle.std.proofs.lemmas.Bool.{eqb-true}
+use Rattle.std.proofs.lemmas.Bool.{eqb-true, and_parts}
 use Rattle.std.proofs.lemmas.Bool.Decides.{nat_tests}
 use Rattle.std.proofs.lemmas.Str.{IsUtf8-append, IsUtf8-take, IsUtf8-drop, IsCharBoundary-after_ascii, IsCharBoundary-before_ascii}
 use Rattle.rv_lang.specs.declared.token.Token.{Token}
@@ -13,7 +13,7 @@ use Rattle.rv_lang.specs.declared.token.Symbol.{Symbol as OneSymbol}
 use Rattle.rv_lang.specs.declared.token.Symbol.TheVariants as symbols
 use Rattle.rv_lang.specs.Tokens.{is_word_byte, is_blank, quotes_twice, past, symbol_text, IsToken, IsWord, IsNumber, IsDigits}
 use Rattle.rv_lang.specs.Lexing.{text_body, token_at, scanned, kept, text_cut}
-use Rattle.rv_lang.proofs.Runs.{by, and_parts}
+use Rattle.rv_lang.proofs.Runs.{by}
 use Rattle.rv_lang.proofs.Texts.{IsText, text_is}
 use Rattle.rv_lang.proofs.TextLengths.{body_scanned, cut_some_of}
 use Rattle.rv_lang.proofs.Longest.{longest_of}
