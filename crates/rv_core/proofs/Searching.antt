@@ -1,8 +1,9 @@
 -- A search over what the session's transaction sees: it can be asked, and finds the rows that UPDATE and DELETE change.
 use Rattle.std.proofs.Common.{◌≡◌, ◌⊎◌, ℕ, zero, suc, ◌+◌, ◌<◌, ◌≤◌, List, [], ◌∷◌, Bool, true, false, ◌&&◌, Option, Some, None, Ok, IfSome, refl, ap, sym, ◌∙◌, subst, inl, inr, arith, length, nat_lt, nat_eq, if◌then◌else◌, cond}
 use Rattle.std.specs.List.{AllByRecursion, list_all}
-use Rattle.std.proofs.lemmas.Bool.{cases_Bool}
+use Rattle.std.proofs.lemmas.Bool.{cases_Bool, and_from}
 use Rattle.std.proofs.lemmas.Bool.Decides.{nat_tests}
+use Rattle.std.specs.Cmp.{first_so, second_so}
 use Rattle.rv_value.specs.declared.record.Record.{Record}
 use Rattle.rv_rows.specs.declared.changes.Change.{Change}
 use Rattle.rv_rows.specs.Changes.{rows_with_changes}
@@ -11,7 +12,6 @@ use Rattle.rv_restrict.specs.Bind.{passes_home}
 use Rattle.rv_restrict.specs.Parts.{stands_among}
 use Rattle.rv_restrict.specs.Truth.{is_home, names_only, row_has}
 use Rattle.rv_restrict.proofs.Names.{names_weaker}
-use Rattle.rv_restrict.proofs.Tests.{and_both, and_left, and_right}
 use Rattle.rv_catalog.specs.declared.def.Goal.TheVariants.{TotalTime}
 use Rattle.rv_catalog.specs.declared.def.IndexDef.{IndexDef}
 use Rattle.rv_catalog.specs.declared.def.Select.{Select}
@@ -107,17 +107,17 @@ whole_is table snap indexes = record {
 whole_query : (schema : Schema) (table : ℕ) → table < length schema.tables → IsQueryOf schema (whole table)
 whole_query schema table there =
     let low : nat_lt table (length schema.tables) ≡ true = grind (arith, nat_tests, there) in
-    record { joined = omega arith; there = and_both (nat_lt table (length schema.tables)) true low refl; only = refl; returns = refl; order = refl }
+    record { joined = omega arith; there = and_from (nat_lt table (length schema.tables)) true low refl; only = refl; returns = refl; order = refl }
 
 -- each row has the columns that a restriction over the table names
 have_all : (columns : ℕ) (only : List (List Atom)) (rows : List Record) → names_only (passes_home (is_column columns)) only ≡ true → ((c : ℕ) → is_column columns c ≡ true → have_column c rows ≡ true) → list_all (λ (r : Record). names_only (row_has r.values) only) rows ≡ true
 have_all columns only [] named have = refl
 have_all columns only (r ∷ rows) named have =
-    and_both (names_only (row_has r.values) only) (list_all (λ (x : Record). names_only (row_has x.values) only) rows)
+    and_from (names_only (row_has r.values) only) (list_all (λ (x : Record). names_only (row_has x.values) only) rows)
     (names_weaker (passes_home (is_column columns)) (row_has r.values) (λ c h.
-    and_both (is_home c) (nat_lt c.column (length r.values)) (and_left (is_home c) (is_column columns c.column) h)
-    (and_left (nat_lt c.column (length r.values)) (have_column c.column rows) (have c.column (and_right (is_home c) (is_column columns c.column) h)))) only named)
-    (have_all columns only rows named (λ c low. and_right (nat_lt c (length r.values)) (have_column c rows) (have c low)))
+    and_from (is_home c) (nat_lt c.column (length r.values)) (first_so (is_home c) (is_column columns c.column) h)
+    (first_so (nat_lt c.column (length r.values)) (have_column c.column rows) (have c.column (second_so (is_home c) (is_column columns c.column) h)))) only named)
+    (have_all columns only rows named (λ c low. second_so (nat_lt c (length r.values)) (have_column c rows) (have c low)))
 
 below : (c n : ℕ) → is_column n c ≡ true → c < n
 below c n h = grind (arith, nat_tests)

@@ -4,6 +4,8 @@ use Rattle.std.specs.List.{AllByRecursion, list_all, list_any}
 use Rattle.std.proofs.lemmas.Bool.Decides.{nat_tests}
 use Rattle.std.proofs.lemmas.Grind.{common_steps}
 use Rattle.std.proofs.lemmas.List.{get_or_append_left}
+use Rattle.std.proofs.lemmas.Bool.{and_from}
+use Rattle.std.specs.Cmp.{first_so, second_so}
 use Rattle.rv_value.specs.declared.value.Value.{Value}
 use Rattle.rv_value.specs.declared.record.Record.{Record}
 use Rattle.rv_restrict.specs.declared.atom.Atom.{Atom}
@@ -12,7 +14,6 @@ use Rattle.rv_restrict.specs.Bind.{can_bind, outer_fits, passes_at, rows_has, ta
 use Rattle.rv_restrict.specs.Branches.{widths}
 use Rattle.rv_restrict.specs.Parts.{stands_among}
 use Rattle.rv_restrict.specs.Truth.{names_only, row_has}
-use Rattle.rv_restrict.proofs.Tests.{and_both, and_left, and_right}
 use Rattle.rv_restrict.proofs.Widths.{bound_widths}
 use Rattle.rv_reader.specs.Shown.{Shown}
 use Rattle.rv_scan.specs.Told.{width}
@@ -62,9 +63,9 @@ can_be_bound a outer wide = taken_named (outer_fits (length outer) outer) (lengt
 
 have_columns : (a : Asked) (outer : List (List Value)) (query : Query) (need : List ℕ) (rows : List Record) → Asks a outer query → ((c : ℕ) → asked_uses a (col_at (length outer) c) ≡ true → stands_among need c ≡ true) → ((c : ℕ) → stands_among need c ≡ true → have_column c rows ≡ true) → list_all (λ (r : Record). names_only (row_has r.values) query.only) rows ≡ true
 have_columns a outer query need [] asks covers have = refl
-have_columns a outer query need (r ∷ rows) asks covers have = and_both (names_only (row_has r.values) query.only) (list_all (λ (r : Record). names_only (row_has r.values) query.only) rows)
-    (asks.names (λ n. nat_lt n (length r.values)) (passes_used a (length outer) (λ n. nat_lt n (length r.values)) (λ c u. and_left (nat_lt c (length r.values)) (have_column c rows) (have c (covers c u)))))
-    (have_columns a outer query need rows asks covers (λ c s. and_right (nat_lt c (length r.values)) (have_column c rows) (have c s)))
+have_columns a outer query need (r ∷ rows) asks covers have = and_from (names_only (row_has r.values) query.only) (list_all (λ (r : Record). names_only (row_has r.values) query.only) rows)
+    (asks.names (λ n. nat_lt n (length r.values)) (passes_used a (length outer) (λ n. nat_lt n (length r.values)) (λ c u. first_so (nat_lt c (length r.values)) (have_column c rows) (have c (covers c u)))))
+    (have_columns a outer query need rows asks covers (λ c s. second_so (nat_lt c (length r.values)) (have_column c rows) (have c s)))
 
 indexes_of : (query : Query) (shown : Shown) (is : List (ℕ × List ℕ)) → AllByRecursion (λ (i : ℕ × List ℕ). IsIndexAt shown query.table query.snap i.0 i.1) is → AllByRecursion (λ (i : ℕ × List ℕ). IsIndexOf query shown i.0 i.1) is
 indexes_of query shown [] all = all
@@ -164,10 +165,10 @@ wide_more a shown outer row can inside wide c le u = elim (nat_lt c.place (lengt
     less q n h = grind (arith, nat_tests, h)
 
     front : c.place < length outer → rows_has (outer ++ last ∷ []) c ≡ true
-    front h = and_both (nat_lt c.place (length (outer ++ last ∷ []))) (nat_lt c.column (length (slice_index_or (outer ++ last ∷ []) c.place []))) (less _ _ le) (let same = get_or_append_left outer (last ∷ []) [] c.place h in rw same (and_right (nat_lt c.place (length outer)) (nat_lt c.column (length (slice_index_or outer c.place []))) (wide c h u)))
+    front h = and_from (nat_lt c.place (length (outer ++ last ∷ []))) (nat_lt c.column (length (slice_index_or (outer ++ last ∷ []) c.place []))) (less _ _ le) (let same = get_or_append_left outer (last ∷ []) [] c.place h in rw same (second_so (nat_lt c.place (length outer)) (nat_lt c.column (length (slice_index_or outer c.place []))) (wide c h u)))
 
     behind : c.place ≡ length outer → rows_has (outer ++ last ∷ []) c ≡ true
-    behind e = and_both (nat_lt c.place (length (outer ++ last ∷ []))) (nat_lt c.column (length (slice_index_or (outer ++ last ∷ []) c.place []))) (less _ _ le) (rw (e, last_row outer last []) (less c.column (length last) (reached (widened_long (width (item_at a (length outer)).need) row) (width_above (item_at a (length outer)).need c.column ((can.each (length outer) inside).need c.column (subst (λ q. asked_uses a (col_at q c.column) ≡ true) e u))))))
+    behind e = and_from (nat_lt c.place (length (outer ++ last ∷ []))) (nat_lt c.column (length (slice_index_or (outer ++ last ∷ []) c.place []))) (less _ _ le) (rw (e, last_row outer last []) (less c.column (length last) (reached (widened_long (width (item_at a (length outer)).need) row) (width_above (item_at a (length outer)).need c.column ((can.each (length outer) inside).need c.column (subst (λ q. asked_uses a (col_at q c.column) ≡ true) e u))))))
       where
         reached : {q n m : ℕ} → n ≤ m → q < n → q < m
         reached h i = omega (arith, h, i)

@@ -5,12 +5,12 @@ use Rattle.std.specs.List.Sorted.{IsPermutation}
 use Rattle.std.specs.Ordering.{ordering_reverse}
 use Rattle.std.proofs.lemmas.List.Sorted.{IsPermutation-refl}
 use Rattle.std.proofs.lemmas.List.Elements.{Contains-append_cases, Contains-append_right, Contains-append_left}
+use Rattle.std.specs.Cmp.{first_so, second_so}
 use Rattle.rv_value.specs.declared.value.Value.{Value}
 use Rattle.rv_value.specs.declared.record.Record.{Record}
 use Rattle.rv_value.specs.Order.{values_cmp}
 use Rattle.rv_value.specs.Orders.{values_cmp_total}
 use Rattle.rv_restrict.specs.Bind.{rows_reads}
-use Rattle.rv_restrict.proofs.Tests.{and_left, and_right}
 use Rattle.rv_model.specs.declared.state.Offer.{Offer}
 use Rattle.rv_reader.specs.Entries.{column_of}
 use Rattle.rv_reader.specs.Shown.{Shown}
@@ -73,13 +73,13 @@ least_in : (order : List ℕ) (r : Record) (rows : List Record) (x : Record) →
 least_in order r [] x least c = absurd (none_in x c)
 least_in order r (y ∷ rows) x least c = elim (Contains-append_cases (y ∷ []) rows x c) [
   | inl here ↦ lone here
-  | inr more ↦ least_in order r rows x (and_right (not (is_lt (values_cmp (order_of order y) (order_of order r)))) (list_all (λ (x : Record). not (is_lt (values_cmp (order_of order x) (order_of order r)))) rows) least) more
+  | inr more ↦ least_in order r rows x (second_so (not (is_lt (values_cmp (order_of order y) (order_of order r)))) (list_all (λ (x : Record). not (is_lt (values_cmp (order_of order x) (order_of order r)))) rows) least) more
 ]
   where
     lone : Contains (y ∷ []) x → is_lt (values_cmp (order_of order x) (order_of order r)) ≡ false
     lone c = let inside = c.1 in let at : c.0 ≡ 0 = omega (arith, inside) in
         let is : y ≡ x = subst (λ k. slice_index_or (y ∷ []) k x ≡ x) at c.2 in
-        subst (λ (z : Record). is_lt (values_cmp (order_of order z) (order_of order r)) ≡ false) is (not_less _ (and_left (not (is_lt (values_cmp (order_of order y) (order_of order r)))) _ least))
+        subst (λ (z : Record). is_lt (values_cmp (order_of order z) (order_of order r)) ≡ false) is (not_less _ (first_so (not (is_lt (values_cmp (order_of order y) (order_of order r)))) _ least))
 
 -- what stays of a rest stood in it
 stayed : (front behind : List Record) (taken x : Record) → Contains (front ++ behind) x → Contains (front ++ taken ∷ behind) x

@@ -2,6 +2,8 @@
 use Rattle.std.proofs.Common.{◌≡◌, ◌≢◌, ℕ, List, [], ◌∷◌, ◌++◌, Bool, true, false, cond, ◌&&◌, ◌||◌, ◌==◌, nat_eq, refl, sym, ◌∙◌, ap, subst, arith}
 use Rattle.std.specs.List.{list_any}
 use Rattle.std.proofs.lemmas.Bool.Decides.{nat_tests}
+use Rattle.std.proofs.lemmas.Bool.{and_from}
+use Rattle.std.specs.Cmp.{first_so, second_so}
 use Rattle.rv_restrict.specs.declared.atom.ColRef.{ColRef}
 use Rattle.rv_restrict.specs.declared.atom.Operand.TheVariants.{Literal, Column}
 use Rattle.rv_restrict.specs.declared.atom.Atom.{Atom}
@@ -9,7 +11,6 @@ use Rattle.rv_restrict.specs.declared.atom.Atom.TheVariants.{Compare, Between, A
 use Rattle.rv_restrict.specs.Bind.{group_place, taken}
 use Rattle.rv_restrict.specs.Parts.{stands_among}
 use Rattle.rv_restrict.specs.Truth.{atom_names_only, group_names_only, names_only}
-use Rattle.rv_restrict.proofs.Tests.{and_both, and_left, and_right}
 use Rattle.rv_join.specs.declared.places.Asked.{Asked}
 use Rattle.rv_join.specs.Asking.{Adds, asked_uses, atom_names, col_at, group_names, only_names, same_column}
 
@@ -23,8 +24,8 @@ pub or_right : (a b : Bool) → b ≡ true → (a || b) ≡ true
 or_right a b h = grind arith
 
 atom_named : (q : ColRef → Bool) (a : Atom) → ((c : ColRef) → atom_names c a ≡ true → q c ≡ true) → atom_names_only q a ≡ true
-atom_named q (Compare c op (Literal v)) h = and_both (q c) true (h c (or_left (same_column c c) false (same_itself c))) refl
-atom_named q (Compare c op (Column d)) h = and_both (q c) (q d) (h c (or_left (same_column c c) (same_column c d) (same_itself c))) (h d (or_right (same_column d c) (same_column d d) (same_itself d)))
+atom_named q (Compare c op (Literal v)) h = and_from (q c) true (h c (or_left (same_column c c) false (same_itself c))) refl
+atom_named q (Compare c op (Column d)) h = and_from (q c) (q d) (h c (or_left (same_column c c) (same_column c d) (same_itself c))) (h d (or_right (same_column d c) (same_column d d) (same_itself d)))
 atom_named q (Between c low high) h = h c (same_itself c)
 atom_named q (Among c list) h = h c (same_itself c)
 atom_named q (IsNull c negated) h = h c (same_itself c)
@@ -33,18 +34,18 @@ atom_named q (Const t) h = refl
 
 group_named : (q : ColRef → Bool) (g : List Atom) → ((c : ColRef) → group_names c g ≡ true → q c ≡ true) → group_names_only q g ≡ true
 group_named q [] h = refl
-group_named q (a ∷ g) h = and_both (atom_names_only q a) (group_names_only q g) (atom_named q a (λ c n. h c (or_left (atom_names c a) (group_names c g) n))) (group_named q g (λ c n. h c (or_right (atom_names c a) (group_names c g) n)))
+group_named q (a ∷ g) h = and_from (atom_names_only q a) (group_names_only q g) (atom_named q a (λ c n. h c (or_left (atom_names c a) (group_names c g) n))) (group_named q g (λ c n. h c (or_right (atom_names c a) (group_names c g) n)))
 
 pub only_named : (q : ColRef → Bool) (only : List (List Atom)) → ((c : ColRef) → only_names c only ≡ true → q c ≡ true) → names_only q only ≡ true
 only_named q [] h = refl
-only_named q (g ∷ only) h = and_both (group_names_only q g) (names_only q only) (group_named q g (λ c n. h c (or_left (group_names c g) (only_names c only) n))) (only_named q only (λ c n. h c (or_right (group_names c g) (only_names c only) n)))
+only_named q (g ∷ only) h = and_from (group_names_only q g) (names_only q only) (group_named q g (λ c n. h c (or_left (group_names c g) (only_names c only) n))) (only_named q only (λ c n. h c (or_right (group_names c g) (only_names c only) n)))
 
 pub taken_named : (q : ColRef → Bool) (place : ℕ) (only : List (List Atom)) → names_only q only ≡ true → names_only q (taken place only) ≡ true
 taken_named q place [] h = refl
 taken_named q place (g ∷ only) h =
-    let tail = taken_named q place only (and_right (group_names_only q g) (names_only q only) h) in
+    let tail = taken_named q place only (second_so (group_names_only q g) (names_only q only) h) in
     elim (group_place g == place) as (λ b. names_only q (cond b (g ∷ taken place only) (taken place only)) ≡ true) [
-      | true ↦ and_both (group_names_only q g) (names_only q (taken place only)) (and_left (group_names_only q g) (names_only q only) h) tail
+      | true ↦ and_from (group_names_only q g) (names_only q (taken place only)) (first_so (group_names_only q g) (names_only q only) h) tail
       | false ↦ tail
     ]
 

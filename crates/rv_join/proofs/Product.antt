@@ -4,6 +4,7 @@ use Rattle.std.specs.List.{list_all, flat_map}
 use Rattle.std.proofs.lemmas.List.{append_assoc, get_or_append_left}
 use Rattle.std.proofs.lemmas.Bool.Decides.{nat_tests}
 use Rattle.std.proofs.lemmas.Grind.{common_steps}
+use Rattle.std.proofs.lemmas.Bool.{and_from}
 use Rattle.rv_value.specs.declared.value.Value.{Value}
 use Rattle.rv_value.specs.declared.value.Value.TheVariants.{Null}
 use Rattle.rv_value.specs.declared.record.Record.{Record}
@@ -16,7 +17,6 @@ use Rattle.rv_restrict.specs.declared.atom.Tri.TheVariants.{True, False, Unknown
 use Rattle.rv_restrict.specs.Bind.{atom_place, group_place, rows_reads, taken}
 use Rattle.rv_restrict.specs.Truth.{atom_names_only, group_names_only, group_truth, is_true, lesser, names_only, truth_by}
 use Rattle.rv_restrict.proofs.Names.{truth_same}
-use Rattle.rv_restrict.proofs.Tests.{and_both}
 use Rattle.rv_reader.specs.Shown.{Shown}
 use Rattle.rv_join.specs.declared.places.Asked.{Asked}
 use Rattle.rv_join.specs.Asking.{holds}
@@ -59,8 +59,8 @@ below_test : (p n : ℕ) → p < n → nat_lt p n ≡ true
 below_test p n h = grind (arith, nat_tests, h)
 
 atom_below : (n : ℕ) (a : Atom) → atom_place a < n → atom_names_only (λ (c : ColRef). nat_lt c.place n) a ≡ true
-atom_below n (Compare c op (Literal v)) h = and_both (nat_lt c.place n) true (below_test c.place n (max_left c.place 0 n h)) refl
-atom_below n (Compare c op (Column d)) h = and_both (nat_lt c.place n) (nat_lt d.place n) (below_test c.place n (max_left c.place d.place n h)) (below_test d.place n (max_right c.place d.place n h))
+atom_below n (Compare c op (Literal v)) h = and_from (nat_lt c.place n) true (below_test c.place n (max_left c.place 0 n h)) refl
+atom_below n (Compare c op (Column d)) h = and_from (nat_lt c.place n) (nat_lt d.place n) (below_test c.place n (max_left c.place d.place n h)) (below_test d.place n (max_right c.place d.place n h))
 atom_below n (Between c low high) h = below_test c.place n h
 atom_below n (Among c list) h = below_test c.place n h
 atom_below n (IsNull c negated) h = below_test c.place n h
@@ -69,14 +69,14 @@ atom_below n (Const t) h = refl
 
 group_below : (n : ℕ) (g : List Atom) → group_place g < n → group_names_only (λ (c : ColRef). nat_lt c.place n) g ≡ true
 group_below n [] h = refl
-group_below n (a ∷ g) h = and_both (atom_names_only (λ (c : ColRef). nat_lt c.place n) a) (group_names_only (λ (c : ColRef). nat_lt c.place n) g) (atom_below n a (max_left (atom_place a) (group_place g) n h)) (group_below n g (max_right (atom_place a) (group_place g) n h))
+group_below n (a ∷ g) h = and_from (atom_names_only (λ (c : ColRef). nat_lt c.place n) a) (group_names_only (λ (c : ColRef). nat_lt c.place n) g) (atom_below n a (max_left (atom_place a) (group_place g) n h)) (group_below n g (max_right (atom_place a) (group_place g) n h))
 
 taken_below : (n place : ℕ) (only : List (List Atom)) → place < n → names_only (λ (c : ColRef). nat_lt c.place n) (taken place only) ≡ true
 taken_below n place [] le = refl
 taken_below n place (g ∷ only) le =
     let tail = taken_below n place only le in
     elim (group_place g == place) as (λ b. (group_place g == place) ≡ b → names_only (λ (c : ColRef). nat_lt c.place n) (cond b (g ∷ taken place only) (taken place only)) ≡ true) [
-      | true ↦ λ e. and_both (group_names_only (λ (c : ColRef). nat_lt c.place n) g) (names_only (λ (c : ColRef). nat_lt c.place n) (taken place only)) (group_below n g (here (group_place g) e)) tail
+      | true ↦ λ e. and_from (group_names_only (λ (c : ColRef). nat_lt c.place n) g) (names_only (λ (c : ColRef). nat_lt c.place n) (taken place only)) (group_below n g (here (group_place g) e)) tail
       | false ↦ λ e. tail
     ] refl
   where

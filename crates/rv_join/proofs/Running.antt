@@ -3,6 +3,8 @@ use Rattle.std.proofs.Common.{◌≡◌, ◌⊎◌, ℕ, ◌+◌, ◌<◌, ◌�
 use Rattle.std.specs.List.{AllByRecursion, IsDistinct, list_all, list_any}
 use Rattle.std.proofs.lemmas.Bool.Decides.{nat_tests}
 use Rattle.std.proofs.lemmas.List.{get_or_append_left}
+use Rattle.std.specs.Cmp.{first_so, second_so}
+use Rattle.std.proofs.lemmas.Bool.{and_from}
 use Rattle.rv_rows.specs.Rows.{Ascend}
 use Rattle.rv_restrict.specs.declared.atom.ColRef.{ColRef}
 use Rattle.rv_restrict.specs.declared.atom.Atom.{Atom}
@@ -16,7 +18,6 @@ use Rattle.rv_join.specs.declared.places.Asked.{Asked}
 use Rattle.rv_join.specs.declared.places.Item.{Item}
 use Rattle.rv_restrict.specs.declared.atom.Operand.TheVariants.{Literal, Column}
 use Rattle.rv_restrict.specs.declared.atom.Atom.TheVariants.{Compare, Between, Among, IsNull, Starts, Const}
-use Rattle.rv_restrict.proofs.Tests.{and_both, and_left, and_right}
 use Rattle.rv_join.specs.declared.gather.Stage.TheVariants.{AsFound, Gathering}
 use Rattle.rv_join.specs.Asking.{CanPlan, CanRun, CanRunItem, IsAsked, IsIndexAt, IsItem, asked_uses, atom_names, by_index, col_at, columns_of, group_names, have_column, index_at, indexes_from, is_first, item_at, no_item, only_names, order_at, rows_at, same_column, select_uses, table_at}
 use Rattle.rv_join.specs.Levels.{table_rows, tables_of, under}
@@ -69,8 +70,8 @@ each_index shown snap table n (d ∷ ds) each =
 stands_order : (cs : List ColRef) (c : ℕ) → list_all is_first cs ≡ true → stands_among (columns_of cs) c ≡ true → list_any (same_column (col_at 0 c)) cs ≡ true
 stands_order [] c all s = s
 stands_order (d ∷ cs) c all s = elim (d.column == c) as (λ b. (d.column == c) ≡ b → (b || stands_among (columns_of cs) c) ≡ true → list_any (same_column (col_at 0 c)) (d ∷ cs) ≡ true) [
-  | true ↦ λ e g. or_left (same_column (col_at 0 c) d) (list_any (same_column (col_at 0 c)) cs) (here d.place d.column (and_left (nat_eq d.place 0) (list_all is_first cs) all) e)
-  | false ↦ λ e g. or_right (same_column (col_at 0 c) d) (list_any (same_column (col_at 0 c)) cs) (stands_order cs c (and_right (nat_eq d.place 0) (list_all is_first cs) all) g)
+  | true ↦ λ e g. or_left (same_column (col_at 0 c) d) (list_any (same_column (col_at 0 c)) cs) (here d.place d.column (first_so (nat_eq d.place 0) (list_all is_first cs) all) e)
+  | false ↦ λ e g. or_right (same_column (col_at 0 c) d) (list_any (same_column (col_at 0 c)) cs) (stands_order cs c (second_so (nat_eq d.place 0) (list_all is_first cs) all) g)
 ] refl s
   where
     here : (p n : ℕ) → nat_eq p 0 ≡ true → (n == c) ≡ true → (nat_eq 0 p && nat_eq c n) ≡ true
@@ -78,7 +79,7 @@ stands_order (d ∷ cs) c all s = elim (d.column == c) as (λ b. (d.column == c)
 
 within : (s : Select) (indexes : List IndexDef) (p c : ℕ) → stands_among (order_at s indexes p) c ≡ true → select_uses s (col_at p c) ≡ true
 within s indexes p c h = elim (nat_eq p 0 && by_index s indexes) as (λ b. (nat_eq p 0 && by_index s indexes) ≡ b → stands_among (cond b (columns_of s.order) []) c ≡ true → select_uses s (col_at p c) ≡ true) [
-  | true ↦ λ e g. subst (λ q. select_uses s (col_at q c) ≡ true) (zero_is p (and_left (nat_eq p 0) (by_index s indexes) e)) (or_right (list_any (same_column (col_at 0 c)) s.returns) _ (or_left (list_any (same_column (col_at 0 c)) s.order) _ (stands_order s.order c (and_left (list_all is_first s.order) _ (and_right (nat_eq p 0) (by_index s indexes) e)) g)))
+  | true ↦ λ e g. subst (λ q. select_uses s (col_at q c) ≡ true) (zero_is p (first_so (nat_eq p 0) (by_index s indexes) e)) (or_right (list_any (same_column (col_at 0 c)) s.returns) _ (or_left (list_any (same_column (col_at 0 c)) s.order) _ (stands_order s.order c (first_so (list_all is_first s.order) _ (second_so (nat_eq p 0) (by_index s indexes) e)) g)))
   | false ↦ λ e g. absurd (cc)
 ] refl h
   where
@@ -88,7 +89,7 @@ within s indexes p c h = elim (nat_eq p 0 && by_index s indexes) as (λ b. (nat_
 -- no order, or an index begins with it
 order_led : (s : Select) (indexes : List IndexDef) (p : ℕ) → (order_at s indexes p ≡ []) ⊎ (begins_any (indexes_from (table_at s p) 0 indexes) (order_at s indexes p) ≡ true)
 order_led s indexes p = elim (nat_eq p 0 && by_index s indexes) as (λ b. (nat_eq p 0 && by_index s indexes) ≡ b → (cond b (columns_of s.order) [] ≡ []) ⊎ (begins_any (indexes_from (table_at s p) 0 indexes) (cond b (columns_of s.order) []) ≡ true)) [
-  | true ↦ λ e. inr (subst (λ q. begins_any (indexes_from (table_at s q) 0 indexes) (columns_of s.order) ≡ true) (zero_is p (and_left (nat_eq p 0) (by_index s indexes) e)) (and_right (list_all is_first s.order) _ (and_right (nat_eq p 0) (by_index s indexes) e)))
+  | true ↦ λ e. inr (subst (λ q. begins_any (indexes_from (table_at s q) 0 indexes) (columns_of s.order) ≡ true) (zero_is p (first_so (nat_eq p 0) (by_index s indexes) e)) (second_so (list_all is_first s.order) _ (second_so (nat_eq p 0) (by_index s indexes) e)))
   | false ↦ λ e. inl refl
 ] refl
   where
@@ -148,7 +149,7 @@ tables_same (t ∷ tables) (i ∷ items) long each = rw (each 0 (omega arith), t
 -- each group's place is below the number of items
 placed : (n : ℕ) (only : List (List Atom)) → ((c : ColRef) → only_names c only ≡ true → c.place < n) → 1 ≤ n → are_placed n only ≡ true
 placed n [] h some = refl
-placed n (g ∷ only) h some = and_both (not (nat_le n (group_place g))) (are_placed n only) (test (group_place g) (group_placed g (λ c m. h c (or_left (group_names c g) (only_names c only) m)))) (placed n only (λ c m. h c (or_right (group_names c g) (only_names c only) m)) some)
+placed n (g ∷ only) h some = and_from (not (nat_le n (group_place g))) (are_placed n only) (test (group_place g) (group_placed g (λ c m. h c (or_left (group_names c g) (only_names c only) m)))) (placed n only (λ c m. h c (or_right (group_names c g) (only_names c only) m)) some)
   where
     test : (p : ℕ) → p < n → not (nat_le n p) ≡ true
     test p le = grind (arith, nat_tests, le)
@@ -175,7 +176,7 @@ offers_are s indexes shown snap cursor a can asked = let tables = tables_same s.
 
 columns_back : (cs : List ColRef) → list_all is_first cs ≡ true → cs ≡ map (col_at 0) (columns_of cs)
 columns_back [] all = refl
-columns_back (c ∷ cs) all = rw (← columns_back cs (and_right (is_first c) (list_all is_first cs) all)) (ap (λ (d : ColRef). d ∷ cs) (back c (and_left (is_first c) (list_all is_first cs) all)))
+columns_back (c ∷ cs) all = rw (← columns_back cs (second_so (is_first c) (list_all is_first cs) all)) (ap (λ (d : ColRef). d ∷ cs) (back c (first_so (is_first c) (list_all is_first cs) all)))
   where
     zero_is : (p : ℕ) → nat_eq p 0 ≡ true → p ≡ 0
     zero_is p e = grind (arith, nat_tests, e)
@@ -195,7 +196,7 @@ pub by_first : (s : Select) (indexes : List IndexDef) (snap cursor : ℕ) (a : A
 by_first s indexes snap cursor a some asked stage = record { columns = asked.order ∙ ordered (by_index s indexes) refl stage ∙ ap (map (col_at 0)) (sym (asked.items 0 (omega (arith, some))).order) }
   where
     ordered : (b : Bool) → by_index s indexes ≡ b → (if (length s.order == 0) || b then AsFound else Gathering) ≡ AsFound → s.order ≡ map (col_at 0) (order_at s indexes 0)
-    ordered true e h = rw e (columns_back s.order (and_left (list_all is_first s.order) _ e))
+    ordered true e h = rw e (columns_back s.order (first_so (list_all is_first s.order) _ e))
     ordered false e h = elim (length s.order == 0) as (λ b. (length s.order == 0) ≡ b → (if b || false then AsFound else Gathering) ≡ AsFound → s.order ≡ map (col_at 0) (order_at s indexes 0)) [
       | true ↦ λ f g. rw (e, none_ordered s.order f) refl
       | false ↦ λ f g. no_stage g

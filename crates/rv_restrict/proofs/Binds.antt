@@ -7,6 +7,8 @@ use Rattle.std.specs.declared.cmp.Ordering.{Ordering}
 use Rattle.std.specs.declared.cmp.Ordering.TheVariants.{Less, Equal, Greater}
 use Rattle.std.proofs.lemmas.List.{get_or_append_left}
 use Rattle.std.proofs.Math.Seq.{get_or-append_seam}
+use Rattle.std.proofs.lemmas.Bool.{and_from}
+use Rattle.std.specs.Cmp.{first_so, second_so}
 use Rattle.rv_value.specs.declared.value.Value.{Value}
 use Rattle.rv_value.specs.declared.value.Value.TheVariants.{Null}
 use Rattle.rv_value.specs.Order.{value_cmp}
@@ -20,7 +22,7 @@ use Rattle.rv_restrict.specs.declared.atom.Atom.{Atom}
 use Rattle.rv_restrict.specs.declared.atom.Atom.TheVariants.{Compare, Between, Among, IsNull, Starts, Const}
 use Rattle.rv_restrict.specs.Truth.{answers, compared, is_null, atom_truth, group_truth, truth_by, truth, operand_names_only, atom_names_only, group_names_only, names_only, row_reads}
 use Rattle.rv_restrict.specs.Bind.{rows_reads, rows_has, truth_over, is_below, outer_fits, bound, taken, home, turned, bound_columns, bound_atom, moved, atom_place, group_place, passes_at, passes_home}
-use Rattle.rv_restrict.proofs.Tests.{and_left, and_right, and_both, and_true, or_turned}
+use Rattle.rv_restrict.proofs.Tests.{and_true, or_turned}
 use Rattle.rv_restrict.proofs.Names.{atom_same}
 
 below_length : (place : ℕ) (outer : List (List Value)) (c : ColRef) → length outer ≡ place → is_below place c ≡ true → c.place < length outer
@@ -112,13 +114,13 @@ at_place place p c n b h = let e : (c.place == place) ≡ true = grind (arith, n
 
 columns_names : (place : ℕ) (outer : List (List Value)) (p : ℕ → Bool) (c : ColRef) (op : Op) (d : ColRef) (b e : Bool) → c.place ≤ place → d.place ≤ place → is_below place c ≡ b → is_below place d ≡ e → (b && e) ≡ false → passes_at place p c ≡ true → passes_at place p d ≡ true → atom_names_only (passes_home p) (bound_columns place outer c op d) ≡ true
 columns_names place outer p c op d true true hc hd bc bd not_both pc pd = absurd (cc)
-columns_names place outer p c op d true false hc hd bc bd not_both pc pd = rw bc (and_both (p d.column) true (at_place place p d hd bd pd) refl)
-columns_names place outer p c op d false true hc hd bc bd not_both pc pd = rw (bc, bd) (and_both (p c.column) true (at_place place p c hc bc pc) refl)
-columns_names place outer p c op d false false hc hd bc bd not_both pc pd = rw (bc, bd) (and_both (p c.column) (p d.column) (at_place place p c hc bc pc) (at_place place p d hd bd pd))
+columns_names place outer p c op d true false hc hd bc bd not_both pc pd = rw bc (and_from (p d.column) true (at_place place p d hd bd pd) refl)
+columns_names place outer p c op d false true hc hd bc bd not_both pc pd = rw (bc, bd) (and_from (p c.column) true (at_place place p c hc bc pc) refl)
+columns_names place outer p c op d false false hc hd bc bd not_both pc pd = rw (bc, bd) (and_from (p c.column) (p d.column) (at_place place p c hc bc pc) (at_place place p d hd bd pd))
 
 moved_names : (place : ℕ) (outer : List (List Value)) (p : ℕ → Bool) (a : Atom) → atom_place a ≤ place → atom_names_only (is_below place) a ≡ false → atom_names_only (passes_at place p) a ≡ true → atom_names_only (passes_home p) (moved place outer a) ≡ true
-moved_names place outer p (Compare c op (Literal v)) h f k = and_both (p c.column) true (at_place place p c (omega arith) (and_true (is_below place c) f) (and_left (passes_at place p c) true k)) refl
-moved_names place outer p (Compare c op (Column d)) h f k = columns_names place outer p c op d (is_below place c) (is_below place d) (omega arith) (omega arith) refl refl f (and_left (passes_at place p c) (passes_at place p d) k) (and_right (passes_at place p c) (passes_at place p d) k)
+moved_names place outer p (Compare c op (Literal v)) h f k = and_from (p c.column) true (at_place place p c (omega arith) (and_true (is_below place c) f) (first_so (passes_at place p c) true k)) refl
+moved_names place outer p (Compare c op (Column d)) h f k = columns_names place outer p c op d (is_below place c) (is_below place d) (omega arith) (omega arith) refl refl f (first_so (passes_at place p c) (passes_at place p d) k) (second_so (passes_at place p c) (passes_at place p d) k)
 moved_names place outer p (Between c low high) h f k = at_place place p c h f k
 moved_names place outer p (Among c list) h f k = at_place place p c h f k
 moved_names place outer p (IsNull c negated) h f k = at_place place p c h f k
@@ -133,11 +135,11 @@ atom_names place outer p a h k = elim (atom_names_only (is_below place) a) as (�
 
 group_names : (place : ℕ) (outer : List (List Value)) (p : ℕ → Bool) (g : List Atom) → group_place g ≤ place → group_names_only (passes_at place p) g ≡ true → group_names_only (passes_home p) (map (bound_atom place outer) g) ≡ true
 group_names place outer p [] h k = refl
-group_names place outer p (a ∷ more) h k = and_both (atom_names_only (passes_home p) (bound_atom place outer a)) (group_names_only (passes_home p) (map (bound_atom place outer) more)) (atom_names place outer p a (omega arith) (and_left (atom_names_only (passes_at place p) a) (group_names_only (passes_at place p) more) k)) (group_names place outer p more (omega arith) (and_right (atom_names_only (passes_at place p) a) (group_names_only (passes_at place p) more) k))
+group_names place outer p (a ∷ more) h k = and_from (atom_names_only (passes_home p) (bound_atom place outer a)) (group_names_only (passes_home p) (map (bound_atom place outer) more)) (atom_names place outer p a (omega arith) (first_so (atom_names_only (passes_at place p) a) (group_names_only (passes_at place p) more) k)) (group_names place outer p more (omega arith) (second_so (atom_names_only (passes_at place p) a) (group_names_only (passes_at place p) more) k))
 
 pub bound_names : (place : ℕ) (outer : List (List Value)) (p : ℕ → Bool) (only : List (List Atom)) → names_only (passes_at place p) (taken place only) ≡ true → names_only (passes_home p) (bound place outer only) ≡ true
 bound_names place outer p [] k = refl
 bound_names place outer p (g ∷ more) k = elim (group_place g == place) as (λ b. group_place g == place ≡ b → names_only (passes_at place p) (cond b (g ∷ taken place more) (taken place more)) ≡ true → names_only (passes_home p) (map (map (bound_atom place outer)) (cond b (g ∷ taken place more) (taken place more))) ≡ true) [
-  | true ↦ λ e t. and_both (group_names_only (passes_home p) (map (bound_atom place outer) g)) (names_only (passes_home p) (bound place outer more)) (group_names place outer p g (at_most (group_place g) place e) (and_left (group_names_only (passes_at place p) g) (names_only (passes_at place p) (taken place more)) t)) (bound_names place outer p more (and_right (group_names_only (passes_at place p) g) (names_only (passes_at place p) (taken place more)) t))
+  | true ↦ λ e t. and_from (group_names_only (passes_home p) (map (bound_atom place outer) g)) (names_only (passes_home p) (bound place outer more)) (group_names place outer p g (at_most (group_place g) place e) (first_so (group_names_only (passes_at place p) g) (names_only (passes_at place p) (taken place more)) t)) (bound_names place outer p more (second_so (group_names_only (passes_at place p) g) (names_only (passes_at place p) (taken place more)) t))
   | false ↦ λ e t. bound_names place outer p more t
 ] refl k

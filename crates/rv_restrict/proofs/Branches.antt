@@ -1,9 +1,11 @@
 -- A group is True exactly where some branch is, and each branch names only columns of the group.
-use Rattle.std.proofs.Common.{◌≡◌, ℕ, ◌<◌, List, [], ◌∷◌, ◌++◌, length, subst, Bool, true, false, cond, not, ◌&&◌, ◌||◌, filter, map, refl, ap, sym, ◌∙◌, arith}
+use Rattle.std.proofs.Common.{◌≡◌, ℕ, ◌<◌, List, [], ◌∷◌, length, subst, Bool, true, false, cond, not, ◌&&◌, ◌||◌, filter, map, refl, ap, sym, ◌∙◌}
 use Rattle.std.specs.Prelude.{Vec}
 use Rattle.std.specs.List.{list_all, list_any, slice_index_or}
 use Rattle.std.proofs.lemmas.List.{get_or-map, length-map}
 use Rattle.std.proofs.lemmas.List.Folds.{list_all-append, list_any-append}
+use Rattle.std.proofs.lemmas.Bool.{and_from}
+use Rattle.std.specs.Cmp.{first_so, second_so}
 use Rattle.rv_value.specs.declared.value.Value.{Value}
 use Rattle.rv_restrict.specs.declared.atom.ColRef.{ColRef}
 use Rattle.rv_restrict.specs.declared.atom.Op.TheVariants.{Eq}
@@ -93,15 +95,6 @@ some_branch read (a ∷ group) =
 
 -- THE COLUMNS
 
-both : (a b : Bool) → a ≡ true → b ≡ true → (a && b) ≡ true
-both a b h i = grind arith
-
-left : (a b : Bool) → (a && b) ≡ true → a ≡ true
-left a b h = grind arith
-
-right : (a b : Bool) → (a && b) ≡ true → b ≡ true
-right a b h = grind arith
-
 one_names : (p : ColRef → Bool) (a : Atom) → atom_names_only p a ≡ true → list_all (names_only p) (alone a ∷ []) ≡ true
 one_names p a h = and_true (names_only p (alone a)) ∙ and_true (group_names_only p (a ∷ [])) ∙ and_true (atom_names_only p a) ∙ h
 
@@ -112,7 +105,7 @@ equals_names p c (v ∷ list) h =
     let keeps = filter (λ (w : Value). not (is_null w)) list in
     elim (is_null v) as (λ n. list_all (names_only p) (map alone (map (equal_to c) (cond (not n) (v ∷ keeps) keeps))) ≡ true) [
       | true ↦ more
-      | false ↦ both (names_only p (alone (equal_to c v))) (list_all (names_only p) (map alone (map (equal_to c) keeps))) (and_true (group_names_only p (equal_to c v ∷ [])) ∙ and_true (atom_names_only p (equal_to c v)) ∙ and_true (p c) ∙ h) more
+      | false ↦ and_from (names_only p (alone (equal_to c v))) (list_all (names_only p) (map alone (map (equal_to c) keeps))) (and_true (group_names_only p (equal_to c v ∷ [])) ∙ and_true (atom_names_only p (equal_to c v)) ∙ and_true (p c) ∙ h) more
     ]
 
 atom_names : (p : ColRef → Bool) (a : Atom) → atom_names_only p a ≡ true → list_all (names_only p) (map alone (alternatives a)) ≡ true
@@ -128,4 +121,4 @@ pub branch_names : (p : ColRef → Bool) (group : List Atom) → group_names_onl
 branch_names p [] h = refl
 branch_names p (a ∷ group) h =
     list_all-append (names_only p) (map alone (alternatives a)) (branches_of group)
-    ∙ both (list_all (names_only p) (map alone (alternatives a))) (list_all (names_only p) (branches_of group)) (atom_names p a (left (atom_names_only p a) (group_names_only p group) h)) (branch_names p group (right (atom_names_only p a) (group_names_only p group) h))
+    ∙ and_from (list_all (names_only p) (map alone (alternatives a))) (list_all (names_only p) (branches_of group)) (atom_names p a (first_so (atom_names_only p a) (group_names_only p group) h)) (branch_names p group (second_so (atom_names_only p a) (group_names_only p group) h))

@@ -2,10 +2,11 @@
 use Rattle.std.proofs.Common.{◌≡◌, ℕ, List, [], ◌∷◌, ◌++◌, Bool, true, false, cond, not, ◌&&◌, ◌||◌, Option, Some, None, refl, sym, ◌∙◌, append_assoc, nat_eq, take, length}
 use Rattle.std.specs.List.{slice_index_or}
 use Rattle.std.specs.Ordering.{is_eq, is_lt, is_le, is_gt, is_ge, ordering_then, nat_cmp}
-use Rattle.std.specs.Cmp.{nat_cmp_is}
+use Rattle.std.specs.Cmp.{nat_cmp_is, first_so, second_so}
 use Rattle.std.specs.Cmp.Lexicographic.{slice_cmp, pointwise}
 use Rattle.std.specs.declared.cmp.Ordering.{Ordering}
 use Rattle.std.specs.declared.cmp.Ordering.TheVariants.{Less, Equal, Greater}
+use Rattle.std.proofs.lemmas.Bool.{or_parts}
 use Rattle.rv_value.specs.declared.value.Value.{Value}
 use Rattle.rv_value.specs.declared.value.Value.TheVariants.{Null, Int, Str}
 use Rattle.rv_value.specs.declared.range.Range.{Range}
@@ -23,7 +24,7 @@ use Rattle.rv_restrict.specs.declared.atom.Tri.TheVariants.{True, Unknown}
 use Rattle.rv_restrict.specs.Truth.{truth, truth_by, group_truth, atom_truth, truth_of, answers, compared, between, is_null, started, null_test, value_of, row_reads}
 use Rattle.rv_restrict.specs.Ranges.{End, open_at, closed_at, Limit, limit, compare_limit, operand_limit, between_limit, null_limit, is_on, group_limit, limits_on, first_equal, first_start, pick, greater_end, lesser_end, greatest_low, least_high, closed_bound, equal_range, starting_range, high_bound, bounded_range, if_some, last_range, range_from, range_for, key_of}
 use Rattle.rv_restrict.specs.Ranges.Limit.{Free, Same, Begins, Within}
-use Rattle.rv_restrict.proofs.Tests.{and_left, and_right, or_parts, same_number, lesser_left, lesser_right, greater_False, truth_of_true}
+use Rattle.rv_restrict.proofs.Tests.{same_number, lesser_left, lesser_right, greater_False, truth_of_true}
 
 -- What a value keeps.
 abbrev pub AtMost : Value → Option End → Type 0
@@ -247,7 +248,7 @@ begins_not_less : (s t : List ℕ) → pointwise nat_eq t (take (length t) s) �
 begins_not_less [] [] h = refl
 begins_not_less (c ∷ cs) [] h = refl
 begins_not_less [] (d ∷ ds) h = absurd (cc)
-begins_not_less (c ∷ cs) (d ∷ ds) h = let e : c ≡ d = sym (same_number d c (and_left (nat_eq d c) (pointwise nat_eq ds (take (length ds) cs)) h)) in rw (sym (nat_cmp_is c d Equal e)) (begins_not_less cs ds (and_right (nat_eq d c) (pointwise nat_eq ds (take (length ds) cs)) h))
+begins_not_less (c ∷ cs) (d ∷ ds) h = let e : c ≡ d = sym (same_number d c (first_so (nat_eq d c) (pointwise nat_eq ds (take (length ds) cs)) h)) in rw (sym (nat_cmp_is c d Equal e)) (begins_not_less cs ds (second_so (nat_eq d c) (pointwise nat_eq ds (take (length ds) cs)) h))
 
 not_less : (o : Ordering) → is_lt o ≡ false → falls_under o true ≡ false
 not_less Less h = absurd (cc)

@@ -1,6 +1,7 @@
 -- A part passes the key of every row on which its groups are True.
 use Rattle.std.proofs.Common.{IfOk, Result, Ok, Err, ◌≡◌, ℕ, List, [], ◌∷◌, Bool, true, false, cond, ◌||◌, ◌==◌, filter, length, refl, ap, arith}
 use Rattle.std.specs.List.{slice_index_or}
+use Rattle.std.proofs.lemmas.Bool.{and_from}
 use Rattle.rv_value.specs.declared.value.Value.{Value}
 use Rattle.rv_value.specs.declared.value.Value.TheVariants.{Null}
 use Rattle.rv_restrict.specs.declared.atom.ColRef.{ColRef}
@@ -9,7 +10,7 @@ use Rattle.rv_restrict.specs.declared.atom.Tri.TheVariants.{True}
 use Rattle.rv_restrict.specs.Truth.{truth, truth_by, group_truth, is_true, group_names_only, names_only, row_reads}
 use Rattle.rv_restrict.specs.Ranges.{key_of}
 use Rattle.rv_restrict.specs.Parts.{Parted, stands_among, lies_in, inside, part_of, value_in, has_value, key_reads, key_has, passes}
-use Rattle.rv_restrict.proofs.Tests.{and_both, same_number, lesser_left, lesser_right}
+use Rattle.rv_restrict.proofs.Tests.{same_number, lesser_left, lesser_right}
 use Rattle.rv_restrict.proofs.Names.{names_weaker, truth_same}
 
 -- A key that is as long as the index has columns has a value for each of them.
@@ -24,7 +25,7 @@ key_stands columns cs key ks groups gs n h e f g = rw (e, f, g) (names_weaker (l
 inside_lies : (columns : List ℕ) (groups : List (List Atom)) → names_only (lies_in columns) (inside columns groups) ≡ true
 inside_lies columns [] = refl
 inside_lies columns (g ∷ more) = elim (group_names_only (lies_in columns) g) as (λ b. group_names_only (lies_in columns) g ≡ b → names_only (lies_in columns) (cond b (g ∷ inside columns more) (inside columns more)) ≡ true) [
-  | true ↦ λ e. and_both (group_names_only (lies_in columns) g) (names_only (lies_in columns) (inside columns more)) e (inside_lies columns more)
+  | true ↦ λ e. and_from (group_names_only (lies_in columns) g) (names_only (lies_in columns) (inside columns more)) e (inside_lies columns more)
   | false ↦ λ e. inside_lies columns more
 ] refl
 

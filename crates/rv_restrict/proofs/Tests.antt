@@ -2,21 +2,11 @@
 use Rattle.std.proofs.Common.{◌≡◌, ℕ, List, [], ◌∷◌, Bool, true, false, ◌&&◌, ◌||◌, ◌==◌, refl, arith}
 use Rattle.std.specs.List.{list_all}
 use Rattle.std.proofs.lemmas.Bool.Decides.{nat_tests}
+use Rattle.std.proofs.lemmas.Bool.{and_from}
+use Rattle.std.specs.Cmp.{first_so, second_so}
 use Rattle.rv_restrict.specs.declared.atom.Tri.{Tri}
 use Rattle.rv_restrict.specs.declared.atom.Tri.TheVariants.{True, False, Unknown}
 use Rattle.rv_restrict.specs.Truth.{greater, lesser, truth_of}
-
-pub and_left : (a b : Bool) → (a && b) ≡ true → a ≡ true
-and_left true b h = refl
-and_left false b h = h
-
-pub and_right : (a b : Bool) → (a && b) ≡ true → b ≡ true
-and_right true b h = h
-and_right false b h = absurd (cc)
-
-pub and_both : (a b : Bool) → a ≡ true → b ≡ true → (a && b) ≡ true
-and_both true b p q = q
-and_both false b p q = p
 
 pub and_true : (a : Bool) → (a && true) ≡ false → a ≡ false
 and_true true h = h
@@ -28,10 +18,6 @@ or_turned true false = refl
 or_turned false true = refl
 or_turned false false = refl
 
-pub or_parts : (a b : Bool) → (a || b) ≡ false → (a ≡ false) × (b ≡ false)
-or_parts true b h = absurd (cc)
-or_parts false b h = (refl, h)
-
 pub same_number : (a b : ℕ) → a == b ≡ true → a ≡ b
 same_number a b h = grind (arith, nat_tests)
 
@@ -41,7 +27,7 @@ is_itself n = grind (arith, nat_tests)
 -- a weaker test holds of every list of which a stronger one does
 pub all_weaker : {X : Type 0} (p q : X → Bool) → ((x : X) → p x ≡ true → q x ≡ true) → (xs : List X) → list_all p xs ≡ true → list_all q xs ≡ true
 all_weaker p q w [] h = refl
-all_weaker p q w (x ∷ xs) h = and_both (q x) (list_all q xs) (w x (and_left (p x) (list_all p xs) h)) (all_weaker p q w xs (and_right (p x) (list_all p xs) h))
+all_weaker p q w (x ∷ xs) h = and_from (q x) (list_all q xs) (w x (first_so (p x) (list_all p xs) h)) (all_weaker p q w xs (second_so (p x) (list_all p xs) h))
 
 pub lesser_left : (a b : Tri) → lesser a b ≡ True → a ≡ True
 lesser_left True b h = refl

@@ -1,12 +1,13 @@
 -- The records that entries tell, one given after another.
 use Rattle.std.proofs.Common.{◌≡◌, ℕ, ◌+◌, ◌<◌, List, [], ◌∷◌, ◌++◌, true, ◌==◌, refl, ap, sym, ◌∙◌, inl, inr, arith, length, drop, map, nat_lt, Some, None, Result, Ok, Err, IfOk, OnErr, length-append}
 use Rattle.std.proofs.Math.Seq.{drop-drop}
-use Rattle.std.proofs.lemmas.Bool.{cases_Bool}
+use Rattle.std.proofs.lemmas.Bool.{cases_Bool, and_from}
 use Rattle.std.proofs.lemmas.Bool.Decides.{nat_tests}
 use Rattle.std.proofs.lemmas.List.{drop_more, map-append}
 use Rattle.std.proofs.lemmas.List.FromFn.{get_or-map-range_with_len, length-map-range_with_len}
 use Rattle.std.proofs.lemmas.List.Elements.{filter-append}
 use Rattle.std.specs.List.{slice_index_or}
+use Rattle.std.specs.Cmp.{first_so, second_so}
 use Rattle.rv_value.specs.declared.value.Value.{Value}
 use Rattle.rv_value.specs.declared.value.Value.TheVariants.{Null}
 use Rattle.rv_value.specs.declared.record.Record.{Record}
@@ -18,7 +19,6 @@ use Rattle.rv_restrict.specs.Bind.{passes_home}
 use Rattle.rv_restrict.specs.Parts.{stands_among, value_in}
 use Rattle.rv_restrict.specs.Truth.{names_only, row_has, is_home, is_true, qualifies, row_reads}
 use Rattle.rv_restrict.proofs.Names.{names_weaker, truth_same}
-use Rattle.rv_restrict.proofs.Tests.{and_both, and_left, and_right}
 use Rattle.rv_reader.specs.Entries.{run, column_of, entry_of}
 use Rattle.rv_scan.specs.declared.skip.Scanned.{Scanned}
 use Rattle.rv_scan.specs.declared.skip.Scanned.TheVariants.{Found, Working, End}
@@ -41,9 +41,9 @@ told_columns columns key only names = names_weaker (passes_home (stands_among co
     has : (c : ColRef) → passes_home (stands_among columns) c ≡ true → row_has (told_values columns key) c ≡ true
     has c h =
         let size : length (told_values columns key) ≡ width columns = length-map-range_with_len (value_in columns key) 0 (width columns) in
-        let below = below_width columns c.column (and_right (is_home c) (stands_among columns c.column) h) in
+        let below = below_width columns c.column (second_so (is_home c) (stands_among columns c.column) h) in
         let there : nat_lt c.column (length (told_values columns key)) ≡ true = rw size (grind (arith, nat_tests)) in
-        and_both (is_home c) (nat_lt c.column (length (told_values columns key))) (and_left (is_home c) (stands_among columns c.column) h) there
+        and_from (is_home c) (nat_lt c.column (length (told_values columns key))) (first_so (is_home c) (stands_among columns c.column) h) there
 
 -- the record of the next entry is not due, or is given
 pub told_passed : (columns : List ℕ) (only : List (List Atom)) (skip : Skipped) (entries : List IndexEntry) (at : ℕ) (e : IndexEntry) → at < length entries → e ≡ slice_index_or entries at e → Tells columns only skip e None
@@ -122,7 +122,7 @@ told_wide columns row c h =
     omega arith
 
 pub told_truth : (columns : List ℕ) (only : List (List Atom)) (row : Record) → NamesThese columns only → qualifies only (told columns (entry_of columns row)).values ≡ qualifies only row.values
-told_truth columns only row names = ap is_true (truth_same (row_reads (told columns (entry_of columns row)).values) (row_reads row.values) (passes_home (stands_among columns)) (λ c h. told_reads columns row c.column (and_right (is_home c) (stands_among columns c.column) h)) only names)
+told_truth columns only row names = ap is_true (truth_same (row_reads (told columns (entry_of columns row)).values) (row_reads row.values) (passes_home (stands_among columns)) (λ c h. told_reads columns row c.column (second_so (is_home c) (stands_among columns c.column) h)) only names)
 
 -- an index alone fetches no record
 pub told_fetches : {E : Type 0} (r : Result Scanned E) (skip : Skipped) (only : List (List Atom)) (rows : List Record) (old new : Counts) → IfOk r (λ scanned. KeyReads scanned old new) → IfOk r (λ scanned. FetchesDue skip only rows scanned old new)
