@@ -1,14 +1,15 @@
 -- Columns of different names have different numbers.
-use Rattle.std.proofs.Common.{◌≡◌, ℕ, ◌==◌, List, [], ◌∷◌, ◌++◌, Bool, true, false, cond, not, ◌||◌, bytes_eq, map, None, Some, Result, Ok, refl, arith}
+use Rattle.std.proofs.Common.{◌≡◌, ℕ, ◌==◌, List, [], ◌∷◌, ◌++◌, Bool, true, false, cond, not, bytes_eq, map, None, Some, Result, Ok, refl, arith}
 use Rattle.std.specs.List.{list_any}
 use Rattle.std.proofs.lemmas.Bool.Decides.{nat_tests}
 use Rattle.std.proofs.lemmas.List.{map-append}
 use Rattle.std.proofs.lemmas.Slice.Eq.{bytes_eq-Decides}
+use Rattle.std.proofs.lemmas.Bool.{and_from, not-true, or_from, or_parts}
+use Rattle.std.specs.Cmp.{first_so, second_so}
 use Rattle.rv_lang.specs.declared.reply.Refusal.{Refusal}
 use Rattle.rv_catalog.specs.Answers.{collected}
 use Rattle.rv_catalog.specs.Fits.{all_different}
 use Rattle.rv_catalog.specs.Resolve.{first_repeat, itself, stands_among}
-use Rattle.rv_catalog.proofs.Keeps.{and_both, and_left, and_right}
 use Rattle.rv_catalog.proofs.Steps.{bind_ok, ok_is}
 
 repeat_step : (seen : List (List ℕ)) (x : List ℕ) (xs : List (List ℕ)) → first_repeat itself seen (x ∷ xs) ≡ None → (stands_among itself seen x ≡ false) × (first_repeat itself (seen ++ x ∷ []) xs ≡ None)
@@ -17,28 +18,16 @@ repeat_step seen x xs h = elim (stands_among itself seen x) as (λ b. cond b (So
   | false ↦ λ e. (refl, e)
 ] h
 
-or_both : (a b : Bool) → a ≡ false → b ≡ false → (a || b) ≡ false
-or_both true b p q = absurd (cc)
-or_both false b p q = q
-
-not_found : (a b : Bool) → (a || b) ≡ false → (a ≡ false) × (b ≡ false)
-not_found true b h = absurd (cc)
-not_found false b h = (refl, h)
-
 turned_number : (a b : ℕ) → a == b ≡ false → b == a ≡ false
 turned_number a b h = grind (arith, nat_tests)
 
 any_append : {X : Type 0} (p : X → Bool) (xs : List X) (x : X) → list_any p xs ≡ false → p x ≡ false → list_any p (xs ++ x ∷ []) ≡ false
-any_append p [] x h k = or_both (p x) false k refl
-any_append p (y ∷ ys) x h k = let n = not_found (p y) (list_any p ys) h in or_both (p y) (list_any p (ys ++ x ∷ [])) n.0 (any_append p ys x n.1 k)
-
-is_not : (b : Bool) → not b ≡ true → b ≡ false
-is_not true h = absurd (cc)
-is_not false h = refl
+any_append p [] x h k = or_from (p x) false k refl
+any_append p (y ∷ ys) x h k = let n = or_parts (p y) (list_any p ys) h in or_from (p y) (list_any p (ys ++ x ∷ [])) n.0 (any_append p ys x n.1 k)
 
 different_append : (done : List ℕ) (y : ℕ) → all_different done ≡ true → list_any (λ d. d == y) done ≡ false → all_different (done ++ y ∷ []) ≡ true
 different_append [] y h k = refl
-different_append (c ∷ cs) y h k = let n = not_found (c == y) (list_any (λ d. d == y) cs) k in let apart : list_any (λ d. d == c) cs ≡ false = is_not (list_any (λ d. d == c) cs) (and_left (not (list_any (λ d. d == c) cs)) (all_different cs) h) in let still : list_any (λ d. d == c) (cs ++ y ∷ []) ≡ false = any_append (λ d. d == c) cs y apart (turned_number c y n.0) in and_both (not (list_any (λ d. d == c) (cs ++ y ∷ []))) (all_different (cs ++ y ∷ [])) (rw still refl) (different_append cs y (and_right (not (list_any (λ d. d == c) cs)) (all_different cs) h) n.1)
+different_append (c ∷ cs) y h k = let n = or_parts (c == y) (list_any (λ d. d == y) cs) k in let apart : list_any (λ d. d == c) cs ≡ false = not-true (list_any (λ d. d == c) cs) (first_so (not (list_any (λ d. d == c) cs)) (all_different cs) h) in let still : list_any (λ d. d == c) (cs ++ y ∷ []) ≡ false = any_append (λ d. d == c) cs y apart (turned_number c y n.0) in and_from (not (list_any (λ d. d == c) (cs ++ y ∷ []))) (all_different (cs ++ y ∷ [])) (rw still refl) (different_append cs y (second_so (not (list_any (λ d. d == c) cs)) (all_different cs) h) n.1)
 
 same_bytes : (a b : List ℕ) → bytes_eq a b ≡ true → a ≡ b
 same_bytes a b h = (bytes_eq-Decides a b).0 h
@@ -49,7 +38,7 @@ own_bytes a b h = (bytes_eq-Decides a b).1 h
 -- a number among those done has its name among the names seen
 number_named : (name_at : ℕ → List ℕ) (done : List ℕ) (y : ℕ) → stands_among itself (map name_at done) (name_at y) ≡ false → list_any (λ d. d == y) done ≡ false
 number_named name_at [] y h = refl
-number_named name_at (d ∷ ds) y h = let n = not_found (bytes_eq (name_at y) (name_at d)) (stands_among itself (map name_at ds) (name_at y)) h in or_both (d == y) (list_any (λ d. d == y) ds) (elim (d == y) as (λ b. d == y ≡ b → b ≡ false) [
+number_named name_at (d ∷ ds) y h = let n = or_parts (bytes_eq (name_at y) (name_at d)) (stands_among itself (map name_at ds) (name_at y)) h in or_from (d == y) (list_any (λ d. d == y) ds) (elim (d == y) as (λ b. d == y ≡ b → b ≡ false) [
   | true ↦ λ e. let same : d ≡ y = grind (arith, nat_tests, e) in let own : bytes_eq (name_at y) (name_at d) ≡ true = rw same (own_bytes (name_at y) (name_at y) refl) in let no = n.0 in absurd (cc)
   | false ↦ λ e. refl
 ] refl) (number_named name_at ds y n.1)

@@ -1,9 +1,10 @@
 -- What each form of statement gives is there, and has as many parts as the statement.
-use Rattle.std.proofs.Common.{◌≡◌, ℕ, ◌<◌, ◌≤◌, List, [], ◌∷◌, Bool, true, nat_lt, bytes_eq, length, map, Option, Some, None, Result, Ok, Err, IfOk, is_some, refl, arith}
+use Rattle.std.proofs.Common.{◌≡◌, ℕ, ◌<◌, ◌≤◌, List, [], ◌∷◌, Bool, true, bytes_eq, length, map, Option, Some, None, Result, Ok, Err, IfOk, is_some, refl, arith}
 use Rattle.std.specs.List.{list_all, slice_index_or}
-use Rattle.std.proofs.lemmas.Bool.Decides.{nat_tests}
 use Rattle.std.proofs.lemmas.List.{length-map}
 use Rattle.std.proofs.lemmas.List.Quantifiers.{position-Some}
+use Rattle.std.proofs.lemmas.Bool.{and_from, lt-ltb}
+use Rattle.std.specs.Cmp.{first_so, second_so}
 use Rattle.rv_value.specs.declared.value.Kind.{Kind}
 use Rattle.rv_value.specs.declared.value.Value.{Value}
 use Rattle.rv_restrict.specs.declared.atom.ColRef.{ColRef}
@@ -30,12 +31,8 @@ use Rattle.rv_catalog.specs.Limits.{columns_count, joined_count, key_count}
 use Rattle.rv_catalog.specs.Resolve.{alone, column_def, column_name, deleted, first_repeat, form, goal_of, inserted, item, item_name, item_table, itself, new_index, new_table, opened, references, returns, second_or, selected, set_column, set_name, steps_of, table_number, updated}
 use Rattle.rv_catalog.specs.Schema.{Schema, columns_of, index_named, no_table, table_named, width}
 use Rattle.rv_catalog.proofs.Different.{numbers_differ}
-use Rattle.rv_catalog.proofs.Keeps.{and_both, and_left, and_right}
 use Rattle.rv_catalog.proofs.Steps.{bind_ok, collected_all, collected_len, none_refused, not_refused, ok_is, was_none, was_some}
 use Rattle.rv_catalog.proofs.There.{every_there, groups_there, over_there, own_there, reference_there}
-
-less : (a b : ℕ) → a < b → nat_lt a b ≡ true
-less a b h = grind (arith, nat_tests)
 
 -- A resolved form that is there and whole.
 pub record IsGood (schema : Schema) (parts : ℕ) (r : Resolved) : Type 0 where
@@ -54,7 +51,7 @@ good_index schema unique name table columns r few h = let a = bind_ok (table_num
     fresh = was_none (index_named schema.indexes name) (not_refused (is_some (index_named schema.indexes name)) (Exists name) c.0 c.1);
     there = number_there schema.tables table a.0 a.1;
     few = omega (arith, len, few);
-    columns = collected_all (own_column schema.tables a.0) (is_column (width schema.tables a.0)) (λ x y e. less y (width schema.tables a.0) (own_there schema.tables a.0 x y e).0) [] columns b.0 refl b.1;
+    columns = collected_all (own_column schema.tables a.0) (is_column (width schema.tables a.0)) (λ x y e. lt-ltb y (width schema.tables a.0) (own_there schema.tables a.0 x y e).0) [] columns b.0 refl b.1;
     different = numbers_differ (own_column schema.tables a.0) (λ k. (slice_index_or (columns_of schema.tables a.0) k no_column).0) (λ x y e. (own_there schema.tables a.0 x y e).1) [] [] columns b.0 refl refl (none_refused (first_repeat itself [] columns) Exists d.0 d.1) b.1;
   };
   whole = len;
@@ -70,7 +67,7 @@ good_row : (schema : Schema) (table : List ℕ) (values : List Value) (r : Resol
 good_row schema table values r h = let a = bind_ok (table_number schema.tables table) (λ number. row_kinds [] (columns_of schema.tables number) values >>= (λ right. Ok (Inserts number values))) r h in let b = bind_ok (row_kinds [] (columns_of schema.tables a.0) values) (λ right. Ok (Inserts a.0 values)) r a.2 in rw (← ok_is (Inserts a.0 values) r b.2) (record { fits = record { there = number_there schema.tables table a.0 a.1; whole = row_len [] (columns_of schema.tables a.0) values b.0 b.1 }; whole = refl })
 
 set_there : (tables : List TableDef) (table : ℕ) (x : List ℕ × Value) (y : ℕ × Value) → set_column tables table x ≡ Ok y → is_column (width tables table) y.0 ≡ true
-set_there tables table x y h = let s = bind_ok (own_column tables table x.0) (λ (column : ℕ). Ok (column, x.1)) y h in rw (← ok_is (s.0, x.1) y s.2) (less s.0 (width tables table) (own_there tables table x.0 s.0 s.1).0)
+set_there tables table x y h = let s = bind_ok (own_column tables table x.0) (λ (column : ℕ). Ok (column, x.1)) y h in rw (← ok_is (s.0, x.1) y s.2) (lt-ltb s.0 (width tables table) (own_there tables table x.0 s.0 s.1).0)
 
 good_change : (schema : Schema) (table : List ℕ) (sets : List (List ℕ × Value)) (only : List (List RawAtom)) (r : Resolved) → updated schema table sets only ≡ Ok r → IsGood schema 0 r
 good_change schema table sets only r h = let a = bind_ok (table_number schema.tables table) (λ number. collected (set_column schema.tables number) [] sets >>= (λ found. groups schema.tables (alone table number) only >>= (λ where_true. refuse_some (first_repeat set_name [] sets) Exists >>= (λ once. all_pass (set_kind schema.tables number) found >>= (λ held. kinds schema.tables (alone table number) where_true >>= (λ right. Ok (Updates number found where_true))))))) r h in let b = bind_ok (collected (set_column schema.tables a.0) [] sets) (λ found. groups schema.tables (alone table a.0) only >>= (λ where_true. refuse_some (first_repeat set_name [] sets) Exists >>= (λ once. all_pass (set_kind schema.tables a.0) found >>= (λ held. kinds schema.tables (alone table a.0) where_true >>= (λ right. Ok (Updates a.0 found where_true)))))) r a.2 in let c = bind_ok (groups schema.tables (alone table a.0) only) (λ where_true. refuse_some (first_repeat set_name [] sets) Exists >>= (λ once. all_pass (set_kind schema.tables a.0) b.0 >>= (λ held. kinds schema.tables (alone table a.0) where_true >>= (λ right. Ok (Updates a.0 b.0 where_true))))) r b.2 in let d = bind_ok (refuse_some (first_repeat set_name [] sets) Exists) (λ once. all_pass (set_kind schema.tables a.0) b.0 >>= (λ held. kinds schema.tables (alone table a.0) c.0 >>= (λ right. Ok (Updates a.0 b.0 c.0)))) r c.2 in let e = bind_ok (all_pass (set_kind schema.tables a.0) b.0) (λ held. kinds schema.tables (alone table a.0) c.0 >>= (λ right. Ok (Updates a.0 b.0 c.0))) r d.2 in let f = bind_ok (kinds schema.tables (alone table a.0) c.0) (λ right. Ok (Updates a.0 b.0 c.0)) r e.2 in rw (← ok_is (Updates a.0 b.0 c.0) r f.2) (record {
@@ -86,11 +83,11 @@ good_part : (schema : Schema) (table : List ℕ) (only : List (List RawAtom)) (r
 good_part schema table only r h = let a = bind_ok (table_number schema.tables table) (λ number. groups schema.tables (alone table number) only >>= (λ where_true. kinds schema.tables (alone table number) where_true >>= (λ right. Ok (Deletes number where_true)))) r h in let b = bind_ok (groups schema.tables (alone table a.0) only) (λ where_true. kinds schema.tables (alone table a.0) where_true >>= (λ right. Ok (Deletes a.0 where_true))) r a.2 in let c = bind_ok (kinds schema.tables (alone table a.0) b.0) (λ right. Ok (Deletes a.0 b.0)) r b.2 in rw (← ok_is (Deletes a.0 b.0) r c.2) (record { fits = record { there = number_there schema.tables table a.0 a.1; over = over_there schema.tables a.0 b.0 (groups_there schema.tables (alone table a.0) only b.0 b.1) }; whole = refl })
 
 item_there : (tables : List TableDef) (x : List ℕ × Option (List ℕ)) (y : Item) → item tables x ≡ Ok y → is_column (length tables) y.table ≡ true
-item_there tables x y h = let s = bind_ok (table_number tables x.0) (λ (number : ℕ). Ok (record { name = second_or x.1 x.0; table = number })) y h in rw (← ok_is (record { name = second_or x.1 x.0; table = s.0 }) y s.2) (less s.0 (length tables) (number_there tables x.0 s.0 s.1))
+item_there tables x y h = let s = bind_ok (table_number tables x.0) (λ (number : ℕ). Ok (record { name = second_or x.1 x.0; table = number })) y h in rw (← ok_is (record { name = second_or x.1 x.0; table = s.0 }) y s.2) (lt-ltb s.0 (length tables) (number_there tables x.0 s.0 s.1))
 
 all_map : {X Y : Type 0} (p : Y → Bool) (f : X → Y) (xs : List X) → list_all (λ x. p (f x)) xs ≡ true → list_all p (map f xs) ≡ true
 all_map p f [] h = refl
-all_map p f (x ∷ xs) h = let l = and_left (p (f x)) (list_all (λ x. p (f x)) xs) h in let r = and_right (p (f x)) (list_all (λ x. p (f x)) xs) h in and_both (p (f x)) (list_all p (map f xs)) l (all_map p f xs r)
+all_map p f (x ∷ xs) h = let l = first_so (p (f x)) (list_all (λ x. p (f x)) xs) h in let r = second_so (p (f x)) (list_all (λ x. p (f x)) xs) h in and_from (p (f x)) (list_all p (map f xs)) l (all_map p f xs r)
 
 references_there : (tables : List TableDef) (reach : List Item) (raws : List RawCol) (found : List ColRef) → references tables reach raws ≡ Ok found → list_all (is_there tables (map item_table reach)) found ≡ true
 references_there tables reach raws found h = collected_all (reference tables reach) (is_there tables (map item_table reach)) (reference_there tables reach) [] raws found refl h

@@ -1,46 +1,36 @@
 -- What a catalog keeps as tables and indexes are added and taken away.
-use Rattle.std.proofs.Common.{◌≡◌, ℕ, ◌+◌, ◌*◌, ◌<◌, ◌≤◌, ◌==◌, List, [], ◌∷◌, ◌++◌, Bool, true, false, cond, not, ◌&&◌, None, nat_le, filter, length, take, map, refl, arith, if◌then◌else◌, zero, suc, length-append, add-one}
+use Rattle.std.proofs.Common.{◌≡◌, ℕ, ◌+◌, ◌*◌, ◌<◌, ◌≤◌, ◌==◌, List, [], ◌∷◌, ◌++◌, Bool, true, false, cond, not, None, nat_le, filter, length, take, map, refl, arith, if◌then◌else◌, zero, suc, length-append, add-one}
 use Rattle.std.specs.Prelude.{bytes_eq}
 use Rattle.std.specs.List.{list_any, list_all}
 use Rattle.std.proofs.lemmas.Bool.Decides.{nat_tests}
 use Rattle.std.proofs.lemmas.List.{length-take}
+use Rattle.std.proofs.lemmas.Bool.{and_from}
+use Rattle.std.specs.Cmp.{first_so, second_so}
 use Rattle.rv_catalog.specs.declared.def.IndexDef.{IndexDef}
 use Rattle.rv_catalog.specs.declared.def.TableDef.{TableDef}
 use Rattle.rv_catalog.specs.Kept.{KeepsIndexes, KeepsTables, indexes_over, is_below, is_narrow, is_over}
 use Rattle.rv_catalog.specs.Schema.{columns_of, index_named, table_named}
 use Rattle.rv_catalog.proofs.Known.{added, cut}
 
-pub and_left : (a b : Bool) → (a && b) ≡ true → a ≡ true
-and_left true b h = refl
-and_left false b h = h
-
-pub and_right : (a b : Bool) → (a && b) ≡ true → b ≡ true
-and_right true b h = h
-and_right false b h = absurd (cc)
-
-pub and_both : (a b : Bool) → a ≡ true → b ≡ true → (a && b) ≡ true
-and_both true b p q = q
-and_both false b p q = p
-
 pub all_append : {X : Type 0} (p : X → Bool) (xs : List X) (x : X) → list_all p xs ≡ true → p x ≡ true → list_all p (xs ++ x ∷ []) ≡ true
 all_append p [] x h k = rw k refl
-all_append p (y ∷ ys) x h k = and_both (p y) (list_all p (ys ++ x ∷ [])) (and_left (p y) (list_all p ys) h) (all_append p ys x (and_right (p y) (list_all p ys) h) k)
+all_append p (y ∷ ys) x h k = and_from (p y) (list_all p (ys ++ x ∷ [])) (first_so (p y) (list_all p ys) h) (all_append p ys x (second_so (p y) (list_all p ys) h) k)
 
 pub all_take : {X : Type 0} (p : X → Bool) (n : ℕ) (xs : List X) → list_all p xs ≡ true → list_all p (take n xs) ≡ true
 all_take p zero xs h = refl
 all_take p (suc n) [] h = refl
-all_take p (suc n) (x ∷ xs) h = and_both (p x) (list_all p (take n xs)) (and_left (p x) (list_all p xs) h) (all_take p n xs (and_right (p x) (list_all p xs) h))
+all_take p (suc n) (x ∷ xs) h = and_from (p x) (list_all p (take n xs)) (first_so (p x) (list_all p xs) h) (all_take p n xs (second_so (p x) (list_all p xs) h))
 
 pub all_weaker : {X : Type 0} (p q : X → Bool) → ((x : X) → p x ≡ true → q x ≡ true) → (xs : List X) → list_all p xs ≡ true → list_all q xs ≡ true
 all_weaker p q w [] h = refl
-all_weaker p q w (x ∷ xs) h = and_both (q x) (list_all q xs) (w x (and_left (p x) (list_all p xs) h)) (all_weaker p q w xs (and_right (p x) (list_all p xs) h))
+all_weaker p q w (x ∷ xs) h = and_from (q x) (list_all q xs) (w x (first_so (p x) (list_all p xs) h)) (all_weaker p q w xs (second_so (p x) (list_all p xs) h))
 
 -- Tables.
 
 narrow_at : (tables : List TableDef) (i : ℕ) → list_all is_narrow tables ≡ true → nat_le (length (columns_of tables i)) 16 ≡ true
 narrow_at [] i h = refl
-narrow_at (t ∷ ts) zero h = and_left (is_narrow t) (list_all is_narrow ts) h
-narrow_at (t ∷ ts) (suc i) h = narrow_at ts i (and_right (is_narrow t) (list_all is_narrow ts) h)
+narrow_at (t ∷ ts) zero h = first_so (is_narrow t) (list_all is_narrow ts) h
+narrow_at (t ∷ ts) (suc i) h = narrow_at ts i (second_so (is_narrow t) (list_all is_narrow ts) h)
 
 pub narrow_columns : (names : List (List ℕ)) (tables : List TableDef) (i : ℕ) → KeepsTables names tables → length (columns_of tables i) ≤ 16
 narrow_columns names tables i k = let h = narrow_at tables i k.narrow in grind (arith, nat_tests, h)
@@ -66,7 +56,7 @@ fewer_tables : (n : ℕ) (indexes : List IndexDef) → list_all (is_below (n + 1
 fewer_tables n [] h z = refl
 fewer_tables n (i ∷ more) h z = elim (is_over n i) as (λ b. is_over n i ≡ b → length (cond b (i ∷ filter (is_over n) more) (filter (is_over n) more)) ≡ 0 → list_all (is_below n) (i ∷ more) ≡ true) [
   | true ↦ λ e y. absurd (omega arith)
-  | false ↦ λ e y. and_both (is_below n i) (list_all (is_below n) more) (below_one n i (and_left (is_below (n + 1) i) (list_all (is_below (n + 1)) more) h) e) (fewer_tables n more (and_right (is_below (n + 1) i) (list_all (is_below (n + 1)) more) h) y)
+  | false ↦ λ e y. and_from (is_below n i) (list_all (is_below n) more) (below_one n i (first_so (is_below (n + 1) i) (list_all (is_below (n + 1)) more) h) e) (fewer_tables n more (second_so (is_below (n + 1) i) (list_all (is_below (n + 1)) more) h) y)
 ] refl z
 
 pub fewer_below : (names : List (List ℕ)) (n m : ℕ) (indexes : List IndexDef) → n ≡ m + 1 → indexes_over m indexes ≡ 0 → KeepsIndexes names n indexes → KeepsIndexes names m indexes
@@ -117,14 +107,14 @@ filter_twice p q (x ∷ xs) = let k = filter_twice p q xs in elim (q x) as (λ c
 
 others_below : (n : ℕ) (indexes : List IndexDef) → list_all (is_below (n + 1)) indexes ≡ true → list_all (is_below n) (filter (λ i. not (is_over n i)) indexes) ≡ true
 others_below n [] h = refl
-others_below n (i ∷ more) h = let k = others_below n more (and_right (is_below (n + 1) i) (list_all (is_below (n + 1)) more) h) in elim (is_over n i) as (λ b. is_over n i ≡ b → list_all (is_below n) (cond (not b) (i ∷ filter (λ i. not (is_over n i)) more) (filter (λ i. not (is_over n i)) more)) ≡ true) [
+others_below n (i ∷ more) h = let k = others_below n more (second_so (is_below (n + 1) i) (list_all (is_below (n + 1)) more) h) in elim (is_over n i) as (λ b. is_over n i ≡ b → list_all (is_below n) (cond (not b) (i ∷ filter (λ i. not (is_over n i)) more) (filter (λ i. not (is_over n i)) more)) ≡ true) [
   | true ↦ λ e. k
-  | false ↦ λ e. and_both (is_below n i) (list_all (is_below n) (filter (λ i. not (is_over n i)) more)) (below_one n i (and_left (is_below (n + 1) i) (list_all (is_below (n + 1)) more) h) e) k
+  | false ↦ λ e. and_from (is_below n i) (list_all (is_below n) (filter (λ i. not (is_over n i)) more)) (below_one n i (first_so (is_below (n + 1) i) (list_all (is_below (n + 1)) more) h) e) k
 ] refl
 
 none_below : (indexes : List IndexDef) → list_all (is_below 0) indexes ≡ true → length indexes ≡ 0
 none_below [] h = refl
-none_below (i ∷ more) h = let b : i.table < 0 = let a = and_left (is_below 0 i) (list_all (is_below 0) more) h in grind (arith, nat_tests, a) in absurd (omega (arith, b))
+none_below (i ∷ more) h = let b : i.table < 0 = let a = first_so (is_below 0 i) (list_all (is_below 0) more) h in grind (arith, nat_tests, a) in absurd (omega (arith, b))
 
 eight_each : (n : ℕ) (indexes : List IndexDef) → list_all (is_below n) indexes ≡ true → ((t : ℕ) → indexes_over t indexes ≤ 8) → length indexes ≤ 8 * n
 eight_each zero indexes h few = omega (arith, none_below indexes h)

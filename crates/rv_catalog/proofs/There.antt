@@ -3,6 +3,8 @@ use Rattle.std.proofs.Common.{◌≡◌, ℕ, ◌+◌, ◌<◌, ◌≤◌, ◌==
 use Rattle.std.specs.List.{list_all, slice_index_or}
 use Rattle.std.proofs.lemmas.Bool.Decides.{nat_tests}
 use Rattle.std.proofs.Math.Seq.{get_or-append_seam}
+use Rattle.std.proofs.lemmas.Bool.{and_from, lt-ltb}
+use Rattle.std.specs.Cmp.{first_so, second_so}
 use Rattle.rv_value.specs.declared.value.Kind.{Kind}
 use Rattle.rv_restrict.specs.declared.atom.ColRef.{ColRef}
 use Rattle.rv_restrict.specs.declared.atom.Operand.{Operand}
@@ -27,11 +29,7 @@ use Rattle.rv_catalog.specs.Fits.{is_column, is_over_table, is_there}
 use Rattle.rv_catalog.specs.Kinds.{no_column}
 use Rattle.rv_catalog.specs.Resolve.{item_table}
 use Rattle.rv_catalog.specs.Schema.{columns_of, width}
-use Rattle.rv_catalog.proofs.Keeps.{and_both, and_left, and_right}
 use Rattle.rv_catalog.proofs.Steps.{bind_ok, collected_all, ok_is}
-
-less : (a b : ℕ) → a < b → nat_lt a b ≡ true
-less a b h = grind (arith, nat_tests)
 
 -- What holds of each column that fits.
 abbrev pub FitHas : (ColRef → Type 0) → Fit → Type 0
@@ -58,7 +56,7 @@ columns_have P name place front (c ∷ cs) n fit e each f = let here : slice_ind
 
 -- In the tables of FROM.
 here_there : (tables : List TableDef) (front rest : List ℕ) (table : ℕ) (k : ℕ) → k < width tables table → is_there tables (front ++ table ∷ rest) (record { place = length front; column = k }) ≡ true
-here_there tables front rest table k h = let low : length front < length (front ++ table ∷ rest) = omega (arith, length-append front (table ∷ rest)) in and_both (nat_lt (length front) (length (front ++ table ∷ rest))) (is_column (width tables (slice_index_or (front ++ table ∷ rest) (length front) 0)) k) (less (length front) (length (front ++ table ∷ rest)) low) (rw (get_or-append_seam front table rest 0) (less k (width tables table) h))
+here_there tables front rest table k h = let low : length front < length (front ++ table ∷ rest) = omega (arith, length-append front (table ∷ rest)) in and_from (nat_lt (length front) (length (front ++ table ∷ rest))) (is_column (width tables (slice_index_or (front ++ table ∷ rest) (length front) 0)) k) (lt-ltb (length front) (length (front ++ table ∷ rest)) low) (rw (get_or-append_seam front table rest 0) (lt-ltb k (width tables table) h))
 
 items_have : (tables : List TableDef) (qualifier : Option (List ℕ)) (name : List ℕ) (front : List ℕ) (rest : List Item) (place : ℕ) (fit : Fit) → place ≡ length front → FitHas (λ c. is_there tables (front ++ map item_table rest) c ≡ true) fit → FitHas (λ c. is_there tables (front ++ map item_table rest) c ≡ true) (fit_items tables qualifier name place rest fit)
 items_have tables qualifier name front [] place fit e f = f
@@ -74,11 +72,11 @@ own_there tables table name k h = let s = bind_ok (only_one (fit_columns name 0 
 -- All columns.
 from_all : (p : ColRef → Bool) (place n m : ℕ) (cs : List (List ℕ × Kind)) → n + length cs ≤ m → ((k : ℕ) → k < m → p (record { place = place; column = k }) ≡ true) → list_all p (columns_from place n cs) ≡ true
 from_all p place n m [] h each = refl
-from_all p place n m (c ∷ cs) h each = and_both (p (record { place = place; column = n })) (list_all p (columns_from place (n + 1) cs)) (each n (omega arith)) (from_all p place (n + 1) m cs (omega arith) each)
+from_all p place n m (c ∷ cs) h each = and_from (p (record { place = place; column = n })) (list_all p (columns_from place (n + 1) cs)) (each n (omega arith)) (from_all p place (n + 1) m cs (omega arith) each)
 
 all_both : {X : Type 0} (p : X → Bool) (xs ys : List X) → list_all p xs ≡ true → list_all p ys ≡ true → list_all p (xs ++ ys) ≡ true
 all_both p [] ys a b = b
-all_both p (x ∷ xs) ys a b = and_both (p x) (list_all p (xs ++ ys)) (and_left (p x) (list_all p xs) a) (all_both p xs ys (and_right (p x) (list_all p xs) a) b)
+all_both p (x ∷ xs) ys a b = and_from (p x) (list_all p (xs ++ ys)) (first_so (p x) (list_all p xs) a) (all_both p xs ys (second_so (p x) (list_all p xs) a) b)
 
 all_there : (tables : List TableDef) (front : List ℕ) (rest : List Item) (place : ℕ) → place ≡ length front → list_all (is_there tables (front ++ map item_table rest)) (all_columns tables place rest) ≡ true
 all_there tables front [] place e = refl
@@ -93,7 +91,7 @@ operand_there tables reach (RawLiteral v) o h = rw (← ok_is (Literal v) o h) r
 operand_there tables reach (RawColumn raw) o h = let s = bind_ok (reference tables reach raw) (λ (c : ColRef). Ok (Column c)) o h in rw (← ok_is (Column s.0) o s.2) (reference_there tables reach raw s.0 s.1)
 
 pub atom_there : (tables : List TableDef) (reach : List Item) (raw : RawAtom) (a : Atom) → atom tables reach raw ≡ Ok a → atom_names_only (is_there tables (map item_table reach)) a ≡ true
-atom_there tables reach (RawCompare raw op other) a h = let s = bind_ok (reference tables reach raw) (λ (c : ColRef). operand tables reach other >>= (λ (o : Operand). Ok (Compare c (op_of op) o))) a h in let t = bind_ok (operand tables reach other) (λ (o : Operand). Ok (Compare s.0 (op_of op) o)) a s.2 in rw (← ok_is (Compare s.0 (op_of op) t.0) a t.2) (and_both (is_there tables (map item_table reach) s.0) (operand_names_only (is_there tables (map item_table reach)) t.0) (reference_there tables reach raw s.0 s.1) (operand_there tables reach other t.0 t.1))
+atom_there tables reach (RawCompare raw op other) a h = let s = bind_ok (reference tables reach raw) (λ (c : ColRef). operand tables reach other >>= (λ (o : Operand). Ok (Compare c (op_of op) o))) a h in let t = bind_ok (operand tables reach other) (λ (o : Operand). Ok (Compare s.0 (op_of op) o)) a s.2 in rw (← ok_is (Compare s.0 (op_of op) t.0) a t.2) (and_from (is_there tables (map item_table reach) s.0) (operand_names_only (is_there tables (map item_table reach)) t.0) (reference_there tables reach raw s.0 s.1) (operand_there tables reach other t.0 t.1))
 atom_there tables reach (RawBetween raw low high) a h = let s = bind_ok (reference tables reach raw) (λ (c : ColRef). Ok (Between c low high)) a h in rw (← ok_is (Between s.0 low high) a s.2) (reference_there tables reach raw s.0 s.1)
 atom_there tables reach (RawAmong raw list) a h = let s = bind_ok (reference tables reach raw) (λ (c : ColRef). Ok (Among c list)) a h in rw (← ok_is (Among s.0 list) a s.2) (reference_there tables reach raw s.0 s.1)
 atom_there tables reach (RawIsNull raw negated) a h = let s = bind_ok (reference tables reach raw) (λ (c : ColRef). Ok (IsNull c negated)) a h in rw (← ok_is (IsNull s.0 negated) a s.2) (reference_there tables reach raw s.0 s.1)
@@ -107,7 +105,7 @@ groups_there tables reach raws only h = collected_all (group tables reach) (grou
 
 -- A condition over one table in reach.
 home_there : (tables : List TableDef) (table : ℕ) (c : ColRef) → is_there tables (table ∷ []) c ≡ true → passes_home (is_column (width tables table)) c ≡ true
-home_there tables table c h = let a = and_left (nat_lt c.place 1) (is_column (width tables (slice_index_or (table ∷ []) c.place 0)) c.column) h in let b = and_right (nat_lt c.place 1) (is_column (width tables (slice_index_or (table ∷ []) c.place 0)) c.column) h in let e : c.place ≡ 0 = grind (arith, nat_tests, a) in let k : is_column (width tables table) c.column ≡ true = rw e at b in and_both (c.place == 0) (is_column (width tables table) c.column) (grind (arith, nat_tests, e)) k
+home_there tables table c h = let a = first_so (nat_lt c.place 1) (is_column (width tables (slice_index_or (table ∷ []) c.place 0)) c.column) h in let b = second_so (nat_lt c.place 1) (is_column (width tables (slice_index_or (table ∷ []) c.place 0)) c.column) h in let e : c.place ≡ 0 = grind (arith, nat_tests, a) in let k : is_column (width tables table) c.column ≡ true = rw e at b in and_from (c.place == 0) (is_column (width tables table) c.column) (grind (arith, nat_tests, e)) k
 
 pub over_there : (tables : List TableDef) (table : ℕ) (only : List (List Atom)) → names_only (is_there tables (table ∷ [])) only ≡ true → is_over_table tables table only ≡ true
 over_there tables table only h = names_weaker (is_there tables (table ∷ [])) (passes_home (is_column (width tables table))) (home_there tables table) only h
