@@ -5,14 +5,14 @@ use Rattle.std.specs.List.{AllByRecursion, IsDistinct, list_all}
 use Rattle.std.proofs.lemmas.List.Folds.{list_all-append}
 use Rattle.std.proofs.lemmas.Map.Keys.{IsDistinct-cons}
 use Rattle.std.proofs.Math.Nat.{eq-or-lt_of_le}
+use Rattle.std.proofs.lemmas.Bool.{and_parts}
 use Rattle.rv_value.specs.declared.value.Value.{Value}
 use Rattle.rv_rows.specs.declared.changes.Change.{Change}
 use Rattle.rv_rows.specs.Changes.{Rise, is_before}
 use Rattle.rv_rows.specs.Rows.{Ascend}
-use Rattle.rv_reader.proofs.Filters.{both}
 use Rattle.rv_reader.specs.Entries.{entries_of}
 use Rattle.rv_reader.specs.Shown.{Shown, CanRead, CanScan}
-use Rattle.rv_reader.specs.Storing.{AreColumns, AreKeys, AreWide, IsChange, IsKept, IsStored, Created, Indexed, Committed, CanCommit}
+use Rattle.rv_reader.specs.Storing.{AreColumns, AreKeys, AreWide, IsChange, IsStored, Created, Indexed, Committed, CanCommit}
 use Rattle.rv_reader.specs.Tables.{IsTable}
 use Rattle.join_table.specs.Laying.{Ascending, Fresh, IsBatch, IsNew, Laid, Offers, columns_of, table_of}
 
@@ -108,7 +108,7 @@ before_last table below x c new last low high =
 rise_push : (table below : ℕ) (c : Change) (changes : List Change) → IsNew table c → below ≤ c.row.0 → Rise changes → AllByRecursion (IsNew table) changes → list_all (λ (x : Change). nat_lt x.row.0 below) changes ≡ true → Rise (changes ++ c ∷ [])
 rise_push table below c [] last high rise new low = (refl, tt)
 rise_push table below c (x ∷ changes) last high rise new low =
-    let parts = both (nat_lt x.row.0 below) (list_all (λ (y : Change). nat_lt y.row.0 below) changes) low in
+    let parts = and_parts (nat_lt x.row.0 below) (list_all (λ (y : Change). nat_lt y.row.0 below) changes) low in
     let here : list_all (is_before x) (changes ++ c ∷ []) ≡ true = list_all-append (is_before x) changes (c ∷ []) ∙ rw (rise.0, before_last table below x c new.0 last parts.0 high) refl in
     (here, rise_push table below c changes last high rise.1 new.1 parts.1)
 
@@ -119,7 +119,7 @@ all_push table (x ∷ changes) c new last = (new.0, all_push table changes c new
 low_push : (below next : ℕ) (changes : List Change) (c : Change) → below ≤ next → c.row.0 < next → list_all (λ (x : Change). nat_lt x.row.0 below) changes ≡ true → list_all (λ (x : Change). nat_lt x.row.0 next) (changes ++ c ∷ []) ≡ true
 low_push below next [] c above last low = let here : nat_lt c.row.0 next ≡ true = grind (arith, nat_tests) in rw here refl
 low_push below next (x ∷ changes) c above last low =
-    let parts = both (nat_lt x.row.0 below) (list_all (λ (y : Change). nat_lt y.row.0 below) changes) low in
+    let parts = and_parts (nat_lt x.row.0 below) (list_all (λ (y : Change). nat_lt y.row.0 below) changes) low in
     let first = parts.0 in
     let here : nat_lt x.row.0 next ≡ true = grind (arith, nat_tests) in
     rw here (low_push below next changes c above last parts.1)

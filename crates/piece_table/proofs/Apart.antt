@@ -1,13 +1,13 @@
 -- No row stands in two entries of an index.
-use Rattle.std.proofs.Common.{◌≡◌, ℕ, List, [], ◌∷◌, Bool, true, false, cond, ◌||◌, nat_eq, refl, sym, ap, ◌∙◌, arith}
+use Rattle.std.proofs.Common.{◌≡◌, ℕ, List, [], ◌∷◌, Bool, true, false, cond, ◌||◌, nat_eq, refl, ◌∙◌, arith}
 use Rattle.std.proofs.lemmas.Bool.Decides.{nat_tests}
 use Rattle.std.specs.List.{list_all}
+use Rattle.std.proofs.lemmas.Bool.{and_parts}
 use Rattle.rv_value.specs.declared.record.Record.{Record}
 use Rattle.rv_value.specs.declared.record.IndexEntry.{IndexEntry}
 use Rattle.rv_rows.specs.Rows as rows_by_number
 use Rattle.rv_rows.specs.Rows.{comes_below}
 use Rattle.rv_reader.specs.Entries.{comes_before, entry_of, sorted_in, entries_of}
-use Rattle.rv_reader.proofs.Filters.{both}
 use Rattle.rv_jscan.specs.Entries.{has_entry, Apart}
 
 swapped : (x e rest put : Bool) → put ≡ (e || rest) → (x || put) ≡ (e || (x || rest))
@@ -40,7 +40,7 @@ below_other r s below = grind (arith, nat_tests)
 none_below : (columns : List ℕ) (r : Record) (rows : List Record) → list_all (comes_below r) rows ≡ true → has_entry r.row.0 (entries_of columns rows) ≡ false
 none_below columns r [] below = refl
 none_below columns r (s ∷ rows) below =
-    let parts = both (comes_below r s) (list_all (comes_below r) rows) below in
+    let parts = and_parts (comes_below r s) (list_all (comes_below r) rows) below in
     let first = below_other r s parts.0 in
     let rest = none_below columns r rows parts.1 in
     has_in r.row.0 (entry_of columns s) (entries_of columns rows) ∙ rw (first, rest) refl

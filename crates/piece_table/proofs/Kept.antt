@@ -4,10 +4,10 @@ use Rattle.std.proofs.lemmas.Bool.Decides.{nat_tests}
 use Rattle.std.specs.List.{AllByRecursion, IsDistinct, list_all}
 use Rattle.std.proofs.lemmas.List.Folds.{list_all-append}
 use Rattle.std.proofs.lemmas.Map.Keys.{IsDistinct-cons}
+use Rattle.std.proofs.lemmas.Bool.{and_parts}
 use Rattle.rv_value.specs.declared.value.Value.{Value}
 use Rattle.rv_rows.specs.declared.changes.Change.{Change}
 use Rattle.rv_rows.specs.Changes.{Rise, is_before}
-use Rattle.rv_reader.proofs.Filters.{both}
 use Rattle.rv_reader.specs.Shown.{Shown}
 use Rattle.rv_reader.specs.Storing.{AreColumns, IsChange, Created, Indexed, Committed, CanCommit}
 use Rattle.piece_table.specs.Laying.{Begun, Empty, IsBatch, IsNew, Laid, Tabled}
@@ -83,7 +83,7 @@ before_last below x c new last low high =
 rise_push : (below : ℕ) (c : Change) (changes : List Change) → IsNew c → below ≤ c.row.0 → Rise changes → AllByRecursion IsNew changes → list_all (λ (x : Change). nat_lt x.row.0 below) changes ≡ true → Rise (changes ++ c ∷ [])
 rise_push below c [] last high rise new low = (refl, tt)
 rise_push below c (x ∷ changes) last high rise new low =
-    let parts = both (nat_lt x.row.0 below) (list_all (λ (y : Change). nat_lt y.row.0 below) changes) low in
+    let parts = and_parts (nat_lt x.row.0 below) (list_all (λ (y : Change). nat_lt y.row.0 below) changes) low in
     let here : list_all (is_before x) (changes ++ c ∷ []) ≡ true = list_all-append (is_before x) changes (c ∷ []) ∙ rw (rise.0, before_last below x c new.0 last parts.0 high) refl in
     (here, rise_push below c changes last high rise.1 new.1 parts.1)
 
@@ -94,7 +94,7 @@ all_push (x ∷ changes) c new last = (new.0, all_push changes c new.1 last)
 low_push : (below next : ℕ) (changes : List Change) (c : Change) → below ≤ next → c.row.0 < next → list_all (λ (x : Change). nat_lt x.row.0 below) changes ≡ true → list_all (λ (x : Change). nat_lt x.row.0 next) (changes ++ c ∷ []) ≡ true
 low_push below next [] c above last low = let here : nat_lt c.row.0 next ≡ true = grind (arith, nat_tests) in rw here refl
 low_push below next (x ∷ changes) c above last low =
-    let parts = both (nat_lt x.row.0 below) (list_all (λ (y : Change). nat_lt y.row.0 below) changes) low in
+    let parts = and_parts (nat_lt x.row.0 below) (list_all (λ (y : Change). nat_lt y.row.0 below) changes) low in
     let first = parts.0 in
     let here : nat_lt x.row.0 next ≡ true = grind (arith, nat_tests) in
     rw here (low_push below next changes c above last parts.1)

@@ -3,12 +3,11 @@ use Rattle.std.proofs.Common.{◌≡◌, ◌⊎◌, ℕ, ◌+◌, List, [], ◌�
 use Rattle.std.specs.List.{list_all, slice_split, AllByRecursion}
 use Rattle.std.specs.Str.Lines.{lines, lines_of_parts, strip_carriage_return}
 use Rattle.std.specs.Str.Lossy.{utf8_valid_len}
-use Rattle.std.proofs.lemmas.Bool.{cases_Bool}
+use Rattle.std.proofs.lemmas.Bool.{cases_Bool, and_parts}
 use Rattle.std.proofs.lemmas.List.Elements.{All-cons, All-nil}
 use Rattle.std.proofs.lemmas.List.Splits.{slice_split_at}
 use Rattle.std.proofs.lemmas.Slice.Eq.{bytes_eq-Decides}
 use Rattle.std.proofs.lemmas.Str.{IsUtf8-past_char}
-use Rattle.rv_rows.proofs.Filters.{both}
 use Rattle.rv_script.specs.declared.scripts.Line.{Line}
 use Rattle.rv_script.specs.declared.scripts.Phase.{Phase}
 use Rattle.rv_script.specs.declared.scripts.Script.{Script}
@@ -123,7 +122,7 @@ all_unmarked n (l ∷ ls) all h =
 no_feed : (l : List ℕ) → IsLine l → All (λ (c : ℕ). (c == 10) ≡ false) l
 no_feed [] h = All-nil (λ (c : ℕ). (c == 10) ≡ false)
 no_feed (c ∷ cs) h =
-    let parts = both (not (c == 10)) (list_all (λ (b : ℕ). not (b == 10)) cs) h in
+    let parts = and_parts (not (c == 10)) (list_all (λ (b : ℕ). not (b == 10)) cs) h in
     All-cons (λ (b : ℕ). (b == 10) ≡ false) c cs (turned (c == 10) parts.0) (no_feed cs parts.1)
 
 split_parts : (ls : List (List ℕ)) → AreLines ls → slice_split (λ (c : ℕ). c == 10) (unsplit ls) ≡ ls ++ [] ∷ []
@@ -164,15 +163,15 @@ behind_order s = once 0xEF (once 0xBB (once 0xBF s))
 
 none_behind : (ls : List (List ℕ)) (rest : List ℕ) → (behind_order (record { lines = ls; rest = rest })).rest ≡ [] → (rest ≡ [] → HaveNoMark ls) → HaveNoMark (behind_order (record { lines = ls; rest = rest })).lines
 none_behind [] rest whole none = refl
-none_behind (l ∷ ls) rest whole none = (both (not (is_mark l)) (list_all (λ (m : List ℕ). not (is_mark m)) ls) (none whole)).1
+none_behind (l ∷ ls) rest whole none = (and_parts (not (is_mark l)) (list_all (λ (m : List ℕ). not (is_mark m)) ls) (none whole)).1
 
 none_ordered : (bytes : List ℕ) → AreWholeLines (ordered bytes) → Said bytes → HaveNoMark (split (ordered bytes)).lines
 none_ordered bytes whole said = none_behind (split bytes).lines (split bytes).rest whole (λ rest. none_in bytes rest said)
 
 three : (a b c : ℕ) → (nat_eq a 0xEF && (nat_eq b 0xBB && nat_eq c 0xBF)) ≡ true → (a ≡ 0xEF) × (b ≡ 0xBB) × (c ≡ 0xBF)
 three a b c h =
-    let first = both (nat_eq a 0xEF) (nat_eq b 0xBB && nat_eq c 0xBF) h in
-    let rest = both (nat_eq b 0xBB) (nat_eq c 0xBF) first.1 in
+    let first = and_parts (nat_eq a 0xEF) (nat_eq b 0xBB && nat_eq c 0xBF) h in
+    let rest = and_parts (nat_eq b 0xBB) (nat_eq c 0xBF) first.1 in
     (eqb-true a 0xEF first.0, eqb-true b 0xBB rest.0, eqb-true c 0xBF rest.1)
 
 no_marks : (bytes : List ℕ) → AreWholeLines bytes → Said (without_byte_order_mark bytes) → HaveNoMark (split bytes).lines
@@ -258,7 +257,7 @@ readable (e ∷ es) sessions texts replies = (
 lines_parted : (ls : List (List ℕ)) (transcript : List ℕ) → HaveNoMark ls → parted_lines (ls ++ codes "====" ∷ (split transcript).lines) (split transcript).rest ≡ Some (parts (unsplit ls) transcript)
 lines_parted [] transcript none = ap (λ (bytes : List ℕ). Some (parts [] bytes)) (ended_whole transcript)
 lines_parted (l ∷ ls) transcript none =
-    let both_none = both (not (is_mark l)) (list_all (λ (m : List ℕ). not (is_mark m)) ls) none in
+    let both_none = and_parts (not (is_mark l)) (list_all (λ (m : List ℕ). not (is_mark m)) ls) none in
     let here : is_mark l ≡ false = turned (is_mark l) both_none.0 in
     rw here (ap (behind_line l) (lines_parted ls transcript both_none.1))
 

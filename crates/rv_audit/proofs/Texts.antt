@@ -4,11 +4,10 @@ use Rattle.std.specs.List.{list_all, AllByRecursion}
 use Rattle.std.specs.Str.{is_utf8}
 use Rattle.std.specs.Str.Lines.{strip_carriage_return}
 use Rattle.std.specs.Str.Lossy.{utf8_valid_len, valid_len_up_to}
-use Rattle.std.proofs.lemmas.Bool.{cases_Bool}
+use Rattle.std.proofs.lemmas.Bool.{cases_Bool, and_parts}
 use Rattle.std.proofs.lemmas.Bool.Decides.{nat_tests}
 use Rattle.std.proofs.lemmas.List.{drop_at, nil_from_length, take_at}
 use Rattle.std.proofs.lemmas.Str.{IsCharBoundary-after_ascii, IsCharBoundary-before_ascii, IsUtf8-drop, IsUtf8-from_is_utf8, IsUtf8-nil, IsUtf8-take}
-use Rattle.rv_rows.proofs.Filters.{both}
 use Rattle.rv_script.specs.declared.scripts.Line.{Line}
 use Rattle.rv_script.specs.declared.scripts.Phase.{Phase}
 use Rattle.rv_script.specs.declared.scripts.ScriptFault.{ScriptFault}
@@ -79,7 +78,7 @@ line_take : (k : ℕ) (l : List ℕ) → IsLine l → IsLine (take k l)
 line_take zero l h = refl
 line_take (suc k) [] h = refl
 line_take (suc k) (c ∷ cs) h =
-    let parts = both (not (c == 10)) (list_all (λ (b : ℕ). not (b == 10)) cs) h in
+    let parts = and_parts (not (c == 10)) (list_all (λ (b : ℕ). not (b == 10)) cs) h in
     let rest = line_take k cs parts.1 in
     λ i. parts.0 i && rest i
 
@@ -127,9 +126,9 @@ call_text a b bs saying text h = by (nat_eq b 32 && (nat_le 49 a && nat_le a 56)
   where
     by : (t : Bool) → (nat_eq b 32 && (nat_le 49 a && nat_le a 56)) ≡ t → (if t then Some (Call (record { session = a - 48; text = bs })) else None) ≡ Some saying → SaysText saying
     by true is e =
-        let space : b ≡ 32 = eqb-true b 32 (both (nat_eq b 32) (nat_le 49 a && nat_le a 56) is).0 in
-        let first = both (not (a == 10)) (list_all (λ (c : ℕ). not (c == 10)) (b ∷ bs)) text.0 in
-        let second = both (not (b == 10)) (list_all (λ (c : ℕ). not (c == 10)) bs) first.1 in
+        let space : b ≡ 32 = eqb-true b 32 (and_parts (nat_eq b 32) (nat_le 49 a && nat_le a 56) is).0 in
+        let first = and_parts (not (a == 10)) (list_all (λ (c : ℕ). not (c == 10)) (b ∷ bs)) text.0 in
+        let second = and_parts (not (b == 10)) (list_all (λ (c : ℕ). not (c == 10)) bs) first.1 in
         let behind = utf8_cut (a ∷ []) b bs (omega (arith, space)) text.1 in
         subst SaysText (some_is (Call (record { session = a - 48; text = bs })) saying e) ((second.1, behind.1))
     by false is e = absurd (cc)

@@ -1,6 +1,6 @@
 -- Which rows changes write, and which they leave: by membership.
 use Rattle.std.proofs.Common.{◌≡◌, ℕ, List, [], ◌∷◌, ◌++◌, Bool, true, false, not, ◌&&◌, ◌||◌, ◌==◌, cond, Option, Some, None, ◌⊎◌, inl, inr, refl, sym, ap, ◌∙◌, subst, filter, arith}
-use Rattle.std.proofs.lemmas.Bool.{cases_Bool}
+use Rattle.std.proofs.lemmas.Bool.{cases_Bool, and_parts}
 use Rattle.std.proofs.lemmas.Bool.Decides.{nat_tests}
 use Rattle.std.specs.List.{AllByRecursion, list_all, list_any}
 use Rattle.rv_value.specs.declared.value.Value.{Value}
@@ -10,7 +10,6 @@ use Rattle.rv_rows.specs.Changes.{Rise, has_change, is_before, is_of, rows_with_
 use Rattle.rv_rows.specs.Merging.{values_row}
 use Rattle.rv_rows.specs.Rows.{comes_below, with_values}
 use Rattle.rv_rows.proofs.Chains.{change_rises}
-use Rattle.rv_rows.proofs.Filters.{both}
 use Rattle.rv_model.specs.Rivals.{rows_left, rows_written}
 
 -- ---- members
@@ -189,7 +188,7 @@ wrote_in table (c ∷ cs) r h = by (wrote_in table cs r) (applied_in table cs (o
 later_none : (table number : ℕ) (c : Change) (cs : List Change) → (c.table == table) ≡ true → number ≡ c.row.0 → list_all (is_before c) cs ≡ true → has_change table number cs ≡ false
 later_none table number c [] t is all = refl
 later_none table number c (d ∷ ds) t is all =
-    let parts = both (is_before c d) (list_all (is_before c) ds) all in
+    let parts = and_parts (is_before c d) (list_all (is_before c) ds) all in
     let other : is_of table number d ≡ false = (let first = parts.0 in grind (arith, nat_tests)) in
     ap (λ b. b || has_change table number ds) other ∙ later_none table number c ds t is parts.1
 

@@ -5,7 +5,7 @@ use Rattle.std.specs.List.{list_all}
 use Rattle.std.proofs.lemmas.Bool.Decides.{nat_tests}
 use Rattle.std.proofs.lemmas.List.{get_or-append-add, get_or_append_left, set-append_left, set-append_right, append-nil}
 use Rattle.std.proofs.lemmas.List.Edits.{insert-append_left, insert-append_right, remove-append_left, remove-append_right}
-use Rattle.rv_rows.proofs.Filters.{both}
+use Rattle.std.proofs.lemmas.Bool.{and_parts}
 use Rattle.rv_blocks.specs.Flat.{flat, is_sized, AreSized, block_at, start_of}
 
 -- the items before a block, its own, and those behind it
@@ -54,10 +54,10 @@ item_at bs i j d h k = rw (flat_split bs i h) (get_or-append-add (flat (take i b
 pub sized_at : {X : Type 0} (bs : List (List X)) (i : ℕ) → AreSized bs → i < length bs → (0 < length (block_at bs i)) × (length (block_at bs i) ≤ 128)
 sized_at [] i sized h = absurd (omega arith)
 sized_at (b ∷ bs) zero sized h =
-    let parts = both (is_sized b) (list_all is_sized bs) sized in
+    let parts = and_parts (is_sized b) (list_all is_sized bs) sized in
     let first = parts.0 in
     (grind (arith, nat_tests), grind (arith, nat_tests))
-sized_at (b ∷ bs) (suc i) sized h = sized_at bs i (both (is_sized b) (list_all is_sized bs) sized).1 (omega arith)
+sized_at (b ∷ bs) (suc i) sized h = sized_at bs i (and_parts (is_sized b) (list_all is_sized bs) sized).1 (omega arith)
 
 pub flat_set : {X : Type 0} (bs : List (List X)) (i : ℕ) (b : List X) → i < length bs → flat (slice_set bs i b) ≡ flat (take i bs) ++ (b ++ flat (drop (suc i) bs))
 flat_set [] i c h = absurd (omega arith)
@@ -66,9 +66,9 @@ flat_set (b ∷ bs) (suc i) c h = ap (λ xs. b ++ xs) (flat_set bs i c (omega ar
 
 pub sized_set : {X : Type 0} (bs : List (List X)) (i : ℕ) (b : List X) → AreSized bs → is_sized b ≡ true → AreSized (slice_set bs i b)
 sized_set [] i c sized h = refl
-sized_set (b ∷ bs) zero c sized h = rw (h, (both (is_sized b) (list_all is_sized bs) sized).1) refl
+sized_set (b ∷ bs) zero c sized h = rw (h, (and_parts (is_sized b) (list_all is_sized bs) sized).1) refl
 sized_set (b ∷ bs) (suc i) c sized h =
-    let parts = both (is_sized b) (list_all is_sized bs) sized in
+    let parts = and_parts (is_sized b) (list_all is_sized bs) sized in
     rw (parts.0, sized_set bs i c parts.1 h) refl
 
 -- two blocks in place of one
@@ -79,9 +79,9 @@ two_flat (b ∷ bs) (suc i) c e h = ap (λ xs. b ++ xs) (two_flat bs i c e (omeg
 
 two_sized : {X : Type 0} (bs : List (List X)) (i : ℕ) (b c : List X) → i < length bs → AreSized bs → is_sized b ≡ true → is_sized c ≡ true → AreSized (insert (slice_set bs i b) (suc i) c)
 two_sized [] i c e h sized k l = absurd (omega arith)
-two_sized (b ∷ bs) zero c e h sized k l = rw (k, l, (both (is_sized b) (list_all is_sized bs) sized).1) refl
+two_sized (b ∷ bs) zero c e h sized k l = rw (k, l, (and_parts (is_sized b) (list_all is_sized bs) sized).1) refl
 two_sized (b ∷ bs) (suc i) c e h sized k l =
-    let parts = both (is_sized b) (list_all is_sized bs) sized in
+    let parts = and_parts (is_sized b) (list_all is_sized bs) sized in
     rw (parts.0, two_sized bs i c e (omega arith) parts.1 k l) refl
 
 pub flat_two : {X : Type 0} (bs : List (List X)) (i n : ℕ) (b c : List X) → i < length bs → n ≡ suc i → flat (insert (slice_set bs i b) n c) ≡ flat (take i bs) ++ ((b ++ c) ++ flat (drop (suc i) bs))
@@ -98,9 +98,9 @@ flat_without (b ∷ bs) (suc i) h = ap (λ xs. b ++ xs) (flat_without bs i (omeg
 
 pub sized_without : {X : Type 0} (bs : List (List X)) (i : ℕ) → i < length bs → AreSized bs → AreSized (remove bs i)
 sized_without [] i h sized = absurd (omega arith)
-sized_without (b ∷ bs) zero h sized = (both (is_sized b) (list_all is_sized bs) sized).1
+sized_without (b ∷ bs) zero h sized = (and_parts (is_sized b) (list_all is_sized bs) sized).1
 sized_without (b ∷ bs) (suc i) h sized =
-    let parts = both (is_sized b) (list_all is_sized bs) sized in
+    let parts = and_parts (is_sized b) (list_all is_sized bs) sized in
     rw (parts.0, sized_without bs i (omega arith) parts.1) refl
 
 -- an edit of the list is an edit of a block

@@ -7,8 +7,8 @@ use Rattle.std.proofs.lemmas.List.Edits.{length-insert, length-remove}
 use Rattle.rv_blocks.specs.Flat.{Turns, flat, AreSized}
 use Rattle.rv_blocks.specs.Kept.{Kept}
 use Rattle.std.specs.Cmp.{IsStrictWeakOrder}
+use Rattle.std.proofs.lemmas.Bool.{and_parts}
 use Rattle.rv_rows.specs.Rising.{Rising, put_in}
-use Rattle.rv_rows.proofs.Filters.{both}
 use Rattle.rv_rows.proofs.Puts.{filter_all, put_first, put_same, put_more, rising_put}
 use Rattle.rv_blocks.specs.Taking.{take_from, standing, is_level}
 use Rattle.rv_blocks.proofs.Places.{chain_of, alike, none_before, all_behind}
@@ -23,8 +23,8 @@ turned_back false h = refl
 
 pub all_at : {X : Type 0} (p : X → Bool) (xs : List X) (i : ℕ) (d : X) → i < length xs → list_all p xs ≡ true → p (slice_index_or xs i d) ≡ true
 all_at p [] i d h all = absurd (omega arith)
-all_at p (x ∷ xs) zero d h all = (both (p x) (list_all p xs) all).0
-all_at p (x ∷ xs) (suc i) d h all = all_at p xs i d (omega arith) (both (p x) (list_all p xs) all).1
+all_at p (x ∷ xs) zero d h all = (and_parts (p x) (list_all p xs) all).0
+all_at p (x ∷ xs) (suc i) d h all = all_at p xs i d (omega arith) (and_parts (p x) (list_all p xs) all).1
 
 turns_tail : {X : Type 0} (p : X → Bool) (x : X) (xs : List X) (k : ℕ) → Turns p (x ∷ xs) (suc k) → Turns p xs k
 turns_tail p x xs zero t = record {
@@ -58,13 +58,13 @@ module _ {X : Type 0} (before : X → X → Bool) (weak : IsStrictWeakOrder befo
   all_alike : (x y : X) (xs : List X) → before x y ≡ false → before y x ≡ false → list_all (before x) xs ≡ true → list_all (before y) xs ≡ true
   all_alike x y [] h k all = refl
   all_alike x y (z ∷ zs) h k all =
-      let parts = both (before x z) (list_all (before x) zs) all in
+      let parts = and_parts (before x z) (list_all (before x) zs) all in
       rw (alike before weak x y z h k parts.0) (all_alike x y zs h k parts.1)
 
   none_standing : (new : X) (xs : List X) → list_all (before new) xs ≡ true → standing before new xs ≡ None
   none_standing new [] all = refl
   none_standing new (x ∷ xs) all =
-      let parts = both (before new x) (list_all (before new) xs) all in
+      let parts = and_parts (before new x) (list_all (before new) xs) all in
       rw (parts.0, weak.one_way new x parts.0) (none_standing new xs parts.1)
 
   pub put_over : (new y : X) (xs : List X) (r : ℕ) → Rising before xs → Turns (λ x. before x new) xs r → slice_get xs r ≡ Some y → is_level before new (Some y) ≡ true → (slice_set xs r new ≡ put_in before new xs) × (remove xs r ≡ take_from before new xs) × (standing before new xs ≡ Some y)
@@ -108,9 +108,9 @@ module _ {X : Type 0} (before : X → X → Bool) (weak : IsStrictWeakOrder befo
   all_removed : (p : X → Bool) (xs : List X) (r : ℕ) → list_all p xs ≡ true → list_all p (remove xs r) ≡ true
   all_removed p [] zero all = refl
   all_removed p [] (suc r) all = refl
-  all_removed p (x ∷ xs) zero all = (both (p x) (list_all p xs) all).1
+  all_removed p (x ∷ xs) zero all = (and_parts (p x) (list_all p xs) all).1
   all_removed p (x ∷ xs) (suc r) all =
-      let parts = both (p x) (list_all p xs) all in
+      let parts = and_parts (p x) (list_all p xs) all in
       rw (parts.0, all_removed p xs r parts.1) refl
 
   -- what is taken out leaves a list that rises

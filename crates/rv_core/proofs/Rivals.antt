@@ -2,12 +2,12 @@
 use Rattle.std.proofs.Common.{◌≡◌, ℕ, ◌<◌, ◌≤◌, List, [], ◌∷◌, true, Option, None, Result, Ok, refl, ap, sym, ◌∙◌, subst, arith, filter, length, map}
 use Rattle.std.specs.List.{AllByRecursion, list_all}
 use Rattle.std.proofs.lemmas.Bool.Decides.{nat_tests}
+use Rattle.std.proofs.lemmas.Bool.{and_parts}
 use Rattle.rv_value.specs.declared.value.Value.{Value}
 use Rattle.rv_value.specs.declared.record.Record.{Record}
 use Rattle.rv_rows.specs.declared.changes.Change.{Change}
 use Rattle.rv_rows.specs.Changes.{Rise, is_before, rows_with_changes, with_changes}
 use Rattle.rv_rows.specs.Rows.{Ascend, comes_below}
-use Rattle.rv_rows.proofs.Filters.{both}
 use Rattle.rv_rows.proofs.Puts.{rising_filter}
 use Rattle.rv_restrict.specs.declared.atom.Atom.{Atom}
 use Rattle.rv_restrict.specs.Truth.{qualifies}
@@ -77,7 +77,7 @@ lone_none shown schema txns session table new none = ap (λ (o : Option ℕ). no
 before_all : (table : ℕ) (sets : Option (List (ℕ × Value))) (r : Record) (rows : List Record) → list_all (comes_below r) rows ≡ true → list_all (is_before (calls.change_of table sets r)) (map (calls.change_of table sets) rows) ≡ true
 before_all table sets r [] all = refl
 before_all table sets r (s ∷ rows) all =
-    let parts = both (comes_below r s) (list_all (comes_below r) rows) all in
+    let parts = and_parts (comes_below r s) (list_all (comes_below r) rows) all in
     let first : is_before (calls.change_of table sets r) (calls.change_of table sets s) ≡ true = (let below = parts.0 in grind (arith, nat_tests)) in
     rw first (before_all table sets r rows parts.1)
 

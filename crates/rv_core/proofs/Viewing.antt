@@ -1,7 +1,7 @@
 -- A query can be planned over what a transaction sees, where it can be planned over the transaction's snapshot.
 use Rattle.std.proofs.Common.{◌≡◌, ℕ, ◌<◌, List, [], ◌∷◌, ◌++◌, Bool, true, false, not, ◌&&◌, ◌==◌, cond, if◌then◌else◌, Option, Some, None, IfSome, refl, ap, sym, ◌∙◌, subst, arith, inl, inr, filter, length, nat_eq, nat_lt}
 use Rattle.std.specs.List.{AllByRecursion, list_all}
-use Rattle.std.proofs.lemmas.Bool.{cases_Bool}
+use Rattle.std.proofs.lemmas.Bool.{cases_Bool, and_parts}
 use Rattle.std.proofs.lemmas.List.Folds.{list_all-append}
 use Rattle.std.proofs.lemmas.Bool.Decides.{nat_tests}
 use Rattle.rv_value.specs.declared.value.Value.{Value}
@@ -9,7 +9,6 @@ use Rattle.rv_value.specs.declared.record.Record.{Record}
 use Rattle.rv_rows.specs.declared.changes.Change.{Change}
 use Rattle.rv_rows.specs.Changes.{rows_with_changes}
 use Rattle.rv_rows.specs.Rows.{comes_below, with_values}
-use Rattle.rv_rows.proofs.Filters.{both}
 use Rattle.rv_restrict.specs.declared.atom.ColRef.{ColRef}
 use Rattle.rv_catalog.specs.declared.def.IndexDef.{IndexDef}
 use Rattle.rv_catalog.specs.declared.def.Select.{Select}
@@ -103,7 +102,7 @@ has_value column r = nat_lt column (length r.values)
 have_filter : (column : ℕ) (p : Record → Bool) (rows : List Record) → list_all (has_value column) rows ≡ true → list_all (has_value column) (filter p rows) ≡ true
 have_filter column p [] h = refl
 have_filter column p (r ∷ rows) h =
-    let parts = both (has_value column r) (list_all (has_value column) rows) h in
+    let parts = and_parts (has_value column r) (list_all (has_value column) rows) h in
     let rest = have_filter column p rows parts.1 in
     elim (p r) as (λ b. list_all (has_value column) (cond b (r ∷ filter p rows) (filter p rows)) ≡ true) [
       | true ↦ subst (λ b. (b && list_all (has_value column) (filter p rows)) ≡ true) (sym parts.0) rest

@@ -1,14 +1,13 @@
 -- What a scan's step says of each row number: the records that it looks through stand for rows of the table.
 use Rattle.std.proofs.Common.{◌≡◌, ℕ, List, [], ◌∷◌, drop, filter, Bool, true, false, not, cond, ◌&&◌, ◌||◌, refl, ap, sym, ◌∙◌, arith, subst, Some, nat_eq, zero, suc, inl, inr}
 use Rattle.std.specs.List.{AllByRecursion}
-use Rattle.std.proofs.lemmas.Bool.{cases_Bool}
+use Rattle.std.proofs.lemmas.Bool.{cases_Bool, and_parts}
 use Rattle.std.proofs.lemmas.Bool.Decides.{nat_tests}
 use Rattle.rv_value.specs.declared.record.Record.{Record}
 use Rattle.rv_rows.specs.Rows.{Ascend}
 use Rattle.rv_restrict.specs.declared.atom.Atom.{Atom}
 use Rattle.rv_restrict.specs.Truth.{qualifies}
 use Rattle.rv_reader.specs.Tables.{row_at}
-use Rattle.rv_reader.proofs.Filters.{both}
 use Rattle.rv_scan.specs.declared.skip.Scanned.{Scanned}
 use Rattle.rv_scan.specs.declared.skip.Scanned.TheVariants.{Found, Working, End}
 use Rattle.rv_scan.specs.Due.{Skipped, StepsTo, due, is_due, skips}
@@ -108,7 +107,7 @@ found_marks : (need : List ℕ) (only : List (List Atom)) (rows : List Record) (
 found_marks need only rows skip xs ys r asc lx ly e =
     let first = first_due need only rows skip xs (due only skip ys) r lx.each e in
     let stands = first.0 in
-    let parts = both (not (skips skip r.row.0)) (qualifies only r.values) first.1 in
+    let parts = and_parts (not (skips skip r.row.0)) (qualifies only r.values) first.1 in
     let qualifies_row : qualifies only stands.row.values ≡ true = sym stands.same ∙ parts.1 in
     let there : qualifies_at only rows r.row.0 ≡ true = told_by only rows r.row.0 stands.row asc stands.there ∙ qualifies_row in
     let split : (n : ℕ) → has_row n (due only skip xs) ≡ (nat_eq n r.row.0 || has_row n (due only skip ys)) = λ n. ap (has_row n) e in

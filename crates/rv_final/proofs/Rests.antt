@@ -1,14 +1,13 @@
 -- A rest that is a filter by a test on row numbers.
 use Rattle.std.proofs.Common.{◌≡◌, ℕ, ◌≤◌, List, [], ◌∷◌, Bool, true, false, not, cond, ◌&&◌, ◌||◌, refl, ap, sym, ◌∙◌, arith, subst, Some, None, Option, nat_eq, nat_lt, inl, inr, ◌==◌}
 use Rattle.std.specs.List.{list_all, AllByRecursion}
-use Rattle.std.proofs.lemmas.Bool.{cases_Bool}
+use Rattle.std.proofs.lemmas.Bool.{cases_Bool, and_parts}
 use Rattle.std.proofs.lemmas.Bool.Decides.{nat_tests}
 use Rattle.rv_value.specs.declared.record.Record.{Record}
 use Rattle.rv_rows.specs.Rows.{Ascend, comes_below}
 use Rattle.rv_restrict.specs.declared.atom.Atom.{Atom}
 use Rattle.rv_restrict.specs.Truth.{qualifies}
 use Rattle.rv_reader.specs.Tables.{row_at}
-use Rattle.rv_reader.proofs.Filters.{both}
 use Rattle.rv_final.specs.Rest.{rest_by, qualifies_at, Agree, AgreesIn, IsWide, TakesOut, Marks, has_row}
 
 here_qualifies : (only : List (List Atom)) (r : Record) (rows : List Record) → qualifies only r.values ≡ true → qualifies_at only (r ∷ rows) r.row.0 ≡ true
@@ -49,7 +48,7 @@ no_rest only rows left a = same_rest only rows (λ n. false) left a ∙ none onl
 pub below_all : (r : Record) (rows : List Record) (n : ℕ) → n ≤ r.row.0 → list_all (comes_below r) rows ≡ true → has_row n rows ≡ false
 below_all r [] n h a = refl
 below_all r (x ∷ rows) n h a =
-    let parts = both (comes_below r x) (list_all (comes_below r) rows) a in
+    let parts = and_parts (comes_below r x) (list_all (comes_below r) rows) a in
     let first : nat_lt r.row.0 x.row.0 ≡ true = parts.0 in
     let rest = below_all r rows n h parts.1 in
     grind (arith, nat_tests)
@@ -123,7 +122,7 @@ some_row only rows n q = by (row_at rows n) refl
 behind_found : (r : Record) (rows more : List Record) → list_all (comes_below r) rows ≡ true → AllByRecursion (λ (x : Record). row_at more x.row.0 ≡ Some x) rows → AllByRecursion (λ (x : Record). row_at (r ∷ more) x.row.0 ≡ Some x) rows
 behind_found r [] more h a = tt
 behind_found r (x ∷ rows) more h a =
-    let parts = both (comes_below r x) (list_all (comes_below r) rows) h in
+    let parts = and_parts (comes_below r x) (list_all (comes_below r) rows) h in
     let other : (r.row.0 == x.row.0) ≡ false = apart r.row.0 x.row.0 parts.0 in
     (ap (λ (b : Bool). cond b (Some r) (row_at more x.row.0)) other ∙ a.0, behind_found r rows more parts.1 a.1)
   where

@@ -3,21 +3,21 @@ use Rattle.std.proofs.Common.{◌≡◌, ℕ, ◌<◌, ◌≤◌, ◌+◌, List,
 use Rattle.std.proofs.lemmas.Bool.Decides.{nat_tests}
 use Rattle.std.proofs.lemmas.List.Folds.{list_all-append}
 use Rattle.std.specs.List.{AllByRecursion, list_all}
+use Rattle.std.proofs.lemmas.Bool.{and_parts}
 use Rattle.rv_rows.specs.declared.changes.Change.{Change}
 use Rattle.rv_rows.specs.Changes.{Rise, is_before}
-use Rattle.rv_reader.proofs.Filters.{both}
 use Rattle.rv_loading.specs.Laid.{IsBatch, IsNew, is_under}
 
 under_more : (table row further next : ℕ) (changes : List Change) → ((c : Change) → is_under table row c ≡ true → is_under further next c ≡ true) → list_all (is_under table row) changes ≡ true → list_all (is_under further next) changes ≡ true
 under_more table row further next [] more low = refl
 under_more table row further next (x ∷ changes) more low =
-    let parts = both (is_under table row x) (list_all (is_under table row) changes) low in
+    let parts = and_parts (is_under table row x) (list_all (is_under table row) changes) low in
     rw (more x parts.0) (under_more table row further next changes more parts.1)
 
 rise_push : (table row : ℕ) (c : Change) (changes : List Change) → c.table ≡ table → row ≤ c.row.0 → Rise changes → list_all (is_under table row) changes ≡ true → Rise (changes ++ c ∷ [])
 rise_push table row c [] is high rise low = (refl, tt)
 rise_push table row c (x ∷ changes) is high rise low =
-    let parts = both (is_under table row x) (list_all (is_under table row) changes) low in
+    let parts = and_parts (is_under table row x) (list_all (is_under table row) changes) low in
     let first = parts.0 in
     let before : is_before x c ≡ true = grind (arith, nat_tests) in
     let here : list_all (is_before x) (changes ++ c ∷ []) ≡ true = list_all-append (is_before x) changes (c ∷ []) ∙ rw (rise.0, before) refl in

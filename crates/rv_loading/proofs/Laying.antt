@@ -1,13 +1,12 @@
 -- What the calls of a store leave of its layout.
 use Rattle.std.proofs.Common.{◌≡◌, ℕ, ◌<◌, ◌≤◌, ◌+◌, List, [], ◌∷◌, Option, Some, None, true, IfSome, sym, ap, ◌∙◌, arith, length, inl, inr, subst}
 use Rattle.std.proofs.lemmas.Bool.Decides.{nat_tests}
-use Rattle.std.proofs.lemmas.Bool.{cases_eq}
+use Rattle.std.proofs.lemmas.Bool.{cases_eq, and_parts}
 use Rattle.std.specs.List.{AllByRecursion, list_all}
 use Rattle.rv_value.specs.declared.value.Value.{Value}
 use Rattle.rv_rows.specs.declared.changes.Change.{Change}
 use Rattle.rv_reader.specs.Shown.{Shown, CanRead, CanScan}
 use Rattle.rv_reader.specs.Storing.{AreColumns, IsChange, IsSame, Created, Indexed, Committed, Swept, CanCommit}
-use Rattle.rv_reader.proofs.Filters.{both}
 use Rattle.rv_loading.specs.declared.load.Layout.{Layout}
 use Rattle.rv_loading.specs.Laid.{IsBatch, IsNew, Laid, is_under}
 
@@ -76,7 +75,7 @@ is_change layout shown c laid new low = record {
 are_changes : (layout : Layout) (shown : Shown) (changes : List Change) → Laid layout shown → AllByRecursion IsNew changes → list_all (is_under layout.tables 0) changes ≡ true → AllByRecursion (IsChange shown) changes
 are_changes layout shown [] laid new low = tt
 are_changes layout shown (c ∷ changes) laid new low =
-    let parts = both (is_under layout.tables 0 c) (list_all (is_under layout.tables 0) changes) low in
+    let parts = and_parts (is_under layout.tables 0 c) (list_all (is_under layout.tables 0) changes) low in
     (is_change layout shown c laid new.0 (under layout.tables c parts.0), are_changes layout shown changes laid new.1 parts.1)
 
 pub can_commit : (layout : Layout) (shown : Shown) (changes : List Change) → Laid layout shown → IsBatch layout.tables 0 changes → CanCommit shown changes

@@ -1,6 +1,6 @@
 -- Searches by halves among entries that ascend.
 use Rattle.std.proofs.Common.{◌≡◌, ℕ, zero, suc, ◌+◌, ◌≤◌, List, [], ◌∷◌, Bool, true, false, not, refl, ap, sym, ◌∙◌, inl, inr, subst, arith, length, filter, take, drop, Option, Some, None}
-use Rattle.std.proofs.lemmas.Bool.{cases_Bool}
+use Rattle.std.proofs.lemmas.Bool.{cases_Bool, and_parts}
 use Rattle.std.specs.List.{list_all, AllWithin}
 use Rattle.std.specs.List.Sorted.{IsPartitionedBy}
 use Rattle.rv_value.specs.declared.record.IndexEntry.{IndexEntry}
@@ -8,7 +8,6 @@ use Rattle.rv_value.specs.declared.range.Range.{Range}
 use Rattle.rv_value.specs.Ranges.{place}
 use Rattle.rv_rows.specs.Rising.{Rising}
 use Rattle.rv_rows.proofs.Cuts.{partitioned}
-use Rattle.rv_rows.proofs.Filters.{both}
 use Rattle.rv_reader.specs.Entries.{AreLong, Ascend, comes_before}
 use Rattle.rv_reader.specs.Leaves.{after_side, is_passed}
 use Rattle.rv_reader.proofs.Chunks.{turned_true}
@@ -104,7 +103,7 @@ found_first range lows behind front k last is cut at passes bound =
 all_take : {X : Type 0} (q : X → Bool) (n : ℕ) (xs : List X) → list_all q xs ≡ true → list_all q (take n xs) ≡ true
 all_take q zero xs all = refl
 all_take q (suc n) [] all = refl
-all_take q (suc n) (x ∷ xs) all = let parts = both (q x) (list_all q xs) all in rw parts.0 (all_take q n xs parts.1)
+all_take q (suc n) (x ∷ xs) all = let parts = and_parts (q x) (list_all q xs) all in rw parts.0 (all_take q n xs parts.1)
 
 rising_take : {X : Type 0} (before : X → X → Bool) (n : ℕ) (xs : List X) → Rising before xs → Rising before (take n xs)
 rising_take before zero xs rise = tt
@@ -122,7 +121,7 @@ long_front range n lows behind front is cut long = subst (AreLong range) (sym (c
 all_drop : {X : Type 0} (q : X → Bool) (n : ℕ) (xs : List X) → list_all q xs ≡ true → list_all q (drop n xs) ≡ true
 all_drop q zero xs all = all
 all_drop q (suc n) [] all = refl
-all_drop q (suc n) (x ∷ xs) all = all_drop q n xs (both (q x) (list_all q xs) all).1
+all_drop q (suc n) (x ∷ xs) all = all_drop q n xs (and_parts (q x) (list_all q xs) all).1
 
 rising_drop : {X : Type 0} (before : X → X → Bool) (n : ℕ) (xs : List X) → Rising before xs → Rising before (drop n xs)
 rising_drop before zero xs rise = rise

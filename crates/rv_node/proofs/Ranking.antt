@@ -3,9 +3,9 @@ use Rattle.std.proofs.Common.{◌≡◌, ℕ, zero, suc, ◌+◌, ◌<◌, ◌�
 use Rattle.std.specs.Prelude.{flat_map}
 use Rattle.std.specs.List.{list_all}
 use Rattle.std.proofs.lemmas.List.Folds.{list_all-append}
+use Rattle.std.proofs.lemmas.Bool.{and_parts}
 use Rattle.rv_value.specs.declared.record.IndexEntry.{IndexEntry}
 use Rattle.rv_rows.specs.Rising.{Rising}
-use Rattle.rv_rows.proofs.Filters.{both}
 use Rattle.rv_reader.specs.Entries.{comes_before}
 use Rattle.rv_reader.proofs.Orders.{order}
 use Rattle.rv_node.specs.Descent.{child_in}
@@ -31,7 +31,7 @@ lows_rise P h low high t (l ∷ lows) [] same k = absurd (omega arith)
 lows_rise P h low high t (l ∷ lows) (i ∷ ids) same k = (lows_above P h l high (h i) lows ids (omega arith) k.3, lows_rise P h (Some l) high (h i) lows ids (omega arith) k.3)
 
 split : (q : IndexEntry → Bool) (xs ys : List IndexEntry) → list_all q (xs ++ ys) ≡ true → (list_all q xs ≡ true) × (list_all q ys ≡ true)
-split q xs ys all = both (list_all q xs) (list_all q ys) (sym (list_all-append q xs ys) ∙ all)
+split q xs ys all = and_parts (list_all q xs) (list_all q ys) (sym (list_all-append q xs ys) ∙ all)
 
 module _ (at : ℕ → Parts) (q : IndexEntry → Bool) where
   abbrev Step : ℕ → Type 0
@@ -53,7 +53,7 @@ module _ (at : ℕ → Parts) (q : IndexEntry → Bool) where
   each_ranked level step low high id (l ∷ lows) (x ∷ xs) same k stored each es cs =
       let e = split q (entries_in level (tree_at at level id)) (entries_in level (tree_at at level x) ++ flat_map (λ kid. entries_in level kid.1) (kids_at (tree_at at level) lows xs)) es in
       let c = split q (cuts_in level (tree_at at level id)) (l ∷ (cuts_in level (tree_at at level x) ++ flat_map (λ kid. kid.0 ∷ cuts_in level kid.1) (kids_at (tree_at at level) lows xs))) cs in
-      let first = both (q l) (list_all q (cuts_in level (tree_at at level x) ++ flat_map (λ kid. kid.0 ∷ cuts_in level kid.1) (kids_at (tree_at at level) lows xs))) c.1 in
+      let first = and_parts (q l) (list_all q (cuts_in level (tree_at at level x) ++ flat_map (λ kid. kid.0 ∷ cuts_in level kid.1) (kids_at (tree_at at level) lows xs))) c.1 in
       let rest = each_ranked level step (Some l) high x lows xs (omega arith) k.3 each.0 each.1 e.1 first.1 in
       (rw first.0 rest.0, (step id low (Some l) k.0 stored e.0 c.0, rest.1))
 

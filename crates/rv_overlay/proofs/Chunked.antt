@@ -1,6 +1,6 @@
 -- A leaf of the view is what a chunk says.
 use Rattle.std.proofs.Common.{◌≡◌, ℕ, zero, suc, ◌+◌, ◌≤◌, List, [], ◌∷◌, ◌++◌, Bool, true, false, not, nat_eq, ◌&&◌, cond, Option, Some, None, IfSome, inl, inr, refl, ap, sym, subst, ◌∙◌, filter, length, arith}
-use Rattle.std.proofs.lemmas.Bool.{cases_Bool}
+use Rattle.std.proofs.lemmas.Bool.{cases_Bool, and_parts}
 use Rattle.std.proofs.lemmas.Bool.Decides.{nat_tests}
 use Rattle.std.specs.List.{list_all}
 use Rattle.rv_value.specs.declared.value.Value.{Value}
@@ -11,10 +11,10 @@ use Rattle.rv_rows.specs.Rising.{put_in}
 use Rattle.rv_rows.proofs.Puts.{rising_filter}
 use Rattle.rv_reader.specs.declared.reader.Chunk.{Chunk}
 use Rattle.rv_reader.specs.Entries.{comes_before, is_in, reaches, Ascend, AreLong}
-use Rattle.rv_reader.specs.Leaves.{is_passed, is_wanted, within, Leaf, leaf_at, leaf_entries, leaf_from, from_on, up_to, run_from, IsChunk}
+use Rattle.rv_reader.specs.Leaves.{is_passed, is_wanted, within, Leaf, leaf_at, leaf_entries, from_on, run_from, IsChunk}
 use Rattle.rv_reader.specs.Leaves.{is_below, is_taken}
 use Rattle.rv_reader.specs.Storing.{AreKeys}
-use Rattle.rv_reader.proofs.Filters.{both, filter_same, filter_twice, filter_fewer, all_filter}
+use Rattle.rv_reader.proofs.Filters.{filter_same, filter_twice, all_filter}
 use Rattle.rv_reader.proofs.Chunks.{is_long}
 use Rattle.rv_reader.proofs.Chunks.{is_chunk, leaf_read, taken_within}
 use Rattle.rv_reader.proofs.Orders.{one_way, follows, below_through}
@@ -24,7 +24,7 @@ use Rattle.rv_reader.specs.Shown.{Shown, CanScan}
 use Rattle.rv_overlay.specs.declared.frozen.Frozen.{Frozen}
 use Rattle.rv_overlay.specs.Overlaid.{Lays, LaysIndex, fits, is_short, overlaid, part_at}
 use Rattle.rv_overlay.proofs.Placing.{filter_with, with_ascends}
-use Rattle.rv_overlay.proofs.Following.{all_with, leaf_next, lesser_none, next_with, passes_down, within_lesser}
+use Rattle.rv_overlay.proofs.Following.{all_with, leaf_next, next_with, passes_down, within_lesser}
 use Rattle.rv_overlay.proofs.Sixteens.{few_added}
 
 -- How many there are.
@@ -60,7 +60,7 @@ filter_count p (x ∷ xs) = let rest = filter_count p xs in elim (cases_Bool (p 
 fewer_on : (q p r : IndexEntry → Bool) (xs : List IndexEntry) → list_all q xs ≡ true → ((x : IndexEntry) → q x ≡ true → p x ≡ true → r x ≡ true) → length (filter p xs) ≤ length (filter r xs)
 fewer_on q p r [] all sharper = omega arith
 fewer_on q p r (x ∷ xs) all sharper =
-    let parts = both (q x) (list_all q xs) all in
+    let parts = and_parts (q x) (list_all q xs) all in
     let rest = fewer_on q p r xs parts.1 sharper in
     elim (cases_Bool (p x)) [
       | inl t ↦ rw (t, sharper x parts.0 t) (omega (arith, rest))
@@ -119,13 +119,13 @@ reaches_width width (Some b) key short long = grind (arith, nat_tests)
 pub all_long : (width : ℕ) (range : Range) (entries : List IndexEntry) → fits width range ≡ true → AreKeys width entries → AreLong range entries
 all_long width range [] fit keys = refl
 all_long width range (e ∷ entries) fit keys =
-    let parts = both (is_short width range.low) (is_short width range.high) fit in
+    let parts = and_parts (is_short width range.low) (is_short width range.high) fit in
     rw (reaches_width width range.low e.key parts.0 keys.0, reaches_width width range.high e.key parts.1 keys.0) (all_long width range entries fit keys.1)
 
 pub marks_all : (q : IndexEntry → Bool) (left : ℕ) (es : List IndexEntry) → list_all q es ≡ true → list_all q (marks left es) ≡ true
 marks_all q left [] all = refl
-marks_all q zero (e ∷ es) all = let parts = both (q e) (list_all q es) all in rw parts.0 (marks_all q 15 es parts.1)
-marks_all q (suc left) (e ∷ es) all = let parts = both (q e) (list_all q es) all in marks_all q left es parts.1
+marks_all q zero (e ∷ es) all = let parts = and_parts (q e) (list_all q es) all in rw parts.0 (marks_all q 15 es parts.1)
+marks_all q (suc left) (e ∷ es) all = let parts = and_parts (q e) (list_all q es) all in marks_all q left es parts.1
 
 pub marks_ascend : (left : ℕ) (es : List IndexEntry) → Ascend es → Ascend (marks left es)
 marks_ascend left [] ascend = tt
@@ -135,7 +135,7 @@ marks_ascend (suc left) (e ∷ es) ascend = marks_ascend left es ascend.1
 first_long : (q passes : IndexEntry → Bool) (cs : List IndexEntry) → list_all q cs ≡ true → IfSome (first_not passes cs) (λ c. q c ≡ true)
 first_long q passes [] all = tt
 first_long q passes (c ∷ cs) all =
-    let parts = both (q c) (list_all q cs) all in
+    let parts = and_parts (q c) (list_all q cs) all in
     elim (passes c) as (λ b. IfSome (cond b (first_not passes cs) (Some c)) (λ c. q c ≡ true)) [ true ↦ first_long q passes cs parts.1 | false ↦ parts.0 ]
 
 -- a leaf is short
@@ -151,7 +151,7 @@ leaf_short entries range start leaf short =
 
 own_taken : (range : Range) (start next own : Option IndexEntry) (e : IndexEntry) → is_long range e ≡ true → IfSome own (λ c. is_long range c ≡ true) → is_taken range start (lesser next (within range own)) e ≡ true → (is_wanted range start e && is_below own e) ≡ true
 own_taken range start next own e long l h =
-    let parts = both (is_wanted range start e) (is_below (lesser next (within range own)) e) h in
+    let parts = and_parts (is_wanted range start e) (is_below (lesser next (within range own)) e) h in
     let second = below_second next (within range own) e parts.1 in
     let both_true : is_taken range start (within range own) e ≡ true = rw (parts.0, second) refl in
     sym (taken_within range start own e long l) ∙ both_true
@@ -210,8 +210,8 @@ keys_reach width (Some b) key long h = grind (arith, nat_tests)
 pub none_long : (width : ℕ) (range : Range) (entries : List IndexEntry) → fits width range ≡ false → list_all (λ (e : IndexEntry). nat_eq (length e.key) width) entries ≡ true → AreLong range entries → entries ≡ []
 none_long width range [] fit keys long = refl
 none_long width range (e ∷ entries) fit keys long =
-    let key = (both (nat_eq (length e.key) width) (list_all (λ (x : IndexEntry). nat_eq (length x.key) width) entries) keys).0 in
-    let reach = both (reaches range.low e.key) (reaches range.high e.key) (both (reaches range.low e.key && reaches range.high e.key) (list_all (is_long range) entries) long).0 in
+    let key = (and_parts (nat_eq (length e.key) width) (list_all (λ (x : IndexEntry). nat_eq (length x.key) width) entries) keys).0 in
+    let reach = and_parts (reaches range.low e.key) (reaches range.high e.key) (and_parts (reaches range.low e.key && reaches range.high e.key) (list_all (is_long range) entries) long).0 in
     let no : true ≡ false = sym (rw (keys_reach width range.low e.key reach.0 key, keys_reach width range.high e.key reach.1 key) refl) ∙ fit in
     cc
 

@@ -1,6 +1,6 @@
 -- How many entries of the view are in a range.
-use Rattle.std.proofs.Common.{◌≡◌, ℕ, zero, suc, ◌+◌, ◌-◌, ◌≤◌, ◌<◌, ◌^◌, List, [], ◌∷◌, ◌++◌, Bool, true, false, not, nat_eq, ◌&&◌, cond, inl, inr, refl, ap, sym, subst, ◌∙◌, filter, length, arith}
-use Rattle.std.proofs.lemmas.Bool.{cases_Bool}
+use Rattle.std.proofs.Common.{◌≡◌, ℕ, zero, suc, ◌+◌, ◌-◌, ◌≤◌, List, [], ◌∷◌, ◌++◌, Bool, true, false, not, nat_eq, ◌&&◌, cond, inl, inr, refl, ap, sym, subst, filter, length, arith}
+use Rattle.std.proofs.lemmas.Bool.{cases_Bool, and_parts}
 use Rattle.std.specs.List.{list_all}
 use Rattle.std.specs.Ordering.{is_eq, is_lt}
 use Rattle.std.specs.declared.cmp.Ordering.{Ordering}
@@ -16,14 +16,14 @@ use Rattle.rv_reader.specs.Shown.{IsEstimate, IsIndex}
 use Rattle.rv_value.specs.Orders.{entry_cmp_total}
 use Rattle.std.specs.Cmp.{tied_itself}
 use Rattle.rv_reader.proofs.Sorting.{same}
-use Rattle.rv_reader.proofs.Filters.{both, filter_same, filter_twice, all_filter}
+use Rattle.rv_reader.proofs.Filters.{filter_same, filter_twice, all_filter}
 use Rattle.rv_reader.proofs.Orders.{one_way, follows}
 use Rattle.rv_overlay.specs.declared.frozen.Part.{Part}
 use Rattle.rv_overlay.specs.Laying.{has, laid, marks, sixteenths, with_all, without}
 use Rattle.rv_overlay.specs.Overlaid.{LaysIndex, counted, fits}
-use Rattle.rv_overlay.proofs.Placing.{before_found, equal_is, equal_same, filter_with, not_among, put_ascends, with_ascends}
+use Rattle.rv_overlay.proofs.Placing.{before_found, equal_same, filter_with, not_among, with_ascends}
 use Rattle.rv_overlay.proofs.Following.{all_put, all_with}
-use Rattle.rv_overlay.proofs.Chunked.{filter_count, keys_test, marks_ascend, none_long, with_count}
+use Rattle.rv_overlay.proofs.Chunked.{keys_test, none_long, with_count}
 
 -- an entry is another one than each of these
 abbrev other : IndexEntry → IndexEntry → Bool
@@ -73,7 +73,7 @@ AreNew (e ∷ es) xs = (list_all (other e) xs ≡ true) × AreNew es xs
 new_put : (e : IndexEntry) (es xs : List IndexEntry) → list_all (comes_before e) es ≡ true → AreNew es xs → AreNew es (put_in comes_before e xs)
 new_put e [] xs all new = tt
 new_put e (d ∷ es) xs all new =
-    let parts = both (comes_before e d) (list_all (comes_before e) es) all in
+    let parts = and_parts (comes_before e d) (list_all (comes_before e) es) all in
     (all_put (other d) e xs (rw (lt_other e d parts.0) refl) new.0, new_put e es xs parts.1 new.1)
 
 with_more : (es xs : List IndexEntry) → Ascend es → AreNew es xs → length (with_all es xs) ≡ length es + length xs
@@ -86,7 +86,7 @@ with_more (e ∷ es) xs ascend new =
 new_filter : (p q : IndexEntry → Bool) (es xs : List IndexEntry) → list_all (λ (e : IndexEntry). not (has xs e)) es ≡ true → AreNew (filter p es) (filter q xs)
 new_filter p q [] xs all = tt
 new_filter p q (e ∷ es) xs all =
-    let parts = both (not (has xs e)) (list_all (λ (x : IndexEntry). not (has xs x)) es) all in
+    let parts = and_parts (not (has xs e)) (list_all (λ (x : IndexEntry). not (has xs x)) es) all in
     let here = all_filter (other e) q xs (not_among e xs (turned (has xs e) parts.0)) in
     let rest = new_filter p q es xs parts.1 in
     elim (p e) as (λ b. AreNew (cond b (e ∷ filter p es) (filter p es)) (filter q xs)) [ true ↦ (here, rest) | false ↦ rest ]
@@ -100,7 +100,7 @@ new_filter p q (e ∷ es) xs all =
 pub not_there : (e : IndexEntry) (ts : List IndexEntry) → list_all (comes_before e) ts ≡ true → has ts e ≡ false
 not_there e [] all = refl
 not_there e (t ∷ ts) all =
-    let parts = both (comes_before e t) (list_all (comes_before e) ts) all in
+    let parts = and_parts (comes_before e t) (list_all (comes_before e) ts) all in
     elim (cases_Bool (is_eq (entry_cmp t e))) [
       | inl u ↦ let no : comes_before e e ≡ true = subst (λ y. comes_before e y ≡ true) (equal_same t e u) parts.0 in let not_so = one_way e e no in cc
       | inr f ↦ rw f (not_there e ts parts.1)
@@ -109,13 +109,13 @@ not_there e (t ∷ ts) all =
 there_rest : (e : IndexEntry) (es ts : List IndexEntry) → list_all (comes_before e) ts ≡ true → list_all (has (e ∷ es)) ts ≡ true → list_all (has es) ts ≡ true
 there_rest e es [] all there = refl
 there_rest e es (t ∷ ts) all there =
-    let parts = both (comes_before e t) (list_all (comes_before e) ts) all in
-    let found = both (has (e ∷ es) t) (list_all (has (e ∷ es)) ts) there in
+    let parts = and_parts (comes_before e t) (list_all (comes_before e) ts) all in
+    let found = and_parts (has (e ∷ es) t) (list_all (has (e ∷ es)) ts) there in
     rw (rw (lt_other e t parts.0) at found.0) (there_rest e es ts parts.1 found.1)
 
 all_further : (e t : IndexEntry) (ts : List IndexEntry) → comes_before e t ≡ true → list_all (comes_before t) ts ≡ true → list_all (comes_before e) ts ≡ true
 all_further e t [] h all = refl
-all_further e t (u ∷ ts) h all = let parts = both (comes_before t u) (list_all (comes_before t) ts) all in rw (follows e t u h parts.0) (all_further e t ts h parts.1)
+all_further e t (u ∷ ts) h all = let parts = and_parts (comes_before t u) (list_all (comes_before t) ts) all in rw (follows e t u h parts.0) (all_further e t ts h parts.1)
 
 without_first : (p : IndexEntry → Bool) (e : IndexEntry) (ts es : List IndexEntry) → list_all (comes_before e) es ≡ true → filter p (without (e ∷ ts) es) ≡ filter p (without ts es)
 without_first p e ts es all = ap (filter p) (filter_same (comes_before e) (λ x. not (has (e ∷ ts) x)) (λ x. not (has ts x)) es all (λ x h. rw (lt_other e x h) refl))
@@ -137,7 +137,7 @@ without_count p (t ∷ ts) [] at ae there = cc
 without_count p [] (e ∷ es) at ae there =
     counted_left (p e) e (filter p (without [] es)) [] (filter p es) (without_count p [] es tt ae.1 refl)
 without_count p (t ∷ ts) (e ∷ es) at ae there =
-    let found = both (has (e ∷ es) t) (list_all (has (e ∷ es)) ts) there in
+    let found = and_parts (has (e ∷ es) t) (list_all (has (e ∷ es)) ts) there in
     elim (cases_Bool (is_eq (entry_cmp e t))) [
       | inl u ↦
           let is : e ≡ t = equal_same e t u in

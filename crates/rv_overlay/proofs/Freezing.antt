@@ -1,8 +1,7 @@
 -- What was frozen of an index and of a table fits the reader that it is laid over.
 use Rattle.std.proofs.Common.{◌≡◌, ℕ, ◌+◌, ◌*◌, ◌/◌, ◌<◌, ◌≤◌, List, [], ◌∷◌, ◌++◌, Bool, true, false, not, ◌&&◌, ◌||◌, ◌==◌, cond, Option, Some, None, IfSome, is_some, inl, inr, refl, ap, sym, subst, ◌∙◌, map, filter, length, arith}
 use Rattle.std.specs.Prelude.{max}
-use Rattle.std.proofs.lemmas.Bool.{cases_Bool}
-use Rattle.std.proofs.lemmas.Bool.Decides.{nat_tests}
+use Rattle.std.proofs.lemmas.Bool.{cases_Bool, and_parts}
 use Rattle.std.specs.List.{AllByRecursion, list_all}
 use Rattle.std.specs.Ordering.{is_eq}
 use Rattle.rv_value.specs.declared.value.Value.{Value}
@@ -11,19 +10,18 @@ use Rattle.rv_value.specs.declared.record.IndexEntry.{IndexEntry}
 use Rattle.rv_value.specs.Entries.{entry_cmp}
 use Rattle.rv_rows.specs.declared.changes.Change.{Change}
 use Rattle.rv_rows.specs.Changes.{rows_with_changes}
-use Rattle.rv_rows.specs.Rows.{comes_below, with_values, without_row}
+use Rattle.rv_rows.specs.Rows.{comes_below, with_values}
 use Rattle.rv_rows.specs.Rows as rows_by_number
-use Rattle.rv_rows.proofs.Filters.{both}
 use Rattle.rv_reader.specs.Entries.{column_of, entries_of, entry_of}
-use Rattle.rv_reader.specs.Storing.{AreKeys, pages_after, pages_with}
+use Rattle.rv_reader.specs.Storing.{pages_after, pages_with}
 use Rattle.rv_reader.specs.Tables.{IsTable, row_at}
 use Rattle.rv_reader.proofs.Sorting.{entries_keys}
 use Rattle.rv_overlay.specs.declared.frozen.TableSize.{TableSize}
-use Rattle.rv_overlay.specs.Freezing.{IndexFits, KeepsIndex, KeepsSize, KeepsTable, TableFits}
+use Rattle.rv_overlay.specs.Freezing.{IndexFits, KeepsSize, TableFits}
 use Rattle.rv_overlay.specs.Laying.{has}
-use Rattle.rv_overlay.specs.Overlaid.{IsSizeOf, LaysIndex, size_of}
+use Rattle.rv_overlay.specs.Overlaid.{IsSizeOf, size_of}
 use Rattle.rv_overlay.specs.Rows.{change_of, changed_row}
-use Rattle.rv_overlay.specs.Views.{Freezes, adds, is_entry, takes}
+use Rattle.rv_overlay.specs.Views.{is_entry}
 use Rattle.rv_overlay.proofs.Counted.{itself_true}
 use Rattle.rv_overlay.proofs.Moving.{adds_is, takes_is}
 use Rattle.rv_overlay.proofs.Placing.{equal_same}
@@ -60,9 +58,9 @@ key_count columns (Some r) e h = ap (λ (x : IndexEntry). length x.key) (sym (eq
 pub index_fits : IndexFits
 index_fits columns table changes rows cuts part keeps =
     let adding : (e : IndexEntry) → has part.added e ≡ true → (is_entry columns (changed_row (change_of table e.row.0 changes) (row_at rows e.row.0)) e ≡ true) × (not (is_entry columns (row_at rows e.row.0) e) ≡ true) = λ e h.
-    both _ _ (sym (adds_is columns (change_of table e.row.0 changes) (row_at rows e.row.0) e) ∙ sym (keeps.freezes.come e) ∙ h) in
+    and_parts _ _ (sym (adds_is columns (change_of table e.row.0 changes) (row_at rows e.row.0) e) ∙ sym (keeps.freezes.come e) ∙ h) in
     let taking : (e : IndexEntry) → has part.taken e ≡ true → is_entry columns (row_at rows e.row.0) e ≡ true = λ e h.
-    (both (is_entry columns (row_at rows e.row.0) e) _ (sym (takes_is columns (change_of table e.row.0 changes) (row_at rows e.row.0) e) ∙ sym (keeps.freezes.gone e) ∙ h)).0 in
+    (and_parts (is_entry columns (row_at rows e.row.0) e) _ (sym (takes_is columns (change_of table e.row.0 changes) (row_at rows e.row.0) e) ∙ sym (keeps.freezes.gone e) ∙ h)).0 in
     record {
       index = keeps.index;
       keys = rw keeps.width (entries_keys columns rows);

@@ -1,12 +1,11 @@
 -- The keys of entries that are taken away.
 use Rattle.std.proofs.Common.{◌≡◌, ℕ, List, [], ◌∷◌, true, inl, inr, ap, sym, ◌∙◌, length}
-use Rattle.std.proofs.lemmas.Bool.{cases_Bool}
+use Rattle.std.proofs.lemmas.Bool.{cases_Bool, and_parts}
 use Rattle.std.specs.List.{list_all}
 use Rattle.std.specs.Ordering.{is_eq}
 use Rattle.rv_value.specs.declared.record.IndexEntry.{IndexEntry}
 use Rattle.rv_value.specs.Entries.{entry_cmp}
 use Rattle.rv_reader.specs.Storing.{AreKeys}
-use Rattle.rv_rows.proofs.Filters.{both}
 use Rattle.rv_overlay.specs.Laying.{has}
 use Rattle.rv_overlay.proofs.Placing.{equal_same}
 
@@ -20,5 +19,5 @@ has_key width (x ∷ xs) e keys h = elim (cases_Bool (is_eq (entry_cmp x e))) [
 pub taken_keys : (width : ℕ) (entries taken : List IndexEntry) → AreKeys width entries → list_all (has entries) taken ≡ true → AreKeys width taken
 taken_keys width entries [] keys there = tt
 taken_keys width entries (t ∷ ts) keys there =
-    let parts = both (has entries t) (list_all (has entries) ts) there in
+    let parts = and_parts (has entries t) (list_all (has entries) ts) there in
     (has_key width entries t keys parts.0, taken_keys width entries ts keys parts.1)

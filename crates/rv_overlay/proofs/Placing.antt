@@ -1,24 +1,21 @@
 -- Entries put in their places, one after another.
-use Rattle.std.proofs.Common.{◌≡◌, ℕ, ◌+◌, ◌≤◌, ◌<◌, List, [], ◌∷◌, ◌++◌, Bool, true, false, not, ◌&&◌, cond, Option, Some, None, IfSome, inl, inr, refl, ap, sym, ◌∙◌, filter, length, arith, suc, insert, take, drop}
-use Rattle.std.proofs.lemmas.Bool.{cases_Bool}
-use Rattle.std.specs.List.{list_all, list_any}
-use Rattle.std.specs.List.Sorted.{IsPartitionedBy}
+use Rattle.std.proofs.Common.{◌≡◌, ◌+◌, List, [], ◌∷◌, ◌++◌, Bool, true, false, not, ◌&&◌, cond, inl, inr, refl, ap, sym, ◌∙◌, filter}
+use Rattle.std.proofs.lemmas.Bool.{cases_Bool, and_parts}
+use Rattle.std.specs.List.{list_all}
 use Rattle.std.specs.Ordering.{is_eq, is_lt, ordering_reverse}
 use Rattle.std.specs.declared.cmp.Ordering.{Ordering}
 use Rattle.std.specs.declared.cmp.Ordering.TheVariants.{Less, Equal, Greater}
 use Rattle.rv_value.specs.declared.record.IndexEntry.{IndexEntry}
 use Rattle.rv_value.specs.Entries.{entry_cmp}
 use Rattle.rv_value.specs.Orders.{entry_cmp_total}
-use Rattle.std.specs.Cmp.{tied_itself}
-use Rattle.rv_rows.specs.Rising.{Rising, put_in}
-use Rattle.rv_rows.proofs.Cuts.{partitioned}
+use Rattle.rv_rows.specs.Rising.{put_in}
 use Rattle.rv_rows.proofs.Merges.{all_kept}
 use Rattle.rv_rows.proofs.Puts.{rising_put, rising_filter}
 use Rattle.rv_reader.specs.Entries.{comes_before, Ascend}
-use Rattle.rv_reader.proofs.Filters.{both, filter_same, filter_twice, filter_none, all_filter, rising_cut}
-use Rattle.rv_reader.proofs.Orders.{one_way, follows, through_below, below_through, itself, order, chain}
+use Rattle.rv_reader.proofs.Filters.{filter_same, filter_twice, rising_cut}
+use Rattle.rv_reader.proofs.Orders.{one_way, order, chain}
 use Rattle.rv_reader.proofs.Sorting.{same}
-use Rattle.rv_overlay.specs.Laying.{has, with_all, without}
+use Rattle.rv_overlay.specs.Laying.{has, with_all}
 
 -- Places.
 
@@ -131,7 +128,7 @@ equal_same x e h = same x e (equal_is x e h) (equal_back x e h)
 pub before_found : (x e : IndexEntry) (xs : List IndexEntry) → list_all (comes_before x) xs ≡ true → has xs e ≡ true → comes_before x e ≡ true
 before_found x e [] all h = cc
 before_found x e (y ∷ ys) all h =
-    let parts = both (comes_before x y) (list_all (comes_before x) ys) all in
+    let parts = and_parts (comes_before x y) (list_all (comes_before x) ys) all in
     elim (cases_Bool (is_eq (entry_cmp y e))) [
       | inl t ↦ sym (ap (comes_before x) (equal_same y e t)) ∙ parts.0
       | inr f ↦ before_found x e ys parts.1 (rw f at h)

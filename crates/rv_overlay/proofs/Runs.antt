@@ -1,7 +1,7 @@
 -- Runs of a list that two tests find, and what stands in a place of it.
-use Rattle.std.proofs.Common.{◌≡◌, ℕ, zero, suc, ◌+◌, ◌-◌, ◌*◌, ◌/◌, ◌<◌, ◌≤◌, List, [], ◌∷◌, Bool, true, false, not, ◌&&◌, ◌||◌, ◌==◌, cond, Option, Some, None, is_some, inl, inr, refl, ap, sym, ◌∙◌, filter, find, take, drop, length, arith, nat_lt, nat_le}
-use Rattle.std.specs.Prelude.{slice_get, slice_index_or, slice_set}
-use Rattle.std.proofs.lemmas.Bool.{cases_Bool}
+use Rattle.std.proofs.Common.{◌≡◌, ℕ, zero, suc, ◌+◌, ◌-◌, ◌*◌, ◌/◌, ◌<◌, ◌≤◌, List, [], ◌∷◌, Bool, true, false, not, ◌&&◌, ◌||◌, ◌==◌, cond, Option, Some, None, is_some, inl, inr, refl, ap, sym, ◌∙◌, filter, find, take, drop, length, arith, nat_lt}
+use Rattle.std.specs.Prelude.{slice_get, slice_set}
+use Rattle.std.proofs.lemmas.Bool.{cases_Bool, and_parts}
 use Rattle.std.proofs.lemmas.Bool.Decides.{nat_tests}
 use Rattle.std.specs.List.{list_all}
 use Rattle.std.specs.List.Sorted.{IsPartitionedBy}
@@ -9,7 +9,6 @@ use Rattle.std.specs.Ordering.{is_eq, is_lt, nat_cmp, ordering_reverse, ordering
 use Rattle.std.specs.declared.cmp.Ordering.{Ordering}
 use Rattle.std.specs.declared.cmp.Ordering.TheVariants.{Less, Equal, Greater}
 use Rattle.rv_value.specs.declared.record.IndexEntry.{IndexEntry}
-use Rattle.rv_value.specs.declared.record.RowNo.{RowNo}
 use Rattle.rv_value.specs.declared.range.Range.{Range}
 use Rattle.rv_value.specs.declared.range.Side.{Side}
 use Rattle.rv_value.specs.declared.range.Side.TheVariants.{Before, In, After}
@@ -21,7 +20,7 @@ use Rattle.rv_rows.specs.declared.changes.Change.{Change}
 use Rattle.rv_rows.specs.Changes.{Rise, is_before, is_of}
 use Rattle.rv_rows.specs.Rising.{put_in}
 use Rattle.rv_rows.proofs.Cuts.{partitioned}
-use Rattle.rv_rows.proofs.Filters.{both, filter_same}
+use Rattle.rv_rows.proofs.Filters.{filter_same}
 use Rattle.rv_blocks.specs.Flat.{Turns}
 use Rattle.rv_blocks.specs.Orders.{change_cmp}
 use Rattle.rv_blocks.specs.Taking.{is_level, standing}
@@ -54,8 +53,8 @@ all_own p (x ∷ xs) = elim (cases_Bool (p x)) [ inl t ↦ rw t (rw t (all_own p
 
 passes_to : {X : Type 0} (p : X → Bool) (n : ℕ) (xs : List X) → list_all p (take n xs) ≡ true → list_all (λ x. not (p x)) (drop n xs) ≡ true → PassesTo p n xs
 passes_to p n [] h k = tt
-passes_to p zero (x ∷ xs) h k = let parts = both (not (p x)) (list_all (λ y. not (p y)) xs) k in (turned_true (p x) parts.0, passes_to p zero xs refl parts.1)
-passes_to p (suc n) (x ∷ xs) h k = let parts = both (p x) (list_all p (take n xs)) h in (parts.0, passes_to p n xs parts.1 k)
+passes_to p zero (x ∷ xs) h k = let parts = and_parts (not (p x)) (list_all (λ y. not (p y)) xs) k in (turned_true (p x) parts.0, passes_to p zero xs refl parts.1)
+passes_to p (suc n) (x ∷ xs) h k = let parts = and_parts (p x) (list_all p (take n xs)) h in (parts.0, passes_to p n xs parts.1 k)
 
 counted : {X : Type 0} (p : X → Bool) (n : ℕ) (xs : List X) → take n xs ≡ filter p xs → drop n xs ≡ filter (λ x. not (p x)) xs → PassesTo p n xs
 counted p n xs f b = passes_to p n xs (rw f (all_own p xs)) (rw b (all_own (λ x. not (p x)) xs))
@@ -119,7 +118,7 @@ below_down (Some cut) x y h p = follows x y cut h p
 
 until_down : (range : Range) (next : Option IndexEntry) (x y : IndexEntry) → comes_before x y ≡ true → is_long range x ≡ true → is_long range y ≡ true → is_until next range y ≡ true → is_until next range x ≡ true
 until_down range next x y h lx ly p =
-    let parts = both (is_below next y) (not (after_side (place range y.key))) p in
+    let parts = and_parts (is_below next y) (not (after_side (place range y.key))) p in
     let below = below_down next x y h parts.0 in
     elim (cases_Bool (after_side (place range x.key))) [
       | inl t ↦

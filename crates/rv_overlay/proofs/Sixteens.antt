@@ -1,6 +1,6 @@
 -- Between two of the sixteenths there are at most sixteen entries.
 use Rattle.std.proofs.Common.{◌≡◌, ℕ, zero, suc, ◌≤◌, List, [], ◌∷◌, Bool, true, false, not, ◌&&◌, cond, Option, Some, None, inl, inr, refl, ap, sym, subst, ◌∙◌, filter, length, arith}
-use Rattle.std.proofs.lemmas.Bool.{cases_Bool}
+use Rattle.std.proofs.lemmas.Bool.{cases_Bool, and_parts}
 use Rattle.std.specs.List.{list_all}
 use Rattle.rv_value.specs.declared.record.IndexEntry.{IndexEntry}
 use Rattle.rv_value.specs.declared.range.Range.{Range}
@@ -12,7 +12,7 @@ use Rattle.rv_reader.specs.Leaves.{before_side, is_passed, is_wanted}
 use Rattle.rv_reader.specs.Leaves.{is_below}
 use Rattle.rv_reader.proofs.Chunks.{is_long}
 use Rattle.rv_reader.proofs.Sorting.{same}
-use Rattle.rv_reader.proofs.Filters.{both, filter_none}
+use Rattle.rv_reader.proofs.Filters.{filter_none}
 use Rattle.rv_reader.proofs.Orders.{one_way, itself}
 use Rattle.rv_overlay.specs.Laying.{first_not, marks, sixteenths}
 use Rattle.rv_overlay.proofs.Following.{Down, fails_up, passes_down}
@@ -48,17 +48,17 @@ none_before w e es all =
 late : (w passes : IndexEntry → Bool) (next : Option IndexEntry) (left : ℕ) (es : List IndexEntry) → Ascend es → list_all (λ e. not (passes e)) es ≡ true → first_not passes (marks left es) ≡ next → counts w next es ≤ left
 late w passes next left [] ascend all is = omega arith
 late w passes next zero (e ∷ es) ascend all is =
-    let parts = both (not (passes e)) (list_all (λ x. not (passes x)) es) all in
+    let parts = and_parts (not (passes e)) (list_all (λ x. not (passes x)) es) all in
     subst (λ n. counts w n (e ∷ es) ≤ 0) (sym (stops passes e (marks 15 es) (turned (passes e) parts.0)) ∙ is) (none_before w e es ascend.0)
 late w passes next (suc left) (e ∷ es) ascend all is =
-    let parts = both (not (passes e)) (list_all (λ x. not (passes x)) es) all in
+    let parts = and_parts (not (passes e)) (list_all (λ x. not (passes x)) es) all in
     one_more (w e && is_below next e) e (filter (λ x. w x && is_below next x) es) left (late w passes next left es ascend.1 parts.1 is)
 
 all_from : (q t : IndexEntry → Bool) (e : IndexEntry) (es : List IndexEntry) → list_all (comes_before e) es ≡ true → list_all q es ≡ true → ((y : IndexEntry) → comes_before e y ≡ true → q y ≡ true → t y ≡ true) → list_all t es ≡ true
 all_from q t e [] all long h = refl
 all_from q t e (x ∷ xs) all long h =
-    let parts = both (comes_before e x) (list_all (comes_before e) xs) all in
-    let longs = both (q x) (list_all q xs) long in
+    let parts = and_parts (comes_before e x) (list_all (comes_before e) xs) all in
+    let longs = and_parts (q x) (list_all q xs) long in
     rw (h x parts.0 longs.0) (all_from q t e xs parts.1 longs.1 h)
 
 not_counted : (w : IndexEntry → Bool) (next : Option IndexEntry) (e : IndexEntry) (es : List IndexEntry) (n : ℕ) → w e ≡ false → counts w next es ≤ n → counts w next (e ∷ es) ≤ n
@@ -80,7 +80,7 @@ module _ (q w passes : IndexEntry → Bool) (down : Down q passes) (only : (x y 
   early : (next : Option IndexEntry) (left : ℕ) → left ≤ 15 → (es : List IndexEntry) → list_all q es ≡ true → Ascend es → first_not passes (marks left es) ≡ next → counts w next es ≤ 16
   early next left le [] long ascend is = omega arith
   early next zero le (e ∷ es) long ascend is =
-      let longs = both (q e) (list_all q es) long in
+      let longs = and_parts (q e) (list_all q es) long in
       elim (cases_Bool (passes e)) [
         | inl p ↦
             let on : first_not passes (marks 15 es) ≡ next = sym (skips passes e (marks 15 es) p) ∙ is in
@@ -91,7 +91,7 @@ module _ (q w passes : IndexEntry → Bool) (down : Down q passes) (only : (x y 
             omega (arith, few)
       ]
   early next (suc left) le (e ∷ es) long ascend is =
-      let longs = both (q e) (list_all q es) long in
+      let longs = and_parts (q e) (list_all q es) long in
       elim (cases_Bool (passes e)) [
         | inl p ↦ first next left 0 e es (omega arith) longs.0 longs.1 ascend.0 ascend.1 p is (early next left (omega arith) es longs.1 ascend.1 is)
         | inr n ↦
@@ -110,7 +110,7 @@ sides_apart After h k = cc
 one_wanted : (range : Range) (start : Option IndexEntry) (x y : IndexEntry) → is_wanted range start x ≡ true → is_passed start range x ≡ true → comes_before x y ≡ true → is_passed start range y ≡ false
 one_wanted range None x y w p h = let no = sides_apart (place range x.key) w p in cc
 one_wanted range (Some s) x y w p h =
-    let parts = both (not (comes_before x s)) (is_in range x) w in
+    let parts = and_parts (not (comes_before x s)) (is_in range x) w in
     let is : x ≡ s = same x s (turned (comes_before x s) parts.0) (turned (comes_before s x) p) in
     let above : comes_before s y ≡ true = sym (ap (λ z. comes_before z y) is) ∙ h in
     rw above refl

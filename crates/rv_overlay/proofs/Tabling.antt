@@ -1,6 +1,6 @@
 -- Rows under changes, by number and by page.
-use Rattle.std.proofs.Common.{◌≡◌, ℕ, ◌<◌, ◌/◌, List, [], ◌∷◌, ◌++◌, Bool, true, false, not, ◌&&◌, ◌||◌, cond, Option, Some, None, IfSome, length, inl, inr, refl, ap, sym, subst, ◌∙◌, filter, find, nat_lt, nat_eq, arith, ◌==◌}
-use Rattle.std.proofs.lemmas.Bool.{cases_Bool, cases_lt}
+use Rattle.std.proofs.Common.{◌≡◌, ℕ, ◌/◌, List, [], ◌∷◌, ◌++◌, Bool, true, false, not, ◌&&◌, cond, Option, Some, None, length, inl, inr, refl, ap, sym, subst, ◌∙◌, filter, arith, ◌==◌}
+use Rattle.std.proofs.lemmas.Bool.{cases_Bool, cases_lt, and_parts}
 use Rattle.std.proofs.lemmas.Bool.Decides.{nat_tests}
 use Rattle.std.specs.List.{list_all}
 use Rattle.rv_value.specs.declared.value.Value.{Value}
@@ -10,14 +10,13 @@ use Rattle.rv_rows.specs.Changes.{Rise, is_before, is_of, rows_with_changes, tou
 use Rattle.rv_rows.specs.Rows.{Ascend, comes_below, with_values, without_row}
 use Rattle.rv_rows.proofs.Chains.{record_ascends, ascends_without}
 use Rattle.rv_rows.specs.Merging.{Passes}
-use Rattle.rv_rows.proofs.Filters.{all_filter, both, filter_same, filter_twice}
+use Rattle.rv_rows.proofs.Filters.{all_filter, filter_same, filter_twice}
 use Rattle.rv_rows.proofs.Merges.{without_cut}
 use Rattle.rv_rows.proofs.Puts.{rising_filter}
 use Rattle.rv_reader.specs.Storing.{pages_after}
 use Rattle.rv_reader.specs.Tables.{IsTable, row_at}
 use Rattle.rv_overlay.specs.declared.frozen.Frozen.{Frozen}
-use Rattle.rv_overlay.specs.declared.frozen.TableSize.{TableSize}
-use Rattle.rv_overlay.specs.Overlaid.{IsSizeOf, LaysTable, size_of}
+use Rattle.rv_overlay.specs.Overlaid.{LaysTable, size_of}
 use Rattle.rv_overlay.specs.Fronts.{is_on}
 use Rattle.rv_overlay.specs.Rows.{PassesOn, change_of, changed_row, on_page}
 
@@ -55,7 +54,7 @@ module _ (q : ℕ → Bool) where
   all_others : (number : ℕ) (rows : List Record) → q number ≡ false → list_all (λ (r : Record). q r.row.0) rows ≡ true → without_row number rows ≡ rows
   all_others number [] out all = refl
   all_others number (r ∷ rows) out all =
-      let parts = both (q r.row.0) (list_all (λ (r : Record). q r.row.0) rows) all in
+      let parts = and_parts (q r.row.0) (list_all (λ (r : Record). q r.row.0) rows) all in
       elim (cases_Bool (r.row.0 == number)) [
         | inl t ↦ let same : r.row.0 ≡ number = grind (arith, nat_tests) in let no : true ≡ false = sym parts.0 ∙ ap q same ∙ out in cc
         | inr f ↦ rw f (ap (λ rs. r ∷ rs) (all_others number rows out parts.1))
@@ -183,7 +182,7 @@ row_with_own c rows = by c.values
 none_of : (table number : ℕ) (c : Change) (cs : List Change) → is_of table number c ≡ true → list_all (is_before c) cs ≡ true → change_of table number cs ≡ None
 none_of table number c [] h all = refl
 none_of table number c (d ∷ ds) h all =
-    let parts = both (is_before c d) (list_all (is_before c) ds) all in
+    let parts = and_parts (is_before c d) (list_all (is_before c) ds) all in
     let here : is_of table number d ≡ false = (let first = parts.0 in grind (arith, nat_tests)) in
     rw here (none_of table number c ds h parts.1)
 

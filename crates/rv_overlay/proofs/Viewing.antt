@@ -1,6 +1,6 @@
 -- The entries of a view are those of its rows.
 use Rattle.std.proofs.Common.{◌≡◌, ℕ, List, [], ◌∷◌, Bool, true, false, not, ◌&&◌, ◌||◌, cond, Option, Some, None, inl, inr, refl, ap, sym, ◌∙◌, map, arith, ◌==◌}
-use Rattle.std.proofs.lemmas.Bool.{cases_Bool}
+use Rattle.std.proofs.lemmas.Bool.{cases_Bool, and_parts}
 use Rattle.std.proofs.lemmas.Bool.Decides.{nat_tests}
 use Rattle.std.specs.List.{list_all}
 use Rattle.std.specs.Ordering.{is_eq}
@@ -8,17 +8,16 @@ use Rattle.rv_value.specs.declared.record.Record.{Record}
 use Rattle.rv_value.specs.declared.record.IndexEntry.{IndexEntry}
 use Rattle.rv_value.specs.Entries.{entry_cmp}
 use Rattle.rv_rows.specs.declared.changes.Change.{Change}
-use Rattle.rv_rows.specs.Changes.{Rise, rows_with_changes}
+use Rattle.rv_rows.specs.Changes.{rows_with_changes}
 use Rattle.rv_rows.specs.Rows as rows_by_number
 use Rattle.rv_rows.specs.Rows.{comes_below}
-use Rattle.rv_rows.proofs.Filters.{both}
 use Rattle.rv_reader.specs.Entries.{comes_before, entries_of, entry_of, sorted, sorted_in, Ascend}
 use Rattle.rv_reader.specs.Tables.{row_at}
 use Rattle.rv_reader.proofs.Sorting.{entries_ascend}
 use Rattle.rv_rows.proofs.Puts.{rising_filter}
 use Rattle.rv_overlay.specs.Laying.{has, laid, without}
 use Rattle.rv_overlay.specs.Rows.{change_of, changed_row}
-use Rattle.rv_overlay.specs.Views.{Freezes, ViewIs, adds, is_entry, takes}
+use Rattle.rv_overlay.specs.Views.{ViewIs, adds, is_entry, takes}
 use Rattle.rv_overlay.proofs.Members.{laid_has, members_tell}
 use Rattle.rv_overlay.proofs.Placing.{equal_same, with_ascends}
 use Rattle.rv_overlay.proofs.Tabling.{applied_ascends, row_applied}
@@ -52,7 +51,7 @@ row_other columns r e f = elim (cases_Bool (is_eq (entry_cmp (entry_of columns r
 none_mapped : (columns : List ℕ) (r : Record) (rows : List Record) (e : IndexEntry) → r.row.0 == e.row.0 ≡ true → list_all (comes_below r) rows ≡ true → has (map (entry_of columns) rows) e ≡ false
 none_mapped columns r [] e h all = refl
 none_mapped columns r (s ∷ rows) e h all =
-    let parts = both (comes_below r s) (list_all (comes_below r) rows) all in
+    let parts = and_parts (comes_below r s) (list_all (comes_below r) rows) all in
     let apart : s.row.0 == e.row.0 ≡ false = (let below = parts.0 in grind (arith, nat_tests)) in
     rw (row_other columns s e apart) (none_mapped columns r rows e h parts.1)
 

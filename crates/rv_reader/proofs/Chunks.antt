@@ -1,6 +1,6 @@
 -- The leaves of an index, one after another, give a whole run, and their number falls.
 use Rattle.std.proofs.Common.{◌≡◌, ◌<◌, ◌≤◌, List, [], ◌∷◌, ◌++◌, Bool, true, false, not, ◌&&◌, cond, Option, Some, None, IfSome, inl, inr, refl, ap, sym, ◌∙◌, filter, length, arith, append-nil, ◌+◌, subst}
-use Rattle.std.proofs.lemmas.Bool.{cases_Bool}
+use Rattle.std.proofs.lemmas.Bool.{cases_Bool, and_parts}
 use Rattle.std.specs.List.{list_all}
 use Rattle.rv_value.specs.declared.record.IndexEntry.{IndexEntry}
 use Rattle.rv_value.specs.declared.range.Range.{Range}
@@ -10,7 +10,7 @@ use Rattle.rv_value.specs.Ranges.{place, in_side}
 use Rattle.rv_reader.specs.declared.reader.Chunk.{Chunk}
 use Rattle.rv_reader.specs.Entries.{comes_before, Ascend, AreLong, is_in, reaches}
 use Rattle.rv_reader.specs.Leaves.{Leaf, IsChunk, is_from, is_wanted, is_below, is_taken, before_side, after_side, from_on, up_to, leaf_from, leaf_at, leaf_entries, is_passed, within, run_from, run_after, leaves_from, leaves_after, is_ahead, leaves_for, leaves_behind}
-use Rattle.rv_reader.proofs.Filters.{both, filter_same, filter_twice, filter_none, filter_fewer, rising_cut}
+use Rattle.rv_reader.proofs.Filters.{filter_same, filter_twice, filter_none, filter_fewer, rising_cut}
 use Rattle.rv_reader.proofs.Orders.{one_way, below_through, follows, itself, key_not, order}
 use Rattle.rv_reader.proofs.Sides.{before_along, after_along}
 
@@ -48,7 +48,7 @@ leaf_tests entries range start leaf =
 leaf_keeps : (q passes : IndexEntry → Bool) (low : Option IndexEntry) (cuts : List IndexEntry) → IfSome low (λ c. q c ≡ true) → list_all q cuts ≡ true → IfSome (leaf_from passes low cuts).low (λ c. q c ≡ true) × IfSome (leaf_from passes low cuts).next (λ c. q c ≡ true)
 leaf_keeps q passes low [] l all = (l, tt)
 leaf_keeps q passes low (cut ∷ cuts) l all =
-    let parts = both (q cut) (list_all q cuts) all in
+    let parts = and_parts (q cut) (list_all q cuts) all in
     let rest = leaf_keeps q passes (Some cut) cuts parts.0 parts.1 in
     elim (passes cut) as (λ b. IfSome (cond b (leaf_from passes (Some cut) cuts) (record { low = low; next = Some cut })).low (λ c. q c ≡ true) × IfSome (cond b (leaf_from passes (Some cut) cuts) (record { low = low; next = Some cut })).next (λ c. q c ≡ true)) [
       | true ↦ rest
@@ -107,7 +107,7 @@ turned_false false h = cc
 low_wanted : (range : Range) (start low : Option IndexEntry) → IfSome low (λ c. is_passed start range c ≡ true) → IfSome low (λ c. is_long range c ≡ true) → (e : IndexEntry) → is_long range e ≡ true → is_wanted range start e ≡ true → is_from low e ≡ true
 low_wanted range start None p l e long w = refl
 low_wanted range (Some s) (Some c) p l e long w =
-    let parts = both (not (comes_before e s)) (is_in range e) w in
+    let parts = and_parts (not (comes_before e s)) (is_in range e) w in
     rw (order.chain e s c (turned_true (comes_before e s) parts.0) (turned_true (comes_before s c) p)) refl
 low_wanted range None (Some c) p l e long w = elim (cases_Bool (comes_before e c)) [
   | inl t ↦
@@ -284,16 +284,16 @@ with_true a false h = cc
 -- what is ahead of the following cut is ahead of where the reading began
 ahead_more : (range : Range) (start : Option IndexEntry) (n c : IndexEntry) → is_long range n ≡ true → is_passed start range n ≡ false → (is_ahead (Some n) range c && is_long range c) ≡ true → is_ahead start range c ≡ true
 ahead_more range None n c l p h =
-    let parts = both (is_ahead (Some n) range c) (is_long range c) h in
-    let ahead = both (not (not (comes_before n c))) (not (after_side (place range c.key))) parts.0 in
+    let parts = and_parts (is_ahead (Some n) range c) (is_long range c) h in
+    let ahead = and_parts (not (not (comes_before n c))) (not (after_side (place range c.key))) parts.0 in
     let above : comes_before n c ≡ true = turned_twice (comes_before n c) ahead.0 in
     elim (before_side (place range c.key)) as (λ b. before_side (place range c.key) ≡ b → (not b && not (after_side (place range c.key))) ≡ true) [
       | true ↦ λ before. absurd (let bad : before_side (place range n.key) ≡ true = before_along range n.key c.key (key_not n c (one_way n c above)) l parts.1 before in let no : true ≡ false = sym bad ∙ p in cc)
       | false ↦ λ other. ahead.1
     ] refl
 ahead_more range (Some s) n c l p h =
-    let parts = both (is_ahead (Some n) range c) (is_long range c) h in
-    let ahead = both (not (not (comes_before n c))) (not (after_side (place range c.key))) parts.0 in
+    let parts = and_parts (is_ahead (Some n) range c) (is_long range c) h in
+    let ahead = and_parts (not (not (comes_before n c))) (not (after_side (place range c.key))) parts.0 in
     let above : comes_before n c ≡ true = turned_twice (comes_before n c) ahead.0 in
     let first : comes_before s n ≡ true = turned_false (comes_before s n) p in
     rw (follows s n c first above) ahead.1

@@ -2,11 +2,11 @@
 -- front part find holds of those that any test finds.
 use Rattle.std.proofs.Common.{◌≡◌, ◌≤◌, List, [], ◌∷◌, Bool, true, false, not, cond, Option, Some, None, IfSome, refl, length, subst}
 use Rattle.std.specs.List.{list_all}
+use Rattle.std.proofs.lemmas.Bool.{and_parts}
 use Rattle.rv_value.specs.declared.record.IndexEntry.{IndexEntry}
 use Rattle.rv_reader.specs.Entries.{comes_before, Ascend}
 use Rattle.rv_reader.specs.Leaves.{Leaf, leaf_from, leaf_entries}
 use Rattle.rv_reader.proofs.Chunks.{turned_true}
-use Rattle.rv_reader.proofs.Filters.{both}
 use Rattle.rv_reader.proofs.Orders.{itself, one_way, order}
 
 -- not behind the cut at which a leaf begins
@@ -22,7 +22,7 @@ reached_before (Some low) x c h r = rw (order.chain low c x (turned_true (comes_
 low_reached : (passes : IndexEntry → Bool) (k low : IndexEntry) (cuts : List IndexEntry) → comes_before low k ≡ false → list_all (comes_before k) cuts ≡ true → reached (leaf_from passes (Some low) cuts).low k ≡ true
 low_reached passes k low [] f above = rw f refl
 low_reached passes k low (c ∷ cuts) f above =
-    let parts = both (comes_before k c) (list_all (comes_before k) cuts) above in
+    let parts = and_parts (comes_before k c) (list_all (comes_before k) cuts) above in
     elim (passes c) as (λ b. reached (cond b (leaf_from passes (Some c) cuts) (record { low = Some low; next = Some c })).low k ≡ true) [
       | true ↦ low_reached passes k c cuts (one_way k c parts.0) parts.1
       | false ↦ rw f refl
@@ -38,7 +38,7 @@ same_from passes low (c ∷ cuts) ascend l =
   where
     stops : (w : Option IndexEntry) → IfSome w (λ x. list_all (comes_before x) (c ∷ cuts) ≡ true) → reached w c ≡ false
     stops None h = refl
-    stops (Some x) h = rw ((both (comes_before x c) (list_all (comes_before x) cuts) h).0) refl
+    stops (Some x) h = rw ((and_parts (comes_before x c) (list_all (comes_before x) cuts) h).0) refl
 
 -- Where each leaf that a test of a front part finds is short, each leaf is.
 pub short_by : (entries cuts : List IndexEntry) → Ascend cuts

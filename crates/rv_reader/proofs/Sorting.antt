@@ -1,6 +1,6 @@
 -- The sorted list of entries: what a sort makes of them, and what holds of the entries of a table's rows.
 use Rattle.std.proofs.Common.{zero, ◌≡◌, ℕ, ◌+◌, ◌<◌, ◌≤◌, List, [], ◌∷◌, Bool, true, false, not, ◌==◌, cond, refl, ap, sym, ◌∙◌, inl, inr, arith, length, swap, map, suc}
-use Rattle.std.proofs.lemmas.Bool.{cases_Bool}
+use Rattle.std.proofs.lemmas.Bool.{cases_Bool, and_parts}
 use Rattle.std.proofs.lemmas.Bool.Decides.{nat_tests}
 use Rattle.std.proofs.lemmas.List.Sorted.{IsPermutation-keeps}
 use Rattle.std.specs.List.{slice_index_or, slice_set, list_all}
@@ -21,7 +21,6 @@ use Rattle.rv_rows.specs.Rows as rows_by_number
 use Rattle.rv_rows.specs.Rows.{comes_below}
 use Rattle.rv_reader.specs.Entries.{comes_before, Ascend, column_of, entry_of, sorted_in, sorted, entries_of}
 use Rattle.rv_reader.specs.Storing.{AreKeys}
-use Rattle.rv_reader.proofs.Filters.{both}
 use Rattle.rv_reader.proofs.Orders.{one_way, follows, through_below}
 
 -- Entries that compare as equal are the same.
@@ -204,7 +203,7 @@ apart a b h f = elim (cases_Bool (comes_before b a)) [
 all_sorted_in : (p : IndexEntry → Bool) (e : IndexEntry) (xs : List IndexEntry) → p e ≡ true → list_all p xs ≡ true → list_all p (sorted_in e xs) ≡ true
 all_sorted_in p e [] h all = rw h refl
 all_sorted_in p e (x ∷ xs) h all =
-    let parts = both (p x) (list_all p xs) all in
+    let parts = and_parts (p x) (list_all p xs) all in
     elim (comes_before x e) as (λ b. list_all p (cond b (x ∷ sorted_in e xs) (e ∷ x ∷ xs)) ≡ true) [
       | true ↦ rw parts.0 (all_sorted_in p e xs h parts.1)
       | false ↦ rw (h, parts.0) parts.1
@@ -213,19 +212,19 @@ all_sorted_in p e (x ∷ xs) h all =
 all_sorted : (p : IndexEntry → Bool) (xs : List IndexEntry) → list_all p xs ≡ true → list_all p (sorted xs) ≡ true
 all_sorted p [] all = refl
 all_sorted p (x ∷ xs) all =
-    let parts = both (p x) (list_all p xs) all in
+    let parts = and_parts (p x) (list_all p xs) all in
     all_sorted_in p x (sorted xs) parts.0 (all_sorted p xs parts.1)
 
 all_behind : (e x : IndexEntry) (xs : List IndexEntry) → comes_before e x ≡ true → list_all (comes_before x) xs ≡ true → list_all (comes_before e) xs ≡ true
 all_behind e x [] h all = refl
 all_behind e x (y ∷ ys) h all =
-    let parts = both (comes_before x y) (list_all (comes_before x) ys) all in
+    let parts = and_parts (comes_before x y) (list_all (comes_before x) ys) all in
     rw (follows e x y h parts.0) (all_behind e x ys h parts.1)
 
 ascend_in : (e : IndexEntry) (xs : List IndexEntry) → others e.row.0 xs ≡ true → Ascend xs → Ascend (sorted_in e xs)
 ascend_in e [] o a = (refl, tt)
 ascend_in e (x ∷ xs) o a =
-    let parts = both (not (x.row.0 == e.row.0)) (others e.row.0 xs) o in
+    let parts = and_parts (not (x.row.0 == e.row.0)) (others e.row.0 xs) o in
     elim (cases_Bool (comes_before x e)) [
       | inl t ↦ rw t (all_sorted_in (comes_before x) e xs t a.0, ascend_in e xs parts.1 a.1)
       | inr f ↦
@@ -236,7 +235,7 @@ ascend_in e (x ∷ xs) o a =
 rows_others : (columns : List ℕ) (r : Record) (rows : List Record) → list_all (comes_below r) rows ≡ true → others r.row.0 (map (entry_of columns) rows) ≡ true
 rows_others columns r [] all = refl
 rows_others columns r (s ∷ rows) all =
-    let parts = both (comes_below r s) (list_all (comes_below r) rows) all in
+    let parts = and_parts (comes_below r s) (list_all (comes_below r) rows) all in
     let rest = rows_others columns r rows parts.1 in
     let here : not (s.row.0 == r.row.0) ≡ true = (let below = parts.0 in grind (arith, nat_tests)) in
     rw here rest

@@ -1,6 +1,6 @@
 -- Pages joined to all rows.
 use Rattle.std.proofs.Common.{◌≡◌, ℕ, ◌+◌, ◌-◌, ◌*◌, ◌/◌, ◌<◌, ◌≤◌, List, [], ◌∷◌, ◌++◌, Bool, true, false, not, ◌==◌, cond, refl, ap, sym, ◌∙◌, inl, inr, arith, subst, length, zero, suc, filter, nat_lt, Option, Some, None, append_assoc, append-nil, length-append}
-use Rattle.std.proofs.lemmas.Bool.{cases_Bool, cases_lt, cases_eq}
+use Rattle.std.proofs.lemmas.Bool.{cases_Bool, cases_lt, cases_eq, and_parts}
 use Rattle.std.proofs.lemmas.Bool.Decides.{nat_tests}
 use Rattle.std.proofs.lemmas.List.Elements.{filter-append}
 use Rattle.std.proofs.lemmas.List.Folds.{list_all-append}
@@ -10,7 +10,7 @@ use Rattle.rv_value.specs.declared.record.Record.{Record}
 use Rattle.rv_rows.specs.Rows.{Ascend, comes_below, with_values}
 use Rattle.rv_rows.proofs.Chains.{record_ascends, ascends_without}
 use Rattle.rv_reader.specs.Tables.{page_of, row_at, IsTable}
-use Rattle.rv_reader.proofs.Filters.{both, filter_none, all_filter}
+use Rattle.rv_reader.proofs.Filters.{filter_none, all_filter}
 use Rattle.rv_records.specs.Pages.{rows_of, IsPage}
 
 abbrev is_own : ℕ → Record → Bool
@@ -21,7 +21,7 @@ is_own n r = r.row.0 / 32 == n
 below_more : (low high : ℕ) (rows : List Record) → low ≤ high → list_all (λ (r : Record). nat_lt r.row.0 low) rows ≡ true → list_all (λ (r : Record). nat_lt r.row.0 high) rows ≡ true
 below_more low high [] h all = refl
 below_more low high (r ∷ rows) h all =
-    let parts = both (nat_lt r.row.0 low) (list_all (λ (x : Record). nat_lt x.row.0 low) rows) all in
+    let parts = and_parts (nat_lt r.row.0 low) (list_all (λ (x : Record). nat_lt x.row.0 low) rows) all in
     let first = parts.0 in
     let here : nat_lt r.row.0 high ≡ true = grind (arith, nat_tests) in
     rw here (below_more low high rows h parts.1)
@@ -29,7 +29,7 @@ below_more low high (r ∷ rows) h all =
 own_below : (n : ℕ) (rows : List Record) → list_all (is_own n) rows ≡ true → list_all (λ (r : Record). nat_lt r.row.0 (32 * n + 32)) rows ≡ true
 own_below n [] all = refl
 own_below n (r ∷ rows) all =
-    let parts = both (is_own n r) (list_all (is_own n) rows) all in
+    let parts = and_parts (is_own n r) (list_all (is_own n) rows) all in
     let first = parts.0 in
     let here : nat_lt r.row.0 (32 * n + 32) ≡ true = grind (arith, nat_tests) in
     rw here (own_below n rows parts.1)
@@ -47,7 +47,7 @@ joined_below page pages (suc k) =
 own_all : (n : ℕ) (rows : List Record) → list_all (is_own n) rows ≡ true → page_of rows n ≡ rows
 own_all n [] all = refl
 own_all n (r ∷ rows) all =
-    let parts = both (is_own n r) (list_all (is_own n) rows) all in
+    let parts = and_parts (is_own n r) (list_all (is_own n) rows) all in
     rw (parts.0) (ap (λ rs. r ∷ rs) (own_all n rows parts.1))
 
 own_none : (n k : ℕ) (rows : List Record) → (n ≡ k → ⊥) → list_all (is_own k) rows ≡ true → page_of rows n ≡ []
@@ -89,7 +89,7 @@ row_in_page (r ∷ rows) number = elim (cases_Bool (r.row.0 / 32 == number / 32)
 all_above : (low : ℕ) (r : Record) (rows : List Record) → r.row.0 < low → list_all (λ (x : Record). not (nat_lt x.row.0 low)) rows ≡ true → list_all (comes_below r) rows ≡ true
 all_above low r [] h all = refl
 all_above low r (s ∷ rows) h all =
-    let parts = both (not (nat_lt s.row.0 low)) (list_all (λ (x : Record). not (nat_lt x.row.0 low)) rows) all in
+    let parts = and_parts (not (nat_lt s.row.0 low)) (list_all (λ (x : Record). not (nat_lt x.row.0 low)) rows) all in
     let first = parts.0 in
     let here : nat_lt r.row.0 s.row.0 ≡ true = grind (arith, nat_tests) in
     rw here (all_above low r rows h parts.1)
@@ -97,7 +97,7 @@ all_above low r (s ∷ rows) h all =
 own_from : (n : ℕ) (rows : List Record) → list_all (is_own n) rows ≡ true → list_all (λ (r : Record). not (nat_lt r.row.0 (32 * n))) rows ≡ true
 own_from n [] all = refl
 own_from n (r ∷ rows) all =
-    let parts = both (is_own n r) (list_all (is_own n) rows) all in
+    let parts = and_parts (is_own n r) (list_all (is_own n) rows) all in
     let first = parts.0 in
     let here : not (nat_lt r.row.0 (32 * n)) ≡ true = grind (arith, nat_tests) in
     rw here (own_from n rows parts.1)
@@ -105,7 +105,7 @@ own_from n (r ∷ rows) all =
 ascend_joined : (low : ℕ) (front back : List Record) → Ascend front → Ascend back → list_all (λ (r : Record). nat_lt r.row.0 low) front ≡ true → list_all (λ (r : Record). not (nat_lt r.row.0 low)) back ≡ true → Ascend (front ++ back)
 ascend_joined low [] back a b under over = b
 ascend_joined low (r ∷ front) back a b under over =
-    let parts = both (nat_lt r.row.0 low) (list_all (λ (x : Record). nat_lt x.row.0 low) front) under in
+    let parts = and_parts (nat_lt r.row.0 low) (list_all (λ (x : Record). nat_lt x.row.0 low) front) under in
     let first = parts.0 in
     let here : r.row.0 < low = grind (arith, nat_tests) in
     let behind = all_above low r back here over in
@@ -145,7 +145,7 @@ joined_to page k p past past_too = elim (cases_lt k p) [
 within_all : (high : ℕ) (rows : List Record) → list_all (λ (r : Record). nat_lt r.row.0 high) rows ≡ true → AllByRecursion (λ (r : Record). r.row.0 < high) rows
 within_all high [] all = tt
 within_all high (r ∷ rows) all =
-    let parts = both (nat_lt r.row.0 high) (list_all (λ (x : Record). nat_lt x.row.0 high) rows) all in
+    let parts = and_parts (nat_lt r.row.0 high) (list_all (λ (x : Record). nat_lt x.row.0 high) rows) all in
     let first = parts.0 in
     let here : r.row.0 < high = grind (arith, nat_tests) in
     (here, within_all high rows parts.1)
@@ -161,7 +161,7 @@ joined_table page k p pages past past_too = rw (joined_to page k p past past_too
 from_next : (number : ℕ) (rows : List Record) → list_all (λ (x : Record). nat_lt number x.row.0) rows ≡ true → list_all (λ (x : Record). not (nat_lt x.row.0 (number + 1))) rows ≡ true
 from_next number [] all = refl
 from_next number (r ∷ rows) all =
-    let parts = both (nat_lt number r.row.0) (list_all (λ (x : Record). nat_lt number x.row.0) rows) all in
+    let parts = and_parts (nat_lt number r.row.0) (list_all (λ (x : Record). nat_lt number x.row.0) rows) all in
     let first = parts.0 in
     let here : not (nat_lt r.row.0 (number + 1)) ≡ true = grind (arith, nat_tests) in
     rw here (from_next number rows parts.1)
@@ -169,8 +169,8 @@ from_next number (r ∷ rows) all =
 rows_between : (low high : ℕ) (rows : List Record) → low ≤ high → Ascend rows → list_all (λ (r : Record). not (nat_lt r.row.0 low)) rows ≡ true → list_all (λ (r : Record). nat_lt r.row.0 high) rows ≡ true → length rows + low ≤ high
 rows_between low high [] order ascend above below = omega arith
 rows_between low high (r ∷ rows) order ascend above below =
-    let over = both (not (nat_lt r.row.0 low)) (list_all (λ (x : Record). not (nat_lt x.row.0 low)) rows) above in
-    let under = both (nat_lt r.row.0 high) (list_all (λ (x : Record). nat_lt x.row.0 high) rows) below in
+    let over = and_parts (not (nat_lt r.row.0 low)) (list_all (λ (x : Record). not (nat_lt x.row.0 low)) rows) above in
+    let under = and_parts (nat_lt r.row.0 high) (list_all (λ (x : Record). nat_lt x.row.0 high) rows) below in
     let first_over = over.0 in
     let first_under = under.0 in
     let at_least : low ≤ r.row.0 = grind (arith, nat_tests) in
@@ -192,7 +192,7 @@ joined_few page pages k =
 all_pass : {X : Type 0} (q p : X → Bool) (xs : List X) → list_all q xs ≡ true → ((x : X) → q x ≡ true → p x ≡ true) → filter p xs ≡ xs
 all_pass q p [] all pass = refl
 all_pass q p (x ∷ xs) all pass =
-    let parts = both (q x) (list_all q xs) all in
+    let parts = and_parts (q x) (list_all q xs) all in
     rw (pass x parts.0) (ap (λ ys. x ∷ ys) (all_pass q p xs parts.1 pass))
 
 with_back : (low number : ℕ) (values : Option (List Value)) (front back : List Record) → low ≤ number → list_all (λ (r : Record). nat_lt r.row.0 low) front ≡ true → with_values number values (front ++ back) ≡ front ++ with_values number values back

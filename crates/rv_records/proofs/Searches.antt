@@ -1,12 +1,11 @@
 -- A row found by its number in ascending rows.
 use Rattle.std.proofs.Common.{◌≡◌, ℕ, ◌<◌, ◌≤◌, List, [], ◌∷◌, Bool, true, false, not, ◌==◌, refl, ap, sym, inl, inr, arith, length, zero, suc, filter, drop, nat_lt, None}
-use Rattle.std.proofs.lemmas.Bool.{cases_Bool}
+use Rattle.std.proofs.lemmas.Bool.{cases_Bool, and_parts}
 use Rattle.std.proofs.lemmas.Bool.Decides.{nat_tests}
 use Rattle.std.specs.List.{slice_index_or, list_all, AllWithin}
 use Rattle.std.specs.List.Sorted.{IsPartitionedBy}
 use Rattle.rv_value.specs.declared.record.Record.{Record}
 use Rattle.rv_rows.specs.Rows.{Ascend, comes_below}
-use Rattle.rv_reader.proofs.Filters.{both}
 use Rattle.rv_reader.specs.Tables.{row_at}
 use Rattle.rv_records.specs.Finding.{below, row_from}
 
@@ -27,8 +26,8 @@ dropped p (x ∷ xs) (suc i) h front back =
 
 above_all : (x : Record) (rows : List Record) (i : ℕ) (d : Record) → i < length rows → list_all (comes_below x) rows ≡ true → comes_below x (slice_index_or rows i d) ≡ true
 above_all x [] i d h all = absurd (omega arith)
-above_all x (r ∷ rows) zero d h all = (both (comes_below x r) (list_all (comes_below x) rows) all).0
-above_all x (r ∷ rows) (suc i) d h all = above_all x rows i d (omega arith) (both (comes_below x r) (list_all (comes_below x) rows) all).1
+above_all x (r ∷ rows) zero d h all = (and_parts (comes_below x r) (list_all (comes_below x) rows) all).0
+above_all x (r ∷ rows) (suc i) d h all = above_all x rows i d (omega arith) (and_parts (comes_below x r) (list_all (comes_below x) rows) all).1
 
 below_first : (number : ℕ) (x y : Record) → comes_below x y ≡ true → below number y ≡ true → below number x ≡ true
 below_first number x y h k = grind (arith, nat_tests)
@@ -44,7 +43,7 @@ parted number (r ∷ rows) ascend (suc i) (suc j) d l h t = parted number rows a
 row_behind : (number : ℕ) (r : Record) (rows : List Record) → list_all (comes_below r) rows ≡ true → number ≤ r.row.0 → row_at rows number ≡ None
 row_behind number r [] all h = refl
 row_behind number r (s ∷ rows) all h =
-    let parts = both (comes_below r s) (list_all (comes_below r) rows) all in
+    let parts = and_parts (comes_below r s) (list_all (comes_below r) rows) all in
     let first = parts.0 in
     let rest = row_behind number r rows parts.1 h in
     let other : s.row.0 == number ≡ false = grind (arith, nat_tests) in

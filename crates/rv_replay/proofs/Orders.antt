@@ -1,6 +1,6 @@
 -- The order of offers, alone and with equal ones together, and where a search turns.
 use Rattle.std.proofs.Common.{◌≡◌, ℕ, zero, suc, ◌-◌, List, [], ◌∷◌, ap, sym, ◌∙◌, refl, subst, inl, inr, arith, Bool, true, false, not, ◌&&◌, slice_get, slice_set, insert}
-use Rattle.std.proofs.lemmas.Bool.{cases_Bool}
+use Rattle.std.proofs.lemmas.Bool.{cases_Bool, and_parts}
 use Rattle.std.proofs.lemmas.List.Sorted.{ranks_by}
 use Rattle.std.specs.Cmp.{IsStrictWeakOrder, alike_right, tied_then}
 use Rattle.std.specs.List.{list_all, slice_index_or}
@@ -10,7 +10,6 @@ use Rattle.std.specs.declared.cmp.Ordering.TheVariants.{Less, Equal, Greater}
 use Rattle.rv_value.specs.declared.value.Value.{Value}
 use Rattle.rv_value.specs.Order.{values_cmp}
 use Rattle.rv_rows.specs.Rising.{Rising}
-use Rattle.rv_rows.proofs.Filters.{both}
 use Rattle.rv_rows.proofs.Puts.{IsChain, rising_put}
 use Rattle.rv_blocks.specs.Flat.{Turns}
 use Rattle.rv_blocks.specs.Taking.{is_level}
@@ -67,7 +66,7 @@ over_not first values x o low h = elim (cases_Bool (fits first values o)) [
 -- an offer that fits is the one that is looked for
 pub fits_same : (first : Offer) (values : List Value) (o : Offer) → fits first values o ≡ true → o ≡ sought first values
 fits_same first values o h =
-    let parts = both (is_eq (values_cmp o.order first.order)) (is_eq (values_cmp o.returned values)) h in
+    let parts = and_parts (is_eq (values_cmp o.order first.order)) (is_eq (values_cmp o.returned values)) h in
     let order : o.order ≡ first.order = values_same o.order first.order (is_equal (values_cmp o.order first.order) parts.0) in
     let returned : o.returned ≡ values = values_same o.returned values (is_equal (values_cmp o.returned values) parts.1) in
     λ i. record { order = order i; returned = returned i }

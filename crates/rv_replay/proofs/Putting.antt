@@ -1,10 +1,9 @@
 -- Offers that are put into a queue, equal ones together.
 use Rattle.std.proofs.Common.{◌≡◌, ℕ, zero, suc, ◌+◌, ◌<◌, List, [], ◌∷◌, ◌++◌, refl, ap, sym, ◌∙◌, subst, inl, inr, arith, Bool, true, false, cond, length, replicate, slice_get, slice_set, insert}
-use Rattle.std.proofs.lemmas.Bool.{cases_Bool}
+use Rattle.std.proofs.lemmas.Bool.{cases_Bool, and_parts}
 use Rattle.std.proofs.lemmas.List.Sorted.{IsPermutation-to_front}
 use Rattle.std.specs.List.{list_all, slice_index_or}
 use Rattle.rv_rows.specs.Rising.{Rising}
-use Rattle.rv_rows.proofs.Filters.{both}
 use Rattle.rv_blocks.specs.Flat.{Turns}
 use Rattle.rv_value.specs.declared.value.Value.{Value}
 use Rattle.rv_model.specs.declared.state.Offer.{Offer}
@@ -38,7 +37,7 @@ not_under o x y low h = elim (cases_Bool (less y o)) [
 with_behind : (o : Offer) (a : Alike) (gs : List Alike) → less a.offer o ≡ false → list_all (comes_before a) gs ≡ true → with_offer o (all_of gs) ≡ o ∷ all_of gs
 with_behind o a [] low all = refl
 with_behind o a (b ∷ gs) low all =
-    let parts = both (comes_before a b) (list_all (comes_before a) gs) all in
+    let parts = and_parts (comes_before a b) (list_all (comes_before a) gs) all in
     with_first o b.left b.offer (all_of gs) (not_under o a.offer b.offer low parts.0) (with_behind o a gs low parts.1)
 
 put_alone : (o : Offer) (gs : List Alike) (at : ℕ) → Splits o gs at → all_of (insert gs at (alone o)) ≡ with_offer o (all_of gs)

@@ -1,12 +1,11 @@
 -- An offer that is taken out of a queue.
 use Rattle.std.proofs.Common.{◌≡◌, ℕ, zero, suc, ◌+◌, ◌-◌, ◌<◌, ◌≤◌, List, [], ◌∷◌, ◌++◌, refl, ap, sym, ◌∙◌, subst, inl, inr, arith, Bool, true, false, ◌&&◌, ◌==◌, Option, Some, None, All, IsSome, is_some, length, length-set, nat_lt, option_map, replicate, slice_get, slice_set}
-use Rattle.std.proofs.lemmas.Bool.{cases_lt}
+use Rattle.std.proofs.lemmas.Bool.{cases_lt, and_parts}
 use Rattle.std.proofs.lemmas.Bool.Decides.{nat_tests}
 use Rattle.std.proofs.lemmas.List.Elements.{All-append, All-nil, All-replicate}
 use Rattle.std.specs.List.{list_all, slice_index_or}
 use Rattle.rv_value.specs.declared.value.Value.{Value}
 use Rattle.rv_rows.specs.Rising.{Rising}
-use Rattle.rv_rows.proofs.Filters.{both}
 use Rattle.rv_blocks.specs.Flat.{Turns}
 use Rattle.rv_model.specs.declared.state.Offer.{Offer}
 use Rattle.rv_model.specs.Offers.{place_of, without}
@@ -47,7 +46,7 @@ record IsThere (first : Offer) (values : List Value) (gs : List Alike) (at : ℕ
 is_there : (first : Offer) (values : List Value) (gs : List Alike) (at : ℕ) → may_give first values (slice_get gs at) ≡ true → IsThere first values gs at
 is_there first values [] at h = absurd (cc)
 is_there first values (a ∷ gs) zero h =
-    let parts = both (nat_lt 0 a.left) (fits first values a.offer) h in
+    let parts = and_parts (nat_lt 0 a.left) (fits first values a.offer) h in
     record { within = omega arith; some = is_some_left a.left parts.0; fit = parts.1 }
 is_there first values (a ∷ gs) (suc k) h =
     let rest = is_there first values gs k h in
@@ -75,7 +74,7 @@ those_fail first values (suc n) o fail = All-replicate (λ (p : Offer). fits fir
 behind_fail : (first : Offer) (values : List Value) (a : Alike) (gs : List Alike) → less a.offer (sought first values) ≡ false → list_all (comes_before a) gs ≡ true → All (λ (p : Offer). fits first values p ≡ false) (all_of gs)
 behind_fail first values a [] low all = All-nil (λ (p : Offer). fits first values p ≡ false)
 behind_fail first values a (b ∷ gs) low all =
-    let parts = both (comes_before a b) (list_all (comes_before a) gs) all in
+    let parts = and_parts (comes_before a b) (list_all (comes_before a) gs) all in
     All-append (λ (p : Offer). fits first values p ≡ false) (those b) (all_of gs)
     (All-replicate (λ (p : Offer). fits first values p ≡ false) b.left b.offer (over_not first values a.offer b.offer low parts.0))
     (behind_fail first values a gs low parts.1)

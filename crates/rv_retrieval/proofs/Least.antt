@@ -6,7 +6,7 @@ use Rattle.std.specs.Cmp.{tied_itself}
 use Rattle.std.specs.Ordering.{is_lt, ordering_then}
 use Rattle.std.specs.declared.cmp.Ordering.{Ordering}
 use Rattle.std.specs.declared.cmp.Ordering.TheVariants.{Less, Equal, Greater}
-use Rattle.std.proofs.lemmas.Bool.{cases_Bool}
+use Rattle.std.proofs.lemmas.Bool.{cases_Bool, and_parts}
 use Rattle.std.proofs.lemmas.Bool.Decides.{nat_tests}
 use Rattle.rv_value.specs.declared.value.Value.{Value}
 use Rattle.rv_value.specs.declared.record.Record.{Record}
@@ -22,7 +22,6 @@ use Rattle.rv_reader.specs.Entries.{column_of, comes_before, entry_of, is_in, ru
 use Rattle.rv_judge.specs.declared.events.Strategy.{Strategy}
 use Rattle.rv_reader.specs.Shown.{Shown}
 use Rattle.rv_reader.specs.Tables.{row_at}
-use Rattle.rv_reader.proofs.Filters.{both}
 use Rattle.rv_reader.proofs.Orders.{key_not, one_way}
 use Rattle.rv_reader.proofs.Sorting.{entries_ascend}
 use Rattle.rv_scan.specs.declared.skip.Scanned.{Scanned}
@@ -81,7 +80,7 @@ front_itemsof f need only entries rows =
 entry_find : (P : IndexEntry → Bool) (columns : List ℕ) (rows : List Record) (n : ℕ) (es : List IndexEntry) → AreOf columns rows es → list_all P es ≡ true → has_entry n es ≡ true → (e : IndexEntry) × EntryOf columns rows e × (P e ≡ true) × (n ≡ e.row.0)
 entry_find P columns rows n [] a all h = absurd (cc)
 entry_find P columns rows n (e ∷ es) a all h =
-    let parts = both (P e) (list_all P es) all in
+    let parts = and_parts (P e) (list_all P es) all in
     elim (cases_Bool (nat_eq n e.row.0)) [
       | inl here ↦ (e, a.0, parts.0, number n e.row.0 here)
       | inr other ↦ entry_find P columns rows n es a.1 parts.1 (later (nat_eq n e.row.0) (has_entry n es) other h)
@@ -225,7 +224,7 @@ found_least v shown skip r more f sorted by e =
     let first : due only skip xs ≡ r ∷ more = sym (items_rest v.front entries rows only skip) ∙ e in
     let leads : Leads need order columns = record { needs = ff.needs; begins = ff.begins sorted } in
     all_rest (λ (x : Record). not (is_lt (values_cmp (order_of order x) (order_of order r)))) (λ (x : Record). qualifies only x.values && front_left v.front entries x.row.0) rows rows (rows_found rows f.ascend) (λ x there t.
-    let parts = both (qualifies only x.values) (front_left v.front entries x.row.0) t in
+    let parts = and_parts (qualifies only x.values) (front_left v.front entries x.row.0) t in
     let q : qualifies_at only rows x.row.0 ≡ true = told_by only rows x.row.0 x f.ascend there ∙ parts.0 in
     not_true _ (least_of need order columns only rows skip es xs more r x x.row.0 leads (left_rising (walk_of v.front) entries ff.follows up) (left_stands (walk_of v.front) columns rows entries ff.follows stands) items first there parts.0 (unskipped v shown skip x.row.0 f by q) parts.1))
 

@@ -1,7 +1,7 @@
 -- The entries of the rows that a statement writes, put in one after another.
 use Rattle.std.proofs.Common.{◌≡◌, ℕ, zero, suc, List, [], ◌∷◌, ◌++◌, Bool, true, false, ◌&&◌, ◌||◌, ◌==◌, cond, Option, Some, None, inl, inr, refl, ap, sym, subst, ◌∙◌, take, arith}
 use Rattle.std.specs.Prelude.{slice_get}
-use Rattle.std.proofs.lemmas.Bool.{cases_Bool}
+use Rattle.std.proofs.lemmas.Bool.{cases_Bool, and_parts}
 use Rattle.std.proofs.lemmas.Bool.Decides.{nat_tests}
 use Rattle.std.specs.List.{AllByRecursion, list_all}
 use Rattle.std.specs.Ordering.{is_eq}
@@ -15,7 +15,6 @@ use Rattle.rv_rows.specs.Merging.{values_row}
 use Rattle.rv_rows.specs.Rising.{put_in}
 use Rattle.rv_rows.specs.Rows as rows_by_number
 use Rattle.rv_rows.specs.Rows.{comes_below}
-use Rattle.rv_rows.proofs.Filters.{both}
 use Rattle.rv_rows.proofs.Merges.{passes_put}
 use Rattle.rv_reader.specs.Entries.{Ascend, comes_before, entries_of, entry_of}
 use Rattle.rv_reader.specs.Tables.{row_at}
@@ -66,7 +65,7 @@ written_given table (c ∷ cs) rise of =
 all_taken : {X : Type 0} (p : X → Bool) (k : ℕ) (xs : List X) → list_all p xs ≡ true → list_all p (take k xs) ≡ true
 all_taken p zero xs all = refl
 all_taken p (suc k) [] all = refl
-all_taken p (suc k) (x ∷ xs) all = (let parts = both (p x) (list_all p xs) all in rw parts.0 (all_taken p k xs parts.1))
+all_taken p (suc k) (x ∷ xs) all = (let parts = and_parts (p x) (list_all p xs) all in rw parts.0 (all_taken p k xs parts.1))
 
 rise_taken : (k : ℕ) (cs : List Change) → Rise cs → Rise (take k cs)
 rise_taken zero cs rise = tt
@@ -84,8 +83,8 @@ given_ascends table new rise of = subst rows_by_number.Ascend (written_given tab
 -- A row behind others.
 
 last_passes : {X : Type 0} (p : X → Bool) (xs : List X) (x : X) → list_all p (xs ++ x ∷ []) ≡ true → p x ≡ true
-last_passes p [] x all = (both (p x) true all).0
-last_passes p (y ∷ ys) x all = last_passes p ys x (both (p y) (list_all p (ys ++ x ∷ [])) all).1
+last_passes p [] x all = (and_parts (p x) true all).0
+last_passes p (y ∷ ys) x all = last_passes p ys x (and_parts (p y) (list_all p (ys ++ x ∷ [])) all).1
 
 none_last : (rows : List Record) (r : Record) (n : ℕ) → rows_by_number.Ascend (rows ++ r ∷ []) → (r.row.0 == n) ≡ true → row_at rows n ≡ None
 none_last [] r n ascend is = refl
@@ -122,7 +121,7 @@ front_ascends (s ∷ rows) r ascend = (all_front rows ascend.0, front_ascends ro
   where
     all_front : (xs : List Record) → list_all (comes_below s) (xs ++ r ∷ []) ≡ true → list_all (comes_below s) xs ≡ true
     all_front [] all = refl
-    all_front (x ∷ xs) all = (let parts = both (comes_below s x) (list_all (comes_below s) (xs ++ r ∷ [])) all in rw parts.0 (all_front xs parts.1))
+    all_front (x ∷ xs) all = (let parts = and_parts (comes_below s x) (list_all (comes_below s) (xs ++ r ∷ [])) all in rw parts.0 (all_front xs parts.1))
 
 pub put_more : (columns : List ℕ) (rows : List Record) (r : Record) → rows_by_number.Ascend (rows ++ r ∷ []) → put_in comes_before (entry_of columns r) (entries_of columns rows) ≡ entries_of columns (rows ++ r ∷ [])
 put_more columns rows r ascend =

@@ -1,26 +1,22 @@
 -- Rows that equal an earlier one.
 use Rattle.std.proofs.Common.{◌≡◌, ℕ, zero, suc, ◌+◌, List, [], ◌∷◌, ◌++◌, Bool, true, false, not, ◌&&◌, ◌||◌, ◌==◌, cond, Option, Some, inl, inr, refl, ap, sym, subst, ◌∙◌, find, filter, map, length, drop, arith, nat_lt, None, Result, Ok, Err, IfOk, take}
 use Rattle.std.specs.Prelude.{slice_get}
-use Rattle.std.proofs.lemmas.Bool.{cases_Bool}
+use Rattle.std.proofs.lemmas.Bool.{cases_Bool, and_parts}
 use Rattle.std.proofs.lemmas.Bool.Decides.{nat_tests}
 use Rattle.std.proofs.lemmas.List.Elements.{filter-append}
 use Rattle.std.specs.List.{list_all, list_any}
 use Rattle.std.specs.Ordering.{is_eq}
 use Rattle.std.specs.Cmp.{tied_itself}
-use Rattle.std.specs.declared.cmp.Ordering.{Ordering}
-use Rattle.std.specs.declared.cmp.Ordering.TheVariants.{Less, Equal, Greater}
 use Rattle.rv_value.specs.declared.value.Value.{Value}
 use Rattle.rv_value.specs.declared.record.Record.{Record}
 use Rattle.rv_value.specs.declared.record.IndexEntry.{IndexEntry}
 use Rattle.rv_value.specs.declared.range.Range.{Range}
-use Rattle.rv_value.specs.Order.{value_cmp, values_cmp}
 use Rattle.rv_value.specs.Orders.{values_cmp_total}
 use Rattle.std.specs.Option.{option_map}
 use Rattle.rv_value.specs.declared.record.RowNo.{RowNo}
 use Rattle.rv_catalog.specs.declared.def.IndexDef.{IndexDef}
 use Rattle.rv_rows.specs.Rising.{put_in}
 use Rattle.rv_rows.specs.Rows.{Ascend, comes_below}
-use Rattle.rv_rows.proofs.Filters.{both}
 use Rattle.rv_rows.proofs.Puts.{rising_filter}
 use Rattle.rv_reader.specs.Entries.{comes_before, entries_of, entry_of, is_in, run}
 use Rattle.rv_model.specs.Offers.{same_values}
@@ -128,7 +124,7 @@ null_more columns rows r seen next null is same =
 none_lower : (f : Record → Bool) (r : Record) (rows : List Record) → list_all (comes_below r) rows ≡ true → list_any (λ (s : Record). nat_lt s.row.0 r.row.0 && f s) rows ≡ false
 none_lower f r [] all = refl
 none_lower f r (s ∷ rows) all =
-    let parts = both (comes_below r s) (list_all (comes_below r) rows) all in
+    let parts = and_parts (comes_below r s) (list_all (comes_below r) rows) all in
     let not_lower : nat_lt s.row.0 r.row.0 ≡ false = (let above = parts.0 in grind (arith, nat_tests)) in
     rw not_lower (none_lower f r rows parts.1)
 
@@ -141,8 +137,8 @@ lower_front f (s ∷ front) r back ascend =
     rw below (ap (λ b. f s || b) (lower_front f front r back ascend.1))
   where
     passes : (xs : List Record) → list_all (comes_below s) (xs ++ r ∷ back) ≡ true → comes_below s r ≡ true
-    passes [] all = (both (comes_below s r) (list_all (comes_below s) back) all).0
-    passes (x ∷ xs) all = passes xs (both (comes_below s x) (list_all (comes_below s) (xs ++ r ∷ back)) all).1
+    passes [] all = (and_parts (comes_below s r) (list_all (comes_below s) back) all).0
+    passes (x ∷ xs) all = passes xs (and_parts (comes_below s x) (list_all (comes_below s) (xs ++ r ∷ back)) all).1
 
 -- one row further: it was not found
 pub find_next : (p : Record → Bool) (rows : List Record) (k : ℕ) (r : Record) (whole : Option Record) → slice_get rows k ≡ Some r → p r ≡ false → find p (drop k rows) ≡ whole → find p (drop (suc k) rows) ≡ whole
@@ -186,7 +182,7 @@ null_key columns values key b is told = ap (list_any is_null) (sym is) ∙ sym t
 all_taken : {X : Type 0} (p : X → Bool) (k : ℕ) (xs : List X) → list_all p xs ≡ true → list_all p (take k xs) ≡ true
 all_taken p zero xs all = refl
 all_taken p (suc k) [] all = refl
-all_taken p (suc k) (x ∷ xs) all = (let parts = both (p x) (list_all p xs) all in (λ i. parts.0 i && all_taken p k xs parts.1 i))
+all_taken p (suc k) (x ∷ xs) all = (let parts = and_parts (p x) (list_all p xs) all in (λ i. parts.0 i && all_taken p k xs parts.1 i))
 
 pub ascend_taken : (k : ℕ) (rows : List Record) → Ascend rows → Ascend (take k rows)
 ascend_taken zero rows ascend = tt

@@ -1,7 +1,7 @@
 -- The first entry of a run that passes a test, leaf by leaf, and the lowest row that has a key.
 use Rattle.std.proofs.Common.{◌≡◌, ℕ, zero, suc, List, [], ◌∷◌, ◌++◌, Bool, true, false, ◌&&◌, ◌==◌, cond, Option, Some, None, inl, inr, refl, ap, sym, ◌∙◌, find, filter, map, take, length, arith}
 use Rattle.std.specs.Prelude.{min}
-use Rattle.std.proofs.lemmas.Bool.{cases_Bool}
+use Rattle.std.proofs.lemmas.Bool.{cases_Bool, and_parts}
 use Rattle.std.proofs.lemmas.Bool.Decides.{nat_tests}
 use Rattle.std.specs.List.{list_all}
 use Rattle.std.specs.Option.{option_map}
@@ -11,7 +11,6 @@ use Rattle.rv_value.specs.declared.record.Record.{Record}
 use Rattle.rv_value.specs.declared.record.RowNo.{RowNo}
 use Rattle.rv_value.specs.declared.record.IndexEntry.{IndexEntry}
 use Rattle.rv_rows.specs.Rows.{Ascend, comes_below}
-use Rattle.rv_rows.proofs.Filters.{both}
 use Rattle.rv_rows.proofs.Puts.{rising_filter}
 use Rattle.rv_reader.specs.Entries.{AreLong, entries_of, entry_of, run}
 use Rattle.rv_reader.specs.Leaves.{run_after, run_from}
@@ -112,7 +111,7 @@ two_enough columns row [] ascend = refl
 two_enough columns row (a ∷ []) ascend = refl
 two_enough columns row (a ∷ b ∷ rows) ascend = elim (cases_Bool (a.row.0 == row)) [
   | inl t ↦
-      let parts = both (comes_below a b) (list_all (comes_below a) rows) ascend.0 in
+      let parts = and_parts (comes_below a b) (list_all (comes_below a) rows) ascend.0 in
       let apart : (b.row.0 == row) ≡ false = (let below = parts.0 in grind (arith, nat_tests)) in
       rw (t, apart) refl
   | inr f ↦ rw f refl

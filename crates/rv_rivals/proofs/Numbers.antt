@@ -1,6 +1,6 @@
 -- Rows under changes of one's own and of others, by number.
 use Rattle.std.proofs.Common.{◌≡◌, ℕ, List, [], ◌∷◌, Bool, true, false, not, ◌&&◌, ◌||◌, ◌==◌, cond, Option, Some, None, is_some, inl, inr, refl, ap, sym, ◌∙◌, find, filter, arith, nat_lt}
-use Rattle.std.proofs.lemmas.Bool.{cases_Bool}
+use Rattle.std.proofs.lemmas.Bool.{cases_Bool, and_parts}
 use Rattle.std.proofs.lemmas.Bool.Decides.{nat_tests}
 use Rattle.std.specs.List.{list_all, list_any}
 use Rattle.std.specs.Option.{option_map}
@@ -11,7 +11,7 @@ use Rattle.rv_rows.specs.declared.changes.Change.{Change}
 use Rattle.rv_rows.specs.Changes.{Rise, has_change, is_of, rows_with_changes, touches, with_change, with_changes}
 use Rattle.rv_rows.specs.Rows.{Ascend, comes_below, with_values}
 use Rattle.rv_rows.proofs.Chains.{change_rises}
-use Rattle.rv_rows.proofs.Filters.{all_filter, both}
+use Rattle.rv_rows.proofs.Filters.{all_filter}
 use Rattle.rv_rows.proofs.Puts.{rising_filter}
 use Rattle.rv_reader.specs.Tables.{row_at}
 use Rattle.rv_overlay.specs.Rows.{change_of, changed_row}
@@ -130,7 +130,7 @@ has_further table n (c ∷ new) cs =
 found_in : (t p : Record → Bool) (rows : List Record) (x : Record) → list_all t rows ≡ true → find p rows ≡ Some x → t x ≡ true
 found_in t p [] x all is = cc
 found_in t p (r ∷ rows) x all is =
-    let parts = both (t r) (list_all t rows) all in
+    let parts = and_parts (t r) (list_all t rows) all in
     elim (cases_Bool (p r)) [
       | inl h ↦ (let same : Some r ≡ Some x = rw h at is in let own : r ≡ x = cc in ap t (sym own) ∙ parts.0)
       | inr f ↦ found_in t p rows x parts.1 (rw f at is)

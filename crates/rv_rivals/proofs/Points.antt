@@ -1,6 +1,6 @@
 -- The range of a key.
 use Rattle.std.proofs.Common.{◌≡◌, ℕ, suc, List, [], ◌∷◌, Bool, true, false, not, cond, inl, inr, refl, ap, sym, ◌∙◌, filter, map, length, arith, nat_lt}
-use Rattle.std.proofs.lemmas.Bool.{cases_Bool}
+use Rattle.std.proofs.lemmas.Bool.{cases_Bool, and_parts}
 use Rattle.std.proofs.lemmas.Bool.Decides.{nat_tests}
 use Rattle.std.specs.List.{list_all}
 use Rattle.std.specs.Ordering.{is_eq, is_lt, nat_cmp, ordering_then}
@@ -14,7 +14,7 @@ use Rattle.rv_value.specs.Ranges.{falls_under, goes_over, in_side, place}
 use Rattle.rv_rows.specs.Rows as rows_by_number
 use Rattle.rv_rows.specs.Rows.{comes_below}
 use Rattle.rv_reader.specs.Entries.{column_of, comes_before, entries_of, entry_of, is_in, run, sorted_in, Ascend}
-use Rattle.rv_reader.proofs.Filters.{both, all_filter}
+use Rattle.rv_reader.proofs.Filters.{all_filter}
 use Rattle.rv_reader.proofs.Orders.{order, one_way}
 use Rattle.rv_value.specs.Orders.{values_cmp_total}
 use Rattle.std.specs.Cmp.{tied_itself}
@@ -56,7 +56,7 @@ entry_in columns key r e = point_in key (key_in columns r) ∙ ap is_eq (same_le
 front_in : (e : IndexEntry) (ys : List IndexEntry) → list_all (λ y. not (comes_before y e)) ys ≡ true → sorted_in e ys ≡ e ∷ ys
 front_in e [] all = refl
 front_in e (y ∷ ys) all =
-    let parts = both (not (comes_before y e)) (list_all (λ x. not (comes_before x e)) ys) all in
+    let parts = and_parts (not (comes_before y e)) (list_all (λ x. not (comes_before x e)) ys) all in
     let no : comes_before y e ≡ false = turned (comes_before y e) parts.0 in
     rw no refl
   where
@@ -67,7 +67,7 @@ front_in e (y ∷ ys) all =
 none_below : (e x : IndexEntry) (xs : List IndexEntry) → comes_before x e ≡ false → list_all (comes_before x) xs ≡ true → list_all (λ y. not (comes_before y e)) xs ≡ true
 none_below e x [] f all = refl
 none_below e x (y ∷ ys) f all =
-    let parts = both (comes_before x y) (list_all (comes_before x) ys) all in
+    let parts = and_parts (comes_before x y) (list_all (comes_before x) ys) all in
     rw (order.chain y x e (one_way x y parts.0) f) (none_below e x ys f parts.1)
 
 filter_in : (p : IndexEntry → Bool) (e : IndexEntry) (xs : List IndexEntry) → Ascend xs → filter p (sorted_in e xs) ≡ cond (p e) (sorted_in e (filter p xs)) (filter p xs)
@@ -112,7 +112,7 @@ later_not columns key r s hr hs below =
 rest_not : (columns : List ℕ) (key : List Value) (r : Record) (rows : List Record) → has_key columns key r ≡ true → list_all (comes_below r) rows ≡ true → list_all (λ y. not (comes_before y (entry_of columns r))) (map (entry_of columns) (filter (has_key columns key) rows)) ≡ true
 rest_not columns key r [] h all = refl
 rest_not columns key r (s ∷ rows) h all =
-    let parts = both (comes_below r s) (list_all (comes_below r) rows) all in
+    let parts = and_parts (comes_below r s) (list_all (comes_below r) rows) all in
     let rest = rest_not columns key r rows h parts.1 in
     elim (cases_Bool (has_key columns key s)) [
       | inl t ↦ rw t (rw (later_not columns key r s h t parts.0) rest)

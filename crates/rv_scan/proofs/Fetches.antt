@@ -1,7 +1,7 @@
 -- The rows of entries, one fetched after another.
 use Rattle.std.proofs.Common.{◌≡◌, ℕ, ◌+◌, ◌<◌, ◌≤◌, List, [], ◌∷◌, ◌++◌, Bool, true, false, not, ◌==◌, cond, refl, ap, sym, ◌∙◌, inl, inr, arith, length, zero, suc, drop, take, Option, Some, None, IfSome, Result, Ok, Err, IfOk, OnOk, OnErr, length-append}
 use Rattle.std.proofs.Math.Seq.{drop-drop}
-use Rattle.std.proofs.lemmas.Bool.{cases_Bool}
+use Rattle.std.proofs.lemmas.Bool.{cases_Bool, and_parts}
 use Rattle.std.proofs.lemmas.Bool.Decides.{nat_tests}
 use Rattle.std.specs.List.{list_all, slice_index_or, cons_option}
 use Rattle.rv_value.specs.declared.record.Record.{Record}
@@ -13,7 +13,6 @@ use Rattle.rv_restrict.specs.declared.atom.Atom.{Atom}
 use Rattle.rv_restrict.specs.Truth.{names_only, qualifies, row_has}
 use Rattle.rv_reader.specs.Entries.{run}
 use Rattle.rv_reader.specs.Tables.{row_at}
-use Rattle.rv_reader.proofs.Filters.{both}
 use Rattle.rv_scan.specs.declared.skip.Scanned.{Scanned}
 use Rattle.rv_scan.specs.declared.skip.Scanned.TheVariants.{Found, Working, End}
 use Rattle.rv_scan.specs.Due.{Skipped, due, skips, HaveColumns, StepsTo}
@@ -33,7 +32,7 @@ found_number (s ∷ rows) number r e = elim (cases_Bool (s.row.0 == number)) [
 pub found_columns : (only : List (List Atom)) (rows : List Record) (number : ℕ) → HaveColumns only rows → IfSome (row_at rows number) (λ r. names_only (row_has r.values) only ≡ true)
 found_columns only [] number have = tt
 found_columns only (r ∷ rows) number have =
-    let parts = both (names_only (row_has r.values) only) (list_all (λ (x : Record). names_only (row_has x.values) only) rows) have in
+    let parts = and_parts (names_only (row_has r.values) only) (list_all (λ (x : Record). names_only (row_has x.values) only) rows) have in
     elim (r.row.0 == number) as (λ b. IfSome (cond b (Some r) (row_at rows number)) (λ (x : Record). names_only (row_has x.values) only ≡ true)) [
       | true ↦ parts.0
       | false ↦ found_columns only rows number parts.1
@@ -50,7 +49,7 @@ one_row only skip e rows more (Some r) is h =
 skip_front : (only : List (List Atom)) (skip : Skipped) (rows : List Record) (xs ys : List IndexEntry) → list_all (λ (e : IndexEntry). not (is_given skip e)) xs ≡ true → due only skip (fetched rows (xs ++ ys)) ≡ due only skip (fetched rows ys)
 skip_front only skip rows [] ys all = refl
 skip_front only skip rows (e ∷ xs) ys all =
-    let parts = both (not (not (skips skip e.row.0))) (list_all (λ (x : IndexEntry). not (is_given skip x)) xs) all in
+    let parts = and_parts (not (not (skips skip e.row.0))) (list_all (λ (x : IndexEntry). not (is_given skip x)) xs) all in
     one_row only skip e rows (fetched rows (xs ++ ys)) (row_at rows e.row.0) refl (twice (skips skip e.row.0) parts.0) ∙ skip_front only skip rows xs ys parts.1
   where
     twice : (b : Bool) → not (not b) ≡ true → b ≡ true

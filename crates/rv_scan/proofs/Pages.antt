@@ -5,11 +5,12 @@ use Rattle.std.proofs.lemmas.Bool.Decides.{nat_tests}
 use Rattle.std.proofs.lemmas.List.Folds.{list_all-append}
 use Rattle.std.proofs.lemmas.List.Elements.{filter-append}
 use Rattle.std.specs.List.{AllByRecursion, slice_index_or}
+use Rattle.std.proofs.lemmas.Bool.{and_parts}
 use Rattle.rv_value.specs.declared.record.Record.{Record}
 use Rattle.rv_rows.specs.Rows.{Ascend, comes_below}
 use Rattle.rv_restrict.specs.declared.atom.Atom.{Atom}
 use Rattle.rv_reader.specs.Tables.{page_of, IsTable}
-use Rattle.rv_reader.proofs.Filters.{both, rising_cut}
+use Rattle.rv_reader.proofs.Filters.{rising_cut}
 use Rattle.rv_scan.specs.declared.skip.Scanned.{Scanned}
 use Rattle.rv_scan.specs.declared.skip.Scanned.TheVariants.{Found, Working, End}
 use Rattle.rv_scan.specs.Due.{Skipped, is_due, due, FindsDue, HaveColumns, StepsTo}
@@ -57,14 +58,14 @@ length_drop (suc at) (x ∷ xs) h =
 columns_drop : (only : List (List Atom)) (k : ℕ) (rows : List Record) → HaveColumns only rows → HaveColumns only (drop k rows)
 columns_drop only zero rows have = have
 columns_drop only (suc k) [] have = have
-columns_drop only (suc k) (r ∷ rows) have = columns_drop only k rows (both _ _ have).1
+columns_drop only (suc k) (r ∷ rows) have = columns_drop only k rows (and_parts _ _ have).1
 
 -- what is held has the columns that all rows have
 pub held_columns : (only : List (List Atom)) (place : Place) (rows : List Record) → Fits place rows → HaveColumns only rows → HaveColumns only place.held
 held_columns only place rows fits have =
     let Columns : List Record → Type 0 = λ rs. HaveColumns only rs in
     let all : HaveColumns only (place.held ++ rows_from rows place.next) = subst Columns (sym fits.1) (columns_drop only fits.0 rows have) in
-    (both _ _ (sym (list_all-append _ place.held (rows_from rows place.next)) ∙ all)).0
+    (and_parts _ _ (sym (list_all-append _ place.held (rows_from rows place.next)) ∙ all)).0
 
 -- a row given
 pub given_fits : (place : Place) (at : ℕ) (rows : List Record) → at < length place.held → Fits place rows → Fits (record place { held = drop (at + 1) place.held }) rows

@@ -2,10 +2,11 @@
 use Rattle.std.proofs.Common.{◌≡◌, ◌==◌, List, [], ◌∷◌, ◌++◌, Bool, true, false, cond, Option, Some, None, refl, ap, ◌∙◌, arith, filter, nat_lt, ℕ}
 use Rattle.std.specs.List.{list_all}
 use Rattle.std.proofs.lemmas.Bool.Decides.{nat_tests}
+use Rattle.std.proofs.lemmas.Bool.{and_parts}
 use Rattle.rv_value.specs.declared.record.Record.{Record}
 use Rattle.rv_value.specs.declared.record.RowNo.{RowNo}
 use Rattle.rv_rows.specs.Rows.{Ascend, comes_below}
-use Rattle.rv_rows.proofs.Filters.{all_filter, both}
+use Rattle.rv_rows.proofs.Filters.{all_filter}
 use Rattle.rv_reader.specs.Tables.{row_at}
 use Rattle.rv_search.specs.Searching.{numbers, rows_of, with_found}
 
@@ -31,7 +32,7 @@ not_here r rows n low =
 passed : (r : Record) (rows xs : List Record) → list_all (comes_below r) xs ≡ true → rows_of (r ∷ rows) (numbers xs) ≡ rows_of rows (numbers xs)
 passed r rows [] all = refl
 passed r rows (x ∷ xs) all =
-    let parts = both (comes_below r x) (list_all (comes_below r) xs) all in
+    let parts = and_parts (comes_below r x) (list_all (comes_below r) xs) all in
     ap (λ (o : Option Record). with_found o (rows_of (r ∷ rows) (numbers xs))) (not_here r rows x.row.0 parts.0)
     ∙ ap (with_found (row_at rows x.row.0)) (passed r rows xs parts.1)
 

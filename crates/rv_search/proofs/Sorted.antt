@@ -2,14 +2,13 @@
 use Rattle.std.proofs.Common.{◌≡◌, ℕ, ◌+◌, ◌<◌, ◌≤◌, ◌==◌, List, [], ◌∷◌, true, false, cond, refl, ap, sym, ◌∙◌, inl, inr, arith, suc, length}
 use Rattle.std.specs.List.{AllByRecursion, list_all, slice_index_or}
 use Rattle.std.specs.List.Sorted.{IsNonDecreasingBy, IsPermutation}
-use Rattle.std.proofs.lemmas.Bool.{cases_Bool}
+use Rattle.std.proofs.lemmas.Bool.{cases_Bool, and_parts}
 use Rattle.std.proofs.lemmas.Bool.Decides.{nat_tests}
 use Rattle.std.proofs.lemmas.List.Recursion.{is_sum_by}
 use Rattle.std.proofs.lemmas.List.Sorted.{sum_by-IsPermutation}
 use Rattle.rv_value.specs.declared.record.Record.{Record}
 use Rattle.rv_value.specs.declared.record.RowNo.{RowNo}
 use Rattle.rv_rows.specs.Rows.{Ascend, comes_below}
-use Rattle.rv_rows.proofs.Filters.{both}
 use Rattle.rv_search.specs.Searching.{numbers}
 
 -- How often a number stands in a list.
@@ -106,7 +105,7 @@ climbs (x ∷ xs) up = (
 above_row : (r : Record) (rows : List Record) → list_all (comes_below r) rows ≡ true → AllByRecursion (λ (x : RowNo). r.row.0 ≤ x.0) (numbers rows)
 above_row r [] all = tt
 above_row r (x ∷ rows) all =
-    let parts = both (comes_below r x) (list_all (comes_below r) rows) all in
+    let parts = and_parts (comes_below r x) (list_all (comes_below r) rows) all in
     let first = parts.0 in
     let low : r.row.0 ≤ x.row.0 = grind (arith, nat_tests) in
     (low, above_row r rows parts.1)

@@ -1,6 +1,6 @@
 -- An index through the changes of its table's rows.
 use Rattle.std.proofs.Common.{◌≡◌, ℕ, ◌<◌, List, [], ◌∷◌, ◌++◌, Bool, true, false, not, ◌&&◌, ◌||◌, ◌==◌, cond, refl, ap, sym, ◌∙◌, inl, inr, arith, subst, length, zero, suc, filter, map, take, nat_lt, Option, Some, None}
-use Rattle.std.proofs.lemmas.Bool.{cases_Bool, cases_lt}
+use Rattle.std.proofs.lemmas.Bool.{cases_Bool, cases_lt, and_parts}
 use Rattle.std.proofs.lemmas.Bool.Decides.{nat_tests}
 use Rattle.std.specs.List.{list_all, slice_index_or}
 use Rattle.std.specs.Ordering.{is_lt, is_eq, ordering_reverse}
@@ -19,7 +19,7 @@ use Rattle.rv_reader.specs.Tables.{row_at}
 use Rattle.rv_reader.specs.Entries.{comes_before, entry_of, column_of}
 use Rattle.rv_reader.specs.Entries as rows_entries
 use Rattle.rv_reader.specs.Storing.{AreKeys}
-use Rattle.rv_reader.proofs.Filters.{both, all_filter}
+use Rattle.rv_reader.proofs.Filters.{all_filter}
 use Rattle.rv_reader.proofs.Sorting.{same, entries_keys}
 use Rattle.rv_node.specs.Trees.{differs}
 use Rattle.rv_node.specs.Sound.{Absent}
@@ -87,7 +87,7 @@ keys_all n (e ∷ es) keys =
 pub all_keys : (n : ℕ) (es : List IndexEntry) → list_all (has_key n) es ≡ true → AreKeys n es
 all_keys n [] all = tt
 all_keys n (e ∷ es) all =
-    let parts = both (has_key n e) (list_all (has_key n) es) all in
+    let parts = and_parts (has_key n e) (list_all (has_key n) es) all in
     let first = parts.0 in
     let here : length e.key ≡ n = grind (arith, nat_tests) in
     (here, all_keys n es parts.1)
@@ -129,7 +129,7 @@ indexed_change commit columns number values old rows nodes new ascend found inde
 pub absent_all : (e : IndexEntry) (es : List IndexEntry) → list_all (is_others e.row.0) es ≡ true → Absent comes_before e es
 absent_all e [] all = tt
 absent_all e (x ∷ es) all =
-    let parts = both (is_others e.row.0 x) (list_all (is_others e.row.0) es) all in
+    let parts = and_parts (is_others e.row.0 x) (list_all (is_others e.row.0) es) all in
     let first = parts.0 in
     (other_row e x (λ same_row. clash x.row.0 e.row.0 same_row first), absent_all e es parts.1)
   where
@@ -216,7 +216,7 @@ row_with_other number other (Some vs) rows apart =
 pub row_applied : (c : Change) (cs : List Change) (rows : List Record) → list_all (λ (d : Change). is_before d c) cs ≡ true → row_at (rows_with_changes c.table cs rows) c.row.0 ≡ row_at rows c.row.0
 row_applied c [] rows all = refl
 row_applied c (d ∷ ds) rows all =
-    let parts = both (is_before d c) (list_all (λ (x : Change). is_before x c) ds) all in
+    let parts = and_parts (is_before d c) (list_all (λ (x : Change). is_before x c) ds) all in
     let first = parts.0 in
     elim (cases_Bool (d.table == c.table)) [
       | inl t ↦
@@ -237,8 +237,8 @@ rise_before (suc i) (c ∷ cs) d h rise =
   where
     first_before : (xs : List Change) (j : ℕ) → j < length xs → list_all (is_before c) xs ≡ true → is_before c (slice_index_or xs j d) ≡ true
     first_before [] j l all = absurd (omega arith)
-    first_before (x ∷ xs) zero l all = (both (is_before c x) (list_all (is_before c) xs) all).0
-    first_before (x ∷ xs) (suc j) l all = first_before xs j (omega arith) (both (is_before c x) (list_all (is_before c) xs) all).1
+    first_before (x ∷ xs) zero l all = (and_parts (is_before c x) (list_all (is_before c) xs) all).0
+    first_before (x ∷ xs) (suc j) l all = first_before xs j (omega arith) (and_parts (is_before c x) (list_all (is_before c) xs) all).1
 
 -- the row of a change is as it was before the changes in front of it
 pub row_before : (table : ℕ) (c : Change) (cs : List Change) (rows : List Record) → c.table ≡ table → list_all (λ (d : Change). is_before d c) cs ≡ true → row_at rows c.row.0 ≡ row_at (rows_with_changes table cs rows) c.row.0

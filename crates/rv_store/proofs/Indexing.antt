@@ -1,6 +1,6 @@
 -- What a change of a table's rows makes of the sorted entries of an index.
 use Rattle.std.proofs.Common.{◌≡◌, ℕ, ◌≤◌, List, [], ◌∷◌, ◌++◌, Bool, true, false, not, ◌&&◌, ◌||◌, ◌==◌, cond, refl, ap, sym, ◌∙◌, inl, inr, arith, subst, filter, map, nat_lt, Option, Some, None}
-use Rattle.std.proofs.lemmas.Bool.{cases_Bool}
+use Rattle.std.proofs.lemmas.Bool.{cases_Bool, and_parts}
 use Rattle.std.proofs.lemmas.Bool.Decides.{nat_tests}
 use Rattle.std.proofs.lemmas.List.{map-append}
 use Rattle.std.specs.List.{list_all}
@@ -8,12 +8,12 @@ use Rattle.rv_value.specs.declared.value.Value.{Value}
 use Rattle.rv_value.specs.declared.record.Record.{Record}
 use Rattle.rv_value.specs.declared.record.IndexEntry.{IndexEntry}
 use Rattle.rv_rows.specs.Rows as rows_by_number
-use Rattle.rv_rows.specs.Rows.{comes_below, with_values, with_record, without_row}
+use Rattle.rv_rows.specs.Rows.{comes_below, with_values, without_row}
 use Rattle.rv_reader.specs.Tables.{row_at}
 use Rattle.rv_reader.specs.Entries.{comes_before, Ascend, entry_of, sorted_in, sorted, entries_of}
 use Rattle.rv_node.specs.Trees.{differs}
 use Rattle.rv_store.specs.Indexing.{taken_out, put_in, entry_at, row_with}
-use Rattle.rv_reader.proofs.Filters.{both, filter_same, filter_none, rising_cut}
+use Rattle.rv_reader.proofs.Filters.{filter_same, filter_none, rising_cut}
 use Rattle.rv_reader.proofs.Orders.{one_way, through_below, itself}
 use Rattle.rv_reader.proofs.Sorting.{same, entries_ascend}
 
@@ -91,7 +91,7 @@ entries_with columns number vs rows ascend =
 behind_all : (e x : IndexEntry) (xs : List IndexEntry) → comes_before x e ≡ false → list_all (comes_before x) xs ≡ true → list_all (λ y. not (comes_before y e)) xs ≡ true
 behind_all e x [] f all = refl
 behind_all e x (y ∷ ys) f all =
-    let parts = both (comes_before x y) (list_all (comes_before x) ys) all in
+    let parts = and_parts (comes_before x y) (list_all (comes_before x) ys) all in
     let here : comes_before y e ≡ false = elim (cases_Bool (comes_before y e)) [
       | inl t ↦ (let no : comes_before x e ≡ true = through_below x y e (one_way x y parts.0) t in cc)
       | inr g ↦ g
@@ -101,7 +101,7 @@ behind_all e x (y ∷ ys) f all =
 first_in : (e : IndexEntry) (p : IndexEntry → Bool) (xs : List IndexEntry) → list_all (λ y. not (comes_before y e)) xs ≡ true → sorted_in e (filter p xs) ≡ e ∷ filter p xs
 first_in e p [] all = refl
 first_in e p (x ∷ xs) all =
-    let parts = both (not (comes_before x e)) (list_all (λ y. not (comes_before y e)) xs) all in
+    let parts = and_parts (not (comes_before x e)) (list_all (λ y. not (comes_before y e)) xs) all in
     let rest = first_in e p xs parts.1 in
     elim (p x) as (λ b. sorted_in e (cond b (x ∷ filter p xs) (filter p xs)) ≡ e ∷ cond b (x ∷ filter p xs) (filter p xs)) [
       | true ↦ rw (turned (comes_before x e) parts.0) refl
@@ -152,7 +152,7 @@ some_is r s e = cc
 above_others : (number : ℕ) (r : Record) (rows : List Record) → number ≤ r.row.0 → list_all (comes_below r) rows ≡ true → list_all (λ (x : Record). nat_lt number x.row.0) rows ≡ true
 above_others number r [] h all = refl
 above_others number r (s ∷ rows) h all =
-    let parts = both (comes_below r s) (list_all (comes_below r) rows) all in
+    let parts = and_parts (comes_below r s) (list_all (comes_below r) rows) all in
     let first = parts.0 in
     let here : nat_lt number s.row.0 ≡ true = grind (arith, nat_tests) in
     rw here (above_others number r rows h parts.1)
@@ -160,7 +160,7 @@ above_others number r (s ∷ rows) h all =
 none_above : (number : ℕ) (rows : List Record) → list_all (λ (x : Record). nat_lt number x.row.0) rows ≡ true → row_at rows number ≡ None
 none_above number [] all = refl
 none_above number (r ∷ rows) all =
-    let parts = both (nat_lt number r.row.0) (list_all (λ (x : Record). nat_lt number x.row.0) rows) all in
+    let parts = and_parts (nat_lt number r.row.0) (list_all (λ (x : Record). nat_lt number x.row.0) rows) all in
     let first = parts.0 in
     let other : r.row.0 == number ≡ false = grind (arith, nat_tests) in
     rw other (none_above number rows parts.1)
@@ -201,7 +201,7 @@ row_cut number old (r ∷ rows) ascend found = elim (cases_Bool (r.row.0 == numb
     all_pass : (p : Record → Bool) (xs : List Record) → list_all p xs ≡ true → filter p xs ≡ xs
     all_pass p [] all = refl
     all_pass p (x ∷ xs) all =
-        let parts = both (p x) (list_all p xs) all in
+        let parts = and_parts (p x) (list_all p xs) all in
         rw (parts.0) (ap (λ ys. x ∷ ys) (all_pass p xs parts.1))
 
 -- a row whose entry stays equal leaves the entries as they are
@@ -227,7 +227,7 @@ is_either number old e = is_others number e || not (is_apart old e)
 either_others : (columns : List ℕ) (number : ℕ) (old : IndexEntry) (rows : List Record) → list_all (λ (x : Record). nat_lt number x.row.0) rows ≡ true → list_all (is_either number old) (map (entry_of columns) rows) ≡ true
 either_others columns number old [] all = refl
 either_others columns number old (r ∷ rows) all =
-    let parts = both (nat_lt number r.row.0) (list_all (λ (x : Record). nat_lt number x.row.0) rows) all in
+    let parts = and_parts (nat_lt number r.row.0) (list_all (λ (x : Record). nat_lt number x.row.0) rows) all in
     let first = parts.0 in
     let other : r.row.0 == number ≡ false = grind (arith, nat_tests) in
     rw other (either_others columns number old rows parts.1)
@@ -247,7 +247,7 @@ either_all columns number old (r ∷ rows) ascend found = elim (cases_Bool (r.ro
 all_sorted_in : (p : IndexEntry → Bool) (e : IndexEntry) (xs : List IndexEntry) → p e ≡ true → list_all p xs ≡ true → list_all p (sorted_in e xs) ≡ true
 all_sorted_in p e [] h all = rw h refl
 all_sorted_in p e (x ∷ xs) h all =
-    let parts = both (p x) (list_all p xs) all in
+    let parts = and_parts (p x) (list_all p xs) all in
     elim (comes_before x e) as (λ b. list_all p (cond b (x ∷ sorted_in e xs) (e ∷ x ∷ xs)) ≡ true) [
       | true ↦ rw parts.0 (all_sorted_in p e xs h parts.1)
       | false ↦ rw (h, parts.0) parts.1
@@ -256,7 +256,7 @@ all_sorted_in p e (x ∷ xs) h all =
 pub all_sorted : (p : IndexEntry → Bool) (xs : List IndexEntry) → list_all p xs ≡ true → list_all p (sorted xs) ≡ true
 all_sorted p [] all = refl
 all_sorted p (x ∷ xs) all =
-    let parts = both (p x) (list_all p xs) all in
+    let parts = and_parts (p x) (list_all p xs) all in
     all_sorted_in p x (sorted xs) parts.0 (all_sorted p xs parts.1)
 
 either_way : (number : ℕ) (old e : IndexEntry) → old.row.0 ≡ number → is_either number old e ≡ true → is_others number e ≡ is_apart old e

@@ -1,6 +1,6 @@
 -- Lists of indexes through a commit, and a new index.
 use Rattle.std.proofs.Common.{◌≡◌, ℕ, ◌+◌, ◌<◌, ◌≤◌, List, [], ◌∷◌, ◌++◌, Bool, true, not, ◌==◌, refl, ap, sym, ◌∙◌, inl, inr, arith, subst, length, zero, suc, take, drop, map, append_assoc, append-nil, length-set}
-use Rattle.std.proofs.lemmas.Bool.{cases_eq, cases_lt}
+use Rattle.std.proofs.lemmas.Bool.{cases_eq, cases_lt, and_parts}
 use Rattle.std.proofs.lemmas.Bool.Decides.{nat_tests}
 use Rattle.std.proofs.lemmas.List.{drop_more, get_or_past}
 use Rattle.std.specs.List.{list_all, slice_index_or, slice_set}
@@ -11,7 +11,6 @@ use Rattle.rv_rows.specs.Rows.{comes_below, Ascend}
 use Rattle.rv_reader.specs.Entries as rows_entries
 use Rattle.rv_reader.specs.Entries.{comes_before, entry_of, sorted, sorted_in}
 use Rattle.rv_reader.specs.Storing.{AreKeys}
-use Rattle.rv_reader.proofs.Filters.{both}
 use Rattle.rv_reader.proofs.Sorting.{entries_keys}
 use Rattle.rv_versions.specs.Chains.{AllChainsBelow}
 use Rattle.rv_versions.proofs.Values.{put_each, chains_more}
@@ -117,8 +116,8 @@ others_front columns (x ∷ front) r back ascend =
     rw here (others_front columns front r back ascend.1)
   where
     in_all : (xs : List Record) → list_all (comes_below x) (xs ++ r ∷ back) ≡ true → comes_below x r ≡ true
-    in_all [] all = (both (comes_below x r) (list_all (comes_below x) back) all).0
-    in_all (y ∷ xs) all = in_all xs (both (comes_below x y) (list_all (comes_below x) (xs ++ r ∷ back)) all).1
+    in_all [] all = (and_parts (comes_below x r) (list_all (comes_below x) back) all).0
+    in_all (y ∷ xs) all = in_all xs (and_parts (comes_below x y) (list_all (comes_below x) (xs ++ r ∷ back)) all).1
 
 pub absent_pushed : (columns : List ℕ) (snap : ℕ) (front : List Record) (r : Record) (back : List Record) (nodes : Nodes) → Ascend (front ++ r ∷ back) → IsIndexed columns front snap nodes → Absent comes_before (entry_of columns r) (entries_of nodes snap)
 absent_pushed columns snap front r back nodes ascend indexed =
@@ -129,7 +128,7 @@ absent_pushed columns snap front r back nodes ascend indexed =
 list_all_front : (p : Record → Bool) (xs ys : List Record) → list_all p (xs ++ ys) ≡ true → list_all p xs ≡ true
 list_all_front p [] ys all = refl
 list_all_front p (x ∷ xs) ys all =
-    let parts = both (p x) (list_all p (xs ++ ys)) all in
+    let parts = and_parts (p x) (list_all p (xs ++ ys)) all in
     rw (parts.0) (list_all_front p xs ys parts.1)
 
 ascend_front : (xs ys : List Record) → Ascend (xs ++ ys) → Ascend xs

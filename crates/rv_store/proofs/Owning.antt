@@ -1,6 +1,6 @@
 -- The changes of a table among those of a commit.
 use Rattle.std.proofs.Common.{◌≡◌, ℕ, zero, suc, ◌<◌, List, [], ◌∷◌, Bool, true, false, not, ◌&&◌, ◌==◌, length, refl, ap, sym, ◌∙◌, inl, inr, subst, arith, filter, take, drop, nat_le, nat_lt}
-use Rattle.std.proofs.lemmas.Bool.{cases_Bool}
+use Rattle.std.proofs.lemmas.Bool.{cases_Bool, and_parts}
 use Rattle.std.proofs.lemmas.Bool.Decides.{nat_tests}
 use Rattle.std.specs.List.{list_all, slice_index_or}
 use Rattle.std.specs.List.Sorted.{IsPartitionedBy}
@@ -8,7 +8,7 @@ use Rattle.rv_value.specs.declared.record.Record.{Record}
 use Rattle.rv_rows.specs.declared.changes.Change.{Change}
 use Rattle.rv_rows.specs.Changes.{Rise, is_before, rows_with_changes}
 use Rattle.rv_rows.proofs.Cuts.{partitioned}
-use Rattle.rv_rows.proofs.Filters.{both, filter_none, filter_same, filter_twice}
+use Rattle.rv_rows.proofs.Filters.{filter_none, filter_same, filter_twice}
 use Rattle.rv_rows.proofs.Puts.{rising_filter}
 use Rattle.rv_node.specs.Trees.{Whole}
 use Rattle.rv_value.specs.declared.record.IndexEntry.{IndexEntry}
@@ -68,8 +68,8 @@ all_up table zero (c ∷ d ∷ ds) l rise e is = absurd (omega (arith, e))
 all_up table (suc n) (c ∷ []) l rise e is = absurd (omega (arith, e))
 all_up table (suc n) (c ∷ d ∷ ds) l rise e is =
     let rest = all_up table n (d ∷ ds) l rise.1 (omega (arith, e)) is in
-    let first = (both (is_before c d) (list_all (is_before c) ds) rise.0).0 in
-    let next = (both (nat_le d.table table) (list_all (λ (x : Change). nat_le x.table table) ds) rest).0 in
+    let first = (and_parts (is_before c d) (list_all (is_before c) ds) rise.0).0 in
+    let next = (and_parts (nat_le d.table table) (list_all (λ (x : Change). nat_le x.table table) ds) rest).0 in
     let here : nat_le c.table table ≡ true = grind (arith, nat_tests) in
     rw here rest
 

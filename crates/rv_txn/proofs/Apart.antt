@@ -2,13 +2,12 @@
 use Rattle.std.proofs.Common.{◌≡◌, ℕ, zero, suc, ◌<◌, ◌≤◌, List, [], ◌∷◌, ◌++◌, Bool, true, false, not, ◌||◌, ◌==◌, Some, None, is_some, inl, inr, refl, ap, sym, ◌∙◌, arith, length, find, nat_lt, remove}
 use Rattle.std.specs.Prelude.{position, slice_get, slice_set}
 use Rattle.std.specs.List.{list_any, position_or_len}
-use Rattle.std.proofs.lemmas.Bool.{cases_Bool}
+use Rattle.std.proofs.lemmas.Bool.{cases_Bool, and_parts}
 use Rattle.std.proofs.lemmas.Bool.Decides.{nat_tests}
 use Rattle.std.proofs.lemmas.Grind.{common_steps}
 use Rattle.std.proofs.lemmas.List.Folds.{find_at}
 use Rattle.std.proofs.lemmas.List.Sums.{position_or_len_is}
 use Rattle.rv_rows.specs.declared.changes.Change.{Change}
-use Rattle.rv_rows.proofs.Filters.{both}
 use Rattle.rv_value.proofs.Places.{read_as}
 use Rattle.rv_model.specs.declared.transactions.Transaction.{Transaction}
 use Rattle.rv_model.specs.Transactions.{no_transaction, transaction_at, transaction_of, with_own}
@@ -29,7 +28,7 @@ pub apart_with : (active : List Transaction) (own : ℕ) (changes : List Change)
 apart_with [] own changes apart = refl
 apart_with (t ∷ ts) zero changes apart = apart
 apart_with (t ∷ ts) (suc own) changes apart =
-    let parts = both (not (list_any (λ (u : Transaction). u.session == t.session) ts)) (are_apart ts) apart in
+    let parts = and_parts (not (list_any (λ (u : Transaction). u.session == t.session) ts)) (are_apart ts) apart in
     rw (any_set (λ (u : Transaction). u.session == t.session) ts own changes (λ u. refl), parts.0) (apart_with ts own changes parts.1)
 
 -- the same of the transaction that was read in its place
@@ -69,7 +68,7 @@ any_last p (x ∷ xs) t = ap (λ b. p x || b) (any_last p xs t) ∙ or_joined (p
 apart_last : (active : List Transaction) (t : Transaction) → are_apart active ≡ true → list_any (λ (u : Transaction). u.session == t.session) active ≡ false → are_apart (active ++ t ∷ []) ≡ true
 apart_last [] t apart none = refl
 apart_last (x ∷ xs) t apart none =
-    let parts = both (not (list_any (λ (u : Transaction). u.session == x.session) xs)) (are_apart xs) apart in
+    let parts = and_parts (not (list_any (λ (u : Transaction). u.session == x.session) xs)) (are_apart xs) apart in
     elim (cases_Bool (x.session == t.session)) [
       | inl here ↦ (let no = rw here at none in cc)
       | inr other ↦
@@ -94,9 +93,9 @@ any_less p (x ∷ xs) (suc i) none = elim (cases_Bool (p x)) [ inl t ↦ (let no
 pub apart_less : (active : List Transaction) (own : ℕ) → are_apart active ≡ true → are_apart (remove active own) ≡ true
 apart_less [] zero apart = refl
 apart_less [] (suc own) apart = refl
-apart_less (t ∷ ts) zero apart = (both (not (list_any (λ (u : Transaction). u.session == t.session) ts)) (are_apart ts) apart).1
+apart_less (t ∷ ts) zero apart = (and_parts (not (list_any (λ (u : Transaction). u.session == t.session) ts)) (are_apart ts) apart).1
 apart_less (t ∷ ts) (suc own) apart =
-    let parts = both (not (list_any (λ (u : Transaction). u.session == t.session) ts)) (are_apart ts) apart in
+    let parts = and_parts (not (list_any (λ (u : Transaction). u.session == t.session) ts)) (are_apart ts) apart in
     rw (any_less (λ (u : Transaction). u.session == t.session) ts own (not_true (list_any (λ (u : Transaction). u.session == t.session) ts) parts.0)) (apart_less ts own parts.1)
 
 -- EACH STANDS IN THE PLACE OF ITS SESSION.
@@ -110,11 +109,11 @@ two_apart : (active : List Transaction) (k i : ℕ) → are_apart active ≡ tru
 two_apart [] k i apart before low = absurd (omega (arith, low))
 two_apart (t ∷ ts) k zero apart before low = absurd (omega (arith, before))
 two_apart (t ∷ ts) zero (suc i) apart before low =
-    let parts = both (not (list_any (λ (u : Transaction). u.session == t.session) ts)) (are_apart ts) apart in
+    let parts = and_parts (not (list_any (λ (u : Transaction). u.session == t.session) ts)) (are_apart ts) apart in
     let other = any_at (λ (u : Transaction). u.session == t.session) ts i (omega (arith, low)) (not_true (list_any (λ (u : Transaction). u.session == t.session) ts) parts.0) in
     grind (arith, nat_tests)
 two_apart (t ∷ ts) (suc k) (suc i) apart before low =
-    two_apart ts k i (both (not (list_any (λ (u : Transaction). u.session == t.session) ts)) (are_apart ts) apart).1 (omega (arith, before)) (omega (arith, low))
+    two_apart ts k i (and_parts (not (list_any (λ (u : Transaction). u.session == t.session) ts)) (are_apart ts) apart).1 (omega (arith, before)) (omega (arith, low))
 
 pub apart_place : (active : List Transaction) (place : ℕ) → are_apart active ≡ true → place < length active → transaction_of active (transaction_at active place).session ≡ Some place
 apart_place active place apart low =

@@ -1,12 +1,11 @@
 -- The changes of a table stand together, from its first one on.
 use Rattle.std.proofs.Common.{◌≡◌, ℕ, List, [], ◌∷◌, ◌++◌, true, false, ◌==◌, nat_lt, refl, ap, sym, ◌∙◌, inl, inr, filter, map, cond, arith}
 use Rattle.std.specs.List.{AllByRecursion, list_all}
-use Rattle.std.proofs.lemmas.Bool.{cases_Bool}
+use Rattle.std.proofs.lemmas.Bool.{cases_Bool, and_parts}
 use Rattle.std.proofs.lemmas.Bool.Decides.{nat_tests}
 use Rattle.rv_value.specs.declared.record.Record.{Record}
 use Rattle.rv_rows.specs.declared.changes.Change.{Change}
 use Rattle.rv_rows.specs.Changes.{Rise, is_before, is_from, rows_with_changes}
-use Rattle.rv_rows.proofs.Filters.{both}
 use Rattle.rv_rows.proofs.Puts.{rising_filter}
 use Rattle.rv_restrict.specs.declared.atom.Atom.{Atom}
 use Rattle.rv_txn.specs.Changing.{LeavesColumns, kept_change}
@@ -46,7 +45,7 @@ from_leave only table (c ∷ cs) leave =
 above_lay_nothing : (only : List (List Atom)) (table : ℕ) (c : Change) (cs : List Change) (rows : List Record) → nat_lt table c.table ≡ true → list_all (is_before c) cs ≡ true → laid only table cs rows ≡ rows
 above_lay_nothing only table c [] rows above all = refl
 above_lay_nothing only table c (d ∷ ds) rows above all =
-    let parts = both (is_before c d) (list_all (is_before c) ds) all in
+    let parts = and_parts (is_before c d) (list_all (is_before c) ds) all in
     let first = parts.0 in
     let other : d.table == table ≡ false = grind (arith, nat_tests) in
     rw (rows_with_changes, other) (above_lay_nothing only table c ds rows above parts.1)
@@ -60,6 +59,6 @@ others_lay_nothing only table c cs rows rise from other =
 pub laid_at_last : (only : List (List Atom)) (table : ℕ) (c : Change) (cs : List Change) (left rest all rows : List Record) (changes : List Change) → changes ≡ c ∷ cs → Rise changes → list_all (is_from table) changes ≡ true → c.table == table ≡ false → all ≡ left ++ rest → left ++ laid only table changes rest ≡ rows → all ≡ rows
 laid_at_last only table c cs left rest all rows changes is rise from other put same =
     let rises : Rise (c ∷ cs) = rw is at rise in
-    let begins = both (is_from table c) (list_all (is_from table) cs) (rw is at from) in
+    let begins = and_parts (is_from table c) (list_all (is_from table) cs) (rw is at from) in
     let nothing : laid only table changes rest ≡ rest = rw is (others_lay_nothing only table c cs rest rises begins.0 other) in
     put ∙ ap (λ (rs : List Record). left ++ rs) (sym nothing) ∙ same

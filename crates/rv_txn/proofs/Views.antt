@@ -1,7 +1,7 @@
 -- The rows of a view that a restriction keeps.
 use Rattle.std.proofs.Common.{◌≡◌, ◌≤◌, arith, ℕ, List, [], ◌∷◌, ◌++◌, Bool, true, false, not, ◌==◌, refl, ap, sym, ◌∙◌, inl, inr, subst, filter, map, Option, Some, None, length, IfSome, cond}
 use Rattle.std.specs.List.{AllByRecursion, list_all}
-use Rattle.std.proofs.lemmas.Bool.{cases_Bool}
+use Rattle.std.proofs.lemmas.Bool.{cases_Bool, and_parts}
 use Rattle.std.proofs.lemmas.List.Elements.{filter-append}
 use Rattle.rv_value.specs.declared.value.Value.{Value}
 use Rattle.rv_value.specs.declared.record.Record.{Record}
@@ -11,7 +11,6 @@ use Rattle.rv_rows.specs.Changes.{Rise, change_at, is_before, rows_with_changes}
 use Rattle.rv_rows.specs.Merging.{Passes}
 use Rattle.rv_rows.specs.Rows.{Ascend, comes_below, with_values}
 use Rattle.rv_rows.proofs.Chains.{ascends_without, record_ascends}
-use Rattle.rv_rows.proofs.Filters.{both}
 use Rattle.rv_rows.proofs.Merges.{without_cut}
 use Rattle.rv_rows.proofs.Puts.{rising_filter}
 use Rattle.rv_restrict.specs.declared.atom.Atom.{Atom}
@@ -107,7 +106,7 @@ kept_applied only table (c ∷ cs) rows ascend = elim (cases_Bool (c.table == ta
 kept_behind : (only : List (List Atom)) (c : Change) (cs : List Change) → list_all (is_before c) cs ≡ true → list_all (is_before (kept_change only c)) (map (kept_change only) cs) ≡ true
 kept_behind only c [] all = refl
 kept_behind only c (d ∷ ds) all =
-    let parts = both (is_before c d) (list_all (is_before c) ds) all in
+    let parts = and_parts (is_before c d) (list_all (is_before c) ds) all in
     rw (parts.0) (kept_behind only c ds parts.1)
 
 pub kept_rise : (only : List (List Atom)) (changes : List Change) → Rise changes → Rise (map (kept_change only) changes)

@@ -1,7 +1,7 @@
 -- What is kept beside changes, from none on, is kept up with each further one.
-use Rattle.std.proofs.Common.{◌≡◌, ℕ, zero, suc, ◌+◌, ◌-◌, ◌<◌, List, [], ◌∷◌, ◌++◌, Bool, true, false, not, ◌==◌, cond, Option, Some, None, IfSome, inl, inr, refl, ap, sym, subst, ◌∙◌, filter, find, length, nat_lt, arith}
+use Rattle.std.proofs.Common.{◌≡◌, ℕ, zero, suc, ◌+◌, ◌-◌, ◌<◌, List, [], ◌∷◌, ◌++◌, Bool, true, false, ◌==◌, cond, Option, Some, None, IfSome, inl, inr, refl, ap, sym, subst, ◌∙◌, filter, find, length, nat_lt, arith}
 use Rattle.std.specs.Prelude.{slice_get}
-use Rattle.std.proofs.lemmas.Bool.{cases_Bool}
+use Rattle.std.proofs.lemmas.Bool.{cases_Bool, and_parts}
 use Rattle.std.proofs.lemmas.Bool.Decides.{nat_tests}
 use Rattle.std.proofs.lemmas.List.Folds.{list_all-append}
 use Rattle.std.specs.List.{AllByRecursion, list_all}
@@ -12,7 +12,6 @@ use Rattle.rv_rows.specs.Changes.{Rise, is_before, rows_with_changes, touches, w
 use Rattle.rv_rows.specs.Rising.{put_in}
 use Rattle.rv_rows.specs.Rows as rows_by_number
 use Rattle.rv_rows.proofs.Chains.{change_rises}
-use Rattle.rv_rows.proofs.Filters.{both}
 use Rattle.rv_rows.proofs.Puts.{rising_put}
 use Rattle.rv_catalog.specs.declared.def.IndexDef.{IndexDef}
 use Rattle.rv_reader.specs.Entries.{Ascend, comes_before}
@@ -38,8 +37,8 @@ use Rattle.rv_view.proofs.Written.{pages_written, written_with}
 drop_middle : (xs : List IndexEntry) (e : IndexEntry) (ys : List IndexEntry) → Ascend (xs ++ e ∷ ys) → Ascend (xs ++ ys)
 drop_middle [] e ys ascend = ascend.1
 drop_middle (x ∷ xs) e ys ascend =
-    let parts = both (list_all (comes_before x) xs) (list_all (comes_before x) (e ∷ ys)) (sym (list_all-append (comes_before x) xs (e ∷ ys)) ∙ ascend.0) in
-    let rest = both (comes_before x e) (list_all (comes_before x) ys) parts.1 in
+    let parts = and_parts (list_all (comes_before x) xs) (list_all (comes_before x) (e ∷ ys)) (sym (list_all-append (comes_before x) xs (e ∷ ys)) ∙ ascend.0) in
+    let rest = and_parts (comes_before x e) (list_all (comes_before x) ys) parts.1 in
     let all : list_all (comes_before x) (xs ++ ys) ≡ true = rw (list_all-append (comes_before x) xs ys, parts.0) rest.1 in
     (all, drop_middle xs e ys ascend.1)
 

@@ -1,7 +1,7 @@
 -- The last written row of a table, found by the number of changes up to it.
-use Rattle.std.proofs.Common.{◌≡◌, ℕ, zero, suc, ◌-◌, ◌<◌, ◌≤◌, List, [], ◌∷◌, Bool, true, false, ◌&&◌, ◌==◌, cond, Option, Some, None, inl, inr, refl, ap, sym, subst, ◌∙◌, filter, take, length, nat_le, arith}
+use Rattle.std.proofs.Common.{◌≡◌, ℕ, zero, suc, ◌-◌, ◌<◌, ◌≤◌, List, [], ◌∷◌, true, false, ◌&&◌, ◌==◌, cond, Option, Some, None, inl, inr, refl, ap, sym, subst, ◌∙◌, filter, take, length, nat_le, arith}
 use Rattle.std.specs.Prelude.{slice_get}
-use Rattle.std.proofs.lemmas.Bool.{cases_Bool}
+use Rattle.std.proofs.lemmas.Bool.{cases_Bool, and_parts}
 use Rattle.std.proofs.lemmas.Bool.Decides.{nat_tests}
 use Rattle.std.proofs.lemmas.List.{length-take-le}
 use Rattle.std.specs.List.{list_all}
@@ -9,7 +9,7 @@ use Rattle.std.specs.List.Sorted.{IsPartitionedBy}
 use Rattle.rv_rows.specs.declared.changes.Change.{Change}
 use Rattle.rv_rows.specs.Changes.{Rise, is_before}
 use Rattle.rv_rows.proofs.Cuts.{partitioned}
-use Rattle.rv_rows.proofs.Filters.{both, filter_same, filter_twice}
+use Rattle.rv_rows.proofs.Filters.{filter_same, filter_twice}
 use Rattle.rv_rows.proofs.Puts.{rising_filter}
 use Rattle.rv_view.specs.Making.{last_of, of_table}
 use Rattle.rv_view.proofs.Rows.{some_is}
@@ -39,7 +39,7 @@ last_more c (d ∷ ds) l is =
 last_own : (table : ℕ) (c : Change) (cs : List Change) → Rise (c ∷ cs) → list_all (λ (d : Change). nat_le d.table table) (c ∷ cs) ≡ true → last_of table (c ∷ cs) ≡ cond ((last_or c cs).table == table) (Some (last_or c cs)) None
 last_own table c [] rise up = elim (c.table == table) as (λ b. last_in (cond b (c ∷ []) []) ≡ cond b (Some c) None) [ true ↦ refl | false ↦ refl ]
 last_own table c (d ∷ ds) rise up =
-    let parts = both (nat_le c.table table) (list_all (λ (e : Change). nat_le e.table table) (d ∷ ds)) up in
+    let parts = and_parts (nat_le c.table table) (list_all (λ (e : Change). nat_le e.table table) (d ∷ ds)) up in
     let l = last_or d ds in
     let rest = last_own table d ds rise.1 parts.1 in
     let behind : is_before c l ≡ true = all_last (is_before c) d ds rise.0 in

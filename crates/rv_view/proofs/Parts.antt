@@ -1,13 +1,14 @@
 -- The parts of a view, and a list of changes, one more at a time.
-use Rattle.std.proofs.Common.{◌≡◌, ℕ, zero, suc, ◌+◌, ◌<◌, arith, List, [], ◌∷◌, ◌++◌, true, Option, Some, refl, ap, sym, subst, ◌∙◌, filter, take, drop, length}
+use Rattle.std.proofs.Common.{◌≡◌, ℕ, zero, suc, ◌+◌, ◌<◌, arith, List, [], ◌∷◌, ◌++◌, true, Option, Some, refl, ap, sym, subst, ◌∙◌, take, drop, length}
 use Rattle.std.specs.Prelude.{slice_get, slice_set}
 use Rattle.std.proofs.lemmas.List.Folds.{list_all-append}
 use Rattle.std.specs.List.{AllByRecursion, list_all}
+use Rattle.std.proofs.lemmas.Bool.{and_parts}
 use Rattle.rv_value.specs.declared.record.Record.{Record}
 use Rattle.rv_rows.specs.declared.changes.Change.{Change}
 use Rattle.rv_rows.specs.Changes.{Rise, is_before, with_change}
 use Rattle.rv_rows.proofs.Chains.{by_row}
-use Rattle.rv_rows.proofs.Filters.{both, filter_none}
+use Rattle.rv_rows.proofs.Filters.{filter_none}
 use Rattle.rv_rows.proofs.Puts.{filter_all}
 use Rattle.rv_catalog.specs.declared.def.IndexDef.{IndexDef}
 use Rattle.rv_overlay.specs.declared.frozen.Part.{Part}
@@ -60,8 +61,8 @@ parts_step (e ∷ ds) (suc k) d table base old new (q ∷ ps) p is got = ap (λ 
 all_front : (xs : List Change) (c : Change) (ys : List Change) → Rise (xs ++ c ∷ ys) → list_all (λ d. is_before d c) xs ≡ true
 all_front [] c ys rise = refl
 all_front (x ∷ xs) c ys rise =
-    let parts = both (list_all (is_before x) xs) (list_all (is_before x) (c ∷ ys)) (sym (list_all-append (is_before x) xs (c ∷ ys)) ∙ rise.0) in
-    let here = both (is_before x c) (list_all (is_before x) ys) parts.1 in
+    let parts = and_parts (list_all (is_before x) xs) (list_all (is_before x) (c ∷ ys)) (sym (list_all-append (is_before x) xs (c ∷ ys)) ∙ rise.0) in
+    let here = and_parts (is_before x c) (list_all (is_before x) ys) parts.1 in
     rw here.0 (all_front xs c ys rise.1)
 
 pub change_next : (xs : List Change) (c : Change) (ys : List Change) → Rise (xs ++ c ∷ ys) → with_change c xs ≡ xs ++ c ∷ []

@@ -1,7 +1,7 @@
 -- Rows under one change more.
-use Rattle.std.proofs.Common.{◌≡◌, ℕ, suc, ◌+◌, ◌-◌, ◌*◌, ◌/◌, ◌<◌, ◌≤◌, List, [], ◌∷◌, ◌++◌, Bool, true, false, not, ◌&&◌, ◌||◌, ◌==◌, cond, Option, Some, None, is_some, inl, inr, refl, ap, sym, ◌∙◌, filter, length, nat_lt, nat_le, arith, length-append}
+use Rattle.std.proofs.Common.{◌≡◌, ℕ, suc, ◌+◌, ◌-◌, ◌*◌, ◌/◌, ◌<◌, ◌≤◌, List, [], ◌∷◌, ◌++◌, Bool, true, false, ◌&&◌, ◌||◌, ◌==◌, cond, Option, Some, None, is_some, inl, inr, refl, ap, sym, ◌∙◌, filter, length, nat_lt, nat_le, arith, length-append}
 use Rattle.std.specs.Prelude.{max}
-use Rattle.std.proofs.lemmas.Bool.{cases_Bool, cases_lt}
+use Rattle.std.proofs.lemmas.Bool.{cases_Bool, cases_lt, and_parts}
 use Rattle.std.proofs.lemmas.Bool.Decides.{nat_tests}
 use Rattle.std.specs.List.{AllByRecursion, list_all, list_any}
 use Rattle.rv_value.specs.declared.value.Value.{Value}
@@ -11,7 +11,6 @@ use Rattle.rv_rows.specs.Changes.{Rise, is_before, is_of, rows_with_changes, tou
 use Rattle.rv_rows.specs.Rows.{Ascend, comes_below, with_values}
 use Rattle.rv_rows.specs.Merging.{above, below}
 use Rattle.rv_rows.proofs.Chains.{by_row, change_rises}
-use Rattle.rv_rows.proofs.Filters.{both}
 use Rattle.rv_rows.proofs.Merges.{without_cut}
 use Rattle.rv_rows.proofs.Puts.{put_first, put_more, put_same}
 use Rattle.rv_reader.specs.Storing.{pages_after}
@@ -26,7 +25,7 @@ use Rattle.rv_view.specs.Making.{one_if}
 none_at : (r : Record) (rows : List Record) (n : ℕ) → list_all (comes_below r) rows ≡ true → n ≤ r.row.0 → row_at rows n ≡ None
 none_at r [] n all low = refl
 none_at r (s ∷ rows) n all low =
-    let parts = both (comes_below r s) (list_all (comes_below r) rows) all in
+    let parts = and_parts (comes_below r s) (list_all (comes_below r) rows) all in
     let apart : s.row.0 == n ≡ false = (let first = parts.0 in grind (arith, nat_tests)) in
     rw apart (none_at r rows n parts.1 low)
 
@@ -195,14 +194,14 @@ length_with c rows ascend = by c.values
 above_low : (r : Record) (rows : List Record) → list_all (comes_below r) rows ≡ true → list_all (λ (s : Record). nat_le (suc r.row.0) s.row.0) rows ≡ true
 above_low r [] all = refl
 above_low r (s ∷ rows) all =
-    let parts = both (comes_below r s) (list_all (comes_below r) rows) all in
+    let parts = and_parts (comes_below r s) (list_all (comes_below r) rows) all in
     let here : nat_le (suc r.row.0) s.row.0 ≡ true = (let first = parts.0 in grind (arith, nat_tests)) in
     rw here (above_low r rows parts.1)
 
 count_from : (low n : ℕ) (rows : List Record) → low ≤ n → Ascend rows → list_all (λ (s : Record). nat_le low s.row.0) rows ≡ true → AllByRecursion (λ (r : Record). r.row.0 < n) rows → length rows + low ≤ n
 count_from low n [] le ascend above all = omega (arith, le)
 count_from low n (r ∷ rows) le ascend above all =
-    let parts = both (nat_le low r.row.0) (list_all (λ (s : Record). nat_le low s.row.0) rows) above in
+    let parts = and_parts (nat_le low r.row.0) (list_all (λ (s : Record). nat_le low s.row.0) rows) above in
     let first : low ≤ r.row.0 = (let here = parts.0 in grind (arith, nat_tests)) in
     let last : r.row.0 < n = all.0 in
     let rest = count_from (suc r.row.0) n rows (omega (arith, last)) ascend.1 (above_low r rows ascend.0) all.1 in

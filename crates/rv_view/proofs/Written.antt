@@ -1,14 +1,13 @@
 -- Which rows are written, and how far the pages of a table reach.
 use Rattle.std.proofs.Common.{◌≡◌, ℕ, suc, ◌+◌, ◌-◌, ◌/◌, ◌<◌, ◌≤◌, zero, List, [], ◌∷◌, ◌++◌, Bool, true, false, ◌==◌, cond, Some, IfSome, is_some, inl, inr, refl, ap, sym, ◌∙◌, map, filter, length, arith}
 use Rattle.std.specs.Prelude.{max, slice_get}
-use Rattle.std.proofs.lemmas.Bool.{cases_Bool}
+use Rattle.std.proofs.lemmas.Bool.{cases_Bool, and_parts}
 use Rattle.std.proofs.lemmas.Bool.Decides.{nat_tests}
 use Rattle.std.specs.List.{AllByRecursion, list_all}
 use Rattle.rv_rows.specs.declared.changes.Change.{Change}
 use Rattle.rv_rows.specs.Changes.{Rise, is_before, with_change}
 use Rattle.rv_rows.specs.Rising.{put_in}
 use Rattle.rv_rows.proofs.Chains.{by_row}
-use Rattle.rv_rows.proofs.Filters.{both}
 use Rattle.rv_rows.proofs.Puts.{rising_filter}
 use Rattle.rv_blocks.specs.Taking.{take_from}
 use Rattle.rv_reader.specs.Storing.{pages_after}
@@ -64,7 +63,7 @@ written_with c cs =
 all_bare : (c : Change) (cs : List Change) → list_all (is_before c) cs ≡ true → list_all (is_before (bare c)) (map bare cs) ≡ true
 all_bare c [] h = refl
 all_bare c (d ∷ cs) h =
-    let parts = both (is_before c d) (list_all (is_before c) cs) h in
+    let parts = and_parts (is_before c d) (list_all (is_before c) cs) h in
     let here : is_before (bare c) (bare d) ≡ true = parts.0 in
     rw here (all_bare c cs parts.1)
 
@@ -131,8 +130,8 @@ last_or c [] = c
 last_or c (d ∷ ds) = last_or d ds
 
 pub all_last : (q : Change → Bool) (c : Change) (cs : List Change) → list_all q (c ∷ cs) ≡ true → q (last_or c cs) ≡ true
-all_last q c [] h = (both (q c) true h).0
-all_last q c (d ∷ ds) h = all_last q d ds (both (q c) (list_all q (d ∷ ds)) h).1
+all_last q c [] h = (and_parts (q c) true h).0
+all_last q c (d ∷ ds) h = all_last q d ds (and_parts (q c) (list_all q (d ∷ ds)) h).1
 
 pub last_is : (c : Change) (cs : List Change) → slice_get (c ∷ cs) (length cs) ≡ Some (last_or c cs)
 last_is c [] = refl
@@ -141,7 +140,7 @@ last_is c (d ∷ ds) = last_is d ds
 over_last : (table : ℕ) (c : Change) (cs : List Change) (pages : ℕ) → Rise (c ∷ cs) → list_all (λ (d : Change). d.table == table) (c ∷ cs) ≡ true → pages_over (c ∷ cs) pages ≡ max pages ((last_or c cs).row.0 / 32 + 1)
 over_last table c [] pages rise own = refl
 over_last table c (d ∷ ds) pages rise own =
-    let parts = both (c.table == table) (list_all (λ (e : Change). e.table == table) (d ∷ ds)) own in
+    let parts = and_parts (c.table == table) (list_all (λ (e : Change). e.table == table) (d ∷ ds)) own in
     let first = parts.0 in
     let mine : (last_or d ds).table == table ≡ true = all_last (λ (e : Change). e.table == table) d ds parts.1 in
     let behind : is_before c (last_or d ds) ≡ true = all_last (is_before c) d ds rise.0 in

@@ -16,8 +16,8 @@ use Rattle.rv_restrict.specs.Ranges.{AreShort, IsShort}
 use Rattle.rv_reader.proofs.Suiting.{suits_store}
 use Rattle.rv_reader.specs.Shown.{Shown, CanRead, CanScan, Suits}
 use Rattle.rv_reader.specs.Storing.{AreWide, IsStored, IsSame, AreColumns, IsChange, Created, Indexed, Committed, CanCommit}
-use Rattle.rv_reader.proofs.Filters.{both}
 use Rattle.std.proofs.lemmas.List.Folds.{list_all-append}
+use Rattle.std.proofs.lemmas.Bool.{and_parts}
 use Rattle.rv_scan.specs.Due.{HaveColumns}
 use Rattle.scan_table.specs.Laying.{Empty, IsBatch, IsNew, IsOver, Laid, Stands, Tabled, is_column}
 
@@ -104,7 +104,7 @@ before_last below x c new last low high =
 rise_push : (below : ℕ) (c : Change) (changes : List Change) → IsNew c → below ≤ c.row.0 → Rise changes → AllByRecursion IsNew changes → list_all (λ (x : Change). nat_lt x.row.0 below) changes ≡ true → Rise (changes ++ c ∷ [])
 rise_push below c [] last high rise new low = (refl, tt)
 rise_push below c (x ∷ changes) last high rise new low =
-    let parts = both (nat_lt x.row.0 below) (list_all (λ (y : Change). nat_lt y.row.0 below) changes) low in
+    let parts = and_parts (nat_lt x.row.0 below) (list_all (λ (y : Change). nat_lt y.row.0 below) changes) low in
     let here : list_all (is_before x) (changes ++ c ∷ []) ≡ true = list_all-append (is_before x) changes (c ∷ []) ∙ rw (rise.0, before_last below x c new.0 last parts.0 high) refl in
     (here, rise_push below c changes last high rise.1 new.1 parts.1)
 
@@ -115,7 +115,7 @@ all_push (x ∷ changes) c new last = (new.0, all_push changes c new.1 last)
 low_push : (below next : ℕ) (changes : List Change) (c : Change) → below ≤ next → c.row.0 < next → list_all (λ (x : Change). nat_lt x.row.0 below) changes ≡ true → list_all (λ (x : Change). nat_lt x.row.0 next) (changes ++ c ∷ []) ≡ true
 low_push below next [] c above last low = let here : nat_lt c.row.0 next ≡ true = grind (arith, nat_tests) in rw here refl
 low_push below next (x ∷ changes) c above last low =
-    let parts = both (nat_lt x.row.0 below) (list_all (λ (y : Change). nat_lt y.row.0 below) changes) low in
+    let parts = and_parts (nat_lt x.row.0 below) (list_all (λ (y : Change). nat_lt y.row.0 below) changes) low in
     let first = parts.0 in
     let here : nat_lt x.row.0 next ≡ true = grind (arith, nat_tests) in
     rw here (low_push below next changes c above last parts.1)

@@ -2,8 +2,8 @@ use Rattle.std.proofs.Common.{◌≡◌, ◌∙◌, ◌==◌, ap, arith, false, 
 use Rattle.std.specs.Map.Iter.{deref_pair}
 use Rattle.std.proofs.lemmas.Bool.Decides.{nat_tests}
 use Rattle.std.proofs.lemmas.Map.Iter.{rest_more}
+use Rattle.std.proofs.lemmas.Bool.{and_parts}
 use Rattle.rv_rows.specs.Changes.{change_at, rows_with_changes}
-use Rattle.rv_rows.proofs.Filters.{both}
 use Rattle.rv_txn.specs.Changing.{kept_change}
 use Rattle.rv_txn.proofs.Laying.{from_all, from_leave, from_rises, laid_at_last, laid_begins}
 use Rattle.rv_txn.proofs.Views.{one_laid}
@@ -29,7 +29,7 @@ changes-preserved c =
     record {
       ascend = c.in_ok-rest.ensures.ascend;
       rise = rise.1;
-      from = (both _ _ from).1;
+      from = (and_parts _ _ from).1;
       columns = columns.1;
       same = one_laid c.args.only.now c.args.table c.changes.all.items c.changes.rest.now c.lay_one.new.all.items c.in_ok-rest.rest.now _ c.changes.key-iterator c.next.new.self (c.in-Some.key.now, c.in-Some.values.now) next c.changes.invariant.rise c.in_ok-rest.ensures.passes c.changes.invariant.same;
     }
