@@ -1,10 +1,11 @@
 -- Equal transcripts are of equal entries, but for their phases.
-use Rattle.std.proofs.Common.{◌≡◌, ℕ, ◌+◌, ◌<◌, ◌^◌, List, [], ◌∷◌, ◌++◌, refl, sym, ap, ◌∙◌, subst, arith, Bool, true, false, ◌&&◌, not, codes, eqb, append_assoc, nat_le, flat_map, cond}
+use Rattle.std.proofs.Common.{◌≡◌, ℕ, ◌+◌, ◌<◌, ◌^◌, List, [], ◌∷◌, ◌++◌, refl, sym, ◌∙◌, arith, Bool, true, false, not, codes, eqb, append_assoc, nat_le, flat_map, cond}
 use Rattle.std.specs.List.{list_all, AllByRecursion}
 use Rattle.std.specs.Fmt.{decimal, signed_decimal}
 use Rattle.std.proofs.lemmas.Fmt.{decimal_digit}
 use Rattle.std.proofs.lemmas.List.Folds.{list_all-append}
 use Rattle.std.proofs.lemmas.Bool.Decides.{nat_tests}
+use Rattle.std.proofs.lemmas.Bool.{and_from, and_parts}
 use Rattle.rv_value.specs.declared.value.Value.{Value}
 use Rattle.rv_value.specs.declared.value.Value.TheVariants.{Null, Int, Str}
 use Rattle.rv_model.specs.declared.entry.Entry.{Entry}
@@ -24,8 +25,8 @@ use Rattle.rv_judge.specs.declared.events.Strategy.TheVariants as strategies
 use Rattle.rv_judge.specs.declared.events.Control.{Control}
 use Rattle.rv_judge.specs.declared.events.Control.TheVariants as controls
 use Rattle.rv_lang.specs.Tokens.{quotes_twice}
-use Rattle.rv_model.specs.Transcript.{limit_word, strategy_word, control_word, event_words, count_words, trace_words, words_text, IsName, is_name_byte, is_capital, IsPlainEvent, IsPlainTrace, value_text, more_text, values_text, reply_text, refusal_text, rival_text, entry_text, text, IsLine, IsPlainValue, IsPlainReply, IsPlainRefusal, IsPlainRival, IsPlain, SameButPhase, AllSameButPhase}
-use Rattle.rv_model.proofs.Cuts.{Stops, cut, and_parts}
+use Rattle.rv_model.specs.Transcript.{limit_word, strategy_word, control_word, event_words, count_words, trace_words, words_text, IsName, is_name_byte, is_capital, IsPlainEvent, IsPlainTrace, value_text, more_text, values_text, reply_text, refusal_text, rival_text, entry_text, text, IsPlainValue, IsPlainReply, IsPlainRefusal, IsPlainRival, IsPlain, SameButPhase, AllSameButPhase}
+use Rattle.rv_model.proofs.Cuts.{cut}
 use Rattle.rv_model.proofs.Values.{numeric, decimal_pass, signed_pass, passes_more}
 use Rattle.rv_model.proofs.Replies.{reply_same}
 
@@ -33,12 +34,8 @@ use Rattle.rv_model.proofs.Replies.{reply_same}
 abbrev no_lf : ℕ → Bool
 no_lf c = not (eqb c 10)
 
-both : (a b : Bool) → a ≡ true → b ≡ true → (a && b) ≡ true
-both true b p q = q
-both false b p q = cc
-
 joined : (xs ys : List ℕ) → list_all no_lf xs ≡ true → list_all no_lf ys ≡ true → list_all no_lf (xs ++ ys) ≡ true
-joined xs ys hx hy = list_all-append no_lf xs ys ∙ both (list_all no_lf xs) (list_all no_lf ys) hx hy
+joined xs ys hx hy = list_all-append no_lf xs ys ∙ and_from (list_all no_lf xs) (list_all no_lf ys) hx hy
 
 numeric_line : (c : ℕ) → numeric c ≡ true → no_lf c ≡ true
 numeric_line c h = grind (arith, nat_tests)
@@ -56,7 +53,7 @@ doubled_line (c ∷ cs) h =
     let tail : list_all no_lf (quotes_twice cs) ≡ true = doubled_line cs parts.1 in
     elim (eqb c 39) as (λ b. list_all no_lf (cond b (39 ∷ 39 ∷ quotes_twice cs) (c ∷ quotes_twice cs)) ≡ true) [
       | true ↦ tail
-      | false ↦ both (no_lf c) (list_all no_lf (quotes_twice cs)) parts.0 tail
+      | false ↦ and_from (no_lf c) (list_all no_lf (quotes_twice cs)) parts.0 tail
     ]
 
 value_line : (v : Value) → IsPlainValue v → list_all no_lf (value_text v) ≡ true
@@ -80,7 +77,7 @@ byte_line c h = grind (arith, nat_tests)
 
 name_line : (n : List ℕ) → IsName n → list_all no_lf n ≡ true
 name_line [] h = absurd h
-name_line (c ∷ cs) h = both (no_lf c) (list_all no_lf cs) (capital_line c h.0) (passes_more is_name_byte no_lf byte_line cs h.1)
+name_line (c ∷ cs) h = and_from (no_lf c) (list_all no_lf cs) (capital_line c h.0) (passes_more is_name_byte no_lf byte_line cs h.1)
 
 limit_line : (w : Which) → list_all no_lf (limit_word w) ≡ true
 limit_line limits.Name = refl

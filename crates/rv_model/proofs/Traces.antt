@@ -1,10 +1,11 @@
 -- Equal texts are of equal traces.
-use Rattle.std.proofs.Common.{◌≡◌, ℕ, ◌<◌, ◌^◌, List, [], ◌∷◌, ◌++◌, refl, sym, ap, ◌∙◌, Bool, true, false, ◌&&◌, ◌||◌, not, cond, codes, eqb, Option, Some, None, append_assoc, bytes_eq, if◌then◌else◌, flat_map, arith}
+use Rattle.std.proofs.Common.{◌≡◌, ℕ, ◌<◌, ◌^◌, List, [], ◌∷◌, ◌++◌, refl, sym, ap, ◌∙◌, Bool, true, not, codes, eqb, Option, Some, None, append_assoc, bytes_eq, if◌then◌else◌, flat_map, arith}
 use Rattle.std.proofs.lemmas.Bool.Decides.{nat_tests}
 use Rattle.std.specs.List.{list_all, AllByRecursion}
 use Rattle.std.specs.Fmt.{decimal}
 use Rattle.std.specs.Str.Parse.{digits_value}
 use Rattle.std.proofs.lemmas.Fmt.{decimal_is_IsNumeral, decimal_injective}
+use Rattle.std.proofs.lemmas.Bool.{and_from}
 use Rattle.rv_judge.specs.declared.events.Strategy.{Strategy}
 use Rattle.rv_judge.specs.declared.events.Strategy.TheVariants as strategies
 use Rattle.rv_judge.specs.declared.events.Control.{Control}
@@ -13,7 +14,7 @@ use Rattle.rv_lang.specs.declared.reply.ShownEvent.{ShownEvent}
 use Rattle.rv_lang.specs.declared.reply.ShownEvent.TheVariants as events
 use Rattle.rv_lang.specs.declared.reply.Shown.{Shown}
 use Rattle.rv_model.specs.Transcript.{strategy_word, control_word, event_words, count_words, trace_words, words_text, IsName, is_name_byte, is_capital, IsPlainEvent, IsPlainTrace}
-use Rattle.rv_model.proofs.Cuts.{Stops, cut, and_parts}
+use Rattle.rv_model.proofs.Cuts.{Stops, cut}
 use Rattle.rv_model.proofs.Values.{numeric, decimal_pass, passes_more}
 
 abbrev pub no_space : ℕ → Bool
@@ -44,13 +45,9 @@ name_unspaced c h = grind (arith, nat_tests)
 capital_unspaced : (c : ℕ) → is_capital c ≡ true → no_space c ≡ true
 capital_unspaced c h = grind (arith, nat_tests)
 
-both : (a b : Bool) → a ≡ true → b ≡ true → (a && b) ≡ true
-both true b p q = q
-both false b p q = cc
-
 name_word : (n : List ℕ) → IsName n → list_all no_space n ≡ true
 name_word [] h = absurd h
-name_word (c ∷ cs) h = both (no_space c) (list_all no_space cs) (capital_unspaced c h.0) (passes_more is_name_byte no_space name_unspaced cs h.1)
+name_word (c ∷ cs) h = and_from (no_space c) (list_all no_space cs) (capital_unspaced c h.0) (passes_more is_name_byte no_space name_unspaced cs h.1)
 
 number_unspaced : (c : ℕ) → numeric c ≡ true → no_space c ≡ true
 number_unspaced c h = grind (arith, nat_tests)
