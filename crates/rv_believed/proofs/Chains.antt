@@ -1,7 +1,8 @@
 -- Chains of tests and answers.
 use Rattle.std.proofs.Common.{◌≡◌, refl, sym, ap, ◌∙◌}
-use Rattle.std.specs.Prelude.{List, [], ◌∷◌, ◌++◌, Bool, true, false, cond, ◌||◌, Result, Ok, Err, filter, map}
+use Rattle.std.specs.Prelude.{List, [], ◌∷◌, ◌++◌, Bool, true, false, ◌||◌, Result, Ok, Err, map}
 use Rattle.std.specs.List.{list_any}
+use Rattle.std.proofs.lemmas.List.{append-nil}
 use Rattle.rv_lang.specs.declared.reply.Refusal.{Refusal}
 use Rattle.rv_catalog.specs.Answers.{◌>>=◌, collected, refuse_if, all_pass}
 use Rattle.rv_believed.specs.Answers.{Test, answers}
@@ -10,17 +11,9 @@ pub append_assoc : {X : Type 0} (xs ys zs : List X) → (xs ++ ys) ++ zs ≡ xs 
 append_assoc [] ys zs = refl
 append_assoc (x ∷ xs) ys zs = ap (λ l. x ∷ l) (append_assoc xs ys zs)
 
-pub append_nil : {X : Type 0} (xs : List X) → xs ++ [] ≡ xs
-append_nil [] = refl
-append_nil (x ∷ xs) = ap (λ l. x ∷ l) (append_nil xs)
-
 pub map_same : {X Y : Type 0} (f g : X → Y) → ((x : X) → f x ≡ g x) → (xs : List X) → map f xs ≡ map g xs
 map_same f g same [] = refl
 map_same f g same (x ∷ xs) = λ k. same x k ∷ map_same f g same xs k
-
-pub filter_same : {X : Type 0} (p q : X → Bool) → ((x : X) → p x ≡ q x) → (xs : List X) → filter p xs ≡ filter q xs
-filter_same p q same [] = refl
-filter_same p q same (x ∷ xs) = λ k. cond (same x k) (x ∷ filter_same p q same xs k) (filter_same p q same xs k)
 
 -- ---- one after another
 
@@ -58,7 +51,7 @@ collected_one f done xs rest (Err e) = refl
 
 collected_behind : {A B : Type 0} (f : A → Result B Refusal) (xs : List A) (done : List B)
     → collected f done xs ≡ behind done (answers f xs)
-collected_behind f [] done = ap Ok (sym (append_nil done))
+collected_behind f [] done = ap Ok (sym (append-nil done))
 collected_behind f (x ∷ xs) done = collected_one f done xs (collected_behind f xs) (f x)
 
 behind_none : {B : Type 0} (r : Result (List B) Refusal) → behind [] r ≡ r

@@ -2,6 +2,8 @@
 use Rattle.std.proofs.Common.{◌≡◌, ℕ, zero, suc, ◌+◌, List, [], ◌∷◌, Option, Some, None, Result, Ok, Err, Bool, true, false, not, cond, ◌&&◌, ◌==◌, refl, sym, ap, ◌∙◌, arith, filter, map, length, nat_lt, is_some, option_map, slice_index_or, position}
 use Rattle.std.proofs.lemmas.Bool.Decides.{nat_tests}
 use Rattle.std.specs.List.{position_or_len}
+use Rattle.std.proofs.lemmas.List.{length-map}
+use Rattle.std.proofs.lemmas.List.Elements.{filter_agree}
 use Rattle.rv_value.specs.declared.value.Value.{Value}
 use Rattle.rv_value.specs.declared.record.Record.{Record}
 use Rattle.rv_value.specs.declared.record.RowNo.{RowNo}
@@ -19,10 +21,10 @@ use Rattle.rv_model.specs.declared.transactions.Transaction.{Transaction}
 use Rattle.rv_model.specs.declared.transactions.Transactions.{Transactions}
 use Rattle.rv_model.specs.Step.{Outcome, changed, changes_met, inserted, new_change, no_rivals, no_rivals_of, rows_seen}
 use Rattle.rv_model.specs.Transactions as working
-use Rattle.rv_model.specs.Transactions.{changed_refusal, changed_rows, changed_with, first_changed, first_held, held_by, held_refusal, holder, met, next_row, no_record, refuse_at, row_in, touched_by, transaction_at, transaction_of, with_number, with_own, writer}
+use Rattle.rv_model.specs.Transactions.{changed_refusal, changed_rows, changed_with, first_changed, first_held, held_by, held_refusal, holder, met, next_row, no_record, refuse_at, row_in, touched_by, transaction_at, transaction_of, with_own}
 use Rattle.rv_believed.specs.Answers.{Test}
 use Rattle.rv_believed.specs.Truth.{keeps}
-use Rattle.rv_believed.proofs.Chains.{filter_same, map_same}
+use Rattle.rv_believed.proofs.Chains.{map_same}
 use Rattle.rv_believed.proofs.TruthSame.{keeps_same}
 use Rattle.rv_believed.specs.Changing.{change_of, few_changes}
 use Rattle.rv_believed.proofs.ChangingOfState.{change, changes_by, insert, no_holder, no_later_commit, view}
@@ -154,10 +156,6 @@ filter_length : {X Y : Type 0} (p : Y → Bool) (f : X → Y) (xs : List X) → 
 filter_length p f [] = refl
 filter_length p f (x ∷ xs) = kept_length (p (f x)) (f x) (filter p (map f xs)) x (filter (λ x. p (f x)) xs) (filter_length p f xs)
 
-map_length : {X Y : Type 0} (f : X → Y) (xs : List X) → length (map f xs) ≡ length xs
-map_length f [] = refl
-map_length f (x ∷ xs) = let e = map_length f xs in omega (arith, e)
-
 change_of_same : (table : ℕ) (sets : Option (List (ℕ × Value))) (r : Record) → change_of table sets r ≡ working.change_of table sets r
 change_of_same table None r = refl
 change_of_same table (Some sets) r = refl
@@ -211,7 +209,7 @@ rows_same s session own table sets rows =
     >>= (λ u. later_same s (transaction_at s.transactions.active own).base table sets rows k
     >>= (λ v. held_same s session table sets rows k
     >>= (λ w. no_rivals s session own table (map_same (change_of table sets) (working.change_of table sets) (change_of_same table sets) rows k)
-    >>= (λ x. touched_to s (map_length (change_of table sets) rows k)
+    >>= (λ x. touched_to s (length-map rows (change_of table sets) k)
     (transactions_with s own (map_same (change_of table sets) (working.change_of table sets) (change_of_same table sets) rows k)))))))
     ∙ four_tests s (few_test (transaction_at s.transactions.active own).changes table rows)
     (later_test s (transaction_at s.transactions.active own).base table rows) (held_test s session table rows)
@@ -230,7 +228,7 @@ change_at : (s : State) (session table : ℕ) (sets : Option (List (ℕ × Value
     >>= touched_by_these s (no_rivals s session own table (changes_met s table sets only own)))
 change_at s session table sets only own true = refl
 change_at s session table sets only own false = ap (λ (rows : List Record). changing s session own table (map (change_of table sets) rows))
-    (filter_same (λ (r : Record). keeps (row_reads r.values) only) (λ (r : Record). qualifies only r.values)
+    (filter_agree (λ (r : Record). keeps (row_reads r.values) only) (λ (r : Record). qualifies only r.values)
     (λ (r : Record). keeps_same (row_reads r.values) only) (view s own table))
     ∙ rows_same s session own table sets (filter (λ (r : Record). qualifies only r.values) (view s own table))
 

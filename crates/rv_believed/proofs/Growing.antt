@@ -1,6 +1,7 @@
 -- What INSERT makes of row numbers, and COMMIT of who last wrote a row, at each table and row.
 use Rattle.std.proofs.Common.{◌≡◌, ℕ, zero, suc, ◌+◌, ◌-◌, ◌<◌, ◌≤◌, List, [], ◌∷◌, ◌++◌, Bool, true, false, cond, ◌&&◌, ◌||◌, refl, sym, ap, ◌∙◌, arith, length, nat_eq, nat_lt, slice_index_or, slice_set, if◌then◌else◌}
 use Rattle.std.proofs.lemmas.Bool.Decides.{nat_tests}
+use Rattle.std.proofs.lemmas.Bool.{eqb-true, ltb-false, ltb-true}
 use Rattle.rv_rows.specs.declared.changes.Change.{Change}
 use Rattle.rv_rows.specs.Changes.{has_change, is_of}
 use Rattle.rv_model.specs.Transactions.{empty_lists, next_row, touch, touch_all, touched_by, touched_in, with_number}
@@ -35,15 +36,6 @@ turned_by a b false e = grind (arith, nat_tests)
 
 turned : (a b : ℕ) → nat_eq b a ≡ nat_eq a b
 turned a b = turned_by a b (nat_eq a b) refl
-
-is_equal : (a b : ℕ) → nat_eq a b ≡ true → a ≡ b
-is_equal a b h = grind (arith, nat_tests)
-
-is_below : (a b : ℕ) → nat_lt a b ≡ true → a < b
-is_below a b h = grind (arith, nat_tests)
-
-is_not_below : (a b : ℕ) → nat_lt a b ≡ false → b ≤ a
-is_not_below a b h = grind (arith, nat_tests)
 
 -- ---- an item in the place of one
 
@@ -85,9 +77,9 @@ plus_rest n m le = omega (arith, le)
 number_by : (touched : List (List ℕ)) (table t : ℕ) (b : Bool) → nat_lt table (length touched) ≡ b
     → touched_in (if b then slice_set touched table (touched_in touched table ++ 0 ∷ []) else touched ++ empty_lists (table - length touched) ++ (0 ∷ []) ∷ []) t
     ≡ cond (nat_eq t table) (touched_in touched table ++ 0 ∷ []) (touched_in touched t)
-number_by touched table t true e = set_at touched table t (touched_in touched table ++ 0 ∷ []) [] (is_below table (length touched) e)
+number_by touched table t true e = set_at touched table t (touched_in touched table ++ 0 ∷ []) [] (ltb-true table (length touched) e)
 number_by touched table t false e =
-    let le : length touched ≤ table = is_not_below table (length touched) e in
+    let le : length touched ≤ table = ltb-false table (length touched) e in
     past_at touched (table - length touched) t
     ∙ (λ k. cond (nat_eq t (plus_rest (length touched) table le k)) (sym (none_there touched table le) k ++ 0 ∷ []) (touched_in touched t))
 
@@ -117,7 +109,7 @@ zero_behind (n ∷ ns) (suc r) = zero_behind ns r
 
 entry_by : (touched : List (List ℕ)) (table t r : ℕ) (b : Bool) → nat_eq t table ≡ b
     → slice_index_or (cond b (touched_in touched table ++ 0 ∷ []) (touched_in touched t)) r 0 ≡ touched_by touched t r
-entry_by touched table t r true e = zero_behind (touched_in touched table) r ∙ ap (λ n. touched_by touched n r) (sym (is_equal t table e))
+entry_by touched table t r true e = zero_behind (touched_in touched table) r ∙ ap (λ n. touched_by touched n r) (sym (eqb-true t table e))
 entry_by touched table t r false e = refl
 
 pub number_touched : (touched : List (List ℕ)) (table t r : ℕ) → touched_by (with_number touched table) t r ≡ touched_by touched t r
@@ -135,7 +127,7 @@ row_by : (commit : ℕ) (c : Change) (touched : List (List ℕ)) (t r : ℕ) →
     → slice_index_or (cond b (slice_set (touched_in touched c.table) c.row.0 commit) (touched_in touched t)) r 0
     ≡ cond (nat_eq c.table t && nat_eq c.row.0 r) commit (touched_by touched t r)
 row_by commit c touched t r lt true e = set_at (touched_in touched c.table) c.row.0 r commit 0 lt
-    ∙ (λ k. cond (turned c.row.0 r k) commit (touched_by touched (sym (is_equal t c.table e) k) r))
+    ∙ (λ k. cond (turned c.row.0 r k) commit (touched_by touched (sym (eqb-true t c.table e) k) r))
     ∙ ap (λ b. cond (b && nat_eq c.row.0 r) commit (touched_by touched t r)) (sym (turned_by t c.table true e))
 row_by commit c touched t r lt false e = ap (λ b. cond (b && nat_eq c.row.0 r) commit (touched_by touched t r)) (sym (turned_by t c.table false e))
 

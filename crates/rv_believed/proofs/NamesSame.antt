@@ -2,6 +2,7 @@
 use Rattle.std.proofs.Common.{◌≡◌, refl, sym, ap, subst, ◌∙◌}
 use Rattle.std.specs.Prelude.{ℕ, List, [], ◌∷◌, ◌++◌, ◌+◌, Bool, true, false, cond, ◌&&◌, Option, Some, None, Result, Ok, Err, bytes_eq, filter, map, if◌then◌else◌}
 use Rattle.std.specs.Option.{option_map_or}
+use Rattle.std.proofs.lemmas.List.Elements.{filter-append}
 use Rattle.rv_value.specs.declared.value.Kind.{Kind}
 use Rattle.rv_restrict.specs.declared.atom.ColRef.{ColRef}
 use Rattle.rv_restrict.specs.declared.atom.Operand.TheVariants.{Column}
@@ -46,11 +47,6 @@ kept : {X : Type 0} (x : X) (xs ys zs : List X) (b : Bool) → zs ≡ xs ++ ys
 kept x xs ys zs true p = ap (λ l. x ∷ l) p
 kept x xs ys zs false p = p
 
-filter_append : {X : Type 0} (p : X → Bool) (xs ys : List X) → filter p (xs ++ ys) ≡ filter p xs ++ filter p ys
-filter_append p [] ys = refl
-filter_append p (x ∷ xs) ys =
-    kept x (filter p xs) (filter p ys) (filter p (xs ++ ys)) (p x) (filter_append p xs ys)
-
 one_more : (b : Bool) (fit : Fit) (x : InReach) (ys : List InReach)
     → also_all fit (if b then x ∷ ys else ys) ≡ also_all (cond b (today.also fit x.at) fit) ys
 one_more true fit x ys = refl
@@ -88,7 +84,7 @@ items_same : (tables : List TableDef) (r : RawCol) (items : List Item) (place : 
     ≡ today.fit_items tables r.table r.column place items fit
 items_same tables r [] place fit = refl
 items_same tables r (i ∷ more) place fit =
-    ap (also_all fit) (filter_append (fits r) (reach_from i.name place 0 (columns_of tables i.table)) (reach_of tables (place + 1) more))
+    ap (also_all fit) (filter-append (fits r) (reach_from i.name place 0 (columns_of tables i.table)) (reach_of tables (place + 1) more))
     ∙ also_append fit (filter (fits r) (reach_from i.name place 0 (columns_of tables i.table)))
     (filter (fits r) (reach_of tables (place + 1) more))
     ∙ ap (λ f. also_all f (filter (fits r) (reach_of tables (place + 1) more)))

@@ -1,6 +1,8 @@
 -- Bridge: what a select offers is what the working definition gathers with the rows chosen so far.
 use Rattle.std.proofs.Common.{◌≡◌, ℕ, List, [], ◌∷◌, ◌++◌, refl, sym, ap, ◌∙◌, map, filter}
 use Rattle.std.specs.List.{flat_map}
+use Rattle.std.proofs.lemmas.List.{append-nil}
+use Rattle.std.proofs.lemmas.List.Elements.{filter_agree}
 use Rattle.rv_value.specs.declared.value.Value.{Value}
 use Rattle.rv_value.specs.declared.record.Record.{Record}
 use Rattle.rv_restrict.specs.Bind.{rows_reads, truth_over}
@@ -10,7 +12,7 @@ use Rattle.rv_model.specs.Offering as working
 use Rattle.rv_model.specs.Offering.{offers_over}
 use Rattle.rv_believed.specs.Offers.{choices, offer_of, offers_of}
 use Rattle.rv_believed.specs.Truth.{keeps}
-use Rattle.rv_believed.proofs.Chains.{append_assoc, append_nil, filter_same}
+use Rattle.rv_believed.proofs.Chains.{append_assoc}
 use Rattle.rv_believed.proofs.TruthSame.{keeps_same}
 
 map_append : {A B : Type 0} (f : A → B) (xs ys : List A) → map f (xs ++ ys) ≡ map f xs ++ map f ys
@@ -35,7 +37,7 @@ over rows ts chosen rest (r ∷ rs) =
 
 choices_same : (rows : ℕ → List Record) (ts : List ℕ) (chosen : List (List Value))
     → working.choices rows ts chosen ≡ map (λ c. chosen ++ c) (choices (map rows ts))
-choices_same rows [] chosen = λ k. sym (append_nil chosen) k ∷ []
+choices_same rows [] chosen = λ k. sym (append-nil chosen) k ∷ []
 choices_same rows (t ∷ ts) chosen = over rows ts chosen (choices_same rows ts) (rows t)
 
 map_nothing : (cs : List (List (List Value))) → map (λ (c : List (List Value)). [] ++ c) cs ≡ cs
@@ -43,7 +45,7 @@ map_nothing [] = refl
 map_nothing (c ∷ cs) = ap (λ l. c ∷ l) (map_nothing cs)
 
 pub offers_same : (q : Select) (rows : ℕ → List Record) → offers_of q rows ≡ offers_over q rows
-offers_same q rows = ap (λ cs. map (offer_of q) cs) (filter_same (λ choice. keeps (rows_reads choice) q.only) (λ choice. is_true (truth_over q.only choice))
+offers_same q rows = ap (λ cs. map (offer_of q) cs) (filter_agree (λ choice. keeps (rows_reads choice) q.only) (λ choice. is_true (truth_over q.only choice))
     (λ choice. keeps_same (rows_reads choice) q.only) (choices (map rows q.tables)))
     ∙ ap (λ cs. map (offer_of q) (filter (λ choice. is_true (truth_over q.only choice)) cs))
     (sym (choices_same rows q.tables [] ∙ map_nothing (choices (map rows q.tables))))

@@ -3,6 +3,7 @@ use Rattle.std.proofs.Common.{◌≡◌, ℕ, zero, suc, ◌+◌, ◌<◌, List,
 use Rattle.std.proofs.lemmas.Bool.Decides.{nat_tests}
 use Rattle.std.specs.Prelude.{slice_set, remove, position, flat_map, IfSome, IsSome, is_some, find}
 use Rattle.std.specs.List.{AllByRecursion, slice_index_or, position_or_len}
+use Rattle.std.proofs.lemmas.Bool.{ltb-true}
 
 pub all_append : {X : Type 0} (P : X → Type 0) (xs ys : List X) → AllByRecursion P xs → AllByRecursion P ys → AllByRecursion P (xs ++ ys)
 all_append P [] ys a b = b
@@ -56,12 +57,9 @@ below_all P [] n d a lt = absurd (omega (arith, lt))
 below_all P (x ∷ xs) zero d a lt = a.0
 below_all P (x ∷ xs) (suc n) d a lt = below_all P xs n d a.1 (omega (arith, lt))
 
-is_below : (a b : ℕ) → nat_lt a b ≡ true → a < b
-is_below a b h = grind (arith, nat_tests)
-
 found_all : {X : Type 0} (P : X → Type 0) (xs : List X) (n : ℕ) (d : X) → AllByRecursion P xs → (b : Bool) → nat_lt n (length xs) ≡ b
     → IfSome (cond b (Some n) None) (λ m. P (slice_index_or xs m d))
-found_all P xs n d a true h = below_all P xs n d a (is_below n (length xs) h)
+found_all P xs n d a true h = below_all P xs n d a (ltb-true n (length xs) h)
 found_all P xs n d a false h = tt
 
 -- what is found at a place is one of them

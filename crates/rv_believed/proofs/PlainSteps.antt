@@ -5,6 +5,7 @@ use Rattle.std.specs.List.{AllByRecursion, slice_index_or, range_with_len}
 use Rattle.std.specs.Ordering.{is_eq, is_lt}
 use Rattle.std.specs.declared.cmp.Ordering.{Ordering}
 use Rattle.std.specs.declared.cmp.Ordering.TheVariants.{Less, Equal, Greater}
+use Rattle.std.specs.Cmp.{second_so}
 use Rattle.rv_value.specs.declared.value.Value.{Value}
 use Rattle.rv_value.specs.declared.value.Value.TheVariants.{Null}
 use Rattle.rv_value.specs.declared.record.Record.{Record}
@@ -422,17 +423,13 @@ equal_of Less e = absurd (cc e)
 equal_of Equal e = refl
 equal_of Greater e = absurd (cc e)
 
-second_of : (a b : Bool) → (a && b) ≡ true → b ≡ true
-second_of true b e = e
-second_of false b e = absurd (cc e)
-
 same_is : (a b : List Value) → same_values a b ≡ true → a ≡ b
 same_is a b e = values_same a b (equal_of (values_cmp a b) e)
 
 given_plain : (offers : List Offer) (values : List Value) → AllByRecursion IsPlainOffer offers → IsSome (place_of offers values) → ArePlainValues values
 given_plain [] values h e = absurd (cc e)
 given_plain (first ∷ others) values h e = passing IsPlainOffer (λ (o : Offer). same_values o.order first.order && same_values o.returned values)
-    (first ∷ others) h e (λ o p q. subst ArePlainValues (same_is o.returned values (second_of (same_values o.order first.order) (same_values o.returned values) q)) p)
+    (first ∷ others) h e (λ o p q. subst ArePlainValues (same_is o.returned values (second_so (same_values o.order first.order) (same_values o.returned values) q)) p)
 
 offered_plain : (offers : List Offer) (reply : Reply) → AllByRecursion IsPlainOffer offers → Offers offers reply → IsPlainReply reply
 offered_plain offers (replies.Row values) h p = given_plain offers values h p

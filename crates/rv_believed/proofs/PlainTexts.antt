@@ -1,9 +1,9 @@
 -- What a text says has plain names and plain values: they are its tokens.
-use Rattle.std.proofs.Common.{◌≡◌, ◌≢◌, ℕ, List, [], ◌∷◌, Option, Some, None, Bool, true, false, ◌&&◌, nat_le, refl, sym, subst, map, inl, inr, arith}
+use Rattle.std.proofs.Common.{◌≡◌, ◌≢◌, ℕ, List, [], ◌∷◌, Option, Some, None, Bool, true, false, nat_le, refl, sym, subst, map, inl, inr, arith}
 use Rattle.std.proofs.lemmas.Bool.Decides.{nat_tests}
 use Rattle.std.specs.Char.{is_ascii_alphabetic, to_ascii_uppercase}
 use Rattle.std.specs.List.{list_all, AllByRecursion}
-use Rattle.std.proofs.lemmas.Bool.{and_parts}
+use Rattle.std.proofs.lemmas.Bool.{and_parts, and_from}
 use Rattle.rv_value.specs.declared.value.Value.{Value}
 use Rattle.rv_value.specs.declared.value.Value.TheVariants as values
 use Rattle.rv_lang.specs.declared.token.Token.{Token}
@@ -35,10 +35,6 @@ IsPlainToken (Symbol mark) = Unit {0}
 abbrev ArePlain : List Token → Type 0
 ArePlain = AllByRecursion IsPlainToken
 
-both : (a b : Bool) → a ≡ true → b ≡ true → (a && b) ≡ true
-both true b p q = q
-both false b p q = cc
-
 letter_up : (b : ℕ) → is_ascii_alphabetic b ≡ true → is_capital (to_ascii_uppercase b) ≡ true
 letter_up b h = grind (arith, nat_tests)
 
@@ -48,7 +44,7 @@ byte_up b h = grind (arith, nat_tests)
 bytes_up : (bs : List ℕ) → list_all is_word_byte bs ≡ true → list_all is_name_byte (map to_ascii_uppercase bs) ≡ true
 bytes_up [] h = refl
 bytes_up (b ∷ bs) h = let parts = and_parts (is_word_byte b) (list_all is_word_byte bs) h in
-    both (is_name_byte (to_ascii_uppercase b)) (list_all is_name_byte (map to_ascii_uppercase bs)) (byte_up b parts.0) (bytes_up bs parts.1)
+    and_from (is_name_byte (to_ascii_uppercase b)) (list_all is_name_byte (map to_ascii_uppercase bs)) (byte_up b parts.0) (bytes_up bs parts.1)
 
 word_up : (bs : List ℕ) → IsWord bs → IsPlainName (map to_ascii_uppercase bs)
 word_up [] h = absurd h

@@ -4,6 +4,7 @@ use Rattle.std.proofs.Math.Seq.{get_or-append_seam}
 use Rattle.std.specs.Prelude.{ℕ, ℤ, pos, negsuc, List, [], ◌∷◌, ◌++◌, ◌+◌, Bool, true, false, not, cond, ◌||◌, nat_lt, Option, Some, None, Result, Ok, Err, bytes_eq, is_some, length, map, filter}
 use Rattle.std.specs.List.{list_any, slice_index_or, AllByRecursion}
 use Rattle.std.specs.Option.{unwrap_or}
+use Rattle.std.proofs.lemmas.List.{append-nil}
 use Rattle.rv_value.specs.declared.value.Kind.{Kind}
 use Rattle.rv_value.specs.declared.value.Kind.TheVariants.{Big, Chars}
 use Rattle.rv_value.specs.declared.value.Value.{Value}
@@ -34,7 +35,7 @@ use Rattle.rv_catalog.specs.Schema.{Schema, columns_of, index_named, table_named
 use Rattle.rv_believed.specs.Answers.{Test, answers}
 use Rattle.rv_believed.specs.Limits.{at_most, kind_fits, is_outside, names_fit, within_limits}
 use Rattle.rv_believed.specs.Names.{InReach, reach_from, reach_of, reach_alone, fits, reference, references, plain_column, column_number, condition_of, is_of_kind, is_too_long, can_hold, row_kinds, set_kind, kinds, all_differ, table_number, number_of, column_def, goal_of, item_of, columns_returned, set_of, asked_in, resolution}
-use Rattle.rv_believed.proofs.Chains.{append_assoc, append_nil, in_a_row, same_after, collected_same}
+use Rattle.rv_believed.proofs.Chains.{append_assoc, in_a_row, same_after, collected_same}
 use Rattle.rv_believed.proofs.LimitsSame.{limits_same}
 use Rattle.rv_believed.proofs.NamesSame.{reference_same, all_columns_same, condition_same, own_same, at_of}
 use Rattle.rv_believed.proofs.KindsSame.{one_longer, only_at, all_filter, list_agrees, kinds_agree}
@@ -86,7 +87,7 @@ map_itself (x ∷ xs) = ap (λ l. x ∷ l) (map_itself xs)
 
 alone_reach : (tables : List TableDef) (name : List ℕ) (number : ℕ)
     → reach_of tables 0 (today.alone name number) ≡ reach_alone tables name number
-alone_reach tables name number = append_nil (reach_alone tables name number)
+alone_reach tables name number = append-nil (reach_alone tables name number)
 
 alone_condition : (tables : List TableDef) (name : List ℕ) (number : ℕ) (only : List (List RawAtom))
     → columns.groups tables (today.alone name number) only ≡ condition_of (reach_alone tables name number) only

@@ -1,14 +1,15 @@
 -- Bridge: the traces that may be shown are those of the working definition.
-use Rattle.std.proofs.Common.{◌≡◌, ◌≢◌, ℕ, zero, suc, ◌<◌, ◌≤◌, List, [], ◌∷◌, ◌++◌, Option, Some, None, Bool, true, false, ◌&&◌, ◌||◌, refl, sym, ap, ◌∙◌, subst, length, nat_eq, arith, map}
+use Rattle.std.proofs.Common.{◌≡◌, ◌≢◌, ℕ, zero, suc, ◌<◌, ◌≤◌, List, [], ◌∷◌, ◌++◌, Option, Some, None, Bool, true, false, ◌||◌, refl, sym, ap, ◌∙◌, subst, length, nat_eq, arith, map}
 use Rattle.std.proofs.lemmas.Bool.Decides.{nat_tests}
 use Rattle.std.specs.List.{AllByRecursion, Contains, list_all, slice_index_or}
 use Rattle.std.specs.Option.{option_to_list}
+use Rattle.std.proofs.lemmas.Bool.{and_from, and_parts, eqb-true, or_parts}
 use Rattle.rv_judge.specs.declared.events.Strategy.{Strategy}
 use Rattle.rv_judge.specs.declared.events.Strategy.TheVariants.{Table, BackgroundOnly, FastFirst, Sorted, IndexOnly, Union}
 use Rattle.rv_judge.specs.declared.events.Control.{Control}
 use Rattle.rv_judge.specs.declared.events.Control.TheVariants.{Building, ForegroundAlone, BackgroundAlone, FinalList, FinalTable, Done}
 use Rattle.rv_judge.specs.declared.events.Event.{Event}
-use Rattle.rv_judge.specs.declared.events.Event.TheVariants.{At, Scan, List as ListOf, Drop}
+use Rattle.rv_judge.specs.declared.events.Event.TheVariants.{At, Scan}
 use Rattle.rv_judge.specs.declared.events.Trace.{Trace}
 use Rattle.rv_judge.specs.Runs as today
 use Rattle.rv_judge.specs.Runs.{Standing, has_index}
@@ -30,14 +31,11 @@ no_false p = absurd (subst IsTrueOne (sym p) tt)
 
 -- ---- one of the indexes
 
-equal_numbers : (k i : ℕ) → nat_eq k i ≡ true → k ≡ i
-equal_numbers k i h = grind (arith, nat_tests)
-
 same_number : (i : ℕ) → nat_eq i i ≡ true
 same_number i = grind (arith, nat_tests)
 
 not_equal : (k i : ℕ) → i ≢ k → (b : Bool) → nat_eq k i ≡ b → b ≡ false
-not_equal k i h true e = absurd (h (sym (equal_numbers k i e)))
+not_equal k i h true e = absurd (h (sym (eqb-true k i e)))
 not_equal k i h false e = refl
 
 other_numbers : (k i : ℕ) → i ≢ k → nat_eq k i ≡ false
@@ -45,7 +43,7 @@ other_numbers k i h = not_equal k i h (nat_eq k i) refl
 
 contains_by : (n i : ℕ) (ns : List ℕ) → (b : Bool) → nat_eq n i ≡ b → (b || has_index i ns) ≡ true → (has_index i ns ≡ true → Contains ns i)
     → Contains (n ∷ ns) i
-contains_by n i ns true e h rest = (0, omega arith, equal_numbers n i e)
+contains_by n i ns true e h rest = (0, omega arith, eqb-true n i e)
 contains_by n i ns false e h rest = let it = rest h in (suc it.0, (let lt = it.1 in omega (arith, lt)), it.2)
 
 contains_of : (i : ℕ) (ns : List ℕ) → has_index i ns ≡ true → Contains ns i
@@ -64,14 +62,6 @@ has_at (n ∷ ns) i (suc k) lt e = ap (λ b. nat_eq n i || b) (has_at ns i k (om
 has_of : (i : ℕ) (ns : List ℕ) → Contains ns i → has_index i ns ≡ true
 has_of i ns h = has_at ns i h.0 h.1 h.2
 
-both : (a b : Bool) → a ≡ true → b ≡ true → (a && b) ≡ true
-both true b p q = q
-both false b p q = no_false p
-
-and_parts : (a b : Bool) → (a && b) ≡ true → (a ≡ true) × (b ≡ true)
-and_parts true b e = (refl, e)
-and_parts false b e = no_false e
-
 known_to : (ns planned : List ℕ) → list_all (λ i. has_index i ns) planned ≡ true → AllByRecursion (Contains ns) planned
 known_to ns [] h = tt
 known_to ns (i ∷ planned) h = let parts = and_parts (has_index i ns) (list_all (λ k. has_index k ns) planned) h in
@@ -79,13 +69,9 @@ known_to ns (i ∷ planned) h = let parts = and_parts (has_index i ns) (list_all
 
 known_from : (ns planned : List ℕ) → AllByRecursion (Contains ns) planned → list_all (λ i. has_index i ns) planned ≡ true
 known_from ns [] h = refl
-known_from ns (i ∷ planned) h = both (has_index i ns) (list_all (λ k. has_index k ns) planned) (has_of i ns h.0) (known_from ns planned h.1)
+known_from ns (i ∷ planned) h = and_from (has_index i ns) (list_all (λ k. has_index k ns) planned) (has_of i ns h.0) (known_from ns planned h.1)
 
 -- ---- each once
-
-or_parts : (a b : Bool) → (a || b) ≡ false → (a ≡ false) × (b ≡ false)
-or_parts true b e = no_false (sym e)
-or_parts false b e = (refl, e)
 
 differs_to : (i : ℕ) (ns : List ℕ) → has_index i ns ≡ false → AllByRecursion (λ j. i ≢ j) ns
 differs_to i [] h = tt

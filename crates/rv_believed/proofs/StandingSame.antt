@@ -1,8 +1,8 @@
 -- What is found, changed and left out in a working state and in the database for which it stands.
 use Rattle.std.proofs.Common.{◌≡◌, ◌≢◌, ℕ, zero, suc, List, [], ◌∷◌, Option, Some, None, Ok, Err, Bool, true, false, cond, not, ◌==◌, refl, sym, ap, ◌∙◌, arith, filter, find, map, nat_eq, option_map, slice_index_or, if◌then◌else◌}
-use Rattle.std.proofs.lemmas.Bool.Decides.{nat_tests}
 use Rattle.std.specs.Prelude.{remove, slice_set}
 use Rattle.std.specs.List.{AllByRecursion}
+use Rattle.std.proofs.lemmas.Bool.{eqb-true}
 use Rattle.rv_value.specs.declared.record.Record.{Record}
 use Rattle.rv_rows.specs.declared.changes.Change.{Change}
 use Rattle.rv_lang.specs.declared.reply.Refusal.TheVariants.{NoTransaction, ReadOnly}
@@ -102,14 +102,11 @@ writer_then session ws bs F G e =
 
 -- ---- another session's transactions
 
-pub is_equal : (a b : ℕ) → nat_eq a b ≡ true → a ≡ b
-is_equal a b h = grind (arith, nat_tests)
-
 abbrev Differs : ℕ → Working → Type 0
 Differs session w = nat_eq w.session session ≡ false
 
 differ_by : (session : ℕ) (w u : Working) → nat_eq w.session session ≡ true → w.session ≢ u.session → (b : Bool) → nat_eq u.session session ≡ b → b ≡ false
-differ_by session w u e ne true p = absurd (ne (is_equal w.session session e ∙ sym (is_equal u.session session p)))
+differ_by session w u e ne true p = absurd (ne (eqb-true w.session session e ∙ sym (eqb-true u.session session p)))
 differ_by session w u e ne false p = refl
 
 rest_differs : (session : ℕ) (w : Working) (ws : List Working) → nat_eq w.session session ≡ true → AllByRecursion (BeginsBefore w) ws

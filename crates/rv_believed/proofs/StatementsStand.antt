@@ -2,6 +2,7 @@
 use Rattle.std.proofs.Common.{◌≡◌, ℕ, zero, suc, ◌+◌, ◌<◌, ◌≤◌, List, [], ◌∷◌, ◌++◌, Option, Some, None, Ok, Err, Bool, true, false, cond, not, ◌==◌, refl, sym, ap, ◌∙◌, arith, filter, is_some, length, map, nat_eq, nat_lt, option_map, slice_get, slice_index_or, if◌then◌else◌}
 use Rattle.std.proofs.lemmas.Bool.Decides.{nat_tests}
 use Rattle.std.specs.List.{AllByRecursion, range_with_len}
+use Rattle.std.proofs.lemmas.Bool.{eqb-true}
 use Rattle.rv_value.specs.declared.value.Value.{Value}
 use Rattle.rv_value.specs.declared.record.Record.{Record}
 use Rattle.rv_restrict.specs.declared.atom.Atom.{Atom}
@@ -32,7 +33,6 @@ use Rattle.rv_believed.specs.Database.{Database, Transaction, with_changed, with
 use Rattle.rv_believed.specs.Standing.{IsSound, database, outcome_of, with_bases, transaction_with}
 use Rattle.rv_believed.specs.Taken.{ChangesTaken}
 use Rattle.rv_believed.specs.Transactions as transactions
-use Rattle.rv_believed.specs.Transactions.{Outcome}
 use Rattle.rv_believed.proofs.ChangingOfState as changing
 use Rattle.rv_believed.proofs.CursorsOfState as opening
 use Rattle.rv_believed.proofs.TransactionsOfState as state
@@ -40,7 +40,7 @@ use Rattle.rv_believed.proofs.ChangingSame.{change_same, insert_same, pass_same}
 use Rattle.rv_believed.proofs.CommitsSame.{begin_same, commit_same, index_same, rollback_same, table_same}
 use Rattle.rv_believed.proofs.CursorsSame.{close_same, open_same}
 use Rattle.rv_believed.proofs.Growing.{number_next, number_touched, touch_all_by, within}
-use Rattle.rv_believed.proofs.StandingSame.{drop_at, is_equal, others_listed, outcome_four, own_dropped, own_found, own_of, own_passes, own_put, own_then, others_pass, outcome_thrice, outcome_twice, put_at, writer_then}
+use Rattle.rv_believed.proofs.StandingSame.{drop_at, others_listed, outcome_four, own_dropped, own_found, own_of, own_passes, own_put, own_then, others_pass, outcome_thrice, outcome_twice, put_at, writer_then}
 use Rattle.rv_believed.proofs.TakenStates.{own_taken, touch_all_same}
 
 -- ---- CREATE
@@ -152,7 +152,7 @@ new_row s own table vs = with_change (new_row_change s table vs) (transaction_at
 
 -- the transaction that is found for a session is of this session
 owner_is : (session : ℕ) (ws : List Working) (n : ℕ) → transaction_of ws session ≡ Some n → (transaction_at ws n).session ≡ session
-owner_is session ws n e = is_equal (transaction_at ws n).session session (own_passes session ws n e)
+owner_is session ws n e = eqb-true (transaction_at ws n).session session (own_passes session ws n e)
 
 -- rivals are looked for among the same rows
 rivals_same : (s : State) (session n table : ℕ) (new : List Change) → (transaction_at s.transactions.active n).session ≡ session

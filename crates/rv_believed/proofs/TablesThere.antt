@@ -1,9 +1,9 @@
 -- After every history each table has a list of rows, and row numbers were taken of tables alone.
 use Rattle.std.proofs.Common.{◌≡◌, ℕ, zero, suc, ◌+◌, ◌-◌, ◌<◌, ◌≤◌, List, [], ◌∷◌, ◌++◌, Option, Some, None, Result, Ok, Err, Bool, true, false, cond, refl, ◌∙◌, subst, arith, is_some, length, map, nat_lt, slice_set, if◌then◌else◌}
-use Rattle.std.proofs.lemmas.Bool.Decides.{nat_tests}
-use Rattle.std.specs.List.{range_with_len}
+use Rattle.std.proofs.lemmas.Bool.{ltb-false, ltb-true}
+use Rattle.std.proofs.lemmas.List.{length-append}
+use Rattle.std.proofs.lemmas.List.FromFn.{length-map-range_with_len}
 use Rattle.rv_value.specs.declared.value.Value.{Value}
-use Rattle.rv_value.specs.declared.record.Record.{Record}
 use Rattle.rv_restrict.specs.declared.atom.Atom.{Atom}
 use Rattle.rv_rows.specs.declared.changes.Change.{Change}
 use Rattle.rv_lang.specs.declared.statement.RawKind.{RawKind}
@@ -30,7 +30,7 @@ use Rattle.rv_model.specs.Database.{cursor_named, empty}
 use Rattle.rv_model.specs.History.{after_from, stepped}
 use Rattle.rv_model.specs.Step.{Outcome, began, changed, closed, committed, committed_with, created, fetched, indexed, inserted, next_asked, no_rivals, opened, opening, rolled_back, rows_differ, state_of, understood}
 use Rattle.rv_model.specs.Transactions as transactions
-use Rattle.rv_model.specs.Transactions.{next_row, refuse_at, touch_all, touch, touched_in, transaction_at, transaction_of, empty_lists, with_number, writer}
+use Rattle.rv_model.specs.Transactions.{next_row, refuse_at, touch_all, touch, touched_in, transaction_at, transaction_of, empty_lists, writer}
 use Rattle.rv_believed.specs.Answers.{answers}
 use Rattle.rv_believed.specs.Changing.{few_changes}
 use Rattle.rv_believed.specs.Limits.{within_limits}
@@ -65,14 +65,8 @@ then_any : {A B : Type 0} (Q : B → Type 0) (r : Result A Refusal) (f : A → R
 then_any Q (Ok a) f next = next a
 then_any Q (Err e) f next = tt
 
-is_below : (a b : ℕ) → nat_lt a b ≡ true → a < b
-is_below a b h = grind (arith, nat_tests)
-
-is_past : (a b : ℕ) → nat_lt a b ≡ false → b ≤ a
-is_past a b h = grind (arith, nat_tests)
-
 number_by : (m n : ℕ) (name : List ℕ) (b : Bool) → nat_lt m n ≡ b → Gives (λ (k : ℕ). k < n) (ok_or (cond b (Some m) None) (refusals.Unknown name))
-number_by m n name true e = is_below m n e
+number_by m n name true e = ltb-true m n e
 number_by m n name false e = tt
 
 number_gives : (tables : List TableDef) (name : List ℕ) → Gives (λ (k : ℕ). k < length tables) (table_number tables name)
@@ -132,10 +126,6 @@ untouched_length : (n : ℕ) → length (empty_lists n) ≡ n
 untouched_length zero = refl
 untouched_length (suc n) = let e : length (empty_lists n) ≡ n = untouched_length n in omega (arith, e)
 
-joined_length : {X : Type 0} (xs ys : List X) → length (xs ++ ys) ≡ length xs + length ys
-joined_length [] ys = omega arith
-joined_length (x ∷ xs) ys = let e : length (xs ++ ys) ≡ length xs + length ys = joined_length xs ys in omega (arith, e)
-
 number_length : (touched : List (List ℕ)) (table n : ℕ) (b : Bool) → nat_lt table (length touched) ≡ b → length touched ≤ n → table < n
     → length (if b then slice_set touched table (touched_in touched table ++ 0 ∷ []) else touched ++ empty_lists (table - length touched) ++ (0 ∷ []) ∷ []) ≤ n
 number_length touched table n true e le lt =
@@ -143,12 +133,12 @@ number_length touched table n true e le lt =
     let all : length (slice_set touched table (touched_in touched table ++ 0 ∷ [])) ≤ n = omega (arith, p, le) in
     all
 number_length touched table n false e le lt =
-    let past : length touched ≤ table = is_past table (length touched) e in
+    let past : length touched ≤ table = ltb-false table (length touched) e in
     let p : length (touched ++ empty_lists (table - length touched)) ≡ length touched + length (empty_lists (table - length touched)) =
-    joined_length touched (empty_lists (table - length touched)) in
+    length-append touched (empty_lists (table - length touched)) in
     let q : length (empty_lists (table - length touched)) ≡ table - length touched = untouched_length (table - length touched) in
     let r : length (touched ++ empty_lists (table - length touched) ++ (0 ∷ []) ∷ []) ≡ length (touched ++ empty_lists (table - length touched)) + 1 =
-    joined_length (touched ++ empty_lists (table - length touched)) ((0 ∷ []) ∷ []) in
+    length-append (touched ++ empty_lists (table - length touched)) ((0 ∷ []) ∷ []) in
     let all : length (touched ++ empty_lists (table - length touched) ++ (0 ∷ []) ∷ []) ≤ n = omega (arith, past, p, q, r, le, lt) in
     all
 
@@ -156,10 +146,6 @@ touch_length : (commit : ℕ) (cs : List Change) (touched : List (List ℕ)) →
 touch_length commit [] touched = refl
 touch_length commit (c ∷ cs) touched = touch_length commit cs (touch commit c touched)
     ∙ put_length touched c.table (slice_set (touched_in touched c.table) c.row.0 commit)
-
-mapped_length : (f : ℕ → List Record) (n a : ℕ) → length (map f (range_with_len a n)) ≡ n
-mapped_length f zero a = refl
-mapped_length f (suc n) a = let e : length (map f (range_with_len (a + 1) n)) ≡ n = mapped_length f n (a + 1) in omega (arith, e)
 
 -- ---- statements
 
@@ -171,7 +157,7 @@ created_there s def h = then_any Done (refuse_at (transactions.lowest s.transact
     (λ u. then_any Done (refuse_if (nat_lt 63 (length s.schema.tables)) (refusals.Limit which.Tables 64)) _
     (λ v. record {
       rows = last_same s.rows s.schema.tables [] def h.rows;
-      touched = (let le = h.touched in let p : length (s.schema.tables ++ def ∷ []) ≡ length s.schema.tables + 1 = joined_length s.schema.tables (def ∷ []) in omega (arith, le, p));
+      touched = (let le = h.touched in let p : length (s.schema.tables ++ def ∷ []) ≡ length s.schema.tables + 1 = length-append s.schema.tables (def ∷ []) in omega (arith, le, p));
     }))
 
 indexed_there : (s : State) (def : IndexDef) → IsOfTables s → Gives Done (indexed s def)
@@ -213,7 +199,7 @@ ended_there s session own [] h = record {
       omega (arith, le, p));
 }
 ended_there s session own (c ∷ cs) h = record {
-  rows = mapped_length _ (length s.rows) 0 ∙ h.rows;
+  rows = length-map-range_with_len _ 0 (length s.rows) ∙ h.rows;
   touched = (let le = h.touched in
       let p : length (touch_all (s.last + 1) (transaction_at s.transactions.active own).changes s.transactions.touched) ≡ length s.transactions.touched =
       touch_length (s.last + 1) (transaction_at s.transactions.active own).changes s.transactions.touched in

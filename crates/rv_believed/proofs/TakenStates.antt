@@ -1,8 +1,8 @@
 -- After every legal history each row has a number that its table gave.
 use Rattle.std.proofs.Common.{◌≡◌, ℕ, zero, suc, ◌+◌, ◌-◌, ◌<◌, ◌≤◌, List, [], ◌∷◌, ◌++◌, Option, Some, None, Result, Ok, Err, Bool, true, false, refl, sym, ap, ◌∙◌, subst, filter, map, length, nat_lt, nat_eq, not, arith, if◌then◌else◌}
-use Rattle.std.proofs.lemmas.Bool.Decides.{nat_tests}
 use Rattle.std.specs.Prelude.{remove, slice_set}
 use Rattle.std.specs.List.{AllByRecursion, range_with_len, slice_index_or}
+use Rattle.std.proofs.lemmas.Bool.{eqb-true, ltb-false, ltb-true}
 use Rattle.rv_value.specs.declared.value.Value.{Value}
 use Rattle.rv_value.specs.declared.record.Record.{Record}
 use Rattle.rv_value.specs.declared.record.RowNo.{RowNo}
@@ -117,17 +117,11 @@ number_by touched table t false = end_rises touched (empty_lists (table - length
 number_rises : (touched : List (List ℕ)) (table : ℕ) → Rises (next_row touched) (next_row (with_number touched table))
 number_rises touched table t = number_by touched table t (nat_lt table (length touched))
 
-is_below : (a b : ℕ) → nat_lt a b ≡ true → a < b
-is_below a b h = grind (arith, nat_tests)
-
-is_not_below : (a b : ℕ) → nat_lt a b ≡ false → b ≤ a
-is_not_below a b h = grind (arith, nat_tests)
-
 given_by : (touched : List (List ℕ)) (table : ℕ) (b : Bool) → nat_lt table (length touched) ≡ b → next_row touched table
     < next_row (if b then slice_set touched table (touched_in touched table ++ 0 ∷ []) else touched ++ empty_lists (table - length touched) ++ (0 ∷ []) ∷ []) table
-given_by touched table true e = set_gives touched table (is_below table (length touched) e)
+given_by touched table true e = set_gives touched table (ltb-true table (length touched) e)
 given_by touched table false e =
-    let le : length touched ≤ table = is_not_below table (length touched) e in
+    let le : length touched ≤ table = ltb-false table (length touched) e in
     let before : length (slice_index_or touched table []) ≡ 0 = ap (λ (ns : List ℕ). length ns) (none_there touched table le) in
     let now : length (slice_index_or (touched ++ empty_lists (table - length touched) ++ (0 ∷ []) ∷ []) table []) ≡ 1 =
     ap (λ (ns : List ℕ). length ns) (past_end touched table (table - length touched) (omega (arith, le))) in
@@ -167,12 +161,9 @@ with_values_taken m n (Some vs) rows lt h =
     (all_filter (λ (r : Record). r.row.0 < m) (λ x. comes_below x new) rows h) (lt, all_filter (λ (r : Record). r.row.0 < m) (λ x. comes_below new x) rows h)
 with_values_taken m n None rows lt h = all_filter (λ (r : Record). r.row.0 < m) (λ (r : Record). not (nat_eq r.row.0 n)) rows h
 
-is_equal : (a b : ℕ) → nat_eq a b ≡ true → a ≡ b
-is_equal a b h = grind (arith, nat_tests)
-
 applied_one : (next : Next) (table : ℕ) (c : Change) (rows : List Record) → c.row.0 < next c.table → AreTaken (next table) rows
     → (b : Bool) → nat_eq c.table table ≡ b → AreTaken (next table) (if b then with_values c.row.0 c.values rows else rows)
-applied_one next table c rows lt h true e = with_values_taken (next table) c.row.0 c.values rows (subst (λ t. c.row.0 < next t) (is_equal c.table table e) lt) h
+applied_one next table c rows lt h true e = with_values_taken (next table) c.row.0 c.values rows (subst (λ t. c.row.0 < next t) (eqb-true c.table table e) lt) h
 applied_one next table c rows lt h false e = h
 
 applied_taken : (next : Next) (table : ℕ) (cs : List Change) (rows : List Record) → ChangesTaken next cs → AreTaken (next table) rows → AreTaken (next table) (rows_with_changes table cs rows)

@@ -1,6 +1,6 @@
 -- Which rows changes write, and which they leave: by membership.
 use Rattle.std.proofs.Common.{◌≡◌, ℕ, List, [], ◌∷◌, ◌++◌, Bool, true, false, not, ◌&&◌, ◌||◌, ◌==◌, cond, Option, Some, None, ◌⊎◌, inl, inr, refl, sym, ap, ◌∙◌, subst, filter, arith}
-use Rattle.std.proofs.lemmas.Bool.{cases_Bool, and_parts}
+use Rattle.std.proofs.lemmas.Bool.{cases_Bool, and_parts, not-true, or_parts}
 use Rattle.std.proofs.lemmas.Bool.Decides.{nat_tests}
 use Rattle.std.specs.List.{AllByRecursion, list_all, list_any}
 use Rattle.rv_value.specs.declared.value.Value.{Value}
@@ -61,12 +61,8 @@ row_is r n None h = absurd h
 row_is r n (Some vs) (inl here) = ap (λ (x : Record). x.row.0) here
 row_is r n (Some vs) (inr none) = absurd none
 
-not_false : (b : Bool) → not b ≡ true → b ≡ false
-not_false true h = cc
-not_false false h = refl
-
 values_in : (n : ℕ) (values : Option (List Value)) (r : Record) (rows : List Record) → In r (with_values n values rows) → In r (values_row n values) ⊎ (In r rows × ((r.row.0 == n) ≡ false))
-values_in n None r rows h = (let k = in_filter (λ (s : Record). not (s.row.0 == n)) r rows h in inr (k.0, not_false (r.row.0 == n) k.1))
+values_in n None r rows h = (let k = in_filter (λ (s : Record). not (s.row.0 == n)) r rows h in inr (k.0, not-true (r.row.0 == n) k.1))
 values_in n (Some vs) r rows h =
     let new : Record = record { row = record { 0 = n }; values = vs } in
     by new (in_either r (filter (λ (s : Record). comes_below s new) rows) (new ∷ filter (λ (s : Record). comes_below new s) rows) h) refl
@@ -233,14 +229,10 @@ wrote_with table r c cs h = by (wrote_joined table r (filter (λ d. is_before d 
 
 -- ---- further changes
 
-either_false : (a b : Bool) → (a || b) ≡ false → (a ≡ false) × (b ≡ false)
-either_false true b h = cc
-either_false false b h = (refl, h)
-
 any_joined : (p : Change → Bool) (xs ys : List Change) → list_any p (xs ++ ys) ≡ false → (list_any p xs ≡ false) × (list_any p ys ≡ false)
 any_joined p [] ys h = (refl, h)
 any_joined p (x ∷ xs) ys h =
-    let k = either_false (p x) (list_any p (xs ++ ys)) h in
+    let k = or_parts (p x) (list_any p (xs ++ ys)) h in
     let rest = any_joined p xs ys k.1 in
     (ap (λ b. b || list_any p xs) k.0 ∙ rest.0, rest.1)
 
@@ -260,14 +252,14 @@ none_filtered p a b (d ∷ ds) one_of left right = elim (cases_Bool (p d)) [
   where
     less : (q : Change → Bool) → list_any p (filter q (d ∷ ds)) ≡ false → list_any p (filter q ds) ≡ false
     less q h = elim (cases_Bool (q d)) [
-      | inl k ↦ (either_false (p d) (list_any p (filter q ds)) (subst (λ x. list_any p (cond x (d ∷ filter q ds) (filter q ds)) ≡ false) k h)).1
+      | inl k ↦ (or_parts (p d) (list_any p (filter q ds)) (subst (λ x. list_any p (cond x (d ∷ filter q ds) (filter q ds)) ≡ false) k h)).1
       | inr g ↦ subst (λ x. list_any p (cond x (d ∷ filter q ds) (filter q ds)) ≡ false) g h
     ]
 
 none_with : (table n : ℕ) (c : Change) (cs : List Change) → has_change table n (with_change c cs) ≡ false → (is_of table n c ≡ false) × (has_change table n cs ≡ false)
 none_with table n c cs h =
     let k = any_joined (is_of table n) (filter (λ d. is_before d c) cs) (c ∷ filter (λ d. is_before c d) cs) h in
-    let own = either_false (is_of table n c) (list_any (is_of table n) (filter (λ d. is_before c d) cs)) k.1 in
+    let own = or_parts (is_of table n c) (list_any (is_of table n) (filter (λ d. is_before c d) cs)) k.1 in
     (own.0, none_filtered (is_of table n) (λ d. is_before d c) (λ d. is_before c d) cs (λ d t. (let apart = own.0 in grind (arith, nat_tests, t, apart))) k.0 own.1)
 
 pub none_further : (table n : ℕ) (new cs : List Change) → has_change table n (with_changes new cs) ≡ false → (has_change table n cs ≡ false) × (has_change table n new ≡ false)
@@ -310,7 +302,7 @@ view_further table new cs rows r rise h = by (applied_in table (with_changes new
 pub left_further : (table : ℕ) (new cs : List Change) (rows : List Record) (r : Record) → In r (rows_left table (with_changes new cs) rows) → In r (rows_left table cs rows)
 left_further table new cs rows r h =
     let k = in_filter (λ (s : Record). not (has_change table s.row.0 (with_changes new cs))) r rows h in
-    let none = (none_further table r.row.0 new cs (not_false (has_change table r.row.0 (with_changes new cs)) k.1)).0 in
+    let none = (none_further table r.row.0 new cs (not-true (has_change table r.row.0 (with_changes new cs)) k.1)).0 in
     in_kept (λ (s : Record). not (has_change table s.row.0 cs)) r rows k.0 (ap not none)
 
 -- changes of another table write nothing here
