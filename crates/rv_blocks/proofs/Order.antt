@@ -1,5 +1,5 @@
 -- Where an item is put into a rising list, or taken out of it.
-use Rattle.std.proofs.Common.{◌≡◌, ℕ, ◌<◌, ◌≤◌, ◌-◌, List, [], ◌∷◌, refl, ap, sym, ◌∙◌, arith, length, zero, suc, Bool, true, false, not, insert, remove, Option, Some, None}
+use Rattle.std.proofs.Common.{◌≡◌, ℕ, ◌<◌, ◌≤◌, ◌-◌, List, [], ◌∷◌, refl, ap, sym, ◌∙◌, arith, length, zero, suc, Bool, true, false, insert, remove, Option, Some, None}
 use Rattle.std.specs.Prelude.{slice_index_or, slice_set, slice_get}
 use Rattle.std.specs.List.{list_all}
 use Rattle.std.proofs.lemmas.List.{length-set}
@@ -7,19 +7,12 @@ use Rattle.std.proofs.lemmas.List.Edits.{length-insert, length-remove}
 use Rattle.rv_blocks.specs.Flat.{Turns, flat, AreSized}
 use Rattle.rv_blocks.specs.Kept.{Kept}
 use Rattle.std.specs.Cmp.{IsStrictWeakOrder}
-use Rattle.std.proofs.lemmas.Bool.{and_parts}
+use Rattle.std.proofs.lemmas.Bool.{and_parts, not-false, not-true}
+use Rattle.std.proofs.lemmas.Option.{same_Some}
 use Rattle.rv_rows.specs.Rising.{Rising, put_in}
 use Rattle.rv_rows.proofs.Puts.{filter_all, put_first, put_same, put_more, rising_put}
 use Rattle.rv_blocks.specs.Taking.{take_from, standing, is_level}
 use Rattle.rv_blocks.proofs.Places.{chain_of, alike, none_before, all_behind}
-
-turned : (b : Bool) → not b ≡ false → b ≡ true
-turned true h = refl
-turned false h = cc
-
-turned_back : (b : Bool) → not b ≡ true → b ≡ false
-turned_back true h = cc
-turned_back false h = refl
 
 pub all_at : {X : Type 0} (p : X → Bool) (xs : List X) (i : ℕ) (d : X) → i < length xs → list_all p xs ≡ true → p (slice_index_or xs i d) ≡ true
 all_at p [] i d h all = absurd (omega arith)
@@ -41,9 +34,6 @@ turns_tail p x xs (suc k) t =
       before = λ d h. rw two (rw one at t.before d (omega arith));
       here = λ d h. t.here d (omega arith);
     }
-
-some_is : {X : Type 0} (x y : X) → Some x ≡ Some y → x ≡ y
-some_is x y e = cc
 
 module _ {X : Type 0} (before : X → X → Bool) (weak : IsStrictWeakOrder before) where
   first_before : (new x : X) (xs : List X) (k : ℕ) → Rising before (x ∷ xs) → Turns (λ y. before y new) (x ∷ xs) (suc k) → before x new ≡ true
@@ -70,9 +60,9 @@ module _ {X : Type 0} (before : X → X → Bool) (weak : IsStrictWeakOrder befo
   pub put_over : (new y : X) (xs : List X) (r : ℕ) → Rising before xs → Turns (λ x. before x new) xs r → slice_get xs r ≡ Some y → is_level before new (Some y) ≡ true → (slice_set xs r new ≡ put_in before new xs) × (remove xs r ≡ take_from before new xs) × (standing before new xs ≡ Some y)
   put_over new y [] r rising t got level = cc
   put_over new y (x ∷ xs) zero rising t got level =
-      let same : x ≡ y = some_is x y got in
+      let same : x ≡ y = same_Some x y got in
       let early : before x new ≡ false = t.here x (omega arith) in
-      let late : before new x ≡ false = ap (before new) same ∙ turned_back (before new y) level in
+      let late : before new x ≡ false = ap (before new) same ∙ not-true (before new y) level in
       let all = all_alike x new xs early late rising.0 in (
         sym (put_same before (chain_of before weak) new x xs late early all),
         rw (early, late, none_before before (chain_of before weak) new xs all, filter_all (λ z. before new z) xs all) refl,
@@ -91,7 +81,7 @@ module _ {X : Type 0} (before : X → X → Bool) (weak : IsStrictWeakOrder befo
   put_new new [] (suc k) rising t level = let within = t.within in absurd (omega arith)
   put_new new (x ∷ xs) zero rising t level =
       let early : before x new ≡ false = t.here x (omega arith) in
-      let late : before new x ≡ true = turned (before new x) level in
+      let late : before new x ≡ true = not-false (before new x) level in
       let all = all_behind before (chain_of before weak) new x xs late rising.0 in (
         sym (put_first before (chain_of before weak) new x xs late rising.0),
         rw (early, late, none_before before (chain_of before weak) new xs all, filter_all (λ z. before new z) xs all) refl,
