@@ -1,11 +1,12 @@
 -- A step down, and what is read of the leaf in which a descent ends.
 use Rattle.std.proofs.Common.{ℕ, zero, suc, true, ◌+◌, ◌<◌, ◌≤◌, ◌≡◌, List, [], Option, Some, None, Bool, refl, ap, sym, ◌∙◌, arith, length}
 use Rattle.std.specs.Prelude.{filter}
+use Rattle.std.proofs.lemmas.Bool.{not-true}
 use Rattle.rv_value.specs.declared.record.IndexEntry.{IndexEntry}
 use Rattle.rv_value.specs.declared.range.Range.{Range}
 use Rattle.rv_reader.specs.Entries.{comes_before, AreLong}
 use Rattle.rv_reader.specs.Leaves.{is_passed, is_wanted, within, leaf_at, leaf_entries, IsChunk}
-use Rattle.rv_reader.proofs.Chunks.{is_chunk, is_long, run_tests, turned_true}
+use Rattle.rv_reader.proofs.Chunks.{is_chunk, is_long, run_tests}
 use Rattle.rv_reader.proofs.Orders.{order, one_way, key_not}
 use Rattle.rv_reader.proofs.Sides.{before_along}
 use Rattle.rv_node.specs.Nodes.{Parts}
@@ -45,7 +46,7 @@ leaf_end at goes (suc level) id next l = absurd (omega arith)
 -- what is before a cut that is passed is passed
 passed_before : (start : Option IndexEntry) (range : Range) (x c : IndexEntry) → is_long range x ≡ true → is_long range c ≡ true → comes_before x c ≡ true → is_passed start range c ≡ true → is_passed start range x ≡ true
 passed_before None range x c lx lc l p = before_along range x.key c.key (key_not x c (one_way x c l)) lx lc p
-passed_before (Some s) range x c lx lc l p = rw (order.chain s c x (turned_true (comes_before s c) p) (one_way x c l)) refl
+passed_before (Some s) range x c lx lc l p = rw (order.chain s c x (not-true (comes_before s c) p) (one_way x c l)) refl
 
 pub chunk_is : (len : ℕ) (at : ℕ → Parts) (range : Range) (start : Option IndexEntry) (leaf entries : List IndexEntry) (cut next : Option IndexEntry) → IsIndexTree len at → AreLong range (entries_all (whole_at at)) → AreLong range (cuts_all (whole_at at))
     → (leaf, cut) ≡ leaf_of at start range → entries ≡ filter (is_wanted range start) leaf → next ≡ within range cut → IsChunk (entries_all (whole_at at)) (cuts_all (whole_at at)) range start (record { entries = entries; next = next })

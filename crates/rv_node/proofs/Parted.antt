@@ -1,6 +1,6 @@
 -- Searches by halves among entries that ascend.
 use Rattle.std.proofs.Common.{◌≡◌, ℕ, zero, suc, ◌+◌, ◌≤◌, List, [], ◌∷◌, Bool, true, false, not, refl, ap, sym, ◌∙◌, inl, inr, subst, arith, length, filter, take, drop, Option, Some, None}
-use Rattle.std.proofs.lemmas.Bool.{cases_Bool, and_parts}
+use Rattle.std.proofs.lemmas.Bool.{cases_Bool, and_parts, not-true}
 use Rattle.std.specs.List.{list_all, AllWithin}
 use Rattle.std.specs.List.Sorted.{IsPartitionedBy}
 use Rattle.rv_value.specs.declared.record.IndexEntry.{IndexEntry}
@@ -10,7 +10,6 @@ use Rattle.rv_rows.specs.Rising.{Rising}
 use Rattle.rv_rows.proofs.Cuts.{partitioned}
 use Rattle.rv_reader.specs.Entries.{AreLong, Ascend, comes_before}
 use Rattle.rv_reader.specs.Leaves.{after_side, is_passed}
-use Rattle.rv_reader.proofs.Chunks.{turned_true}
 use Rattle.rv_reader.proofs.Orders.{key_not, one_way, order}
 use Rattle.rv_reader.proofs.Sides.{after_along, before_along}
 use Rattle.rv_node.specs.Children.{PassesTo, first_child, is_before, is_not_after, last_child, last_place}
@@ -47,7 +46,7 @@ pub not_after_parted : (range : Range) (es : List IndexEntry) → Ascend es → 
 not_after_parted range es ascend long = partitioned comes_before (is_long range) (is_not_after range) (not_after_goes range) es ascend long
 
 up_to_goes : (e x y : IndexEntry) → comes_before x y ≡ true → up_to comes_before e y ≡ true → up_to comes_before e x ≡ true
-up_to_goes e x y h p = rw (order.chain e y x (turned_true (comes_before e y) p) (one_way x y h)) refl
+up_to_goes e x y h p = rw (order.chain e y x (not-true (comes_before e y) p) (one_way x y h)) refl
 
 passed_goes : (range : Range) (start : Option IndexEntry) (x y : IndexEntry) → comes_before x y ≡ true → is_long range x ≡ true → is_long range y ≡ true → is_passed start range y ≡ true → is_passed start range x ≡ true
 passed_goes range None x y h lx ly p = before_goes range x y h lx ly p

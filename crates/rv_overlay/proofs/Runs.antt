@@ -1,7 +1,7 @@
 -- Runs of a list that two tests find, and what stands in a place of it.
 use Rattle.std.proofs.Common.{◌≡◌, ℕ, zero, suc, ◌+◌, ◌-◌, ◌*◌, ◌/◌, ◌<◌, ◌≤◌, List, [], ◌∷◌, Bool, true, false, not, ◌&&◌, ◌||◌, ◌==◌, cond, Option, Some, None, is_some, inl, inr, refl, ap, sym, ◌∙◌, filter, find, take, drop, length, arith, nat_lt}
 use Rattle.std.specs.Prelude.{slice_get, slice_set}
-use Rattle.std.proofs.lemmas.Bool.{cases_Bool, and_parts}
+use Rattle.std.proofs.lemmas.Bool.{cases_Bool, and_parts, not-true}
 use Rattle.std.proofs.lemmas.Bool.Decides.{nat_tests}
 use Rattle.std.specs.List.{list_all}
 use Rattle.std.specs.List.Sorted.{IsPartitionedBy}
@@ -27,7 +27,7 @@ use Rattle.rv_blocks.specs.Taking.{is_level, standing}
 use Rattle.rv_blocks.proofs.Order.{over}
 use Rattle.rv_reader.specs.Entries.{comes_before, run, is_in, Ascend, AreLong}
 use Rattle.rv_reader.specs.Leaves.{after_side, before_side, is_from, is_passed}
-use Rattle.rv_reader.proofs.Chunks.{is_long, turned_true}
+use Rattle.rv_reader.proofs.Chunks.{is_long}
 use Rattle.rv_reader.proofs.Orders.{follows, key_not, one_way, order}
 use Rattle.rv_reader.proofs.Sides.{before_along, after_along}
 use Rattle.rv_reader.proofs.Sorting.{same}
@@ -53,7 +53,7 @@ all_own p (x ∷ xs) = elim (cases_Bool (p x)) [ inl t ↦ rw t (rw t (all_own p
 
 passes_to : {X : Type 0} (p : X → Bool) (n : ℕ) (xs : List X) → list_all p (take n xs) ≡ true → list_all (λ x. not (p x)) (drop n xs) ≡ true → PassesTo p n xs
 passes_to p n [] h k = tt
-passes_to p zero (x ∷ xs) h k = let parts = and_parts (not (p x)) (list_all (λ y. not (p y)) xs) k in (turned_true (p x) parts.0, passes_to p zero xs refl parts.1)
+passes_to p zero (x ∷ xs) h k = let parts = and_parts (not (p x)) (list_all (λ y. not (p y)) xs) k in (not-true (p x) parts.0, passes_to p zero xs refl parts.1)
 passes_to p (suc n) (x ∷ xs) h k = let parts = and_parts (p x) (list_all p (take n xs)) h in (parts.0, passes_to p n xs parts.1 k)
 
 counted : {X : Type 0} (p : X → Bool) (n : ℕ) (xs : List X) → take n xs ≡ filter p xs → drop n xs ≡ filter (λ x. not (p x)) xs → PassesTo p n xs
@@ -231,7 +231,7 @@ put_level e xs r ascend turns here = by (slice_get xs r) refl
     by None got = let no : false ≡ true = ap (is_level comes_before e) (sym got) ∙ here in cc
     by (Some y) got =
         let early : comes_before y e ≡ false = sym (ap (λ x. comes_before x e) (read_as xs r y e got)) ∙ turns.here e (there_at xs r y got) in
-        let late : comes_before e y ≡ false = turned_true (comes_before e y) (ap (is_level comes_before e) (sym got) ∙ here) in
+        let late : comes_before e y ≡ false = not-true (comes_before e y) (ap (is_level comes_before e) (sym got) ∙ here) in
         let is : y ≡ e = same y e early late in
         sym (over comes_before order e y xs r ascend turns got here).0 ∙ ap (slice_set xs r) (sym is) ∙ put_back xs r y got
 

@@ -1,6 +1,6 @@
 -- The leaves of an index, one after another, give a whole run, and their number falls.
 use Rattle.std.proofs.Common.{◌≡◌, ◌<◌, ◌≤◌, List, [], ◌∷◌, ◌++◌, Bool, true, false, not, ◌&&◌, cond, Option, Some, None, IfSome, inl, inr, refl, ap, sym, ◌∙◌, filter, length, arith, append-nil, ◌+◌, subst}
-use Rattle.std.proofs.lemmas.Bool.{cases_Bool, and_parts}
+use Rattle.std.proofs.lemmas.Bool.{cases_Bool, and_parts, not-false, not-true}
 use Rattle.std.specs.List.{list_all}
 use Rattle.rv_value.specs.declared.record.IndexEntry.{IndexEntry}
 use Rattle.rv_value.specs.declared.range.Range.{Range}
@@ -95,20 +95,12 @@ not_in_after Before h = refl
 not_in_after In h = cc
 not_in_after After h = refl
 
-pub turned_true : (b : Bool) → not b ≡ true → b ≡ false
-turned_true true h = cc
-turned_true false h = refl
-
-turned_false : (b : Bool) → not b ≡ false → b ≡ true
-turned_false true h = refl
-turned_false false h = cc
-
 -- what is wanted is not below the cut at which the leaf begins
 low_wanted : (range : Range) (start low : Option IndexEntry) → IfSome low (λ c. is_passed start range c ≡ true) → IfSome low (λ c. is_long range c ≡ true) → (e : IndexEntry) → is_long range e ≡ true → is_wanted range start e ≡ true → is_from low e ≡ true
 low_wanted range start None p l e long w = refl
 low_wanted range (Some s) (Some c) p l e long w =
     let parts = and_parts (not (comes_before e s)) (is_in range e) w in
-    rw (order.chain e s c (turned_true (comes_before e s) parts.0) (turned_true (comes_before s c) p)) refl
+    rw (order.chain e s c (not-true (comes_before e s) parts.0) (not-true (comes_before s c) p)) refl
 low_wanted range None (Some c) p l e long w = elim (cases_Bool (comes_before e c)) [
   | inl t ↦
       let before = before_along range e.key c.key (key_not e c (one_way e c t)) long l p in
@@ -121,7 +113,7 @@ low_wanted range None (Some c) p l e long w = elim (cases_Bool (comes_before e c
 from_next : (range : Range) (start : Option IndexEntry) (n e : IndexEntry) → is_passed start range n ≡ false → comes_before e n ≡ false → is_from start e ≡ true
 from_next range None n e p h = refl
 from_next range (Some s) n e p h =
-    let above : comes_before s n ≡ true = turned_false (comes_before s n) p in
+    let above : comes_before s n ≡ true = not-false (comes_before s n) p in
     rw (one_way s e (below_through s n e above h)) refl
 
 stays_above : (n x y : IndexEntry) → comes_before x y ≡ true → comes_before x n ≡ false → comes_before y n ≡ false
@@ -201,7 +193,7 @@ fewer_left range cuts None n p counts =
     let all = counted_all cuts in
     omega arith
 fewer_left range cuts (Some s) n p counts =
-    let above : comes_before s n ≡ true = turned_false (comes_before s n) p in
+    let above : comes_before s n ≡ true = not-false (comes_before s n) p in
     let few = counts (comes_before n) (comes_before s) (λ c h. follows s n c above h) (itself n) above in
     omega arith
 
@@ -295,7 +287,7 @@ ahead_more range (Some s) n c l p h =
     let parts = and_parts (is_ahead (Some n) range c) (is_long range c) h in
     let ahead = and_parts (not (not (comes_before n c))) (not (after_side (place range c.key))) parts.0 in
     let above : comes_before n c ≡ true = turned_twice (comes_before n c) ahead.0 in
-    let first : comes_before s n ≡ true = turned_false (comes_before s n) p in
+    let first : comes_before s n ≡ true = not-false (comes_before s n) p in
     rw (follows s n c first above) ahead.1
 
 fewer_ahead : (range : Range) (cuts : List IndexEntry) (start : Option IndexEntry) (n : IndexEntry) → AreLong range cuts → is_long range n ≡ true → is_passed start range n ≡ false → after_side (place range n.key) ≡ false

@@ -2,11 +2,10 @@
 -- front part find holds of those that any test finds.
 use Rattle.std.proofs.Common.{◌≡◌, ◌≤◌, List, [], ◌∷◌, Bool, true, false, not, cond, Option, Some, None, IfSome, refl, length, subst}
 use Rattle.std.specs.List.{list_all}
-use Rattle.std.proofs.lemmas.Bool.{and_parts}
+use Rattle.std.proofs.lemmas.Bool.{and_parts, not-true}
 use Rattle.rv_value.specs.declared.record.IndexEntry.{IndexEntry}
 use Rattle.rv_reader.specs.Entries.{comes_before, Ascend}
 use Rattle.rv_reader.specs.Leaves.{Leaf, leaf_from, leaf_entries}
-use Rattle.rv_reader.proofs.Chunks.{turned_true}
 use Rattle.rv_reader.proofs.Orders.{itself, one_way, order}
 
 -- not behind the cut at which a leaf begins
@@ -16,7 +15,7 @@ reached (Some low) e = not (comes_before low e)
 
 reached_before : (low : Option IndexEntry) (x c : IndexEntry) → comes_before x c ≡ true → reached low c ≡ true → reached low x ≡ true
 reached_before None x c h r = r
-reached_before (Some low) x c h r = rw (order.chain low c x (turned_true (comes_before low c) r) (one_way x c h)) refl
+reached_before (Some low) x c h r = rw (order.chain low c x (not-true (comes_before low c) r) (one_way x c h)) refl
 
 -- a leaf that begins at a cut, or at a later one, has reached the entries before them
 low_reached : (passes : IndexEntry → Bool) (k low : IndexEntry) (cuts : List IndexEntry) → comes_before low k ≡ false → list_all (comes_before k) cuts ≡ true → reached (leaf_from passes (Some low) cuts).low k ≡ true

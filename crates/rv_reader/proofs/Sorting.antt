@@ -10,6 +10,7 @@ use Rattle.std.specs.Cmp.{tied_itself, ranks, int_ranks}
 use Rattle.std.specs.Cmp.Lexicographic.{slice_cmp}
 use Rattle.std.specs.declared.cmp.Ordering.{Ordering}
 use Rattle.std.specs.declared.cmp.Ordering.TheVariants.{Less, Equal, Greater}
+use Rattle.std.proofs.lemmas.List.{length-map}
 use Rattle.rv_value.specs.declared.value.Value.{Value}
 use Rattle.rv_value.specs.declared.value.Value.TheVariants.{Null, Int, Str}
 use Rattle.rv_value.specs.declared.record.Record.{Record}
@@ -253,13 +254,9 @@ keys_in n e (x ∷ xs) h all =
       | false ↦ (h, all)
     ]
 
-many : (columns : List ℕ) (f : ℕ → Value) → length (map f columns) ≡ length columns
-many [] f = refl
-many (c ∷ columns) f = ap (λ n. suc n) (many columns f)
-
 pub entries_keys : (columns : List ℕ) (rows : List Record) → AreKeys (length columns) (entries_of columns rows)
 entries_keys columns [] = tt
-entries_keys columns (r ∷ rows) = keys_in (length columns) (entry_of columns r) (entries_of columns rows) (many columns (column_of r.values)) (entries_keys columns rows)
+entries_keys columns (r ∷ rows) = keys_in (length columns) (entry_of columns r) (entries_of columns rows) (length-map columns (column_of r.values)) (entries_keys columns rows)
 
 count_in : (e : IndexEntry) (xs : List IndexEntry) → length (sorted_in e xs) ≡ suc (length xs)
 count_in e [] = refl
