@@ -1,5 +1,5 @@
 -- How many entries of the view are in a range.
-use Rattle.std.proofs.Common.{◌≡◌, ℕ, zero, suc, ◌+◌, ◌-◌, ◌≤◌, List, [], ◌∷◌, ◌++◌, Bool, true, false, not, nat_eq, ◌&&◌, cond, inl, inr, refl, ap, sym, subst, filter, length, arith}
+use Rattle.std.proofs.Common.{◌≡◌, ℕ, zero, suc, ◌+◌, ◌-◌, ◌≤◌, List, [], ◌∷◌, Bool, true, false, not, nat_eq, ◌&&◌, cond, inl, inr, refl, ap, sym, subst, filter, length, arith}
 use Rattle.std.proofs.lemmas.Bool.{cases_Bool, and_parts}
 use Rattle.std.specs.List.{list_all}
 use Rattle.std.specs.Ordering.{is_eq, is_lt}
@@ -15,6 +15,7 @@ use Rattle.rv_reader.specs.Entries.{comes_before, is_in, run, Ascend, AreLong}
 use Rattle.rv_reader.specs.Shown.{IsEstimate, IsIndex}
 use Rattle.rv_value.specs.Orders.{entry_cmp_total}
 use Rattle.std.specs.Cmp.{tied_itself}
+use Rattle.std.proofs.lemmas.List.{length-append}
 use Rattle.rv_reader.proofs.Sorting.{same}
 use Rattle.rv_reader.proofs.Filters.{filter_same, filter_twice, all_filter}
 use Rattle.rv_reader.proofs.Orders.{one_way, follows}
@@ -43,10 +44,6 @@ halves : (p : IndexEntry → Bool) (xs : List IndexEntry) → length (filter p x
 halves p [] = omega arith
 halves p (x ∷ xs) = let rest = halves p xs in elim (cases_Bool (p x)) [ inl t ↦ rw t (omega (arith, rest)) | inr f ↦ rw f (omega (arith, rest)) ]
 
-joined_count : (xs ys : List IndexEntry) → length (xs ++ ys) ≡ length xs + length ys
-joined_count [] ys = omega arith
-joined_count (x ∷ xs) ys = let rest = joined_count xs ys in omega (arith, rest)
-
 behind_same : (e : IndexEntry) (xs : List IndexEntry) → list_all (other e) xs ≡ true → filter (λ x. not (comes_before x e)) xs ≡ filter (λ x. comes_before e x) xs
 behind_same e xs all = filter_same (other e) (λ x. not (comes_before x e)) (λ x. comes_before e x) xs all (λ x h. apart e x h)
   where
@@ -63,7 +60,7 @@ put_more : (e : IndexEntry) (xs : List IndexEntry) → list_all (other e) xs ≡
 put_more e xs all =
     let two = halves (λ x. comes_before x e) xs in
     let back = ap length (behind_same e xs all) in
-    rw (joined_count (filter (λ x. comes_before x e) xs) (e ∷ filter (λ x. comes_before e x) xs)) (omega (arith, two, back))
+    rw (length-append (filter (λ x. comes_before x e) xs) (e ∷ filter (λ x. comes_before e x) xs)) (omega (arith, two, back))
 
 -- each entry is another one than all of a list
 abbrev pub AreNew : List IndexEntry → List IndexEntry → Type 0

@@ -1,9 +1,10 @@
 -- What was frozen of an index and of a table fits the reader that it is laid over.
-use Rattle.std.proofs.Common.{◌≡◌, ℕ, ◌+◌, ◌*◌, ◌/◌, ◌<◌, ◌≤◌, List, [], ◌∷◌, ◌++◌, Bool, true, false, not, ◌&&◌, ◌||◌, ◌==◌, cond, Option, Some, None, IfSome, is_some, inl, inr, refl, ap, sym, subst, ◌∙◌, map, filter, length, arith}
+use Rattle.std.proofs.Common.{◌≡◌, ℕ, ◌+◌, ◌*◌, ◌/◌, ◌<◌, ◌≤◌, List, [], ◌∷◌, ◌++◌, Bool, true, false, not, ◌&&◌, ◌==◌, cond, Option, Some, None, IfSome, is_some, inl, inr, refl, ap, sym, subst, ◌∙◌, filter, length, arith}
 use Rattle.std.specs.Prelude.{max}
-use Rattle.std.proofs.lemmas.Bool.{cases_Bool, and_parts}
+use Rattle.std.proofs.lemmas.Bool.{cases_Bool, and_parts, or_right}
 use Rattle.std.specs.List.{AllByRecursion, list_all}
 use Rattle.std.specs.Ordering.{is_eq}
+use Rattle.std.proofs.lemmas.List.{length-map}
 use Rattle.rv_value.specs.declared.value.Value.{Value}
 use Rattle.rv_value.specs.declared.record.Record.{Record}
 use Rattle.rv_value.specs.declared.record.IndexEntry.{IndexEntry}
@@ -30,10 +31,6 @@ use Rattle.rv_overlay.proofs.Viewing.{has_entries}
 
 -- Members and lists.
 
-or_right : (a b : Bool) → b ≡ true → (a || b) ≡ true
-or_right true b h = refl
-or_right false b h = h
-
 has_first : (x : IndexEntry) (xs : List IndexEntry) → has (x ∷ xs) x ≡ true
 has_first x xs = rw (itself_true x) refl
 
@@ -47,13 +44,9 @@ tests_members p (x ∷ xs) h = rw (h x (has_first x xs)) (tests_members p xs (λ
 
 -- Keys.
 
-map_count : (f : ℕ → Value) (columns : List ℕ) → length (map f columns) ≡ length columns
-map_count f [] = refl
-map_count f (c ∷ columns) = let rest = map_count f columns in omega (arith, rest)
-
 key_count : (columns : List ℕ) (found : Option Record) (e : IndexEntry) → is_entry columns found e ≡ true → length e.key ≡ length columns
 key_count columns None e h = cc
-key_count columns (Some r) e h = ap (λ (x : IndexEntry). length x.key) (sym (equal_same (entry_of columns r) e h)) ∙ map_count (column_of r.values) columns
+key_count columns (Some r) e h = ap (λ (x : IndexEntry). length x.key) (sym (equal_same (entry_of columns r) e h)) ∙ length-map columns (column_of r.values)
 
 pub index_fits : IndexFits
 index_fits columns table changes rows cuts part keeps =

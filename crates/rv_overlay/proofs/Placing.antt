@@ -5,6 +5,7 @@ use Rattle.std.specs.List.{list_all}
 use Rattle.std.specs.Ordering.{is_eq, is_lt, ordering_reverse}
 use Rattle.std.specs.declared.cmp.Ordering.{Ordering}
 use Rattle.std.specs.declared.cmp.Ordering.TheVariants.{Less, Equal, Greater}
+use Rattle.std.proofs.lemmas.List.Elements.{filter-append, filter_agree}
 use Rattle.rv_value.specs.declared.record.IndexEntry.{IndexEntry}
 use Rattle.rv_value.specs.Entries.{entry_cmp}
 use Rattle.rv_value.specs.Orders.{entry_cmp_total}
@@ -29,9 +30,6 @@ put_ascends e xs ascend = rising_put comes_before chain e xs ascend
 
 -- Filters.
 
-tests_same : (p r : IndexEntry → Bool) (xs : List IndexEntry) → ((x : IndexEntry) → p x ≡ r x) → filter p xs ≡ filter r xs
-tests_same p r xs h = filter_same (λ (e : IndexEntry). true) p r xs (all_true xs) (λ x t. h x)
-
 turn : (a b : Bool) → (a && b) ≡ (b && a)
 turn true true = refl
 turn true false = refl
@@ -39,11 +37,7 @@ turn false true = refl
 turn false false = refl
 
 filters_turn : (p q : IndexEntry → Bool) (xs : List IndexEntry) → filter p (filter q xs) ≡ filter q (filter p xs)
-filters_turn p q xs = filter_twice p q xs ∙ tests_same (λ x. q x && p x) (λ x. p x && q x) xs (λ x. turn (q x) (p x)) ∙ sym (filter_twice q p xs)
-
-filter_joined : (p : IndexEntry → Bool) (xs ys : List IndexEntry) → filter p (xs ++ ys) ≡ filter p xs ++ filter p ys
-filter_joined p [] ys = refl
-filter_joined p (x ∷ xs) ys = elim (p x) as (λ b. cond b (x ∷ filter p (xs ++ ys)) (filter p (xs ++ ys)) ≡ cond b (x ∷ filter p xs) (filter p xs) ++ filter p ys) [ true ↦ ap (λ zs. x ∷ zs) (filter_joined p xs ys) | false ↦ filter_joined p xs ys ]
+filters_turn p q xs = filter_twice p q xs ∙ filter_agree (λ x. q x && p x) (λ x. p x && q x) (λ x. turn (q x) (p x)) xs ∙ sym (filter_twice q p xs)
 
 passes_own : (p : IndexEntry → Bool) (xs : List IndexEntry) → list_all p (filter p xs) ≡ true
 passes_own p [] = refl
@@ -74,7 +68,7 @@ pub filter_put : (p : IndexEntry → Bool) (e : IndexEntry) (xs : List IndexEntr
 filter_put p e xs ascend =
     let front = filters_turn p (λ x. comes_before x e) xs in
     let back = filters_turn p (λ x. comes_before e x) xs in
-    filter_joined p (filter (λ x. comes_before x e) xs) (e ∷ filter (λ x. comes_before e x) xs)
+    filter-append p (filter (λ x. comes_before x e) xs) (e ∷ filter (λ x. comes_before e x) xs)
     ∙ elim (cases_Bool (p e)) [
       | inl t ↦ rw (t, front, back) refl
       | inr f ↦ rw (f, front, back) (around p e (filter p xs) (rising_filter comes_before p xs ascend) (passes_own p xs) f)

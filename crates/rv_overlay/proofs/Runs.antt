@@ -1,5 +1,5 @@
 -- Runs of a list that two tests find, and what stands in a place of it.
-use Rattle.std.proofs.Common.{◌≡◌, ℕ, zero, suc, ◌+◌, ◌-◌, ◌*◌, ◌/◌, ◌<◌, ◌≤◌, List, [], ◌∷◌, Bool, true, false, not, ◌&&◌, ◌||◌, ◌==◌, cond, Option, Some, None, is_some, inl, inr, refl, ap, sym, ◌∙◌, filter, find, take, drop, length, arith, nat_lt}
+use Rattle.std.proofs.Common.{◌≡◌, ℕ, zero, suc, ◌+◌, ◌-◌, ◌*◌, ◌/◌, ◌≤◌, List, [], ◌∷◌, Bool, true, false, not, ◌&&◌, ◌||◌, ◌==◌, cond, Option, Some, None, is_some, inl, inr, refl, ap, sym, ◌∙◌, filter, find, take, drop, length, arith, nat_lt}
 use Rattle.std.specs.Prelude.{slice_get, slice_set}
 use Rattle.std.proofs.lemmas.Bool.{cases_Bool, and_parts, not-true}
 use Rattle.std.proofs.lemmas.Bool.Decides.{nat_tests}
@@ -8,6 +8,8 @@ use Rattle.std.specs.List.Sorted.{IsPartitionedBy}
 use Rattle.std.specs.Ordering.{is_eq, is_lt, nat_cmp, ordering_reverse, ordering_then}
 use Rattle.std.specs.declared.cmp.Ordering.{Ordering}
 use Rattle.std.specs.declared.cmp.Ordering.TheVariants.{Less, Equal, Greater}
+use Rattle.std.proofs.lemmas.List.Elements.{filter_agree}
+use Rattle.std.proofs.lemmas.Option.{slice_get_within}
 use Rattle.rv_value.specs.declared.record.IndexEntry.{IndexEntry}
 use Rattle.rv_value.specs.declared.range.Range.{Range}
 use Rattle.rv_value.specs.declared.range.Side.{Side}
@@ -20,7 +22,6 @@ use Rattle.rv_rows.specs.declared.changes.Change.{Change}
 use Rattle.rv_rows.specs.Changes.{Rise, is_before, is_of}
 use Rattle.rv_rows.specs.Rising.{put_in}
 use Rattle.rv_rows.proofs.Cuts.{partitioned}
-use Rattle.rv_rows.proofs.Filters.{filter_same}
 use Rattle.rv_blocks.specs.Flat.{Turns}
 use Rattle.rv_blocks.specs.Orders.{change_cmp}
 use Rattle.rv_blocks.specs.Taking.{is_level, standing}
@@ -97,9 +98,6 @@ all_true : {X : Type 0} (xs : List X) → list_all (λ (x : X). true) xs ≡ tru
 all_true [] = refl
 all_true (x ∷ xs) = all_true xs
 
-tests_same : {X : Type 0} (p q : X → Bool) (xs : List X) → ((x : X) → p x ≡ q x) → filter p xs ≡ filter q xs
-tests_same p q xs h = filter_same (λ x. true) p q xs (all_true xs) (λ x t. h x)
-
 -- Entries in a range.
 
 early_down : (range : Range) (start : Option IndexEntry) (x y : IndexEntry) → comes_before x y ≡ true → is_long range x ≡ true → is_long range y ≡ true → is_early start range y ≡ true → is_early start range x ≡ true
@@ -159,7 +157,7 @@ pub span_taken : (range : Range) (start next : Option IndexEntry) (n m d : ℕ) 
 span_taken range start next n m d es nf nb mf mb e h =
     let early = counted (is_early start range) n es nf nb in
     let until = counted (is_until next range) m es mf mb in
-    let tests = tests_same (λ x. is_until next range x && not (is_early start range x)) (is_taken range start next) es (λ x. in_span (is_from start x) (is_below next x) (place range x.key)) in (
+    let tests = filter_agree (λ x. is_until next range x && not (is_early start range x)) (is_taken range start next) (λ x. in_span (is_from start x) (is_below next x) (place range x.key)) es in (
       span_is (is_early start range) (is_until next range) n m d es early until e ∙ tests,
       span_count (is_early start range) (is_until next range) n m d es early until e h ∙ ap length tests,
     )
@@ -169,7 +167,7 @@ and_true true = refl
 and_true false = refl
 
 pub in_range : (range : Range) (es : List IndexEntry) → filter (is_taken range None None) es ≡ run es range
-in_range range es = tests_same (is_taken range None None) (is_in range) es (λ e. and_true (is_in range e))
+in_range range es = filter_agree (is_taken range None None) (is_in range) (λ e. and_true (is_in range e)) es
 
 -- Marks.
 
@@ -195,11 +193,6 @@ first_is p n at es f b e =
     let here : next_mark 0 n ≡ at = omega arith in
     mark_at p 0 n es (counted p n es f b) ∙ ap (slice_get es) here
 
-pub none_at : {X : Type 0} (xs : List X) (i : ℕ) → length xs ≤ i → slice_get xs i ≡ None
-none_at [] i h = refl
-none_at (x ∷ xs) zero h = absurd (omega arith)
-none_at (x ∷ xs) (suc i) h = none_at xs i (omega arith)
-
 -- What stands in the place of an entry.
 
 level : (x e : IndexEntry) → (not (comes_before x e) && not (comes_before e x)) ≡ is_eq (entry_cmp x e)
@@ -218,11 +211,6 @@ has_is (x ∷ xs) e = ap (λ b. is_some (cond b (Some x) (standing comes_before 
     by true rest = refl
     by false rest = rest
 
-there_at : {X : Type 0} (xs : List X) (i : ℕ) (x : X) → slice_get xs i ≡ Some x → i < length xs
-there_at [] i x h = cc
-there_at (y ∷ ys) zero x h = omega arith
-there_at (y ∷ ys) (suc i) x h = let rest = there_at ys i x h in omega arith
-
 -- an entry that is there already is put in over itself
 pub put_level : (e : IndexEntry) (xs : List IndexEntry) (r : ℕ) → Ascend xs → Turns (λ x. comes_before x e) xs r → is_level comes_before e (slice_get xs r) ≡ true → put_in comes_before e xs ≡ xs
 put_level e xs r ascend turns here = by (slice_get xs r) refl
@@ -230,7 +218,7 @@ put_level e xs r ascend turns here = by (slice_get xs r) refl
     by : (found : Option IndexEntry) → slice_get xs r ≡ found → put_in comes_before e xs ≡ xs
     by None got = let no : false ≡ true = ap (is_level comes_before e) (sym got) ∙ here in cc
     by (Some y) got =
-        let early : comes_before y e ≡ false = sym (ap (λ x. comes_before x e) (read_as xs r y e got)) ∙ turns.here e (there_at xs r y got) in
+        let early : comes_before y e ≡ false = sym (ap (λ x. comes_before x e) (read_as xs r y e got)) ∙ turns.here e (slice_get_within xs r y got) in
         let late : comes_before e y ≡ false = not-true (comes_before e y) (ap (is_level comes_before e) (sym got) ∙ here) in
         let is : y ≡ e = same y e early late in
         sym (over comes_before order e y xs r ascend turns got here).0 ∙ ap (slice_set xs r) (sym is) ∙ put_back xs r y got
@@ -287,7 +275,7 @@ pub span_on : (table page n m d : ℕ) (cs : List Change)
     → d ≡ m - n → take d (drop n cs) ≡ filter (is_on table page) cs
 span_on table page n m d cs nf nb mf mb e =
     span_is (is_before_page table page) (is_until_page table page) n m d cs (counted (is_before_page table page) n cs nf nb) (counted (is_until_page table page) m cs mf mb) e
-    ∙ tests_same (λ c. is_until_page table page c && not (is_before_page table page c)) (is_on table page) cs (on_span table page)
+    ∙ filter_agree (λ c. is_until_page table page c && not (is_before_page table page c)) (is_on table page) (on_span table page) cs
 
 -- Sizes.
 

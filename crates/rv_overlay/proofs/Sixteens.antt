@@ -1,6 +1,6 @@
 -- Between two of the sixteenths there are at most sixteen entries.
 use Rattle.std.proofs.Common.{◌≡◌, ℕ, zero, suc, ◌≤◌, List, [], ◌∷◌, Bool, true, false, not, ◌&&◌, cond, Option, Some, None, inl, inr, refl, ap, sym, subst, ◌∙◌, filter, length, arith}
-use Rattle.std.proofs.lemmas.Bool.{cases_Bool, and_parts}
+use Rattle.std.proofs.lemmas.Bool.{cases_Bool, and_parts, and_right, not-true}
 use Rattle.std.specs.List.{list_all}
 use Rattle.rv_value.specs.declared.record.IndexEntry.{IndexEntry}
 use Rattle.rv_value.specs.declared.range.Range.{Range}
@@ -31,25 +31,17 @@ one_more : (b : Bool) (x : IndexEntry) (xs : List IndexEntry) (n : ℕ) → leng
 one_more true x xs n h = omega arith
 one_more false x xs n h = omega arith
 
-and_false : (a b : Bool) → b ≡ false → (a && b) ≡ false
-and_false true b h = h
-and_false false b h = refl
-
-turned : (b : Bool) → not b ≡ true → b ≡ false
-turned true h = cc
-turned false h = refl
-
 none_before : (w : IndexEntry → Bool) (e : IndexEntry) (es : List IndexEntry) → list_all (comes_before e) es ≡ true → counts w (Some e) (e ∷ es) ≤ 0
 none_before w e es all =
-    let none = filter_none (comes_before e) (λ x. w x && comes_before x e) es all (λ x h. and_false (w x) (comes_before x e) (one_way e x h)) in
-    rw (and_false (w e) (comes_before e e) (itself e), none) (omega arith)
+    let none = filter_none (comes_before e) (λ x. w x && comes_before x e) es all (λ x h. and_right (w x) (comes_before x e) (one_way e x h)) in
+    rw (and_right (w e) (comes_before e e) (itself e), none) (omega arith)
 
 -- none of them is passed
 late : (w passes : IndexEntry → Bool) (next : Option IndexEntry) (left : ℕ) (es : List IndexEntry) → Ascend es → list_all (λ e. not (passes e)) es ≡ true → first_not passes (marks left es) ≡ next → counts w next es ≤ left
 late w passes next left [] ascend all is = omega arith
 late w passes next zero (e ∷ es) ascend all is =
     let parts = and_parts (not (passes e)) (list_all (λ x. not (passes x)) es) all in
-    subst (λ n. counts w n (e ∷ es) ≤ 0) (sym (stops passes e (marks 15 es) (turned (passes e) parts.0)) ∙ is) (none_before w e es ascend.0)
+    subst (λ n. counts w n (e ∷ es) ≤ 0) (sym (stops passes e (marks 15 es) (not-true (passes e) parts.0)) ∙ is) (none_before w e es ascend.0)
 late w passes next (suc left) (e ∷ es) ascend all is =
     let parts = and_parts (not (passes e)) (list_all (λ x. not (passes x)) es) all in
     one_more (w e && is_below next e) e (filter (λ x. w x && is_below next x) es) left (late w passes next left es ascend.1 parts.1 is)
@@ -111,7 +103,7 @@ one_wanted : (range : Range) (start : Option IndexEntry) (x y : IndexEntry) → 
 one_wanted range None x y w p h = let no = sides_apart (place range x.key) w p in cc
 one_wanted range (Some s) x y w p h =
     let parts = and_parts (not (comes_before x s)) (is_in range x) w in
-    let is : x ≡ s = same x s (turned (comes_before x s) parts.0) (turned (comes_before s x) p) in
+    let is : x ≡ s = same x s (not-true (comes_before x s) parts.0) (not-true (comes_before s x) p) in
     let above : comes_before s y ≡ true = sym (ap (λ z. comes_before z y) is) ∙ h in
     rw above refl
 

@@ -1,7 +1,8 @@
 use Rattle.std.proofs.Common.{◌∙◌, sym, refl, arith}
 use Rattle.std.specs.Option.{option_copied}
+use Rattle.std.proofs.lemmas.Option.{slice_get_past}
 use Rattle.rv_reader.specs.Leaves.{is_passed}
-use Rattle.rv_overlay.proofs.Runs.{first_is, none_at, passed_parted}
+use Rattle.rv_overlay.proofs.Runs.{first_is, passed_parted}
 use Rattle.rv_overlay.proofs.fronts.first_behind.Goals as goal
 
 pub count-passed-requires : goal.count-passed-requires
@@ -11,4 +12,4 @@ pub returns-then-at-len : goal.returns-then-at-len
 returns-then-at-len c = sym (first_is (is_passed (option_copied c.args.from) c.args.range.now) c.count-passed.result _ c.args.entries.now c.count-passed.ensures.front c.count-passed.ensures.back refl ∙ c.get.ensures)
 
 pub returns-else-at-len : goal.returns-else-at-len
-returns-else-at-len c = sym (first_is (is_passed (option_copied c.args.from) c.args.range.now) c.count-passed.result _ c.args.entries.now c.count-passed.ensures.front c.count-passed.ensures.back refl ∙ none_at c.args.entries.now _ (omega (arith, c.if-at-len.false, c.len.ensures.same)))
+returns-else-at-len c = sym (first_is (is_passed (option_copied c.args.from) c.args.range.now) c.count-passed.result _ c.args.entries.now c.count-passed.ensures.front c.count-passed.ensures.back refl ∙ slice_get_past c.args.entries.now _ (omega (arith, c.if-at-len.false, c.len.ensures.same)))
