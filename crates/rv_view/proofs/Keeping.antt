@@ -5,6 +5,7 @@ use Rattle.std.proofs.lemmas.Bool.{cases_Bool, and_parts}
 use Rattle.std.proofs.lemmas.Bool.Decides.{nat_tests}
 use Rattle.std.proofs.lemmas.List.Folds.{list_all-append}
 use Rattle.std.specs.List.{AllByRecursion, list_all}
+use Rattle.std.proofs.lemmas.Option.{same_Some}
 use Rattle.rv_value.specs.declared.record.Record.{Record}
 use Rattle.rv_value.specs.declared.record.IndexEntry.{IndexEntry}
 use Rattle.rv_rows.specs.declared.changes.Change.{Change}
@@ -29,7 +30,7 @@ use Rattle.rv_overlay.specs.Rows.{change_of, changed_row}
 use Rattle.rv_overlay.proofs.Moving.{find_back, find_front, find_kept, find_left, keeps_up, nothing_kept, others_keep_up}
 use Rattle.rv_overlay.proofs.Tabling.{applied_ascends, row_applied, rows_untouched}
 use Rattle.rv_view.specs.Making.{AreIndexes, Keeps, KeepsPart, by_table, empty_part, empty_parts, last_of, one_if, pages_up, part_after, parts_after, rows_or, size_after, unchanged, written_after, written_of}
-use Rattle.rv_view.proofs.Rows.{applied_other, applied_own, length_with, pages_fit, pages_other, some_is, touches_other}
+use Rattle.rv_view.proofs.Rows.{applied_other, applied_own, length_with, pages_fit, pages_other, touches_other}
 use Rattle.rv_view.proofs.Written.{pages_written, written_with}
 
 -- The lists of one index ascend.
@@ -105,7 +106,7 @@ parts_at : (ds : List IndexDef) (table : ℕ) (base old new : Option Record) (ps
     → part_at (parts_after ds table base old new ps) i ≡ part_after d table base old new (part_at ps i)
 parts_at [] table base old new ps i d is low = cc
 parts_at (e ∷ ds) table base old new [] i d is low = absurd (omega (arith, low))
-parts_at (e ∷ ds) table base old new (p ∷ ps) zero d is low = ap (λ x. part_after x table base old new p) (some_is e d is)
+parts_at (e ∷ ds) table base old new (p ∷ ps) zero d is low = ap (λ x. part_after x table base old new p) (same_Some e d is)
 parts_at (e ∷ ds) table base old new (p ∷ ps) (suc i) d is low = parts_at ds table base old new ps i d is (omega (arith, low))
 
 -- Sizes, by table.
@@ -267,7 +268,7 @@ empty_length (d ∷ ds) = ap (λ n. suc n) (empty_length ds)
 
 empty_at : (ds : List IndexDef) (i : ℕ) (d : IndexDef) → slice_get ds i ≡ Some d → part_at (empty_parts ds) i ≡ empty_part d
 empty_at [] i d is = cc
-empty_at (e ∷ ds) zero d is = ap empty_part (some_is e d is)
+empty_at (e ∷ ds) zero d is = ap empty_part (same_Some e d is)
 empty_at (e ∷ ds) (suc i) d is = empty_at ds i d is
 
 pub starts_kept : (shown : Shown) (indexes : List IndexDef) (base : ℕ) → AreIndexes shown indexes → Keeps shown (unchanged base indexes) []

@@ -4,6 +4,7 @@ use Rattle.std.specs.Prelude.{slice_get, slice_set}
 use Rattle.std.proofs.lemmas.List.Folds.{list_all-append}
 use Rattle.std.specs.List.{AllByRecursion, list_all}
 use Rattle.std.proofs.lemmas.Bool.{and_parts}
+use Rattle.std.proofs.lemmas.Option.{same_Some}
 use Rattle.rv_value.specs.declared.record.Record.{Record}
 use Rattle.rv_rows.specs.declared.changes.Change.{Change}
 use Rattle.rv_rows.specs.Changes.{Rise, is_before, with_change}
@@ -13,13 +14,12 @@ use Rattle.rv_rows.proofs.Puts.{filter_all}
 use Rattle.rv_catalog.specs.declared.def.IndexDef.{IndexDef}
 use Rattle.rv_overlay.specs.declared.frozen.Part.{Part}
 use Rattle.rv_view.specs.Making.{empty_part, empty_parts, part_after, parts_after}
-use Rattle.rv_view.proofs.Rows.{some_is}
 
 -- The item of a place has what all have.
 
 pub all_at : {X : Type 0} (P : X → Type 0) (xs : List X) (i : ℕ) (x : X) → AllByRecursion P xs → slice_get xs i ≡ Some x → P x
 all_at P [] i x all is = cc
-all_at P (y ∷ ys) zero x all is = subst P (some_is y x is) all.0
+all_at P (y ∷ ys) zero x all is = subst P (same_Some y x is) all.0
 all_at P (y ∷ ys) (suc i) x all is = all_at P ys i x all.1 is
 
 -- The part of a place.
@@ -39,7 +39,7 @@ part_there (p ∷ ps) (suc k) low =
 
 pub put_back : (ps : List Part) (k : ℕ) (p : Part) → slice_get ps k ≡ Some p → slice_set ps k p ≡ ps
 put_back [] k p is = cc
-put_back (q ∷ ps) zero p is = ap (λ x. x ∷ ps) (sym (some_is q p is))
+put_back (q ∷ ps) zero p is = ap (λ x. x ∷ ps) (sym (same_Some q p is))
 put_back (q ∷ ps) (suc k) p is = ap (λ xs. q ∷ xs) (put_back ps k p is)
 
 -- One part more is brought up to date.
@@ -50,8 +50,8 @@ pub parts_step : (ds : List IndexDef) (k : ℕ) (d : IndexDef) (table : ℕ) (ba
 parts_step [] k d table base old new ps p is got = cc
 parts_step (e ∷ ds) zero d table base old new [] p is got = cc
 parts_step (e ∷ ds) zero d table base old new (q ∷ ps) p is got =
-    let def : d ≡ e = sym (some_is e d is) in
-    let part : p ≡ q = sym (some_is q p got) in
+    let def : d ≡ e = sym (same_Some e d is) in
+    let part : p ≡ q = sym (same_Some q p got) in
     λ i. part_after (def i) table base old new (part i) ∷ ps
 parts_step (e ∷ ds) (suc k) d table base old new [] p is got = cc
 parts_step (e ∷ ds) (suc k) d table base old new (q ∷ ps) p is got = ap (λ xs. part_after e table base old new q ∷ xs) (parts_step ds k d table base old new ps p is got)
@@ -76,17 +76,17 @@ taken_next xs k c is rise = change_next (take k xs) c (drop (suc k) xs) (subst R
   where
     more : (ys : List Change) (n : ℕ) (d : Change) → slice_get ys n ≡ Some d → take n ys ++ d ∷ [] ≡ take (suc n) ys
     more [] n d is = cc
-    more (y ∷ ys) zero d is = ap (λ x. x ∷ []) (sym (some_is y d is))
+    more (y ∷ ys) zero d is = ap (λ x. x ∷ []) (sym (same_Some y d is))
     more (y ∷ ys) (suc n) d is = ap (λ zs. y ∷ zs) (more ys n d is)
 
     cut : (ys : List Change) (n : ℕ) (d : Change) → slice_get ys n ≡ Some d → take n ys ++ d ∷ drop (suc n) ys ≡ ys
     cut [] n d is = cc
-    cut (y ∷ ys) zero d is = ap (λ x. x ∷ ys) (sym (some_is y d is))
+    cut (y ∷ ys) zero d is = ap (λ x. x ∷ ys) (sym (same_Some y d is))
     cut (y ∷ ys) (suc n) d is = ap (λ zs. y ∷ zs) (cut ys n d is)
 
 -- The empty parts, one more at a time.
 
 pub empty_more : (ds : List IndexDef) (k : ℕ) (d : IndexDef) → slice_get ds k ≡ Some d → empty_parts (take k ds) ++ empty_part d ∷ [] ≡ empty_parts (take (suc k) ds)
 empty_more [] k d is = cc
-empty_more (e ∷ ds) zero d is = ap (λ (x : IndexDef). empty_part x ∷ []) (sym (some_is e d is))
+empty_more (e ∷ ds) zero d is = ap (λ (x : IndexDef). empty_part x ∷ []) (sym (same_Some e d is))
 empty_more (e ∷ ds) (suc k) d is = ap (λ ps. empty_part e ∷ ps) (empty_more ds k d is)

@@ -4,6 +4,7 @@ use Rattle.std.specs.Prelude.{max}
 use Rattle.std.proofs.lemmas.Bool.{cases_Bool, cases_lt, and_parts}
 use Rattle.std.proofs.lemmas.Bool.Decides.{nat_tests}
 use Rattle.std.specs.List.{AllByRecursion, list_all, list_any}
+use Rattle.std.proofs.lemmas.Option.{same_Some}
 use Rattle.rv_value.specs.declared.value.Value.{Value}
 use Rattle.rv_value.specs.declared.record.Record.{Record}
 use Rattle.rv_rows.specs.declared.changes.Change.{Change}
@@ -35,9 +36,6 @@ own_at r rows n is = let here : r.row.0 == n ≡ true = grind (arith, nat_tests)
 other_at : (r : Record) (rows : List Record) (n : ℕ) → r.row.0 == n ≡ false → row_at (r ∷ rows) n ≡ row_at rows n
 other_at r rows n f = rw f refl
 
-pub some_is : {X : Type 0} (x y : X) → Some x ≡ Some y → x ≡ y
-some_is x y e = cc
-
 -- a row is not there where the first one of the other list, or all of it, is behind it
 missing : (x : Record) (xs ys : List Record) → row_at (x ∷ xs) x.row.0 ≡ row_at ys x.row.0 → row_at ys x.row.0 ≡ None → true ≡ false
 missing x xs ys h none = let no : Some x ≡ None = sym (own_at x xs x.row.0 refl) ∙ h ∙ none in cc
@@ -68,7 +66,7 @@ rows_tell (x ∷ xs) (y ∷ ys) ax ay h = elim (cases_lt x.row.0 y.row.0) [
     | inl up ↦ let no = missing y ys (x ∷ xs) (sym (h y.row.0)) (none_first x xs y.row.0 ax.0 up) in cc
     | inr down ↦
         let even : x.row.0 ≡ y.row.0 = omega (arith, high, down) in
-        let is = some_is x y (sym (own_at x xs x.row.0 refl) ∙ h x.row.0 ∙ own_at y ys x.row.0 (sym even)) in
+        let is = same_Some x y (sym (own_at x xs x.row.0 refl) ∙ h x.row.0 ∙ own_at y ys x.row.0 (sym even)) in
         let rest = rows_tell xs ys ax.1 ay.1 (λ n. rows_same x y xs ys n even ax.0 ay.0 (h n)) in
         λ i. is i ∷ rest i
   ]
