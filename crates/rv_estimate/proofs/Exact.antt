@@ -3,6 +3,8 @@ use Rattle.std.proofs.Common.{ℕ, zero, suc, true, false, inl, inr, ◌+◌, �
 use Rattle.std.specs.Prelude.{not, flat_map}
 use Rattle.std.specs.List.{AllByRecursion}
 use Rattle.std.proofs.lemmas.Bool.{cases_Bool, cases_eq, ne_eqb}
+use Rattle.std.proofs.lemmas.List.Elements.{filter-append}
+use Rattle.std.proofs.lemmas.Grind.{flat_map-append}
 use Rattle.rv_value.specs.declared.record.IndexEntry.{IndexEntry}
 use Rattle.rv_value.specs.declared.range.Range.{Range}
 use Rattle.rv_value.specs.declared.range.Side.{Side}
@@ -19,9 +21,8 @@ use Rattle.rv_node.specs.Children.{is_before, is_not_after, last_place, first_ch
 use Rattle.rv_node.specs.Trees.{Tree, Whole, entries_in, entries_all, cuts_in, cuts_all, cuts_under}
 use Rattle.rv_node.specs.Sound.{AtLeast, Below, Kids, KidsFrom, IsTree, IsWhole}
 use Rattle.rv_node.proofs.Bounds.{entries_within, kids_within}
-use Rattle.rv_node.proofs.Lists.{flat_map-append}
 use Rattle.rv_node.proofs.Kept.{KidsFrom-split}
-use Rattle.rv_node.proofs.Lists.{All-map, All-left, All-right, filter-append, filter-none}
+use Rattle.rv_node.proofs.Lists.{All-map, All-left, All-right, filter-none}
 use Rattle.rv_node.proofs.Rising.{All-of}
 use Rattle.rv_estimate.specs.Estimates.{estimate, estimate_in, estimate_by, in_child, exactly}
 use Rattle.rv_estimate.proofs.Empty.{empty_none}

@@ -4,8 +4,9 @@ use Rattle.std.specs.Prelude.{flat_map}
 use Rattle.std.specs.List.{AllByRecursion}
 use Rattle.std.specs.Cmp.{IsStrictWeakOrder}
 use Rattle.std.proofs.lemmas.Bool.{cases_Bool}
+use Rattle.std.proofs.lemmas.Grind.{flat_map-append}
 use Rattle.rv_node.specs.Trees.{Tree, Whole, entries_in, entries_all, cuts_in, cuts_all, cuts_under, placed, halves, change, change_from, up_to, grow, raise, inserted, shrink, deleted}
-use Rattle.rv_node.proofs.Lists.{All-append, All-left, All-right, flat_map-append}
+use Rattle.rv_node.proofs.Lists.{All-append, All-left, All-right}
 use Rattle.rv_node.proofs.Kept.{halves_cases, grown_one}
 
 -- the cuts of trees after the first, and the entries at which these begin

@@ -4,11 +4,12 @@ use Rattle.std.specs.Prelude.{flat_map}
 use Rattle.std.specs.List.{AllByRecursion}
 use Rattle.std.proofs.lemmas.Bool.{cases_Bool}
 use Rattle.std.specs.Cmp.{IsStrictWeakOrder}
+use Rattle.std.proofs.lemmas.Grind.{flat_map-append}
 use Rattle.rv_node.specs.Trees.{Tree, entries_in, placed, halves, cut_at, change, change_from, up_to, grow}
 use Rattle.rv_node.specs.Sound.{AtLeast, Below, Kids, KidsFrom, IsTree}
 use Rattle.rv_node.proofs.Orders.{lt_le}
 use Rattle.rv_node.proofs.Bounds.{entries_within, kids_within}
-use Rattle.rv_node.proofs.Lists.{All-map, flat_map-append}
+use Rattle.rv_node.proofs.Lists.{All-map}
 
 -- what is spread over the halves is what was
 spread_cut : {E X Y : Type 0} (low : X → E) (F : List X → List Y) → F [] ≡ [] → (xs : List X) → flat_map (λ q. F q.1) (cut_at low xs) ≡ F xs

@@ -3,6 +3,7 @@ use Rattle.std.proofs.Common.{ℕ, zero, suc, true, false, inl, inr, ◌≡◌, 
 use Rattle.std.specs.Prelude.{not, filter, flat_map}
 use Rattle.std.specs.List.{AllByRecursion, list_all}
 use Rattle.std.proofs.lemmas.Bool.{cases_Bool}
+use Rattle.std.proofs.lemmas.List.Elements.{filter-append}
 use Rattle.rv_value.specs.declared.record.IndexEntry.{IndexEntry}
 use Rattle.rv_reader.specs.Entries.{comes_before}
 use Rattle.rv_reader.specs.Leaves.{Leaf, from_on, up_to, leaf_from, leaf_entries}
@@ -11,7 +12,7 @@ use Rattle.rv_node.specs.Trees.{Tree, entries_in, cuts_in, cuts_under}
 use Rattle.rv_node.specs.Sound.{AtLeast, Above, Below, Kids, KidsFrom, IsTree}
 use Rattle.rv_node.specs.Descent.{descend, descend_from, leaf_in}
 use Rattle.rv_node.proofs.Orders.{lt_le}
-use Rattle.rv_node.proofs.Lists.{All-map, All-left, All-right, filter-append, filter-all, filter-none}
+use Rattle.rv_node.proofs.Lists.{All-map, All-left, All-right, filter-all, filter-none}
 use Rattle.rv_node.proofs.Rising.{All-of}
 use Rattle.rv_node.proofs.Bounds.{entries_within, kids_within, cuts_within, kid_cuts_within}
 

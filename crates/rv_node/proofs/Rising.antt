@@ -1,9 +1,10 @@
 -- The entries of a tree ascend, and so do its cuts.
-use Rattle.std.proofs.Common.{ℕ, zero, suc, true, false, ◌≡◌, List, [], ◌∷◌, ◌++◌, Option, Some, Bool, ◌&&◌, refl, append-nil}
+use Rattle.std.proofs.Common.{ℕ, zero, suc, true, false, ◌≡◌, List, [], ◌∷◌, ◌++◌, Option, Some, Bool, refl, append-nil}
 use Rattle.std.specs.Prelude.{flat_map}
 use Rattle.std.specs.Cmp.{IsStrictWeakOrder}
 use Rattle.std.specs.List.{AllByRecursion, list_all}
 use Rattle.std.proofs.lemmas.List.Folds.{list_all-append}
+use Rattle.std.proofs.lemmas.Bool.{and_parts}
 use Rattle.rv_rows.specs.Rising.{Rising}
 use Rattle.rv_node.specs.Trees.{Tree, entries_in, cuts_in, cuts_under}
 use Rattle.rv_node.specs.Sound.{AtLeast, Above, Below, LeafIn, Kids, KidsFrom, IsTree}
@@ -15,13 +16,9 @@ pub list_all-of : {X : Type 0} (p : X → Bool) (xs : List X) → AllByRecursion
 list_all-of p [] a = refl
 list_all-of p (x ∷ xs) a = rw a.0 (list_all-of p xs a.1)
 
-both : (a b : Bool) → (a && b) ≡ true → (a ≡ true) × (b ≡ true)
-both true b e = (refl, e)
-both false b e = cc
-
 pub All-of : {X : Type 0} (p : X → Bool) (xs : List X) → list_all p xs ≡ true → AllByRecursion (λ x. p x ≡ true) xs
 All-of p [] h = tt
-All-of p (x ∷ xs) h = let parts = both (p x) (list_all p xs) h in (parts.0, All-of p xs parts.1)
+All-of p (x ∷ xs) h = let parts = and_parts (p x) (list_all p xs) h in (parts.0, All-of p xs parts.1)
 
 module _ {E : Type 0} (lt : E → E → Bool) (o : IsStrictWeakOrder lt) where
   -- two lists on either side of an entry

@@ -4,11 +4,12 @@ use Rattle.std.specs.Prelude.{filter, flat_map}
 use Rattle.std.specs.List.{AllByRecursion}
 use Rattle.std.proofs.lemmas.Bool.{cases_Bool, or_right}
 use Rattle.std.specs.Cmp.{IsStrictWeakOrder}
+use Rattle.std.proofs.lemmas.List.Elements.{filter-append}
 use Rattle.rv_node.specs.Trees.{Tree, entries_in, change, change_from, up_to, shrink, differs}
 use Rattle.rv_node.specs.Sound.{AtLeast, Below, Precedes, LeafIn, Kids, KidsFrom, IsTree}
 use Rattle.rv_node.proofs.Orders.{lt_trans, lt_le}
 use Rattle.rv_node.proofs.Bounds.{entries_within, kids_within}
-use Rattle.rv_node.proofs.Lists.{All-map, filter-append, filter-all, filter_length}
+use Rattle.rv_node.proofs.Lists.{All-map, filter-all, filter_length}
 
 module _ {E : Type 0} (lt : E → E → Bool) (o : IsStrictWeakOrder lt) (e : E) where
   below_differs : (x : E) → lt x e ≡ true → differs lt e x ≡ true
