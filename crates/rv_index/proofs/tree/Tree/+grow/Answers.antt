@@ -1,4 +1,4 @@
-use Rattle.std.proofs.Common.{ℕ, suc, ◌-◌, ◌≡◌, sym, arith, length, subst, Some, None, Result, Ok, Err, IfOk}
+use Rattle.std.proofs.Common.{ℕ, suc, ◌-◌, ◌≡◌, sym, arith, length, subst, Some, None}
 use Rattle.std.proofs.Common.{◌<◌, ◌≤◌, Option}
 use Rattle.rv_node.specs.Nodes.{Parts}
 use Rattle.rv_value.specs.declared.record.IndexEntry.{IndexEntry}
@@ -10,14 +10,11 @@ use Rattle.rv_node.specs.Stored.{kid_lows, kid_ids}
 use Rattle.rv_node.proofs.Ranking.{ranked_kid, ranked_leaf, ranked_lows}
 use Rattle.rv_index.specs.Index.{nodes_at, IsOwn}
 use Rattle.std.specs.List.{insert}
+use Rattle.std.proofs.lemmas.Result.{IfOk-weaker}
 use Rattle.rv_index.specs.Steps.{behind_child, IsGrown, IsStoredIn}
 use Rattle.rv_index.proofs.Places.{behind_ids, behind_lows, behind_within}
 use Rattle.rv_index.proofs.Growing.{own_there, own_kid, node_stays, grown_none, grown_over, grown_leaf}
 use Rattle.rv_index.proofs.tree.Tree.+grow.Goals as goal
-
-IfOk-map : {A E : Type 0} (r : Result A E) (P Q : A → Type 0) → ((x : A) → P x → Q x) → IfOk r P → IfOk r Q
-IfOk-map (Ok x) P Q f h = f x h
-IfOk-map (Err e) P Q f h = tt
 
 pub grow_leaf-requires-clause-there : goal.grow_leaf-requires-clause-there
 grow_leaf-requires-clause-there t c = own_there (length c.args.self.now) c.args.level c.args.id (nodes_at c.args.self.now c.args.commit) c.requires.own
@@ -31,7 +28,7 @@ returns-then-level-eq0-clause-ok t c =
     let at = nodes_at c.args.self.now c.args.commit in let at' = nodes_at c.grow_leaf.new.self c.args.commit in
     let zero = c.if-level-eq0.true in
     let own = subst (λ v. IsOwn len v c.args.id at) zero c.requires.own in
-    IfOk-map c.grow_leaf.result _ (λ r. IsGrown len len' c.args.level c.args.id (grow c.args.level comes_before c.args.entry) r at at')
+    IfOk-weaker c.grow_leaf.result _ (λ r. IsGrown len len' c.args.level c.args.id (grow c.args.level comes_before c.args.entry) r at at')
     (λ r s. subst (λ v. IsGrown len len' v c.args.id (grow v comes_before c.args.entry) r at at') (sym zero) (grown_leaf c.args.entry len len' c.args.id at at' r own s))
     c.grow_leaf.ensures.ok
 
@@ -111,7 +108,7 @@ some_case e cut right len len1 len2 level down id kid behind at at' at2 r0 r up 
 pub returns-in-Some-clause-ok : goal.returns-in-Some-clause-ok
 returns-in-Some-clause-ok t c =
     let at = nodes_at c.args.self.now c.args.commit in let at2 = nodes_at c.grow_kids.new.self c.args.commit in
-    IfOk-map c.grow_kids.result _ (λ r. IsGrown (length c.args.self.now) (length c.grow_kids.new.self) c.args.level c.args.id (grow c.args.level comes_before c.args.entry) r at at2)
+    IfOk-weaker c.grow_kids.result _ (λ r. IsGrown (length c.args.self.now) (length c.grow_kids.new.self) c.args.level c.args.id (grow c.args.level comes_before c.args.entry) r at at2)
     (λ r s. some_case c.args.entry c.in-Some.cut c.in-Some.right (length c.args.self.now) (length c.grow.new.self) (length c.grow_kids.new.self) c.args.level (c.args.level - 1) c.args.id c.kid-kid.result.0 c.kid-kid.result.1 at (nodes_at c.grow.new.self c.args.commit) at2 c.in_ok-grow.field-0 r
     (omega arith) c.requires.own c.kid-kid.ensures.kid c.kid-kid.ensures.place c.in-Some.is c.in_ok-grow.ensures.ok s)
     c.grow_kids.ensures.ok

@@ -1,4 +1,5 @@
-use Rattle.std.proofs.Common.{refl, ℕ, suc, ◌-◌, ◌≡◌, sym, arith, length, subst, None, Result, Ok, Err, OnOk}
+use Rattle.std.proofs.Common.{refl, ℕ, suc, ◌-◌, ◌≡◌, sym, arith, length, subst, None}
+use Rattle.std.proofs.lemmas.Result.{on_ok_weaker}
 use Rattle.rv_node.specs.Nodes.{Parts}
 use Rattle.rv_value.specs.declared.record.IndexEntry.{IndexEntry}
 use Rattle.rv_reader.specs.Entries.{comes_before}
@@ -10,10 +11,6 @@ use Rattle.rv_index.specs.Index.{nodes_at, IsOwn}
 use Rattle.rv_index.specs.Steps.{leaf_without, IsGrown, IsNodePut, shrunken}
 use Rattle.rv_index.proofs.Growing.{own_there, own_kid, shrunk_none, shrunk_leaf}
 use Rattle.rv_index.proofs.tree.Tree.+shrink.Goals as goal
-
-OnOk-map : {A E : Type 0} (r : Result A E) (P Q : Type 0) → (P → Q) → OnOk r P → OnOk r Q
-OnOk-map (Ok x) P Q f h = f h
-OnOk-map (Err e) P Q f h = tt
 
 pub shrink_leaf-requires-clause-there : goal.shrink_leaf-requires-clause-there
 shrink_leaf-requires-clause-there t c = own_there (length c.args.self.now) c.args.level c.args.id (nodes_at c.args.self.now c.args.commit) c.requires.own
@@ -27,9 +24,7 @@ leaf_case e len len' level id at at' zero same own s =
 pub returns-then-level-eq0-clause-ok : goal.returns-then-level-eq0-clause-ok
 returns-then-level-eq0-clause-ok t c =
     let at = nodes_at c.args.self.now c.args.commit in let at' = nodes_at c.shrink_leaf.new.self c.args.commit in
-    OnOk-map c.shrink_leaf.result _ (IsGrown (length c.args.self.now) (length c.shrink_leaf.new.self) c.args.level c.args.id (shrunken c.args.level c.args.entry.now) None at at')
-    (leaf_case c.args.entry.now (length c.args.self.now) (length c.shrink_leaf.new.self) c.args.level c.args.id at at' c.if-level-eq0.true c.shrink_leaf.ensures.len c.requires.own)
-    c.shrink_leaf.ensures.ok
+    on_ok_weaker c.shrink_leaf.result (leaf_case c.args.entry.now (length c.args.self.now) (length c.shrink_leaf.new.self) c.args.level c.args.id at at' c.if-level-eq0.true c.shrink_leaf.ensures.len c.requires.own) c.shrink_leaf.ensures.ok
 
 pub kid-kid-requires-clause-ascend : goal.kid-kid-requires-clause-ascend
 kid-kid-requires-clause-ascend t c = (ranked_lows (nodes_at c.args.self.now c.args.commit) any c.args.level c.args.id (omega arith) c.requires.ranked).ascend
@@ -50,6 +45,4 @@ kid_case e len len' level down id kid at at' up own k grown =
 pub returns-clause-ok : goal.returns-clause-ok
 returns-clause-ok t c =
     let at = nodes_at c.args.self.now c.args.commit in let at' = nodes_at c.shrink.new.self c.args.commit in
-    OnOk-map c.shrink.result _ (IsGrown (length c.args.self.now) (length c.shrink.new.self) c.args.level c.args.id (shrunken c.args.level c.args.entry.now) None at at')
-    (kid_case c.args.entry.now (length c.args.self.now) (length c.shrink.new.self) c.args.level (c.args.level - 1) c.args.id c.kid-kid.result.0 at at' (omega arith) c.requires.own c.kid-kid.ensures.kid)
-    c.shrink.ensures.ok
+    on_ok_weaker c.shrink.result (kid_case c.args.entry.now (length c.args.self.now) (length c.shrink.new.self) c.args.level (c.args.level - 1) c.args.id c.kid-kid.result.0 at at' (omega arith) c.requires.own c.kid-kid.ensures.kid) c.shrink.ensures.ok

@@ -1,22 +1,17 @@
-use Rattle.std.proofs.Common.{length, None, Result, Ok, Err, OnOk}
+use Rattle.std.proofs.Common.{length, None}
+use Rattle.std.proofs.lemmas.Result.{on_ok_weaker}
 use Rattle.rv_node.specs.Ranks.{any}
 use Rattle.rv_node.proofs.Parted.{all_any}
 use Rattle.rv_node.proofs.Ranking.{ranked}
-use Rattle.rv_index.specs.Index.{cuts_of, entries_of, level_at, nodes_at, IsDeleted}
+use Rattle.rv_index.specs.Index.{cuts_of, entries_of, level_at, nodes_at}
 use Rattle.rv_index.proofs.Rooting.{deleted_by, deleted_is}
 use Rattle.rv_index.proofs.tree.Tree.delete.Goals as goal
-
-OnOk-map : {A E : Type 0} (r : Result A E) (P Q : Type 0) → (P → Q) → OnOk r P → OnOk r Q
-OnOk-map (Ok x) P Q f h = f h
-OnOk-map (Err e) P Q f h = tt
 
 pub returns-clause-ok : goal.returns-clause-ok
 returns-clause-ok c =
     let at = nodes_at c.args.self.now c.args.commit in let at' = nodes_at c.shrink.new.self c.args.commit in
-    OnOk-map c.shrink.result _ (IsDeleted c.args.commit c.args.entry.now c.args.self.now c.shrink.new.self)
-    (λ shrunk. deleted_is c.args.commit c.args.entry.now c.args.self.now c.shrink.new.self c.requires.sound
-    (deleted_by (length c.args.self.now) (length c.shrink.new.self) c.level-level.result c.args.entry.now at at' c.level-level.ensures c.requires.sound shrunk))
-    c.shrink.ensures.ok
+    on_ok_weaker c.shrink.result (λ shrunk. deleted_is c.args.commit c.args.entry.now c.args.self.now c.shrink.new.self c.requires.sound
+    (deleted_by (length c.args.self.now) (length c.shrink.new.self) c.level-level.result c.args.entry.now at at' c.level-level.ensures c.requires.sound shrunk)) c.shrink.ensures.ok
 
 pub shrink-requires-clause-ranked : goal.shrink-requires-clause-ranked
 shrink-requires-clause-ranked c =
