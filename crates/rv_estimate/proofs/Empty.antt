@@ -1,6 +1,6 @@
 -- No key is in an empty range.
-use Rattle.std.proofs.Common.{ℕ, ◌≤◌, ◌≡◌, List, [], ◌∷◌, Bool, true, false, not, ◌&&◌, Option, Some, None, length, take, refl, ap, sym, ◌∙◌, arith, Ordering, nat_eq, nat_le, inl, inr}
-use Rattle.std.proofs.lemmas.Bool.{cases_Bool, cases_eq, ne_eqb, leb-true}
+use Rattle.std.proofs.Common.{◌≤◌, ◌≡◌, List, [], ◌∷◌, Bool, true, false, not, ◌&&◌, Option, Some, None, length, take, refl, ap, sym, ◌∙◌, arith, Ordering, nat_eq, nat_le, inl, inr}
+use Rattle.std.proofs.lemmas.Bool.{cases_Bool, leb-true, and_parts, eqb-true}
 use Rattle.std.specs.Ordering.{ordering_reverse, ordering_then}
 use Rattle.std.specs.declared.cmp.Ordering.TheVariants.{Less, Equal, Greater}
 use Rattle.rv_value.specs.declared.value.Value.{Value}
@@ -47,21 +47,11 @@ not_crossed k low high a b under over = go (values_cmp k low) refl (values_cmp k
         rw (values_cmp_total.antisymm low high ∙ ap ordering_reverse above) refl
     go Greater e Greater f = let no : goes_over (values_cmp k high) b ≡ true = rw f refl in cc
 
-both : (a b : Bool) → (a && b) ≡ true → (a ≡ true) × (b ≡ true)
-both true b e = (refl, e)
-both false b e = cc
-
-equal_from : (m n : ℕ) → nat_eq m n ≡ true → m ≡ n
-equal_from m n h = elim (cases_eq m n) [ inl e ↦ e | inr ne ↦ let no = ne_eqb m n ne in cc ]
-
-at_most_from : (m n : ℕ) → nat_le m n ≡ true → m ≤ n
-at_most_from m n h = leb-true m n h
-
 between : (low high : Bound) (starts : Bool) (key : List Value) → crossed low high ≡ true → length low.key ≤ length key → length high.key ≤ length key
     → in_side (place (record { low = Some low; high = Some high; starts = starts }) key) ≡ false
 between low high starts key cross long_low long_high =
-    let parts = both (nat_eq (length low.key) (length high.key)) (crosses (prefix_cmp low.key high.key) (low.closed && high.closed)) cross in
-    let same : length low.key ≡ length high.key = equal_from (length low.key) (length high.key) parts.0 in
+    let parts = and_parts (nat_eq (length low.key) (length high.key)) (crosses (prefix_cmp low.key high.key) (low.closed && high.closed)) cross in
+    let same : length low.key ≡ length high.key = eqb-true (length low.key) (length high.key) parts.0 in
     let k = take (length low.key) key in
     let to_low : prefix_cmp key low.key ≡ values_cmp k low.key = prefix_take key low.key long_low in
     let to_high : prefix_cmp key high.key ≡ values_cmp k high.key = prefix_take key high.key long_high ∙ ap (λ n. values_cmp (take n key) high.key) (sym same) in
@@ -78,12 +68,12 @@ between low high starts key cross long_low long_high =
 
 empty_by : (low high : Option Bound) (starts : Bool) (key : List Value) → (not starts && is_empty_between low high) ≡ true → (reaches low key && reaches high key) ≡ true
     → in_side (place (record { low = low; high = high; starts = starts }) key) ≡ false
-empty_by None high starts key e l = let parts = both (not starts) false e in cc
-empty_by (Some low) None starts key e l = let parts = both (not starts) false e in cc
+empty_by None high starts key e l = let parts = and_parts (not starts) false e in cc
+empty_by (Some low) None starts key e l = let parts = and_parts (not starts) false e in cc
 empty_by (Some low) (Some high) starts key e l =
-    let parts = both (not starts) (crossed low high) e in
-    let long = both (nat_le (length low.key) (length key)) (nat_le (length high.key) (length key)) l in
-    between low high starts key parts.1 (at_most_from (length low.key) (length key) long.0) (at_most_from (length high.key) (length key) long.1)
+    let parts = and_parts (not starts) (crossed low high) e in
+    let long = and_parts (nat_le (length low.key) (length key)) (nat_le (length high.key) (length key)) l in
+    between low high starts key parts.1 (leb-true (length low.key) (length key) long.0) (leb-true (length high.key) (length key) long.1)
 
 pub empty_none : (range : Range) (key : List Value) → is_empty range ≡ true → (reaches range.low key && reaches range.high key) ≡ true → in_side (place range key) ≡ false
 empty_none range key e l = empty_by range.low range.high range.starts key e l

@@ -1,8 +1,8 @@
 -- An exact estimate is the number of entries in the range.
 use Rattle.std.proofs.Common.{ℕ, zero, suc, true, false, inl, inr, ◌+◌, ◌<◌, ◌≡◌, ◌⊎◌, List, [], ◌∷◌, ◌++◌, length, take, map, eqb, Option, Some, None, Bool, cond, refl, ap, sym, ◌∙◌, subst, arith, append-nil, append_assoc}
-use Rattle.std.specs.Prelude.{not, flat_map}
+use Rattle.std.specs.Prelude.{flat_map}
 use Rattle.std.specs.List.{AllByRecursion}
-use Rattle.std.proofs.lemmas.Bool.{cases_Bool, cases_eq, ne_eqb}
+use Rattle.std.proofs.lemmas.Bool.{cases_Bool, eqb-true, not-false}
 use Rattle.std.proofs.lemmas.List.Elements.{filter-append}
 use Rattle.std.proofs.lemmas.Grind.{flat_map-append}
 use Rattle.rv_value.specs.declared.record.IndexEntry.{IndexEntry}
@@ -98,13 +98,6 @@ after_out Before h = refl
 after_out In h = cc
 after_out After h = refl
 
-turned : (b : Bool) → not b ≡ false → b ≡ true
-turned true h = refl
-turned false h = cc
-
-equal_from : (m n : ℕ) → eqb m n ≡ true → m ≡ n
-equal_from m n h = elim (cases_eq m n) [ inl e ↦ e | inr ne ↦ let no = ne_eqb m n ne in cc ]
-
 module _ (range : Range) where
   abbrev Long : IndexEntry → Type 0
   Long e = is_long range e ≡ true
@@ -121,7 +114,7 @@ module _ (range : Range) where
     where
       out : (xs : List IndexEntry) → AllByRecursion Long xs → AllByRecursion (λ x. comes_before x k ≡ false) xs → AllByRecursion (λ x. is_in range x ≡ false) xs
       out [] long from = tt
-      out (x ∷ xs) long from = (after_out (place range x.key) (after_along range k.key x.key (key_not k x from.0) lk long.0 (turned (after_side (place range k.key)) a)), out xs long.1 from.1)
+      out (x ∷ xs) long from = (after_out (place range x.key) (after_along range k.key x.key (key_not k x from.0) lk long.0 (not-false (after_side (place range k.key)) a)), out xs long.1 from.1)
 
   module _ {T : Type 0} (P : Option IndexEntry → Option IndexEntry → T → Type 0) (ent cuts : T → List IndexEntry) (f : T → Estimate)
       (each : (low high : Option IndexEntry) (t : T) → P low high t → AllByRecursion (λ x. AtLeast comes_before low x × Below comes_before x high) (ent t))
@@ -203,7 +196,7 @@ module _ (range : Range) where
     all_exact level low high (kid ∷ kids) k long long_cuts exact =
         let lows = map (λ q. q.0) (kid ∷ kids) in
         elim (cases_Bool (eqb (first_child range lows) (last_child range lows))) [
-          | inl t ↦ rw t (exact_at low high kid.1 kids kid.0 (first_child range lows) (last_child range lows) k long long_cuts (equal_from (first_child range lows) (last_child range lows) t) refl refl (rw t at exact))
+          | inl t ↦ rw t (exact_at low high kid.1 kids kid.0 (first_child range lows) (last_child range lows) k long long_cuts (eqb-true (first_child range lows) (last_child range lows) t) refl refl (rw t at exact))
           | inr f ↦ let no : false ≡ true = rw f at exact in cc
         ]
 
