@@ -1,11 +1,12 @@
 -- An index through the changes of its table's rows.
-use Rattle.std.proofs.Common.{◌≡◌, ℕ, ◌<◌, List, [], ◌∷◌, ◌++◌, Bool, true, false, not, ◌&&◌, ◌||◌, ◌==◌, cond, refl, ap, sym, ◌∙◌, inl, inr, arith, subst, length, zero, suc, filter, map, take, nat_lt, Option, Some, None}
+use Rattle.std.proofs.Common.{◌≡◌, ℕ, ◌<◌, List, [], ◌∷◌, ◌++◌, Bool, true, false, not, ◌&&◌, ◌||◌, ◌==◌, cond, refl, ap, sym, ◌∙◌, inl, inr, arith, subst, length, zero, suc, filter, take, nat_lt, Option, Some, None}
 use Rattle.std.proofs.lemmas.Bool.{cases_Bool, cases_lt, and_parts}
 use Rattle.std.proofs.lemmas.Bool.Decides.{nat_tests}
 use Rattle.std.specs.List.{list_all, slice_index_or}
 use Rattle.std.specs.Ordering.{is_lt, is_eq, ordering_reverse}
 use Rattle.std.specs.declared.cmp.Ordering.{Ordering}
 use Rattle.std.specs.declared.cmp.Ordering.TheVariants.{Less, Equal, Greater}
+use Rattle.std.proofs.lemmas.List.{length-map}
 use Rattle.rv_value.specs.declared.value.Value.{Value}
 use Rattle.rv_value.specs.declared.record.Record.{Record}
 use Rattle.rv_value.specs.declared.record.IndexEntry.{IndexEntry}
@@ -92,13 +93,9 @@ all_keys n (e ∷ es) all =
     let here : length e.key ≡ n = grind (arith, nat_tests) in
     (here, all_keys n es parts.1)
 
-many : (f : ℕ → Value) (columns : List ℕ) → length (map f columns) ≡ length columns
-many f [] = refl
-many f (c ∷ columns) = ap (λ n. suc n) (many f columns)
-
 pub key_of_row : (columns : List ℕ) (r : Record) → has_key (length columns) (entry_of columns r) ≡ true
 key_of_row columns r =
-    let count = many (column_of r.values) columns in
+    let count = length-map columns (column_of r.values) in
     grind (arith, nat_tests)
 
 passes_key : (columns : List ℕ) (row : Option Record) → Passes (has_key (length columns)) (entry_at columns row)

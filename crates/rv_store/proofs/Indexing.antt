@@ -4,6 +4,8 @@ use Rattle.std.proofs.lemmas.Bool.{cases_Bool, and_parts}
 use Rattle.std.proofs.lemmas.Bool.Decides.{nat_tests}
 use Rattle.std.proofs.lemmas.List.{map-append}
 use Rattle.std.specs.List.{list_all}
+use Rattle.std.proofs.lemmas.List.Elements.{filter_agree}
+use Rattle.std.proofs.lemmas.Option.{same_Some}
 use Rattle.rv_value.specs.declared.value.Value.{Value}
 use Rattle.rv_value.specs.declared.record.Record.{Record}
 use Rattle.rv_value.specs.declared.record.IndexEntry.{IndexEntry}
@@ -56,10 +58,6 @@ is_other number r = not (r.row.0 == number)
 abbrev pub is_others : ℕ → IndexEntry → Bool
 is_others number e = not (e.row.0 == number)
 
-same_filter : (p q : Record → Bool) → ((r : Record) → p r ≡ q r) → (rows : List Record) → filter p rows ≡ filter q rows
-same_filter p q each [] = refl
-same_filter p q each (r ∷ rows) = rw (each r, same_filter p q each rows) refl
-
 abbrev below_row : ℕ → Record → Bool
 below_row number r = nat_lt r.row.0 number
 
@@ -69,8 +67,8 @@ above_row number r = nat_lt number r.row.0
 without_cut : (number : ℕ) (rows : List Record) → rows_by_number.Ascend rows → without_row number rows ≡ filter (below_row number) rows ++ filter (above_row number) rows
 without_cut number rows ascend =
     let cut = rising_cut comes_below (is_other number) (below_row number) (λ x y h f. let first = h in let second = f in grind (arith, nat_tests)) rows ascend in
-    let front = same_filter (λ (r : Record). is_other number r && below_row number r) (below_row number) (λ r. grind (arith, nat_tests)) rows in
-    let back = same_filter (λ (r : Record). is_other number r && not (below_row number r)) (above_row number) (λ r. grind (arith, nat_tests)) rows in
+    let front = filter_agree (λ (r : Record). is_other number r && below_row number r) (below_row number) (λ r. grind (arith, nat_tests)) rows in
+    let back = filter_agree (λ (r : Record). is_other number r && not (below_row number r)) (above_row number) (λ r. grind (arith, nat_tests)) rows in
     cut ∙ (λ i. front i ++ back i)
 
 -- a row that was given values has its entry put in among those of the others
@@ -146,9 +144,6 @@ entries_without columns number (r ∷ rows) ascend =
 
 -- The row of a number.
 
-some_is : (r s : Record) → Some r ≡ Some s → r ≡ s
-some_is r s e = cc
-
 above_others : (number : ℕ) (r : Record) (rows : List Record) → number ≤ r.row.0 → list_all (comes_below r) rows ≡ true → list_all (λ (x : Record). nat_lt number x.row.0) rows ≡ true
 above_others number r [] h all = refl
 above_others number r (s ∷ rows) h all =
@@ -178,7 +173,7 @@ row_cut : (number : ℕ) (old : Record) (rows : List Record) → rows_by_number.
 row_cut number old [] ascend found = cc
 row_cut number old (r ∷ rows) ascend found = elim (cases_Bool (r.row.0 == number)) [
   | inl t ↦
-      let e : r ≡ old = some_is r old (rw t at found) in
+      let e : r ≡ old = same_Some r old (rw t at found) in
       let low : nat_lt r.row.0 number ≡ false = grind (arith, nat_tests) in
       let high : nat_lt number r.row.0 ≡ false = grind (arith, nat_tests) in
       let above = above_others number r rows (grind (arith, nat_tests)) ascend.0 in
@@ -236,7 +231,7 @@ either_all : (columns : List ℕ) (number : ℕ) (old : Record) (rows : List Rec
 either_all columns number old [] ascend found = refl
 either_all columns number old (r ∷ rows) ascend found = elim (cases_Bool (r.row.0 == number)) [
   | inl t ↦
-      let e : old ≡ r = sym (some_is r old (rw t at found)) in
+      let e : old ≡ r = sym (same_Some r old (rw t at found)) in
       let rest = either_others columns number (entry_of columns r) rows (above_others number r rows (grind (arith, nat_tests)) ascend.0) in
       subst (λ (o : Record). list_all (is_either number (entry_of columns o)) (map (entry_of columns) (r ∷ rows)) ≡ true) (sym e) (rw (t, itself (entry_of columns r)) rest)
   | inr f ↦
@@ -282,7 +277,7 @@ row_of : (number : ℕ) (old : Record) (rows : List Record) → row_at rows numb
 row_of number old [] found = cc
 row_of number old (r ∷ rows) found = elim (cases_Bool (r.row.0 == number)) [
   | inl t ↦
-      let e = ap (λ (x : Record). x.row.0) (some_is r old (rw t at found)) in
+      let e = ap (λ (x : Record). x.row.0) (same_Some r old (rw t at found)) in
       grind (arith, nat_tests)
   | inr f ↦ row_of number old rows (rw f at found)
 ]
