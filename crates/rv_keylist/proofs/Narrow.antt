@@ -2,7 +2,7 @@
 use Rattle.std.proofs.Common.{◌≡◌, ℕ, ◌+◌, ◌<◌, ◌≤◌, ◌++◌, ◌∷◌, [], List, length, filter, nat_eq, Bool, true, false, cond, ◌||◌, refl, sym, ap, subst, ◌∙◌, inl, inr, arith, append-nil, Option, IfSome, IsSome}
 use Rattle.std.proofs.lemmas.Bool.{cases_Bool}
 use Rattle.std.proofs.lemmas.Bool.Decides.{nat_tests}
-use Rattle.std.proofs.lemmas.List.{length-append, nil_from_length}
+use Rattle.std.proofs.lemmas.List.{length-append}
 use Rattle.std.proofs.lemmas.List.Elements.{filter-append}
 use Rattle.rv_keys.specs.Keys.{has_key, Once}
 use Rattle.rv_keys.proofs.Onces.{Once-nil, Once-cons, Once-head, Once-tail}
@@ -55,9 +55,6 @@ once_stays p (x ∷ xs) once =
     ]
 
 -- Where the keys stand.
-
-nothing : (xs : List ℕ) → length xs ≡ 0 → xs ≡ []
-nothing xs e = nil_from_length xs e
 
 pub still_moved : (list few many few' many' : List ℕ) → Placed few many → few' ≡ filter (λ k. may_key k list) few → many' ≡ filter (λ k. may_key k list) many → 0 < length many' → few' ≡ []
 still_moved list few many few' many' placed f m some =
