@@ -6,6 +6,7 @@ use Rattle.std.proofs.lemmas.List.{take_more}
 use Rattle.std.proofs.lemmas.List.Folds.{list_any-append}
 use Rattle.std.proofs.lemmas.List.Sorted.{IsPermutation-append_comm, IsPermutation-append_left, IsPermutation-append_right, IsPermutation-trans, length_permutation, list_any-IsPermutation}
 use Rattle.std.proofs.lemmas.Option.{get_or_from_slice_get, slice_get_within}
+use Rattle.std.proofs.lemmas.Bool.{and_right, or_from}
 use Rattle.rv_keys.specs.Keys.{has_key, Once}
 use Rattle.rv_keys.proofs.Onces.{Once-cons, Once-head, Once-IsPermutation, Once-nil, Once-tail}
 use Rattle.rv_keylist.specs.Listed.{Listed}
@@ -22,15 +23,6 @@ left_off a b h = grind arith
 right_off : (a b : Bool) → (a || b) ≡ false → b ≡ false
 right_off a b h = grind arith
 
-both_off : (a b : Bool) → a ≡ false → b ≡ false → (a || b) ≡ false
-both_off a b h i = grind arith
-
-off_and : (a b : Bool) → a ≡ false → (a && b) ≡ false
-off_and a b h = grind arith
-
-and_off : (a b : Bool) → b ≡ false → (a && b) ≡ false
-and_off a b h = grind arith
-
 number : (a b : ℕ) → nat_eq a b ≡ true → b ≡ a
 number a b h = grind (arith, nat_tests)
 
@@ -39,7 +31,7 @@ one_apart : (x n : ℕ) (xs ys : List ℕ) → has_key x (xs ++ ys) ≡ false �
 one_apart x n xs ys fresh rest = by (nat_eq n x) refl
   where
     by : (b : Bool) → nat_eq n x ≡ b → ((b || has_key n xs) && has_key n ys) ≡ false
-    by true e = and_off (true || has_key n xs) (has_key n ys) (subst (λ (m : ℕ). has_key m ys ≡ false) (number n x e) (right_off (has_key x xs) (has_key x ys) (sym (key_append x xs ys) ∙ fresh)))
+    by true e = and_right (true || has_key n xs) (has_key n ys) (subst (λ (m : ℕ). has_key m ys ≡ false) (number n x e) (right_off (has_key x xs) (has_key x ys) (sym (key_append x xs ys) ∙ fresh)))
     by false e = rest
 
 pub once_apart : (xs ys : List ℕ) → Once (xs ++ ys) → AreApart xs ys
@@ -51,7 +43,7 @@ once_apart xs ys once = record { apart = λ n. each n xs ys once }
 
 pub once_append : (xs ys : List ℕ) → Once xs → Once ys → AreApart xs ys → Once (xs ++ ys)
 once_append [] ys once others a = others
-once_append (x ∷ xs) ys once others a = Once-cons x (xs ++ ys) (key_append x xs ys ∙ both_off (has_key x xs) (has_key x ys) (Once-head x xs once) (first_off (nat_eq x x) (has_key x xs) (has_key x ys) (same x) (a.apart x))) (once_append xs ys (Once-tail x xs once) others (record { apart = λ n. later (nat_eq n x) (has_key n xs) (has_key n ys) (a.apart n) }))
+once_append (x ∷ xs) ys once others a = Once-cons x (xs ++ ys) (key_append x xs ys ∙ or_from (has_key x xs) (has_key x ys) (Once-head x xs once) (first_off (nat_eq x x) (has_key x xs) (has_key x ys) (same x) (a.apart x))) (once_append xs ys (Once-tail x xs once) others (record { apart = λ n. later (nat_eq n x) (has_key n xs) (has_key n ys) (a.apart n) }))
   where
     same : (a : ℕ) → nat_eq a a ≡ true
     same a = grind (arith, nat_tests)
@@ -85,7 +77,7 @@ key_there (x ∷ keys) (suc i) k e = second (nat_eq k x) (has_key k keys) (key_t
 key_new : (keys : List ℕ) (i k : ℕ) → Once keys → slice_get keys i ≡ Some k → has_key k (take i keys) ≡ false
 key_new [] i k once e = absurd (cc)
 key_new (x ∷ keys) zero k once e = refl
-key_new (x ∷ keys) (suc i) k once e = both_off (nat_eq k x) (has_key k (take i keys)) (each (nat_eq k x) refl) (key_new keys i k (Once-tail x keys once) e)
+key_new (x ∷ keys) (suc i) k once e = or_from (nat_eq k x) (has_key k (take i keys)) (each (nat_eq k x) refl) (key_new keys i k (Once-tail x keys once) e)
   where
     each : (v : Bool) → nat_eq k x ≡ v → nat_eq k x ≡ false
     each false other = other
@@ -95,7 +87,7 @@ other_off : (a b : Bool) → a ≡ true → (a && b) ≡ false → b ≡ false
 other_off a b h d = grind arith
 
 pub next_new : (put list : List ℕ) (i k : ℕ) → AreApart list put → Once list → slice_get list i ≡ Some k → has_key k (put ++ take i list) ≡ false
-next_new put list i k a once e = key_append k put (take i list) ∙ both_off (has_key k put) (has_key k (take i list)) (other_off (has_key k list) (has_key k put) (key_there list i k e) (a.apart k)) (key_new list i k once e)
+next_new put list i k a once e = key_append k put (take i list) ∙ or_from (has_key k put) (has_key k (take i list)) (other_off (has_key k list) (has_key k put) (key_there list i k e) (a.apart k)) (key_new list i k once e)
 
 pub next_put : (put list : List ℕ) (i k : ℕ) → slice_get list i ≡ Some k → (put ++ take i list) ++ k ∷ [] ≡ put ++ take (i + 1) list
 next_put put list i k e = append_assoc put (take i list) (k ∷ []) ∙ ap (λ (x : List ℕ). put ++ x) (sym (take_more list i k (slice_get_within list i k e) ∙ ap (λ (x : ℕ). take i list ++ x ∷ []) (get_or_from_slice_get list i k k e)))

@@ -4,7 +4,7 @@ use Rattle.std.specs.Prelude.{nat_lt, if◌then◌else◌}
 use Rattle.std.specs.Cmp.{nat_cmp_is}
 use Rattle.std.specs.List.{AllByRecursion}
 use Rattle.std.specs.List.Sorted.{IsStrictlyIncreasing, IsStrictlySortedBy}
-use Rattle.std.proofs.lemmas.Bool.{or_parts}
+use Rattle.std.proofs.lemmas.Bool.{or_parts, ltb-true}
 use Rattle.std.proofs.lemmas.Bool.Decides.{nat_tests}
 use Rattle.std.proofs.lemmas.List.Sorted.{IsPermutation-append_comm, IsPermutation-append_left, IsPermutation-cons, IsPermutation-refl, IsPermutation-trans, length_permutation, list_any-IsPermutation}
 use Rattle.std.proofs.lemmas.Map.Keys.{IsStrictlyIncreasing-from_sorted, below_from_sorted, sorted_from_strictly_increasing}
@@ -65,9 +65,6 @@ further k x (y ∷ keys) h all = (less k y (let l = lower x y all.0 in omega ari
 above : (k x : ℕ) → nat_eq k x ≡ false → nat_lt k x ≡ false → x < k
 above k x e l = grind (arith, nat_tests)
 
-below : (k x : ℕ) → nat_lt k x ≡ true → k < x
-below k x l = grind (arith, nat_tests)
-
 pub placed_sorted : (k : ℕ) (keys : List ℕ) → has_key k keys ≡ false → IsStrictlySortedBy nat_cmp keys → IsStrictlySortedBy nat_cmp (placed k keys)
 unfolding IsStrictlySortedBy
 placed_sorted k [] fresh s = (tt, tt)
@@ -76,7 +73,7 @@ placed_sorted k (x ∷ keys) fresh s =
     either (nat_lt k x) refl parts.0 (placed_sorted k keys parts.1 s.1)
   where
     either : (b : Bool) → nat_lt k x ≡ b → nat_eq k x ≡ false → IsStrictlySortedBy nat_cmp (placed k keys) → IsStrictlySortedBy nat_cmp (if b then k ∷ x ∷ keys else x ∷ placed k keys)
-    either true l e m = let h = below k x l in ((less k x h, further k x keys h s.0), s)
+    either true l e m = let h = ltb-true k x l in ((less k x h, further k x keys h s.0), s)
     either false l e m = (placed_below x k keys (less x k (above k x e l)) s.0, m)
 
 pub ascending_sorted : (keys : List ℕ) → Once keys → IsStrictlySortedBy nat_cmp (ascending keys)
@@ -119,7 +116,7 @@ not_lower x y xs ys all h = by (nat_lt x y) refl
     high a b l = grind (arith, nat_tests)
 
     by : (b : Bool) → nat_lt x y ≡ b → y ≤ x
-    by true l = absurd (let bad : true ≡ false = sym (first_there x xs) ∙ h ∙ not_there x y ys (below x y l) all in cc)
+    by true l = absurd (let bad : true ≡ false = sym (first_there x xs) ∙ h ∙ not_there x y ys (ltb-true x y l) all in cc)
     by false l = high x y l
 
 -- the keys behind equal first ones
