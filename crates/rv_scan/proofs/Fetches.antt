@@ -1,9 +1,10 @@
 -- The rows of entries, one fetched after another.
-use Rattle.std.proofs.Common.{◌≡◌, ℕ, ◌+◌, ◌<◌, ◌≤◌, List, [], ◌∷◌, ◌++◌, Bool, true, false, not, ◌==◌, cond, refl, ap, sym, ◌∙◌, inl, inr, arith, length, zero, suc, drop, take, Option, Some, None, IfSome, Result, Ok, Err, IfOk, OnOk, OnErr, length-append}
+use Rattle.std.proofs.Common.{◌≡◌, ℕ, ◌+◌, ◌<◌, List, [], ◌∷◌, ◌++◌, Bool, true, false, not, ◌==◌, cond, refl, ap, sym, ◌∙◌, inl, inr, arith, length, zero, suc, drop, take, Option, Some, None, IfSome, Result, Ok, Err, IfOk, OnOk, OnErr, length-append}
 use Rattle.std.proofs.Math.Seq.{drop-drop}
-use Rattle.std.proofs.lemmas.Bool.{cases_Bool, and_parts}
+use Rattle.std.proofs.lemmas.Bool.{cases_Bool, and_parts, not-true}
 use Rattle.std.proofs.lemmas.Bool.Decides.{nat_tests}
 use Rattle.std.specs.List.{list_all, slice_index_or, cons_option}
+use Rattle.std.proofs.lemmas.List.{drop-append-le}
 use Rattle.rv_value.specs.declared.record.Record.{Record}
 use Rattle.rv_value.specs.declared.record.RowNo.{RowNo}
 use Rattle.rv_value.specs.declared.record.IndexEntry.{IndexEntry}
@@ -73,11 +74,6 @@ cut_front (suc at) (x ∷ xs) d h =
     let e : suc at + 1 ≡ suc (at + 1) = omega arith in
     rw e (ap (λ ys. x ∷ ys) (cut_front at xs d (omega arith)))
 
-pub drop_front : (at : ℕ) (xs ys : List IndexEntry) → at ≤ length xs → drop at (xs ++ ys) ≡ drop at xs ++ ys
-drop_front zero xs ys h = refl
-drop_front (suc at) [] ys h = absurd (omega arith)
-drop_front (suc at) (x ∷ xs) ys h = drop_front at xs ys (omega arith)
-
 pub drop_all : (xs ys : List IndexEntry) → drop (length xs) (xs ++ ys) ≡ ys
 drop_all [] ys = refl
 drop_all (x ∷ xs) ys = drop_all xs ys
@@ -89,10 +85,6 @@ length_drop (suc at) (x ∷ xs) h =
     let rest = length_drop at xs (omega arith) in
     let e : suc at + 1 ≡ suc (at + 1) = omega arith in
     rw e (omega arith)
-
-given_is : (b : Bool) → not b ≡ true → b ≡ false
-given_is true h = cc
-given_is false h = refl
 
 append_both : (a b c : List IndexEntry) (e : IndexEntry) → (a ++ e ∷ b) ++ c ≡ a ++ e ∷ (b ++ c)
 append_both [] b c e = refl
@@ -113,11 +105,11 @@ fetched_step only skip walk passed row d entries cuts rows found =
     let before = length-append walk.held coming in
     let after = length-append (drop (passed + 1) walk.held) coming in
     let number : row.0 ≡ e.row.0 = ap (λ (x : RowNo). x.0) is_e.1 in
-    rw (old, number) (looked_step only skip e rows (fetched rows (drop (passed + 1) walk.held ++ coming)) (leaf_work walk entries cuts) (leaf_work (record walk { held = drop (passed + 1) walk.held }) entries cuts) (row_at rows e.row.0) refl (given_is (skips skip e.row.0) is_e.0) (omega arith))
+    rw (old, number) (looked_step only skip e rows (fetched rows (drop (passed + 1) walk.held ++ coming)) (leaf_work walk entries cuts) (leaf_work (record walk { held = drop (passed + 1) walk.held }) entries cuts) (row_at rows e.row.0) refl (not-true (skips skip e.row.0) is_e.0) (omega arith))
 
 pub fetched_follows : (walk : Along) (passed : ℕ) (entries : List IndexEntry) → passed < length walk.held → Follows walk entries → Follows (record walk { held = drop (passed + 1) walk.held }) entries
 fetched_follows walk passed entries h fits =
-    (fits.0 + (passed + 1), sym (drop_front (passed + 1) walk.held (to_come walk.ahead entries walk.range) (omega arith)) ∙ ap (drop (passed + 1)) fits.1 ∙ drop-drop (passed + 1) fits.0 (run entries walk.range))
+    (fits.0 + (passed + 1), sym (drop-append-le (passed + 1) walk.held (to_come walk.ahead entries walk.range) (omega arith)) ∙ ap (drop (passed + 1)) fits.1 ∙ drop-drop (passed + 1) fits.0 (run entries walk.range))
 
 -- a leaf read, or none left
 turned_step : (scanned : Scanned) (only : List (List Atom)) (skip : Skipped) (old new : Fetching) (entries cuts : List IndexEntry) (rows : List Record) → FindsGiven skip old.walk.held None → Turned old new entries cuts scanned

@@ -1,11 +1,12 @@
 -- The rows from a page on are that page, and the rows from the next one on.
-use Rattle.std.proofs.Common.{◌≡◌, ℕ, ◌+◌, ◌*◌, ◌/◌, ◌<◌, ◌≤◌, List, [], ◌∷◌, ◌++◌, Bool, true, false, not, ◌&&◌, ◌==◌, refl, ap, sym, ◌∙◌, arith, length, zero, suc, filter, drop, nat_le, nat_lt, subst, length-append, Some, Result, Ok, Err, IfOk, OnErr}
+use Rattle.std.proofs.Common.{◌≡◌, ℕ, ◌+◌, ◌*◌, ◌/◌, ◌<◌, ◌≤◌, List, [], ◌∷◌, ◌++◌, true, false, not, ◌&&◌, ◌==◌, refl, ap, sym, ◌∙◌, arith, length, zero, suc, drop, nat_le, nat_lt, subst, length-append, Some, Result, Ok, Err, IfOk, OnErr}
 use Rattle.std.proofs.Math.Seq.{drop-drop}
 use Rattle.std.proofs.lemmas.Bool.Decides.{nat_tests}
 use Rattle.std.proofs.lemmas.List.Folds.{list_all-append}
-use Rattle.std.proofs.lemmas.List.Elements.{filter-append}
+use Rattle.std.proofs.lemmas.List.Elements.{filter-append, filter_agree}
 use Rattle.std.specs.List.{AllByRecursion, slice_index_or}
 use Rattle.std.proofs.lemmas.Bool.{and_parts}
+use Rattle.std.proofs.lemmas.List.{drop-append-le}
 use Rattle.rv_value.specs.declared.record.Record.{Record}
 use Rattle.rv_rows.specs.Rows.{Ascend, comes_below}
 use Rattle.rv_restrict.specs.declared.atom.Atom.{Atom}
@@ -16,15 +17,11 @@ use Rattle.rv_scan.specs.declared.skip.Scanned.TheVariants.{Found, Working, End}
 use Rattle.rv_scan.specs.Due.{Skipped, is_due, due, FindsDue, HaveColumns, StepsTo}
 use Rattle.rv_scan.specs.Places.{Place, Turns, rows_from, Fits, rest, work}
 
-tests_same : (p q : Record → Bool) → ((r : Record) → p r ≡ q r) → (rows : List Record) → filter p rows ≡ filter q rows
-tests_same p q same [] = refl
-tests_same p q same (r ∷ rows) = rw (same r, tests_same p q same rows) refl
-
 pub split_page : (page : ℕ) (rows : List Record) → Ascend rows → rows_from rows page ≡ page_of rows page ++ rows_from rows (page + 1)
 split_page page rows ascend =
     let cut = rising_cut comes_below (λ (r : Record). nat_le (32 * page) r.row.0) (λ (r : Record). nat_lt r.row.0 (32 * page + 32)) (λ x y h f. let first = h in let second = f in grind (arith, nat_tests)) rows ascend in
-    let front = tests_same (λ (r : Record). nat_le (32 * page) r.row.0 && nat_lt r.row.0 (32 * page + 32)) (λ (r : Record). r.row.0 / 32 == page) (λ r. grind (arith, nat_tests)) rows in
-    let back = tests_same (λ (r : Record). nat_le (32 * page) r.row.0 && not (nat_lt r.row.0 (32 * page + 32))) (λ (r : Record). nat_le (32 * (page + 1)) r.row.0) (λ r. grind (arith, nat_tests)) rows in
+    let front = filter_agree (λ (r : Record). nat_le (32 * page) r.row.0 && nat_lt r.row.0 (32 * page + 32)) (λ (r : Record). r.row.0 / 32 == page) (λ r. grind (arith, nat_tests)) rows in
+    let back = filter_agree (λ (r : Record). nat_le (32 * page) r.row.0 && not (nat_lt r.row.0 (32 * page + 32))) (λ (r : Record). nat_le (32 * (page + 1)) r.row.0) (λ r. grind (arith, nat_tests)) rows in
     cut ∙ (λ i. front i ++ back i)
 
 pub none_from : (page pages : ℕ) (rows : List Record) → AllByRecursion (λ (r : Record). r.row.0 < 32 * pages) rows → pages ≤ page → rows_from rows page ≡ []
@@ -37,11 +34,6 @@ none_from page pages (r ∷ rows) all h =
 pub all_from : (rows : List Record) → rows_from rows 0 ≡ rows
 all_from [] = refl
 all_from (r ∷ rows) = let here : nat_le (32 * 0) r.row.0 ≡ true = grind (arith, nat_tests) in rw here (ap (λ rs. r ∷ rs) (all_from rows))
-
-drop_front : (at : ℕ) (xs ys : List Record) → at ≤ length xs → drop at (xs ++ ys) ≡ drop at xs ++ ys
-drop_front zero xs ys h = refl
-drop_front (suc at) [] ys h = absurd (omega arith)
-drop_front (suc at) (x ∷ xs) ys h = drop_front at xs ys (omega arith)
 
 drop_all : (xs ys : List Record) → drop (length xs) (xs ++ ys) ≡ ys
 drop_all [] ys = refl
@@ -70,7 +62,7 @@ held_columns only place rows fits have =
 -- a row given
 pub given_fits : (place : Place) (at : ℕ) (rows : List Record) → at < length place.held → Fits place rows → Fits (record place { held = drop (at + 1) place.held }) rows
 given_fits place at rows h fits =
-    (fits.0 + (at + 1), sym (drop_front (at + 1) place.held (rows_from rows place.next) (omega arith)) ∙ ap (drop (at + 1)) fits.1 ∙ drop-drop (at + 1) fits.0 rows)
+    (fits.0 + (at + 1), sym (drop-append-le (at + 1) place.held (rows_from rows place.next) (omega arith)) ∙ ap (drop (at + 1)) fits.1 ∙ drop-drop (at + 1) fits.0 rows)
 
 -- a page read
 pub turned_unseen : (place : Place) (rows : List Record) → Ascend rows → page_of rows place.next ++ rows_from rows (place.next + 1) ≡ rows_from rows place.next
