@@ -1,7 +1,7 @@
 -- What a list keeps of a leaf, one more entry at a time.
 use Rattle.std.proofs.Common.{◌≡◌, ℕ, ◌+◌, ◌<◌, List, [], ◌∷◌, ◌++◌, length, take, drop, slice_index_or, map, filter, Bool, true, false, cond, ◌&&◌, ◌||◌, refl, ap, sym, ◌∙◌, arith, subst, append_assoc, nat_eq, inl, inr, Option, Some, None, IfSome}
 use Rattle.std.specs.Prelude.{if◌then◌else◌}
-use Rattle.std.proofs.lemmas.Bool.{cases_Bool}
+use Rattle.std.proofs.lemmas.Bool.{cases_Bool, and_right}
 use Rattle.std.proofs.lemmas.Bool.Decides.{nat_tests}
 use Rattle.std.proofs.lemmas.List.{take_more, drop_more, map-append}
 use Rattle.std.proofs.lemmas.List.Elements.{filter-append}
@@ -99,9 +99,6 @@ found_or_ahead building admits part n entries after b y =
     let a = key_append n building (kept_by admits part entries) in
     builds_bool (has_key n building) (has_entry n (passing part entries)) (has_entry n (passing part after)) _ (admits n) _ _ (subst (λ (left : List IndexEntry). (has_key n building || has_entry n left) ≡ true) s b) h k y a
 
-fresh_yes : (b bk a : Bool) → a ≡ false → (bk && a) ≡ false
-fresh_yes b bk a h = grind arith
-
 fresh_no : (b k bk e a ea : Bool) → (b && ea) ≡ false → ea ≡ (e || a) → bk ≡ (b || k) → k ≡ false → (bk && a) ≡ false
 fresh_no b k bk e a ea h1 h2 h3 h4 = grind arith
 
@@ -109,7 +106,7 @@ fresh_no b k bk e a ea h1 h2 h3 h4 = grind arith
 pub fresh_after : (building : List ℕ) (admits : ℕ → Bool) (part : Parted) (entries after : List IndexEntry) → Apart (entries ++ after) → Disjoint building (entries ++ after) → Disjoint (building ++ kept_by admits part entries) after
 fresh_after building admits part entries after a d n =
     elim (cases_Bool (has_entry n entries)) [
-      | inl here ↦ fresh_yes true _ _ (Apart-cross n entries after a here)
+      | inl here ↦ and_right _ _ (Apart-cross n entries after a here)
       | inr other ↦ fresh_no (has_key n building) (has_key n (kept_by admits part entries)) _ (has_entry n entries) _ _ (d n) (has_append n entries after) (key_append n building (kept_by admits part entries)) (kept_in admits part n entries other)
     ]
 
@@ -117,7 +114,7 @@ fresh_after building admits part entries after a d n =
 pub narrowed_fresh : (p : ℕ → Bool) (keys : List ℕ) (entries : List IndexEntry) → Disjoint keys entries → Disjoint (filter p keys) entries
 narrowed_fresh p keys entries d n =
     elim (cases_Bool (has_key n keys)) [
-      | inl here ↦ fresh_yes (has_key n (filter p keys)) _ _ (off _ _ here (d n))
+      | inl here ↦ and_right _ _ (off _ _ here (d n))
       | inr other ↦ gone _ _ (none_stays p n keys other)
     ]
   where
