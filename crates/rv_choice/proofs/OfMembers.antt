@@ -1,8 +1,9 @@
 -- The members of a union: which branches have one, and which group serves first.
-use Rattle.std.proofs.Common.{◌≡◌, ℕ, zero, suc, ◌+◌, ◌<◌, ◌≤◌, List, [], ◌∷◌, ◌++◌, length, map, Bool, true, false, ◌&&◌, ◌||◌, nat_le, refl, ap, sym, ◌∙◌, arith, subst, append_assoc, append-nil, Some, None, Result, Ok, Err, IfOk}
+use Rattle.std.proofs.Common.{◌≡◌, ℕ, zero, suc, ◌+◌, ◌<◌, ◌≤◌, List, [], ◌∷◌, ◌++◌, length, map, Bool, true, false, nat_le, refl, ap, sym, ◌∙◌, arith, subst, append_assoc, append-nil, Some, None, Result, Ok, Err, IfOk}
 use Rattle.std.proofs.lemmas.Bool.Decides.{nat_tests}
 use Rattle.std.proofs.lemmas.List.{get_or_read_under}
 use Rattle.std.specs.List.{AllByRecursion, list_all, list_any, slice_index_or}
+use Rattle.std.proofs.lemmas.Bool.{and_from, and_left, and_right, or_from, or_left, or_right}
 use Rattle.rv_restrict.specs.declared.atom.Atom.{Atom}
 use Rattle.rv_restrict.specs.Branches.{branches_of, group_at}
 use Rattle.rv_reader.specs.Shown.{Shown}
@@ -16,34 +17,16 @@ use Rattle.rv_choice.specs.Members.{AddsMembers, AreMembers, AreUnited, IsMember
 use Rattle.rv_choice.proofs.Choices.{IsCandidate, all_at, are_candidates, either_below}
 use Rattle.rv_choice.proofs.Suited.{index_of_any}
 
-left_any : (a b : Bool) → a ≡ true → (a || b) ≡ true
-left_any a b h = grind arith
-
-right_any : (a b : Bool) → b ≡ true → (a || b) ≡ true
-right_any a b h = grind arith
-
-neither : (a b : Bool) → a ≡ false → b ≡ false → (a || b) ≡ false
-neither a b h i = grind arith
-
-not_first : (a b : Bool) → a ≡ false → (a && b) ≡ false
-not_first a b h = grind arith
-
-not_second : (a b : Bool) → b ≡ false → (a && b) ≡ false
-not_second a b h = grind arith
-
-both : (a b : Bool) → a ≡ true → b ≡ true → (a && b) ≡ true
-both a b h i = grind arith
-
 -- THE MEMBER OF A BRANCH
 
 some_plays : (cs : List Candidate) (at : ℕ) → at < length cs → (candidate_at cs at).restricted ≡ true → some_restricted cs ≡ true
 some_plays [] at l p = absurd (omega arith)
-some_plays (c ∷ cs) zero l p = left_any c.restricted (some_restricted cs) p
-some_plays (c ∷ cs) (suc at) l p = right_any c.restricted (some_restricted cs) (some_plays cs at (omega arith) p)
+some_plays (c ∷ cs) zero l p = or_left c.restricted (some_restricted cs) p
+some_plays (c ∷ cs) (suc at) l p = or_right c.restricted (some_restricted cs) (some_plays cs at (omega arith) p)
 
 pub none_plays : (cs : List Candidate) → NonePlays Restricted cs (length cs) → some_restricted cs ≡ false
 none_plays [] n = refl
-none_plays (c ∷ cs) n = neither c.restricted (some_restricted cs) (n.none 0 (omega arith)) (none_plays cs (record { none = λ i l. n.none (suc i) (omega arith) }))
+none_plays (c ∷ cs) n = or_from c.restricted (some_restricted cs) (n.none 0 (omega arith)) (none_plays cs (record { none = λ i l. n.none (suc i) (omega arith) }))
 
 -- no index is bounded by a branch
 pub unbounded : (query : Query) (shown : Shown) (branch : List (List Atom)) (cs : List Candidate) → cs ≡ seen_by query shown branch → IsLeastOf Restricted cs None → is_bounded query shown branch ≡ false
@@ -88,7 +71,7 @@ pub no_branches : (query : Query) (shown : Shown) (old : List ScanPlan) → Puts
 no_branches query shown old = record { added = []; are = tt; put = sym (append-nil old) }
 
 pub first_without : (query : Query) (shown : Shown) (branch : List (List Atom)) (branches : List (List (List Atom))) → is_bounded query shown branch ≡ false → list_all (is_bounded query shown) (branch ∷ branches) ≡ false
-first_without query shown branch branches h = not_first (is_bounded query shown branch) (list_all (is_bounded query shown) branches) h
+first_without query shown branch branches h = and_left (is_bounded query shown branch) (list_all (is_bounded query shown) branches) h
 
 -- one more, and then what the rest adds
 pub one_more : (query : Query) (shown : Shown) (branch : List (List Atom)) (branches : List (List (List Atom))) (plan : ScanPlan) (old put new : List ScanPlan) (all : Bool) → IsMember query shown branch plan → put ≡ old ++ plan ∷ [] → AddsMembers query shown branches put new all → AddsMembers query shown (branch ∷ branches) old new all
@@ -97,7 +80,7 @@ one_more query shown branch branches plan old put new true m p a = record {
   are = (m, a.are);
   put = a.put ∙ ap (λ (xs : List ScanPlan). xs ++ a.added) p ∙ append_assoc old (plan ∷ []) a.added;
 }
-one_more query shown branch branches plan old put new false m p a = not_second (is_bounded query shown branch) (list_all (is_bounded query shown) branches) a
+one_more query shown branch branches plan old put new false m p a = and_right (is_bounded query shown branch) (list_all (is_bounded query shown) branches) a
 
 -- where the rest answers
 pub more_if : {E : Type 0} (r : Result Bool E) (query : Query) (shown : Shown) (branch : List (List Atom)) (branches : List (List (List Atom))) (plan : ScanPlan) (old put new : List ScanPlan) → IsMember query shown branch plan → put ≡ old ++ plan ∷ [] → IfOk r (AddsMembers query shown branches put new) → IfOk r (AddsMembers query shown (branch ∷ branches) old new)
@@ -108,18 +91,18 @@ all_bounded : (query : Query) (shown : Shown) (branches : List (List (List Atom)
 all_bounded query shown [] [] m = refl
 all_bounded query shown [] (plan ∷ plans) m = absurd m
 all_bounded query shown (branch ∷ branches) [] m = absurd m
-all_bounded query shown (branch ∷ branches) (plan ∷ plans) m = both (is_bounded query shown branch) (list_all (is_bounded query shown) branches) (bounded query shown branch plan m.0) (all_bounded query shown branches plans m.1)
+all_bounded query shown (branch ∷ branches) (plan ∷ plans) m = and_from (is_bounded query shown branch) (list_all (is_bounded query shown) branches) (bounded query shown branch plan m.0) (all_bounded query shown branches plans m.1)
 
 -- a group of one branch or none
 pub too_few : (query : Query) (shown : Shown) (group : List Atom) (bs : List (List (List Atom))) → bs ≡ branches_of group → length bs < 2 → serves query shown group ≡ false
-too_few query shown group bs e l = not_first (nat_le 2 (length (branches_of group))) (list_all (is_bounded query shown) (branches_of group)) (ap (λ (xs : List (List (List Atom))). nat_le 2 (length xs)) (sym e) ∙ number (length bs) l)
+too_few query shown group bs e l = and_left (nat_le 2 (length (branches_of group))) (list_all (is_bounded query shown) (branches_of group)) (ap (λ (xs : List (List (List Atom))). nat_le 2 (length xs)) (sym e) ∙ number (length bs) l)
   where
     number : (n : ℕ) → n < 2 → nat_le 2 n ≡ false
     number n l = grind (arith, nat_tests)
 
 -- a branch without a member
 pub one_without : (query : Query) (shown : Shown) (group : List Atom) (bs : List (List (List Atom))) → bs ≡ branches_of group → list_all (is_bounded query shown) bs ≡ false → serves query shown group ≡ false
-one_without query shown group bs e a = not_second (nat_le 2 (length (branches_of group))) (list_all (is_bounded query shown) (branches_of group)) (ap (list_all (is_bounded query shown)) (sym e) ∙ a)
+one_without query shown group bs e a = and_right (nat_le 2 (length (branches_of group))) (list_all (is_bounded query shown) (branches_of group)) (ap (list_all (is_bounded query shown)) (sym e) ∙ a)
 
 -- all have one
 pub group_members : (query : Query) (shown : Shown) (group : List Atom) (bs : List (List (List Atom))) (old new : List ScanPlan) → bs ≡ branches_of group → old ≡ [] → AddsMembers query shown bs old new true → AreMembers query shown (branches_of group) new
@@ -128,7 +111,7 @@ group_members query shown group bs old new e none a =
     subst (λ (xs : List ScanPlan). AreMembers query shown (branches_of group) xs) (sym only) (subst (λ (xs : List (List (List Atom))). AreMembers query shown xs a.added) e a.are)
 
 pub group_serves : (query : Query) (shown : Shown) (group : List Atom) (bs : List (List (List Atom))) (plans : List ScanPlan) → bs ≡ branches_of group → 2 ≤ length bs → AreMembers query shown (branches_of group) plans → serves query shown group ≡ true
-group_serves query shown group bs plans e l m = both (nat_le 2 (length (branches_of group))) (list_all (is_bounded query shown) (branches_of group)) (ap (λ (xs : List (List (List Atom))). nat_le 2 (length xs)) (sym e) ∙ number (length bs) l) (all_bounded query shown (branches_of group) plans m)
+group_serves query shown group bs plans e l m = and_from (nat_le 2 (length (branches_of group))) (list_all (is_bounded query shown) (branches_of group)) (ap (λ (xs : List (List (List Atom))). nat_le 2 (length xs)) (sym e) ∙ number (length bs) l) (all_bounded query shown (branches_of group) plans m)
   where
     number : (n : ℕ) → 2 ≤ n → nat_le 2 n ≡ true
     number n l = grind (arith, nat_tests)
@@ -143,7 +126,7 @@ none_here query shown k n h = record { none = λ i l. either_below i k l (λ les
 
 none_of : (query : Query) (shown : Shown) (groups : List (List Atom)) → ((i : ℕ) → i < length groups → serves query shown (slice_index_or groups i []) ≡ false) → list_any (serves query shown) groups ≡ false
 none_of query shown [] n = refl
-none_of query shown (group ∷ groups) n = neither (serves query shown group) (list_any (serves query shown) groups) (n 0 (omega arith)) (none_of query shown groups (λ i l. n (suc i) (omega arith)))
+none_of query shown (group ∷ groups) n = or_from (serves query shown group) (list_any (serves query shown) groups) (n 0 (omega arith)) (none_of query shown groups (λ i l. n (suc i) (omega arith)))
 
 -- no group serves
 pub none_serves : (query : Query) (shown : Shown) (k : ℕ) → k ≡ length query.only → NoneServes query shown k → some_serves query shown ≡ false
@@ -155,8 +138,8 @@ some_serve query shown plans u = one_of query.only u.group u.there u.suits
   where
     one_of : (groups : List (List Atom)) (i : ℕ) → i < length groups → serves query shown (group_at groups i) ≡ true → list_any (serves query shown) groups ≡ true
     one_of [] i l s = absurd (omega arith)
-    one_of (group ∷ groups) zero l s = left_any (serves query shown group) (list_any (serves query shown) groups) s
-    one_of (group ∷ groups) (suc i) l s = right_any (serves query shown group) (list_any (serves query shown) groups) (one_of groups i (omega arith) s)
+    one_of (group ∷ groups) zero l s = or_left (serves query shown group) (list_any (serves query shown) groups) s
+    one_of (group ∷ groups) (suc i) l s = or_right (serves query shown group) (list_any (serves query shown) groups) (one_of groups i (omega arith) s)
 
 -- the group in a place that there is serves, and none before it
 pub united : (query : Query) (shown : Shown) (group : ℕ) (plans : List ScanPlan) → group < length query.only → NoneServes query shown group → serves query shown (group_at query.only group) ≡ true → AreMembers query shown (branches_of (group_at query.only group)) plans → AreUnited query shown plans
