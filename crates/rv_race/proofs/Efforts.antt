@@ -3,6 +3,7 @@ use Rattle.std.proofs.Common.{◌≡◌, ℕ, ◌+◌, ◌<◌, ◌≤◌, List,
 use Rattle.std.specs.Prelude.{if◌then◌else◌}
 use Rattle.std.proofs.lemmas.List.{drop_more, length-append, length-map}
 use Rattle.std.proofs.lemmas.List.Sorted.{length_permutation}
+use Rattle.std.specs.Cmp.{first_so}
 use Rattle.rv_value.specs.declared.record.IndexEntry.{IndexEntry}
 use Rattle.rv_judge.specs.declared.counting.Counts.{Counts}
 use Rattle.rv_judge.specs.declared.events.Control.{Control}
@@ -44,7 +45,7 @@ use Rattle.rv_race.specs.Rulings.{GivesOn, Obeys, accepted, facts_of, going_on, 
 use Rattle.rv_race.specs.Ways.{advanced, begun, followed, followed_by, has_next, turned, turned_to}
 use Rattle.rv_race.proofs.Fits.{ahead_split}
 use Rattle.rv_race.proofs.Switches.{Leads, dropped_leads, ended_leads, is_racing, over_as, stopped_leads}
-use Rattle.rv_race.proofs.Ways.{advanced_as, followed_as, left_of_both}
+use Rattle.rv_race.proofs.Ways.{advanced_as, followed_as}
 
 -- THE SCANS
 
@@ -161,7 +162,7 @@ left_work r shown = other_work r.plans shown r.snap r.running.other + planned_wo
 going_work : (r : Raced) (shown : Shown) → racing r.control ≡ true → more r ≡ true → effort (going_on r) shown ≤ left_work r shown + 1
 going_work r shown back m =
     let is = effort_racing (going_on r) shown back in
-    let work = advanced_work r.plans shown r.snap (is_some r.list) r.running (left_of_both _ _ m) in
+    let work = advanced_work r.plans shown r.snap (is_some r.list) r.running (first_so _ _ m) in
     let once = read_once (turn_lane (going_on r)).held in
     omega arith
 

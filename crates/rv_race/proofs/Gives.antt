@@ -1,5 +1,6 @@
 -- What a give leaves: an accepted piece, and then the end of its scan, or the verdict on it.
 use Rattle.std.proofs.Common.{◌≡◌, ℕ, List, length, Bool, true, false, refl, ap, sym, ◌∙◌, subst, Option, Some, None, is_some, IfSome, IsPermutation, Result, Ok, Err, IfOk, OnErr, inl, inr}
+use Rattle.std.specs.Cmp.{first_so}
 use Rattle.rv_value.specs.declared.record.IndexEntry.{IndexEntry}
 use Rattle.rv_judge.specs.declared.events.Control.{Control}
 use Rattle.rv_judge.specs.declared.events.Happening.{Happening}
@@ -25,7 +26,7 @@ use Rattle.rv_race.specs.Rulings.{GivesOn, HasNextTurn, Obeys, accepted, dropped
 use Rattle.rv_race.specs.Ways.{advanced, lower, turned, turned_to}
 use Rattle.rv_race.proofs.Fits.{advanced_running, begun_fits, covered_may, narrowed_fits, narrowed_unheld, passed_all, passed_fits, turned_running}
 use Rattle.rv_race.proofs.Switches.{Leads, Stays, dropped_leads, ended_leads, gone_stays, moved_fits, moved_rest, over_as, stopped_leads, with_parts}
-use Rattle.rv_race.proofs.Ways.{advanced_turn, left_of_both}
+use Rattle.rv_race.proofs.Ways.{advanced_turn}
 
 -- THE FIT AND THE REST
 
@@ -52,7 +53,7 @@ listed_fits r piece keys shown a next perm f =
     }) covers
 
 going_on_stays : (r : Raced) (shown : Shown) → racing r.control ≡ true → RaceFits r shown → more r ≡ true → Stays r shown (going_on r)
-going_on_stays r shown back f m = moved_stays r (going_on r) shown refl back f (moved_fits r (going_on r) shown refl back f (advanced_running r.plans (owed r shown) shown r.snap (is_some r.list) r.running f.plans f.running (left_of_both _ _ m)) f.covers)
+going_on_stays r shown back f m = moved_stays r (going_on r) shown refl back f (moved_fits r (going_on r) shown refl back f (advanced_running r.plans (owed r shown) shown r.snap (is_some r.list) r.running f.plans f.running (first_so _ _ m)) f.covers)
 
 pub ended_stays : (r : Raced) (shown : Shown) → racing r.control ≡ true → is_some r.list ≡ true → RaceFits r shown → Stays r shown (ended r)
 ended_stays r shown back some f = over_as (Stays r shown) (λ b. ScanEnded b true) r (going_on_stays r shown back f) (λ m. gone_stays (ScanEnded false true) r shown back (ended_leads r back some) f)

@@ -1,6 +1,7 @@
 -- What the calls on the scan of the turn do to the race.
 use Rattle.std.proofs.Common.{◌≡◌, ◌↔◌, ℕ, ◌-◌, ◌<◌, ◌++◌, List, length, length-append, Bool, true, false, not, ◌&&◌, refl, ap, sym, ◌∙◌, arith, subst, Option, Some, None, is_some, IsSome, IfSome, IsPermutation, IsTrue, min, slice_set, Result, Ok, Err, OnErr}
 use Rattle.std.specs.List.Sorted.{IsStrictlyIncreasing}
+use Rattle.std.specs.Cmp.{first_so}
 use Rattle.rv_value.specs.declared.record.IndexEntry.{IndexEntry}
 use Rattle.rv_judge.specs.declared.judging.Facts.{Facts}
 use Rattle.rv_judge.specs.Counting.{one_more}
@@ -18,7 +19,7 @@ use Rattle.rv_race.specs.Given.{Awaits, next_id, turn_lane, turn_plan, turn_scan
 use Rattle.rv_race.specs.Raced.{IsRace, Raced, racing}
 use Rattle.rv_race.specs.Rulings.{Completes, IsRuled, Obeys, accepted, completed, ended, facts_of, kept_of, listed, lowered, narrowed, recounted, told_list}
 use Rattle.rv_race.specs.Ways.{advanced, has_next, lower, lower_of}
-use Rattle.rv_race.proofs.Ways.{advanced_within, left_of_both}
+use Rattle.rv_race.proofs.Ways.{advanced_within}
 
 -- The positions.
 
@@ -33,7 +34,7 @@ lower_within r n e l = subst (λ (k : ℕ). k < length r.plans) (sym e) (by r.ru
     by (Some other) = smaller r.running.turn.scan other.scan (length r.plans) l
 
 pub advanced_race : (plans : List ScanPlan) (list : Option Listed) (keys : Option (List ℕ)) (listed : Bool) (w new : Running) (planned : ℕ) → IsRace plans w list → (has_next (length plans) w && not (is_empty_list keys)) ≡ true → planned ≡ length plans → new ≡ advanced listed planned w → IsRace plans new list
-advanced_race plans list keys listed w new planned i h p e = subst (λ (x : Running). IsRace plans x list) (sym (e ∙ ap (λ (n : ℕ). advanced listed n w) p)) (advanced_within plans list listed w i (left_of_both _ _ h))
+advanced_race plans list keys listed w new planned i h p e = subst (λ (x : Running). IsRace plans x list) (sym (e ∙ ap (λ (n : ℕ). advanced listed n w) p)) (advanced_within plans list listed w i (first_so _ _ h))
 
 -- The lane.
 

@@ -1,10 +1,11 @@
 -- A race's trace goes on telling a run of the course, with each piece, each end of a scan and each verdict.
 use Rattle.std.proofs.Common.{◌≡◌, ◌⊎◌, ◌∙◌, ℕ, ◌+◌, ◌-◌, ◌<◌, ◌≤◌, List, [], ◌∷◌, ◌++◌, Bool, true, false, not, ◌&&◌, ◌||◌, Option, Some, None, is_some, IfSome, length, drop, take, min, nat_lt, nat_eq, refl, ap, sym, subst, arith, append_assoc, length-append, zero, suc, inl, inr, Result, Ok, Err, IfOk, OnErr}
 use Rattle.std.specs.List.{list_all}
-use Rattle.std.proofs.lemmas.Bool.{cases_Bool}
+use Rattle.std.proofs.lemmas.Bool.{cases_Bool, and_from}
 use Rattle.std.proofs.lemmas.Bool.Decides.{nat_tests}
 use Rattle.std.proofs.lemmas.List.{map-append}
 use Rattle.std.proofs.lemmas.List.Folds.{list_all-append}
+use Rattle.std.specs.Cmp.{first_so}
 use Rattle.rv_value.specs.declared.record.IndexEntry.{IndexEntry}
 use Rattle.rv_judge.specs.declared.counting.Counts.{Counts}
 use Rattle.rv_judge.specs.declared.events.Control.{Control}
@@ -39,7 +40,7 @@ use Rattle.rv_race.specs.Runs.{Ended, IsOfUndropped, Placed, Tells, TellsBy, Tel
 use Rattle.rv_race.specs.Ways.{advanced, followed, followed_by, has_next, joined, lower, lower_of, turned, turned_to}
 use Rattle.rv_race.proofs.Switches.{is_racing, over_as}
 use Rattle.rv_race.proofs.Traces.{OneTurn, chain_went, drop_last, final_of, final_turn, has_scans, last_off, list_last, listed_more, one_more, once_apart, once_front, once_swap, so_far, stop_last, told_length, told_more, turns_of, undropped, with_room}
-use Rattle.rv_race.proofs.Ways.{advanced_as, followed_as, left_of_both, some_at}
+use Rattle.rv_race.proofs.Ways.{advanced_as, followed_as, some_at}
 
 -- THE SCANS THAT ARE LEFT
 
@@ -234,9 +235,6 @@ closed_items r new keys t c =
     ∙ with_room (so_far t.ends ++ Scan i ∷ []) (outcome i keys ∷ []) (omega arith)
     ∙ append_assoc (so_far t.ends) (Scan i ∷ []) (outcome i keys ∷ [])
 
-both_true : (a b : Bool) → a ≡ true → b ≡ true → (a && b) ≡ true
-both_true a b h i = grind arith
-
 -- another scan goes on
 closed_on : (r new : Raced) (keys : Option ℕ) → TellsRacing r → Closes r new keys → keyed keys ≡ true → has_next (length r.plans) new.running ≡ true → TellsRacing (going_on new)
 closed_on r new keys t c some h =
@@ -263,13 +261,13 @@ closed_on r new keys t c some h =
       told = with_room new.trace.events.items (Scan low ∷ []) (omega arith)
           ∙ ap (λ (es : List Event). es ++ Scan low ∷ []) (closed ∙ ap (λ (es : List Event). At BackgroundAlone ∷ es) (sym (told_more t.ends e)))
           ∙ ap (λ (k : ℕ). At BackgroundAlone ∷ (told_ends (t.ends ++ e ∷ []) ++ Scan k ∷ [])) (sym lowest);
-      keys = list_all-append is_keyed t.ends (e ∷ []) ∙ both_true (list_all is_keyed t.ends) (list_all is_keyed (e ∷ [])) t.keys (both_true (keyed keys) true some refl);
+      keys = list_all-append is_keyed t.ends (e ∷ []) ∙ and_from (list_all is_keyed t.ends) (list_all is_keyed (e ∷ [])) t.keys (and_from (keyed keys) true some refl);
       listed = listed_more None t.ends e ∙ ap (λ (l : Option ℕ). later l keys) t.listed ∙ sym c.list;
       once = subst (λ (ps : List ScanPlan). EachOnce (ended_indexes (t.ends ++ e ∷ []) ++ left_of ps w)) (sym c.plans)
           (subst (λ (x : Running). EachOnce (ended_indexes (t.ends ++ e ∷ []) ++ left_of r.plans x)) (sym same)
           (subst EachOnce (ap (λ (is : List ℕ). ended_indexes t.ends ++ is) rest ∙ sym (append_assoc (ended_indexes t.ends) (i ∷ []) (left_of r.plans v)) ∙ ap (λ (is : List ℕ). is ++ left_of r.plans v) (sym indexes)) t.once));
       known = subst (λ (ps : List ScanPlan). list_all (λ k. has_index k (indexes_of ps)) (ended_indexes (t.ends ++ e ∷ [])) ≡ true) (sym c.plans)
-          (ap (list_all (λ k. has_index k (indexes_of r.plans))) indexes ∙ list_all-append (λ k. has_index k (indexes_of r.plans)) (ended_indexes t.ends) (i ∷ []) ∙ both_true (list_all (λ k. has_index k (indexes_of r.plans)) (ended_indexes t.ends)) (list_all (λ k. has_index k (indexes_of r.plans)) (i ∷ [])) t.known (both_true (has_index i (indexes_of r.plans)) true (index_known r.plans r.running.turn.scan t.placed.turn_planned) refl));
+          (ap (list_all (λ k. has_index k (indexes_of r.plans))) indexes ∙ list_all-append (λ k. has_index k (indexes_of r.plans)) (ended_indexes t.ends) (i ∷ []) ∙ and_from (list_all (λ k. has_index k (indexes_of r.plans)) (ended_indexes t.ends)) (list_all (λ k. has_index k (indexes_of r.plans)) (i ∷ [])) t.known (and_from (has_index i (indexes_of r.plans)) true (index_known r.plans r.running.turn.scan t.placed.turn_planned) refl));
       room = subst (λ (ps : List ScanPlan). length (t.ends ++ e ∷ []) + length (left_of ps w) ≤ 8) (sym c.plans) (subst (λ (x : Running). length (t.ends ++ e ∷ []) + length (left_of r.plans x) ≤ 8) (sym same) (omega arith));
       placed = subst (λ (ps : List ScanPlan). Placed (length ps) w) (sym c.plans) (subst (Placed (length r.plans)) (sym same) (placed_advanced (length r.plans) (is_some new.list) new.running c.placed h));
     }
@@ -298,7 +296,7 @@ finished r new t i keys o h c to plans control left items once known comes turn 
       scanned = has_scans t.ends i;
       once = once;
       known = subst (λ (ps : List ScanPlan). list_all (λ k. has_index k (indexes_of ps)) planned ≡ true) (sym plans)
-          (list_all-append (λ k. has_index k (indexes_of r.plans)) (ended_indexes t.ends) (i ∷ []) ∙ both_true (list_all (λ k. has_index k (indexes_of r.plans)) (ended_indexes t.ends)) (list_all (λ k. has_index k (indexes_of r.plans)) (i ∷ [])) t.known (both_true (has_index i (indexes_of r.plans)) true known refl));
+          (list_all-append (λ k. has_index k (indexes_of r.plans)) (ended_indexes t.ends) (i ∷ []) ∙ and_from (list_all (λ k. has_index k (indexes_of r.plans)) (ended_indexes t.ends)) (list_all (λ k. has_index k (indexes_of r.plans)) (i ∷ [])) t.known (and_from (has_index i (indexes_of r.plans)) true known refl));
       room = subst (λ (x : Control). length new.trace.events.items + events_left x ≤ 32) (sym control) (omega arith);
     }
 
@@ -439,7 +437,7 @@ dropped_tells piece old back t =
     let c = dropped_closes piece old v in
     let says : is_some old.list ≡ is_some (listed_by None v.ends) = sym (some_list old.list) ∙ ap is_some (sym v.listed) in
     over_as Tells (λ b. Ruled AbandonScan b (is_some old.list)) r
-    (λ m. racing_tells (going_on r) back t.named (closed_on old r None v c refl (left_of_both _ _ m)))
+    (λ m. racing_tells (going_on r) back t.named (closed_on old r None v c refl (first_so _ _ m)))
     (λ m. final_tells (gone (Ruled AbandonScan false (is_some old.list)) r) (final_of (is_some old.list)) (next_final (Ruled AbandonScan false (is_some old.list)) r (final_of (is_some old.list)) back (leads (is_some old.list))) (final_is (is_some old.list)) t.named
     (closed_off old r None (Ruled AbandonScan false (is_some old.list)) 0 (final_of (is_some old.list)) _ v c (next_final (Ruled AbandonScan false (is_some old.list)) r (final_of (is_some old.list)) back (leads (is_some old.list))) (final_is (is_some old.list)) (left_final (is_some old.list)) (refl, refl, says) (drop_last (index_at old (turn_scan old)) (listed_by None v.ends) (is_some old.list)) (stood (is_some old.list))))
   where
@@ -477,7 +475,7 @@ ended_tells piece keys old back t =
     let r = listed keys (accepted piece true old) in
     let c = listed_closes piece keys old v in
     over_as Tells (λ b. ScanEnded b true) r
-    (λ m. racing_tells (going_on r) back t.named (closed_on old r (Some (length keys)) v c (some_key keys (right_of_both (has_next (length r.plans) r.running) _ m)) (left_of_both _ _ m)))
+    (λ m. racing_tells (going_on r) back t.named (closed_on old r (Some (length keys)) v c (some_key keys (right_of_both (has_next (length r.plans) r.running) _ m)) (first_so _ _ m)))
     (λ m. final_tells (gone (ScanEnded false true) r) FinalList (next_final (ScanEnded false true) r FinalList back refl) (inl refl) t.named
     (closed_off old r (Some (length keys)) (ScanEnded false true) (length keys) FinalList _ v c (next_final (ScanEnded false true) r FinalList back refl) (inl refl) (left_final true) (refl, refl, refl) (list_last (index_at old (turn_scan old)) (listed_by None v.ends) (length keys)) refl))
   where
@@ -654,7 +652,7 @@ allowed r t = subst (λ (st : Strategy). Allowed (record r.trace { strategy = st
         let went = chain_went b.ends low b.keys in
         record {
           planned = ended_indexes b.ends ++ low ∷ [];
-          known = list_all-append (λ k. has_index k (indexes_of r.plans)) (ended_indexes b.ends) (low ∷ []) ∙ both_true (list_all (λ k. has_index k (indexes_of r.plans)) (ended_indexes b.ends)) (list_all (λ k. has_index k (indexes_of r.plans)) (low ∷ [])) b.known (both_true (has_index low (indexes_of r.plans)) true (index_known r.plans (lower r.running) (lower_planned r b)) refl);
+          known = list_all-append (λ k. has_index k (indexes_of r.plans)) (ended_indexes b.ends) (low ∷ []) ∙ and_from (list_all (λ k. has_index k (indexes_of r.plans)) (ended_indexes b.ends)) (list_all (λ k. has_index k (indexes_of r.plans)) (low ∷ [])) b.known (and_from (has_index low (indexes_of r.plans)) true (index_known r.plans (lower r.running) (lower_planned r b)) refl);
           once = lower_once r b;
           scanned = has_scans b.ends low;
           turns = turns_of None b.ends;

@@ -1,9 +1,11 @@
 -- The runs of which a race's trace tells: the scans that are over, one after another, and then one under way.
-use Rattle.std.proofs.Common.{◌≡◌, ◌∙◌, ℕ, ◌+◌, ◌*◌, ◌-◌, ◌<◌, ◌≤◌, List, [], ◌∷◌, ◌++◌, Bool, true, false, ◌&&◌, ◌||◌, Option, Some, None, is_some, length, take, nat_lt, nat_eq, refl, ap, sym, subst, arith, append_assoc, append-nil, length-append}
+use Rattle.std.proofs.Common.{◌≡◌, ◌∙◌, ℕ, ◌+◌, ◌*◌, ◌-◌, ◌≤◌, List, [], ◌∷◌, ◌++◌, Bool, true, false, ◌||◌, Option, Some, None, is_some, length, take, nat_lt, nat_eq, refl, ap, sym, subst, arith, append_assoc, append-nil, length-append}
 use Rattle.std.specs.List.{list_all}
 use Rattle.std.proofs.Math.Seq.{take-append_seam}
 use Rattle.std.proofs.lemmas.Bool.Decides.{nat_tests}
 use Rattle.std.proofs.lemmas.List.Folds.{list_any-append}
+use Rattle.std.specs.Cmp.{first_so, second_so}
+use Rattle.std.proofs.lemmas.Bool.{lt-ltb}
 use Rattle.rv_judge.specs.declared.events.Control.{Control}
 use Rattle.rv_judge.specs.declared.events.Control.TheVariants.{Building, ForegroundAlone, BackgroundAlone, FinalList, FinalTable, Done}
 use Rattle.rv_judge.specs.declared.events.Event.{Event}
@@ -121,15 +123,9 @@ chain_more before between index h keys own ends low ts comes turn c e =
           ∙ c.stands,
     )
 
-left_true : (a b : Bool) → (a && b) ≡ true → a ≡ true
-left_true a b h = grind arith
-
-right_true : (a b : Bool) → (a && b) ≡ true → b ≡ true
-right_true a b h = grind arith
-
 chain : (before : Option ℕ) (ends : List Ended) (low : ℕ) → keyed before ≡ true → list_all is_keyed ends ≡ true → Chain before ends low
 chain before [] low k ks = record { run = tt; told = refl; stands = refl }
-chain before (e ∷ ends) low k ks = by e.keys (left_true (is_keyed e) (list_all is_keyed ends) ks) (λ between some. chain between ends low some (right_true (is_keyed e) (list_all is_keyed ends) ks))
+chain before (e ∷ ends) low k ks = by e.keys (first_so (is_keyed e) (list_all is_keyed ends) ks) (λ between some. chain between ends low some (second_so (is_keyed e) (list_all is_keyed ends) ks))
   where
     by : (keys : Option ℕ) → keyed keys ≡ true → ((between : Option ℕ) → keyed between ≡ true → Chain between ends low) → Chain before (record { index = e.index; keys = keys } ∷ ends) low
     by None some rest =
@@ -177,13 +173,10 @@ told_length (e ∷ ends) = let more = told_length ends in omega arith
 
 -- The events of a trace.
 
-is_less : (a b : ℕ) → a < b → nat_lt a b ≡ true
-is_less a b l = grind (arith, nat_tests)
-
 pub with_room : (items es : List Event) → length items + length es ≤ 32 → with_events items es ≡ items ++ es
 with_room items [] h = sym (append-nil items)
 with_room items (e ∷ es) h =
-    let less : nat_lt (length items) 32 ≡ true = is_less (length items) 32 (omega arith) in
+    let less : nat_lt (length items) 32 ≡ true = lt-ltb (length items) 32 (omega arith) in
     let one : length (items ++ e ∷ []) ≡ length items + 1 = length-append items (e ∷ []) in
     rw less (with_room (items ++ e ∷ []) es (omega arith) ∙ append_assoc items (e ∷ []) es)
 

@@ -1,7 +1,8 @@
 -- Who goes on where a scan is over.
 use Rattle.std.proofs.Common.{◌≡◌, ℕ, ◌+◌, ◌<◌, List, length, Bool, true, false, not, ◌&&◌, ◌||◌, Option, Some, None, is_some, IfSome, nat_lt, refl, ap, subst, arith}
 use Rattle.std.specs.Prelude.{if◌then◌else◌}
-use Rattle.std.proofs.lemmas.Bool.Decides.{nat_tests}
+use Rattle.std.proofs.lemmas.Bool.{ltb-true}
+use Rattle.std.specs.Cmp.{second_so}
 use Rattle.rv_keylist.specs.Listed.{Listed}
 use Rattle.rv_jscan.specs.declared.jscan.ScanPlan.{ScanPlan}
 use Rattle.rv_race.specs.declared.running.Runner.{Runner}
@@ -9,19 +10,10 @@ use Rattle.rv_race.specs.declared.running.Running.{Running}
 use Rattle.rv_race.specs.Raced.{IsRace}
 use Rattle.rv_race.specs.Ways.{advanced, begun, followed, followed_by, has_next, joined}
 
-pub less : (a b : ℕ) → nat_lt a b ≡ true → a < b
-less a b h = grind (arith, nat_tests)
-
-pub left_of_both : (a b : Bool) → (a && b) ≡ true → a ≡ true
-left_of_both a b h = grind arith
-
-right_of_both : (a b : Bool) → (a && b) ≡ true → b ≡ true
-right_of_both a b h = grind arith
-
 -- what holds of the scan that goes on, and of it with the next one beside it, holds
 pub advanced_as : (P : Running → Type 0) (listed : Bool) (planned : ℕ) (w : Running) → P (followed w) → ((followed w).next < planned → P (joined (followed w))) → P (advanced listed planned w)
 advanced_as P listed planned w alone two = elim (not listed && nat_lt (followed w).next planned) as (λ b. (not listed && nat_lt (followed w).next planned) ≡ b → P (if b then joined (followed w) else followed w)) [
-  | true ↦ λ e. two (less (followed w).next planned (right_of_both (not listed) (nat_lt (followed w).next planned) e))
+  | true ↦ λ e. two (ltb-true (followed w).next planned (second_so (not listed) (nat_lt (followed w).next planned) e))
   | false ↦ λ e. alone
 ] refl
 
@@ -29,7 +21,7 @@ pub followed_as : (P : Running → Type 0) (planned : ℕ) (w : Running) → has
 followed_as P planned w h some none = by w.other refl h
   where
     by : (o : Option Runner) → w.other ≡ o → (is_some o || nat_lt w.next planned) ≡ true → P (followed_by o w)
-    by None e h = none e (less w.next planned h)
+    by None e h = none e (ltb-true w.next planned h)
     by (Some other) e h = some other e
 
 -- the other scan, where there was one, has the turn
