@@ -1,27 +1,17 @@
 -- Indexes that stand once among a few are few.
-use Rattle.std.proofs.Common.{◌≡◌, ℕ, ◌+◌, ◌≤◌, List, [], ◌∷◌, ◌++◌, length, Bool, true, false, cond, ◌&&◌, ◌||◌, refl, ap, sym, ◌∙◌, arith, nat_eq}
+use Rattle.std.proofs.Common.{◌≡◌, ℕ, ◌+◌, ◌≤◌, List, [], ◌∷◌, ◌++◌, length, Bool, true, false, cond, ◌||◌, refl, ap, sym, ◌∙◌, arith, nat_eq}
 use Rattle.std.specs.List.{list_all}
 use Rattle.std.proofs.lemmas.Bool.Decides.{nat_tests}
 use Rattle.std.proofs.lemmas.List.Folds.{list_any-append}
+use Rattle.std.proofs.lemmas.Bool.{and_from, eqb-true, or_left, or_right}
+use Rattle.std.specs.Cmp.{first_so, second_so}
 use Rattle.rv_judge.specs.Runs.{EachOnce, has_index}
-
-pub left_true : (a b : Bool) → (a && b) ≡ true → a ≡ true
-left_true a b h = grind arith
-
-pub right_true : (a b : Bool) → (a && b) ≡ true → b ≡ true
-right_true a b h = grind arith
-
-pub both_true : (a b : Bool) → a ≡ true → b ≡ true → (a && b) ≡ true
-both_true a b h i = grind arith
 
 left_off : (a b : Bool) → (a || b) ≡ false → a ≡ false
 left_off a b h = grind arith
 
 right_off : (a b : Bool) → (a || b) ≡ false → b ≡ false
 right_off a b h = grind arith
-
-number : (a b : ℕ) → nat_eq a b ≡ true → a ≡ b
-number a b h = grind (arith, nat_tests)
 
 flips : (a b : ℕ) → nat_eq a b ≡ nat_eq b a
 flips a b = grind (arith, nat_tests)
@@ -43,15 +33,9 @@ one_less : (i : ℕ) (ys : List ℕ) → has_index i ys ≡ true → length (wit
 one_less i [] h = absurd (cc)
 one_less i (y ∷ ys) h = less_step (nat_eq y i) y ys (without i ys) (has_index i ys) h (one_less i ys)
 
-first_true : (a b : Bool) → a ≡ true → (a || b) ≡ true
-first_true a b h = grind arith
-
-second_true : (a b : Bool) → b ≡ true → (a || b) ≡ true
-second_true a b h = grind arith
-
 stay_step : (i k y : ℕ) (b : Bool) (ys zs : List ℕ) → nat_eq y i ≡ b → nat_eq i k ≡ false → (nat_eq y k || has_index k ys) ≡ true → (has_index k ys ≡ true → has_index k zs ≡ true) → has_index k (cond b ys (y ∷ zs)) ≡ true
-stay_step i k y true ys zs e apart h f = either (nat_eq y k) (has_index k ys) (has_index k ys) h (λ same. absurd (let bad : true ≡ false = sym same ∙ ap (λ (n : ℕ). nat_eq n k) (number y i e) ∙ apart in cc)) (λ there. there)
-stay_step i k y false ys zs e apart h f = either (nat_eq y k) (has_index k ys) (nat_eq y k || has_index k zs) h (λ same. first_true (nat_eq y k) (has_index k zs) same) (λ there. second_true (nat_eq y k) (has_index k zs) (f there))
+stay_step i k y true ys zs e apart h f = either (nat_eq y k) (has_index k ys) (has_index k ys) h (λ same. absurd (let bad : true ≡ false = sym same ∙ ap (λ (n : ℕ). nat_eq n k) (eqb-true y i e) ∙ apart in cc)) (λ there. there)
+stay_step i k y false ys zs e apart h f = either (nat_eq y k) (has_index k ys) (nat_eq y k || has_index k zs) h (λ same. or_left (nat_eq y k) (has_index k zs) same) (λ there. or_right (nat_eq y k) (has_index k zs) (f there))
 
 others_stay : (i k : ℕ) (ys : List ℕ) → nat_eq i k ≡ false → has_index k ys ≡ true → has_index k (without i ys) ≡ true
 others_stay i k [] apart h = h
@@ -59,24 +43,24 @@ others_stay i k (y ∷ ys) apart h = stay_step i k y (nat_eq y i) ys (without i 
 
 all_stay : (i : ℕ) (xs ys : List ℕ) → has_index i xs ≡ false → list_all (λ k. has_index k ys) xs ≡ true → list_all (λ k. has_index k (without i ys)) xs ≡ true
 all_stay i [] ys apart h = refl
-all_stay i (x ∷ xs) ys apart h = both_true (has_index x (without i ys)) (list_all (λ k. has_index k (without i ys)) xs) (others_stay i x ys (flips i x ∙ left_off (nat_eq x i) (has_index i xs) apart) (left_true (has_index x ys) (list_all (λ k. has_index k ys) xs) h)) (all_stay i xs ys (right_off (nat_eq x i) (has_index i xs) apart) (right_true (has_index x ys) (list_all (λ k. has_index k ys) xs) h))
+all_stay i (x ∷ xs) ys apart h = and_from (has_index x (without i ys)) (list_all (λ k. has_index k (without i ys)) xs) (others_stay i x ys (flips i x ∙ left_off (nat_eq x i) (has_index i xs) apart) (first_so (has_index x ys) (list_all (λ k. has_index k ys) xs) h)) (all_stay i xs ys (right_off (nat_eq x i) (has_index i xs) apart) (second_so (has_index x ys) (list_all (λ k. has_index k ys) xs) h))
 
 pub few : (xs ys : List ℕ) → EachOnce xs → list_all (λ k. has_index k ys) xs ≡ true → length xs ≤ length ys
 few [] ys once h = omega arith
 few (x ∷ xs) ys once h =
-    let there = left_true (has_index x ys) (list_all (λ k. has_index k ys) xs) h in
+    let there = first_so (has_index x ys) (list_all (λ k. has_index k ys) xs) h in
     let one = one_less x ys there in
-    let rest = few xs (without x ys) once.1 (all_stay x xs ys once.0 (right_true (has_index x ys) (list_all (λ k. has_index k ys) xs) h)) in
+    let rest = few xs (without x ys) once.1 (all_stay x xs ys once.0 (second_so (has_index x ys) (list_all (λ k. has_index k ys) xs) h)) in
     omega arith
 
 -- an index among others has what each of them has
 pub at_index : (p : ℕ → Bool) (i : ℕ) (ys : List ℕ) → list_all p ys ≡ true → has_index i ys ≡ true → p i ≡ true
 at_index p i [] all h = absurd (cc)
-at_index p i (y ∷ ys) all h = either (nat_eq y i) (has_index i ys) (p i) h (λ same. ap p (sym (number y i same)) ∙ left_true (p y) (list_all p ys) all) (λ there. at_index p i ys (right_true (p y) (list_all p ys) all) there)
+at_index p i (y ∷ ys) all h = either (nat_eq y i) (has_index i ys) (p i) h (λ same. ap p (sym (eqb-true y i same)) ∙ first_so (p y) (list_all p ys) all) (λ there. at_index p i ys (second_so (p y) (list_all p ys) all) there)
 
 pub all_among : (xs ys zs : List ℕ) → list_all (λ k. has_index k ys) xs ≡ true → list_all (λ k. has_index k zs) ys ≡ true → list_all (λ k. has_index k zs) xs ≡ true
 all_among [] ys zs h all = refl
-all_among (x ∷ xs) ys zs h all = both_true (has_index x zs) (list_all (λ k. has_index k zs) xs) (at_index (λ k. has_index k zs) x ys all (left_true (has_index x ys) (list_all (λ k. has_index k ys) xs) h)) (all_among xs ys zs (right_true (has_index x ys) (list_all (λ k. has_index k ys) xs) h) all)
+all_among (x ∷ xs) ys zs h all = and_from (has_index x zs) (list_all (λ k. has_index k zs) xs) (at_index (λ k. has_index k zs) x ys all (first_so (has_index x ys) (list_all (λ k. has_index k ys) xs) h)) (all_among xs ys zs (second_so (has_index x ys) (list_all (λ k. has_index k ys) xs) h) all)
 
 -- one more
 

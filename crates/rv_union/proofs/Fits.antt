@@ -4,6 +4,7 @@ use Rattle.std.proofs.lemmas.List.{drop_more}
 use Rattle.std.specs.List.{list_any}
 use Rattle.std.proofs.lemmas.List.Elements.{filter-append}
 use Rattle.std.proofs.lemmas.List.Sorted.{list_any-IsPermutation}
+use Rattle.std.specs.Cmp.{first_so}
 use Rattle.rv_value.specs.declared.record.IndexEntry.{IndexEntry}
 use Rattle.rv_keys.specs.Keys.{has_key}
 use Rattle.rv_restrict.specs.Parts.{Parted, passes}
@@ -139,9 +140,6 @@ either_met : (a b : Bool) (P : Type 0) → (a || b) ≡ true → (a ≡ true →
 either_met true b P h f g = f refl
 either_met false b P h f g = g h
 
-left_true : (a b : Bool) → (a && b) ≡ true → a ≡ true
-left_true a b h = grind arith
-
 -- of the leaf that the present member holds
 pub passed_met : (u : Unioned) (piece : Pieced) (shown : Shown) → Awaits u piece → UnionFits u shown → AreMet (u.lane.building ++ kept_of u piece) u.plans shown u.snap
 passed_met u piece shown a f = record { met = λ n h. either_met (has_key n u.lane.building) (has_key n (kept_of u piece)) (meets_any u.plans shown u.snap n ≡ true) (sym (key_append n u.lane.building (kept_of u piece)) ∙ h) (λ b. f.building.met n b) (λ k. met n k) }
@@ -149,7 +147,7 @@ passed_met u piece shown a f = record { met = λ n h. either_met (has_key n u.la
     met : (n : ℕ) → has_key n (kept_of u piece) ≡ true → meets_any u.plans shown u.snap n ≡ true
     met n k =
         let plan = present u in
-        let entered : has_entry n (passing piece.part piece.entries) ≡ true = left_true (has_entry n (passing piece.part piece.entries)) (lacks u.keys n) (sym (kept_has (lacks u.keys) piece.part n piece.entries) ∙ k) in
+        let entered : has_entry n (passing piece.part piece.entries) ≡ true = first_so (has_entry n (passing piece.part piece.entries)) (lacks u.keys n) (sym (kept_has (lacks u.keys) piece.part n piece.entries) ∙ k) in
         let after = run_after (shown.entries plan.index u.snap) plan.range (held_next u.lane.held) in
         let parts = ahead_split plan shown u.snap u.lane.place u.lane.held piece.entries a.own.entries f.lane.drawn in
         let own : has_entry n (passing plan.part piece.entries) ≡ true = subst (λ (p : Parted). has_entry n (passing p piece.entries) ≡ true) a.own.part entered in

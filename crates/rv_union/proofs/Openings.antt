@@ -2,6 +2,7 @@
 use Rattle.std.proofs.Common.{◌≡◌, ℕ, ◌+◌, ◌*◌, ◌<◌, ◌≤◌, List, [], ◌∷◌, length, filter, drop, Bool, true, false, cond, ◌&&◌, ◌||◌, refl, ap, sym, ◌∙◌, arith, subst, nat_eq, nat_lt}
 use Rattle.std.specs.List.{AllByRecursion, list_all}
 use Rattle.std.proofs.lemmas.Bool.Decides.{nat_tests}
+use Rattle.std.proofs.lemmas.Bool.{and_from}
 use Rattle.rv_value.specs.declared.record.Record.{Record}
 use Rattle.rv_rows.specs.Rows.{Ascend}
 use Rattle.rv_restrict.specs.declared.atom.Atom.{Atom}
@@ -18,7 +19,6 @@ use Rattle.rv_union.specs.Effort.{effort, lane_work, life_of, member_life, membe
 use Rattle.rv_union.specs.Opened.{CanUnite, Opened, opened}
 use Rattle.rv_union.specs.Runs.{Tells, indexes_of}
 use Rattle.rv_union.specs.Unioned.{UnionFits, Unioned, rest}
-use Rattle.rv_union.proofs.Few.{both_true}
 use Rattle.rv_union.proofs.Fits.{begun_lane, next_met}
 use Rattle.rv_union.proofs.Switches.{all_qualifying}
 use Rattle.rv_union.proofs.Tellings.{index_known}
@@ -65,7 +65,7 @@ opened_tells table snap only members cursor opening pages u shown o can some =
       present = or_first (nat_eq index index) (itself index);
       among = refl;
       once = (refl, tt);
-      known = both_true (has_index index (indexes_of members)) true (index_known members 0 (omega arith)) refl;
+      known = and_from (has_index index (indexes_of members)) true (index_known members 0 (omega arith)) refl;
       few = can.few;
     } in
     subst Tells (sym o.is) tells

@@ -1,10 +1,11 @@
 -- A union's trace goes on telling of it, with each piece, each end of a member and each verdict.
-use Rattle.std.proofs.Common.{◌≡◌, ◌⊎◌, ◌∙◌, ℕ, ◌+◌, ◌<◌, ◌≤◌, List, [], ◌∷◌, ◌++◌, Bool, true, false, ◌&&◌, ◌||◌, Option, Some, None, length, map, nat_lt, nat_eq, refl, ap, sym, subst, arith, append_assoc, append-nil, length-append, zero, suc, inl, inr, Result, Ok, Err, IfOk, OnErr}
+use Rattle.std.proofs.Common.{◌≡◌, ◌⊎◌, ◌∙◌, ℕ, ◌+◌, ◌<◌, ◌≤◌, List, [], ◌∷◌, ◌++◌, Bool, true, false, ◌||◌, Option, Some, None, length, map, nat_lt, nat_eq, refl, ap, sym, subst, arith, append_assoc, append-nil, length-append, zero, suc, inl, inr, Result, Ok, Err, IfOk, OnErr}
 use Rattle.std.specs.Prelude.{if◌then◌else◌}
 use Rattle.std.specs.List.{list_all, list_any}
 use Rattle.std.proofs.lemmas.Bool.Decides.{nat_tests}
 use Rattle.std.proofs.lemmas.List.{length-map, map-append}
 use Rattle.std.proofs.lemmas.List.Folds.{list_all-append}
+use Rattle.std.proofs.lemmas.Bool.{and_from, lt-ltb}
 use Rattle.rv_value.specs.declared.record.IndexEntry.{IndexEntry}
 use Rattle.rv_judge.specs.declared.counting.Counts.{Counts}
 use Rattle.rv_judge.specs.declared.events.Control.{Control}
@@ -34,18 +35,15 @@ use Rattle.rv_union.specs.Given.{Answers, TakesPiece}
 use Rattle.rv_union.specs.Rulings.{GivesOn, Obeys, accepted, dropped, going_on, gone, index_of, joined, listed, next_member, over, ruled, told, was_begun}
 use Rattle.rv_union.specs.Runs.{IsOfUndropped, OfFewIndexes, Tells, indexes_of, is_drop, tail_control}
 use Rattle.rv_union.specs.Unioned.{Unioned, present, scanning}
-use Rattle.rv_union.proofs.Few.{all_among, both_true, few, once_push, pushed_there, some_index}
+use Rattle.rv_union.proofs.Few.{all_among, few, once_push, pushed_there, some_index}
 use Rattle.rv_union.proofs.Switches.{dropped_leads, drops, listed_leads, over_as}
 
 -- THE EVENTS
 
-is_less : (a b : ℕ) → a < b → nat_lt a b ≡ true
-is_less a b l = grind (arith, nat_tests)
-
 with_room : (items es : List Event) → length items + length es ≤ 32 → with_events items es ≡ items ++ es
 with_room items [] h = sym (append-nil items)
 with_room items (e ∷ es) h =
-    let less : nat_lt (length items) 32 ≡ true = is_less (length items) 32 (omega arith) in
+    let less : nat_lt (length items) 32 ≡ true = lt-ltb (length items) 32 (omega arith) in
     let one : length (items ++ e ∷ []) ≡ length items + 1 = length-append items (e ∷ []) in
     rw less (with_room (items ++ e ∷ []) es (omega arith) ∙ append_assoc items (e ∷ []) es)
 
@@ -178,7 +176,7 @@ going_tells u back l t = by (was_begun index u.trace.events.items) refl
           present = pushed_there t.begun index;
           among = refl;
           once = once_push t.begun index t.once (sym was ∙ e);
-          known = list_all-append (λ i. has_index i (indexes_of u.plans)) t.begun (index ∷ []) ∙ both_true (list_all (λ i. has_index i (indexes_of u.plans)) t.begun) (list_all (λ i. has_index i (indexes_of u.plans)) (index ∷ [])) t.known (both_true (has_index index (indexes_of u.plans)) true (index_known u.plans (u.member + 1) l) refl);
+          known = list_all-append (λ i. has_index i (indexes_of u.plans)) t.begun (index ∷ []) ∙ and_from (list_all (λ i. has_index i (indexes_of u.plans)) t.begun) (list_all (λ i. has_index i (indexes_of u.plans)) (index ∷ [])) t.known (and_from (has_index index (indexes_of u.plans)) true (index_known u.plans (u.member + 1) l) refl);
           few = t.few;
         }
 
