@@ -1,5 +1,6 @@
 -- A retrieval before its first step.
 use Rattle.std.proofs.Common.{◌≡◌, ℕ, ◌<◌, List, [], ◌∷◌, length, Bool, true, false, not, cond, ◌&&◌, ◌||◌, refl, ap, sym, ◌∙◌, arith, subst, inl}
+use Rattle.std.proofs.lemmas.Bool.{and_from}
 use Rattle.rv_value.specs.declared.record.Record.{Record}
 use Rattle.rv_restrict.specs.declared.atom.Atom.{Atom}
 use Rattle.rv_restrict.specs.Truth.{qualifies}
@@ -98,9 +99,6 @@ opened_fits v scans cursor opening some shown n j o = record {
     right : (a b : Bool) → (a && b) ≡ true → b ≡ true
     right a b h = grind arith
 
-both_true : (a b : Bool) → a ≡ true → b ≡ true → (a && b) ≡ true
-both_true a b h i = grind arith
-
 pub opened_rest : (v : Shape) (scans : List ScanPlan) (cursor opening : ℕ) (some : Bool) (shown : Shown) → Fresh v scans cursor opening some → Opens v.query v.strategy scans v.front shown → rest v shown ≡ qualifying v.query.only (rows_of v shown)
 opened_rest v scans cursor opening some shown n o = same_rest v.query.only (rows_of v shown) (λ k. true) (left_at (source v) v shown) (λ k q. ap (λ (x : Source). left_at x v shown k) (source_first v scans cursor opening some n) ∙ go v.strategy some refl k q) ∙ all_qualifying v.query.only (rows_of v shown)
   where
@@ -108,7 +106,7 @@ opened_rest v scans cursor opening some shown n o = same_rest v.query.only (rows
     undelivered k = none_delivered v scans cursor opening some k n
 
     go : (s : Strategy) (b : Bool) → v.strategy ≡ s → (k : ℕ) → qualifies_at v.query.only (rows_of v shown) k ≡ true → left_at (source_of (first_of s b) s) v shown k ≡ true
-    go Table b e k q = both_true (has_row k (unseen v.last (rows_of v shown))) (not (has_key k v.delivered)) (ap (has_row k) (n.pages (rows_of v shown)) ∙ row_there v.query.only (rows_of v shown) k q) (none_delivered v scans cursor opening some k n)
+    go Table b e k q = and_from (has_row k (unseen v.last (rows_of v shown))) (not (has_key k v.delivered)) (ap (has_row k) (n.pages (rows_of v shown)) ∙ row_there v.query.only (rows_of v shown) k q) (none_delivered v scans cursor opening some k n)
     go BackgroundOnly b e k q = undelivered k
     go Union b e k q = undelivered k
     go FastFirst b e k q = undelivered k

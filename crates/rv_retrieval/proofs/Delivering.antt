@@ -1,5 +1,6 @@
 -- Rows that are remembered, and the foreground's scan.
 use Rattle.std.proofs.Common.{◌≡◌, ℕ, ◌<◌, ◌⊎◌, List, [], length, Bool, true, false, not, ◌&&◌, ◌||◌, refl, ap, sym, ◌∙◌, arith, subst, Option, nat_eq, inl, inr, take, Result, Ok, Err, IfOk, OnErr}
+use Rattle.std.specs.Cmp.{first_so, second_so}
 use Rattle.rv_value.specs.declared.record.Record.{Record}
 use Rattle.rv_rows.specs.Rows.{Ascend}
 use Rattle.rv_restrict.specs.declared.atom.Atom.{Atom}
@@ -244,14 +245,8 @@ index_only_is FastFirst h = absurd (cc)
 index_only_is Sorted h = absurd (cc)
 index_only_is IndexOnly h = refl
 
-left_true : (a b : Bool) → (a && b) ≡ true → a ≡ true
-left_true a b h = grind arith
-
-right_true : (a b : Bool) → (a && b) ≡ true → b ≡ true
-right_true a b h = grind arith
-
 both_full : (v : Shape) → (is_building v.control && is_index_only v.strategy) ≡ true → next_control v.strategy v.control Full ≡ ForegroundAlone
-both_full v b = ap (λ (x : Control). next_control v.strategy x Full) (building_is v.control (left_true (is_building v.control) (is_index_only v.strategy) b)) ∙ ap (λ (x : Strategy). next_control x Building Full) (index_only_is v.strategy (right_true (is_building v.control) (is_index_only v.strategy) b))
+both_full v b = ap (λ (x : Control). next_control v.strategy x Full) (building_is v.control (first_so (is_building v.control) (is_index_only v.strategy) b)) ∙ ap (λ (x : Strategy). next_control x Building Full) (index_only_is v.strategy (second_so (is_building v.control) (is_index_only v.strategy) b))
 
 both_source : (v : Shape) (c : Control) → (is_building v.control && is_index_only v.strategy) ≡ true → (c ≡ v.control) ⊎ (c ≡ next_control v.strategy v.control Full) → source_of c v.strategy ≡ Ahead
 both_source v c b (inl e) = ap (λ (x : Control). source_of x v.strategy) e ∙ both_ahead v.control v.strategy b
@@ -274,11 +269,11 @@ both_fits v new d c t shown b a room same follows agree f = record {
   room = room;
   remembered = λ h n q. left_again v new shown n same ∙ agree n q;
   ordered = f.ordered;
-  sorted = λ h. absurd (let bad : true ≡ false = sym h ∙ ap is_sorted (index_only_is v.strategy (right_true (is_building v.control) (is_index_only v.strategy) b)) in cc);
+  sorted = λ h. absurd (let bad : true ≡ false = sym h ∙ ap is_sorted (index_only_is v.strategy (second_so (is_building v.control) (is_index_only v.strategy) b)) in cc);
 }
 
 pub no_sort : (v : Shape) → (is_building v.control && is_index_only v.strategy) ≡ true → is_sorted v.strategy ≡ false
-no_sort v b = ap is_sorted (index_only_is v.strategy (right_true (is_building v.control) (is_index_only v.strategy) b))
+no_sort v b = ap is_sorted (index_only_is v.strategy (second_so (is_building v.control) (is_index_only v.strategy) b))
 
 moves_on : (v mid new : Shape) (k : ℕ) → mid ≡ record v { front = mid.front } → Delivers mid new k → new ≡ record v { front = mid.front; delivered = new.delivered; control = new.control; trace = new.trace }
 moves_on v mid new k e d = d.same ∙ ap (λ (m : Shape). record m { delivered = new.delivered; control = new.control; trace = new.trace }) e

@@ -1,6 +1,7 @@
 -- How many records a foreground's scan may still fetch where a complete list hides what it cannot have.
-use Rattle.std.proofs.Common.{◌≡◌, ℕ, ◌+◌, ◌≤◌, List, [], ◌∷◌, length, filter, Bool, true, not, ◌||◌, refl, ap, sym, ◌∙◌, arith, Option, Some, None, Result, Ok, Err, IfOk}
+use Rattle.std.proofs.Common.{◌≡◌, ℕ, ◌+◌, ◌≤◌, List, length, filter, Bool, true, not, ◌||◌, ap, sym, ◌∙◌, arith, Option, Some, None, Result, Ok, Err, IfOk}
 use Rattle.std.specs.Prelude.{if◌then◌else◌}
+use Rattle.std.proofs.lemmas.List.Elements.{filter_agree}
 use Rattle.rv_value.specs.declared.record.IndexEntry.{IndexEntry}
 use Rattle.rv_judge.specs.declared.counting.Counts.{Counts}
 use Rattle.rv_keylist.specs.Keys.{may_key}
@@ -26,12 +27,8 @@ given_may skip list n d k = ap (λ (o : Option (List ℕ)). not (was_delivered o
     by None e = ap (λ (x : Option (List ℕ)). may x n) e
     by (Some l) e = twice (may_key n l.keys) ∙ ap (λ (x : Option (List ℕ)). may x n) e
 
-pub filter_alike : (p r : IndexEntry → Bool) → ((e : IndexEntry) → p e ≡ r e) → (xs : List IndexEntry) → filter p xs ≡ filter r xs
-filter_alike p r same [] = refl
-filter_alike p r same (x ∷ xs) = rw (same x, filter_alike p r same xs) refl
-
 hidden : (f : Front) (entries : List IndexEntry) (skip : Skipped) (list : Option (List ℕ)) → skip.delivered ≡ None → keys_of skip.list ≡ list → front_fetches f entries skip ≡ (if f.alone then 0 else length (filter (λ (e : IndexEntry). may list e.row.0) (left f.fetching.walk entries)))
-hidden f entries skip list d k = ap (λ (es : List IndexEntry). if f.alone then 0 else length es) (filter_alike (is_given skip) (λ (e : IndexEntry). may list e.row.0) (λ e. given_may skip list e.row.0 d k) (left f.fetching.walk entries))
+hidden f entries skip list d k = ap (λ (es : List IndexEntry). if f.alone then 0 else length es) (filter_agree (is_given skip) (λ (e : IndexEntry). may list e.row.0) (λ e. given_may skip list e.row.0 d k) (left f.fetching.walk entries))
 
 one_fetches : (v : Shape) (new : Front) (shown : Shown) (skip : Skipped) (before after : Counts) → RetrievalFits v shown → is_led v.strategy ≡ true → skip.delivered ≡ None → keys_of skip.list ≡ v.joint.list → SameFront v.front new → after.records + front_fetches new (own_entries v shown) skip ≤ before.records + front_fetches v.front (own_entries v shown) skip → after.records + scan_fetches (record v { front = new }) shown ≤ before.records + scan_fetches v shown
 one_fetches v new shown skip before after f led d k same step =

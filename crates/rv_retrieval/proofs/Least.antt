@@ -6,7 +6,7 @@ use Rattle.std.specs.Cmp.{tied_itself}
 use Rattle.std.specs.Ordering.{is_lt, ordering_then}
 use Rattle.std.specs.declared.cmp.Ordering.{Ordering}
 use Rattle.std.specs.declared.cmp.Ordering.TheVariants.{Less, Equal, Greater}
-use Rattle.std.proofs.lemmas.Bool.{cases_Bool, and_parts}
+use Rattle.std.proofs.lemmas.Bool.{cases_Bool, and_parts, not_from_false}
 use Rattle.std.proofs.lemmas.Bool.Decides.{nat_tests}
 use Rattle.rv_value.specs.declared.value.Value.{Value}
 use Rattle.rv_value.specs.declared.record.Record.{Record}
@@ -123,9 +123,6 @@ record Leads (need order columns : List ℕ) : Type 0 where
   needs : (c : ℕ) → stands_among order c ≡ true → stands_among need c ≡ true
   begins : take (length order) columns ≡ order
 
-not_true : (b : Bool) → b ≡ false → not b ≡ true
-not_true b h = grind arith
-
 -- two entries in their order, by the order columns of their rows
 entries_least : (order columns : List ℕ) (rows : List Record) (e f : IndexEntry) (x y : Record) → take (length order) columns ≡ order → e ≡ entry_of columns x → f ≡ entry_of columns y → comes_before e f ≡ true → is_lt (values_cmp (order_of order y) (order_of order x)) ≡ false
 entries_least order columns rows e f x y begins ex fy h =
@@ -226,7 +223,7 @@ found_least v shown skip r more f sorted by e =
     all_rest (λ (x : Record). not (is_lt (values_cmp (order_of order x) (order_of order r)))) (λ (x : Record). qualifies only x.values && front_left v.front entries x.row.0) rows rows (rows_found rows f.ascend) (λ x there t.
     let parts = and_parts (qualifies only x.values) (front_left v.front entries x.row.0) t in
     let q : qualifies_at only rows x.row.0 ≡ true = told_by only rows x.row.0 x f.ascend there ∙ parts.0 in
-    not_true _ (least_of need order columns only rows skip es xs more r x x.row.0 leads (left_rising (walk_of v.front) entries ff.follows up) (left_stands (walk_of v.front) columns rows entries ff.follows stands) items first there parts.0 (unskipped v shown skip x.row.0 f by q) parts.1))
+    not_from_false _ (least_of need order columns only rows skip es xs more r x x.row.0 leads (left_rising (walk_of v.front) entries ff.follows up) (left_stands (walk_of v.front) columns rows entries ff.follows stands) items first there parts.0 (unskipped v shown skip x.row.0 f by q) parts.1))
 
 one_least : (v : Shape) (new : Front) (shown : Shown) (skip : Skipped) (s : Scanned) → RetrievalFits v shown → is_sorted v.strategy ≡ true → SkipsBy v skip → FrontStep v new shown skip s → LeastOf v shown s
 one_least v new shown skip (Found r) f sorted by step =

@@ -1,6 +1,6 @@
 -- A trace goes on telling a run of the course, happening by happening.
 use Rattle.std.proofs.Common.{◌≡◌, ◌∙◌, ℕ, ◌+◌, ◌*◌, ◌-◌, ◌<◌, ◌≤◌, List, [], ◌∷◌, ◌++◌, Bool, true, false, not, ◌&&◌, ◌||◌, Option, Some, None, is_some, length, drop, nat_lt, nat_eq, refl, ap, sym, subst, arith, append_assoc, append-nil, length-append, zero, suc, inl, inr}
-use Rattle.std.proofs.lemmas.Bool.{cases_Bool}
+use Rattle.std.proofs.lemmas.Bool.{cases_Bool, lt-ltb, ltb-true, or_from}
 use Rattle.std.proofs.lemmas.Bool.Decides.{nat_tests}
 use Rattle.std.proofs.lemmas.List.Folds.{list_any-append}
 use Rattle.rv_judge.specs.declared.events.Control.{Control}
@@ -24,21 +24,12 @@ use Rattle.rv_judge.specs.Tracing.{with_events}
 use Rattle.rv_retrieval.proofs.Chosen.{no_way}
 use Rattle.rv_retrieval.proofs.Turns.{OneTurn, all_rests, drop_all, drop_last, drop_on, drop_rests, final_turn, front_turn, full_fast, full_index, list_last, list_on, list_rests, standing, stop_turn}
 
-is_less : (a b : ℕ) → a < b → nat_lt a b ≡ true
-is_less a b l = grind (arith, nat_tests)
-
-less_is : (a b : ℕ) → nat_lt a b ≡ true → a < b
-less_is a b h = grind (arith, nat_tests)
-
 pub with_room : (items es : List Event) → length items + length es ≤ 32 → with_events items es ≡ items ++ es
 with_room items [] h = sym (append-nil items)
 with_room items (e ∷ es) h =
-    let less : nat_lt (length items) 32 ≡ true = is_less (length items) 32 (omega arith) in
+    let less : nat_lt (length items) 32 ≡ true = lt-ltb (length items) 32 (omega arith) in
     let one : length (items ++ e ∷ []) ≡ length items + 1 = length-append items (e ∷ []) in
     rw less (with_room (items ++ e ∷ []) es (omega arith) ∙ append_assoc items (e ∷ []) es)
-
-or_false : (a b : Bool) → a ≡ false → b ≡ false → (a || b) ≡ false
-or_false a b h i = grind arith
 
 -- planned scans are of different indexes
 apart_from : (plans : List ScanPlan) (i k : ℕ) → has_index i (indexes_of plans) ≡ false → k < length plans → nat_eq i (plan_at plans k).index ≡ false
@@ -62,7 +53,7 @@ apart (p ∷ plans) zero (suc k) once low high = apart_from plans p.index k once
 apart (p ∷ plans) (suc i) (suc k) once low high = apart plans i k once.1 (omega arith) (omega arith)
 
 drop_only : (plans : List ScanPlan) (ended k : ℕ) (e : Event) → EachOnce (indexes_of plans) → ended + 1 ≤ k → k < length plans → is_drop (plan_at plans k).index e ≡ false → was_dropped (plan_at plans k).index (Drop (plan_at plans ended).index ∷ e ∷ []) ≡ false
-drop_only plans ended k e once low high none = or_false (nat_eq (plan_at plans ended).index (plan_at plans k).index) (is_drop (plan_at plans k).index e || false) (apart plans ended k once (omega arith) high) (or_false (is_drop (plan_at plans k).index e) false none refl)
+drop_only plans ended k e once low high none = or_from (nat_eq (plan_at plans ended).index (plan_at plans k).index) (is_drop (plan_at plans k).index e || false) (apart plans ended k once (omega arith) high) (or_from (is_drop (plan_at plans k).index e) false none refl)
 
 -- One turn more.
 
@@ -111,7 +102,7 @@ next_tells named st now next plans ended further list more indexes events own le
       scanned = t.scanned;
       once = t.once;
       known = t.known;
-      undropped = λ k low high. ap (was_dropped (plan_at plans k).index) all ∙ list_any-append (is_drop (plan_at plans k).index) events (own ++ led) ∙ or_false (was_dropped (plan_at plans k).index events) (was_dropped (plan_at plans k).index (own ++ led)) (t.undropped k (omega arith) high) (fresh k low high);
+      undropped = λ k low high. ap (was_dropped (plan_at plans k).index) all ∙ list_any-append (is_drop (plan_at plans k).index) events (own ++ led) ∙ or_from (was_dropped (plan_at plans k).index events) (was_dropped (plan_at plans k).index (own ++ led)) (t.undropped k (omega arith) high) (fresh k low high);
     }
 
 -- Whether there is more.
@@ -131,7 +122,7 @@ dropped_all (p ∷ plans) (suc k) l = dropped_all plans k (omega arith)
 
 pub more_is : (plans : List ScanPlan) (k : ℕ) (list : Option (List ℕ)) → goes_on plans k list ≡ is_more (indexes_of (drop k plans)) (list_length list)
 more_is plans k list = elim (cases_Bool (nat_lt k (length plans))) [
-  | inl less ↦ some (less_is k (length plans) less) less list
+  | inl less ↦ some (ltb-true k (length plans) less) less list
   | inr none ↦ rw (dropped_all plans k (not_less k (length plans) none)) (off (nat_lt k (length plans)) (not (is_empty_list list)) none)
 ]
   where
@@ -149,7 +140,7 @@ more_is plans k list = elim (cases_Bool (nat_lt k (length plans))) [
     some l less (Some keys) = rw (dropped_one plans k l) (rw less (keyed (length keys)))
 
 way_less : (plans : List ScanPlan) (k : ℕ) (list : Option (List ℕ)) → goes_on plans k list ≡ true → k < length plans
-way_less plans k list h = less_is k (length plans) (left (nat_lt k (length plans)) (not (is_empty_list list)) h)
+way_less plans k list h = ltb-true k (length plans) (left (nat_lt k (length plans)) (not (is_empty_list list)) h)
   where
     left : (a b : Bool) → (a && b) ≡ true → a ≡ true
     left a b h = grind arith

@@ -8,6 +8,7 @@ use Rattle.std.proofs.lemmas.List.{length-append, length-map}
 use Rattle.std.proofs.lemmas.List.Sums.{sum_by-cons}
 use Rattle.std.proofs.lemmas.Map.Keys.{IsDistinct-head, IsDistinct-tail}
 use Rattle.std.proofs.lemmas.List.Sorted.{length_permutation, sum_by-IsPermutation}
+use Rattle.std.proofs.lemmas.List.Elements.{filter_agree}
 use Rattle.rv_value.specs.declared.record.IndexEntry.{IndexEntry}
 use Rattle.rv_judge.specs.declared.events.Strategy.{Strategy}
 use Rattle.rv_judge.specs.declared.events.Strategy.TheVariants.{Table, BackgroundOnly, FastFirst, Sorted, IndexOnly, Union}
@@ -50,7 +51,6 @@ use Rattle.rv_choice.proofs.Choices.{all_at}
 use Rattle.rv_retrieval.proofs.Controls.{sorted_is_led}
 use Rattle.rv_retrieval.proofs.Courses.{HasFront, keys_few}
 use Rattle.rv_retrieval.proofs.Entered.{entries_apart, left_apart}
-use Rattle.rv_retrieval.proofs.Fetches.{filter_alike}
 
 -- The keys that a list can come to have.
 
@@ -199,7 +199,7 @@ may_few : (list : Option (List ℕ)) (xs : List IndexEntry) → is_some list ≡
 may_few None xs s l a = no_way (sym s)
 may_few (Some keys) xs s l a =
     let exact : nat_le (length keys) 1024 ≡ true = test (length keys) l in
-    let alike = filter_alike (λ (e : IndexEntry). may_key e.row.0 keys) (λ (e : IndexEntry). has_key e.row.0 keys) (λ e. chosen (nat_le (length keys) 1024) _ _ exact) xs in
+    let alike = filter_agree (λ (e : IndexEntry). may_key e.row.0 keys) (λ (e : IndexEntry). has_key e.row.0 keys) (λ e. chosen (nat_le (length keys) 1024) _ _ exact) xs in
     let same = ap (λ (es : List IndexEntry). length es) alike in
     let few = listed_few keys xs a in
     omega arith

@@ -2,7 +2,7 @@
 use Rattle.std.proofs.Common.{◌≡◌, ◌∙◌, ℕ, ◌<◌, ◌≤◌, List, [], ◌∷◌, ◌++◌, Bool, true, false, cond, ◌&&◌, ◌||◌, Option, Some, None, Result, Ok, Err, IfOk, IsSome, filter, map, length, nat_lt, nat_eq, refl, ap, sym, subst, arith, inl, inr}
 use Rattle.std.specs.List.{AllByRecursion, list_all}
 use Rattle.std.specs.Prelude.{if◌then◌else◌}
-use Rattle.std.proofs.lemmas.Bool.{cases_Bool, or_parts}
+use Rattle.std.proofs.lemmas.Bool.{cases_Bool, or_parts, lt-ltb, or_from}
 use Rattle.std.proofs.lemmas.Bool.Decides.{nat_tests}
 use Rattle.std.proofs.lemmas.List.{length-map}
 use Rattle.std.proofs.lemmas.List.Sorted.{All-permutation, IsPermutation-map, length_permutation}
@@ -43,12 +43,6 @@ use Rattle.rv_judge.specs.Tracing.{counted, new_trace, with_events}
 use Rattle.rv_retrieval.proofs.Chosen.{filter_some, from_all, no_way, one_found, to_all}
 use Rattle.rv_retrieval.proofs.Tellings.{counted_tells, runs_tells}
 
-is_less : (a b : ℕ) → a < b → nat_lt a b ≡ true
-is_less a b l = grind (arith, nat_tests)
-
-or_false : (a b : Bool) → a ≡ false → b ≡ false → (a || b) ≡ false
-or_false a b h i = grind arith
-
 -- The indexes planned are each planned once.
 
 abbrev index_numbers : List Candidate → List ℕ
@@ -60,7 +54,7 @@ kept_absent only b (c ∷ cs) n h =
     let parts = or_parts (nat_eq n c.index) (has_key n (index_numbers cs)) h in
     let more = kept_absent only b cs n parts.1 in
     elim (is_scanned b c) as (λ x. has_key n (indexes_of (map (plan_of only) (cond x (c ∷ filter (is_scanned b) cs) (filter (is_scanned b) cs)))) ≡ false) [
-      | true ↦ or_false (nat_eq n c.index) (has_key n (indexes_of (plans_of only b cs))) parts.0 more
+      | true ↦ or_from (nat_eq n c.index) (has_key n (indexes_of (plans_of only b cs))) parts.0 more
       | false ↦ more
     ]
 
@@ -257,7 +251,7 @@ opens_with st now p plans indexes begins told both most few has once known = rec
   at = refl;
   running = λ h. refl;
   said = refl;
-  way = λ h. less (nat_lt 0 (length (p ∷ plans))) (is_less 0 (length (p ∷ plans)) (omega arith));
+  way = λ h. less (nat_lt 0 (length (p ∷ plans))) (lt-ltb 0 (length (p ∷ plans)) (omega arith));
   both = both;
   room = omega arith;
   scanned = has;
@@ -271,7 +265,7 @@ opens_with st now p plans indexes begins told both most few has once known = rec
 
 first_scan : (j : Joint) (now : Control) (p : ScanPlan) (plans : List ScanPlan) → j.plans ≡ p ∷ plans → j.ended ≡ 0 → is_background now ≡ true → first_events now j ≡ At now ∷ Scan p.index ∷ []
 first_scan j now p plans e z back =
-    let less : nat_lt 0 (length (p ∷ plans)) ≡ true = is_less 0 (length (p ∷ plans)) (omega arith) in
+    let less : nat_lt 0 (length (p ∷ plans)) ≡ true = lt-ltb 0 (length (p ∷ plans)) (omega arith) in
     rw back (rw z (rw e (rw less refl)))
 
 tells_first : (st : Strategy) (plans : List ScanPlan) (indexes : List ℕ) (j : Joint) → j.plans ≡ plans → j.ended ≡ 0 → length plans ≤ 8 → HasScans st (indexes_of plans) → EachOnce (indexes_of plans) → list_all (λ i. has_index i indexes) (indexes_of plans) ≡ true → TellsOf st st (first_of st (has_scans plans)) plans 0 None indexes (first_events (first_of st (has_scans plans)) j)
@@ -281,9 +275,9 @@ tells_first BackgroundOnly (p ∷ plans) indexes j e z few has once known = rw (
 tells_first FastFirst [] indexes j e z few has once known = absurd has
 tells_first FastFirst (p ∷ plans) indexes j e z few has once known = rw (first_scan j Building p plans e z refl) (opens_with FastFirst Building p plans indexes refl refl (λ h. refl) (omega arith) few has once known)
 tells_first Sorted [] indexes j e z few has once known = opens_alone Sorted ForegroundAlone [] indexes refl refl refl refl (omega arith) few has once known
-tells_first Sorted (p ∷ plans) indexes j e z few has once known = subst (λ (b : Bool). TellsOf Sorted Sorted (first_of Sorted b) (p ∷ plans) 0 None indexes (first_events (first_of Sorted b) j)) (sym (is_less 0 (length (p ∷ plans)) (omega arith))) (rw (first_scan j Building p plans e z refl) (opens_with Sorted Building p plans indexes refl refl (λ h. refl) (omega arith) few has once known))
+tells_first Sorted (p ∷ plans) indexes j e z few has once known = subst (λ (b : Bool). TellsOf Sorted Sorted (first_of Sorted b) (p ∷ plans) 0 None indexes (first_events (first_of Sorted b) j)) (sym (lt-ltb 0 (length (p ∷ plans)) (omega arith))) (rw (first_scan j Building p plans e z refl) (opens_with Sorted Building p plans indexes refl refl (λ h. refl) (omega arith) few has once known))
 tells_first IndexOnly [] indexes j e z few has once known = opens_alone IndexOnly ForegroundAlone [] indexes refl refl refl refl (omega arith) few has once known
-tells_first IndexOnly (p ∷ plans) indexes j e z few has once known = subst (λ (b : Bool). TellsOf IndexOnly IndexOnly (first_of IndexOnly b) (p ∷ plans) 0 None indexes (first_events (first_of IndexOnly b) j)) (sym (is_less 0 (length (p ∷ plans)) (omega arith))) (rw (first_scan j Building p plans e z refl) (opens_with IndexOnly Building p plans indexes refl refl (λ h. refl) (omega arith) few has once known))
+tells_first IndexOnly (p ∷ plans) indexes j e z few has once known = subst (λ (b : Bool). TellsOf IndexOnly IndexOnly (first_of IndexOnly b) (p ∷ plans) 0 None indexes (first_events (first_of IndexOnly b) j)) (sym (lt-ltb 0 (length (p ∷ plans)) (omega arith))) (rw (first_scan j Building p plans e z refl) (opens_with IndexOnly Building p plans indexes refl refl (λ h. refl) (omega arith) few has once known))
 tells_first Union plans indexes j e z few has once known = absurd has
 
 begun_tells : (v : Shape) (query : Query) (st : Strategy) (plans : List ScanPlan) (front : Front) (guaranteed cursor opening : ℕ) → Begun query st plans front guaranteed cursor opening v → v.trace ≡ start_told (record v { trace = new_trace st }) → length plans ≤ 8 → HasScans st (indexes_of plans) → EachOnce (indexes_of plans) → list_all (λ i. has_index i (indexes_asked query)) (indexes_of plans) ≡ true → Tells v

@@ -1,8 +1,9 @@
 -- What a retrieval's calls do keeps its trace telling a run of the course.
-use Rattle.std.proofs.Common.{◌≡◌, ◌∙◌, ℕ, ◌+◌, ◌<◌, ◌≤◌, ◌==◌, List, [], ◌∷◌, Bool, true, false, not, ◌&&◌, ◌||◌, Option, Some, None, Result, Ok, Err, IfOk, OnErr, inl, inr, is_some, length, nat_lt, nat_eq, refl, ap, sym, subst, arith}
+use Rattle.std.proofs.Common.{◌≡◌, ◌∙◌, ℕ, ◌+◌, ◌≤◌, ◌==◌, List, [], ◌∷◌, Bool, true, false, not, ◌&&◌, ◌||◌, Option, Some, None, Result, Ok, Err, IfOk, OnErr, inl, inr, is_some, length, nat_lt, nat_eq, refl, ap, sym, subst, arith}
 use Rattle.std.specs.Prelude.{if◌then◌else◌}
-use Rattle.std.proofs.lemmas.Bool.{cases_Bool}
+use Rattle.std.proofs.lemmas.Bool.{cases_Bool, ltb-true}
 use Rattle.std.proofs.lemmas.Bool.Decides.{nat_tests}
+use Rattle.std.specs.Cmp.{first_so}
 use Rattle.rv_value.specs.declared.record.IndexEntry.{IndexEntry}
 use Rattle.rv_value.specs.declared.record.Record.{Record}
 use Rattle.rv_restrict.specs.declared.atom.Atom.{Atom}
@@ -47,18 +48,12 @@ use Rattle.rv_judge.specs.Tracing.{counted, noted, with_events}
 use Rattle.rv_retrieval.proofs.Running.{all_tells, drop_tells_last, drop_tells_on, final_tells, front_tells, full_tells_fast, full_tells_index, list_tells_last, list_tells_on, stop_tells}
 use Rattle.rv_retrieval.proofs.Turns.{final_row, front_row}
 
-less_is : (a b : ℕ) → nat_lt a b ≡ true → a < b
-less_is a b h = grind (arith, nat_tests)
-
-left_of : (a b : Bool) → (a && b) ≡ true → a ≡ true
-left_of a b h = grind arith
-
 -- the index of a scan that is planned
 pub events_at : (event : ℕ → Event) (j : Joint) (k : ℕ) → nat_lt k (length j.plans) ≡ true → events_for event (index_of j k) ≡ event (plan_at j.plans k).index ∷ []
 events_at event j k l = rw l refl
 
 way_lt : (plans : List ScanPlan) (k : ℕ) (list : Option (List ℕ)) → goes_on plans k list ≡ true → nat_lt k (length plans) ≡ true
-way_lt plans k list h = left_of (nat_lt k (length plans)) _ h
+way_lt plans k list h = first_so (nat_lt k (length plans)) _ h
 
 pub same_course : (v new : Shape) → SameCourse v new → Tells v → Tells new
 same_course v new s t = rw (s.strategy, s.control, s.plans, s.ended, s.list, s.query, s.named, s.events) t
@@ -142,7 +137,7 @@ is_it Done h = absurd (cc)
 
 front_stops : (v : Shape) → Tells v → Tells (ruled AbandonForeground v)
 front_stops v t = elim (cases_Bool (can_stop v)) [
-  | inl on ↦ subst Tells (sym (over_on on)) (by v.control (is_it v.control (left_of (building v.control) (fast_first v.strategy || index_only v.strategy) on)) (right_of (building v.control) (fast_first v.strategy || index_only v.strategy) on) t)
+  | inl on ↦ subst Tells (sym (over_on on)) (by v.control (is_it v.control (first_so (building v.control) (fast_first v.strategy || index_only v.strategy) on)) (right_of (building v.control) (fast_first v.strategy || index_only v.strategy) on) t)
   | inr off ↦ subst Tells (sym (over_off off)) t
 ]
   where
@@ -340,6 +335,6 @@ pub undropped_piece : {E : Type 0} (r : Result Taken E) (mid new : Shape) (c d :
 undropped_piece (Ok (Piece piece)) mid new c d a e t =
     let back : is_background new.control ≡ true = ap (λ (x : Shape). is_background x.control) e ∙ a.back in
     let part = ap (λ (x : Shape). (present x.joint).part) (sym e) in
-    (a.awaits.part ∙ part, t.undropped new.joint.ended (omega arith) (less_is new.joint.ended (length new.joint.plans) (way_lt new.joint.plans new.joint.ended new.joint.list (t.way back))))
+    (a.awaits.part ∙ part, t.undropped new.joint.ended (omega arith) (ltb-true new.joint.ended (length new.joint.plans) (way_lt new.joint.plans new.joint.ended new.joint.list (t.way back))))
 undropped_piece (Ok Nothing) mid new c d a e t = tt
 undropped_piece (Err x) mid new c d a e t = tt
