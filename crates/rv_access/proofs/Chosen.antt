@@ -5,6 +5,8 @@ use Rattle.std.specs.Prelude.{◌||◌, if◌then◌else◌}
 use Rattle.std.proofs.lemmas.Bool.Decides.{nat_tests}
 use Rattle.std.proofs.lemmas.List.{length-map}
 use Rattle.std.proofs.lemmas.List.Sorted.{length_permutation}
+use Rattle.std.specs.Cmp.{first_so, second_so}
+use Rattle.std.proofs.lemmas.Bool.{and_from}
 use Rattle.rv_judge.specs.declared.counting.Counts.{Counts}
 use Rattle.rv_judge.specs.declared.events.Strategy.{Strategy}
 use Rattle.rv_judge.specs.declared.events.Strategy.TheVariants.{Table, BackgroundOnly, FastFirst, Sorted, IndexOnly, Union}
@@ -51,25 +53,16 @@ use Rattle.rv_access.proofs.Lives.{raced_life}
 no_way : {X : Type 0} → true ≡ false → X
 no_way bad = absurd (cc)
 
-left_true : (a b : Bool) → (a && b) ≡ true → a ≡ true
-left_true a b h = grind arith
-
-right_true : (a b : Bool) → (a && b) ≡ true → b ≡ true
-right_true a b h = grind arith
-
-both_true : (a b : Bool) → a ≡ true → b ≡ true → (a && b) ≡ true
-both_true a b h i = grind arith
-
 -- WHERE INDEXES RACE, only a background is chosen, and it scans each restricted index
 
 alone_chosen : (choice : Choice) (cs : List Candidate) → races choice cs ≡ true → is_background_only choice.strategy ≡ true
-alone_chosen choice cs r = left_true _ _ r
+alone_chosen choice cs r = first_so _ _ r
 
 each_chosen : (choice : Choice) (cs : List Candidate) → races choice cs ≡ true → is_each choice.background ≡ true
-each_chosen choice cs r = left_true _ _ (right_true (is_background_only choice.strategy) _ r)
+each_chosen choice cs r = first_so _ _ (second_so (is_background_only choice.strategy) _ r)
 
 two_chosen : (choice : Choice) (cs : List Candidate) → races choice cs ≡ true → 2 ≤ restricted cs
-two_chosen choice cs r = number (restricted cs) (right_true (is_each choice.background) _ (right_true (is_background_only choice.strategy) _ r))
+two_chosen choice cs r = number (restricted cs) (second_so (is_each choice.background) _ (second_so (is_background_only choice.strategy) _ r))
   where
     number : (n : ℕ) → nat_le 2 n ≡ true → 2 ≤ n
     number n h = grind (arith, nat_tests)
@@ -84,7 +77,7 @@ is_the_background Union h = no_way (sym h)
 
 -- where indexes race the strategy is that of a background alone
 pub raced_strategy : (race : Bool) (choice : Choice) (cs : List Candidate) → (race && races choice cs) ≡ true → BackgroundOnly ≡ choice.strategy
-raced_strategy race choice cs h = is_the_background choice.strategy (alone_chosen choice cs (right_true race _ h))
+raced_strategy race choice cs h = is_the_background choice.strategy (alone_chosen choice cs (second_so race _ h))
 
 unsorted : (s : Strategy) → is_background_only s ≡ true → is_sorted s ≡ false
 unsorted Table h = refl
@@ -304,7 +297,7 @@ pub chosen_for : (query : Query) (choice : Choice) (order : List ℕ) (cs ds : L
 chosen_for query choice order cs ds o e chosen = subst (λ (xs : List Candidate). IsChosen query.order query.goal xs choice) e (subst (λ (xs : List ℕ). IsChosen xs query.goal cs choice) o chosen)
 
 pub can_race_so : (race : Bool) (choice : Choice) (cs ds : List Candidate) → cs ≡ ds → (race && races choice cs) ≡ true → races choice ds ≡ true
-can_race_so race choice cs ds e h = subst (λ (xs : List Candidate). races choice xs ≡ true) e (right_true race (races choice cs) h)
+can_race_so race choice cs ds e h = subst (λ (xs : List Candidate). races choice xs ≡ true) e (second_so race (races choice cs) h)
 
 -- a race was asked, and runs
 pub raced : {E : Type 0} (r : Result Access E) (race : Bool) (query : Query) (shown : Shown) (cursor opening : ℕ) (choice : Choice) (order : List ℕ) (cs ds : List Candidate) → order ≡ query.order → cs ≡ candidates_of query shown → ds ≡ candidates_of query shown → IsChosen order query.goal cs choice → (race && races choice ds) ≡ true → IfOk r (Races query shown cursor opening choice) → IfOk r (Opened race query shown cursor opening)
@@ -327,7 +320,7 @@ unraced (Err x) race query shown cursor opening choice order cs ds o e f chosen 
 -- a union was opened, or none
 
 pub united : {E : Type 0} (r : Result Access E) (query : Query) (shown : Shown) (cursor opening : ℕ) (choice : Choice) (plans : List ScanPlan) → is_table choice.strategy ≡ true → AreUnited query shown plans → IfOk r (Unites query shown cursor opening) → IfOk r (OpenedBy false (unites query shown choice) query shown cursor opening choice)
-united (Ok a) query shown cursor opening choice plans t u is = subst (λ (b : Bool). OpenedBy false b query shown cursor opening choice a) (sym (both_true (is_table choice.strategy) (some_serves query shown) t (some_serve query shown plans u))) is
+united (Ok a) query shown cursor opening choice plans t u is = subst (λ (b : Bool). OpenedBy false b query shown cursor opening choice a) (sym (and_from (is_table choice.strategy) (some_serves query shown) t (some_serve query shown plans u))) is
 united (Err x) query shown cursor opening choice plans t u is = tt
 
 pub no_union : (query : Query) (shown : Shown) (choice : Choice) → is_table choice.strategy ≡ false → unites query shown choice ≡ false

@@ -1,7 +1,8 @@
 -- What the calls of a race leave, in the words of accesses.
-use Rattle.std.proofs.Common.{is_some, Result, Ok, Err, IfOk, OnErr, ◌≡◌, ℕ, ◌≤◌, Bool, true, false, ◌&&◌, ◌||◌, nat_eq, ◌∷◌, List, [], Option, Some, None, refl, ap, sym, ◌∙◌, arith, subst}
+use Rattle.std.proofs.Common.{is_some, Result, Ok, Err, IfOk, OnErr, ◌≡◌, ℕ, ◌≤◌, Bool, true, false, ◌||◌, nat_eq, ◌∷◌, List, [], Option, Some, None, refl, ap, sym, ◌∙◌, subst}
 use Rattle.std.specs.List.{list_all}
-use Rattle.std.proofs.lemmas.Bool.Decides.{nat_tests}
+use Rattle.std.specs.Cmp.{first_so, second_so}
+use Rattle.std.proofs.lemmas.Bool.{and_from, eqb-true}
 use Rattle.rv_value.specs.declared.record.IndexEntry.{IndexEntry}
 use Rattle.rv_judge.specs.declared.counting.Counts.{Counts}
 use Rattle.rv_judge.specs.declared.events.Control.{Control}
@@ -62,33 +63,21 @@ tells_on old new same tells t = record {
 
 -- A TRACE THAT TELLS A RUN IS ALLOWED for the table's indexes
 
-left_true : (a b : Bool) → (a && b) ≡ true → a ≡ true
-left_true a b h = grind arith
-
-right_true : (a b : Bool) → (a && b) ≡ true → b ≡ true
-right_true a b h = grind arith
-
-both_true : (a b : Bool) → a ≡ true → b ≡ true → (a && b) ≡ true
-both_true a b h g = grind arith
-
-same_number : (n m : ℕ) → nat_eq n m ≡ true → n ≡ m
-same_number n m h = grind (arith, nat_tests)
-
 later : (a b : Bool) → a ≡ false → (a || b) ≡ true → b ≡ true
 later true b e h = absurd (cc)
 later false b e h = h
 
 any_known : (xs ys : List ℕ) (i : ℕ) → list_all (λ k. has_index k ys) xs ≡ true → has_index i xs ≡ true → has_index i ys ≡ true
 any_known [] ys i all has = absurd (cc)
-any_known (x ∷ xs) ys i all has = by (nat_eq x i) refl (any_known xs ys i (right_true (has_index x ys) _ all))
+any_known (x ∷ xs) ys i all has = by (nat_eq x i) refl (any_known xs ys i (second_so (has_index x ys) _ all))
   where
     by : (b : Bool) → nat_eq x i ≡ b → (has_index i xs ≡ true → has_index i ys ≡ true) → has_index i ys ≡ true
-    by true e rest = subst (λ (n : ℕ). has_index n ys ≡ true) (same_number x i e) (left_true _ _ all)
+    by true e rest = subst (λ (n : ℕ). has_index n ys ≡ true) (eqb-true x i e) (first_so _ _ all)
     by false e rest = rest (later (nat_eq x i) _ e has)
 
 all_known : (xs ys planned : List ℕ) → list_all (λ k. has_index k ys) xs ≡ true → list_all (λ k. has_index k xs) planned ≡ true → list_all (λ k. has_index k ys) planned ≡ true
 all_known xs ys [] all these = refl
-all_known xs ys (p ∷ planned) all these = both_true _ _ (any_known xs ys p all (left_true _ _ these)) (all_known xs ys planned all (right_true (has_index p xs) _ these))
+all_known xs ys (p ∷ planned) all these = and_from _ _ (any_known xs ys p all (first_so _ _ these)) (all_known xs ys planned all (second_so (has_index p xs) _ these))
 
 wider_run : (t : Trace) (xs ys : List ℕ) → list_all (λ k. has_index k ys) xs ≡ true → AllowedRun t xs → AllowedRun t ys
 wider_run t xs ys all a = record { planned = a.planned; known = all_known xs ys a.planned all a.known; once = a.once; scanned = a.scanned; turns = a.turns; run = a.run; told = a.told }

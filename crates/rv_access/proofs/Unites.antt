@@ -1,9 +1,10 @@
 -- The members that were chosen can be put together: each row that qualifies meets one of them.
 use Rattle.std.proofs.Common.{◌≡◌, ℕ, zero, suc, ◌+◌, ◌*◌, ◌-◌, ◌<◌, ◌≤◌, List, [], ◌∷◌, length, map, Bool, true, false, ◌&&◌, ◌||◌, nat_eq, nat_le, refl, ap, sym, ◌∙◌, arith, subst, inl, inr}
 use Rattle.std.specs.List.{AllByRecursion, list_all, list_any}
-use Rattle.std.proofs.lemmas.Bool.{cases_Bool}
+use Rattle.std.proofs.lemmas.Bool.{cases_Bool, and_from, or_left, or_right}
 use Rattle.std.proofs.lemmas.Bool.Decides.{nat_tests}
 use Rattle.std.proofs.lemmas.List.{length-map}
+use Rattle.std.specs.Cmp.{first_so, second_so}
 use Rattle.rv_value.specs.declared.value.Value.{Value}
 use Rattle.rv_value.specs.declared.record.Record.{Record}
 use Rattle.rv_judge.specs.declared.counting.Counts.{Counts}
@@ -41,21 +42,6 @@ use Rattle.rv_access.specs.declared.access.Access.TheVariants.{Uniting}
 use Rattle.rv_access.specs.declared.uniting.UnitedQuery.{UnitedQuery}
 use Rattle.rv_access.specs.Opened.{Begins, BeginsUnion, life_of}
 
-left_true : (a b : Bool) → (a && b) ≡ true → a ≡ true
-left_true a b h = grind arith
-
-right_true : (a b : Bool) → (a && b) ≡ true → b ≡ true
-right_true a b h = grind arith
-
-both_true : (a b : Bool) → a ≡ true → b ≡ true → (a && b) ≡ true
-both_true a b h g = grind arith
-
-left_any : (a b : Bool) → a ≡ true → (a || b) ≡ true
-left_any a b h = grind arith
-
-right_any : (a b : Bool) → b ≡ true → (a || b) ≡ true
-right_any a b h = grind arith
-
 later : (a b : Bool) → a ≡ false → (a || b) ≡ true → b ≡ true
 later true b e h = absurd (cc)
 later false b e h = h
@@ -64,8 +50,8 @@ later false b e h = h
 any_more : {X : Type 0} (f g : X → Bool) (xs : List X) → ((x : X) → f x ≡ true → g x ≡ true) → list_any f xs ≡ true → list_any g xs ≡ true
 any_more f g [] more h = absurd (cc)
 any_more f g (x ∷ xs) more h = elim (cases_Bool (f x)) [
-  | inl here ↦ left_any (g x) (list_any g xs) (more x here)
-  | inr other ↦ right_any (g x) (list_any g xs) (any_more f g xs more (later (f x) (list_any f xs) other h))
+  | inl here ↦ or_left (g x) (list_any g xs) (more x here)
+  | inr other ↦ or_right (g x) (list_any g xs) (any_more f g xs more (later (f x) (list_any f xs) other h))
 ]
 
 -- EACH ROW THAT QUALIFIES MEETS A BRANCH
@@ -94,8 +80,8 @@ branch_qualifies only i row l q = some_branch (row_reads row) (group_at only i) 
 branch_owes : (only : List (List Atom)) (i n : ℕ) (rows : List Record) → i < length only → qualifies_at only rows n ≡ true → list_any (λ (b : List (List Atom)). qualifies_at b rows n) (branches_of (group_at only i)) ≡ true
 branch_owes only i n [] l q = absurd (cc)
 branch_owes only i n (r ∷ rows) l q = elim (cases_Bool (nat_eq n r.row.0 && qualifies only r.values)) [
-  | inl here ↦ any_more (λ (b : List (List Atom)). qualifies b r.values) (λ (b : List (List Atom)). qualifies_at b (r ∷ rows) n) (branches_of (group_at only i)) (λ b is. left_any (nat_eq n r.row.0 && qualifies b r.values) (qualifies_at b rows n) (both_true (nat_eq n r.row.0) (qualifies b r.values) (left_true (nat_eq n r.row.0) (qualifies only r.values) here) is)) (branch_qualifies only i r.values l (right_true (nat_eq n r.row.0) (qualifies only r.values) here))
-  | inr other ↦ any_more (λ (b : List (List Atom)). qualifies_at b rows n) (λ (b : List (List Atom)). qualifies_at b (r ∷ rows) n) (branches_of (group_at only i)) (λ b is. right_any (nat_eq n r.row.0 && qualifies b r.values) (qualifies_at b rows n) is) (branch_owes only i n rows l (later (nat_eq n r.row.0 && qualifies only r.values) (qualifies_at only rows n) other q))
+  | inl here ↦ any_more (λ (b : List (List Atom)). qualifies b r.values) (λ (b : List (List Atom)). qualifies_at b (r ∷ rows) n) (branches_of (group_at only i)) (λ b is. or_left (nat_eq n r.row.0 && qualifies b r.values) (qualifies_at b rows n) (and_from (nat_eq n r.row.0) (qualifies b r.values) (first_so (nat_eq n r.row.0) (qualifies only r.values) here) is)) (branch_qualifies only i r.values l (second_so (nat_eq n r.row.0) (qualifies only r.values) here))
+  | inr other ↦ any_more (λ (b : List (List Atom)). qualifies_at b rows n) (λ (b : List (List Atom)). qualifies_at b (r ∷ rows) n) (branches_of (group_at only i)) (λ b is. or_right (nat_eq n r.row.0 && qualifies b r.values) (qualifies_at b rows n) is) (branch_owes only i n rows l (later (nat_eq n r.row.0 && qualifies only r.values) (qualifies_at only rows n) other q))
 ]
 
 -- THE MEMBERS
@@ -104,8 +90,8 @@ members_meet : (query : Query) (shown : Shown) (branches : List (List (List Atom
 members_meet query shown [] plans n can m h = absurd (cc)
 members_meet query shown (b ∷ branches) [] n can m h = absurd m
 members_meet query shown (b ∷ branches) (p ∷ plans) n can m h = elim (cases_Bool (qualifies_at b (shown.rows query.table query.snap) n)) [
-  | inl here ↦ left_any (meets p shown query.snap n) (meets_any plans shown query.snap n) (planned_meets (with_only b query) shown p n (member_planned query shown b p can m.0) here)
-  | inr other ↦ right_any (meets p shown query.snap n) (meets_any plans shown query.snap n) (members_meet query shown branches plans n can m.1 (later (qualifies_at b (shown.rows query.table query.snap) n) (list_any (λ (x : List (List Atom)). qualifies_at x (shown.rows query.table query.snap) n) branches) other h))
+  | inl here ↦ or_left (meets p shown query.snap n) (meets_any plans shown query.snap n) (planned_meets (with_only b query) shown p n (member_planned query shown b p can m.0) here)
+  | inr other ↦ or_right (meets p shown query.snap n) (meets_any plans shown query.snap n) (members_meet query shown branches plans n can m.1 (later (qualifies_at b (shown.rows query.table query.snap) n) (list_any (λ (x : List (List Atom)). qualifies_at x (shown.rows query.table query.snap) n) branches) other h))
 ]
 
 members_make : (query : Query) (shown : Shown) (branches : List (List (List Atom))) (plans : List ScanPlan) → CanAsk query shown → AreMembers query shown branches plans → AllByRecursion (λ (p : ScanPlan). CanMake p shown query.snap) plans
@@ -139,7 +125,7 @@ members_many query shown (b ∷ branches) (p ∷ plans) m = ap suc (members_many
 pub members_some : (query : Query) (shown : Shown) (plans : List ScanPlan) → AreUnited query shown plans → 1 ≤ length plans
 members_some query shown plans u =
     let many = members_many query shown (branches_of (group_at query.only u.group)) plans u.members in
-    let two = number (length (branches_of (group_at query.only u.group))) (left_true _ _ u.suits) in
+    let two = number (length (branches_of (group_at query.only u.group))) (first_so _ _ u.suits) in
     omega arith
   where
     number : (n : ℕ) → nat_le 2 n ≡ true → 2 ≤ n
@@ -152,17 +138,17 @@ itself n = grind (arith, nat_tests)
 
 each_known : (is : List (ℕ × List ℕ)) → AllByRecursion (λ (i : ℕ × List ℕ). has_index i.0 (map (λ (j : ℕ × List ℕ). j.0) is) ≡ true) is
 each_known [] = tt
-each_known (i ∷ is) = (left_any (nat_eq i.0 i.0) (has_index i.0 (map (λ (j : ℕ × List ℕ). j.0) is)) (itself i.0), known_more i.0 (map (λ (j : ℕ × List ℕ). j.0) is) is (each_known is))
+each_known (i ∷ is) = (or_left (nat_eq i.0 i.0) (has_index i.0 (map (λ (j : ℕ × List ℕ). j.0) is)) (itself i.0), known_more i.0 (map (λ (j : ℕ × List ℕ). j.0) is) is (each_known is))
   where
     known_more : (x : ℕ) (xs : List ℕ) (is : List (ℕ × List ℕ)) → AllByRecursion (λ (i : ℕ × List ℕ). has_index i.0 xs ≡ true) is → AllByRecursion (λ (i : ℕ × List ℕ). has_index i.0 (x ∷ xs) ≡ true) is
     known_more x xs [] all = tt
-    known_more x xs (i ∷ is) all = (right_any (nat_eq x i.0) (has_index i.0 xs) all.0, known_more x xs is all.1)
+    known_more x xs (i ∷ is) all = (or_right (nat_eq x i.0) (has_index i.0 xs) all.0, known_more x xs is all.1)
 
 members_known : (query : Query) (shown : Shown) (branches : List (List (List Atom))) (plans : List ScanPlan) → AreMembers query shown branches plans → list_all (λ i. has_index i (indexes_asked query)) (indexes_of plans) ≡ true
 members_known query shown [] [] m = refl
 members_known query shown [] (p ∷ plans) m = absurd m
 members_known query shown (b ∷ branches) [] m = absurd m
-members_known query shown (b ∷ branches) (p ∷ plans) m = both_true (has_index p.index (indexes_asked query)) (list_all (λ i. has_index i (indexes_asked query)) (indexes_of plans)) (member_has (λ (i : ℕ). has_index i (indexes_asked query) ≡ true) query shown b p m.0 (each_known query.indexes)) (members_known query shown branches plans m.1)
+members_known query shown (b ∷ branches) (p ∷ plans) m = and_from (has_index p.index (indexes_asked query)) (list_all (λ i. has_index i (indexes_asked query)) (indexes_of plans)) (member_has (λ (i : ℕ). has_index i (indexes_asked query) ≡ true) query shown b p m.0 (each_known query.indexes)) (members_known query shown branches plans m.1)
 
 pub united_known : (query : Query) (shown : Shown) (plans : List ScanPlan) → AreUnited query shown plans → list_all (λ i. has_index i (indexes_asked query)) (indexes_of plans) ≡ true
 united_known query shown plans u = members_known query shown (branches_of (group_at query.only u.group)) plans u.members
