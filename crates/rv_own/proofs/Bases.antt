@@ -3,6 +3,7 @@ use Rattle.std.proofs.Common.{◌≡◌, ℕ, zero, suc, ◌<◌, List, [], ◌�
 use Rattle.std.proofs.lemmas.Bool.{cases_Bool}
 use Rattle.std.proofs.lemmas.Bool.Decides.{nat_tests}
 use Rattle.std.proofs.lemmas.List.Quantifiers.{position-Some}
+use Rattle.std.proofs.lemmas.Option.{same_Some}
 use Rattle.rv_rows.specs.declared.changes.Change.{Change}
 use Rattle.rv_reader.specs.Shown.{Shown}
 use Rattle.rv_model.specs.declared.transactions.Transaction.{Transaction}
@@ -61,13 +62,10 @@ changes_beside (t ∷ ts) (suc own) changes session other = ap (λ (cs : List Ch
 
 -- What is kept for all sessions.
 
-some_is : {X : Type 0} (x y : X) → Some x ≡ Some y → x ≡ y
-some_is x y e = cc
-
 own_of : (shown : Shown) (active : List Transaction) (place : ℕ) (t : Transaction) (v : OwnView) → transaction_of active t.session ≡ Some place → transaction_at active place ≡ t → IsViewOf shown active v → IsOwnOf shown t v
 own_of shown active place t v at is view = λ same. record {
   session = same;
-  base = some_is v.view.base t.base (sym view.base ∙ ap (base_in active) same ∙ base_found active t.session place at ∙ ap (λ (u : Transaction). Some u.base) is);
+  base = same_Some v.view.base t.base (sym view.base ∙ ap (base_in active) same ∙ base_found active t.session place at ∙ ap (λ (u : Transaction). Some u.base) is);
   changes = sym view.changes ∙ ap (changes_in active) same ∙ changes_found active t.session place at ∙ ap (λ (u : Transaction). u.changes) is;
   keeps = view.keeps;
 }

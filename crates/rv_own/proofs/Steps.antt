@@ -7,6 +7,8 @@ use Rattle.std.proofs.lemmas.Bool.Decides.{nat_tests}
 use Rattle.std.proofs.lemmas.Grind.{common_steps}
 use Rattle.std.proofs.lemmas.List.Folds.{find_at}
 use Rattle.std.proofs.lemmas.List.Quantifiers.{position-Some}
+use Rattle.std.proofs.lemmas.Option.{same_Some, slice_get_past}
+use Rattle.std.proofs.lemmas.List.{nil_from_length}
 use Rattle.rv_rows.specs.declared.changes.Change.{Change}
 use Rattle.rv_rows.specs.Changes.{with_change, with_changes}
 use Rattle.rv_reader.specs.Shown.{Shown, CanRead}
@@ -18,13 +20,6 @@ use Rattle.rv_own.specs.Views.{AreOwn, CanKeep, IsFrozenOf, IsMadeOf, IsOwnOf, M
 
 -- ---- lists
 
-some_is : {X : Type 0} (x y : X) → Some x ≡ Some y → x ≡ y
-some_is x y e = cc
-
-pub no_items : {X : Type 0} (xs : List X) → length xs ≡ 0 → xs ≡ []
-no_items [] e = refl
-no_items (x ∷ xs) e = absurd (omega (arith, e))
-
 -- a fact of all holds of the one in a place
 pub all_in : {X : Type 0} (P : X → Type 0) (xs : List X) (i : ℕ) (d : X) → i < length xs → AllByRecursion P xs → P (slice_index_or xs i d)
 all_in P [] i d low all = absurd (omega (arith, low))
@@ -33,7 +28,7 @@ all_in P (x ∷ xs) (suc i) d low all = all_in P xs i d (omega (arith, low)) all
 
 pub all_got : {X : Type 0} (P : X → Type 0) (xs : List X) (i : ℕ) (x : X) → AllByRecursion P xs → slice_get xs i ≡ Some x → P x
 all_got P [] i x all is = cc
-all_got P (y ∷ ys) zero x all is = subst P (some_is y x is) all.0
+all_got P (y ∷ ys) zero x all is = subst P (same_Some y x is) all.0
 all_got P (y ∷ ys) (suc i) x all is = all_got P ys i x all.1 is
 
 pub all_behind : {X : Type 0} (P : X → Type 0) (xs : List X) (x : X) → AllByRecursion P xs → P x → AllByRecursion P (xs ++ x ∷ [])
@@ -42,13 +37,8 @@ all_behind P (y ∷ ys) x all here = (all.0, all_behind P ys x all.1 here)
 
 got_at : {X : Type 0} (xs : List X) (i : ℕ) (x : X) → slice_get xs i ≡ Some x → slice_index_or xs i x ≡ x
 got_at [] i x e = cc
-got_at (y ∷ ys) zero x e = some_is y x e
+got_at (y ∷ ys) zero x e = same_Some y x e
 got_at (y ∷ ys) (suc i) x e = got_at ys i x e
-
-got_behind : {X : Type 0} (xs : List X) (n : ℕ) → length xs ≤ n → slice_get xs n ≡ None
-got_behind [] n past = refl
-got_behind (x ∷ xs) zero past = absurd (omega (arith, past))
-got_behind (x ∷ xs) (suc n) past = got_behind xs n (omega (arith, past))
 
 -- ---- the first that passes
 
@@ -62,12 +52,12 @@ place_behind : {X : Type 0} (p : X → Bool) (xs : List X) → position p xs ≡
 place_behind p xs e = grind (arith, common_steps)
 
 none_found : {X : Type 0} (p : X → Bool) (xs : List X) → position p xs ≡ None → None ≡ find p xs
-none_found p xs e = sym (find_at p xs ∙ got_behind xs (position_or_len p xs) (place_behind p xs e))
+none_found p xs e = sym (find_at p xs ∙ slice_get_past xs (position_or_len p xs) (place_behind p xs e))
 
 -- what is taken out of a list and does not pass leaves those that pass
 filter_removed : {X : Type 0} (q : X → Bool) (xs : List X) (i : ℕ) (x : X) → slice_get xs i ≡ Some x → q x ≡ false → filter q (remove xs i) ≡ filter q xs
 filter_removed q [] i x got out = cc
-filter_removed q (y ∷ ys) zero x got out = sym (ap (λ b. cond b (y ∷ filter q ys) (filter q ys)) (ap q (some_is y x got) ∙ out))
+filter_removed q (y ∷ ys) zero x got out = sym (ap (λ b. cond b (y ∷ filter q ys) (filter q ys)) (ap q (same_Some y x got) ∙ out))
 filter_removed q (y ∷ ys) (suc i) x got out = ap (λ zs. cond (q y) (y ∷ zs) zs) (filter_removed q ys i x got out)
 
 -- ---- the view that is kept for a session
@@ -92,7 +82,7 @@ view_made shown t [] v own is = cc
 view_made shown t (w ∷ ws) v own is =
     elim (cases_Bool (w.session == t.session)) [
       | inl here ↦
-          let same : v ≡ w = some_is v w (is ∙ ap (λ b. cond b (Some w) (view_of t.session ws)) here) in
+          let same : v ≡ w = same_Some v w (is ∙ ap (λ b. cond b (Some w) (view_of t.session ws)) here) in
           let its : w.session ≡ t.session = grind (arith, nat_tests) in
           subst (IsMadeOf shown t.session t.base t.changes) (sym same) (own.0 its)
       | inr other ↦ view_made shown t ws v own.1 (is ∙ ap (λ b. cond b (Some w) (view_of t.session ws)) other)
@@ -131,12 +121,12 @@ made_is shown session base changes written frozen view is keeps its at = record 
 }
 
 pub made_of_none : (shown : Shown) (session base : ℕ) (changes : List Change) (v : OwnView) → length changes ≡ 0 → IsMadeOf shown session base [] v → IsMadeOf shown session base changes v
-made_of_none shown session base changes v none made = subst (λ cs. IsMadeOf shown session base cs v) (sym (no_items changes none)) made
+made_of_none shown session base changes v none made = subst (λ cs. IsMadeOf shown session base cs v) (sym (nil_from_length changes none)) made
 
 -- one change more
 pub changes_next : (cs : List Change) (k : ℕ) (c : Change) (changes : List Change) → slice_get cs k ≡ Some c → with_change c (with_changes (take k cs) changes) ≡ with_changes (take (suc k) cs) changes
 changes_next [] k c changes is = cc
-changes_next (d ∷ ds) zero c changes is = ap (λ (x : Change). with_change x changes) (some_is c d (sym is))
+changes_next (d ∷ ds) zero c changes is = ap (λ (x : Change). with_change x changes) (same_Some c d (sym is))
 changes_next (d ∷ ds) (suc k) c changes is = changes_next ds k c (with_change d changes) is
 
 -- further changes of what was made
