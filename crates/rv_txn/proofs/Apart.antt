@@ -2,20 +2,17 @@
 use Rattle.std.proofs.Common.{◌≡◌, ℕ, zero, suc, ◌<◌, ◌≤◌, List, [], ◌∷◌, ◌++◌, Bool, true, false, not, ◌||◌, ◌==◌, Some, None, is_some, inl, inr, refl, ap, sym, ◌∙◌, arith, length, find, nat_lt, remove}
 use Rattle.std.specs.Prelude.{position, slice_get, slice_set}
 use Rattle.std.specs.List.{list_any, position_or_len}
-use Rattle.std.proofs.lemmas.Bool.{cases_Bool, and_parts}
+use Rattle.std.proofs.lemmas.Bool.{cases_Bool, and_parts, not-true}
 use Rattle.std.proofs.lemmas.Bool.Decides.{nat_tests}
 use Rattle.std.proofs.lemmas.Grind.{common_steps}
 use Rattle.std.proofs.lemmas.List.Folds.{find_at}
 use Rattle.std.proofs.lemmas.List.Sums.{position_or_len_is}
+use Rattle.std.proofs.lemmas.Option.{slice_get_past}
 use Rattle.rv_rows.specs.declared.changes.Change.{Change}
 use Rattle.rv_value.proofs.Places.{read_as}
 use Rattle.rv_model.specs.declared.transactions.Transaction.{Transaction}
 use Rattle.rv_model.specs.Transactions.{no_transaction, transaction_at, transaction_of, with_own}
 use Rattle.rv_txn.specs.Apart.{are_apart}
-
-not_true : (b : Bool) → not b ≡ true → b ≡ false
-not_true true h = cc
-not_true false h = refl
 
 -- Changes of rows leave the sessions.
 
@@ -38,11 +35,6 @@ apart_at active own t changes e apart =
 
 -- A transaction of a session that has none.
 
-got_behind : {X : Type 0} (xs : List X) (n : ℕ) → length xs ≤ n → slice_get xs n ≡ None
-got_behind [] n past = refl
-got_behind (x ∷ xs) zero past = absurd (omega (arith, past))
-got_behind (x ∷ xs) (suc n) past = got_behind xs n (omega (arith, past))
-
 place_behind : {X : Type 0} (p : X → Bool) (xs : List X) → position p xs ≡ None → length xs ≤ position_or_len p xs
 place_behind p xs e = grind (arith, common_steps)
 
@@ -51,7 +43,7 @@ some_any p [] = refl
 some_any p (x ∷ xs) = elim (cases_Bool (p x)) [ inl t ↦ rw t refl | inr f ↦ rw f (some_any p xs) ]
 
 none_any : {X : Type 0} (p : X → Bool) (xs : List X) → position p xs ≡ None → list_any p xs ≡ false
-none_any p xs e = some_any p xs ∙ ap is_some (find_at p xs ∙ got_behind xs (position_or_len p xs) (place_behind p xs e))
+none_any p xs e = some_any p xs ∙ ap is_some (find_at p xs ∙ slice_get_past xs (position_or_len p xs) (place_behind p xs e))
 
 any_last : (p : Transaction → Bool) (xs : List Transaction) (t : Transaction) → list_any p (xs ++ t ∷ []) ≡ (list_any p xs || p t)
 any_last p [] t = or_none (p t)
@@ -74,7 +66,7 @@ apart_last (x ∷ xs) t apart none =
       | inr other ↦
           let rest : list_any (λ (u : Transaction). u.session == t.session) xs ≡ false = rw other at none in
           let behind : (t.session == x.session) ≡ false = grind (arith, nat_tests) in
-          let before = not_true (list_any (λ (u : Transaction). u.session == x.session) xs) parts.0 in
+          let before = not-true (list_any (λ (u : Transaction). u.session == x.session) xs) parts.0 in
           rw (any_last (λ (u : Transaction). u.session == x.session) xs t, before, behind) (apart_last xs t parts.1 rest)
     ]
 
@@ -96,7 +88,7 @@ apart_less [] (suc own) apart = refl
 apart_less (t ∷ ts) zero apart = (and_parts (not (list_any (λ (u : Transaction). u.session == t.session) ts)) (are_apart ts) apart).1
 apart_less (t ∷ ts) (suc own) apart =
     let parts = and_parts (not (list_any (λ (u : Transaction). u.session == t.session) ts)) (are_apart ts) apart in
-    rw (any_less (λ (u : Transaction). u.session == t.session) ts own (not_true (list_any (λ (u : Transaction). u.session == t.session) ts) parts.0)) (apart_less ts own parts.1)
+    rw (any_less (λ (u : Transaction). u.session == t.session) ts own (not-true (list_any (λ (u : Transaction). u.session == t.session) ts) parts.0)) (apart_less ts own parts.1)
 
 -- EACH STANDS IN THE PLACE OF ITS SESSION.
 
@@ -110,7 +102,7 @@ two_apart [] k i apart before low = absurd (omega (arith, low))
 two_apart (t ∷ ts) k zero apart before low = absurd (omega (arith, before))
 two_apart (t ∷ ts) zero (suc i) apart before low =
     let parts = and_parts (not (list_any (λ (u : Transaction). u.session == t.session) ts)) (are_apart ts) apart in
-    let other = any_at (λ (u : Transaction). u.session == t.session) ts i (omega (arith, low)) (not_true (list_any (λ (u : Transaction). u.session == t.session) ts) parts.0) in
+    let other = any_at (λ (u : Transaction). u.session == t.session) ts i (omega (arith, low)) (not-true (list_any (λ (u : Transaction). u.session == t.session) ts) parts.0) in
     grind (arith, nat_tests)
 two_apart (t ∷ ts) (suc k) (suc i) apart before low =
     two_apart ts k i (and_parts (not (list_any (λ (u : Transaction). u.session == t.session) ts)) (are_apart ts) apart).1 (omega (arith, before)) (omega (arith, low))

@@ -2,7 +2,7 @@
 use Rattle.std.proofs.Common.{◌≡◌, ℕ, ◌+◌, ◌*◌, ◌/◌, ◌<◌, ◌≤◌, List, [], ◌∷◌, ◌++◌, Bool, true, false, not, ◌&&◌, ◌==◌, refl, ap, sym, ◌∙◌, arith, filter, nat_lt}
 use Rattle.std.specs.List.{AllByRecursion}
 use Rattle.std.proofs.lemmas.Bool.Decides.{nat_tests}
-use Rattle.std.proofs.lemmas.List.Elements.{filter-append}
+use Rattle.std.proofs.lemmas.List.Elements.{filter-append, filter_agree}
 use Rattle.rv_value.specs.declared.record.Record.{Record}
 use Rattle.rv_rows.specs.Rows.{Ascend, comes_below}
 use Rattle.rv_rows.proofs.Filters.{rising_cut}
@@ -11,10 +11,6 @@ use Rattle.rv_reader.specs.Tables.{page_of}
 -- the rows of the first pages
 abbrev pub rows_up_to : ℕ → List Record → List Record
 rows_up_to n rows = filter (λ (r : Record). nat_lt r.row.0 (32 * n)) rows
-
-same_tests : (p q : Record → Bool) → ((r : Record) → p r ≡ q r) → (rows : List Record) → filter p rows ≡ filter q rows
-same_tests p q same [] = refl
-same_tests p q same (r ∷ rows) = rw (same r, same_tests p q same rows) refl
 
 pub none_up_to : (rows : List Record) → rows_up_to 0 rows ≡ []
 none_up_to [] = refl
@@ -30,8 +26,8 @@ all_up_to n pages (r ∷ rows) h all =
 pub page_more : (n : ℕ) (rows : List Record) → Ascend rows → rows_up_to (n + 1) rows ≡ rows_up_to n rows ++ page_of rows n
 page_more n rows ascend =
     let cut = rising_cut comes_below (λ (r : Record). nat_lt r.row.0 (32 * (n + 1))) (λ (r : Record). nat_lt r.row.0 (32 * n)) (λ x y h f. let first = h in let second = f in grind (arith, nat_tests)) rows ascend in
-    let front = same_tests (λ (r : Record). nat_lt r.row.0 (32 * (n + 1)) && nat_lt r.row.0 (32 * n)) (λ (r : Record). nat_lt r.row.0 (32 * n)) (λ r. grind (arith, nat_tests)) rows in
-    let back = same_tests (λ (r : Record). nat_lt r.row.0 (32 * (n + 1)) && not (nat_lt r.row.0 (32 * n))) (λ (r : Record). r.row.0 / 32 == n) (λ r. grind (arith, nat_tests)) rows in
+    let front = filter_agree (λ (r : Record). nat_lt r.row.0 (32 * (n + 1)) && nat_lt r.row.0 (32 * n)) (λ (r : Record). nat_lt r.row.0 (32 * n)) (λ r. grind (arith, nat_tests)) rows in
+    let back = filter_agree (λ (r : Record). nat_lt r.row.0 (32 * (n + 1)) && not (nat_lt r.row.0 (32 * n))) (λ (r : Record). r.row.0 / 32 == n) (λ r. grind (arith, nat_tests)) rows in
     cut ∙ (λ i. front i ++ back i)
 
 -- One page more of the rows that a test passes.
