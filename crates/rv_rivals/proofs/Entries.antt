@@ -5,6 +5,7 @@ use Rattle.std.proofs.lemmas.Bool.{cases_Bool, and_parts}
 use Rattle.std.proofs.lemmas.Bool.Decides.{nat_tests}
 use Rattle.std.specs.List.{AllByRecursion, list_all}
 use Rattle.std.specs.Ordering.{is_eq}
+use Rattle.std.proofs.lemmas.Option.{same_Some}
 use Rattle.rv_value.specs.declared.value.Value.{Value}
 use Rattle.rv_value.specs.declared.record.Record.{Record}
 use Rattle.rv_value.specs.declared.record.IndexEntry.{IndexEntry}
@@ -28,12 +29,9 @@ use Rattle.rv_overlay.proofs.Placing.{put_ascends}
 use Rattle.rv_overlay.proofs.Tabling.{applied_ascends}
 use Rattle.rv_overlay.proofs.Viewing.{has_entries, row_other}
 
-some_is : {X : Type 0} (x y : X) → Some x ≡ Some y → x ≡ y
-some_is x y e = cc
-
 pub take_next : {X : Type 0} (xs : List X) (k : ℕ) (x : X) → slice_get xs k ≡ Some x → take (suc k) xs ≡ take k xs ++ x ∷ []
 take_next [] k x is = cc
-take_next (y ∷ ys) zero x is = ap (λ z. z ∷ []) (some_is y x is)
+take_next (y ∷ ys) zero x is = ap (λ z. z ∷ []) (same_Some y x is)
 take_next (y ∷ ys) (suc k) x is = ap (λ zs. y ∷ zs) (take_next ys k x is)
 
 -- The rows that changes write, in their order.

@@ -1,5 +1,5 @@
 -- Rows that equal an earlier one.
-use Rattle.std.proofs.Common.{◌≡◌, ℕ, zero, suc, ◌+◌, List, [], ◌∷◌, ◌++◌, Bool, true, false, not, ◌&&◌, ◌||◌, ◌==◌, cond, Option, Some, inl, inr, refl, ap, sym, subst, ◌∙◌, find, filter, map, length, drop, arith, nat_lt, None, Result, Ok, Err, IfOk, take}
+use Rattle.std.proofs.Common.{◌≡◌, ℕ, zero, suc, ◌+◌, List, [], ◌∷◌, ◌++◌, Bool, true, false, not, ◌&&◌, ◌||◌, ◌==◌, cond, Option, Some, inl, inr, refl, ap, sym, subst, ◌∙◌, find, filter, map, length, drop, arith, nat_lt, None, take}
 use Rattle.std.specs.Prelude.{slice_get}
 use Rattle.std.proofs.lemmas.Bool.{cases_Bool, and_parts}
 use Rattle.std.proofs.lemmas.Bool.Decides.{nat_tests}
@@ -13,6 +13,7 @@ use Rattle.rv_value.specs.declared.record.IndexEntry.{IndexEntry}
 use Rattle.rv_value.specs.declared.range.Range.{Range}
 use Rattle.rv_value.specs.Orders.{values_cmp_total}
 use Rattle.std.specs.Option.{option_map}
+use Rattle.std.proofs.lemmas.List.{length-map}
 use Rattle.rv_value.specs.declared.record.RowNo.{RowNo}
 use Rattle.rv_catalog.specs.declared.def.IndexDef.{IndexDef}
 use Rattle.rv_rows.specs.Rising.{put_in}
@@ -25,7 +26,7 @@ use Rattle.rv_rivals.specs.Lookups.{is_whole}
 use Rattle.rv_rivals.specs.Points.{has_entry, point}
 use Rattle.rv_rivals.proofs.Entries.{put_more}
 use Rattle.rv_rivals.proofs.Finding.{find_same}
-use Rattle.rv_rivals.proofs.Points.{many, point_runs, values_same}
+use Rattle.rv_rivals.proofs.Points.{point_runs, values_same}
 
 -- Equal keys.
 
@@ -94,7 +95,7 @@ entry_any columns key rows ascend long =
 pub met_is : (columns : List ℕ) (r : Record) (rows : List Record) (seen : List IndexEntry) (key : List Value) (has : Bool) → Ascend rows → seen ≡ entries_of columns (filter (is_whole columns) rows) → key ≡ key_of columns r.values → has ≡ has_entry key seen
     → has ≡ list_any (λ (s : Record). are_equal columns s r) rows
 met_is columns r rows seen key has ascend is at told =
-    told ∙ (λ i. has_entry (at i) (is i)) ∙ entry_any columns (key_of columns r.values) (filter (is_whole columns) rows) (rising_filter comes_below (is_whole columns) rows ascend) (many columns _)
+    told ∙ (λ i. has_entry (at i) (is i)) ∙ entry_any columns (key_of columns r.values) (filter (is_whole columns) rows) (rising_filter comes_below (is_whole columns) rows ascend) (length-map columns _)
     ∙ sym (equal_any columns r rows)
 
 -- A row more was seen.
@@ -212,7 +213,3 @@ pub equal_found : (def : IndexDef) (rows seen : List Record) (columns : List ℕ
 equal_found def rows seen columns row on is same found =
     found ∙ (λ i. option_map (λ (r : Record). r.row) (find (equals_lower (is i) (same i)) (same i)))
     ∙ ap (option_map (λ (r : Record). r.row)) (find_same (equals_lower def.columns rows) (λ r. def.unique && equals_lower def.columns rows r) rows (λ r. sym (ap (λ b. b && equals_lower def.columns rows r) on)))
-
-pub if_ok : {A E : Type 0} (r : Result A E) (P Q : A → Type 0) → ((a : A) → P a → Q a) → IfOk r P → IfOk r Q
-if_ok (Ok a) P Q more h = more a h
-if_ok (Err e) P Q more h = tt

@@ -15,6 +15,7 @@ use Rattle.rv_rivals.proofs.Places.{statement_rows}
 use Rattle.rv_rivals.proofs.Telling.{has_index}
 use Rattle.std.proofs.lemmas.Option.{slice_get_within}
 use Rattle.std.proofs.lemmas.List.Elements.{filter-append}
+use Rattle.std.specs.Cmp.{second_so}
 use Rattle.rv_value.proofs.Places.{read_as}
 use Rattle.rv_rows.specs.Changes.{touches}
 use Rattle.rv_model.specs.declared.transactions.Transaction.{Transaction}
@@ -82,17 +83,13 @@ touched_at : (shown : Shown) (table base : ℕ) (cs : List Change) → touches t
 touched_at shown table base [] h all = cc
 touched_at shown table base (c ∷ cs) h all = all.0.read.snapshot
 
-both_true : (a b : Bool) → (a && b) ≡ true → b ≡ true
-both_true true b h = h
-both_true false b h = cc
-
 snapshots : (shown : Shown) (indexes : List IndexDef) (table session : ℕ) (active : List Transaction) → AllByRecursion (λ (t : Transaction). CanView shown indexes t []) active → AllByRecursion (λ (t : Transaction). IsSnapshot shown t.base) (touching table session active)
 snapshots shown indexes table session [] all = tt
 snapshots shown indexes table session (t ∷ ts) all = by (not (t.session == session) && touches table t.changes) refl (snapshots shown indexes table session ts all.1)
   where
     by : (b : Bool) → (not (t.session == session) && touches table t.changes) ≡ b → AllByRecursion (λ (u : Transaction). IsSnapshot shown u.base) (touching table session ts)
         → AllByRecursion (λ (u : Transaction). IsSnapshot shown u.base) (cond b (t ∷ touching table session ts) (touching table session ts))
-    by true is rest = (touched_at shown table t.base t.changes (both_true (not (t.session == session)) (touches table t.changes) is) all.0.own, rest)
+    by true is rest = (touched_at shown table t.base t.changes (second_so (not (t.session == session)) (touches table t.changes) is) all.0.own, rest)
     by false is rest = rest
 
 pub others_can : {X : Type 0} (shown : Shown) (indexes : List IndexDef) (table session : ℕ) (active : List Transaction) (f : X → Transaction) (v : X → Option Frozen) (xs : List X) → AllByRecursion (λ (t : Transaction). CanView shown indexes t []) active → map f xs ≡ touching table session active

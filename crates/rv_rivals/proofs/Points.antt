@@ -1,5 +1,5 @@
 -- The range of a key.
-use Rattle.std.proofs.Common.{◌≡◌, ℕ, suc, List, [], ◌∷◌, Bool, true, false, not, cond, inl, inr, refl, ap, sym, ◌∙◌, filter, map, length, arith, nat_lt}
+use Rattle.std.proofs.Common.{◌≡◌, ℕ, List, [], ◌∷◌, Bool, true, false, not, cond, inl, inr, refl, ap, sym, ◌∙◌, filter, map, length, arith, nat_lt}
 use Rattle.std.proofs.lemmas.Bool.{cases_Bool, and_parts}
 use Rattle.std.proofs.lemmas.Bool.Decides.{nat_tests}
 use Rattle.std.specs.List.{list_all}
@@ -18,6 +18,7 @@ use Rattle.rv_reader.proofs.Filters.{all_filter}
 use Rattle.rv_reader.proofs.Orders.{order, one_way}
 use Rattle.rv_value.specs.Orders.{values_cmp_total}
 use Rattle.std.specs.Cmp.{tied_itself}
+use Rattle.std.proofs.lemmas.List.{length-map}
 use Rattle.rv_value.specs.declared.range.Side.TheVariants.{Before, In, After}
 use Rattle.rv_reader.proofs.Sorting.{entries_ascend}
 use Rattle.rv_overlay.proofs.Placing.{equal_same}
@@ -44,12 +45,8 @@ point_in key other = by (prefix_cmp other key)
     by Equal = refl
     by Greater = refl
 
-pub many : (columns : List ℕ) (f : ℕ → Value) → length (map f columns) ≡ length columns
-many [] f = refl
-many (c ∷ columns) f = ap (λ n. suc n) (many columns f)
-
 entry_in : (columns : List ℕ) (key : List Value) (r : Record) → length key ≡ length columns → is_in (point key) (entry_of columns r) ≡ has_key columns key r
-entry_in columns key r e = point_in key (key_in columns r) ∙ ap is_eq (same_length (key_in columns r) key (many columns (column_of r.values) ∙ sym e))
+entry_in columns key r e = point_in key (key_in columns r) ∙ ap is_eq (same_length (key_in columns r) key (length-map columns (column_of r.values) ∙ sym e))
 
 -- A filter of a sorted list.
 

@@ -1,5 +1,5 @@
 -- A row and a place more were tested.
-use Rattle.std.proofs.Common.{◌≡◌, ℕ, zero, suc, ◌≤◌, List, [], ◌∷◌, ◌++◌, Option, Some, None, Result, Ok, Err, refl, ap, sym, ◌∙◌, arith, drop, length, map, Bool, true, false, ◌&&◌, ◌||◌, ◌==◌, IfErr, OnOk}
+use Rattle.std.proofs.Common.{◌≡◌, ℕ, zero, suc, List, [], ◌∷◌, ◌++◌, Option, Some, None, Result, Ok, Err, refl, ap, sym, ◌∙◌, arith, drop, map, Bool, true, false, ◌&&◌, ◌||◌, ◌==◌}
 use Rattle.std.specs.Prelude.{slice_get}
 use Rattle.std.specs.List.{AllByRecursion}
 use Rattle.std.proofs.lemmas.Bool.Decides.{nat_tests}
@@ -76,12 +76,6 @@ fails_mapped f h (y ∷ ys) zero x e whole is fail inv =
     sym inv ∙ ap (λ r. r >>= (λ passed. all_pass f (map h ys))) (ap (λ z. f (h z)) own ∙ fail)
 fails_mapped f h (y ∷ ys) (suc k) x e whole is fail inv = fails_mapped f h ys k x e whole is fail inv
 
-pub dropped_all : {A : Type 0} (k : ℕ) (xs : List A) → length xs ≤ k → drop k xs ≡ []
-dropped_all zero [] past = refl
-dropped_all zero (x ∷ xs) past = absurd (omega (arith, past))
-dropped_all (suc k) [] past = refl
-dropped_all (suc k) (x ∷ xs) past = dropped_all k xs (omega (arith, past))
-
 -- One change.
 
 pub one_row : (found : Record → List ℕ → Option Refusal) (columns : List (List ℕ)) (number : ℕ) (values : List Value) (given_values : Option (List Value)) (r : Record) → r ≡ record { row = record { 0 = number }; values = values } → given_values ≡ Some values
@@ -127,14 +121,6 @@ has_at table (d ∷ ds) (suc k) c is of = ap (λ b. ((d.table == table) && (d.ro
     or_true : (b : Bool) → (b || true) ≡ true
     or_true true = refl
     or_true false = refl
-
-pub ok_more : {A E : Type 0} (r : Result A E) (P Q : Type 0) → (P → Q) → OnOk r P → OnOk r Q
-ok_more (Ok a) P Q more h = more h
-ok_more (Err e) P Q more h = tt
-
-pub if_err : {A E : Type 0} (r : Result A E) (P Q : E → Type 0) → ((e : E) → P e → Q e) → IfErr r P → IfErr r Q
-if_err (Ok a) P Q more h = tt
-if_err (Err e) P Q more h = more e h
 
 pub all_more : {X : Type 0} (P Q : X → Type 0) → ((x : X) → P x → Q x) → (xs : List X) → AllByRecursion P xs → AllByRecursion Q xs
 all_more P Q more [] a = tt

@@ -1,8 +1,9 @@
 use Rattle.std.proofs.Common.{◌≡◌, ◌∙◌, [], inl, inr, ap, map, subst, sym}
 use Rattle.std.proofs.lemmas.Bool.{cases_Bool}
-use Rattle.rv_model.specs.Rivals.{all_alone, rows_written, unique_over}
+use Rattle.rv_model.specs.Rivals.{all_alone, rows_written}
 use Rattle.rv_txn.specs.Calls.{IsFault}
 use Rattle.std.specs.List.{AllByRecursion}
+use Rattle.std.proofs.lemmas.Result.{IfErr-weaker, on_ok_weaker}
 use Rattle.rv_rows.specs.declared.changes.Change.{Change}
 use Rattle.rv_own.specs.Views.{CanView}
 use Rattle.rv_rivals.specs.declared.near.Other.{Other}
@@ -10,7 +11,6 @@ use Rattle.rv_rivals.specs.declared.rivals.Unique.{Unique}
 use Rattle.rv_rivals.specs.Lookups.{CanTest, IsPlace, entries_written, neighbours_in}
 use Rattle.rv_rivals.proofs.Nearing.{all_both, can_test, others_can, own_has}
 use Rattle.rv_rivals.proofs.Neighbours.{assembled, none_over, none_unique}
-use Rattle.rv_rivals.proofs.Testing.{if_err, ok_more}
 use Rattle.rv_rivals.proofs.rivals.no_rivals.Goals as goal
 
 pub test_rows-requires-clause-others : goal.test_rows-requires-clause-others
@@ -47,11 +47,11 @@ returns-then-not-has_unique-clause-ok g c = elim (cases_Bool c.has_unique.result
 ]
 
 pub returns-clause-ok : goal.returns-clause-ok
-returns-clause-ok g c = ok_more c.test_rows.result _ _ (λ k.
+returns-clause-ok g c = on_ok_weaker c.test_rows.result (λ k.
     sym (assembled (g.S.Reader.shown c.args.store.now) c.args.txns.now c.args.own.now c.in_ok-near.near.own.now c.args.table c.in_ok-near.near.table c.args.new.now c.args.indexes.now (map (λ (o : Other). o.transaction.now) c.in_ok-near.near.others.items) (map (λ (u : Unique). u.columns.now) c.as_slice.result.now)
     c.in_ok-near.ensures.table c.in_ok-near.ensures.own c.in_ok-near.ensures.others (ap (map (λ (u : Unique). u.columns.now)) c.as_slice.ensures.value ∙ c.in_ok-unique.ensures.columns)) ∙ k) c.test_rows.ensures.ok
 
 pub returns-clause-fault : goal.returns-clause-fault
-returns-clause-fault g c = if_err c.test_rows.result _ _ (λ fault k. subst (λ due. IsFault due fault)
+returns-clause-fault g c = IfErr-weaker c.test_rows.result _ _ (λ fault k. subst (λ due. IsFault due fault)
     (assembled (g.S.Reader.shown c.args.store.now) c.args.txns.now c.args.own.now c.in_ok-near.near.own.now c.args.table c.in_ok-near.near.table c.args.new.now c.args.indexes.now (map (λ (o : Other). o.transaction.now) c.in_ok-near.near.others.items) (map (λ (u : Unique). u.columns.now) c.as_slice.result.now)
     c.in_ok-near.ensures.table c.in_ok-near.ensures.own c.in_ok-near.ensures.others (ap (map (λ (u : Unique). u.columns.now)) c.as_slice.ensures.value ∙ c.in_ok-unique.ensures.columns)) k) c.test_rows.ensures.fault

@@ -1,15 +1,15 @@
 use Rattle.std.proofs.Common.{◌≡◌, ◌+◌, ◌∙◌, List, Option, ℕ, suc, Some, ap, arith, drop, length, map, refl, sym}
 use Rattle.std.specs.Prelude.{slice_get}
 use Rattle.std.proofs.lemmas.Option.{slice_get_read}
+use Rattle.std.proofs.lemmas.List.{drop_all}
 use Rattle.rv_lang.specs.declared.reply.Refusal.{Refusal}
-use Rattle.rv_catalog.specs.Answers.{all_pass}
 use Rattle.rv_model.specs.Rivals.{key_of}
 use Rattle.rv_model.specs.Transactions.{refuse_at, touched_by}
 use Rattle.rv_own.proofs.Steps.{all_got}
 use Rattle.rv_rivals.specs.declared.near.Other.{Other}
 use Rattle.rv_rivals.specs.declared.rivals.Unique.{Unique}
 use Rattle.rv_rivals.specs.Lookups.{IsStatement, first_equal_to, none_in}
-use Rattle.rv_rivals.proofs.Testing.{dropped_all, fails_mapped, passes_mapped}
+use Rattle.rv_rivals.proofs.Testing.{fails_mapped, passes_mapped}
 use Rattle.rv_rivals.proofs.rivals.test_row.Goals as goal
 
 pub unique-preserved : goal.unique-preserved
@@ -38,5 +38,5 @@ pub returns-clause-ok : goal.returns-clause-ok
 returns-clause-ok g c new all =
     let found : List ℕ → Option Refusal = λ columns. first_equal_to (g.S.Reader.shown c.args.store.now) (touched_by c.args.txns.now.touched c.args.near.now.table) columns (key_of columns c.args.values.now) c.args.row.0 c.args.near.now.table c.args.near.now.own.now new (map (λ (o : Other). o.transaction.now) c.args.near.now.others.items) in
     let unique = c.args.unique.now in
-    let past = dropped_all c.unique.index-index unique (let over = c.unique-test.false in omega (arith, over)) in
+    let past = drop_all c.unique.index-index unique (let over = c.unique-test.false in omega (arith, over)) in
     sym (c.unique.invariant new all) ∙ ap (λ us. none_in found (map (λ (u : Unique). u.columns.now) us)) past
