@@ -1,8 +1,8 @@
 -- The words of an item have their forms, and no other words have.
-use Rattle.std.proofs.Common.{◌≡◌, ℕ, ◌+◌, ◌<◌, ◌==◌, List, ◌∷◌, ◌++◌, refl, sym, ap, ◌∙◌, arith, true, Option, Some, None, inl, inr, bytes_eq, codes, nat_lt, position, take, drop, length, get_or}
-use Rattle.std.proofs.lemmas.Bool.{cases_Bool}
+use Rattle.std.proofs.Common.{◌≡◌, ℕ, ◌+◌, ◌<◌, ◌==◌, List, ◌∷◌, ◌++◌, refl, sym, ap, ◌∙◌, arith, Option, Some, None, inl, inr, bytes_eq, codes, position, take, drop, length, get_or}
+use Rattle.std.proofs.lemmas.Bool.{cases_Bool, lt-ltb}
 use Rattle.std.specs.List.{position_or_len}
-use Rattle.std.proofs.lemmas.Bool.Decides.{Decides-eqb, nat_tests}
+use Rattle.std.proofs.lemmas.Bool.Decides.{Decides-eqb}
 use Rattle.std.proofs.lemmas.List.{drop_more, take-append-drop}
 use Rattle.std.proofs.lemmas.List.Quantifiers.{position-Some}
 use Rattle.std.proofs.lemmas.Slice.Eq.{bytes_eq-Decides}
@@ -19,11 +19,8 @@ is_named Steps = refl
 is_named Gen = refl
 is_named Race = refl
 
-below : (n m : ℕ) → n < m → nat_lt n m ≡ true
-below n m h = grind (arith, nat_tests)
-
 sign_at : (word : List ℕ) (n : ℕ) → position_or_len (λ c. c == 61) word ≡ n → n < length word → position (λ c. c == 61) word ≡ Some n
-sign_at word n e there = rw (e, below n (length word) there) refl
+sign_at word n e there = rw (e, lt-ltb n (length word) there) refl
 
 pub is_joined : (option : Choice) (digits : List ℕ) → form (name_of option ++ (codes "=" ++ digits)) ≡ Joined option digits
 is_joined Threads digits = let word = name_of Threads ++ (codes "=" ++ digits) in ap (λ (o : Option ℕ). form_at o word) (sign_at word 9 refl (omega arith))

@@ -1,22 +1,11 @@
 -- A value that is read is a value of the option, and every such value is read.
-use Rattle.std.proofs.Common.{◌≡◌, ℕ, ◌+◌, ◌-◌, ◌*◌, ◌≤◌, List, [], ◌∷◌, refl, sym, ◌∙◌, arith, Bool, true, false, ◌&&◌, Option, Some, None, inl, inr, nat_le, length}
+use Rattle.std.proofs.Common.{◌≡◌, ℕ, ◌+◌, ◌-◌, ◌*◌, ◌≤◌, List, [], ◌∷◌, refl, sym, ◌∙◌, arith, true, ◌&&◌, Option, Some, None, inl, inr, nat_le, length}
 use Rattle.std.specs.List.{list_all}
-use Rattle.std.proofs.lemmas.Bool.{cases_Bool}
-use Rattle.std.proofs.lemmas.Bool.Decides.{nat_tests}
+use Rattle.std.proofs.lemmas.Bool.{cases_Bool, and_parts, le-leb, leb-true}
 use Rattle.std.specs.Char.{is_ascii_digit}
 use Rattle.rv_words.specs.declared.choices.Choice.{Choice}
 use Rattle.rv_words.specs.Words.{IsValue, greatest, number_behind}
 use Rattle.rv_words.specs.Reading.{held_to, number_from, value}
-
-pub and_parts : (a b : Bool) → (a && b) ≡ true → (a ≡ true) × (b ≡ true)
-and_parts true b e = (refl, e)
-and_parts false b e = cc
-
-at_most : (n m : ℕ) → nat_le n m ≡ true → n ≤ m
-at_most n m h = grind (arith, nat_tests)
-
-is_at_most : (n m : ℕ) → n ≤ m → nat_le n m ≡ true
-is_at_most n m h = grind (arith, nat_tests)
 
 -- a number with one digit more is no less
 grows : (n : ℕ) (ds : List ℕ) → n ≤ number_behind n ds
@@ -44,7 +33,7 @@ is_read n [] all small = refl
 is_read n (d ∷ ds) all small =
     let parts = and_parts (is_ascii_digit d) (list_all is_ascii_digit ds) all in
     let more = grows (n * 10 + (d - 48)) ds in
-    let within : nat_le (n * 10 + (d - 48)) 4294967295 ≡ true = is_at_most (n * 10 + (d - 48)) 4294967295 (omega (arith, more, small)) in
+    let within : nat_le (n * 10 + (d - 48)) 4294967295 ≡ true = le-leb (n * 10 + (d - 48)) 4294967295 (omega (arith, more, small)) in
     rw (parts.0, within) (is_read (n * 10 + (d - 48)) ds parts.1 small)
 
 -- a value that was read, and its number
@@ -59,7 +48,7 @@ held_value option digits n (Some m) some few r e = elim (cases_Bool (nat_le m (g
       let held = rw t at e in
       let same : m ≡ n = cc in
       let parts = reads 0 m digits r in
-      let within : m ≤ greatest option = at_most m (greatest option) t in
+      let within : m ≤ greatest option = leb-true m (greatest option) t in
       record { is = record { some = some; few = few; decimal = parts.decimal; within = rw (← parts.number) within }; number = sym same ∙ parts.number }
   | inr f ↦ let wrong = rw f at e in cc
 ]
@@ -69,7 +58,7 @@ has_value option digits n e = elim (cases_Bool (nat_le 1 (length digits) && nat_
   | inl t ↦
       let size = and_parts (nat_le 1 (length digits)) (nat_le (length digits) 10) t in
       let held = rw t at e in
-      held_value option digits n (number_from 0 digits) (at_most 1 (length digits) size.0) (at_most (length digits) 10 size.1) refl held
+      held_value option digits n (number_from 0 digits) (leb-true 1 (length digits) size.0) (leb-true (length digits) 10 size.1) refl held
   | inr f ↦ let wrong = rw f at e in cc
 ]
 
@@ -85,4 +74,4 @@ pub is_value : (option : Choice) (digits : List ℕ) → IsValue option digits �
 is_value option digits v =
     let most = small_of option in
     let read : number_from 0 digits ≡ Some (number_behind 0 digits) = is_read 0 digits v.decimal (let w = v.within in omega (arith, most, w)) in
-    rw (is_at_most 1 (length digits) v.some, is_at_most (length digits) 10 v.few, read, is_at_most (number_behind 0 digits) (greatest option) v.within) refl
+    rw (le-leb 1 (length digits) v.some, le-leb (length digits) 10 v.few, read, le-leb (number_behind 0 digits) (greatest option) v.within) refl

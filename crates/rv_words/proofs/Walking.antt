@@ -1,8 +1,8 @@
 -- What clap's walk makes of the words of items: one row for each, which holds the item's value.
-use Rattle.std.proofs.Common.{◌≡◌, ◌≢◌, ℕ, ◌==◌, ◌||◌, List, [], ◌∷◌, ◌++◌, refl, sym, ap, subst, ◌∙◌, arith, Bool, true, false, Option, Some, None, inl, inr, append_assoc, append-nil, bytes_eq, codes, flat_map, map, if◌then◌else◌}
-use Rattle.std.specs.Prelude.{find, fold, option_and_then, unwrap_or}
+use Rattle.std.proofs.Common.{◌≡◌, ◌≢◌, ℕ, ◌==◌, List, [], ◌∷◌, ◌++◌, refl, sym, ap, subst, ◌∙◌, arith, Bool, true, false, Option, Some, None, inl, inr, append_assoc, append-nil, bytes_eq, codes, flat_map, map, if◌then◌else◌}
+use Rattle.std.specs.Prelude.{fold, option_and_then, unwrap_or}
 use Rattle.std.specs.List.{AllByRecursion, list_all}
-use Rattle.std.proofs.lemmas.Bool.{cases_Bool}
+use Rattle.std.proofs.lemmas.Bool.{cases_Bool, and_parts, or_parts}
 use Rattle.std.proofs.lemmas.Bool.Decides.{nat_tests}
 use Rattle.std.specs.Option.{option_map_or}
 use Rattle.clap.specs.Lexer.{long_of, short_of}
@@ -22,7 +22,7 @@ use Rattle.rv_words.specs.Reading.{value}
 use Rattle.rv_words.specs.Words.{AreAccepted, Ask, IsValue, Item, Once, asked_of, is_among, is_flag, name_of, value_of, words_of}
 use Rattle.rv_words.proofs.Items.{IsItem, Lacks, is_option}
 use Rattle.rv_words.proofs.Accepts.{option_cases, value_words}
-use Rattle.rv_words.proofs.Values.{and_parts, is_value}
+use Rattle.rv_words.proofs.Values.{is_value}
 
 -- the options as clap builds them
 abbrev rules : List Rule
@@ -316,13 +316,9 @@ matched items all once =
 abbrev unflagged : Choice → Row
 unflagged f = record { id = id_of f; values = codes "false" ∷ []; count = None; source = Some DefaultValue; reading = reading_by (rule f) }
 
-neither : (a b : Bool) → (a || b) ≡ false → (a ≡ false) × (b ≡ false)
-neither true b e = cc
-neither false b e = (refl, e)
-
 apart_of : (id : List ℕ) (rows : List Row) → has_row id rows ≡ false → Apart id rows
 apart_of id [] e = tt
-apart_of id (r ∷ rs) e = let parts = neither (bytes_eq r.id id) (has_row id rs) e in (parts.0, apart_of id rs parts.1)
+apart_of id (r ∷ rs) e = let parts = or_parts (bytes_eq r.id id) (has_row id rs) e in (parts.0, apart_of id rs parts.1)
 
 with_row : (f : Choice) (rows : List Row) → is_flag f ≡ true → has_row (id_of f) rows ≡ true → with_default rows (listed_flag f) ≡ rows
 with_row Threads rows flag e = rw e refl
