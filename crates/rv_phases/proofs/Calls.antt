@@ -1,7 +1,8 @@
 -- The calls of one session in a history and among lines.
-use Rattle.std.proofs.Common.{◌≡◌, ◌≢◌, ℕ, zero, suc, ◌+◌, ◌-◌, ◌<◌, ◌≤◌, ◌==◌, List, [], ◌∷◌, ◌++◌, refl, sym, ap, ◌∙◌, subst, arith, Bool, true, false, filter, map, inl, inr, append_assoc, append-nil, take, length, All, Contains}
+use Rattle.std.proofs.Common.{◌≡◌, ◌≢◌, ℕ, suc, ◌+◌, ◌-◌, ◌<◌, ◌≤◌, ◌==◌, List, [], ◌∷◌, ◌++◌, refl, sym, ap, ◌∙◌, subst, arith, Bool, true, false, inl, inr, append-nil, take, length, All, Contains}
 use Rattle.std.proofs.lemmas.Bool.{cases_Bool}
 use Rattle.std.proofs.lemmas.Bool.Decides.{nat_tests}
+use Rattle.std.proofs.lemmas.List.Elements.{All-append, All-contains}
 use Rattle.rv_lang.specs.declared.reply.Reply.{Reply}
 use Rattle.rv_script.specs.declared.scripts.Line.{Line}
 use Rattle.rv_model.specs.declared.entry.Entry.{Entry}
@@ -85,20 +86,6 @@ made_more s phase lines a b seen now more m = record { count = m.count; within =
 pub done_more : (turn : TurnState Entry) (lines : List Line) (a b : Bool) (p : PassState Entry) → (b ≡ false → a ≡ false) → IsDone turn lines a p → IsDone turn lines b p
 done_more turn lines a b p more d = record { pass = d.pass; made = λ below. made_more (p.number + 1) turn.mark lines a b turn.opening p.seen more (d.made below) }
 
-all_both : {X : Type 0} (P : X → Type 0) (xs ys : List X) → All P xs → All P ys → All P (xs ++ ys)
-all_both P [] ys a b k d below = b k d below
-all_both P (x ∷ xs) ys a b zero d below = a 0 d (omega arith)
-all_both P (x ∷ xs) ys a b (suc k) d below = all_both P xs ys (λ k d h. a (suc k) d (omega arith)) b k d (omega arith)
-
-all_in : {X : Type 0} (P : X → Type 0) (xs : List X) (x : X) → All P xs → Contains xs x → P x
-all_in P xs x all h = subst P h.2 (all h.0 x h.1)
-
-pub all_push : {X : Type 0} (P : X → Type 0) (xs : List X) (x : X) → All P xs → P x → All P (xs ++ x ∷ [])
-all_push P [] x all here zero d below = here
-all_push P [] x all here (suc k) d below = absurd (omega arith)
-all_push P (y ∷ ys) x all here zero d below = all 0 d (omega arith)
-all_push P (y ∷ ys) x all here (suc k) d below = all_push P ys x (λ k d h. all (suc k) d (omega arith)) here k d (omega arith)
-
 pub all_first : {X : Type 0} (P : X → Type 0) (l xs : List X) (x : X) → All P l → l ≡ x ∷ xs → P x
 all_first P l xs x h e = subst (λ (m : List _). All P m) e h 0 x (omega arith)
 
@@ -116,8 +103,8 @@ pub all_done : (turn : TurnState Entry) (lines : List Line) (short : Bool) (firs
     → (n : ℕ) → n < 8 → (p : PassState Entry) → Contains (first ++ second) p → p.number ≡ n → Made (n + 1) turn.mark lines short turn.opening history
 all_done turn lines short first second history a b c d n below p there is =
     let P : PassState Entry → Type 0 = λ q. IsDone turn lines short q × GoesOn maker q.number q.seen history in
-    let both : All P (first ++ second) = all_both P first second (λ k e h. (a k e h, c k e h)) (λ k e h. (done_more turn lines false short _ (λ _. refl) (b k e h), d k e h)) in
-    let one = all_in P (first ++ second) p both there in
+    let both : All P (first ++ second) = All-append P first second (λ k e h. (a k e h, c k e h)) (λ k e h. (done_more turn lines false short _ (λ _. refl) (b k e h), d k e h)) in
+    let one = All-contains P (first ++ second) p both there in
     in_history turn lines short p history one.0 one.1 n below is
 
 session_of : (turn : TurnState Entry) (lines : List Line) (short : Bool) (history : List Entry) (s n : ℕ) → n + 1 ≡ s → Made (n + 1) turn.mark lines short turn.opening history → Made s turn.mark lines short turn.opening history

@@ -1,6 +1,7 @@
 use Rattle.std.proofs.Common.{rules, arith, ap, ◌≡◌, ◌++◌, ◌∷◌, [], List, length, length-append, false}
+use Rattle.std.proofs.lemmas.List.Elements.{All-push}
 use Rattle.rv_shared.specs.Told.{IsFresh}
-use Rattle.rv_phases.proofs.Calls.{all_first, all_others, all_push}
+use Rattle.rv_phases.proofs.Calls.{all_first, all_others}
 use Rattle.rv_phases.proofs.phase.join_workers.Goals as goal
 
 pub helpers-preserved : goal.helpers-preserved
@@ -15,7 +16,7 @@ helpers-preserved g c =
     let longer = length-append c.helpers.jobs.items (record { pass = c.in-Some.pass; short = false } ∷ []) in
     record {
       left = all_others (λ p. IsFresh turn p) _ _ _ i.left c.in-Some.ensures.steps.0;
-      jobs = rw items (all_push (λ j. IsFresh turn j.pass) c.helpers.jobs.items (record { pass = c.in-Some.pass; short = false }) i.jobs one);
+      jobs = rw items (All-push (λ j. IsFresh turn j.pass) c.helpers.jobs.items (record { pass = c.in-Some.pass; short = false }) i.jobs one);
       count = let e = i.count in omega arith;
       total = let e = i.total in omega arith;
       room = search rules;
