@@ -1,5 +1,5 @@
 -- How runs end.
-use Rattle.std.proofs.Common.{◌≡◌, ◌≢◌, ◌⊎◌, inl, inr, true, false, ◌≤◌, arith, ℕ, length, List, [], ◌++◌, refl, sym, ap, ◌∙◌, subst, append-nil, Bool, not, Option, Some, None, Result, Ok, Err, IfSome, IsOkAnd, IsSomeAnd, OnOk}
+use Rattle.std.proofs.Common.{◌≡◌, ◌≢◌, ◌⊎◌, inl, inr, true, false, ◌≤◌, arith, ℕ, length, List, [], ◌++◌, refl, sym, ap, ◌∙◌, subst, append-nil, Bool, Option, Some, None, Result, Ok, Err, IfSome, IsOkAnd, IsSomeAnd, OnOk}
 use Rattle.std.specs.Prelude.{is_ok}
 use Rattle.rv_io.proofs.Streams.{consumes_none}
 use Rattle.rv_io.specs.Pieces.{TakesAll, TakesUpTo}
@@ -85,10 +85,6 @@ some_if (Some x) P p = p
 pub called_performs : (r : Result (Unit {0}) NoMemory) (called : Bool) (P : Type 0) → OnOk r P → called ≡ is_ok r → called ≡ true → P
 called_performs (Ok u) called P p c t = p
 called_performs (Err fault) called P p c t = let wrong : true ≡ false = sym t ∙ c in cc
-
-pub not_short : (short : Bool) → not short ≡ true → short ≡ false
-not_short true e = cc
-not_short false e = refl
 
 pub not_write : (status : Status) → (status ≡ statuses.Done) ⊎ (status ≡ statuses.Memory) → status ≢ statuses.WriteFault
 not_write status (inl d) = λ w. let wrong : statuses.Done ≡ statuses.WriteFault = sym d ∙ w in cc

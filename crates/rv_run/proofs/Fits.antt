@@ -1,6 +1,6 @@
 -- A script that was read has few phases, and lines that calls may have.
-use Rattle.std.proofs.Common.{◌≡◌, ℕ, ◌+◌, ◌-◌, ◌*◌, ◌++◌, ap, ◌∙◌, codes, flat_map, length-append, ◌<◌, ◌≤◌, ◌==◌, ◌&&◌, List, [], ◌∷◌, refl, sym, subst, arith, Bool, true, false, inl, inr, length, nat_lt, nat_le, nat_eq, Option, Some, None, Result, Ok, Err, IfSome}
-use Rattle.std.proofs.lemmas.Bool.{cases_Bool}
+use Rattle.std.proofs.Common.{◌≡◌, ℕ, ◌+◌, ◌-◌, ◌*◌, ◌++◌, ap, ◌∙◌, codes, flat_map, length-append, ◌<◌, ◌≤◌, ◌==◌, ◌&&◌, List, [], ◌∷◌, refl, sym, subst, arith, true, inl, inr, length, nat_lt, nat_le, nat_eq, Option, Some, None, Result, Ok, Err, IfSome}
+use Rattle.std.proofs.lemmas.Bool.{cases_Bool, and_parts, ltb-false}
 use Rattle.std.proofs.lemmas.Bool.Decides.{nat_tests}
 use Rattle.std.specs.List.{AllByRecursion}
 use Rattle.std.specs.Str.Lines.{lines}
@@ -22,10 +22,6 @@ abbrev FitsSaying : Saying → Type 0
 FitsSaying Nothing = Unit {0}
 FitsSaying (Call line) = IsCall line
 FitsSaying (Next judge) = IfSome judge (λ number. number < 3)
-
-and_parts : (a b : Bool) → (a && b) ≡ true → (a ≡ true) × (b ≡ true)
-and_parts true b e = (refl, e)
-and_parts false b e = cc
 
 at_least : (s : ℕ) → nat_le 49 s ≡ true → 1 ≤ s - 48
 at_least s h = grind (arith, nat_tests)
@@ -70,9 +66,6 @@ says_fits (b ∷ bs) short = elim (cases_Bool (nat_eq b 35)) [
   | inr f ↦ rw f (two_fits (b ∷ bs) short)
 ]
 
-not_more : (n m : ℕ) → nat_lt n m ≡ false → m ≤ n
-not_more n m h = grind (arith, nat_tests)
-
 listed_fits : (n : ℕ) (o : Option Saying) (saying : Saying) → IfSome o FitsSaying → or_no_session n o ≡ Ok saying → FitsSaying saying
 listed_fits n None saying fits e = cc
 listed_fits n (Some s) saying fits e = let same : s ≡ saying = cc in subst FitsSaying same fits
@@ -82,7 +75,7 @@ line_fits n line saying e = elim (cases_Bool (nat_lt 200000 n)) [
   | inl t ↦ let wrong = rw t at e in cc
   | inr f ↦ elim (cases_Bool (nat_lt 4096 (length line))) [
     | inl t ↦ let wrong = rw (f, t) at e in cc
-    | inr g ↦ let said = rw (f, g) at e in (listed_fits n (says line) saying (says_fits line (not_more 4096 (length line) g)) said, not_more 200000 n f)
+    | inr g ↦ let said = rw (f, g) at e in (listed_fits n (says line) saying (says_fits line (ltb-false 4096 (length line) g)) said, ltb-false 200000 n f)
   ]
 ]
 

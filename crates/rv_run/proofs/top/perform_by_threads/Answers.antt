@@ -1,12 +1,13 @@
 use Rattle.std.proofs.Common.{inl, inr}
-use Rattle.rv_run.proofs.Ends.{not_short, not_write}
+use Rattle.std.proofs.lemmas.Bool.{not-true}
+use Rattle.rv_run.proofs.Ends.{not_write}
 use Rattle.rv_run.proofs.Threads.{calls_fit, first_all, whole_all}
 use Rattle.rv_run.proofs.top.perform_by_threads.Goals as goal
 
 pub returns-clause-done : goal.returns-clause-done
 returns-clause-done g c = λ e.
     let history = c.make_calls_by_threads-core.result.core.engine.history in
-    let made = rw c.as_slice.ensures at c.make_calls_by_threads-core.ensures.whole (not_short c.make_calls_by_threads-core.result.short (c.written.ensures.done e)) in
+    let made = rw c.as_slice.ensures at c.make_calls_by_threads-core.ensures.whole (not-true c.make_calls_by_threads-core.result.short (c.written.ensures.done e)) in
     rw c.written.ensures.core (record {
       legal = c.written.ensures.legal;
       calls = whole_all history c.args.script.now c.written.ensures.legal (calls_fit c.args.script.now c.requires.fits) made;
