@@ -3,7 +3,7 @@ use Rattle.std.proofs.Common.{◌≡◌, ◌⊎◌, ℕ, ◌+◌, List, [], ◌�
 use Rattle.std.specs.List.{list_all, slice_split, AllByRecursion}
 use Rattle.std.specs.Str.Lines.{lines, lines_of_parts, strip_carriage_return}
 use Rattle.std.specs.Str.Lossy.{utf8_valid_len}
-use Rattle.std.proofs.lemmas.Bool.{cases_Bool, and_parts}
+use Rattle.std.proofs.lemmas.Bool.{cases_Bool, and_parts, not-true}
 use Rattle.std.proofs.lemmas.List.Elements.{All-cons, All-nil}
 use Rattle.std.proofs.lemmas.List.Splits.{slice_split_at}
 use Rattle.std.proofs.lemmas.Slice.Eq.{bytes_eq-Decides}
@@ -21,7 +21,7 @@ use Rattle.rv_run.specs.Script as runs
 use Rattle.rv_run.specs.Script.{HasAllCalls, Write}
 use Rattle.rv_text.specs.Lines.{grown, split, Split}
 use Rattle.rv_text.specs.Reading.{AreReadable}
-use Rattle.rv_text.proofs.Cutting.{lines_of, split_line, split_unsplit, split_whole, turned, unsplit, AreLines}
+use Rattle.rv_text.proofs.Cutting.{lines_of, split_line, split_unsplit, split_whole, unsplit, AreLines}
 use Rattle.rv_audit.specs.declared.auditing.Audited.TheVariants as audited
 use Rattle.rv_audit.specs.declared.calls.Call.{Call}
 use Rattle.rv_audit.specs.Auditing.{Audits, Says, SaysBehindScript}
@@ -123,7 +123,7 @@ no_feed : (l : List ℕ) → IsLine l → All (λ (c : ℕ). (c == 10) ≡ false
 no_feed [] h = All-nil (λ (c : ℕ). (c == 10) ≡ false)
 no_feed (c ∷ cs) h =
     let parts = and_parts (not (c == 10)) (list_all (λ (b : ℕ). not (b == 10)) cs) h in
-    All-cons (λ (b : ℕ). (b == 10) ≡ false) c cs (turned (c == 10) parts.0) (no_feed cs parts.1)
+    All-cons (λ (b : ℕ). (b == 10) ≡ false) c cs (not-true (c == 10) parts.0) (no_feed cs parts.1)
 
 split_parts : (ls : List (List ℕ)) → AreLines ls → slice_split (λ (c : ℕ). c == 10) (unsplit ls) ≡ ls ++ [] ∷ []
 split_parts [] h = refl
@@ -258,7 +258,7 @@ lines_parted : (ls : List (List ℕ)) (transcript : List ℕ) → HaveNoMark ls 
 lines_parted [] transcript none = ap (λ (bytes : List ℕ). Some (parts [] bytes)) (ended_whole transcript)
 lines_parted (l ∷ ls) transcript none =
     let both_none = and_parts (not (is_mark l)) (list_all (λ (m : List ℕ). not (is_mark m)) ls) none in
-    let here : is_mark l ≡ false = turned (is_mark l) both_none.0 in
+    let here : is_mark l ≡ false = not-true (is_mark l) both_none.0 in
     rw here (ap (behind_line l) (lines_parted ls transcript both_none.1))
 
 abbrev behind_lines : List (List ℕ) → Split → Split

@@ -1,6 +1,6 @@
 -- Bytes are cut and put together again.
 use Rattle.std.proofs.Common.{◌≡◌, ℕ, zero, suc, ◌≤◌, List, [], ◌∷◌, ◌++◌, Option, Some, None, Bool, true, false, not, ◌&&◌, cond, inl, inr, refl, ap, sym, ◌∙◌, length, take, arith, eqb, append_assoc, append-nil}
-use Rattle.std.proofs.lemmas.Bool.{cases_Bool}
+use Rattle.std.proofs.lemmas.Bool.{cases_Bool, and_parts, not-true}
 use Rattle.std.proofs.lemmas.Bool.Decides.{nat_tests}
 use Rattle.std.specs.List.{list_all, AllByRecursion}
 use Rattle.rv_model.specs.Transcript.{words_text, IsLine}
@@ -8,11 +8,6 @@ use Rattle.rv_text.specs.Lines.{cut, extended, grown, split, Cut, Split}
 use Rattle.rv_text.specs.Reading.{ends, front}
 use Rattle.rv_text.specs.Values.{piece_grown, pieces, pieces_of, value_cut}
 use Rattle.rv_text.specs.Traces.{word_grown, words, words_of}
-use Rattle.rv_text.proofs.Leaves.{both}
-
-pub turned : (b : Bool) → not b ≡ true → b ≡ false
-turned true h = cc
-turned false h = refl
 
 pub extended_twice : (a b : List ℕ) (c : Cut) → extended a (extended b c) ≡ extended (a ++ b) c
 extended_twice a b c = ap (λ w. record { word = w; more = c.more }) (sym (append_assoc a b c.word))
@@ -38,14 +33,14 @@ lacks byte word = list_all (λ c. not (eqb c byte)) word
 pub cut_word : (byte : ℕ) (word more : List ℕ) → lacks byte word ≡ true → cut byte (word ++ byte ∷ more) ≡ record { word = word; more = Some more }
 cut_word byte [] more h = let same : eqb byte byte ≡ true = grind (arith, nat_tests) in rw same refl
 cut_word byte (c ∷ cs) more h =
-    let parts = both (not (eqb c byte)) (lacks byte cs) h in
-    rw (turned (eqb c byte) parts.0) (ap (λ x. extended (c ∷ []) x) (cut_word byte cs more parts.1))
+    let parts = and_parts (not (eqb c byte)) (lacks byte cs) h in
+    rw (not-true (eqb c byte) parts.0) (ap (λ x. extended (c ∷ []) x) (cut_word byte cs more parts.1))
 
 pub cut_all : (byte : ℕ) (word : List ℕ) → lacks byte word ≡ true → cut byte word ≡ record { word = word; more = None }
 cut_all byte [] h = refl
 cut_all byte (c ∷ cs) h =
-    let parts = both (not (eqb c byte)) (lacks byte cs) h in
-    rw (turned (eqb c byte) parts.0) (ap (λ x. extended (c ∷ []) x) (cut_all byte cs parts.1))
+    let parts = and_parts (not (eqb c byte)) (lacks byte cs) h in
+    rw (not-true (eqb c byte) parts.0) (ap (λ x. extended (c ∷ []) x) (cut_all byte cs parts.1))
 
 -- Lines.
 
@@ -186,7 +181,7 @@ unpieced (p ∷ ps) = p ++ comma_joined ps
 pub pieces_whole : (inside : Bool) (text : List ℕ) → unpieced (pieces inside text) ≡ text
 pieces_whole inside [] = refl
 pieces_whole inside (c ∷ cs) = elim (cases_Bool (not inside && eqb c 44)) [
-  | inl t ↦ let comma = (both (not inside) (eqb c 44) t).1 in let e : c ≡ 44 = grind (arith, nat_tests) in rw t (comma_some (pieces false cs) (value_cut false cs).word (pieces_of (value_cut false cs).more) (pieces_cut false cs) ∙ (λ i. sym e i ∷ pieces_whole false cs i))
+  | inl t ↦ let comma = (and_parts (not inside) (eqb c 44) t).1 in let e : c ≡ 44 = grind (arith, nat_tests) in rw t (comma_some (pieces false cs) (value_cut false cs).word (pieces_of (value_cut false cs).more) (pieces_cut false cs) ∙ (λ i. sym e i ∷ pieces_whole false cs i))
   | inr f ↦ rw f (grown_whole (pieces (cond (eqb c 39) (not inside) inside) cs) ∙ ap (λ bs. c ∷ bs) (pieces_whole (cond (eqb c 39) (not inside) inside) cs))
 ]
   where

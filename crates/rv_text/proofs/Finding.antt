@@ -1,6 +1,6 @@
 -- What is found in bytes is what the functions of the specs give.
 use Rattle.std.proofs.Common.{◌≡◌, ℕ, zero, suc, ℤ, ◌+◌, ◌-◌, ◌<◌, ◌≤◌, ◌^◌, List, [], ◌∷◌, Option, Some, None, Result, Ok, Err, Bool, true, false, ◌&&◌, cond, inl, inr, refl, ap, sym, subst, ◌∙◌, length, take, drop, get_or, arith, eqb, nat_eq, nat_le, bytes_eq, find, IsUtf8, MatchOption}
-use Rattle.std.proofs.lemmas.Bool.{cases_Bool}
+use Rattle.std.proofs.lemmas.Bool.{cases_Bool, and_parts}
 use Rattle.std.proofs.lemmas.Bool.Decides.{nat_tests}
 use Rattle.std.proofs.lemmas.Int.{to_z-of_z}
 use Rattle.std.proofs.lemmas.Fmt.{parse-signed_decimal, IsAscii-signed}
@@ -23,7 +23,7 @@ use Rattle.rv_text.specs.Lines.{cut, extended, Cut}
 use Rattle.rv_text.specs.Replies.{after}
 use Rattle.rv_text.specs.Texts.{call_at, Call}
 use Rattle.rv_text.specs.Values.{integer_at, text_of}
-use Rattle.rv_text.proofs.Leaves.{both, same_bytes}
+use Rattle.rv_text.proofs.Leaves.{same_bytes}
 use Rattle.rv_text.proofs.Rowing.{integer_again, integer_takes}
 
 -- the first such byte
@@ -63,7 +63,7 @@ pub after_found : (word text : List ℕ) → pointwise nat_eq (take (length word
 after_found [] text h = refl
 after_found (c ∷ cs) [] h = cc
 after_found (c ∷ cs) (d ∷ ds) h =
-    let parts = both (nat_eq d c) (pointwise nat_eq (take (length cs) ds) cs) h in
+    let parts = and_parts (nat_eq d c) (pointwise nat_eq (take (length cs) ds) cs) h in
     let same : eqb c d ≡ true = (let first = parts.0 in grind (arith, nat_tests)) in
     rw same (after_found cs ds parts.1)
 

@@ -1,5 +1,5 @@
 -- Numbers and names are read as they are written, both ways.
-use Rattle.std.proofs.Common.{◌≡◌, ℕ, ◌<◌, ◌^◌, List, [], ◌∷◌, Option, Some, None, Result, Ok, Err, Bool, true, false, ◌&&◌, cond, refl, ap, sym, ◌∙◌, arith, bytes_eq, nat_lt, IsUtf8}
+use Rattle.std.proofs.Common.{◌≡◌, ℕ, ◌<◌, ◌^◌, List, [], ◌∷◌, Some, None, Result, Ok, Err, Bool, true, false, ◌&&◌, cond, refl, ap, sym, ◌∙◌, arith, bytes_eq, nat_lt, IsUtf8}
 use Rattle.std.proofs.lemmas.Bool.Decides.{nat_tests}
 use Rattle.std.proofs.lemmas.Slice.Eq.{bytes_eq-Decides}
 use Rattle.std.proofs.lemmas.Fmt.{decimal_is_IsNumeral, parse-decimal, IsAscii-decimal}
@@ -9,24 +9,11 @@ use Rattle.std.specs.List.{list_all}
 use Rattle.std.specs.Str.{IsAscii}
 use Rattle.std.specs.Fmt.{decimal}
 use Rattle.std.specs.Str.Parse.{digits_value, ParsesUnsigned}
+use Rattle.std.proofs.lemmas.Option.{cond_some}
+use Rattle.std.proofs.lemmas.Bool.{and_from, and_parts}
 use Rattle.rv_model.specs.Transcript.{is_capital, is_name_byte, IsName}
 use Rattle.rv_text.specs.Values.{number_at}
 use Rattle.rv_text.specs.Traces.{is_name}
-
-pub both : (a b : Bool) → (a && b) ≡ true → (a ≡ true) × (b ≡ true)
-both true b e = (refl, e)
-both false b e = cc
-
-pub joined : (a b : Bool) → a ≡ true → b ≡ true → (a && b) ≡ true
-joined true b p q = q
-joined false b p q = cc
-
-pub some_is : {X : Type 0} (x y : X) → Some x ≡ Some y → x ≡ y
-some_is x y e = ap (λ o. or_first x o) e
-  where
-    or_first : {Y : Type 0} → Y → Option Y → Y
-    or_first d None = d
-    or_first d (Some z) = z
 
 pub same_bytes : (xs ys : List ℕ) → bytes_eq xs ys ≡ true → xs ≡ ys
 same_bytes xs ys h = (bytes_eq-Decides xs ys).0 h
@@ -34,17 +21,13 @@ same_bytes xs ys h = (bytes_eq-Decides xs ys).0 h
 pub equal_bytes : (xs : List ℕ) → bytes_eq xs xs ≡ true
 equal_bytes xs = (bytes_eq-Decides xs xs).1 refl
 
-pub tested : {X : Type 0} (b : Bool) (x y : X) → cond b (Some x) None ≡ Some y → (b ≡ true) × (x ≡ y)
-tested true x y e = (refl, some_is x y e)
-tested false x y e = cc
-
 -- Numbers.
 
 pub number_takes : (digits : List ℕ) (n : ℕ) → number_at digits ≡ Some n → (decimal n ≡ digits) × (n < 2 ^ 64)
 number_takes digits n e =
     let m = digits_value 10 digits in
-    let found = tested (nat_lt m 18446744073709551616 && bytes_eq (decimal m) digits) m n e in
-    let parts = both (nat_lt m 18446744073709551616) (bytes_eq (decimal m) digits) found.0 in
+    let found = cond_some (nat_lt m 18446744073709551616 && bytes_eq (decimal m) digits) m n e in
+    let parts = and_parts (nat_lt m 18446744073709551616) (bytes_eq (decimal m) digits) found.0 in
     let small : m < 2 ^ 64 = (let less = parts.0 in grind (arith, nat_tests)) in
     (ap (λ k. decimal k) (sym found.1) ∙ same_bytes (decimal m) digits parts.1, rw (sym found.1) small)
 
@@ -66,7 +49,7 @@ number_none text never = by (nat_lt (digits_value 10 text) 18446744073709551616 
     by false test = refl
     by true test =
         let m = digits_value 10 text in
-        let parts = both (nat_lt m 18446744073709551616) (bytes_eq (decimal m) text) test in
+        let parts = and_parts (nat_lt m 18446744073709551616) (bytes_eq (decimal m) text) test in
         let small : m < 2 ^ 64 = (let less = parts.0 in grind (arith, nat_tests)) in
         absurd (never m small (same_bytes (decimal m) text parts.1))
 
@@ -98,22 +81,22 @@ no_number text raw = number_none text (λ m small same. raw (rw (sym same) (IsUt
 
 pub name_is : (name : List ℕ) → is_name name ≡ true → IsName name
 name_is [] h = cc
-name_is (c ∷ cs) h = both (is_capital c) (list_all is_name_byte cs) h
+name_is (c ∷ cs) h = and_parts (is_capital c) (list_all is_name_byte cs) h
 
 pub is_a_name : (name : List ℕ) → IsName name → is_name name ≡ true
 is_a_name [] h = absurd h
-is_a_name (c ∷ cs) h = joined (is_capital c) (list_all is_name_byte cs) h.0 h.1
+is_a_name (c ∷ cs) h = and_from (is_capital c) (list_all is_name_byte cs) h.0 h.1
 
 bytes_ascii : (cs : List ℕ) → list_all is_name_byte cs ≡ true → IsAscii cs
 bytes_ascii [] h = IsAscii-nil
 bytes_ascii (c ∷ cs) h =
-    let parts = both (is_name_byte c) (list_all is_name_byte cs) h in
+    let parts = and_parts (is_name_byte c) (list_all is_name_byte cs) h in
     let here : c < 128 = (let byte = parts.0 in grind (arith, nat_tests)) in
     IsAscii-cons c cs here (bytes_ascii cs parts.1)
 
 pub name_utf8 : (name : List ℕ) → is_name name ≡ true → IsUtf8 name
 name_utf8 [] h = cc
 name_utf8 (c ∷ cs) h =
-    let parts = both (is_capital c) (list_all is_name_byte cs) h in
+    let parts = and_parts (is_capital c) (list_all is_name_byte cs) h in
     let here : c < 128 = (let byte = parts.0 in grind (arith, nat_tests)) in
     IsUtf8-from_ascii (c ∷ cs) (IsAscii-cons c cs here (bytes_ascii cs parts.1))

@@ -1,10 +1,11 @@
 -- Replies are read as they are written, both ways.
 use Rattle.std.proofs.Common.{◌≡◌, ℕ, ◌<◌, ◌^◌, List, [], ◌∷◌, ◌++◌, Option, Some, None, Bool, true, not, codes, inl, inr, refl, ap, sym, ◌∙◌, arith, bytes_eq, nat_le, eqb, append_assoc, append-nil}
-use Rattle.std.proofs.lemmas.Bool.{cases_Bool}
+use Rattle.std.proofs.lemmas.Bool.{cases_Bool, and_from, and_parts}
 use Rattle.std.proofs.lemmas.Bool.Decides.{nat_tests}
 use Rattle.std.proofs.lemmas.List.Folds.{list_all-append}
 use Rattle.std.specs.List.{list_all, AllByRecursion}
 use Rattle.std.specs.Fmt.{decimal, signed_decimal}
+use Rattle.std.proofs.lemmas.Option.{cond_some, same_Some}
 use Rattle.rv_value.specs.declared.value.Value.{Value}
 use Rattle.rv_value.specs.declared.value.Value.TheVariants.{Null, Int, Str}
 use Rattle.rv_lang.specs.declared.reply.Which.{Which}
@@ -24,7 +25,7 @@ use Rattle.rv_text.specs.Reading.{CanHoldReply}
 use Rattle.rv_text.specs.Values.{number_at, values_at}
 use Rattle.rv_text.specs.Traces.{is_name, trace_at}
 use Rattle.rv_text.specs.Replies.{after, both_of, duplicate_at, first_of, limits_all, limit_at, lone_at, made, named_at, name_at, name_behind, numbered_at, number_behind, paired_at, pair_at, read_behind, reply_at, rival_at, rival_of, row_at, shown_at, which_at, word_is, Pair}
-use Rattle.rv_text.proofs.Leaves.{both, is_a_name, joined, name_is, number_again, number_takes, same_bytes, some_is, tested}
+use Rattle.rv_text.proofs.Leaves.{is_a_name, name_is, number_again, number_takes, same_bytes}
 use Rattle.rv_text.proofs.Cutting.{behind, cut_all, cut_whole, cut_word}
 use Rattle.rv_text.proofs.Rowing.{values_again, values_takes}
 use Rattle.rv_text.proofs.Tracing.{decimal_wordy, find_passes, name_wordy, trace_again, trace_takes, trace_wordy, unspaced, wordy, AreWordy}
@@ -44,7 +45,7 @@ printed_line : (c : ℕ) → printed c ≡ true → not (eqb c 10) ≡ true
 printed_line c h = grind (arith, nat_tests)
 
 all_printed : (xs ys : List ℕ) → list_all printed xs ≡ true → list_all printed ys ≡ true → list_all printed (xs ++ ys) ≡ true
-all_printed xs ys hx hy = list_all-append printed xs ys ∙ joined (list_all printed xs) (list_all printed ys) hx hy
+all_printed xs ys hx hy = list_all-append printed xs ys ∙ and_from (list_all printed xs) (list_all printed ys) hx hy
 
 decimal_printed : (n : ℕ) → n < 2 ^ 64 → list_all printed (decimal n) ≡ true
 decimal_printed n small = passes_more numeric printed numeric_printed (decimal n) (decimal_pass n small)
@@ -55,10 +56,10 @@ name_printed name h = passes_more wordy printed wordy_printed name (name_wordy n
 doubled_printed : (t : List ℕ) → list_all printed t ≡ true → list_all printed (quotes_twice t) ≡ true
 doubled_printed [] h = refl
 doubled_printed (c ∷ cs) h =
-    let parts = both (printed c) (list_all printed cs) h in
+    let parts = and_parts (printed c) (list_all printed cs) h in
     elim (cases_Bool (eqb c 39)) [
       | inl t ↦ rw t (doubled_printed cs parts.1)
-      | inr f ↦ rw f (joined (printed c) (list_all printed (quotes_twice cs)) parts.0 (doubled_printed cs parts.1))
+      | inr f ↦ rw f (and_from (printed c) (list_all printed (quotes_twice cs)) parts.0 (doubled_printed cs parts.1))
     ]
 
 value_printed : (v : Value) → IsPlainValue v → list_all printed (value_text v) ≡ true
@@ -225,7 +226,7 @@ first_takes text ((Some q) ∷ os) h = λ r e. h.0 r e
 
 -- what is found behind a word
 after_takes : (word text rest : List ℕ) → after word text ≡ Some rest → text ≡ word ++ rest
-after_takes [] text rest e = some_is text rest e
+after_takes [] text rest e = same_Some text rest e
 after_takes (c ∷ cs) [] rest e = cc
 after_takes (c ∷ cs) (d ∷ ds) rest e = elim (cases_Bool (eqb c d)) [
   | inl t ↦ let same : c ≡ d = grind (arith, nat_tests) in let more = after_takes cs ds rest (rw t at e) in λ i. sym same i ∷ more i
@@ -238,7 +239,7 @@ behind_takes {A} word text go make takes = λ r e. by (after word text) refl r e
   where
     made_is : (rest : List ℕ) (o : Option A) → go rest ≡ o → text ≡ word ++ rest → (r : Reply) → made make o ≡ Some r → Takes text r
     made_is rest None at is r e = cc
-    made_is rest (Some x) at is r e = rw (sym (some_is (make x) r e)) (rw is (takes rest x at))
+    made_is rest (Some x) at is r e = rw (sym (same_Some (make x) r e)) (rw is (takes rest x at))
 
     by : (o : Option (List ℕ)) → after word text ≡ o → (r : Reply) → made make (read_behind o go) ≡ Some r → Takes text r
     by None at r e = cc
@@ -246,7 +247,7 @@ behind_takes {A} word text go make takes = λ r e. by (after word text) refl r e
 
 word_takes : (word : List ℕ) (reply : Reply) (text : List ℕ) → Takes word reply → Taken text (word_is word reply text)
 word_takes word reply text takes = λ r e. (
-    let found = tested (bytes_eq text word) reply r e in
+    let found = cond_some (bytes_eq text word) reply r e in
     rw (sym found.1) (rw (same_bytes text word found.0) takes))
 
 lone_takes : (text : List ℕ) → Taken text (lone_at text)
@@ -322,7 +323,7 @@ numbered_takes text = first_takes text (
 
 name_reply : (word text : List ℕ) (make : List ℕ → Reply) → ((name : List ℕ) → IsName name → Takes (word ++ name) (make name)) → Taken text (made make (name_behind word text))
 name_reply word text make takes = behind_takes word text (λ rest. name_at rest) make (λ rest name e. (
-    let found = tested (is_name rest) rest name e in
+    let found = cond_some (is_name rest) rest name e in
     rw (sym found.1) (takes rest (name_is rest found.0))))
 
 named_takes : (text : List ℕ) → Taken text (named_at text)
@@ -356,7 +357,7 @@ record Both {A B : Type 0} (a : Option A) (b : Option B) (p : Pair A B) : Type 0
 both_parts : {A B : Type 0} (a : Option A) (b : Option B) (p : Pair A B) → both_of a b ≡ Some p → Both a b p
 both_parts None b p e = cc
 both_parts (Some x) None p e = cc
-both_parts (Some x) (Some y) p e = rw (sym (some_is (record { first = x; second = y }) p e)) (record { first_is = refl; second_is = refl })
+both_parts (Some x) (Some y) p e = rw (sym (same_Some (record { first = x; second = y }) p e)) (record { first_is = refl; second_is = refl })
 
 record SecondNumber (more : Option (List ℕ)) (word : List ℕ) (n : ℕ) : Type 0 where
   is : behind 32 more ≡ 32 ∷ word ++ decimal n
@@ -424,16 +425,16 @@ record RivalIs (more : Option (List ℕ)) (by : Rival) : Type 0 where
   plain : IsPlainRival by
 
 rival_takes : (more : Option (List ℕ)) (by : Rival) → rival_at more ≡ Some by → RivalIs more by
-rival_takes None by e = rw (sym (some_is rivals.View by e)) (record { is = refl; plain = tt })
+rival_takes None by e = rw (sym (same_Some rivals.View by e)) (record { is = refl; plain = tt })
 rival_takes (Some rest) by e = which (number_behind (codes "by commit ") rest) (number_behind (codes "by txn ") rest) refl refl e
   where
     which : (commit txn : Option ℕ) → number_behind (codes "by commit ") rest ≡ commit → number_behind (codes "by txn ") rest ≡ txn → rival_of commit txn ≡ Some by → RivalIs (Some rest) by
     which (Some commit) txn c t e =
         let found = number_is (codes "by commit ") rest commit c in
-        rw (sym (some_is (rivals.Commit commit) by e)) (record { is = λ i. 32 ∷ found.is i; plain = found.small })
+        rw (sym (same_Some (rivals.Commit commit) by e)) (record { is = λ i. 32 ∷ found.is i; plain = found.small })
     which None (Some txn) c t e =
         let found = number_is (codes "by txn ") rest txn t in
-        rw (sym (some_is (rivals.Txn txn) by e)) (record { is = λ i. 32 ∷ found.is i; plain = found.small })
+        rw (sym (same_Some (rivals.Txn txn) by e)) (record { is = λ i. 32 ∷ found.is i; plain = found.small })
     which None None c t e = cc
 
 record DuplicateIs (text : List ℕ) (p : Pair ℕ Rival) : Type 0 where

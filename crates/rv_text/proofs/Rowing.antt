@@ -1,6 +1,6 @@
 -- The values of a row are read as they are written, both ways.
 use Rattle.std.proofs.Common.{◌≡◌, ℕ, zero, suc, ℤ, pos, negsuc, ◌<◌, ◌^◌, List, [], ◌∷◌, ◌++◌, Option, Some, None, Bool, true, false, not, ◌&&◌, inl, inr, refl, ap, sym, ◌∙◌, length, map, arith, eqb, nat_lt, nat_le, bytes_eq, codes, append_assoc, append-nil}
-use Rattle.std.proofs.lemmas.Bool.{cases_Bool}
+use Rattle.std.proofs.lemmas.Bool.{cases_Bool, and_from, and_parts}
 use Rattle.std.proofs.lemmas.Bool.Decides.{nat_tests}
 use Rattle.std.proofs.lemmas.Fmt.{decimal_nonempty, decimal_is_IsNumeral}
 use Rattle.std.proofs.lemmas.Str.{IsUtf8-from_is_utf8, is_utf8-from_IsUtf8}
@@ -8,6 +8,7 @@ use Rattle.std.specs.Fmt.{decimal, signed_decimal}
 use Rattle.std.specs.Int.Signed.{mag}
 use Rattle.std.specs.List.{list_all, AllByRecursion}
 use Rattle.std.specs.Str.{is_utf8}
+use Rattle.std.proofs.lemmas.Option.{cond_some, same_Some}
 use Rattle.rv_value.specs.declared.value.Value.{Value}
 use Rattle.rv_value.specs.declared.value.Value.TheVariants.{Null, Int, Str}
 use Rattle.rv_lang.specs.Tokens.{quotes_twice}
@@ -16,7 +17,7 @@ use Rattle.rv_model.proofs.Values.{numeric, signed_pass, signed_nonempty, passes
 use Rattle.rv_text.specs.Lines.{extended, Cut}
 use Rattle.rv_text.specs.Reading.{CanHoldValue}
 use Rattle.rv_text.specs.Values.{all_values, before, integer_at, integer_of, more_values, negative, number_at, piece_grown, pieces, pieces_of, positive, spaced_value, text_of, unquoted, value_at, value_before, value_cut, values_at}
-use Rattle.rv_text.proofs.Leaves.{both, joined, number_again, number_takes, same_bytes, some_is, tested}
+use Rattle.rv_text.proofs.Leaves.{number_again, number_takes, same_bytes}
 use Rattle.rv_text.proofs.Cutting.{comma_joined, pieces_cut, pieces_whole, unpieced}
 
 -- Integers.
@@ -30,7 +31,7 @@ pub record Head (bytes : List ℕ) : Type 0 where
 
 head_of : (bytes : List ℕ) → 0 < length bytes → list_all numeric bytes ≡ true → Head bytes
 head_of [] some h = absurd (omega arith)
-head_of (c ∷ cs) some h = record { first = c; more = cs; is = refl; written = (both (numeric c) (list_all numeric cs) h).0 }
+head_of (c ∷ cs) some h = record { first = c; more = cs; is = refl; written = (and_parts (numeric c) (list_all numeric cs) h).0 }
 
 pub signed_head : (z : ℤ) → mag z < 2 ^ 63 → Head (signed_decimal z)
 signed_head z small = head_of (signed_decimal z) (signed_nonempty z small) (signed_pass z small)
@@ -66,7 +67,7 @@ pub record Integer (bytes : List ℕ) (z : ℤ) : Type 0 where
 positive_takes : (bytes : List ℕ) (z : ℤ) (o : Option ℕ) → number_at bytes ≡ o → positive o ≡ Some z → Integer bytes z
 positive_takes bytes z None at e = cc
 positive_takes bytes z (Some n) at e =
-    let found = tested (nat_lt n 9223372036854775808) (pos n) z e in
+    let found = cond_some (nat_lt n 9223372036854775808) (pos n) z e in
     let number = number_takes bytes n at in
     let small : n < 2 ^ 63 = (let less = found.0 in grind (arith, nat_tests)) in
     rw (sym found.1) (record { is = number.0; small = small })
@@ -75,7 +76,7 @@ negative_takes : (bytes : List ℕ) (z : ℤ) (o : Option ℕ) → number_at byt
 negative_takes bytes z None at e = cc
 negative_takes bytes z (Some zero) at e = cc
 negative_takes bytes z (Some (suc n)) at e =
-    let found = tested (nat_lt n 9223372036854775808) (negsuc n) z e in
+    let found = cond_some (nat_lt n 9223372036854775808) (negsuc n) z e in
     let number = number_takes bytes (suc n) at in
     let small : n < 2 ^ 63 = (let less = found.0 in grind (arith, nat_tests)) in
     rw (sym found.1) (record { is = ap (λ ds. 45 ∷ ds) number.0; small = small })
@@ -93,12 +94,12 @@ integer_takes (c ∷ cs) z e = elim (cases_Bool (eqb c 45)) [
 
 before_takes : (c : ℕ) (o : Option (List ℕ)) (t : List ℕ) → before c o ≡ Some t → (u : List ℕ) × (o ≡ Some u) × (t ≡ c ∷ u)
 before_takes c None t e = cc
-before_takes c (Some u) t e = (u, refl, sym (some_is (c ∷ u) t e))
+before_takes c (Some u) t e = (u, refl, sym (same_Some (c ∷ u) t e))
 
 pub unquoted_again : (t : List ℕ) → list_all (nat_le 32) t ≡ true → unquoted false (quotes_twice t ++ 39 ∷ []) ≡ Some t
 unquoted_again [] h = refl
 unquoted_again (c ∷ cs) h =
-    let parts = both (nat_le 32 c) (list_all (nat_le 32) cs) h in
+    let parts = and_parts (nat_le 32 c) (list_all (nat_le 32) cs) h in
     elim (cases_Bool (eqb c 39)) [
       | inl t ↦ let e : c ≡ 39 = grind (arith, nat_tests) in rw (t, unquoted_again cs parts.1) (λ i. Some (sym e i ∷ cs))
       | inr f ↦ rw (f, f, parts.0, unquoted_again cs parts.1) refl
@@ -113,7 +114,7 @@ pub record Unquoted (quoted : Bool) (bytes t : List ℕ) : Type 0 where
   pub plain : list_all (nat_le 32) t ≡ true
 
 pub unquoted_takes : (quoted : Bool) (bytes t : List ℕ) → unquoted quoted bytes ≡ Some t → Unquoted quoted bytes t
-unquoted_takes true [] t e = rw (sym (some_is [] t e)) (record { is = refl; plain = refl })
+unquoted_takes true [] t e = rw (sym (same_Some [] t e)) (record { is = refl; plain = refl })
 unquoted_takes false [] t e = cc
 unquoted_takes true (c ∷ cs) t e = elim (cases_Bool (eqb c 39)) [
   | inl q ↦
@@ -132,7 +133,7 @@ unquoted_takes false (c ∷ cs) t e = elim (cases_Bool (eqb c 39)) [
     | inl p ↦
         let parts = before_takes c (unquoted false cs) t (rw (f, p) at e) in
         let ih = unquoted_takes false cs parts.0 parts.1 in
-        rw parts.2 (record { is = rw f (λ i. c ∷ ih.is i); plain = joined (nat_le 32 c) (list_all (nat_le 32) parts.0) p ih.plain })
+        rw parts.2 (record { is = rw f (λ i. c ∷ ih.is i); plain = and_from (nat_le 32 c) (list_all (nat_le 32) parts.0) p ih.plain })
     | inr p ↦ let no : None ≡ Some t = rw (f, p) at e in cc
   ]
 ]
@@ -147,7 +148,7 @@ pub record IsValue (v : Value) (bytes : List ℕ) : Type 0 where
 text_takes : (bytes : List ℕ) (v : Value) (o : Option (List ℕ)) → unquoted false bytes ≡ o → text_of o ≡ Some v → IsValue v (39 ∷ bytes)
 text_takes bytes v None at e = cc
 text_takes bytes v (Some t) at e =
-    let found = tested (is_utf8 t) (Str t) v e in
+    let found = cond_some (is_utf8 t) (Str t) v e in
     let read = unquoted_takes false bytes t at in
     rw (sym found.1) (record { is = λ i. 39 ∷ read.is i; plain = read.plain; held = IsUtf8-from_is_utf8 t found.0 })
 
@@ -155,7 +156,7 @@ integer_value : (bytes : List ℕ) (v : Value) (o : Option ℤ) → integer_at b
 integer_value bytes v None at e = cc
 integer_value bytes v (Some z) at e =
     let read = integer_takes bytes z at in
-    rw (sym (some_is (Int z) v e)) (record { is = read.is; plain = read.small; held = tt })
+    rw (sym (same_Some (Int z) v e)) (record { is = read.is; plain = read.small; held = tt })
 
 pub value_takes : (bytes : List ℕ) (v : Value) → value_at bytes ≡ Some v → IsValue v bytes
 value_takes [] v e = cc
@@ -167,7 +168,7 @@ value_takes (c ∷ cs) v e = elim (cases_Bool (eqb c 39)) [
     | inl n ↦
         let at : Some Null ≡ Some v = rw (f, n) at e in
         let word = same_bytes (c ∷ cs) (codes "NULL") n in
-        rw (sym (some_is Null v at)) (record { is = sym word; plain = tt; held = tt })
+        rw (sym (same_Some Null v at)) (record { is = sym word; plain = tt; held = tt })
     | inr n ↦ integer_value (c ∷ cs) v (integer_at (c ∷ cs)) refl (rw (f, n) at e)
   ]
 ]
@@ -193,8 +194,8 @@ unmarked c = not (eqb c 44) && not (eqb c 39)
 bare_cut : (bytes rest : List ℕ) → list_all unmarked bytes ≡ true → value_cut false (bytes ++ rest) ≡ extended bytes (value_cut false rest)
 bare_cut [] rest h = refl
 bare_cut (c ∷ cs) rest h =
-    let parts = both (unmarked c) (list_all unmarked cs) h in
-    let marks = both (not (eqb c 44)) (not (eqb c 39)) parts.0 in
+    let parts = and_parts (unmarked c) (list_all unmarked cs) h in
+    let marks = and_parts (not (eqb c 44)) (not (eqb c 39)) parts.0 in
     let comma : eqb c 44 ≡ false = (let m = marks.0 in grind (arith, nat_tests)) in
     let quote : eqb c 39 ≡ false = (let m = marks.1 in grind (arith, nat_tests)) in
     rw (comma, quote) (ap (λ x. extended (c ∷ []) x) (bare_cut cs rest parts.1))
@@ -274,7 +275,7 @@ record Parts (first : Option Value) (more : Option (List Value)) (vs : List Valu
 value_parts : (first : Option Value) (more : Option (List Value)) (vs : List Value) → value_before first more ≡ Some vs → Parts first more vs
 value_parts None more vs e = cc
 value_parts (Some v) None vs e = cc
-value_parts (Some v) (Some us) vs e = record { value = v; values = us; first_is = refl; more_is = refl; is = some_is (v ∷ us) vs e }
+value_parts (Some v) (Some us) vs e = record { value = v; values = us; first_is = refl; more_is = refl; is = same_Some (v ∷ us) vs e }
 
 spaced_takes : (piece : List ℕ) (v : Value) → spaced_value piece ≡ Some v → (rest : List ℕ) × (piece ≡ 32 ∷ rest) × IsValue v rest
 spaced_takes [] v e = cc
@@ -284,7 +285,7 @@ spaced_takes (c ∷ cs) v e = elim (cases_Bool (eqb c 32)) [
 ]
 
 more_takes : (ps : List (List ℕ)) (vs : List Value) → more_values ps ≡ Some vs → AreMore vs (comma_joined ps)
-more_takes [] vs e = rw (sym (some_is [] vs e)) (record { is = refl; plain = tt; held = tt })
+more_takes [] vs e = rw (sym (same_Some [] vs e)) (record { is = refl; plain = tt; held = tt })
 more_takes (p ∷ ps) vs e =
     let parts = value_parts (spaced_value p) (more_values ps) vs e in
     let first = spaced_takes p parts.value parts.first_is in
@@ -305,5 +306,5 @@ all_takes (p ∷ ps) vs e =
     rw (sym parts.is) (record { is = λ i. value.is i ++ more.is i; plain = (value.plain, more.plain); held = (value.held, more.held) })
 
 pub values_takes : (bytes : List ℕ) (vs : List Value) → values_at bytes ≡ Some vs → AreValues vs bytes
-values_takes [] vs e = rw (sym (some_is [] vs e)) (record { is = refl; plain = tt; held = tt })
+values_takes [] vs e = rw (sym (same_Some [] vs e)) (record { is = refl; plain = tt; held = tt })
 values_takes (c ∷ cs) vs e = rw (pieces_whole false (c ∷ cs)) at (all_takes (pieces false (c ∷ cs)) vs e)

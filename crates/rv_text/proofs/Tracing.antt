@@ -1,9 +1,10 @@
 -- A trace is read as it is written, both ways.
 use Rattle.std.proofs.Common.{◌≡◌, ◌⊎◌, ℕ, ◌<◌, ◌^◌, List, [], ◌∷◌, ◌++◌, Option, Some, None, Bool, true, false, not, ◌&&◌, cond, inl, inr, ⊎_elim, refl, ap, sym, ◌∙◌, arith, eqb, nat_le, bytes_eq, codes, append_assoc, flat_map, find}
-use Rattle.std.proofs.lemmas.Bool.{cases_Bool}
+use Rattle.std.proofs.lemmas.Bool.{cases_Bool, and_from, and_parts}
 use Rattle.std.proofs.lemmas.Bool.Decides.{nat_tests}
 use Rattle.std.specs.Fmt.{decimal}
 use Rattle.std.specs.List.{list_all, AllByRecursion}
+use Rattle.std.proofs.lemmas.Option.{cond_some, same_Some}
 use Rattle.rv_judge.specs.declared.events.Strategy.{Strategy}
 use Rattle.rv_judge.specs.declared.events.Strategy.TheVariants as strategies
 use Rattle.rv_judge.specs.declared.events.Control.{Control}
@@ -16,7 +17,7 @@ use Rattle.rv_model.proofs.Values.{numeric, decimal_pass, passes_more}
 use Rattle.rv_text.specs.declared.traces.Tail.{Tail}
 use Rattle.rv_text.specs.Values.{number_at}
 use Rattle.rv_text.specs.Traces.{controls_all, control_at, control_step, counted, counts_at, events_before, event_step, is_name, list_step, shown_of, stepped, step_at, strategies_all, strategy_at, told, trace_at, trace_told, words, Awaited, Awaits, Counts, Dropped, Event, Gives, Keys, Listed, Scanned, Step}
-use Rattle.rv_text.proofs.Leaves.{both, is_a_name, joined, name_is, number_again, number_takes, same_bytes, some_is, tested}
+use Rattle.rv_text.proofs.Leaves.{is_a_name, name_is, number_again, number_takes, same_bytes}
 use Rattle.rv_text.proofs.Cutting.{lacks, unworded, words_again, words_whole, AreWords}
 
 -- Words of a trace have no space and no line feed.
@@ -41,7 +42,7 @@ decimal_wordy n small = passes_more numeric wordy numeric_wordy (decimal n) (dec
 
 pub name_wordy : (name : List ℕ) → IsName name → list_all wordy name ≡ true
 name_wordy [] h = absurd h
-name_wordy (c ∷ cs) h = joined (wordy c) (list_all wordy cs) (capital_wordy c h.0) (passes_more is_name_byte wordy byte_wordy cs h.1)
+name_wordy (c ∷ cs) h = and_from (wordy c) (list_all wordy cs) (capital_wordy c h.0) (passes_more is_name_byte wordy byte_wordy cs h.1)
 
 pub unspaced : (word : List ℕ) → list_all wordy word ≡ true → lacks 32 word ≡ true
 unspaced word h = passes_more wordy (λ c. not (eqb c 32)) wordy_unspaced word h
@@ -149,7 +150,7 @@ trace_again shown p =
 pub find_passes : {X : Type 0} (p : X → Bool) (xs : List X) (x : X) → find p xs ≡ Some x → p x ≡ true
 find_passes p [] x e = cc
 find_passes p (y ∷ ys) x e = elim (cases_Bool (p y)) [
-  | inl t ↦ let same : Some y ≡ Some x = rw t at e in rw (sym (some_is y x same)) t
+  | inl t ↦ let same : Some y ≡ Some x = rw t at e in rw (sym (same_Some y x same)) t
   | inr f ↦ find_passes p ys x (rw f at e)
 ]
 
@@ -183,7 +184,7 @@ record Steps (a : Awaited) (w : List ℕ) (s : Step) : Type 0 where
   is : StepIs a w s
 
 chosen : {X : Type 0} (b : Bool) (x : X) (other : Option X) (y : X) → cond b (Some x) other ≡ Some y → ((b ≡ true) × (x ≡ y)) ⊎ (other ≡ Some y)
-chosen true x other y e = inl (refl, some_is x y e)
+chosen true x other y e = inl (refl, same_Some x y e)
 chosen false x other y e = inr e
 
 word_step : (word w : List ℕ) (s t : Step) → ((v : List ℕ) → word ≡ v → Steps Event v s) → (bytes_eq w word ≡ true) × (s ≡ t) → Steps Event w t
@@ -193,7 +194,7 @@ control_steps : (w : List ℕ) (s : Step) (o : Option Control) → control_at w 
 control_steps w s None at e = cc
 control_steps w s (Some c) at e =
     let word = control_takes w c at in
-    rw (sym (some_is (Gives (events.At c)) s e)) (record { is = (tt, λ ws i. word i ∷ ws) })
+    rw (sym (same_Some (Gives (events.At c)) s e)) (record { is = (tt, λ ws i. word i ∷ ws) })
 
 event_steps : (w : List ℕ) (s : Step) → event_step w ≡ Some s → Steps Event w s
 event_steps w s e =
@@ -215,19 +216,19 @@ list_steps : (name w : List ℕ) (s : Step) (o : Option ℕ) → IsName name →
 list_steps name w s None plain at e = cc
 list_steps name w s (Some keys) plain at e =
     let number = number_takes w keys at in
-    rw (sym (some_is (Gives (events.List name keys)) s e)) (record { is = ((plain, number.1), λ ws i. codes "list" ∷ name ∷ number.0 i ∷ ws) })
+    rw (sym (same_Some (Gives (events.List name keys)) s e)) (record { is = ((plain, number.1), λ ws i. codes "list" ∷ name ∷ number.0 i ∷ ws) })
 
 step_takes : (a : Awaited) (w : List ℕ) (s : Step) → Ready a → step_at a w ≡ Some s → Steps a w s
 step_takes Event w s ready e = event_steps w s e
 step_takes Scanned w s ready e =
-    let found = tested (is_name w) (Gives (events.Scan w)) s e in
+    let found = cond_some (is_name w) (Gives (events.Scan w)) s e in
     rw (sym found.1) (record { is = (name_is w found.0, λ ws. refl) })
 step_takes Listed w s ready e =
-    let found = tested (is_name w) (Awaits (Keys w)) s e in
+    let found = cond_some (is_name w) (Awaits (Keys w)) s e in
     rw (sym found.1) (record { is = (record { is = name_is w found.0 }, λ ws. refl) })
 step_takes (Keys name) w s ready e = list_steps name w s (number_at w) ready.is refl e
 step_takes Dropped w s ready e =
-    let found = tested (is_name w) (Gives (events.Drop w)) s e in
+    let found = cond_some (is_name w) (Gives (events.Drop w)) s e in
     rw (sym found.1) (record { is = (name_is w found.0, λ ws. refl) })
 
 record TellsTail (ws : List (List ℕ)) (t : Tail) : Type 0 where
@@ -242,7 +243,7 @@ counted_takes p leaves fetches t (Some k) (Some l) (Some f) pa pb pc e =
     let pages = number_takes p k pa in
     let leaf = number_takes leaves l pb in
     let fetch = number_takes fetches f pc in
-    rw (sym (some_is (record { events = []; pages = k; leaves = l; fetches = f }) t e)) (record {
+    rw (sym (same_Some (record { events = []; pages = k; leaves = l; fetches = f }) t e)) (record {
       is = λ i. codes "pages" ∷ pages.0 i ∷ codes "leaves" ∷ leaf.0 i ∷ codes "fetches" ∷ fetch.0 i ∷ [];
       plain = record { events = tt; pages = pages.1; leaves = leaf.1; fetches = fetch.1 };
     })
@@ -259,7 +260,7 @@ counts_takes (p ∷ l ∷ leaves ∷ f ∷ fetches ∷ []) t e = by (bytes_eq l 
     by : (b : Bool) → (bytes_eq l (codes "leaves") && bytes_eq f (codes "fetches")) ≡ b → cond b (counted (number_at p) (number_at leaves) (number_at fetches)) None ≡ Some t → TellsTail (codes "pages" ∷ p ∷ l ∷ leaves ∷ f ∷ fetches ∷ []) t
     by false test e = cc
     by true test e =
-        let parts = both (bytes_eq l (codes "leaves")) (bytes_eq f (codes "fetches")) test in
+        let parts = and_parts (bytes_eq l (codes "leaves")) (bytes_eq f (codes "fetches")) test in
         let first = same_bytes l (codes "leaves") parts.0 in
         let second = same_bytes f (codes "fetches") parts.1 in
         let found = counted_takes p leaves fetches t (number_at p) (number_at leaves) (number_at fetches) refl refl refl e in
@@ -272,7 +273,7 @@ record Behind (e : ShownEvent) (o : Option Tail) (t : Tail) : Type 0 where
 
 behind_event : (e : ShownEvent) (o : Option Tail) (t : Tail) → events_before (e ∷ []) o ≡ Some t → Behind e o t
 behind_event e None t h = cc
-behind_event e (Some rest) t h = record { rest = rest; told_is = refl; is = some_is (record { events = e ∷ rest.events; pages = rest.pages; leaves = rest.leaves; fetches = rest.fetches }) t h }
+behind_event e (Some rest) t h = record { rest = rest; told_is = refl; is = same_Some (record { events = e ∷ rest.events; pages = rest.pages; leaves = rest.leaves; fetches = rest.fetches }) t h }
 
 told_takes : (a : Awaited) (ws : List (List ℕ)) (t : Tail) → Ready a → told a ws ≡ Some t → TellsTail (begun a ++ ws) t
 told_takes a [] t ready e = cc
@@ -311,7 +312,7 @@ trace_words_take (w ∷ ws) shown e = by (strategy_at w) (told Event ws) refl re
     by (Some s) (Some t) se te e =
         let word = strategy_takes w s se in
         let tail = told_takes Event ws t (record { is = tt }) te in
-        rw (sym (some_is (record { strategy = s; events = t.events; pages = t.pages; leaves = t.leaves; fetches = t.fetches }) shown e)) (record {
+        rw (sym (same_Some (record { strategy = s; events = t.events; pages = t.pages; leaves = t.leaves; fetches = t.fetches }) shown e)) (record {
           is = λ i. words_text (word i ∷ tail.is i);
           plain = record { events = tail.plain.events; pages = tail.plain.pages; leaves = tail.plain.leaves; fetches = tail.plain.fetches };
         })

@@ -5,6 +5,8 @@ use Rattle.std.proofs.lemmas.Fmt.{decimal_digit}
 use Rattle.std.proofs.lemmas.Str.{IsUtf8-from_is_utf8, is_utf8-from_IsUtf8}
 use Rattle.std.specs.List.{list_all, AllByRecursion}
 use Rattle.std.specs.Str.{is_utf8}
+use Rattle.std.proofs.lemmas.Bool.{and_parts}
+use Rattle.std.proofs.lemmas.Option.{same_Some}
 use Rattle.rv_lang.specs.declared.reply.Reply.{Reply}
 use Rattle.rv_lang.specs.declared.reply.Reply.TheVariants as replies
 use Rattle.rv_model.specs.declared.entry.Entry.{Entry}
@@ -13,7 +15,6 @@ use Rattle.rv_text.specs.Lines.{split, Split}
 use Rattle.rv_text.specs.Reading.{front, AreReadable, CanHoldReply, GoesOn, InFirstPhase, IsReadable, StopsAt}
 use Rattle.rv_text.specs.Replies.{reply_at}
 use Rattle.rv_text.specs.Texts.{answer_at, calls_of, call_at, entry_of, lone, paired, read_from, Call}
-use Rattle.rv_text.proofs.Leaves.{both, some_is}
 use Rattle.rv_text.proofs.Cutting.{ends_is, front_is, lines_of, split_line, split_unsplit, split_whole, unsplit, AreLines}
 use Rattle.rv_text.proofs.Replying.{reply_again, reply_line, reply_takes}
 
@@ -40,19 +41,19 @@ call_takes (s ∷ b ∷ ws) call e = by ((nat_le 49 s && nat_le s 56) && (eqb b 
     by : (t : Bool) → ((nat_le 49 s && nat_le s 56) && (eqb b 32 && is_utf8 ws)) ≡ t → cond t (Some (record { session = s - 48; text = ws })) None ≡ Some call → CallTakes (s ∷ b ∷ ws) call
     by false test e = cc
     by true test e =
-        let parts = both (nat_le 49 s && nat_le s 56) (eqb b 32 && is_utf8 ws) test in
-        let digits = both (nat_le 49 s) (nat_le s 56) parts.0 in
-        let others = both (eqb b 32) (is_utf8 ws) parts.1 in
+        let parts = and_parts (nat_le 49 s && nat_le s 56) (eqb b 32 && is_utf8 ws) test in
+        let digits = and_parts (nat_le 49 s) (nat_le s 56) parts.0 in
+        let others = and_parts (eqb b 32) (is_utf8 ws) parts.1 in
         let low : 49 ≤ s = (let h = digits.0 in grind (arith, nat_tests)) in
         let high : s ≤ 56 = (let h = digits.1 in grind (arith, nat_tests)) in
         let space : b ≡ 32 = (let h = others.0 in grind (arith, nat_tests)) in
         let back : 48 + (s - 48) ≡ s = omega (arith, low) in
-        let same : record { session = s - 48; text = ws } ≡ call = some_is (record { session = s - 48; text = ws }) call e in
+        let same : record { session = s - 48; text = ws } ≡ call = same_Some (record { session = s - 48; text = ws }) call e in
         subst (CallTakes (s ∷ b ∷ ws)) same (record {
           from = omega (arith, low);
           to = omega (arith, high);
           held = IsUtf8-from_is_utf8 ws others.1;
-          asked = λ h. (both (not (eqb b 10)) (list_all (λ c. not (eqb c 10)) ws) (both (not (eqb s 10)) (not (eqb b 10) && list_all (λ c. not (eqb c 10)) ws) h).1).1;
+          asked = λ h. (and_parts (not (eqb b 10)) (list_all (λ c. not (eqb c 10)) ws) (and_parts (not (eqb s 10)) (not (eqb b 10) && list_all (λ c. not (eqb c 10)) ws) h).1).1;
           is = λ i. back i ∷ sym space i ∷ ws;
         })
 
@@ -76,7 +77,7 @@ answer_takes (a ∷ b ∷ ws) r e = by (eqb a 61 && eqb b 32) refl e
     by : (t : Bool) → (eqb a 61 && eqb b 32) ≡ t → cond t (reply_at ws) None ≡ Some r → AnswerTakes (a ∷ b ∷ ws) r
     by false test e = cc
     by true test e =
-        let parts = both (eqb a 61) (eqb b 32) test in
+        let parts = and_parts (eqb a 61) (eqb b 32) test in
         let sign : a ≡ 61 = (let h = parts.0 in grind (arith, nat_tests)) in
         let space : b ≡ 32 = (let h = parts.1 in grind (arith, nat_tests)) in
         let found = reply_takes ws r e in
