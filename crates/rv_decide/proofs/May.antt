@@ -1,7 +1,7 @@
 -- Whether SHOW may tell a trace.
-use Rattle.std.proofs.Common.{◌≡◌, ◌↔◌, ℕ, List, [], ◌∷◌, Bool, true, false, refl, sym, ap, ◌∙◌, subst, map, Option, Some, None}
+use Rattle.std.proofs.Common.{◌≡◌, ◌↔◌, ℕ, List, Bool, false, refl, sym, ap, ◌∙◌, subst, Some, None}
 use Rattle.std.specs.Bool.{IsTrue}
-use Rattle.std.specs.List.{list_all}
+use Rattle.std.proofs.lemmas.Option.{same_Some}
 use Rattle.rv_judge.specs.declared.events.Strategy.{Strategy}
 use Rattle.rv_judge.specs.declared.events.Event.{Event}
 use Rattle.rv_judge.specs.declared.events.Trace.{Trace}
@@ -9,15 +9,14 @@ use Rattle.rv_judge.specs.Runs.{Allowed}
 use Rattle.rv_judge.proofs.Allowing.{retold}
 use Rattle.rv_lang.specs.declared.reply.Shown.{Shown}
 use Rattle.rv_catalog.specs.declared.def.IndexDef.{IndexDef}
-use Rattle.rv_model.specs.Showing.{ShowsTrace, numbers_over, shown_event, shown_trace}
+use Rattle.rv_model.specs.Showing.{ShowsTrace, numbers_over}
 use Rattle.rv_course.specs.Told.{trace_of}
-use Rattle.rv_course.specs.Reading.{is_read}
 use Rattle.rv_course.proofs.Controls.{no_way}
 use Rattle.rv_course.proofs.Deciding.{decides}
 use Rattle.rv_decide.specs.Naming.{AreNamedApart}
 use Rattle.rv_decide.specs.Reading.{events_of}
 use Rattle.rv_decide.proofs.Known.{events_known}
-use Rattle.rv_decide.proofs.Names.{names_known, read_all, shown_all}
+use Rattle.rv_decide.proofs.Names.{read_all, shown_all}
 
 -- what a trace has read does not matter
 told : (t : Trace) (indexes : List ℕ) → Allowed t indexes → Allowed (trace_of t.strategy t.events.items) indexes
@@ -33,9 +32,6 @@ found indexes table shown apart t =
     let known = events_known (numbers_over table 0 indexes) t.trace.strategy t.trace.events.items read in
     ap (λ (s : Shown). events_of indexes table s.events) t.names ∙ read_all indexes table t.trace.events.items apart known
 
-some_is : {A : Type 0} {x y : A} → Some x ≡ Some y → x ≡ y
-some_is e = cc
-
 pub may : (b : Bool) (indexes : List IndexDef) (table : ℕ) (shown : Shown) (numbers : List ℕ) (es : List Event) → AreNamedApart indexes → numbers ≡ numbers_over table 0 indexes → events_of indexes table shown.events ≡ Some es → IsTrue b ↔ Allowed (trace_of shown.strategy es) numbers → IsTrue b ↔ ShowsTrace indexes table shown
 may b indexes table shown numbers es apart are read tells = ((λ (h : IsTrue b). shows (tells.0 h)), (λ (t : ShowsTrace indexes table shown). tells.1 (allows t)))
   where
@@ -49,7 +45,7 @@ may b indexes table shown numbers es apart are read tells = ((λ (h : IsTrue b).
     allows : ShowsTrace indexes table shown → Allowed (trace_of shown.strategy es) numbers
     allows t =
         let strategy : t.trace.strategy ≡ shown.strategy = sym (ap (λ (s : Shown). s.strategy) t.names) in
-        let items : t.trace.events.items ≡ es = some_is (sym (found indexes table shown apart t) ∙ read) in
+        let items : t.trace.events.items ≡ es = same_Some _ _ (sym (found indexes table shown apart t) ∙ read) in
         let a = told t.trace (numbers_over table 0 indexes) t.allowed in
         subst (λ xs. Allowed (trace_of shown.strategy es) xs) (sym are)
         (subst (λ (s : Strategy). Allowed (trace_of s es) (numbers_over table 0 indexes)) strategy

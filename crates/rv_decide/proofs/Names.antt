@@ -1,13 +1,13 @@
 -- The number of an index, found again by its name.
-use Rattle.std.proofs.Common.{◌≡◌, ℕ, zero, suc, ◌+◌, ◌<◌, List, [], ◌∷◌, refl, sym, ap, ◌∙◌, subst, arith, Bool, true, false, ◌==◌, ◌&&◌, ◌||◌, Option, Some, None, length, get_or, nat_lt, nat_eq, map, bytes_eq}
+use Rattle.std.proofs.Common.{◌≡◌, ℕ, zero, suc, ◌+◌, ◌<◌, List, [], ◌∷◌, refl, sym, ap, ◌∙◌, subst, arith, Bool, true, false, ◌==◌, ◌||◌, Option, Some, None, length, get_or, nat_eq, map, bytes_eq}
 use Rattle.std.specs.Prelude.{if◌then◌else◌}
 use Rattle.std.specs.List.{list_all, list_any, position_or_len}
-use Rattle.std.proofs.lemmas.Bool.Decides.{nat_tests}
 use Rattle.std.proofs.lemmas.List.Quantifiers.{position-Some}
 use Rattle.std.proofs.lemmas.List.Sums.{position_or_len_is}
 use Rattle.std.proofs.lemmas.Slice.Eq.{bytes_eq-Decides}
 use Rattle.std.specs.Cmp.{first_so, second_so}
-use Rattle.std.proofs.lemmas.Bool.{and_from, eqb-true}
+use Rattle.std.proofs.lemmas.Bool.{and_from, eqb-true, and_right, lt-ltb}
+use Rattle.std.proofs.lemmas.Option.{same_Some}
 use Rattle.rv_judge.specs.declared.events.Event.{Event}
 use Rattle.rv_judge.specs.declared.events.Event.TheVariants as events
 use Rattle.rv_judge.specs.Runs.{has_index}
@@ -27,36 +27,33 @@ named_of indexes table name i e =
     let found = position-Some (is_of table name) indexes i no_index e in
     (bytes_eq-Decides (index_at indexes i).name name).0 (second_so _ _ found.1)
 
-some_is : {A : Type 0} {x y : A} → Some x ≡ Some y → x ≡ y
-some_is e = cc
-
 shown_scan : (indexes : List IndexDef) (name : List ℕ) (found : Option ℕ) (e : Event) → ((i : ℕ) → found ≡ Some i → (index_at indexes i).name ≡ name) → scan_of found ≡ Some e → shown_event indexes e ≡ told.Scan name
 shown_scan indexes name None e is read = cc
-shown_scan indexes name (Some i) e is read = ap (shown_event indexes) (sym (some_is read)) ∙ ap told.Scan (is i refl)
+shown_scan indexes name (Some i) e is read = ap (shown_event indexes) (sym (same_Some _ _ read)) ∙ ap told.Scan (is i refl)
 
 shown_list : (indexes : List IndexDef) (name : List ℕ) (keys : ℕ) (found : Option ℕ) (e : Event) → ((i : ℕ) → found ≡ Some i → (index_at indexes i).name ≡ name) → list_of keys found ≡ Some e → shown_event indexes e ≡ told.List name keys
 shown_list indexes name keys None e is read = cc
-shown_list indexes name keys (Some i) e is read = ap (shown_event indexes) (sym (some_is read)) ∙ ap (λ n. told.List n keys) (is i refl)
+shown_list indexes name keys (Some i) e is read = ap (shown_event indexes) (sym (same_Some _ _ read)) ∙ ap (λ n. told.List n keys) (is i refl)
 
 shown_drop : (indexes : List IndexDef) (name : List ℕ) (found : Option ℕ) (e : Event) → ((i : ℕ) → found ≡ Some i → (index_at indexes i).name ≡ name) → drop_of found ≡ Some e → shown_event indexes e ≡ told.Drop name
 shown_drop indexes name None e is read = cc
-shown_drop indexes name (Some i) e is read = ap (shown_event indexes) (sym (some_is read)) ∙ ap told.Drop (is i refl)
+shown_drop indexes name (Some i) e is read = ap (shown_event indexes) (sym (same_Some _ _ read)) ∙ ap told.Drop (is i refl)
 
 shown_one : (indexes : List IndexDef) (table : ℕ) (shown : ShownEvent) (e : Event) → event_of indexes table shown ≡ Some e → shown_event indexes e ≡ shown
-shown_one indexes table (told.At control) e read = ap (shown_event indexes) (sym (some_is read))
+shown_one indexes table (told.At control) e read = ap (shown_event indexes) (sym (same_Some _ _ read))
 shown_one indexes table (told.Scan name) e read = shown_scan indexes name (number_of indexes table name) e (named_of indexes table name) read
 shown_one indexes table (told.List name keys) e read = shown_list indexes name keys (number_of indexes table name) e (named_of indexes table name) read
 shown_one indexes table (told.Drop name) e read = shown_drop indexes name (number_of indexes table name) e (named_of indexes table name) read
-shown_one indexes table told.Full e read = ap (shown_event indexes) (sym (some_is read))
-shown_one indexes table told.Stop e read = ap (shown_event indexes) (sym (some_is read))
+shown_one indexes table told.Full e read = ap (shown_event indexes) (sym (same_Some _ _ read))
+shown_one indexes table told.Stop e read = ap (shown_event indexes) (sym (same_Some _ _ read))
 
 pub shown_all : (indexes : List IndexDef) (table : ℕ) (shown : List ShownEvent) (es : List Event) → events_of indexes table shown ≡ Some es → map (shown_event indexes) es ≡ shown
-shown_all indexes table [] es read = ap (map (shown_event indexes)) (sym (some_is read))
+shown_all indexes table [] es read = ap (map (shown_event indexes)) (sym (same_Some _ _ read))
 shown_all indexes table (s ∷ ss) es read = by (event_of indexes table s) (events_of indexes table ss) (shown_all indexes table ss) refl refl read
   where
     by : (first : Option Event) (rest : Option (List Event)) → ((fs : List Event) → events_of indexes table ss ≡ Some fs → map (shown_event indexes) fs ≡ ss) → event_of indexes table s ≡ first → events_of indexes table ss ≡ rest → with_first first rest ≡ Some es → map (shown_event indexes) es ≡ s ∷ ss
     by (Some e) (Some fs) tails f r read =
-        ap (map (shown_event indexes)) (sym (some_is read)) ∙ ap (λ x. x ∷ map (shown_event indexes) fs) (shown_one indexes table s e f) ∙ ap (λ xs. s ∷ xs) (tails fs r)
+        ap (map (shown_event indexes)) (sym (same_Some _ _ read)) ∙ ap (λ x. x ∷ map (shown_event indexes) fs) (shown_one indexes table s e f) ∙ ap (λ xs. s ∷ xs) (tails fs r)
     by (Some e) None tails f r read = cc
     by None rest tails f r read = cc
 
@@ -103,20 +100,13 @@ apart_at (d ∷ ds) (suc k) (suc i) apart before within =
     let less : k < i = omega (arith, before) in
     apart_at ds k i apart.1 less more
 
-is_below : (n m : ℕ) → n < m → nat_lt n m ≡ true
-is_below n m h = grind (arith, nat_tests)
-
-and_false : (a b : Bool) → b ≡ false → (a && b) ≡ false
-and_false true b h = h
-and_false false b h = refl
-
 found_at : (ds : List IndexDef) (table place : ℕ) → AreNamedApart ds → place < length ds → ((get_or ds place no_index).table == table) ≡ true → number_of ds table (get_or ds place no_index).name ≡ Some place
 found_at ds table place apart within over =
     let p = is_of table (get_or ds place no_index).name in
-    let none : (k : ℕ) → k < place → p (get_or ds k no_index) ≡ false = λ k before. and_false _ _ (apart_at ds k place apart before within) in
+    let none : (k : ℕ) → k < place → p (get_or ds k no_index) ≡ false = λ k before. and_right _ _ (apart_at ds k place apart before within) in
     let here : p (get_or ds place no_index) ≡ true = and_from _ _ over ((bytes_eq-Decides (get_or ds place no_index).name (get_or ds place no_index).name).1 refl) in
     let e : position_or_len p ds ≡ place = position_or_len_is p ds place no_index (omega (arith, within)) none (λ there. here) in
-    rw (e, is_below place (length ds) within) refl
+    rw (e, lt-ltb place (length ds) within) refl
 
 number_found : (indexes : List IndexDef) (table i : ℕ) → AreNamedApart indexes → has_index i (numbers_over table 0 indexes) ≡ true → number_of indexes table (index_at indexes i).name ≡ Some i
 number_found indexes table i apart h =
