@@ -1,7 +1,7 @@
 -- After any history the names of indexes are all different.
-use Rattle.std.proofs.Common.{◌≡◌, ℕ, ◌≤◌, arith, List, [], ◌∷◌, ◌++◌, refl, sym, Bool, true, false, ◌||◌, Option, Some, None, Result, Ok, Err, bytes_eq, nat_lt, length, remove}
+use Rattle.std.proofs.Common.{◌≡◌, ℕ, ◌≤◌, List, [], ◌∷◌, ◌++◌, refl, sym, Bool, true, false, ◌||◌, Option, Some, None, Result, Ok, Err, bytes_eq, nat_lt, length, remove}
 use Rattle.std.proofs.lemmas.Slice.Eq.{bytes_eq-Decides}
-use Rattle.std.proofs.lemmas.Bool.Decides.{nat_tests}
+use Rattle.std.proofs.lemmas.Bool.{ltb-false, or_from}
 use Rattle.rv_rows.specs.declared.changes.Change.{Change}
 use Rattle.rv_lang.specs.declared.statement.Statement.{Statement}
 use Rattle.rv_lang.specs.declared.reply.Refusal.{Refusal}
@@ -70,9 +70,6 @@ from_columns s = refuse_if (nat_lt 16 (columns_count s)) (Limit Columns 16) >>= 
 abbrev from_texts : Statement → Result (Unit {0}) Refusal
 from_texts s = refuse_if (has_wide_text s) (Limit TextBytes 255) >>= (λ u. from_columns s)
 
-at_most : (most n : ℕ) → nat_lt most n ≡ false → n ≤ most
-at_most most n h = grind (arith, nat_tests)
-
 record IsWithin (s : Statement) : Type 0 where
   pub columns : columns_count s ≤ 16
   pub key : key_count s ≤ 4
@@ -88,7 +85,7 @@ within s u h =
     let atoms = step (has_long_group (groups_in s)) (Limit Atoms 32) (from_groups s) u lists.1 in
     let groups = step (nat_lt 32 (length (groups_in s))) (Limit Groups 32) (from_joined s) u atoms.1 in
     let joined = step (nat_lt 4 (joined_count s)) (Limit Joined 4) (from_returned s) u groups.1 in
-    record { columns = at_most 16 (columns_count s) columns.0; key = at_most 4 (key_count s) key.0; joined = at_most 4 (joined_count s) joined.0 }
+    record { columns = ltb-false 16 (columns_count s) columns.0; key = ltb-false 4 (key_count s) key.0; joined = ltb-false 4 (joined_count s) joined.0 }
 
 after_limits : (schema : Schema) (s : Statement) (r : Resolved) (l : Result (Unit {0}) Refusal) → limits s ≡ l → (l >>= (λ u. form schema s)) ≡ Ok r → IsWithin s × (form schema s ≡ Ok r)
 after_limits schema s r (Ok u) e h = (within s u e, h)
@@ -121,13 +118,9 @@ right_false : (a b : Bool) → (a || b) ≡ false → b ≡ false
 right_false true b h = cc
 right_false false b h = h
 
-or_false : (a b : Bool) → a ≡ false → b ≡ false → (a || b) ≡ false
-or_false true b h k = h
-or_false false b h k = k
-
 behind : (name : List ℕ) (ds : List IndexDef) (def : IndexDef) → is_named name ds ≡ false → bytes_eq name def.name ≡ false → is_named name (ds ++ def ∷ []) ≡ false
-behind name [] def none other = or_false _ _ other refl
-behind name (d ∷ ds) def none other = or_false _ _ (left_false _ _ none) (behind name ds def (right_false (bytes_eq name d.name) _ none) other)
+behind name [] def none other = or_from _ _ other refl
+behind name (d ∷ ds) def none other = or_from _ _ (left_false _ _ none) (behind name ds def (right_false (bytes_eq name d.name) _ none) other)
 
 pushed : (ds : List IndexDef) (def : IndexDef) → AreNamedApart ds → is_named def.name ds ≡ false → AreNamedApart (ds ++ def ∷ [])
 pushed [] def apart fresh = (refl, tt)

@@ -4,13 +4,11 @@ use Rattle.std.specs.List.{position_or_len}
 use Rattle.std.proofs.lemmas.Bool.Decides.{nat_tests}
 use Rattle.std.proofs.lemmas.List.Quantifiers.{position-Some}
 use Rattle.std.proofs.lemmas.List.Sums.{position_or_len_is}
+use Rattle.std.proofs.lemmas.Bool.{lt-ltb}
 use Rattle.rv_value.specs.declared.value.Value.{Value}
 use Rattle.rv_model.specs.declared.state.Offer.{Offer}
 use Rattle.rv_model.specs.Offers.{place_of}
 use Rattle.rv_replay.specs.Judging.{fits}
-
-is_below : (n m : ℕ) → n < m → nat_lt n m ≡ true
-is_below n m h = grind (arith, nat_tests)
 
 not_below : (n : ℕ) → nat_lt n n ≡ false
 not_below n = grind (arith, nat_tests)
@@ -18,7 +16,7 @@ not_below n = grind (arith, nat_tests)
 position_at : (p : Offer → Bool) (xs : List Offer) (i : ℕ) (d : Offer) → i < length xs → ((k : ℕ) → k < i → p (get_or xs k d) ≡ false) → p (get_or xs i d) ≡ true → position p xs ≡ Some i
 position_at p xs i d within none here =
     let e : position_or_len p xs ≡ i = position_or_len_is p xs i d (omega (arith, within)) none (λ there. here) in
-    rw (e, is_below i (length xs) within) refl
+    rw (e, lt-ltb i (length xs) within) refl
 
 pub position_none : (p : Offer → Bool) (xs : List Offer) (d : Offer) → All (λ (o : Offer). p o ≡ false) xs → position p xs ≡ None
 position_none p xs d none =
