@@ -1,7 +1,8 @@
 -- Of an input at most one answer is said.
 use Rattle.std.proofs.Common.{◌≡◌, ◌⊎◌, ℕ, zero, suc, ◌-◌, ◌<◌, ◌≤◌, List, [], ◌∷◌, ◌++◌, Option, Some, None, Result, Ok, Err, inl, inr, refl, ap, sym, subst, ◌∙◌, length, take, arith, eqb, append_assoc}
-use Rattle.std.proofs.lemmas.Bool.{cases_Bool}
+use Rattle.std.proofs.lemmas.Bool.{cases_Bool, cases_lt}
 use Rattle.std.specs.List.{AllByRecursion}
+use Rattle.std.proofs.lemmas.List.{take-take}
 use Rattle.rv_script.specs.declared.scripts.Phase.{Phase}
 use Rattle.rv_script.specs.declared.scripts.Script.{Script}
 use Rattle.rv_script.specs.declared.scripts.ScriptFault.{ScriptFault}
@@ -18,15 +19,8 @@ use Rattle.rv_audit.specs.Marks.{parted, Parted}
 use Rattle.rv_audit.proofs.Again.{follows_all, front_legal, like_legal, whole_legal}
 use Rattle.rv_audit.proofs.Ending.{same_length, same_over, same_take}
 use Rattle.rv_audit.proofs.Making.{same_history}
-use Rattle.rv_audit.proofs.Phases.{order}
 
 -- ---- of entries
-
-take_less : (n m : ℕ) (es : List Entry) → n ≤ m → take n (take m es) ≡ take n es
-take_less zero m es le = refl
-take_less (suc n) zero es le = absurd (omega (arith, le))
-take_less (suc n) (suc m) [] le = refl
-take_less (suc n) (suc m) (e ∷ es) le = ap (λ xs. e ∷ xs) (take_less n m es (omega (arith, le)))
 
 -- what goes wrong is no front of what is legal
 wrong_legal : (script : Script) (us bs : List Entry) (n : ℕ) → AllSameButPhase bs us → GoesWrongAt script us n → IsLegalTo script bs → ⊥
@@ -35,10 +29,10 @@ wrong_legal script us bs n same a l = a.with_it (like_legal script (take n bs) (
 not_earlier : (script : Script) (us bs : List Entry) (n m : ℕ) → AllSameButPhase bs us → GoesWrongAt script us n → GoesWrongAt script bs m → n < m → ⊥
 not_earlier script us bs n m same a b less =
     a.with_it (like_legal script (take n bs) (take n us) (same_take n bs us same) (
-    subst (IsLegalTo script) (take_less n (m - 1) bs (omega (arith, less))) (front_legal script n (take (m - 1) bs) b.before)))
+    subst (IsLegalTo script) (take-take n (m - 1) bs (omega (arith, less))) (front_legal script n (take (m - 1) bs) b.before)))
 
 wrong_once : (script : Script) (us bs : List Entry) (n m : ℕ) → AllSameButPhase us bs → AllSameButPhase bs us → GoesWrongAt script us n → GoesWrongAt script bs m → n ≡ m
-wrong_once script us bs n m same back a b = by (order n m) (order m n)
+wrong_once script us bs n m same back a b = by (cases_lt n m) (cases_lt m n)
   where
     by : (n < m) ⊎ (m ≤ n) → (m < n) ⊎ (n ≤ m) → n ≡ m
     by (inl less) o = absurd (not_earlier script us bs n m back a b less)
@@ -49,7 +43,7 @@ not_all : (us bs : List (List ℕ)) → length us < length bs → us ≡ bs → 
 not_all us bs less same = (let n = ap (λ (xs : List (List ℕ)). length xs) same in omega (arith, less, n))
 
 phase_once : (phases : List Phase) (h : List Entry) (s p t q : ℕ) → IsFirstMissing phases h s p → IsFirstMissing phases h t q → p ≡ q
-phase_once phases h s p t q a b = by (order p q) (order q p)
+phase_once phases h s p t q a b = by (cases_lt p q) (cases_lt q p)
   where
     by : (p < q) ⊎ (q ≤ p) → (q < p) ⊎ (p ≤ q) → p ≡ q
     by (inl less) o = absurd (not_all (calls h s p) (asked_in phases s p) a.missing (b.earlier s p a.from a.to less))
@@ -57,7 +51,7 @@ phase_once phases h s p t q a b = by (order p q) (order q p)
     by (inr ge) (inr le) = omega (arith, ge, le)
 
 session_once : (phases : List Phase) (h : List Entry) (s t p : ℕ) → IsFirstMissing phases h s p → IsFirstMissing phases h t p → s ≡ t
-session_once phases h s t p a b = by (order s t) (order t s)
+session_once phases h s t p a b = by (cases_lt s t) (cases_lt t s)
   where
     by : (s < t) ⊎ (t ≤ s) → (t < s) ⊎ (s ≤ t) → s ≡ t
     by (inl less) o = absurd (not_all (calls h s p) (asked_in phases s p) a.missing (b.lower s a.from less))
@@ -147,7 +141,7 @@ not_sooner : (bytes : List ℕ) (n m : ℕ) → StopsAt n bytes → StopsAt m by
 not_sooner bytes n m a b less = (let last = b.last in a.with_it (omega (arith, less, last)) (goes_front n (m - 1) bytes (omega (arith, less)) b.before))
 
 stops_once : (bytes : List ℕ) (n m : ℕ) → StopsAt n bytes → StopsAt m bytes → n ≡ m
-stops_once bytes n m a b = by (order n m) (order m n)
+stops_once bytes n m a b = by (cases_lt n m) (cases_lt m n)
   where
     by : (n < m) ⊎ (m ≤ n) → (m < n) ⊎ (n ≤ m) → n ≡ m
     by (inl less) o = absurd (not_sooner bytes n m a b less)
@@ -226,7 +220,7 @@ of_script bytes transcript script (audited.Missing session phase) few is s = sub
 of_script bytes transcript script (audited.Legal n) few is s = subst (λ (x : Script). SaysOfTranscript x transcript (audited.Legal n)) (ok_once (script_of bytes) s.has.script script s.has.is is) s.said
 
 parts_once : TextTells → (bytes transcript : List ℕ) (a b : Audited) → SaysOfParts bytes transcript a → SaysOfParts bytes transcript b → a ≡ b
-parts_once tells bytes transcript a b x y = by (order 16777216 (length bytes)) (script_of bytes) refl
+parts_once tells bytes transcript a b x y = by (cases_lt 16777216 (length bytes)) (script_of bytes) refl
   where
     by : (16777216 < length bytes) ⊎ (length bytes ≤ 16777216) → (r : Result Script ScriptFault) → script_of bytes ≡ r → a ≡ b
     by (inl more) r is = over_alone bytes transcript a more x ∙ sym (over_alone bytes transcript b more y)

@@ -1,5 +1,6 @@
 -- From what the parts of an audit tell to its answer.
 use Rattle.std.proofs.Common.{◌≡◌, ℕ, ◌<◌, ◌≤◌, List, [], ◌∷◌, ◌++◌, Some, None, Result, Ok, Err, IfOk, refl, ap, sym, subst, length, arith, append-nil, length-append, decimal, codes}
+use Rattle.std.proofs.lemmas.Result.{IfOk-weaker}
 use Rattle.rv_value.specs.declared.duplicate.NoMemory.{NoMemory}
 use Rattle.rv_script.specs.declared.scripts.Phase.{Phase}
 use Rattle.rv_script.specs.declared.scripts.Script.{Script}
@@ -19,10 +20,6 @@ use Rattle.rv_audit.specs.Auditing.{Audits, GoesWrongAt, IsAnswer, Says, SaysOfE
 use Rattle.rv_audit.specs.Marks.{parted, Parted}
 use Rattle.rv_audit.specs.Places.{end_told, ArePhasesOf, AreSessions, BreaksAt, EndsSo, FaultTold, FrontsFollow}
 use Rattle.rv_audit.proofs.Ending.{broken, lacks, same_length, stuck, whole}
-
-pub ok_so : {X E : Type 0} (r : Result X E) (P Q : X → Type 0) → ((x : X) → P x → Q x) → IfOk r P → IfOk r Q
-ok_so (Ok x) P Q f h = f x h
-ok_so (Err e) P Q f h = tt
 
 pub sessions_readable : (es : List Entry) → AreReadable es → AreSessions es
 sessions_readable [] h = tt
@@ -82,7 +79,7 @@ pub over : (input : List ℕ) (p : Parted) → Some p ≡ parted input → 16777
 over input p e more = by_parts input p audited.Over e more
 
 pub judged : (input : List ℕ) (p : Parted) (script : Script) (r : Result Audited NoMemory) → Some p ≡ parted input → length p.script ≤ 16777216 → script_of p.script ≡ Ok script → IfOk r (λ answer. SaysOfTranscript script p.transcript answer) → IfOk r (λ answer. Audits input answer)
-judged input p script r e few is h = ok_so r (λ answer. SaysOfTranscript script p.transcript answer) (λ answer. Audits input answer) (λ answer s. by_parts input p answer e (in_parts p.script p.transcript script few is answer s)) h
+judged input p script r e few is h = IfOk-weaker r (λ answer. SaysOfTranscript script p.transcript answer) (λ answer. Audits input answer) (λ answer s. by_parts input p answer e (in_parts p.script p.transcript script few is answer s)) h
 
 fault_is : {X : Type 0} (fault : ScriptFault) (said : Result X ScriptFault) → ¬ (fault ≡ faults.NoMemory) → FaultIs fault said → said ≡ Err fault
 fault_is (faults.NoSession line) said n is = is
@@ -111,7 +108,7 @@ fault_answers fault (Ok answer) h = subst IsAnswer (sym h.0) h.1
 fault_answers fault (Err memory) h = tt
 
 pub judged_answers : (script : Script) (transcript : List ℕ) (r : Result Audited NoMemory) → IfOk r (λ answer. SaysOfTranscript script transcript answer) → IfOk r IsAnswer
-judged_answers script transcript r h = ok_so r (λ answer. SaysOfTranscript script transcript answer) IsAnswer (answers script transcript) h
+judged_answers script transcript r h = IfOk-weaker r (λ answer. SaysOfTranscript script transcript answer) IsAnswer (answers script transcript) h
 
 -- A transcript has no more entries than bytes.
 

@@ -1,5 +1,6 @@
 -- From entries that follow a script, and their replay, to what is said of them.
 use Rattle.std.proofs.Common.{◌≡◌, ℕ, zero, suc, ◌+◌, ◌-◌, ◌≤◌, List, [], ◌∷◌, ◌++◌, refl, ap, sym, subst, ◌∙◌, length, take, arith, length-append}
+use Rattle.std.proofs.lemmas.List.{take-append-le}
 use Rattle.rv_script.specs.declared.scripts.Script.{Script}
 use Rattle.rv_model.specs.declared.entry.Entry.{Entry}
 use Rattle.rv_model.specs.Transcript.{AllSameButPhase}
@@ -35,11 +36,6 @@ take_all : (es : List Entry) → take (length es) es ≡ es
 take_all [] = refl
 take_all (e ∷ es) = ap (λ xs. e ∷ xs) (take_all es)
 
-take_front : (k : ℕ) (us bs : List Entry) → k ≤ length us → take k (us ++ bs) ≡ take k us
-take_front zero us bs le = refl
-take_front (suc k) [] bs le = absurd (omega (arith, le))
-take_front (suc k) (a ∷ us) bs le = ap (λ xs. a ∷ xs) (take_front k us bs (omega (arith, le)))
-
 take_one : (us : List Entry) (b : Entry) (bs : List Entry) → take (suc (length us)) (us ++ b ∷ bs) ≡ us ++ b ∷ []
 take_one [] b bs = refl
 take_one (a ∷ us) b bs = ap (λ xs. a ∷ xs) (take_one us b bs)
@@ -48,8 +44,8 @@ take_one (a ∷ us) b bs = ap (λ xs. a ∷ xs) (take_one us b bs)
 pub broken : (script : Script) (entries more done : List Entry) (n : ℕ) → AllSameButPhase entries done → FrontsFollow script.phases done → ArePhasesOf script.phases done → 1 ≤ n → n ≤ length done → IsLegal (take (n - 1) done) → (IsLegal (take n done) → ⊥) → GoesWrongAt script (entries ++ more) n
 broken script entries more done n same fronts only from to before breaks =
     let long = same_length entries done same in
-    let here = take_front (n - 1) entries more (omega (arith, from, to, long)) in
-    let with_it = take_front n entries more (omega (arith, to, long)) in
+    let here = take-append-le (n - 1) entries more (omega (arith, from, to, long)) in
+    let with_it = take-append-le n entries more (omega (arith, to, long)) in
     record {
       from = from;
       to = (let all = length-append entries more in omega (arith, to, long, all));
@@ -70,7 +66,7 @@ stuck script entries done fronts legal s =
     let count = length-append s.passed (s.next ∷ s.more) in
     let less : length done + 1 - 1 ≡ length s.passed = omega (arith, long) in
     let more : length done + 1 ≡ suc (length s.passed) = omega (arith, long) in
-    let here = ap (λ es. take (length s.passed) es) s.is ∙ take_front (length s.passed) s.passed (s.next ∷ s.more) (omega arith) ∙ take_all s.passed in
+    let here = ap (λ es. take (length s.passed) es) s.is ∙ take-append-le (length s.passed) s.passed (s.next ∷ s.more) (omega arith) ∙ take_all s.passed in
     record {
       from = omega arith;
       to = omega (arith, long, all, count);

@@ -1,11 +1,11 @@
 -- What a session has made is a front of what a script asks of it.
 use Rattle.std.proofs.Common.{◌≡◌, ◌⊎◌, ℕ, ◌<◌, ◌≤◌, List, [], ◌∷◌, ◌++◌, true, false, inl, inr, refl, ap, sym, subst, ◌∙◌, length, drop, arith, eqb, append-nil}
-use Rattle.std.proofs.lemmas.Bool.{cases_Bool}
+use Rattle.std.proofs.lemmas.Bool.{cases_Bool, cases_lt}
 use Rattle.std.proofs.lemmas.Bool.Decides.{nat_tests}
 use Rattle.std.specs.List.{AllByRecursion}
 use Rattle.rv_audit.specs.declared.calls.Call.{Call}
 use Rattle.rv_audit.specs.Following.{IsFront}
-use Rattle.rv_audit.proofs.Phases.{from_none, none_below, order, texts, AreFrom, AreUpTo, Rising}
+use Rattle.rv_audit.proofs.Phases.{from_none, none_below, texts, AreFrom, AreUpTo, Rising}
 
 abbrev pub AreBy : ℕ → List Call → Type 0
 AreBy session calls = AllByRecursion (λ (c : Call). c.session ≡ session) calls
@@ -32,14 +32,14 @@ none_is : {X : Type 0} (x : Call) (xs : List Call) → texts x.phase (x ∷ xs) 
 none_is x xs e = not_none x.text (texts x.phase xs) (sym (head_text x xs) ∙ e)
 
 head_up : (p : ℕ) (xs : List Call) (y : Call) (ys : List Call) → Agrees p xs (y ∷ ys) → y.phase ≤ p
-head_up p xs y ys a = by (order p y.phase)
+head_up p xs y ys a = by (cases_lt p y.phase)
   where
     by : (p < y.phase) ⊎ (y.phase ≤ p) → y.phase ≤ p
     by (inl more) = none_is y ys (a.later y.phase more)
     by (inr le) = le
 
 front_at : (p q : ℕ) (xs ys : List Call) → q ≤ p → Agrees p xs ys → IsFront (texts q ys) (texts q xs)
-front_at p q xs ys le a = by (order q p)
+front_at p q xs ys le a = by (cases_lt q p)
   where
     by : (q < p) ⊎ (p ≤ q) → IsFront (texts q ys) (texts q xs)
     by (inl less) = record { rest = []; is = sym (a.past q less) ∙ sym (append-nil (texts q ys)) }
@@ -52,7 +52,7 @@ nothing_left : {X : Type 0} (p : ℕ) (y : Call) (ys : List Call) → Agrees p [
 nothing_left p y ys a = (let f = head_front p [] y ys a in not_none y.text (texts y.phase ys ++ f.rest) (sym f.is))
 
 phases_same : (p : ℕ) (x : Call) (xs : List Call) (y : Call) (ys : List Call) → AreFrom x.phase xs → AreFrom y.phase ys → Agrees p (x ∷ xs) (y ∷ ys) → y.phase ≡ x.phase
-phases_same p x xs y ys rx ry a = by (order y.phase x.phase) (order x.phase y.phase)
+phases_same p x xs y ys rx ry a = by (cases_lt y.phase x.phase) (cases_lt x.phase y.phase)
   where
     by : (y.phase < x.phase) ⊎ (x.phase ≤ y.phase) → (x.phase < y.phase) ⊎ (y.phase ≤ x.phase) → y.phase ≡ x.phase
     by (inl less) t = (let f = head_front p (x ∷ xs) y ys a in not_none y.text (texts y.phase ys ++ f.rest) (sym f.is ∙ none_below y.phase x.phase (x ∷ xs) less (omega arith, rx)))

@@ -1,6 +1,7 @@
 -- An input is parted at the first cut whose line is the mark.
 use Rattle.std.proofs.Common.{◌≡◌, ℕ, ◌+◌, ◌≤◌, List, [], ◌∷◌, ◌++◌, true, false, cond, Option, Some, None, inl, inr, refl, ap, sym, ◌∙◌, length, take, arith, bytes_eq, codes, append_assoc, append-nil, length-append}
 use Rattle.std.proofs.lemmas.Bool.{cases_Bool}
+use Rattle.std.proofs.lemmas.Option.{same_Some}
 use Rattle.rv_text.specs.Lines.{cut, split, Split}
 use Rattle.rv_text.proofs.Cutting.{behind, cut_whole, split_cut, split_of, split_whole, unsplit}
 use Rattle.rv_audit.specs.Marks.{behind_line, ended, is_mark, parted, parted_lines, Parted}
@@ -87,20 +88,17 @@ line_within left word more w m = (let whole = (λ i. w i ++ behind 10 (m i)) ∙
 
 -- a transcript is no longer than its input
 
-some_parted : (a b : Parted) → Some a ≡ Some b → a ≡ b
-some_parted a b e = cc
-
 no_part : {X : Type 0} (p : Parted) → None ≡ Some p → X
 no_part p e = absurd (cc)
 
 lines_within : (ls : List (List ℕ)) (rest : List ℕ) (p : Parted) → parted_lines ls rest ≡ Some p → length p.transcript ≤ length (ended ls rest)
 lines_within [] rest p e = elim (cases_Bool (bytes_eq rest (codes "===="))) [
-  | inl t ↦ let n = ap (λ (q : Parted). length q.transcript) (some_parted (parts [] []) p (rw t at e)) in omega (arith, n)
+  | inl t ↦ let n = ap (λ (q : Parted). length q.transcript) (same_Some (parts [] []) p (rw t at e)) in omega (arith, n)
   | inr f ↦ no_part p (rw f at e)
 ]
 lines_within (l ∷ ls) rest p e = elim (cases_Bool (is_mark l)) [
   | inl t ↦
-      let n = ap (λ (q : Parted). length q.transcript) (some_parted (parts [] (ended ls rest)) p (rw t at e)) in
+      let n = ap (λ (q : Parted). length q.transcript) (same_Some (parts [] (ended ls rest)) p (rw t at e)) in
       let m = length-append l (10 ∷ ended ls rest) in
       omega (arith, n, m)
   | inr f ↦ by (λ q is. lines_within ls rest q is) (parted_lines ls rest) refl (rw f at e)
@@ -109,7 +107,7 @@ lines_within (l ∷ ls) rest p e = elim (cases_Bool (is_mark l)) [
     by : ((q : Parted) → parted_lines ls rest ≡ Some q → length q.transcript ≤ length (ended ls rest)) → (o : Option Parted) → parted_lines ls rest ≡ o → behind_line l o ≡ Some p → length p.transcript ≤ length (l ++ 10 ∷ ended ls rest)
     by within None is e = no_part p e
     by within (Some q) is e =
-        let n = ap (λ (r : Parted). length r.transcript) (some_parted (parts (l ++ 10 ∷ q.script) q.transcript) p e) in
+        let n = ap (λ (r : Parted). length r.transcript) (same_Some (parts (l ++ 10 ∷ q.script) q.transcript) p e) in
         let m = length-append l (10 ∷ ended ls rest) in
         let ih = within q is in
         omega (arith, n, m, ih)

@@ -1,6 +1,6 @@
 -- Calls whose phases never fall, and their texts phase by phase.
-use Rattle.std.proofs.Common.{◌≡◌, ◌⊎◌, ℕ, zero, suc, ◌+◌, ◌<◌, ◌≤◌, List, [], ◌∷◌, ◌++◌, true, false, inl, inr, refl, ap, sym, subst, ◌∙◌, drop, map, arith, eqb, nat_lt, append-nil}
-use Rattle.std.proofs.lemmas.Bool.{cases_Bool}
+use Rattle.std.proofs.Common.{◌≡◌, ◌⊎◌, ℕ, zero, suc, ◌+◌, ◌<◌, ◌≤◌, List, [], ◌∷◌, ◌++◌, true, false, inl, inr, refl, ap, sym, subst, ◌∙◌, drop, map, arith, eqb, append-nil}
+use Rattle.std.proofs.lemmas.Bool.{cases_Bool, cases_lt}
 use Rattle.std.proofs.lemmas.Bool.Decides.{nat_tests}
 use Rattle.std.proofs.lemmas.List.Elements.{filter-append}
 use Rattle.std.specs.List.{filter, AllByRecursion}
@@ -25,9 +25,6 @@ AreUpTo high calls = AllByRecursion (λ (c : Call). c.phase ≤ high) calls
 abbrev pub Rising : List Call → Type 0
 Rising [] = Unit {0}
 Rising (c ∷ cs) = AreFrom c.phase cs × Rising cs
-
-pub order : (a b : ℕ) → (a < b) ⊎ (b ≤ a)
-order a b = elim (cases_Bool (nat_lt a b)) [ inl t ↦ inl (grind (arith, nat_tests)) | inr f ↦ inr (grind (arith, nat_tests)) ]
 
 -- Texts.
 
@@ -57,7 +54,7 @@ none_above q high (x ∷ xs) less h =
 -- what has no texts below a phase begins there
 pub from_none : (p : ℕ) (xs : List Call) → ((q : ℕ) → q < p → texts q xs ≡ []) → AreFrom p xs
 from_none p [] none = tt
-from_none p (x ∷ xs) none = (by (order x.phase p), from_none p xs (λ q less. (tail q (none q less))))
+from_none p (x ∷ xs) none = (by (cases_lt x.phase p), from_none p xs (λ q less. (tail q (none q less))))
   where
     same : eqb x.phase x.phase ≡ true
     same = grind (arith, nat_tests)

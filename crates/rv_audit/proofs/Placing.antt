@@ -1,6 +1,6 @@
 -- Places in the calls of a script, and what is made and left by them.
-use Rattle.std.proofs.Common.{◌≡◌, ◌⊎◌, ℕ, zero, suc, ◌+◌, ◌-◌, ◌<◌, ◌≤◌, List, [], ◌∷◌, ◌++◌, Bool, true, false, ◌&&◌, inl, inr, refl, ap, sym, subst, ◌∙◌, length, drop, take, arith, eqb, nat_le, nat_lt, Option, Some, None, append-nil, append_assoc, length-append}
-use Rattle.std.proofs.lemmas.Bool.{cases_Bool}
+use Rattle.std.proofs.Common.{◌≡◌, ◌⊎◌, ℕ, zero, suc, ◌+◌, ◌-◌, ◌<◌, ◌≤◌, List, [], ◌∷◌, ◌++◌, Bool, true, false, inl, inr, refl, ap, sym, subst, ◌∙◌, length, drop, take, arith, eqb, nat_le, nat_lt, Option, Some, None, append-nil, append_assoc, length-append}
+use Rattle.std.proofs.lemmas.Bool.{cases_Bool, and_from, and_parts, cases_lt}
 use Rattle.std.proofs.lemmas.Bool.Decides.{nat_tests}
 use Rattle.std.specs.List.{list_all, slice_get, slice_index}
 use Rattle.rv_script.specs.declared.scripts.Phase.{Phase}
@@ -13,7 +13,7 @@ use Rattle.rv_audit.specs.Calls.{calls_by, calls_from, is_later, is_by, IsNextOf
 use Rattle.rv_audit.specs.Following.{asked_in, HasAll, IsFirstMissing}
 use Rattle.rv_audit.specs.Places.{all_wait, asks, left_at, lower_of, ArePhasesOf, AreSessions, FrontsFollow, IsLowestOf, IsStuck, LowestUpTo, Makes, Refuses, Stands, StandsAt}
 use Rattle.rv_audit.proofs.Making.{all_made, asked_parts, call_by, determined, follows_by, goes_on, made, made_append, made_from, rest_of, sessions_of, Made}
-use Rattle.rv_audit.proofs.Phases.{calls_rise, from_lower, none_below, order, rising_drop, rising_kept, texts, AreFrom, AreUpTo, Rising}
+use Rattle.rv_audit.proofs.Phases.{calls_rise, from_lower, none_below, rising_drop, rising_kept, texts, AreFrom, AreUpTo, Rising}
 
 -- A place.
 
@@ -76,23 +76,14 @@ from_waits calls s at phase h from = by (slice_get calls at) refl
         let later : nat_le phase c.phase ≡ true = grind (arith, nat_tests) in
         rw e later
 
--- a test of all of eight places
-both : (a b : Bool) → (a && b) ≡ true → (a ≡ true) × (b ≡ true)
-both true b e = (refl, e)
-both false b e = cc
-
-joined : (a b : Bool) → a ≡ true → b ≡ true → (a && b) ≡ true
-joined true b e f = f
-joined false b e f = cc
-
 all_at : (p : ℕ → Bool) (xs : List ℕ) (i : ℕ) → list_all p xs ≡ true → i < length xs → p (slice_index xs i) ≡ true
 all_at p [] i h less = absurd (omega (arith, less))
-all_at p (x ∷ xs) zero h less = (both (p x) (list_all p xs) h).0
-all_at p (x ∷ xs) (suc i) h less = all_at p xs i (both (p x) (list_all p xs) h).1 (omega (arith, less))
+all_at p (x ∷ xs) zero h less = (and_parts (p x) (list_all p xs) h).0
+all_at p (x ∷ xs) (suc i) h less = all_at p xs i (and_parts (p x) (list_all p xs) h).1 (omega (arith, less))
 
 all_by : (p : ℕ → Bool) (xs : List ℕ) → ((i : ℕ) → i < length xs → p (slice_index xs i) ≡ true) → list_all p xs ≡ true
 all_by p [] h = refl
-all_by p (x ∷ xs) h = joined (p x) (list_all p xs) (h 0 (omega arith)) (all_by p xs (λ i less. h (suc i) (omega (arith, less))))
+all_by p (x ∷ xs) h = and_from (p x) (list_all p xs) (h 0 (omega arith)) (all_by p xs (λ i less. h (suc i) (omega (arith, less))))
 
 all_wait_by : (calls : List Call) (places : List ℕ) (phase : ℕ) → Stands calls places → ((s : ℕ) → 1 ≤ s → s ≤ 8 → AreFrom phase (left_at calls places s)) → all_wait calls places phase ≡ true
 all_wait_by calls places phase h from = all_by (λ at. waits_at calls phase at) places one
@@ -299,7 +290,7 @@ lowest_none calls places = λ s from to. absurd (omega (arith, from, to))
 
 -- a fact of the first sessions, and of one more
 one_more : (P : ℕ → Type 0) (n : ℕ) → ((s : ℕ) → 1 ≤ s → s ≤ n → P s) → P (n + 1) → (s : ℕ) → 1 ≤ s → s ≤ n + 1 → P s
-one_more P n h last s from to = by (order n s)
+one_more P n h last s from to = by (cases_lt n s)
   where
     by : ((n < s) ⊎ (s ≤ n)) → P s
     by (inl more) = (let same : n + 1 ≡ s = omega (arith, to, more) in subst P same last)

@@ -1,9 +1,9 @@
 -- What a run writes is judged legal.
-use Rattle.std.proofs.Common.{◌≡◌, ◌⊎◌, ℕ, ◌+◌, List, [], ◌∷◌, ◌++◌, Bool, true, false, not, ◌&&◌, ◌||◌, ◌==◌, cond, if◌then◌else◌, Option, Some, None, Result, Ok, Err, IsOkAnd, IsUtf8, All, inl, inr, refl, ap, sym, subst, ◌∙◌, length, map, bytes_eq, codes, eqb, eqb-true, nat_eq, nat_lt, append-nil, ◌≤◌}
+use Rattle.std.proofs.Common.{◌≡◌, ℕ, ◌+◌, List, [], ◌∷◌, ◌++◌, Bool, true, false, not, ◌&&◌, ◌==◌, cond, if◌then◌else◌, Option, Some, None, Result, Ok, Err, IsOkAnd, IsUtf8, All, inl, inr, refl, ap, sym, subst, ◌∙◌, length, map, bytes_eq, codes, eqb, eqb-true, nat_eq, nat_lt, append-nil, ◌≤◌}
 use Rattle.std.specs.List.{list_all, slice_split, AllByRecursion}
 use Rattle.std.specs.Str.Lines.{lines, lines_of_parts, strip_carriage_return}
 use Rattle.std.specs.Str.Lossy.{utf8_valid_len}
-use Rattle.std.proofs.lemmas.Bool.{cases_Bool, and_parts, not-true}
+use Rattle.std.proofs.lemmas.Bool.{cases_Bool, and_parts, not-true, or_cases}
 use Rattle.std.proofs.lemmas.List.Elements.{All-cons, All-nil}
 use Rattle.std.proofs.lemmas.List.Splits.{slice_split_at}
 use Rattle.std.proofs.lemmas.Slice.Eq.{bytes_eq-Decides}
@@ -73,13 +73,9 @@ same_itself (e ∷ es) = (record { session = refl; text = refl; reply = refl }, 
 abbrev HaveNoMark : List (List ℕ) → Type 0
 HaveNoMark ls = list_all (λ (l : List ℕ). not (is_mark l)) ls ≡ true
 
-either : (a b : Bool) → (a || b) ≡ true → (a ≡ true) ⊎ (b ≡ true)
-either true b h = inl refl
-either false b h = inr h
-
 -- a mark with its CR or without is one line
 mark_is : (l : List ℕ) → is_mark l ≡ true → strip_carriage_return l ≡ codes "===="
-mark_is l h = elim (either (bytes_eq l (codes "====")) (bytes_eq l (codes "====\r")) h) [
+mark_is l h = elim (or_cases (bytes_eq l (codes "====")) (bytes_eq l (codes "====\r")) h) [
   | inl t ↦ ap strip_carriage_return ((bytes_eq-Decides l (codes "====")).0 t)
   | inr t ↦ ap strip_carriage_return ((bytes_eq-Decides l (codes "====\r")).0 t)
 ]

@@ -1,6 +1,6 @@
 -- What the code that makes a session's next call finds.
 use Rattle.std.proofs.Common.{◌≡◌, ◌↔◌, ℕ, ◌+◌, ◌-◌, ◌<◌, ◌≤◌, List, Bool, true, false, IsTrue, Option, Some, None, ap, sym, subst, ◌∙◌, length, arith}
-use Rattle.std.proofs.lemmas.Bool.{false≢true}
+use Rattle.std.proofs.lemmas.Bool.{both_ways}
 use Rattle.std.proofs.lemmas.List.{get_or-set_other, get_or-set_same, length-set}
 use Rattle.std.specs.List.{slice_get, slice_index, slice_set}
 use Rattle.rv_audit.specs.declared.calls.Call.{Call}
@@ -12,14 +12,11 @@ use Rattle.rv_audit.proofs.Placing.{makes, refuse_end, refuse_text, refuse_wait,
 moved : (calls : List Call) (places : List ℕ) (n session : ℕ) (o : Option Call) → n ≡ session → slice_get calls (slice_index places (n - 1)) ≡ o → slice_get calls (slice_index places (session - 1)) ≡ o
 moved calls places n session o same e = ap (λ k. slice_get calls (slice_index places (k - 1))) (sym same) ∙ e
 
-never : (b : Bool) → b ≡ false → b ≡ true → ⊥
-never b f t = false≢true (sym f ∙ t)
-
 pub end_refuses : (calls : List Call) (places : List ℕ) (n session : ℕ) (text : List ℕ) → n ≡ session → slice_get calls (slice_index places (n - 1)) ≡ None → Refuses calls places session text
 end_refuses calls places n session text same e = refuse_end calls places session text (moved calls places n session None same e)
 
 pub text_refuses : (calls : List Call) (places : List ℕ) (n session : ℕ) (text : List ℕ) (c : Call) (b : Bool) → Stands calls places → 1 ≤ session → session ≤ 8 → n ≡ session → slice_get calls (slice_index places (n - 1)) ≡ Some c → (IsTrue b ↔ (c.text ≡ text)) → b ≡ false → Refuses calls places session text
-text_refuses calls places n session text c b h from to same e is f = refuse_text calls places session text c (h.each session from to) (moved calls places n session (Some c) same e) (λ equal. never b f (is.1 equal))
+text_refuses calls places n session text c b h from to same e is f = refuse_text calls places session text c (h.each session from to) (moved calls places n session (Some c) same e) (λ equal. both_ways b f (is.1 equal))
 
 pub wait_refuses : (calls : List Call) (places : List ℕ) (n session : ℕ) (text : List ℕ) (c : Call) (b : Bool) → Stands calls places → 1 ≤ session → session ≤ 8 → n ≡ session → slice_get calls (slice_index places (n - 1)) ≡ Some c → b ≡ all_wait calls places c.phase → b ≡ false → Refuses calls places session text
 wait_refuses calls places n session text c b h from to same e is f = refuse_wait calls places session text c (h.each session from to) (moved calls places n session (Some c) same e) (sym is ∙ f)

@@ -8,6 +8,7 @@ use Rattle.std.proofs.lemmas.Bool.{cases_Bool, and_parts}
 use Rattle.std.proofs.lemmas.Bool.Decides.{nat_tests}
 use Rattle.std.proofs.lemmas.List.{drop_at, nil_from_length, take_at}
 use Rattle.std.proofs.lemmas.Str.{IsCharBoundary-after_ascii, IsCharBoundary-before_ascii, IsUtf8-drop, IsUtf8-from_is_utf8, IsUtf8-nil, IsUtf8-take}
+use Rattle.std.proofs.lemmas.Option.{same_Some}
 use Rattle.rv_script.specs.declared.scripts.Line.{Line}
 use Rattle.rv_script.specs.declared.scripts.Phase.{Phase}
 use Rattle.rv_script.specs.declared.scripts.ScriptFault.{ScriptFault}
@@ -106,17 +107,14 @@ SaysText Nothing = Unit {0}
 SaysText (Call line) = IsText line.text
 SaysText (Next judge) = Unit {0}
 
-some_is : (a b : Saying) → Some a ≡ Some b → a ≡ b
-some_is a b e = cc
-
 -- a mark is no call
 mark_text : (bs : List ℕ) (saying : Saying) → mark_of bs ≡ Some saying → SaysText saying
-mark_text [] saying h = subst SaysText (some_is (Next None) saying h) tt
+mark_text [] saying h = subst SaysText (same_Some (Next None) saying h) tt
 mark_text (b ∷ []) saying h = absurd (cc)
 mark_text (b ∷ j ∷ []) saying h = by (nat_eq b 32 && (nat_le 48 j && nat_le j 50)) h
   where
     by : (t : Bool) → (if t then Some (Next (Some (j - 48))) else None) ≡ Some saying → SaysText saying
-    by true e = subst SaysText (some_is (Next (Some (j - 48))) saying e) tt
+    by true e = subst SaysText (same_Some (Next (Some (j - 48))) saying e) tt
     by false e = absurd (cc)
 mark_text (b ∷ j ∷ c ∷ cs) saying h = absurd (cc)
 
@@ -130,20 +128,20 @@ call_text a b bs saying text h = by (nat_eq b 32 && (nat_le 49 a && nat_le a 56)
         let first = and_parts (not (a == 10)) (list_all (λ (c : ℕ). not (c == 10)) (b ∷ bs)) text.0 in
         let second = and_parts (not (b == 10)) (list_all (λ (c : ℕ). not (c == 10)) bs) first.1 in
         let behind = utf8_cut (a ∷ []) b bs (omega (arith, space)) text.1 in
-        subst SaysText (some_is (Call (record { session = a - 48; text = bs })) saying e) ((second.1, behind.1))
+        subst SaysText (same_Some (Call (record { session = a - 48; text = bs })) saying e) ((second.1, behind.1))
     by false is e = absurd (cc)
 
 line_says : (line : List ℕ) (saying : Saying) → IsText line → says line ≡ Some saying → SaysText saying
-line_says [] saying text h = subst SaysText (some_is Nothing saying h) tt
+line_says [] saying text h = subst SaysText (same_Some Nothing saying h) tt
 line_says (a ∷ []) saying text h = by (nat_eq a 35) h
   where
     by : (t : Bool) → (if t then Some Nothing else None) ≡ Some saying → SaysText saying
-    by true e = subst SaysText (some_is Nothing saying e) tt
+    by true e = subst SaysText (same_Some Nothing saying e) tt
     by false e = absurd (cc)
 line_says (a ∷ b ∷ bs) saying text h = by (nat_eq a 35) (nat_eq a 45 && nat_eq b 45) h
   where
     by : (t m : Bool) → (if t then Some Nothing else (if m then mark_of bs else call_of (a ∷ b ∷ bs))) ≡ Some saying → SaysText saying
-    by true m e = subst SaysText (some_is Nothing saying e) tt
+    by true m e = subst SaysText (same_Some Nothing saying e) tt
     by false true e = mark_text bs saying e
     by false false e = call_text a b bs saying text e
 
