@@ -1,8 +1,9 @@
 -- Pages one after another are all rows, and leaves one after another a whole run.
-use Rattle.std.proofs.Common.{◌≡◌, ℕ, ◌<◌, ◌≤◌, ◌+◌, ◌*◌, ◌/◌, List, [], ◌∷◌, ◌++◌, Bool, true, false, not, ◌&&◌, ◌==◌, Option, Some, None, IfSome, sym, ap, ◌∙◌, arith, length, refl, filter, nat_lt, append_assoc, append-nil}
+use Rattle.std.proofs.Common.{◌≡◌, ℕ, ◌<◌, ◌≤◌, ◌+◌, ◌*◌, ◌/◌, List, [], ◌∷◌, ◌++◌, true, false, not, ◌&&◌, ◌==◌, Option, Some, None, IfSome, sym, ap, ◌∙◌, arith, length, refl, filter, nat_lt, append_assoc, append-nil}
 use Rattle.std.proofs.lemmas.Bool.Decides.{nat_tests}
 use Rattle.std.proofs.lemmas.Grind.{flat_map-append}
 use Rattle.std.specs.List.{AllByRecursion, flat_map}
+use Rattle.std.proofs.lemmas.List.Elements.{filter_agree}
 use Rattle.rv_value.specs.declared.record.Record.{Record}
 use Rattle.rv_value.specs.declared.record.IndexEntry.{IndexEntry}
 use Rattle.rv_value.specs.declared.range.Bound.{Bound}
@@ -20,15 +21,11 @@ use Rattle.rv_loading.specs.Laid.{IsNarrow}
 abbrev pub first_rows : ℕ → List Record → List Record
 first_rows pages rows = filter (λ (r : Record). nat_lt r.row.0 (32 * pages)) rows
 
-tests_same : (p q : Record → Bool) → ((r : Record) → p r ≡ q r) → (rows : List Record) → filter p rows ≡ filter q rows
-tests_same p q same [] = refl
-tests_same p q same (r ∷ rows) = rw (same r, tests_same p q same rows) refl
-
 pub next_page : (page : ℕ) (rows : List Record) → Ascend rows → first_rows page rows ++ page_of rows page ≡ first_rows (page + 1) rows
 next_page page rows ascend =
     let cut = rising_cut comes_below (λ (r : Record). nat_lt r.row.0 (32 * (page + 1))) (λ (r : Record). nat_lt r.row.0 (32 * page)) (λ x y h f. let first = h in let second = f in grind (arith, nat_tests)) rows ascend in
-    let front = tests_same (λ (r : Record). nat_lt r.row.0 (32 * (page + 1)) && nat_lt r.row.0 (32 * page)) (λ (r : Record). nat_lt r.row.0 (32 * page)) (λ r. grind (arith, nat_tests)) rows in
-    let back = tests_same (λ (r : Record). nat_lt r.row.0 (32 * (page + 1)) && not (nat_lt r.row.0 (32 * page))) (λ (r : Record). r.row.0 / 32 == page) (λ r. grind (arith, nat_tests)) rows in
+    let front = filter_agree (λ (r : Record). nat_lt r.row.0 (32 * (page + 1)) && nat_lt r.row.0 (32 * page)) (λ (r : Record). nat_lt r.row.0 (32 * page)) (λ r. grind (arith, nat_tests)) rows in
+    let back = filter_agree (λ (r : Record). nat_lt r.row.0 (32 * (page + 1)) && not (nat_lt r.row.0 (32 * page))) (λ (r : Record). r.row.0 / 32 == page) (λ r. grind (arith, nat_tests)) rows in
     sym (cut ∙ (λ i. front i ++ back i))
 
 pub no_pages : (rows : List Record) → first_rows 0 rows ≡ []
