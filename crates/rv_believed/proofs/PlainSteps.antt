@@ -42,7 +42,7 @@ use Rattle.rv_model.specs.Offering.{choices, is_kept, offer_over, offers_over, p
 use Rattle.rv_model.specs.Rivals.{Neighbour, all_alone, alone, first_equal, is_rival, rows_written, unique_over}
 use Rattle.rv_model.specs.Step.{Outcome, AllowsFetch, AllowsShow, AllowsStep, Offers, AllowsAsked, next_asked, began, closed, changed, committed, committed_with, created, changes_met, ended, fetched, indexed, inserted, neighbours_of, new_change, no_rivals_of, offers_after, opened, opening, own_cursors, reply_of, rolled_back, row_alone, rows_alone, rows_differ, rows_seen, state_of, tables_changed, view_rows}
 use Rattle.rv_model.specs.Transcript.{IsName as IsPlainName}
-use Rattle.rv_model.proofs.Same.{values_same}
+use Rattle.rv_value.proofs.Same.{values_same}
 use Rattle.rv_believed.specs.Answers.{Test}
 use Rattle.rv_believed.specs.Plain.{IsPlainValue, IsPlainRefusal, IsPlainReply}
 use Rattle.rv_believed.proofs.PlainLists.{all_append, all_map, all_map_any, all_filter, all_flat, all_remove, all_set, or_all, passing}

@@ -13,7 +13,7 @@ use Rattle.rv_lang.specs.declared.reply.Reply.TheVariants.{Row, End}
 use Rattle.rv_model.specs.declared.state.Offer.{Offer}
 use Rattle.rv_model.specs.Offers.{offer_cmp, offers_in_order, place_of, same_values, with_offer, without}
 use Rattle.rv_model.specs.Step.{Offers, offers_after}
-use Rattle.rv_model.proofs.Same.{values_itself, values_same}
+use Rattle.rv_value.proofs.Same.{values_itself, values_same}
 use Rattle.rv_join.specs.Order.{IsLeastOf}
 use Rattle.rv_cursor.specs.Left.{TakesOffer}
 

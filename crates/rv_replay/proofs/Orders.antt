@@ -18,7 +18,7 @@ use Rattle.rv_blocks.proofs.Order.{all_at, put_new}
 use Rattle.rv_model.specs.declared.state.Offer.{Offer}
 use Rattle.rv_model.specs.OfferOrder.{offer_cmp_total}
 use Rattle.rv_model.specs.Offers.{offer_cmp}
-use Rattle.rv_model.proofs.Same.{values_same}
+use Rattle.rv_value.proofs.Same.{values_same}
 use Rattle.rv_replay.specs.Judging.{fits}
 use Rattle.rv_replay.specs.Queues.{comes_before, fits_at, is_under}
 use Rattle.rv_replay.specs.declared.queues.Alike.{Alike}

@@ -9,6 +9,7 @@ use Rattle.std.proofs.lemmas.Option.{same_Some}
 use Rattle.rv_value.specs.declared.value.Value.{Value}
 use Rattle.rv_value.specs.declared.record.Record.{Record}
 use Rattle.rv_value.specs.declared.record.IndexEntry.{IndexEntry}
+use Rattle.rv_value.proofs.Sorting.{swap_in}
 use Rattle.rv_rows.specs.Rows as rows_by_number
 use Rattle.rv_rows.specs.Rows.{comes_below, with_values, without_row}
 use Rattle.rv_reader.specs.Tables.{row_at}
@@ -17,38 +18,13 @@ use Rattle.rv_node.specs.Trees.{differs}
 use Rattle.rv_store.specs.Indexing.{taken_out, put_in, entry_at, row_with}
 use Rattle.rv_reader.proofs.Filters.{filter_same, filter_none, rising_cut}
 use Rattle.rv_reader.proofs.Orders.{one_way, through_below, itself}
-use Rattle.rv_reader.proofs.Sorting.{same, entries_ascend}
+use Rattle.rv_reader.proofs.Sorting.{all_sorted, entries_ascend, same, sort_of_entries}
 
 -- The order in which entries are put in does not matter.
 
-under : (a b x : IndexEntry) → comes_before x a ≡ false → comes_before x b ≡ true → comes_before a b ≡ true
-under a b x f t = through_below a x b f t
-
-pair : (a b : IndexEntry) (xs : List IndexEntry) → cond (comes_before b a) (b ∷ a ∷ xs) (a ∷ b ∷ xs) ≡ cond (comes_before a b) (a ∷ b ∷ xs) (b ∷ a ∷ xs)
-pair a b xs = elim (cases_Bool (comes_before a b)) [
-  | inl t ↦ rw (one_way a b t, t) refl
-  | inr f ↦ elim (cases_Bool (comes_before b a)) [
-    | inl t ↦ rw (t, f) refl
-    | inr g ↦ rw (f, g) (let e = same a b f g in λ i. e i ∷ sym e i ∷ xs)
-  ]
-]
-
-swap_in : (a b : IndexEntry) (xs : List IndexEntry) → sorted_in a (sorted_in b xs) ≡ sorted_in b (sorted_in a xs)
-swap_in a b [] = pair a b []
-swap_in a b (x ∷ xs) = elim (cases_Bool (comes_before x b)) [
-  | inl tb ↦ elim (cases_Bool (comes_before x a)) [
-    | inl ta ↦ rw (tb, ta, tb) (ap (λ ys. x ∷ ys) (swap_in a b xs))
-    | inr fa ↦ rw (tb, fa, under a b x fa tb, tb) refl
-  ]
-  | inr fb ↦ elim (cases_Bool (comes_before x a)) [
-    | inl ta ↦ rw (fb, ta, under b a x fb ta, fb) refl
-    | inr fa ↦ rw (fb, fa, fb) (pair a b (x ∷ xs))
-  ]
-]
-
 pub sorted_middle : (xs ys : List IndexEntry) (e : IndexEntry) → sorted (xs ++ e ∷ ys) ≡ sorted_in e (sorted (xs ++ ys))
 sorted_middle [] ys e = refl
-sorted_middle (x ∷ xs) ys e = ap (sorted_in x) (sorted_middle xs ys e) ∙ swap_in x e (sorted (xs ++ ys))
+sorted_middle (x ∷ xs) ys e = ap (sorted_in x) (sorted_middle xs ys e) ∙ swap_in sort_of_entries x e (sorted (xs ++ ys))
 
 -- Rows without one.
 
@@ -238,21 +214,6 @@ either_all columns number old (r ∷ rows) ascend found = elim (cases_Bool (r.ro
       let rest : row_at rows number ≡ Some old = rw f at found in
       rw f (either_all columns number old rows ascend.1 rest)
 ]
-
-all_sorted_in : (p : IndexEntry → Bool) (e : IndexEntry) (xs : List IndexEntry) → p e ≡ true → list_all p xs ≡ true → list_all p (sorted_in e xs) ≡ true
-all_sorted_in p e [] h all = rw h refl
-all_sorted_in p e (x ∷ xs) h all =
-    let parts = and_parts (p x) (list_all p xs) all in
-    elim (comes_before x e) as (λ b. list_all p (cond b (x ∷ sorted_in e xs) (e ∷ x ∷ xs)) ≡ true) [
-      | true ↦ rw parts.0 (all_sorted_in p e xs h parts.1)
-      | false ↦ rw (h, parts.0) parts.1
-    ]
-
-pub all_sorted : (p : IndexEntry → Bool) (xs : List IndexEntry) → list_all p xs ≡ true → list_all p (sorted xs) ≡ true
-all_sorted p [] all = refl
-all_sorted p (x ∷ xs) all =
-    let parts = and_parts (p x) (list_all p xs) all in
-    all_sorted_in p x (sorted xs) parts.0 (all_sorted p xs parts.1)
 
 either_way : (number : ℕ) (old e : IndexEntry) → old.row.0 ≡ number → is_either number old e ≡ true → is_others number e ≡ is_apart old e
 either_way number old e own h = elim (cases_Bool (e.row.0 == number)) [

@@ -11,7 +11,7 @@ use Rattle.rv_rows.specs.Rows.{comes_below, Ascend}
 use Rattle.rv_reader.specs.Entries as rows_entries
 use Rattle.rv_reader.specs.Entries.{comes_before, entry_of, sorted, sorted_in}
 use Rattle.rv_reader.specs.Storing.{AreKeys}
-use Rattle.rv_reader.proofs.Sorting.{entries_keys}
+use Rattle.rv_reader.proofs.Sorting.{all_sorted, entries_keys}
 use Rattle.rv_versions.specs.Chains.{AllChainsBelow}
 use Rattle.rv_versions.proofs.Values.{put_each, chains_more}
 use Rattle.rv_records.specs.Pages.{rows_at, rows_of}
@@ -24,7 +24,7 @@ use Rattle.rv_store.specs.declared.indexes.Index.{Index}
 use Rattle.rv_store.specs.Tables.{table_at}
 use Rattle.rv_store.specs.Indexes.{no_index, index_at, AreFew, AreIndexesBelow, AreSameIndexes, IsSameIndex, IsThrough}
 use Rattle.rv_store.specs.Indexing.{tree_over, tree_through, IsIndexed}
-use Rattle.rv_store.proofs.Indexing.{is_others, all_sorted, sorted_middle}
+use Rattle.rv_store.proofs.Indexing.{is_others, sorted_middle}
 use Rattle.rv_store.proofs.Changing.{absent_all, has_key, keys_all, all_keys, key_of_row, same_index_trans}
 
 -- One index takes another's place.

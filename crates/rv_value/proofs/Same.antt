@@ -1,5 +1,5 @@
 -- Values and their lists that compare as equal are the same, and each compares as equal to itself.
-use Rattle.std.proofs.Common.{◌≡◌, ℕ, ℤ, ◌<◌, List, [], ◌∷◌, refl, ap, sym}
+use Rattle.std.proofs.Common.{◌≡◌, ℕ, ℤ, List, [], ◌∷◌, refl, ap}
 use Rattle.std.specs.Ordering.{int_cmp, nat_cmp, ordering_then}
 use Rattle.std.specs.Cmp.{ranks, int_ranks, tied_itself}
 use Rattle.std.specs.Cmp.Lexicographic.{slice_cmp}
@@ -10,13 +10,13 @@ use Rattle.rv_value.specs.declared.value.Value.TheVariants.{Null, Int, Str}
 use Rattle.rv_value.specs.Order.{value_cmp, values_cmp}
 use Rattle.rv_value.specs.Orders.{value_cmp_total, values_cmp_total}
 
-both_equal : (a b : Ordering) → ordering_then a b ≡ Equal → (a ≡ Equal) × (b ≡ Equal)
+pub both_equal : (a b : Ordering) → ordering_then a b ≡ Equal → (a ≡ Equal) × (b ≡ Equal)
 both_equal Less b e = cc
 both_equal Equal b e = (refl, e)
 both_equal Greater b e = cc
 
 -- lists whose items tell each other apart tell each other apart
-lists_same : {X : Type 0} (R : X → X → Ordering) → ((x y : X) → R x y ≡ Equal → x ≡ y) → (xs ys : List X) → slice_cmp R xs ys ≡ Equal → xs ≡ ys
+pub lists_same : {X : Type 0} (R : X → X → Ordering) → ((x y : X) → R x y ≡ Equal → x ≡ y) → (xs ys : List X) → slice_cmp R xs ys ≡ Equal → xs ≡ ys
 lists_same R one [] [] e = refl
 lists_same R one [] (y ∷ ys) e = cc
 lists_same R one (x ∷ xs) [] e = cc
@@ -26,7 +26,7 @@ lists_same R one (x ∷ xs) (y ∷ ys) e =
     let rest = lists_same R one xs ys parts.1 in
     λ i. first i ∷ rest i
 
-numbers_same : (x y : ℕ) → nat_cmp x y ≡ Equal → x ≡ y
+pub numbers_same : (x y : ℕ) → nat_cmp x y ≡ Equal → x ≡ y
 numbers_same x y e = rw e at (ranks x y)
 
 integers_same : (x y : ℤ) → int_cmp x y ≡ Equal → x ≡ y
