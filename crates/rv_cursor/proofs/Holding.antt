@@ -8,7 +8,7 @@ use Rattle.rv_lang.specs.declared.reply.Reply.TheVariants.{Row}
 use Rattle.rv_reader.specs.Shown.{Shown}
 use Rattle.rv_model.specs.declared.state.Offer.{Offer}
 use Rattle.rv_model.specs.Offers.{offers_in_order}
-use Rattle.rv_cursor.proofs.Sorted.{sorted_moved}
+use Rattle.rv_model.proofs.Sorting.{sorted_moved}
 use Rattle.rv_join.specs.Order.{IsLeastOf}
 use Rattle.rv_join.specs.Plans.{PlanFits, PlanMoves, PlanStays, Planned, plan_rest, plan_work}
 use Rattle.rv_join.specs.declared.plan.PlanStep.TheVariants.{Row as PlanRow}
