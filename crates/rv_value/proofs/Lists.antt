@@ -1,0 +1,76 @@
+-- What holds of each item of a list, filters and places: lemmas that the crates above share.
+use Rattle.std.proofs.Common.{◌≡◌, ℕ, ◌<◌, ◌≤◌, zero, suc, List, [], ◌∷◌, ◌++◌, Bool, true, false, cond, refl, arith, length, filter, take, drop, slice_get, Some, None, Result, Ok, Err, OnErr, subst}
+use Rattle.std.proofs.lemmas.Bool.{and_parts}
+use Rattle.std.proofs.lemmas.Option.{same_Some}
+use Rattle.std.specs.List.{AllByRecursion, list_all, slice_index_or}
+
+-- Of each item, as a proposition.
+
+pub all_append : {X : Type 0} (P : X → Type 0) (xs ys : List X) → AllByRecursion P xs → AllByRecursion P ys → AllByRecursion P (xs ++ ys)
+all_append P [] ys a b = b
+all_append P (x ∷ xs) ys a b = (a.0, all_append P xs ys a.1 b)
+
+pub all_filter : {X : Type 0} (P : X → Type 0) (p : X → Bool) (xs : List X) → AllByRecursion P xs → AllByRecursion P (filter p xs)
+all_filter P p [] a = tt
+all_filter P p (x ∷ xs) a =
+    let rest = all_filter P p xs a.1 in
+    elim (p x) as (λ b. AllByRecursion P (cond b (x ∷ filter p xs) (filter p xs))) [ true ↦ (a.0, rest) | false ↦ rest ]
+
+pub all_take : {X : Type 0} (P : X → Type 0) (i : ℕ) (xs : List X) → AllByRecursion P xs → AllByRecursion P (take i xs)
+all_take P zero [] a = tt
+all_take P zero (x ∷ xs) a = tt
+all_take P (suc i) [] a = tt
+all_take P (suc i) (x ∷ xs) a = (a.0, all_take P i xs a.1)
+
+pub all_drop : {X : Type 0} (P : X → Type 0) (i : ℕ) (xs : List X) → AllByRecursion P xs → AllByRecursion P (drop i xs)
+all_drop P zero [] a = tt
+all_drop P zero (x ∷ xs) a = a
+all_drop P (suc i) [] a = tt
+all_drop P (suc i) (x ∷ xs) a = all_drop P i xs a.1
+
+pub all_more : {X : Type 0} (P Q : X → Type 0) → ((x : X) → P x → Q x) → (xs : List X) → AllByRecursion P xs → AllByRecursion Q xs
+all_more P Q more [] a = tt
+all_more P Q more (x ∷ xs) a = (more x a.0, all_more P Q more xs a.1)
+
+pub all_got : {X : Type 0} (P : X → Type 0) (xs : List X) (i : ℕ) (x : X) → AllByRecursion P xs → slice_get xs i ≡ Some x → P x
+all_got P [] i x a h = cc
+all_got P (y ∷ ys) zero x a h = subst P (same_Some y x h) a.0
+all_got P (y ∷ ys) (suc i) x a h = all_got P ys i x a.1 h
+
+pub all_at : {X : Type 0} (P : X → Type 0) (xs : List X) (i : ℕ) (d : X) → AllByRecursion P xs → i < length xs → P (slice_index_or xs i d)
+all_at P [] i d a within = absurd (omega arith)
+all_at P (x ∷ xs) zero d a within = a.0
+all_at P (x ∷ xs) (suc i) d a within = all_at P xs i d a.1 (omega arith)
+
+-- Of each item, as a test.
+
+pub passes_take : {X : Type 0} (p : X → Bool) (n : ℕ) (xs : List X) → list_all p xs ≡ true → list_all p (take n xs) ≡ true
+passes_take p n [] h = grind arith
+passes_take p zero (x ∷ xs) h = refl
+passes_take p (suc n) (x ∷ xs) h = let parts = and_parts (p x) (list_all p xs) h in rw parts.0 (passes_take p n xs parts.1)
+
+pub passes_more : {X : Type 0} (p q : X → Bool) → ((x : X) → p x ≡ true → q x ≡ true) → (xs : List X) → list_all p xs ≡ true → list_all q xs ≡ true
+passes_more p q more [] h = refl
+passes_more p q more (x ∷ xs) h = let parts = and_parts (p x) (list_all p xs) h in rw (more x parts.0) (passes_more p q more xs parts.1)
+
+-- Filters.
+
+pub filter_length : {X : Type 0} (p : X → Bool) (xs : List X) → length (filter p xs) ≤ length xs
+filter_length p [] = omega arith
+filter_length p (x ∷ xs) =
+    let more = filter_length p xs in
+    elim (p x) as (λ b. length (cond b (x ∷ filter p xs) (filter p xs)) ≤ length (x ∷ xs)) [ true ↦ omega arith | false ↦ omega arith ]
+
+pub filter_passes : {X : Type 0} (p : X → Bool) (xs : List X) → list_all p (filter p xs) ≡ true
+filter_passes p [] = refl
+filter_passes p (x ∷ xs) = by (p x) refl
+  where
+    by : (b : Bool) → p x ≡ b → list_all p (cond b (x ∷ filter p xs) (filter p xs)) ≡ true
+    by true e = rw e (filter_passes p xs)
+    by false e = filter_passes p xs
+
+-- An answer of which an error owes what holds anyway.
+
+pub on_err : {A E : Type 0} (r : Result A E) (P : Type 0) → P → OnErr r P
+on_err (Ok a) P h = tt
+on_err (Err e) P h = h
