@@ -6,6 +6,7 @@ use Rattle.std.proofs.lemmas.Bool.Decides.{nat_tests}
 use Rattle.std.proofs.lemmas.List.{length-take}
 use Rattle.std.proofs.lemmas.Bool.{and_from}
 use Rattle.std.specs.Cmp.{first_so, second_so}
+use Rattle.rv_value.proofs.Lists.{passes_more, passes_take}
 use Rattle.rv_catalog.specs.declared.def.IndexDef.{IndexDef}
 use Rattle.rv_catalog.specs.declared.def.TableDef.{TableDef}
 use Rattle.rv_catalog.specs.Kept.{KeepsIndexes, KeepsTables, indexes_over, is_below, is_narrow, is_over}
@@ -15,15 +16,6 @@ use Rattle.rv_catalog.proofs.Known.{added, cut}
 pub all_append : {X : Type 0} (p : X → Bool) (xs : List X) (x : X) → list_all p xs ≡ true → p x ≡ true → list_all p (xs ++ x ∷ []) ≡ true
 all_append p [] x h k = rw k refl
 all_append p (y ∷ ys) x h k = and_from (p y) (list_all p (ys ++ x ∷ [])) (first_so (p y) (list_all p ys) h) (all_append p ys x (second_so (p y) (list_all p ys) h) k)
-
-pub all_take : {X : Type 0} (p : X → Bool) (n : ℕ) (xs : List X) → list_all p xs ≡ true → list_all p (take n xs) ≡ true
-all_take p zero xs h = refl
-all_take p (suc n) [] h = refl
-all_take p (suc n) (x ∷ xs) h = and_from (p x) (list_all p (take n xs)) (first_so (p x) (list_all p xs) h) (all_take p n xs (second_so (p x) (list_all p xs) h))
-
-pub all_weaker : {X : Type 0} (p q : X → Bool) → ((x : X) → p x ≡ true → q x ≡ true) → (xs : List X) → list_all p xs ≡ true → list_all q xs ≡ true
-all_weaker p q w [] h = refl
-all_weaker p q w (x ∷ xs) h = and_from (q x) (list_all q xs) (w x (first_so (p x) (list_all p xs) h)) (all_weaker p q w xs (second_so (p x) (list_all p xs) h))
 
 -- Tables.
 
@@ -39,7 +31,7 @@ pub table_added : {K : Type 0} (f : K → List ℕ) (keys new : List K) (key : K
 table_added f keys new key tables def k none room narrow named is = record { named = added f (λ (t : TableDef). t.name) keys new key tables def k.named none named is; room = omega (arith, length-append tables (def ∷ [])); narrow = all_append is_narrow tables def k.narrow (grind (arith, nat_tests)) }
 
 pub table_cut : {K : Type 0} (f : K → List ℕ) (keys : List K) (tables : List TableDef) (n : ℕ) → KeepsTables (map f keys) tables → KeepsTables (map f (take n keys)) (take n tables)
-table_cut f keys tables n k = record { named = cut f (λ (t : TableDef). t.name) keys tables n k.named; room = let r = k.room in omega (arith, length-take n tables); narrow = all_take is_narrow n tables k.narrow }
+table_cut f keys tables n k = record { named = cut f (λ (t : TableDef). t.name) keys tables n k.named; room = let r = k.room in omega (arith, length-take n tables); narrow = passes_take is_narrow n tables k.narrow }
 
 -- Indexes.
 
@@ -47,7 +39,7 @@ more_tables : (n : ℕ) (i : IndexDef) → is_below n i ≡ true → is_below (n
 more_tables n i h = grind (arith, nat_tests)
 
 pub more_below : (names : List (List ℕ)) (n m : ℕ) (indexes : List IndexDef) → m ≡ n + 1 → KeepsIndexes names n indexes → KeepsIndexes names m indexes
-more_below names n m indexes e k = rw e (record { named = k.named; there = all_weaker (is_below n) (is_below (n + 1)) (more_tables n) indexes k.there; few = k.few })
+more_below names n m indexes e k = rw e (record { named = k.named; there = passes_more (is_below n) (is_below (n + 1)) (more_tables n) indexes k.there; few = k.few })
 
 below_one : (n : ℕ) (i : IndexDef) → is_below (n + 1) i ≡ true → is_over n i ≡ false → is_below n i ≡ true
 below_one n i h o = grind (arith, nat_tests)
@@ -90,7 +82,7 @@ few_taken : (n : ℕ) (indexes : List IndexDef) → ((t : ℕ) → indexes_over 
 few_taken n indexes few t = let f = few t in let k = filter_take (is_over t) n indexes in omega (arith, f, k)
 
 pub index_cut : {K : Type 0} (f : K → List ℕ) (keys : List K) (tables : ℕ) (indexes : List IndexDef) (n : ℕ) → KeepsIndexes (map f keys) tables indexes → KeepsIndexes (map f (take n keys)) tables (take n indexes)
-index_cut f keys tables indexes n k = record { named = cut f (λ (i : IndexDef). i.name) keys indexes n k.named; there = all_take (is_below tables) n indexes k.there; few = few_taken n indexes k.few }
+index_cut f keys tables indexes n k = record { named = cut f (λ (i : IndexDef). i.name) keys indexes n k.named; there = passes_take (is_below tables) n indexes k.there; few = few_taken n indexes k.few }
 
 -- Eight indexes a table are at most eight times as many as the tables.
 

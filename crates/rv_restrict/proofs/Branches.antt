@@ -6,6 +6,7 @@ use Rattle.std.proofs.lemmas.List.{get_or-map, length-map}
 use Rattle.std.proofs.lemmas.List.Folds.{list_all-append, list_any-append}
 use Rattle.std.proofs.lemmas.Bool.{and_from}
 use Rattle.std.specs.Cmp.{first_so, second_so}
+use Rattle.rv_value.proofs.Tests.{or_false}
 use Rattle.rv_value.specs.declared.value.Value.{Value}
 use Rattle.rv_restrict.specs.declared.atom.ColRef.{ColRef}
 use Rattle.rv_restrict.specs.declared.atom.Op.TheVariants.{Eq}
@@ -40,10 +41,6 @@ alone_true : (t : Tri) → is_true (lesser (greater t False) True) ≡ is_true t
 alone_true True = refl
 alone_true False = refl
 alone_true Unknown = refl
-
-or_false : (a : Bool) → (a || false) ≡ a
-or_false true = refl
-or_false false = refl
 
 and_true : (a : Bool) → (a && true) ≡ a
 and_true true = refl

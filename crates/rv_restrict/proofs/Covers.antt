@@ -1,12 +1,13 @@
 -- The range of a restriction has the key of every row for which it is True.
 use Rattle.std.proofs.Common.{◌≡◌, ℕ, List, [], ◌∷◌, ◌++◌, Bool, true, false, cond, not, ◌&&◌, ◌||◌, Option, Some, None, refl, sym, ◌∙◌, append_assoc, nat_eq, take, length}
 use Rattle.std.specs.List.{slice_index_or}
-use Rattle.std.specs.Ordering.{is_eq, is_lt, is_le, is_gt, is_ge, ordering_then, nat_cmp}
+use Rattle.std.specs.Ordering.{is_lt, is_le, is_gt, is_ge, ordering_then, nat_cmp}
 use Rattle.std.specs.Cmp.{nat_cmp_is, first_so, second_so}
 use Rattle.std.specs.Cmp.Lexicographic.{slice_cmp, pointwise}
 use Rattle.std.specs.declared.cmp.Ordering.{Ordering}
 use Rattle.std.specs.declared.cmp.Ordering.TheVariants.{Less, Equal, Greater}
 use Rattle.std.proofs.lemmas.Bool.{or_parts}
+use Rattle.rv_value.proofs.Tests.{equal_is}
 use Rattle.rv_value.specs.declared.value.Value.{Value}
 use Rattle.rv_value.specs.declared.value.Value.TheVariants.{Null, Int, Str}
 use Rattle.rv_value.specs.declared.range.Range.{Range}
@@ -45,12 +46,6 @@ abbrev pub Kept : Value → List Limit → Type 0
 Kept x [] = Unit {0}
 Kept x (l ∷ ls) = Keeps x l × Kept x ls
 
--- Orderings.
-eq_Equal : (o : Ordering) → is_eq o ≡ true → o ≡ Equal
-eq_Equal Less h = absurd (cc)
-eq_Equal Equal h = refl
-eq_Equal Greater h = absurd (cc)
-
 lt_over : (o : Ordering) → is_lt o ≡ true → goes_over o false ≡ false
 lt_over Less h = refl
 lt_over Equal h = absurd (cc)
@@ -78,7 +73,7 @@ above_null (Str s) h = refl
 
 -- Where an atom is True, its column's value keeps what the atom says.
 keeps_value : (x : Value) (op : Op) (v : Value) → is_null x ≡ false → answers op (value_cmp x v) ≡ true → Keeps x (compare_limit op v)
-keeps_value x Eq v n h = eq_Equal (value_cmp x v) h
+keeps_value x Eq v n h = equal_is (value_cmp x v) h
 keeps_value x Ne v n h = tt
 keeps_value x Lt v n h = (above_null x n, lt_over (value_cmp x v) h)
 keeps_value x Le v n h = (above_null x n, le_over (value_cmp x v) h)

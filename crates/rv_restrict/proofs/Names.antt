@@ -2,6 +2,7 @@
 use Rattle.std.proofs.Common.{◌≡◌, List, [], ◌∷◌, Bool, true, refl}
 use Rattle.std.proofs.lemmas.Bool.{and_from}
 use Rattle.std.specs.Cmp.{first_so, second_so}
+use Rattle.rv_value.proofs.Lists.{passes_more}
 use Rattle.rv_value.specs.declared.value.Value.{Value}
 use Rattle.rv_restrict.specs.declared.atom.ColRef.{ColRef}
 use Rattle.rv_restrict.specs.declared.atom.Operand.{Operand}
@@ -9,7 +10,6 @@ use Rattle.rv_restrict.specs.declared.atom.Operand.TheVariants.{Literal, Column}
 use Rattle.rv_restrict.specs.declared.atom.Atom.{Atom}
 use Rattle.rv_restrict.specs.declared.atom.Atom.TheVariants.{Compare, Between, Among, IsNull, Starts, Const}
 use Rattle.rv_restrict.specs.Truth.{value_of, atom_truth, group_truth, truth_by, operand_names_only, atom_names_only, group_names_only, names_only}
-use Rattle.rv_restrict.proofs.Tests.{all_weaker}
 
 -- A column that passes a test passes a weaker one.
 operand_weaker : (p q : ColRef → Bool) → ((c : ColRef) → p c ≡ true → q c ≡ true) → (o : Operand) → operand_names_only p o ≡ true → operand_names_only q o ≡ true
@@ -25,7 +25,7 @@ atom_weaker p q w (Starts c t) h = w c h
 atom_weaker p q w (Const t) h = refl
 
 pub names_weaker : (p q : ColRef → Bool) → ((c : ColRef) → p c ≡ true → q c ≡ true) → (only : List (List Atom)) → names_only p only ≡ true → names_only q only ≡ true
-names_weaker p q w only h = all_weaker (group_names_only p) (group_names_only q) (all_weaker (atom_names_only p) (atom_names_only q) (atom_weaker p q w)) only h
+names_weaker p q w only h = passes_more (group_names_only p) (group_names_only q) (passes_more (atom_names_only p) (atom_names_only q) (atom_weaker p q w)) only h
 
 -- Readings that agree on the columns named give the same truth.
 operand_same : (r s : ColRef → Value) (p : ColRef → Bool) → ((c : ColRef) → p c ≡ true → r c ≡ s c) → (o : Operand) → operand_names_only p o ≡ true → value_of r o ≡ value_of s o

@@ -1,9 +1,6 @@
 -- Tests, truths and numbers: what follows where a test is true or false.
-use Rattle.std.proofs.Common.{◌≡◌, ℕ, List, [], ◌∷◌, Bool, true, false, ◌&&◌, ◌||◌, ◌==◌, refl, arith}
-use Rattle.std.specs.List.{list_all}
+use Rattle.std.proofs.Common.{◌≡◌, ℕ, Bool, true, false, ◌&&◌, ◌||◌, ◌==◌, refl, arith}
 use Rattle.std.proofs.lemmas.Bool.Decides.{nat_tests}
-use Rattle.std.proofs.lemmas.Bool.{and_from}
-use Rattle.std.specs.Cmp.{first_so, second_so}
 use Rattle.rv_restrict.specs.declared.atom.Tri.{Tri}
 use Rattle.rv_restrict.specs.declared.atom.Tri.TheVariants.{True, False, Unknown}
 use Rattle.rv_restrict.specs.Truth.{greater, lesser, truth_of}
@@ -23,11 +20,6 @@ same_number a b h = grind (arith, nat_tests)
 
 pub is_itself : (n : ℕ) → n == n ≡ true
 is_itself n = grind (arith, nat_tests)
-
--- a weaker test holds of every list of which a stronger one does
-pub all_weaker : {X : Type 0} (p q : X → Bool) → ((x : X) → p x ≡ true → q x ≡ true) → (xs : List X) → list_all p xs ≡ true → list_all q xs ≡ true
-all_weaker p q w [] h = refl
-all_weaker p q w (x ∷ xs) h = and_from (q x) (list_all q xs) (w x (first_so (p x) (list_all p xs) h)) (all_weaker p q w xs (second_so (p x) (list_all p xs) h))
 
 pub lesser_left : (a b : Tri) → lesser a b ≡ True → a ≡ True
 lesser_left True b h = refl

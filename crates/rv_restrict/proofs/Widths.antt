@@ -1,6 +1,7 @@
 -- How many branches a group may have.
-use Rattle.std.proofs.Common.{◌≡◌, ℕ, zero, suc, ◌+◌, ◌<◌, ◌≤◌, List, [], ◌∷◌, ◌++◌, Bool, true, false, cond, not, filter, map, length, length-append, refl, ◌∙◌, arith, ◌==◌}
+use Rattle.std.proofs.Common.{◌≡◌, ℕ, zero, suc, ◌<◌, ◌≤◌, List, [], ◌∷◌, Bool, true, false, cond, not, filter, map, length, length-append, refl, arith, ◌==◌}
 use Rattle.std.proofs.lemmas.List.{length-map}
+use Rattle.rv_value.proofs.Lists.{filter_length}
 use Rattle.rv_value.specs.declared.value.Value.{Value}
 use Rattle.rv_restrict.specs.declared.atom.ColRef.{ColRef}
 use Rattle.rv_restrict.specs.declared.atom.Op.{Op}
@@ -11,17 +12,13 @@ use Rattle.rv_restrict.specs.Bind.{bound, bound_atom, bound_columns, group_place
 use Rattle.rv_restrict.specs.Branches.{alone, alternatives, branches_of, equal_to, group_at, group_width, width_of, widths}
 use Rattle.rv_restrict.specs.Truth.{atom_names_only, atom_truth, is_null}
 
-fewer : {X : Type 0} (p : X → Bool) (xs : List X) → length (filter p xs) ≤ length xs
-fewer p [] = omega arith
-fewer p (x ∷ xs) = let more = fewer p xs in elim (p x) as (λ b. length (cond b (x ∷ filter p xs) (filter p xs)) ≤ length (x ∷ xs)) [ true ↦ omega arith | false ↦ omega arith ]
-
 -- an atom has no more alternatives than its width
 atom_few : (a : Atom) → length (alternatives a) ≤ width_of a
 atom_few (Compare c op operand) = omega arith
 atom_few (Between c low high) = omega arith
 atom_few (Among c list) =
     let mapped = length-map (filter (λ (v : Value). not (is_null v)) list) (equal_to c) in
-    let few = fewer (λ (v : Value). not (is_null v)) list in
+    let few = filter_length (λ (v : Value). not (is_null v)) list in
     omega arith
 atom_few (IsNull c negated) = omega arith
 atom_few (Starts c text) = omega arith
