@@ -2,6 +2,7 @@
 use Rattle.std.proofs.Common.{◌≡◌, ℕ, zero, suc, ◌+◌, ◌-◌, ◌<◌, ◌≤◌, List, [], ◌∷◌, ◌++◌, Bool, true, false, cond, ◌&&◌, ◌||◌, refl, sym, ap, ◌∙◌, arith, length, nat_eq, nat_lt, slice_index_or, slice_set, if◌then◌else◌}
 use Rattle.std.proofs.lemmas.Bool.Decides.{nat_tests}
 use Rattle.std.proofs.lemmas.Bool.{eqb-true, ltb-false, ltb-true}
+use Rattle.rv_value.proofs.Tests.{number_turned, same_number}
 use Rattle.rv_rows.specs.declared.changes.Change.{Change}
 use Rattle.rv_rows.specs.Changes.{has_change, is_of}
 use Rattle.rv_model.specs.Transactions.{empty_lists, next_row, touch, touch_all, touched_by, touched_in, with_number}
@@ -9,9 +10,6 @@ use Rattle.rv_believed.specs.Taken.{ChangesTaken}
 use Rattle.rv_believed.proofs.TakenStates.{changes_more, touched_rises}
 
 -- ---- equal numbers
-
-same_number : (n : ℕ) → nat_eq n n ≡ true
-same_number n = grind (arith, nat_tests)
 
 suc_zero : (t : ℕ) → nat_eq (suc t) 0 ≡ false
 suc_zero t = grind (arith, nat_tests)
@@ -33,9 +31,6 @@ suc_plus_by t n k false e = grind (arith, nat_tests)
 turned_by : (a b : ℕ) (c : Bool) → nat_eq a b ≡ c → nat_eq b a ≡ c
 turned_by a b true e = grind (arith, nat_tests)
 turned_by a b false e = grind (arith, nat_tests)
-
-turned : (a b : ℕ) → nat_eq b a ≡ nat_eq a b
-turned a b = turned_by a b (nat_eq a b) refl
 
 -- ---- an item in the place of one
 
@@ -127,7 +122,7 @@ row_by : (commit : ℕ) (c : Change) (touched : List (List ℕ)) (t r : ℕ) →
     → slice_index_or (cond b (slice_set (touched_in touched c.table) c.row.0 commit) (touched_in touched t)) r 0
     ≡ cond (nat_eq c.table t && nat_eq c.row.0 r) commit (touched_by touched t r)
 row_by commit c touched t r lt true e = set_at (touched_in touched c.table) c.row.0 r commit 0 lt
-    ∙ (λ k. cond (turned c.row.0 r k) commit (touched_by touched (sym (eqb-true t c.table e) k) r))
+    ∙ (λ k. cond (number_turned r c.row.0 k) commit (touched_by touched (sym (eqb-true t c.table e) k) r))
     ∙ ap (λ b. cond (b && nat_eq c.row.0 r) commit (touched_by touched t r)) (sym (turned_by t c.table true e))
 row_by commit c touched t r lt false e = ap (λ b. cond (b && nat_eq c.row.0 r) commit (touched_by touched t r)) (sym (turned_by t c.table false e))
 

@@ -4,6 +4,7 @@ use Rattle.std.proofs.Math.Seq.{get_or-append_seam}
 use Rattle.std.specs.Prelude.{ℕ, List, [], ◌∷◌, ◌++◌, ◌+◌, Bool, true, false, not, ◌&&◌, ◌||◌, Option, None, Result, Ok, length, filter, if◌then◌else◌}
 use Rattle.std.specs.List.{list_any, list_all, slice_index_or, AllByRecursion}
 use Rattle.std.specs.Option.{option_to_list}
+use Rattle.rv_value.proofs.Lists.{all_append, all_filter}
 use Rattle.rv_value.specs.declared.value.Kind.{Kind}
 use Rattle.rv_value.specs.declared.value.Kind.TheVariants.{Big, Chars}
 use Rattle.rv_value.specs.declared.value.Value.{Value}
@@ -51,11 +52,6 @@ columns_at tables items name place table p (c ∷ cs) front n q r = (
       (q ∙ sym (append_assoc front (c ∷ []) cs)) (one_longer front c n r),
 )
 
-all_append : {X : Type 0} (P : X → Type 0) (xs ys : List X) → AllByRecursion P xs → AllByRecursion P ys
-    → AllByRecursion P (xs ++ ys)
-all_append P [] ys a b = b
-all_append P (x ∷ xs) ys a b = (a.0, all_append P xs ys a.1 b)
-
 items_at : (tables : List TableDef) (items rest front : List Item) (place : ℕ)
     → items ≡ front ++ rest → length front ≡ place
     → AllByRecursion (IsAt tables items) (reach_of tables place rest)
@@ -73,11 +69,6 @@ kept_all : {X : Type 0} (P : X → Type 0) (x : X) (xs : List X) (b : Bool) → 
     → AllByRecursion P (if b then x ∷ xs else xs)
 kept_all P x xs true a rest = (a, rest)
 kept_all P x xs false a rest = rest
-
-pub all_filter : {X : Type 0} (P : X → Type 0) (p : X → Bool) (xs : List X) → AllByRecursion P xs
-    → AllByRecursion P (filter p xs)
-all_filter P p [] a = tt
-all_filter P p (x ∷ xs) a = kept_all P x (filter p xs) (p x) a.0 (all_filter P p xs a.1)
 
 -- what a reference finds is at its place
 pub only_at : {B : Type 0} (P : InReach → Type 0) (name : List ℕ) (xs : List InReach) → AllByRecursion P xs

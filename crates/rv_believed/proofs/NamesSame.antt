@@ -1,8 +1,9 @@
 -- Bridge: references and conditions are looked up as in the working definition, which gathers what fits in a loop.
-use Rattle.std.proofs.Common.{◌≡◌, refl, sym, ap, subst, ◌∙◌}
+use Rattle.std.proofs.Common.{◌≡◌, refl, sym, ap, ◌∙◌}
 use Rattle.std.specs.Prelude.{ℕ, List, [], ◌∷◌, ◌++◌, ◌+◌, Bool, true, false, cond, ◌&&◌, Option, Some, None, Result, Ok, Err, bytes_eq, filter, map, if◌then◌else◌}
 use Rattle.std.specs.Option.{option_map_or}
 use Rattle.std.proofs.lemmas.List.Elements.{filter-append}
+use Rattle.rv_value.proofs.Tests.{no_other}
 use Rattle.rv_value.specs.declared.value.Kind.{Kind}
 use Rattle.rv_restrict.specs.declared.atom.ColRef.{ColRef}
 use Rattle.rv_restrict.specs.declared.atom.Operand.TheVariants.{Column}
@@ -30,9 +31,6 @@ abbrev IsFalse : Bool → Type 0
 IsFalse false = Unit {0}
 IsFalse true = ⊥
 
-no_true : {A : Type 0} → false ≡ true → A
-no_true p = absurd (subst IsFalse p tt)
-
 -- what is gathered of columns in a row
 abbrev also_all : Fit → List InReach → Fit
 also_all fit [] = fit
@@ -56,8 +54,8 @@ one_more false fit x ys = refl
 by_item : (ok t n : Bool) → t ≡ ok → (F : Fit → Fit) (a fit : Fit)
     → cond ok (F (cond (t && n) a fit)) (cond (t && n) a fit) ≡ cond ok (F (cond n a fit)) fit
 by_item true true n p F a fit = refl
-by_item true false n p F a fit = no_true p
-by_item false true n p F a fit = no_true (sym p)
+by_item true false n p F a fit = no_other p
+by_item false true n p F a fit = no_other (sym p)
 by_item false false n p F a fit = refl
 
 columns_same : (r : RawCol) (item : List ℕ) (ok : Bool)

@@ -1,8 +1,8 @@
 -- After every legal history the database is orderly.
 use Rattle.std.proofs.Common.{◌≡◌, ℕ, ◌+◌, ◌<◌, List, [], ◌∷◌, ◌++◌, Option, Some, None, Result, Ok, Err, Bool, true, false, ◌&&◌, refl, sym, ap, ◌∙◌, subst, is_some, length, nat_lt, nat_eq, arith, bytes_eq}
-use Rattle.std.proofs.lemmas.Bool.Decides.{nat_tests}
 use Rattle.std.specs.Prelude.{remove}
 use Rattle.std.specs.List.{AllByRecursion}
+use Rattle.rv_value.proofs.Tests.{no_other, same_number}
 use Rattle.rv_value.specs.declared.value.Value.{Value}
 use Rattle.rv_value.specs.declared.record.Record.{Record}
 use Rattle.rv_value.specs.declared.record.RowNo.{RowNo}
@@ -127,9 +127,6 @@ indexed_orderly s def h = then_gives Any Done (refuse_at (transactions.lowest s.
     (λ v q. then_gives Any Done (rows_differ s def) _ (any_gives (rows_differ s def))
     (λ w r. record { active = h.active; below = h.below; bases = h.bases; cursors = h.cursors })))
 
-same_number : (n : ℕ) → nat_eq n n ≡ true
-same_number n = grind (arith, nat_tests)
-
 same_bytes : (bs : List ℕ) → bytes_eq bs bs ≡ true
 same_bytes [] = refl
 same_bytes (b ∷ bs) = λ k. same_number b k && same_bytes bs k
@@ -138,15 +135,12 @@ abbrev IsTrueOne : Bool → Type 0
 IsTrueOne true = Unit {0}
 IsTrueOne false = ⊥
 
-no_false : {A : Type 0} → false ≡ true → A
-no_false p = absurd (subst IsTrueOne (sym p) tt)
-
 -- the transactions before a new one
 befores : (ts : List Transaction) (new : Transaction) → AllByRecursion (λ (t : Transaction). nat_eq t.session new.session ≡ false) ts → AreBelow new.number ts
     → AllByRecursion (λ t. BeginsBefore t new) ts
 befores [] new e b = tt
 befores (t ∷ ts) new e b =
-    (record { session = λ p. no_false (sym e.0 ∙ ap (λ n. nat_eq n new.session) p ∙ same_number new.session); number = b.0 }, befores ts new e.1 b.1)
+    (record { session = λ p. no_other (sym e.0 ∙ ap (λ n. nat_eq n new.session) p ∙ same_number new.session); number = b.0 }, befores ts new e.1 b.1)
 
 one_more_below : (n : ℕ) (ts : List Transaction) → AreBelow n ts → AreBelow (n + 1) ts
 one_more_below n [] b = tt
@@ -236,7 +230,7 @@ others_of : (cursors : List Cursor) (new : Cursor) → AllByRecursion (λ (c : C
     → AllByRecursion (λ c. IsOther c new) cursors
 others_of [] new e = tt
 others_of (c ∷ cs) new e = (
-  (λ p q. no_false (sym e.0
+  (λ p q. no_other (sym e.0
       ∙ (λ k. nat_eq (p k) new.session && bytes_eq (q k) new.name) ∙ (λ k. same_number new.session k && same_bytes new.name k))),
   others_of cs new e.1,
 )

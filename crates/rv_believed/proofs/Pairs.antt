@@ -3,8 +3,9 @@ use Rattle.std.proofs.Common.{◌≡◌, ℕ, zero, suc, ◌+◌, List, [], ◌�
 use Rattle.std.proofs.lemmas.Bool.Decides.{nat_tests}
 use Rattle.std.specs.Prelude.{slice_set, remove, position}
 use Rattle.std.specs.List.{AllByRecursion, slice_index_or, position_or_len}
+use Rattle.rv_value.proofs.Lists.{all_filter, all_more}
 use Rattle.rv_believed.specs.Orderly.{EachTwo}
-use Rattle.rv_believed.proofs.PlainLists.{all_filter, all_remove}
+use Rattle.rv_believed.proofs.PlainLists.{all_remove}
 
 pub all_last : {X : Type 0} (P : X → Type 0) (xs : List X) (y : X) → AllByRecursion P xs → P y → AllByRecursion P (xs ++ y ∷ [])
 all_last P [] y h p = (p, tt)
@@ -34,14 +35,10 @@ all_put P [] n x d h f = tt
 all_put P (y ∷ xs) zero x d h f = (f h.0, h.1)
 all_put P (y ∷ xs) (suc n) x d h f = (h.0, all_put P xs n x d h.1 f)
 
-all_map : {X : Type 0} (P Q : X → Type 0) → ((x : X) → P x → Q x) → (xs : List X) → AllByRecursion P xs → AllByRecursion Q xs
-all_map P Q f [] h = tt
-all_map P Q f (x ∷ xs) h = (f x h.0, all_map P Q f xs h.1)
-
 pub two_put : {X : Type 0} (R : X → X → Type 0) (xs : List X) (n : ℕ) (x d : X) → EachTwo R xs
     → ((y : X) → R y (slice_index_or xs n d) → R y x) → ((y : X) → R (slice_index_or xs n d) y → R x y) → EachTwo R (slice_set xs n x)
 two_put R [] n x d h f g = tt
-two_put R (y ∷ xs) zero x d h f g = (all_map (R y) (R x) g xs h.0, h.1)
+two_put R (y ∷ xs) zero x d h f g = (all_more (R y) (R x) g xs h.0, h.1)
 two_put R (y ∷ xs) (suc n) x d h f g = (all_put (R y) xs n x d h.0 (f y), two_put R xs n x d h.1 f g)
 
 -- without the item in one place, lists of one length are of one length

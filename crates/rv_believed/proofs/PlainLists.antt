@@ -1,13 +1,10 @@
 -- Facts of all items of a list, through what is made of lists.
-use Rattle.std.proofs.Common.{◌≡◌, ℕ, zero, suc, ◌+◌, ◌<◌, List, [], ◌∷◌, ◌++◌, Option, Some, None, Bool, true, false, not, cond, nat_lt, length, map, filter, take, drop, refl, sym, ◌∙◌, arith, if◌then◌else◌}
+use Rattle.std.proofs.Common.{◌≡◌, ℕ, zero, suc, ◌+◌, List, [], ◌∷◌, Option, Some, None, Bool, true, false, not, cond, nat_lt, length, map, take, drop, refl, sym, ◌∙◌, arith, if◌then◌else◌}
 use Rattle.std.proofs.lemmas.Bool.Decides.{nat_tests}
 use Rattle.std.specs.Prelude.{slice_set, remove, position, flat_map, IfSome, IsSome, is_some, find}
 use Rattle.std.specs.List.{AllByRecursion, slice_index_or, position_or_len}
 use Rattle.std.proofs.lemmas.Bool.{ltb-true}
-
-pub all_append : {X : Type 0} (P : X → Type 0) (xs ys : List X) → AllByRecursion P xs → AllByRecursion P ys → AllByRecursion P (xs ++ ys)
-all_append P [] ys a b = b
-all_append P (x ∷ xs) ys a b = (a.0, all_append P xs ys a.1 b)
+use Rattle.rv_value.proofs.Lists.{all_append, all_at, all_drop, all_take}
 
 pub all_map : {X Y : Type 0} (P : X → Type 0) (Q : Y → Type 0) (f : X → Y) → ((x : X) → P x → Q (f x)) → (xs : List X) → AllByRecursion P xs → AllByRecursion Q (map f xs)
 all_map P Q f holds [] a = tt
@@ -21,23 +18,9 @@ kept_all : {X : Type 0} (P : X → Type 0) (x : X) (xs : List X) (b : Bool) → 
 kept_all P x xs true a rest = (a, rest)
 kept_all P x xs false a rest = rest
 
-pub all_filter : {X : Type 0} (P : X → Type 0) (p : X → Bool) (xs : List X) → AllByRecursion P xs → AllByRecursion P (filter p xs)
-all_filter P p [] a = tt
-all_filter P p (x ∷ xs) a = kept_all P x (filter p xs) (p x) a.0 (all_filter P p xs a.1)
-
 pub all_flat : {X Y : Type 0} (P : X → Type 0) (Q : Y → Type 0) (f : X → List Y) → ((x : X) → P x → AllByRecursion Q (f x)) → (xs : List X) → AllByRecursion P xs → AllByRecursion Q (flat_map f xs)
 all_flat P Q f holds [] a = tt
 all_flat P Q f holds (x ∷ xs) a = all_append Q (f x) (flat_map f xs) (holds x a.0) (all_flat P Q f holds xs a.1)
-
-pub all_take : {X : Type 0} (P : X → Type 0) (n : ℕ) (xs : List X) → AllByRecursion P xs → AllByRecursion P (take n xs)
-all_take P zero xs a = tt
-all_take P (suc n) [] a = tt
-all_take P (suc n) (x ∷ xs) a = (a.0, all_take P n xs a.1)
-
-pub all_drop : {X : Type 0} (P : X → Type 0) (n : ℕ) (xs : List X) → AllByRecursion P xs → AllByRecursion P (drop n xs)
-all_drop P zero xs a = a
-all_drop P (suc n) [] a = tt
-all_drop P (suc n) (x ∷ xs) a = all_drop P n xs a.1
 
 pub all_remove : {X : Type 0} (P : X → Type 0) (xs : List X) (n : ℕ) → AllByRecursion P xs → AllByRecursion P (remove xs n)
 all_remove P xs n a = all_append P (take n xs) (drop (suc n) xs) (all_take P n xs a) (all_drop P (suc n) xs a)
@@ -52,14 +35,9 @@ or_all P [] n d a p = p
 or_all P (x ∷ xs) zero d a p = a.0
 or_all P (x ∷ xs) (suc n) d a p = or_all P xs n d a.1 p
 
-pub below_all : {X : Type 0} (P : X → Type 0) (xs : List X) (n : ℕ) (d : X) → AllByRecursion P xs → n < length xs → P (slice_index_or xs n d)
-below_all P [] n d a lt = absurd (omega (arith, lt))
-below_all P (x ∷ xs) zero d a lt = a.0
-below_all P (x ∷ xs) (suc n) d a lt = below_all P xs n d a.1 (omega (arith, lt))
-
 found_all : {X : Type 0} (P : X → Type 0) (xs : List X) (n : ℕ) (d : X) → AllByRecursion P xs → (b : Bool) → nat_lt n (length xs) ≡ b
     → IfSome (cond b (Some n) None) (λ m. P (slice_index_or xs m d))
-found_all P xs n d a true h = below_all P xs n d a (ltb-true n (length xs) h)
+found_all P xs n d a true h = all_at P xs n d a (ltb-true n (length xs) h)
 found_all P xs n d a false h = tt
 
 -- what is found at a place is one of them

@@ -2,10 +2,10 @@
 use Rattle.std.proofs.Common.{◌≡◌, ℕ, ◌+◌, List, [], ◌∷◌, ◌++◌, Option, Some, None, Result, Ok, Err, Bool, true, false, ◌&&◌, refl, sym, subst, map, filter, is_some, nat_eq, nat_lt, length, not, if◌then◌else◌}
 use Rattle.std.specs.Prelude.{IfSome, IsSome, find, slice_set, remove}
 use Rattle.std.specs.List.{AllByRecursion, slice_index_or, range_with_len}
-use Rattle.std.specs.Ordering.{is_eq, is_lt}
-use Rattle.std.specs.declared.cmp.Ordering.{Ordering}
-use Rattle.std.specs.declared.cmp.Ordering.TheVariants.{Less, Equal, Greater}
+use Rattle.std.specs.Ordering.{is_lt}
 use Rattle.std.specs.Cmp.{second_so}
+use Rattle.rv_value.proofs.Tests.{equal_is}
+use Rattle.rv_value.proofs.Lists.{all_append, all_filter}
 use Rattle.rv_value.specs.declared.value.Value.{Value}
 use Rattle.rv_value.specs.declared.value.Value.TheVariants.{Null}
 use Rattle.rv_value.specs.declared.record.Record.{Record}
@@ -45,7 +45,7 @@ use Rattle.rv_model.specs.Transcript.{IsName as IsPlainName}
 use Rattle.rv_value.proofs.Same.{values_same}
 use Rattle.rv_believed.specs.Answers.{Test}
 use Rattle.rv_believed.specs.Plain.{IsPlainValue, IsPlainRefusal, IsPlainReply}
-use Rattle.rv_believed.proofs.PlainLists.{all_append, all_map, all_map_any, all_filter, all_flat, all_remove, all_set, or_all, passing}
+use Rattle.rv_believed.proofs.PlainLists.{all_map, all_map_any, all_flat, all_remove, all_set, or_all, passing}
 use Rattle.rv_believed.proofs.PlainNames.{Comes, Any, then_comes, refuse_comes, ok_or_comes, IsPlainTable, ArePlainTables, IsPlainAsked}
 use Rattle.rv_believed.proofs.PlainTraces.{shown_plain}
 
@@ -418,13 +418,8 @@ closed_plain s session cursor h p = then_comes Any IsPlainDone (ok_or (cursor_na
 
 -- ---- FETCH
 
-equal_of : (o : Ordering) → is_eq o ≡ true → o ≡ Equal
-equal_of Less e = absurd (cc e)
-equal_of Equal e = refl
-equal_of Greater e = absurd (cc e)
-
 same_is : (a b : List Value) → same_values a b ≡ true → a ≡ b
-same_is a b e = values_same a b (equal_of (values_cmp a b) e)
+same_is a b e = values_same a b (equal_is (values_cmp a b) e)
 
 given_plain : (offers : List Offer) (values : List Value) → AllByRecursion IsPlainOffer offers → IsSome (place_of offers values) → ArePlainValues values
 given_plain [] values h e = absurd (cc e)

@@ -4,6 +4,7 @@ use Rattle.std.proofs.lemmas.Bool.Decides.{nat_tests}
 use Rattle.std.specs.Char.{is_ascii_alphabetic, to_ascii_uppercase}
 use Rattle.std.specs.List.{list_all, AllByRecursion}
 use Rattle.std.proofs.lemmas.Bool.{and_parts, and_from}
+use Rattle.rv_value.proofs.Lists.{passes_more}
 use Rattle.rv_value.specs.declared.value.Value.{Value}
 use Rattle.rv_value.specs.declared.value.Value.TheVariants as values
 use Rattle.rv_lang.specs.declared.token.Token.{Token}
@@ -20,7 +21,6 @@ use Rattle.rv_lang.specs.declared.statement.Statement.{Statement}
 use Rattle.rv_lang.specs.declared.statement.Statement.TheVariants.{CreateTable, CreateIndex, Begin, Insert, Update, Delete, Commit, Rollback, Open, Fetch, Show, Close, Step}
 use Rattle.rv_lang.specs.Tokens.{Cuts, IsToken, IsWord, is_text_byte, is_word_byte}
 use Rattle.rv_model.specs.Transcript.{IsName as IsPlainName, is_capital, is_name_byte}
-use Rattle.rv_model.proofs.Values.{passes_more}
 use Rattle.rv_believed.specs.Grammar.{Says, Derives, key, LPAREN, RPAREN, more_tokens, list_tokens, literal, qualifier, column, compare, operand, atom, IsGroup, bare, in_parens, AreGroups, one, more, IsCond, lone, groups, IsWhere, no_where, where_cond, name, kind, column_def, set, unique_word, select_list, second_name, from_item, order_by, IsBody}
 use Rattle.rv_believed.specs.Plain.{IsPlainValue}
 

@@ -1,9 +1,11 @@
 -- What SHOW answers has the names of indexes of the schema.
-use Rattle.std.proofs.Common.{◌≡◌, ℕ, ◌+◌, ◌∷◌, ◌++◌, [], List, Option, Some, None, Bool, true, false, ◌||◌, refl, sym, ◌∙◌, subst, length, map, nat_eq, if◌then◌else◌}
+use Rattle.std.proofs.Common.{◌≡◌, ℕ, ◌+◌, ◌∷◌, ◌++◌, [], List, Option, Some, None, Bool, true, false, refl, sym, ◌∙◌, subst, length, map, nat_eq, if◌then◌else◌}
 use Rattle.std.proofs.Math.Seq.{get_or-append_seam}
 use Rattle.std.specs.Prelude.{IfSome}
 use Rattle.std.specs.List.{AllByRecursion, slice_index_or, list_all}
 use Rattle.std.proofs.lemmas.Bool.{and_parts, eqb-true}
+use Rattle.rv_value.proofs.Tests.{either}
+use Rattle.rv_value.proofs.Lists.{all_append}
 use Rattle.rv_judge.specs.declared.events.Strategy.{Strategy}
 use Rattle.rv_judge.specs.declared.events.Strategy.TheVariants.{Table, BackgroundOnly, FastFirst, Sorted, IndexOnly, Union}
 use Rattle.rv_judge.specs.declared.events.Control.{Control}
@@ -24,7 +26,7 @@ use Rattle.rv_model.specs.Transcript.{IsName as IsPlainName}
 use Rattle.rv_believed.specs.Plain.{IsPlainEvent}
 use Rattle.rv_believed.proofs.Chains.{append_assoc}
 use Rattle.rv_believed.proofs.KindsSame.{one_longer}
-use Rattle.rv_believed.proofs.PlainLists.{all_append, all_map}
+use Rattle.rv_believed.proofs.PlainLists.{all_map}
 
 -- ---- a fact of all indexes of a run is one of all its events
 
@@ -125,13 +127,9 @@ numbers_plain indexes table (d ∷ ds) front n q r h = kept_numbers (IsPlainNumb
     ∙ get_or-append_seam front d ds no_index)) h.0)
     (numbers_plain indexes table ds (front ++ d ∷ []) (n + 1) (q ∙ sym (append_assoc front (d ∷ []) ds)) (one_longer front d n r) h.1)
 
-or_either : {A : Type 0} (a b : Bool) → (a || b) ≡ true → (a ≡ true → A) → (b ≡ true → A) → A
-or_either true b h f g = f refl
-or_either false b h f g = g h
-
 known_one : (P : ℕ → Type 0) (i : ℕ) (ns : List ℕ) → AllByRecursion P ns → has_index i ns ≡ true → P i
 known_one P i [] h e = absurd (cc e)
-known_one P i (n ∷ ns) h e = or_either (nat_eq n i) (has_index i ns) e (λ q. subst P (eqb-true n i q) h.0) (λ q. known_one P i ns h.1 q)
+known_one P i (n ∷ ns) h e = either (nat_eq n i) (has_index i ns) e (λ q. subst P (eqb-true n i q) h.0) (λ q. known_one P i ns h.1 q)
 
 known_all : (P : ℕ → Type 0) (ns planned : List ℕ) → AllByRecursion P ns → list_all (λ i. has_index i ns) planned ≡ true → AllByRecursion P planned
 known_all P ns [] h e = tt

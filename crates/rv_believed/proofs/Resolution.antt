@@ -5,6 +5,8 @@ use Rattle.std.specs.Prelude.{ℕ, ℤ, pos, negsuc, List, [], ◌∷◌, ◌++�
 use Rattle.std.specs.List.{list_any, slice_index_or, AllByRecursion}
 use Rattle.std.specs.Option.{unwrap_or}
 use Rattle.std.proofs.lemmas.List.{append-nil}
+use Rattle.rv_value.proofs.Tests.{right_false}
+use Rattle.rv_value.proofs.Lists.{all_filter}
 use Rattle.rv_value.specs.declared.value.Kind.{Kind}
 use Rattle.rv_value.specs.declared.value.Kind.TheVariants.{Big, Chars}
 use Rattle.rv_value.specs.declared.value.Value.{Value}
@@ -38,7 +40,7 @@ use Rattle.rv_believed.specs.Names.{InReach, reach_from, reach_of, reach_alone, 
 use Rattle.rv_believed.proofs.Chains.{append_assoc, in_a_row, same_after, collected_same}
 use Rattle.rv_believed.proofs.LimitsSame.{limits_same}
 use Rattle.rv_believed.proofs.NamesSame.{reference_same, all_columns_same, condition_same, own_same, at_of}
-use Rattle.rv_believed.proofs.KindsSame.{one_longer, only_at, all_filter, list_agrees, kinds_agree}
+use Rattle.rv_believed.proofs.KindsSame.{one_longer, only_at, list_agrees, kinds_agree}
 
 -- ---- names that stand twice
 
@@ -338,10 +340,6 @@ then_is : {A : Type 0} (t : Test) (f : Result A Refusal) (a : A) → (t >>= (λ 
 then_is (Ok u) f a e = (refl, e)
 then_is (Err r) f a e = absurd (cc e)
 
-both_false : (a b : Bool) → (a || b) ≡ false → b ≡ false
-both_false true b e = absurd (cc e)
-both_false false b e = e
-
 not_refused : (b : Bool) (r : Refusal) → refuse_if b r ≡ Ok tt → b ≡ false
 not_refused true r e = absurd (cc e)
 not_refused false r e = refl
@@ -349,7 +347,7 @@ not_refused false r e = refl
 column_fits : (c : List ℕ × RawKind) → kind_fits c ≡ Ok tt → today.column_def c ≡ column_def c
 column_fits (name, raw_kinds.Big) e = refl
 column_fits (name, raw_kinds.Chars (pos n)) e =
-    ap (λ b. (name, Chars (cond b 255 n))) (both_false (nat_lt n 1) (nat_lt 255 n) (not_refused (is_outside 1 255 (pos n)) (Limit which.Text 255) e))
+    ap (λ b. (name, Chars (cond b 255 n))) (right_false (nat_lt n 1) (nat_lt 255 n) (not_refused (is_outside 1 255 (pos n)) (Limit which.Text 255) e))
 column_fits (name, raw_kinds.Chars (negsuc n)) e = refl
 
 columns_fit : (cs : List (List ℕ × RawKind)) → all_pass kind_fits cs ≡ Ok tt → map today.column_def cs ≡ map column_def cs

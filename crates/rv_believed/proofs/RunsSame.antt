@@ -1,6 +1,7 @@
 -- Bridge: a run by turns of the working definition is a run, turn by turn. The cases were written by a script.
 use Rattle.std.proofs.Common.{◌≡◌, refl, sym, subst, inl, inr}
 use Rattle.std.specs.Prelude.{ℕ, List, [], ◌∷◌, ◌++◌, Bool, true, false, Option, Some, None, ◌⊎◌}
+use Rattle.rv_value.proofs.Tests.{no_other}
 use Rattle.rv_judge.specs.declared.events.Strategy.{Strategy}
 use Rattle.rv_judge.specs.declared.events.Strategy.TheVariants.{Table, BackgroundOnly, FastFirst, Sorted, IndexOnly, Union}
 use Rattle.rv_judge.specs.declared.events.Control.{Control}
@@ -23,9 +24,6 @@ Turned st s h keys =
 abbrev IsFalse : Bool → Type 0
 IsFalse false = Unit {0}
 IsFalse true = ⊥
-
-no_true : {A : Type 0} → false ≡ true → A
-no_true p = absurd (subst IsFalse p tt)
 
 pub same_more : (ahead : List ℕ) (listed : Option ℕ) → today.is_more ahead listed ≡ is_more ahead listed
 same_more [] listed = refl
@@ -932,17 +930,17 @@ final_end_some IndexOnly Done i keys ahead old = inr (refl, refl)
 -- one turn
 turned : (st : Strategy) (c : Control) (scan : Option ℕ) (ahead : List ℕ) (old : Option ℕ) (h : Happening) (keys : ℕ)
     → today.MayCome st (at c scan ahead old) h keys → Turned st (at c scan ahead old) h keys
-turned st c None ahead old (ScanEnded more listed) keys m = no_true m.0
-turned st c (Some i) ahead old (ScanEnded more false) keys m = no_true m.2
-turned st c (Some i) [] old (ScanEnded true true) keys m = no_true (sym m.1)
+turned st c None ahead old (ScanEnded more listed) keys m = no_other m.0
+turned st c (Some i) ahead old (ScanEnded more false) keys m = no_other m.2
+turned st c (Some i) [] old (ScanEnded true true) keys m = no_other (sym m.1)
 turned st c (Some i) (j ∷ ahead) old (ScanEnded true true) keys m = list_more st c i j keys ahead old (sym m.1)
 turned st c (Some i) [] old (ScanEnded false true) keys m = list_last st c i keys [] old (sym m.1)
 turned st c (Some i) (j ∷ ahead) old (ScanEnded false true) keys m = list_last st c i keys (j ∷ ahead) old (sym m.1)
-turned st c None ahead old (Ruled v more listed) keys m = no_true m.0
-turned st c (Some i) ahead None (Ruled v more true) keys m = no_true (sym m.2)
-turned st c (Some i) ahead (Some n) (Ruled v more false) keys m = no_true m.2
-turned st c (Some i) [] None (Ruled AbandonScan true false) keys m = no_true (sym m.1)
-turned st c (Some i) [] (Some n) (Ruled AbandonScan true true) keys m = no_true (sym m.1)
+turned st c None ahead old (Ruled v more listed) keys m = no_other m.0
+turned st c (Some i) ahead None (Ruled v more true) keys m = no_other (sym m.2)
+turned st c (Some i) ahead (Some n) (Ruled v more false) keys m = no_other m.2
+turned st c (Some i) [] None (Ruled AbandonScan true false) keys m = no_other (sym m.1)
+turned st c (Some i) [] (Some n) (Ruled AbandonScan true true) keys m = no_other (sym m.1)
 turned st c (Some i) (j ∷ ahead) None (Ruled AbandonScan true false) keys m = drop_more st c i j keys ahead None false (sym m.1)
 turned st c (Some i) (j ∷ ahead) (Some n) (Ruled AbandonScan true true) keys m = drop_more st c i j keys ahead (Some n) true (sym m.1)
 turned st c (Some i) [] None (Ruled AbandonScan false false) keys m = drop_last_none st c i keys 0 [] (sym m.1)

@@ -1,9 +1,9 @@
 -- Bridge: the traces that may be shown are those of the working definition.
 use Rattle.std.proofs.Common.{◌≡◌, ◌≢◌, ℕ, zero, suc, ◌<◌, ◌≤◌, List, [], ◌∷◌, ◌++◌, Option, Some, None, Bool, true, false, ◌||◌, refl, sym, ap, ◌∙◌, subst, length, nat_eq, arith, map}
-use Rattle.std.proofs.lemmas.Bool.Decides.{nat_tests}
 use Rattle.std.specs.List.{AllByRecursion, Contains, list_all, slice_index_or}
 use Rattle.std.specs.Option.{option_to_list}
 use Rattle.std.proofs.lemmas.Bool.{and_from, and_parts, eqb-true, or_parts}
+use Rattle.rv_value.proofs.Tests.{no_other, same_number}
 use Rattle.rv_judge.specs.declared.events.Strategy.{Strategy}
 use Rattle.rv_judge.specs.declared.events.Strategy.TheVariants.{Table, BackgroundOnly, FastFirst, Sorted, IndexOnly, Union}
 use Rattle.rv_judge.specs.declared.events.Control.{Control}
@@ -26,13 +26,7 @@ abbrev IsTrueOne : Bool → Type 0
 IsTrueOne true = Unit {0}
 IsTrueOne false = ⊥
 
-no_false : {A : Type 0} → false ≡ true → A
-no_false p = absurd (subst IsTrueOne (sym p) tt)
-
 -- ---- one of the indexes
-
-same_number : (i : ℕ) → nat_eq i i ≡ true
-same_number i = grind (arith, nat_tests)
 
 not_equal : (k i : ℕ) → i ≢ k → (b : Bool) → nat_eq k i ≡ b → b ≡ false
 not_equal k i h true e = absurd (h (sym (eqb-true k i e)))
@@ -47,7 +41,7 @@ contains_by n i ns true e h rest = (0, omega arith, eqb-true n i e)
 contains_by n i ns false e h rest = let it = rest h in (suc it.0, (let lt = it.1 in omega (arith, lt)), it.2)
 
 contains_of : (i : ℕ) (ns : List ℕ) → has_index i ns ≡ true → Contains ns i
-contains_of i [] h = no_false h
+contains_of i [] h = no_other h
 contains_of i (n ∷ ns) h = contains_by n i ns (nat_eq n i) refl h (contains_of i ns)
 
 or_true : (b : Bool) → (b || true) ≡ true
@@ -76,7 +70,7 @@ known_from ns (i ∷ planned) h = and_from (has_index i ns) (list_all (λ k. has
 differs_to : (i : ℕ) (ns : List ℕ) → has_index i ns ≡ false → AllByRecursion (λ j. i ≢ j) ns
 differs_to i [] h = tt
 differs_to i (n ∷ ns) h = let parts = or_parts (nat_eq n i) (has_index i ns) h in
-    ((λ e. no_false (sym parts.0 ∙ ap (λ k. nat_eq k i) (sym e) ∙ same_number i)), differs_to i ns parts.1)
+    ((λ e. no_other (sym parts.0 ∙ ap (λ k. nat_eq k i) (sym e) ∙ same_number i)), differs_to i ns parts.1)
 
 differs_from : (i : ℕ) (ns : List ℕ) → AllByRecursion (λ j. i ≢ j) ns → has_index i ns ≡ false
 differs_from i [] h = refl

@@ -3,6 +3,7 @@ use Rattle.std.proofs.Common.{◌≡◌, ℕ, zero, suc, ◌+◌, ◌-◌, ◌<�
 use Rattle.std.specs.Prelude.{remove, slice_set}
 use Rattle.std.specs.List.{AllByRecursion, range_with_len, slice_index_or}
 use Rattle.std.proofs.lemmas.Bool.{eqb-true, ltb-false, ltb-true}
+use Rattle.rv_value.proofs.Lists.{all_append, all_filter}
 use Rattle.rv_value.specs.declared.value.Value.{Value}
 use Rattle.rv_value.specs.declared.record.Record.{Record}
 use Rattle.rv_value.specs.declared.record.RowNo.{RowNo}
@@ -34,7 +35,7 @@ use Rattle.rv_model.specs.Transactions.{empty_lists, next_row, no_transaction, r
 use Rattle.rv_believed.specs.Taken.{AreTaken, ChangesTaken, HasTaken, StaysTaken, TablesTaken}
 use Rattle.rv_believed.proofs.OrderlyStates.{Gives, Any, then_gives, any_gives}
 use Rattle.rv_believed.proofs.Pairs.{all_last}
-use Rattle.rv_believed.proofs.PlainLists.{all_append, all_filter, all_remove, all_set, or_all}
+use Rattle.rv_believed.proofs.PlainLists.{all_remove, all_set, or_all}
 
 -- ---- the next row numbers
 

@@ -7,6 +7,7 @@ use Rattle.std.specs.List.{AllByRecursion, flat_map, list_any}
 use Rattle.std.specs.Ordering.{is_eq, ordering_reverse, ordering_then}
 use Rattle.std.specs.declared.cmp.Ordering.{Ordering}
 use Rattle.std.specs.declared.cmp.Ordering.TheVariants.{Less, Equal, Greater}
+use Rattle.rv_value.proofs.Lists.{all_filter}
 use Rattle.rv_value.specs.declared.value.Value.{Value}
 use Rattle.rv_value.specs.declared.value.Value.TheVariants.{Null, Int, Str}
 use Rattle.rv_value.specs.declared.record.Record.{Record}
@@ -55,12 +56,6 @@ use Rattle.rv_believed.proofs.UniqueRows.{In, commit_in, in_back, in_filter, in_
 each_in : {X : Type 0} (P Q : X → Type 0) (xs : List X) → AllByRecursion P xs → ((x : X) → In x xs → P x → Q x) → AllByRecursion Q xs
 each_in P Q [] all more = tt
 each_in P Q (x ∷ xs) all more = (more x (inl refl) all.0, each_in P Q xs all.1 (λ y h. more y (inr h)))
-
-each_filter : {X : Type 0} (P : X → Type 0) (p : X → Bool) (xs : List X) → AllByRecursion P xs → AllByRecursion P (filter p xs)
-each_filter P p [] all = tt
-each_filter P p (x ∷ xs) all =
-    let more = each_filter P p xs all.1 in
-    elim (p x) as (λ b. AllByRecursion P (cond b (x ∷ filter p xs) (filter p xs))) [ true ↦ (all.0, more) | false ↦ more ]
 
 each_map : {X Y : Type 0} (P : X → Type 0) (Q : Y → Type 0) (f : X → Y) (xs : List X) → AllByRecursion P xs → ((x : X) → In x xs → P x → Q (f x)) → AllByRecursion Q (map f xs)
 each_map P Q f [] all more = tt
@@ -425,15 +420,15 @@ put_good d session table t new differ found passed of good =
 without_apart : (i : IndexDef) (rows : ℕ → List Record) (session : ℕ) (ts : List Transaction) → ApartIn i rows ts → ApartIn i rows (filter (λ (u : Transaction). not (u.session == session)) ts)
 without_apart i rows session ts old = record {
   last = old.last;
-  views = each_filter (Sees i) (λ (u : Transaction). not (u.session == session)) ts old.views;
-  commits = each_filter (Leaves i rows) (λ (u : Transaction). not (u.session == session)) ts old.commits;
+  views = all_filter (Sees i) (λ (u : Transaction). not (u.session == session)) ts old.views;
+  commits = all_filter (Leaves i rows) (λ (u : Transaction). not (u.session == session)) ts old.commits;
   others = two_filter (Wrote i) (λ (u : Transaction). not (u.session == session)) ts old.others;
 }
 
 without_good : (d : Database) (session : ℕ) → Good d → GoodOf d.indexes d.rows (others d session)
 without_good d session good = record {
   unique = each_in (IfUnique d.rows d.active) (IfUnique d.rows (others d session)) d.indexes good.unique (λ i h old unique. without_apart i d.rows session d.active (old unique));
-  rises = each_filter (λ (u : Transaction). Rise u.changes) (λ (u : Transaction). not (u.session == session)) d.active good.rises;
+  rises = all_filter (λ (u : Transaction). Rise u.changes) (λ (u : Transaction). not (u.session == session)) d.active good.rises;
 }
 
 last_apart : (i : IndexDef) (rows : ℕ → List Record) (ts : List Transaction) (t : Transaction) → ApartIn i rows ts → In t ts → AreApart i.columns (rows_with_changes i.table t.changes (rows i.table)) (rows_with_changes i.table t.changes (rows i.table))
@@ -482,7 +477,7 @@ commit_good d session base t [] is found good = without_good d session good
 commit_good d session base t (c ∷ cs) is found good =
     let after : GoodOf d.indexes (λ table. rows_with_changes table t.changes (d.rows table)) (others d session) = record {
       unique = each_in (IfUnique d.rows d.active) (IfUnique (λ table. rows_with_changes table t.changes (d.rows table)) (others d session)) d.indexes good.unique (λ i h old unique. commit_apart i d.rows session d.active t (old unique) found);
-      rises = each_filter (λ (u : Transaction). Rise u.changes) (λ (u : Transaction). not (u.session == session)) d.active good.rises;
+      rises = all_filter (λ (u : Transaction). Rise u.changes) (λ (u : Transaction). not (u.session == session)) d.active good.rises;
     } in
     subst (λ (xs : List Change). GoodOf d.indexes (λ table. rows_with_changes table xs (d.rows table)) (others d session)) is after
 

@@ -6,6 +6,7 @@ use Rattle.std.proofs.lemmas.Fmt.{decimal_digit}
 use Rattle.std.proofs.lemmas.List.Folds.{list_all-append}
 use Rattle.std.proofs.lemmas.Bool.Decides.{nat_tests}
 use Rattle.std.proofs.lemmas.Bool.{and_from, and_parts}
+use Rattle.rv_value.proofs.Lists.{passes_more}
 use Rattle.rv_value.specs.declared.value.Value.{Value}
 use Rattle.rv_value.specs.declared.value.Value.TheVariants.{Null, Int, Str}
 use Rattle.rv_model.specs.declared.entry.Entry.{Entry}
@@ -27,7 +28,7 @@ use Rattle.rv_judge.specs.declared.events.Control.TheVariants as controls
 use Rattle.rv_lang.specs.Tokens.{quotes_twice}
 use Rattle.rv_model.specs.Transcript.{limit_word, strategy_word, control_word, event_words, count_words, trace_words, words_text, IsName, is_name_byte, is_capital, IsPlainEvent, IsPlainTrace, value_text, more_text, values_text, reply_text, refusal_text, rival_text, entry_text, text, IsPlainValue, IsPlainReply, IsPlainRefusal, IsPlainRival, IsPlain, SameButPhase, AllSameButPhase}
 use Rattle.rv_model.proofs.Cuts.{cut}
-use Rattle.rv_model.proofs.Values.{numeric, decimal_pass, signed_pass, passes_more}
+use Rattle.rv_model.proofs.Values.{numeric, decimal_pass, signed_pass}
 use Rattle.rv_model.proofs.Replies.{reply_same}
 
 -- no line feed

@@ -6,6 +6,7 @@ use Rattle.std.specs.Fmt.{decimal}
 use Rattle.std.specs.Str.Parse.{digits_value}
 use Rattle.std.proofs.lemmas.Fmt.{decimal_is_IsNumeral, decimal_injective}
 use Rattle.std.proofs.lemmas.Bool.{and_from}
+use Rattle.rv_value.proofs.Lists.{passes_more}
 use Rattle.rv_judge.specs.declared.events.Strategy.{Strategy}
 use Rattle.rv_judge.specs.declared.events.Strategy.TheVariants as strategies
 use Rattle.rv_judge.specs.declared.events.Control.{Control}
@@ -15,7 +16,7 @@ use Rattle.rv_lang.specs.declared.reply.ShownEvent.TheVariants as events
 use Rattle.rv_lang.specs.declared.reply.Shown.{Shown}
 use Rattle.rv_model.specs.Transcript.{strategy_word, control_word, event_words, count_words, trace_words, words_text, IsName, is_name_byte, is_capital, IsPlainEvent, IsPlainTrace}
 use Rattle.rv_model.proofs.Cuts.{Stops, cut}
-use Rattle.rv_model.proofs.Values.{numeric, decimal_pass, passes_more}
+use Rattle.rv_model.proofs.Values.{numeric, decimal_pass}
 
 abbrev pub no_space : ℕ → Bool
 no_space c = not (eqb c 32)

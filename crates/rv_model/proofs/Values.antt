@@ -7,19 +7,12 @@ use Rattle.std.specs.Str.Parse.{AllDigits}
 use Rattle.std.specs.Char.{digit_value, is_ascii_digit}
 use Rattle.std.proofs.lemmas.Fmt.{decimal_nonempty, decimal_is_IsNumeral, signed_decimal_injective}
 use Rattle.std.specs.Int.Signed.{mag}
-use Rattle.std.proofs.lemmas.Bool.{and_from, and_parts}
+use Rattle.std.proofs.lemmas.Bool.{and_parts}
 use Rattle.rv_value.specs.declared.value.Value.{Value}
 use Rattle.rv_value.specs.declared.value.Value.TheVariants.{Null, Int, Str}
 use Rattle.rv_lang.specs.Tokens.{quotes_twice}
 use Rattle.rv_model.specs.Transcript.{value_text, more_text, values_text, IsPlainValue}
 use Rattle.rv_model.proofs.Cuts.{Stops, cut}
-
--- A test that follows from another passes where the other does.
-pub passes_more : (p q : ℕ → Bool) → ((c : ℕ) → p c ≡ true → q c ≡ true) → (xs : List ℕ) → list_all p xs ≡ true → list_all q xs ≡ true
-passes_more p q more [] h = refl
-passes_more p q more (x ∷ xs) h =
-    let parts = and_parts (p x) (list_all p xs) h in
-    and_from (q x) (list_all q xs) (more x parts.0) (passes_more p q more xs parts.1)
 
 -- a byte of a number
 abbrev pub numeric : ℕ → Bool

@@ -6,6 +6,7 @@ use Rattle.std.proofs.lemmas.List.Folds.{list_all-append}
 use Rattle.std.specs.List.{list_all, AllByRecursion}
 use Rattle.std.specs.Fmt.{decimal, signed_decimal}
 use Rattle.std.proofs.lemmas.Option.{cond_some, same_Some}
+use Rattle.rv_value.proofs.Lists.{passes_more}
 use Rattle.rv_value.specs.declared.value.Value.{Value}
 use Rattle.rv_value.specs.declared.value.Value.TheVariants.{Null, Int, Str}
 use Rattle.rv_lang.specs.declared.reply.Which.{Which}
@@ -19,7 +20,7 @@ use Rattle.rv_lang.specs.declared.reply.Reply.{Reply}
 use Rattle.rv_lang.specs.declared.reply.Reply.TheVariants as replies
 use Rattle.rv_lang.specs.Tokens.{quotes_twice}
 use Rattle.rv_model.specs.Transcript.{limit_word, more_text, refusal_text, reply_text, rival_text, words_text, trace_words, value_text, values_text, IsLine, IsName, IsPlainRefusal, IsPlainReply, IsPlainRival, IsPlainValue}
-use Rattle.rv_model.proofs.Values.{numeric, decimal_pass, signed_pass, passes_more}
+use Rattle.rv_model.proofs.Values.{numeric, decimal_pass, signed_pass}
 use Rattle.rv_text.specs.Lines.{cut}
 use Rattle.rv_text.specs.Reading.{CanHoldReply}
 use Rattle.rv_text.specs.Values.{number_at, values_at}

@@ -9,11 +9,12 @@ use Rattle.std.specs.Int.Signed.{mag}
 use Rattle.std.specs.List.{list_all, AllByRecursion}
 use Rattle.std.specs.Str.{is_utf8}
 use Rattle.std.proofs.lemmas.Option.{cond_some, same_Some}
+use Rattle.rv_value.proofs.Lists.{passes_more}
 use Rattle.rv_value.specs.declared.value.Value.{Value}
 use Rattle.rv_value.specs.declared.value.Value.TheVariants.{Null, Int, Str}
 use Rattle.rv_lang.specs.Tokens.{quotes_twice}
 use Rattle.rv_model.specs.Transcript.{more_text, value_text, values_text, IsPlainValue}
-use Rattle.rv_model.proofs.Values.{numeric, signed_pass, signed_nonempty, passes_more}
+use Rattle.rv_model.proofs.Values.{numeric, signed_pass, signed_nonempty}
 use Rattle.rv_text.specs.Lines.{extended, Cut}
 use Rattle.rv_text.specs.Reading.{CanHoldValue}
 use Rattle.rv_text.specs.Values.{all_values, before, integer_at, integer_of, more_values, negative, number_at, piece_grown, pieces, pieces_of, positive, spaced_value, text_of, unquoted, value_at, value_before, value_cut, values_at}

@@ -5,6 +5,7 @@ use Rattle.std.proofs.lemmas.Bool.Decides.{nat_tests}
 use Rattle.std.specs.Fmt.{decimal}
 use Rattle.std.specs.List.{list_all, AllByRecursion}
 use Rattle.std.proofs.lemmas.Option.{cond_some, same_Some}
+use Rattle.rv_value.proofs.Lists.{passes_more}
 use Rattle.rv_judge.specs.declared.events.Strategy.{Strategy}
 use Rattle.rv_judge.specs.declared.events.Strategy.TheVariants as strategies
 use Rattle.rv_judge.specs.declared.events.Control.{Control}
@@ -13,7 +14,7 @@ use Rattle.rv_lang.specs.declared.reply.ShownEvent.{ShownEvent}
 use Rattle.rv_lang.specs.declared.reply.ShownEvent.TheVariants as events
 use Rattle.rv_lang.specs.declared.reply.Shown.{Shown}
 use Rattle.rv_model.specs.Transcript.{control_word, count_words, event_words, is_capital, is_name_byte, words_text, strategy_word, trace_words, IsName, IsPlainEvent, IsPlainTrace}
-use Rattle.rv_model.proofs.Values.{numeric, decimal_pass, passes_more}
+use Rattle.rv_model.proofs.Values.{numeric, decimal_pass}
 use Rattle.rv_text.specs.declared.traces.Tail.{Tail}
 use Rattle.rv_text.specs.Values.{number_at}
 use Rattle.rv_text.specs.Traces.{controls_all, control_at, control_step, counted, counts_at, events_before, event_step, is_name, list_step, shown_of, stepped, step_at, strategies_all, strategy_at, told, trace_at, trace_told, words, Awaited, Awaits, Counts, Dropped, Event, Gives, Keys, Listed, Scanned, Step}
