@@ -5,6 +5,7 @@ use Rattle.std.specs.List.{AllByRecursion}
 use Rattle.std.proofs.lemmas.Bool.{cases_Bool, eqb-true, not-false}
 use Rattle.std.proofs.lemmas.List.Elements.{filter-append}
 use Rattle.std.proofs.lemmas.Grind.{flat_map-append}
+use Rattle.rv_value.proofs.Lists.{all_more}
 use Rattle.rv_value.specs.declared.record.IndexEntry.{IndexEntry}
 use Rattle.rv_value.specs.declared.range.Range.{Range}
 use Rattle.rv_value.specs.declared.range.Side.{Side}
@@ -22,7 +23,7 @@ use Rattle.rv_node.specs.Trees.{Tree, Whole, entries_in, entries_all, cuts_in, c
 use Rattle.rv_node.specs.Sound.{AtLeast, Below, Kids, KidsFrom, IsTree, IsWhole}
 use Rattle.rv_node.proofs.Bounds.{entries_within, kids_within}
 use Rattle.rv_node.proofs.Kept.{KidsFrom-split}
-use Rattle.rv_node.proofs.Lists.{All-map, All-left, All-right, filter-none}
+use Rattle.rv_node.proofs.Lists.{All-left, All-right, filter-none}
 use Rattle.rv_node.proofs.Rising.{All-of}
 use Rattle.rv_estimate.specs.Estimates.{estimate, estimate_in, estimate_by, in_child, exactly}
 use Rattle.rv_estimate.proofs.Empty.{empty_none}
@@ -131,7 +132,7 @@ module _ (range : Range) where
     rest_out low high t [] k long long_cuts after = ap (λ es. run es range) (append-nil (ent t))
     rest_out low high t (kid ∷ kids) k long long_cuts after =
         let rest = ent kid.1 ++ spread kids in
-        let from = All-map (λ x. AtLeast comes_before (Some kid.0) x × Below comes_before x high) (λ x. comes_before x kid.0 ≡ false) rest (λ x w. w.0) (kids_within comes_before order P ent each (Some kid.0) high kid.1 kids k.3) in
+        let from = all_more (λ x. AtLeast comes_before (Some kid.0) x × Below comes_before x high) (λ x. comes_before x kid.0 ≡ false) (λ x w. w.0) rest (kids_within comes_before order P ent each (Some kid.0) high kid.1 kids k.3) in
         let none = after_none kid.0 rest long_cuts.0 after.0 long from in
         filter-append (is_in range) (ent t) rest ∙ ap (λ es. run (ent t) range ++ es) none ∙ append-nil (run (ent t) range)
 
@@ -176,7 +177,7 @@ module _ (range : Range) where
             let long_front_part = All-left Long (ent t ++ spread front) (ent kid.1 ++ spread back) long' in
             let long_back_part = All-right Long (ent t ++ spread front) (ent kid.1 ++ spread back) long' in
             let cuts_back_part = All-right Long (cuts t ++ further front) (kid.0 ∷ cuts kid.1 ++ further back) long_cuts' in
-            let below = All-map (λ x. AtLeast comes_before low x × Below comes_before x (Some kid.0)) (λ x. comes_before x kid.0 ≡ true) (ent t ++ spread front) (λ x v. v.1) (kids_within comes_before order P ent each low (Some kid.0) t front split.0) in
+            let below = all_more (λ x. AtLeast comes_before low x × Below comes_before x (Some kid.0)) (λ x. comes_before x kid.0 ≡ true) (λ x v. v.1) (ent t ++ spread front) (kids_within comes_before order P ent each low (Some kid.0) t front split.0) in
             let front_none = before_none kid.0 (ent t ++ spread front) cuts_back_part.0 before long_front_part below in
             let back_is = rest_out (Some kid.0) high kid.1 back split.3 (All-right Long (ent kid.1) (spread back) long_back_part) (All-right Long (cuts kid.1) (further back) cuts_back_part.1) w.behind in
             let child : in_child f (exactly 0) first ((low0, t) ∷ kids) ≡ f kid.1 = (λ i. in_child f (exactly 0) (n i) ((low0, t) ∷ w.parts i)) ∙ child_at f (exactly 0) front kid back in
@@ -206,7 +207,7 @@ module _ (range : Range) where
   exact_in (suc level) low high t k long long_cuts exact = all_exact (IsTree level comes_before) (entries_in level) (cuts_in level) (estimate_in level range) (entries_within comes_before order level) (exact_in level) (suc level) low high t k.0 long long_cuts exact
 
   empty_run : (es : List IndexEntry) → is_empty range ≡ true → AllByRecursion Long es → run es range ≡ []
-  empty_run es e long = filter-none (is_in range) es (All-map Long (λ x. is_in range x ≡ false) es (λ x l. empty_none range x.key e l) long)
+  empty_run es e long = filter-none (is_in range) es (all_more Long (λ x. is_in range x ≡ false) (λ x l. empty_none range x.key e l) es long)
 
   pub exact_estimate : (w : Whole IndexEntry) → IsWhole comes_before w → AreLong range (entries_all w) → AreLong range (cuts_all w) → (estimate w range).exact ≡ true → (estimate w range).value ≡ length (run (entries_all w) range)
   exact_estimate w k long long_cuts exact = elim (cases_Bool (is_empty range)) [

@@ -2,6 +2,7 @@
 use Rattle.std.proofs.Common.{ℕ, zero, suc, true, ◌+◌, ◌<◌, ◌≤◌, ◌≡◌, List, [], Option, Some, None, Bool, refl, ap, sym, ◌∙◌, arith, length}
 use Rattle.std.specs.Prelude.{filter}
 use Rattle.std.proofs.lemmas.Bool.{not-true}
+use Rattle.rv_value.proofs.Lists.{filter_length}
 use Rattle.rv_value.specs.declared.record.IndexEntry.{IndexEntry}
 use Rattle.rv_value.specs.declared.range.Range.{Range}
 use Rattle.rv_reader.specs.Entries.{comes_before, AreLong}
@@ -15,7 +16,6 @@ use Rattle.rv_node.specs.Stored.{tree_at, IsStored}
 use Rattle.rv_node.specs.Descent.{child_in, leaf_in}
 use Rattle.rv_node.proofs.Kids.{descend-child, each_child}
 use Rattle.rv_node.proofs.Leaves.{leaf_found, leaf_short}
-use Rattle.rv_node.proofs.Lists.{filter_length}
 use Rattle.rv_node.proofs.Rising.{entries_rising}
 use Rattle.rv_index.specs.Index.{level_at, whole_at, IsIndexTree}
 use Rattle.rv_index.specs.Steps.{leaf_of}

@@ -4,11 +4,11 @@ use Rattle.std.proofs.Common.{true, false, cond}
 use Rattle.std.specs.Prelude.{filter}
 use Rattle.std.specs.List.{insert}
 use Rattle.std.proofs.lemmas.List.Edits.{length-insert}
+use Rattle.rv_value.proofs.Lists.{filter_length}
 use Rattle.rv_value.specs.declared.record.IndexEntry.{IndexEntry}
 use Rattle.rv_reader.specs.Entries.{comes_before}
 use Rattle.rv_node.specs.Nodes.{AreParts, IsNode}
 use Rattle.rv_node.specs.Trees.{placed, differs}
-use Rattle.rv_node.proofs.Lists.{filter_length}
 
 take_none : (n : ℕ) (cs : List ℕ) → cs ≡ [] → take n cs ≡ []
 take_none zero cs e = refl

@@ -3,10 +3,10 @@ use Rattle.std.proofs.Common.{ℕ, zero, suc, List, [], ◌∷◌, ◌++◌, Opt
 use Rattle.std.specs.Prelude.{flat_map}
 use Rattle.std.specs.Cmp.{IsStrictWeakOrder}
 use Rattle.std.specs.List.{AllByRecursion}
+use Rattle.rv_value.proofs.Lists.{all_append, all_more}
 use Rattle.rv_node.specs.Trees.{Tree, entries_in, cuts_in, cuts_under}
 use Rattle.rv_node.specs.Sound.{AtLeast, Above, Below, LeafIn, Kids, KidsFrom, IsTree}
 use Rattle.rv_node.proofs.Orders.{Below-weaker, AtLeast-weaker, Above-more}
-use Rattle.rv_node.proofs.Lists.{All-append, All-map}
 
 module _ {E : Type 0} (lt : E → E → Bool) (o : IsStrictWeakOrder lt) where
   pub leaf_within : (low high : Option E) (es : List E) → LeafIn lt low high es → AllByRecursion (λ x. AtLeast lt low x × Below lt x high) es
@@ -17,11 +17,11 @@ module _ {E : Type 0} (lt : E → E → Bool) (o : IsStrictWeakOrder lt) where
       → ((low high : Option E) (t : T) → P low high t → AllByRecursion (λ x. AtLeast lt low x × Below lt x high) (f t))
       → (low high : Option E) (t : T) (kids : List (E × T)) → KidsFrom lt P low high t kids
       → AllByRecursion (λ x. AtLeast lt low x × Below lt x high) (f t ++ flat_map (λ kid. f kid.1) kids)
-  kids_within P f each low high t [] k = All-append _ (f t) [] (each low high t k) tt
+  kids_within P f each low high t [] k = all_append _ (f t) [] (each low high t k) tt
   kids_within P f each low high t (kid ∷ kids) k =
-      All-append (λ x. AtLeast lt low x × Below lt x high) (f t) (flat_map (λ kid. f kid.1) (kid ∷ kids))
-      (All-map (λ x. AtLeast lt low x × Below lt x (Some kid.0)) (λ x. AtLeast lt low x × Below lt x high) (f t) (λ x w. (w.0, Below-weaker lt o x kid.0 high w.1 k.2)) (each low (Some kid.0) t k.0))
-      (All-map (λ x. AtLeast lt (Some kid.0) x × Below lt x high) (λ x. AtLeast lt low x × Below lt x high) (flat_map (λ kid. f kid.1) (kid ∷ kids)) (λ x w. (AtLeast-weaker lt o x kid.0 low w.0 k.1, w.1)) (kids_within P f each (Some kid.0) high kid.1 kids k.3))
+      all_append (λ x. AtLeast lt low x × Below lt x high) (f t) (flat_map (λ kid. f kid.1) (kid ∷ kids))
+      (all_more (λ x. AtLeast lt low x × Below lt x (Some kid.0)) (λ x. AtLeast lt low x × Below lt x high) (λ x w. (w.0, Below-weaker lt o x kid.0 high w.1 k.2)) (f t) (each low (Some kid.0) t k.0))
+      (all_more (λ x. AtLeast lt (Some kid.0) x × Below lt x high) (λ x. AtLeast lt low x × Below lt x high) (λ x w. (AtLeast-weaker lt o x kid.0 low w.0 k.1, w.1)) (flat_map (λ kid. f kid.1) (kid ∷ kids)) (kids_within P f each (Some kid.0) high kid.1 kids k.3))
 
   all_kids_within : {T : Type 0} (P : Option E → Option E → T → Type 0) (f : T → List E)
       → ((low high : Option E) (t : T) → P low high t → AllByRecursion (λ x. AtLeast lt low x × Below lt x high) (f t))
@@ -38,11 +38,11 @@ module _ {E : Type 0} (lt : E → E → Bool) (o : IsStrictWeakOrder lt) where
       → ((low high : Option E) (t : T) → P low high t → AllByRecursion (λ x. Above lt low x × Below lt x high) (f t))
       → (low high : Option E) (t : T) (kids : List (E × T)) → KidsFrom lt P low high t kids
       → AllByRecursion (λ x. Above lt low x × Below lt x high) (f t ++ flat_map (λ kid. kid.0 ∷ f kid.1) kids)
-  kid_cuts_within P f each low high t [] k = All-append _ (f t) [] (each low high t k) tt
+  kid_cuts_within P f each low high t [] k = all_append _ (f t) [] (each low high t k) tt
   kid_cuts_within P f each low high t (kid ∷ kids) k =
-      All-append (λ x. Above lt low x × Below lt x high) (f t) (flat_map (λ kid. kid.0 ∷ f kid.1) (kid ∷ kids))
-      (All-map (λ x. Above lt low x × Below lt x (Some kid.0)) (λ x. Above lt low x × Below lt x high) (f t) (λ x w. (w.0, Below-weaker lt o x kid.0 high w.1 k.2)) (each low (Some kid.0) t k.0))
-      ((k.1, k.2), All-map (λ x. Above lt (Some kid.0) x × Below lt x high) (λ x. Above lt low x × Below lt x high) (f kid.1 ++ flat_map (λ kid. kid.0 ∷ f kid.1) kids) (λ x w. (Above-more lt o low kid.0 x k.1 w.0, w.1)) (kid_cuts_within P f each (Some kid.0) high kid.1 kids k.3))
+      all_append (λ x. Above lt low x × Below lt x high) (f t) (flat_map (λ kid. kid.0 ∷ f kid.1) (kid ∷ kids))
+      (all_more (λ x. Above lt low x × Below lt x (Some kid.0)) (λ x. Above lt low x × Below lt x high) (λ x w. (w.0, Below-weaker lt o x kid.0 high w.1 k.2)) (f t) (each low (Some kid.0) t k.0))
+      ((k.1, k.2), all_more (λ x. Above lt (Some kid.0) x × Below lt x high) (λ x. Above lt low x × Below lt x high) (λ x w. (Above-more lt o low kid.0 x k.1 w.0, w.1)) (f kid.1 ++ flat_map (λ kid. kid.0 ∷ f kid.1) kids) (kid_cuts_within P f each (Some kid.0) high kid.1 kids k.3))
 
   all_cuts_within : {T : Type 0} (P : Option E → Option E → T → Type 0) (f : T → List E)
       → ((low high : Option E) (t : T) → P low high t → AllByRecursion (λ x. Above lt low x × Below lt x high) (f t))

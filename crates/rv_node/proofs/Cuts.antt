@@ -5,8 +5,9 @@ use Rattle.std.specs.List.{AllByRecursion}
 use Rattle.std.specs.Cmp.{IsStrictWeakOrder}
 use Rattle.std.proofs.lemmas.Bool.{cases_Bool}
 use Rattle.std.proofs.lemmas.Grind.{flat_map-append}
+use Rattle.rv_value.proofs.Lists.{all_append}
 use Rattle.rv_node.specs.Trees.{Tree, Whole, entries_in, entries_all, cuts_in, cuts_all, cuts_under, placed, halves, change, change_from, up_to, grow, raise, inserted, shrink, deleted}
-use Rattle.rv_node.proofs.Lists.{All-append, All-left, All-right}
+use Rattle.rv_node.proofs.Lists.{All-left, All-right}
 use Rattle.rv_node.proofs.Kept.{halves_cases, grown_one}
 
 -- the cuts of trees after the first, and the entries at which these begin
@@ -39,10 +40,10 @@ module _ {E : Type 0} (lt : E → E → Bool) (Q : E → Type 0) where
         elim (cases_Bool (goes kid.0)) [
           | inl goes_on ↦
               let more = changed_cuts kid.1 kids behind.1 (All-right Q (ent t) (ent kid.1 ++ flat_map (λ q. ent q.1) kids) n) in
-              rw goes_on (All-append Q (cuts t) (kid.0 ∷ cuts (change_from goes f kid.1 kids).0 ++ further cuts (change_from goes f kid.1 kids).1) front (behind.0, more))
+              rw goes_on (all_append Q (cuts t) (kid.0 ∷ cuts (change_from goes f kid.1 kids).0 ++ further cuts (change_from goes f kid.1 kids).1) front (behind.0, more))
           | inr stops ↦
               let here = step t front (All-left Q (ent t) (ent kid.1 ++ flat_map (λ q. ent q.1) kids) n) in
-              let all = All-append Q (cuts (f t).0 ++ further cuts (f t).1) (further cuts (kid ∷ kids)) here behind in
+              let all = all_append Q (cuts (f t).0 ++ further cuts (f t).1) (further cuts (kid ∷ kids)) here behind in
               let same : (cuts (f t).0 ++ further cuts (f t).1) ++ further cuts (kid ∷ kids) ≡ cuts (f t).0 ++ further cuts ((f t).1 ++ kid ∷ kids) =
               append_assoc (cuts (f t).0) (further cuts (f t).1) (further cuts (kid ∷ kids)) ∙ ap (λ zs. cuts (f t).0 ++ zs) (sym (flat_map-append (λ q. q.0 ∷ cuts q.1) (f t).1 (kid ∷ kids))) in
               rw stops (subst (AllByRecursion Q) same all)

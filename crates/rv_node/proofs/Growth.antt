@@ -5,11 +5,11 @@ use Rattle.std.specs.List.{AllByRecursion}
 use Rattle.std.proofs.lemmas.Bool.{cases_Bool}
 use Rattle.std.specs.Cmp.{IsStrictWeakOrder}
 use Rattle.std.proofs.lemmas.Grind.{flat_map-append}
+use Rattle.rv_value.proofs.Lists.{all_more}
 use Rattle.rv_node.specs.Trees.{Tree, entries_in, placed, halves, cut_at, change, change_from, up_to, grow}
 use Rattle.rv_node.specs.Sound.{AtLeast, Below, Kids, KidsFrom, IsTree}
 use Rattle.rv_node.proofs.Orders.{lt_le}
 use Rattle.rv_node.proofs.Bounds.{entries_within, kids_within}
-use Rattle.rv_node.proofs.Lists.{All-map}
 
 -- what is spread over the halves is what was
 spread_cut : {E X Y : Type 0} (low : X → E) (F : List X → List Y) → F [] ≡ [] → (xs : List X) → flat_map (λ q. F q.1) (cut_at low xs) ≡ F xs
@@ -48,11 +48,11 @@ module _ {E : Type 0} (lt : E → E → Bool) (o : IsStrictWeakOrder lt) (e : E)
   changed_entries P ent f each step low high t [] k = rw (append-nil (ent t)) (step low high t k)
   changed_entries P ent f each step low high t (kid ∷ kids) k = elim (cases_Bool (lt e kid.0)) [
     | inl stops ↦
-        let later = All-map (λ x. AtLeast lt (Some kid.0) x × Below lt x high) (λ x. lt x e ≡ false) (ent kid.1 ++ flat_map (λ q. ent q.1) kids) (λ x w. o.one_way e x (lt_le lt o e kid.0 x stops w.0)) (kids_within lt o P ent each (Some kid.0) high kid.1 kids k.3) in
+        let later = all_more (λ x. AtLeast lt (Some kid.0) x × Below lt x high) (λ x. lt x e ≡ false) (λ x w. o.one_way e x (lt_le lt o e kid.0 x stops w.0)) (ent kid.1 ++ flat_map (λ q. ent q.1) kids) (kids_within lt o P ent each (Some kid.0) high kid.1 kids k.3) in
         rw stops (rw (flat_map-append (λ q. ent q.1) (f t).1 (kid ∷ kids), ← append_assoc (ent (f t).0) (flat_map (λ q. ent q.1) (f t).1) (ent kid.1 ++ flat_map (λ q. ent q.1) kids), step low (Some kid.0) t k.0)
         (sym (placed-here (ent t) (ent kid.1 ++ flat_map (λ q. ent q.1) kids) later)))
     | inr goes_on ↦
-        let earlier = All-map (λ x. AtLeast lt low x × Below lt x (Some kid.0)) (λ x. lt x e ≡ true) (ent t) (λ x w. lt_le lt o x kid.0 e w.1 goes_on) (each low (Some kid.0) t k.0) in
+        let earlier = all_more (λ x. AtLeast lt low x × Below lt x (Some kid.0)) (λ x. lt x e ≡ true) (λ x w. lt_le lt o x kid.0 e w.1 goes_on) (ent t) (each low (Some kid.0) t k.0) in
         let more = changed_entries P ent f each step (Some kid.0) high kid.1 kids k.3 in
         rw goes_on (rw more (sym (placed-skip (ent t) (ent kid.1 ++ flat_map (λ q. ent q.1) kids) earlier)))
   ]

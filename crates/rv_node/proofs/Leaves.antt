@@ -4,6 +4,7 @@ use Rattle.std.specs.Prelude.{not, filter, flat_map}
 use Rattle.std.specs.List.{AllByRecursion, list_all}
 use Rattle.std.proofs.lemmas.Bool.{cases_Bool}
 use Rattle.std.proofs.lemmas.List.Elements.{filter-append}
+use Rattle.rv_value.proofs.Lists.{all_filter, all_more}
 use Rattle.rv_value.specs.declared.record.IndexEntry.{IndexEntry}
 use Rattle.rv_reader.specs.Entries.{comes_before}
 use Rattle.rv_reader.specs.Leaves.{Leaf, from_on, up_to, leaf_from, leaf_entries}
@@ -12,7 +13,7 @@ use Rattle.rv_node.specs.Trees.{Tree, entries_in, cuts_in, cuts_under}
 use Rattle.rv_node.specs.Sound.{AtLeast, Above, Below, Kids, KidsFrom, IsTree}
 use Rattle.rv_node.specs.Descent.{descend, descend_from, leaf_in}
 use Rattle.rv_node.proofs.Orders.{lt_le}
-use Rattle.rv_node.proofs.Lists.{All-map, All-left, All-right, filter-all, filter-none}
+use Rattle.rv_node.proofs.Lists.{All-left, All-right, filter-all, filter-none}
 use Rattle.rv_node.proofs.Rising.{All-of}
 use Rattle.rv_node.proofs.Bounds.{entries_within, kids_within, cuts_within, kid_cuts_within}
 
@@ -39,24 +40,20 @@ up_to-append : (next : Option IndexEntry) (xs ys : List IndexEntry) → up_to ne
 up_to-append None xs ys = refl
 up_to-append (Some w) xs ys = filter-append (λ (e : IndexEntry). comes_before e w) xs ys
 
-All-filter : {X : Type 0} (P : X → Type 0) (p : X → Bool) (xs : List X) → AllByRecursion P xs → AllByRecursion P (filter p xs)
-All-filter P p [] a = tt
-All-filter P p (x ∷ xs) a = let rest = All-filter P p xs a.1 in elim (p x) as (λ b. AllByRecursion P (cond b (x ∷ filter p xs) (filter p xs))) [ true ↦ (a.0, rest) | false ↦ rest ]
-
 All-from : (P : IndexEntry → Type 0) (low : Option IndexEntry) (xs : List IndexEntry) → AllByRecursion P xs → AllByRecursion P (from_on low xs)
 All-from P None xs a = a
-All-from P (Some w) xs a = All-filter P (λ (e : IndexEntry). not (comes_before e w)) xs a
+All-from P (Some w) xs a = all_filter P (λ (e : IndexEntry). not (comes_before e w)) xs a
 
 from_all : (low : Option IndexEntry) (xs : List IndexEntry) → AllByRecursion (AtLeast comes_before low) xs → from_on low xs ≡ xs
 from_all None xs a = refl
-from_all (Some w) xs a = filter-all (λ (e : IndexEntry). not (comes_before e w)) xs (All-map (λ x. comes_before x w ≡ false) (λ x. not (comes_before x w) ≡ true) xs (λ x f. ap not f) a)
+from_all (Some w) xs a = filter-all (λ (e : IndexEntry). not (comes_before e w)) xs (all_more (λ x. comes_before x w ≡ false) (λ x. not (comes_before x w) ≡ true) (λ x f. ap not f) xs a)
 
 -- what is below a cut is not from it on, and the other way round
 front : (next : Option IndexEntry) (k : IndexEntry) (xs ys : List IndexEntry) → AllByRecursion (λ x. comes_before x k ≡ true) xs → AllByRecursion (λ y. comes_before y k ≡ false) ys → IfSome next (λ c. comes_before c k ≡ true)
     → up_to next xs ≡ up_to (or_next next (Some k)) (xs ++ ys)
 front None k xs ys below from n = sym (filter-append (λ (e : IndexEntry). comes_before e k) xs ys ∙ (λ i. filter-all (λ (e : IndexEntry). comes_before e k) xs below i ++ filter-none (λ (e : IndexEntry). comes_before e k) ys from i) ∙ append-nil xs)
 front (Some c) k xs ys below from n =
-    let none = filter-none (λ (e : IndexEntry). comes_before e c) ys (All-map (λ y. comes_before y k ≡ false) (λ y. comes_before y c ≡ false) ys (λ y f. order.chain y k c f (one_way c k n)) from) in
+    let none = filter-none (λ (e : IndexEntry). comes_before e c) ys (all_more (λ y. comes_before y k ≡ false) (λ y. comes_before y c ≡ false) (λ y f. order.chain y k c f (one_way c k n)) ys from) in
     sym (filter-append (λ (e : IndexEntry). comes_before e c) xs ys ∙ ap (λ zs. filter (λ (e : IndexEntry). comes_before e c) xs ++ zs) none ∙ append-nil (filter (λ (e : IndexEntry). comes_before e c) xs))
 
 front_leaf : (leaf : Leaf) (k : IndexEntry) (xs ys : List IndexEntry) → AllByRecursion (λ x. comes_before x k ≡ true) xs → AllByRecursion (λ y. comes_before y k ≡ false) ys → IfSome leaf.next (λ c. comes_before c k ≡ true)
@@ -73,7 +70,7 @@ LowFrom k (Some w) = comes_before w k ≡ false
 back : (low : Option IndexEntry) (k : IndexEntry) (xs ys : List IndexEntry) → LowFrom k low → AllByRecursion (λ x. comes_before x k ≡ true) xs → from_on low (xs ++ ys) ≡ from_on low ys
 back None k xs ys l below = absurd l
 back (Some w) k xs ys l below =
-    let none = filter-none (λ (e : IndexEntry). not (comes_before e w)) xs (All-map (λ x. comes_before x k ≡ true) (λ x. not (comes_before x w) ≡ false) xs (λ x t. ap not (lt_le comes_before order x k w t l)) below) in
+    let none = filter-none (λ (e : IndexEntry). not (comes_before e w)) xs (all_more (λ x. comes_before x k ≡ true) (λ x. not (comes_before x w) ≡ false) (λ x t. ap not (lt_le comes_before order x k w t l)) xs below) in
     filter-append (λ (e : IndexEntry). not (comes_before e w)) xs ys ∙ ap (λ zs. zs ++ filter (λ (e : IndexEntry). not (comes_before e w)) ys) none
 
 module _ (goes : IndexEntry → Bool) where
@@ -128,10 +125,10 @@ module _ (goes : IndexEntry → Bool) where
           let rest = ent kid.1 ++ flat_map (λ k. ent k.1) kids in
           let here = All-left (λ c. q c ≡ true) (cuts t) (kid.0 ∷ rest_cuts) all in
           let there = All-right (λ c. q c ≡ true) (cuts t) (kid.0 ∷ rest_cuts) all in
-          let cuts_below = All-map (λ x. Above comes_before low x × Below comes_before x (Some kid.0)) (λ x. comes_before x kid.0 ≡ true) (cuts t) (λ x w. w.1) (each_cut low (Some kid.0) t k.0) in
-          let cuts_above = All-map (λ x. Above comes_before (Some kid.0) x × Below comes_before x high) (λ x. comes_before kid.0 x ≡ true) rest_cuts (λ x w. w.0) (kid_cuts_within comes_before order P cuts each_cut (Some kid.0) high kid.1 kids k.3) in
-          let below = All-map (λ x. AtLeast comes_before low x × Below comes_before x (Some kid.0)) (λ x. comes_before x kid.0 ≡ true) (ent t) (λ x w. w.1) (each low (Some kid.0) t k.0) in
-          let above = All-map (λ x. AtLeast comes_before (Some kid.0) x × Below comes_before x high) (λ x. comes_before x kid.0 ≡ false) rest (λ x w. w.0) (kids_within comes_before order P ent each (Some kid.0) high kid.1 kids k.3) in
+          let cuts_below = all_more (λ x. Above comes_before low x × Below comes_before x (Some kid.0)) (λ x. comes_before x kid.0 ≡ true) (λ x w. w.1) (cuts t) (each_cut low (Some kid.0) t k.0) in
+          let cuts_above = all_more (λ x. Above comes_before (Some kid.0) x × Below comes_before x high) (λ x. comes_before kid.0 x ≡ true) (λ x w. w.0) rest_cuts (kid_cuts_within comes_before order P cuts each_cut (Some kid.0) high kid.1 kids k.3) in
+          let below = all_more (λ x. AtLeast comes_before low x × Below comes_before x (Some kid.0)) (λ x. comes_before x kid.0 ≡ true) (λ x w. w.1) (ent t) (each low (Some kid.0) t k.0) in
+          let above = all_more (λ x. AtLeast comes_before (Some kid.0) x × Below comes_before x high) (λ x. comes_before x kid.0 ≡ false) (λ x w. w.0) rest (kids_within comes_before order P ent each (Some kid.0) high kid.1 kids k.3) in
           elim (cases_Bool (goes kid.0)) [
             | inl t1 ↦
                 let more = kids_found (Some kid.0) high kid.1 kids k.3 there.1 in
@@ -161,7 +158,7 @@ module _ (goes : IndexEntry → Bool) where
     found_in : (level : ℕ) (low high : Option IndexEntry) (t : Tree IndexEntry level) → IsTree level comes_before low high t → AllByRecursion (λ c. q c ≡ true) (cuts_in level t)
         → IsFound low high (cuts_in level t) (entries_in level t) (leaf_in level goes t high)
     found_in zero low high t k all = record {
-      leaf = sym (from_all low t (All-map (λ x. AtLeast comes_before low x × Below comes_before x high) (AtLeast comes_before low) t (λ x w. w.0) (entries_within comes_before order zero low high t k)));
+      leaf = sym (from_all low t (all_more (λ x. AtLeast comes_before low x × Below comes_before x high) (AtLeast comes_before low) (λ x w. w.0) t (entries_within comes_before order zero low high t k)));
       next = refl;
     }
     found_in (suc level) low high t k all = all_found (IsTree level comes_before) (entries_in level) (cuts_in level) (leaf_in level goes) (entries_within comes_before order level) (cuts_within comes_before order level) (found_in level) low high t k.0 all

@@ -3,6 +3,7 @@ use Rattle.std.proofs.Common.{◌≡◌, ℕ, zero, suc, ◌+◌, ◌≤◌, Lis
 use Rattle.std.proofs.lemmas.Bool.{cases_Bool, and_parts, not-true}
 use Rattle.std.specs.List.{list_all, AllWithin}
 use Rattle.std.specs.List.Sorted.{IsPartitionedBy}
+use Rattle.rv_value.proofs.Lists.{passes_take}
 use Rattle.rv_value.specs.declared.record.IndexEntry.{IndexEntry}
 use Rattle.rv_value.specs.declared.range.Range.{Range}
 use Rattle.rv_value.specs.Ranges.{place}
@@ -99,21 +100,16 @@ found_first range lows behind front k last is cut at passes bound =
 
 -- A part in front.
 
-all_take : {X : Type 0} (q : X → Bool) (n : ℕ) (xs : List X) → list_all q xs ≡ true → list_all q (take n xs) ≡ true
-all_take q zero xs all = refl
-all_take q (suc n) [] all = refl
-all_take q (suc n) (x ∷ xs) all = let parts = and_parts (q x) (list_all q xs) all in rw parts.0 (all_take q n xs parts.1)
-
 rising_take : {X : Type 0} (before : X → X → Bool) (n : ℕ) (xs : List X) → Rising before xs → Rising before (take n xs)
 rising_take before zero xs rise = tt
 rising_take before (suc n) [] rise = tt
-rising_take before (suc n) (x ∷ xs) rise = (all_take (before x) n xs rise.0, rising_take before n xs rise.1)
+rising_take before (suc n) (x ∷ xs) rise = (passes_take (before x) n xs rise.0, rising_take before n xs rise.1)
 
 pub ascend_front : (n : ℕ) (lows behind front : List IndexEntry) → behind ≡ drop 1 lows → front ≡ take n behind → Ascend (drop 1 lows) → Ascend front
 ascend_front n lows behind front is cut ascend = subst Ascend (sym (cut ∙ ap (take n) is)) (rising_take comes_before n (drop 1 lows) ascend)
 
 pub long_front : (range : Range) (n : ℕ) (lows behind front : List IndexEntry) → behind ≡ drop 1 lows → front ≡ take n behind → AreLong range (drop 1 lows) → AreLong range front
-long_front range n lows behind front is cut long = subst (AreLong range) (sym (cut ∙ ap (take n) is)) (all_take (is_long range) n (drop 1 lows) long)
+long_front range n lows behind front is cut long = subst (AreLong range) (sym (cut ∙ ap (take n) is)) (passes_take (is_long range) n (drop 1 lows) long)
 
 -- A part behind.
 

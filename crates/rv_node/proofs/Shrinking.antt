@@ -5,11 +5,12 @@ use Rattle.std.specs.List.{AllByRecursion}
 use Rattle.std.proofs.lemmas.Bool.{cases_Bool, or_right}
 use Rattle.std.specs.Cmp.{IsStrictWeakOrder}
 use Rattle.std.proofs.lemmas.List.Elements.{filter-append}
+use Rattle.rv_value.proofs.Lists.{all_more, filter_length}
 use Rattle.rv_node.specs.Trees.{Tree, entries_in, change, change_from, up_to, shrink, differs}
 use Rattle.rv_node.specs.Sound.{AtLeast, Below, Precedes, LeafIn, Kids, KidsFrom, IsTree}
 use Rattle.rv_node.proofs.Orders.{lt_trans, lt_le}
 use Rattle.rv_node.proofs.Bounds.{entries_within, kids_within}
-use Rattle.rv_node.proofs.Lists.{All-map, filter-all, filter_length}
+use Rattle.rv_node.proofs.Lists.{filter-all}
 
 module _ {E : Type 0} (lt : E → E → Bool) (o : IsStrictWeakOrder lt) (e : E) where
   below_differs : (x : E) → lt x e ≡ true → differs lt e x ≡ true
@@ -30,12 +31,12 @@ module _ {E : Type 0} (lt : E → E → Bool) (o : IsStrictWeakOrder lt) (e : E)
       | inl stops ↦
           let s = step low (Some kid.0) t k.0 in
           let rest = ent kid.1 ++ flat_map (λ q. ent q.1) kids in
-          let stays = filter-all (differs lt e) rest (All-map (λ x. AtLeast lt (Some kid.0) x × Below lt x high) (λ x. differs lt e x ≡ true) rest (λ x w. above_differs x (lt_le lt o e kid.0 x stops w.0)) (kids_within lt o P ent each (Some kid.0) high kid.1 kids k.3)) in
+          let stays = filter-all (differs lt e) rest (all_more (λ x. AtLeast lt (Some kid.0) x × Below lt x high) (λ x. differs lt e x ≡ true) (λ x w. above_differs x (lt_le lt o e kid.0 x stops w.0)) rest (kids_within lt o P ent each (Some kid.0) high kid.1 kids k.3)) in
           rw stops (ap (λ xs. xs ++ rest) s.0 ∙ ap (λ xs. filter (differs lt e) (ent t) ++ xs) (sym stays) ∙ sym (filter-append (differs lt e) (ent t) rest), (s.1, k.1, k.2, k.3), refl)
       | inr goes_on ↦
           let more = shrunk_kids (Some kid.0) high kid.1 kids k.3 in
           let rest = ent kid.1 ++ flat_map (λ q. ent q.1) kids in
-          let stays = filter-all (differs lt e) (ent t) (All-map (λ x. AtLeast lt low x × Below lt x (Some kid.0)) (λ x. differs lt e x ≡ true) (ent t) (λ x w. below_differs x (lt_le lt o x kid.0 e w.1 goes_on)) (each low (Some kid.0) t k.0)) in
+          let stays = filter-all (differs lt e) (ent t) (all_more (λ x. AtLeast lt low x × Below lt x (Some kid.0)) (λ x. differs lt e x ≡ true) (λ x w. below_differs x (lt_le lt o x kid.0 e w.1 goes_on)) (ent t) (each low (Some kid.0) t k.0)) in
           rw goes_on (ap (λ xs. ent t ++ xs) more.0 ∙ ap (λ xs. xs ++ filter (differs lt e) rest) (sym stays) ∙ sym (filter-append (differs lt e) (ent t) rest), (k.0, k.1, k.2, more.1), ap suc more.2)
     ]
 

@@ -3,6 +3,7 @@ use Rattle.std.proofs.Common.{◌≡◌, ℕ, zero, suc, ◌+◌, ◌≤◌, Lis
 use Rattle.std.proofs.lemmas.Bool.{cases_Bool, and_parts}
 use Rattle.std.proofs.lemmas.Bool.Decides.{nat_tests}
 use Rattle.std.specs.List.{list_all}
+use Rattle.rv_value.proofs.Lists.{filter_length}
 use Rattle.rv_value.specs.declared.value.Value.{Value}
 use Rattle.rv_value.specs.declared.record.IndexEntry.{IndexEntry}
 use Rattle.rv_value.specs.declared.range.Bound.{Bound}
@@ -51,10 +52,6 @@ with_count (e ∷ es) xs =
     let rest = with_count es (put_in comes_before e xs) in
     let here = put_count e xs in
     omega (arith, rest, here)
-
-pub filter_count : (p : IndexEntry → Bool) (xs : List IndexEntry) → length (filter p xs) ≤ length xs
-filter_count p [] = omega arith
-filter_count p (x ∷ xs) = let rest = filter_count p xs in elim (cases_Bool (p x)) [ inl t ↦ rw t (omega (arith, rest)) | inr f ↦ rw f (omega (arith, rest)) ]
 
 -- no more where a sharper test agrees on all that pass another one
 fewer_on : (q p r : IndexEntry → Bool) (xs : List IndexEntry) → list_all q xs ≡ true → ((x : IndexEntry) → q x ≡ true → p x ≡ true → r x ≡ true) → length (filter p xs) ≤ length (filter r xs)
@@ -141,12 +138,12 @@ first_long q passes (c ∷ cs) all =
 -- a leaf is short
 from_fewer : (start : Option IndexEntry) (xs : List IndexEntry) → length (from_on start xs) ≤ length xs
 from_fewer None xs = omega arith
-from_fewer (Some s) xs = filter_count (λ e. not (comes_before e s)) xs
+from_fewer (Some s) xs = filter_length (λ e. not (comes_before e s)) xs
 
 leaf_short : (entries : List IndexEntry) (range : Range) (start : Option IndexEntry) (leaf : Leaf) → length (leaf_entries leaf entries) ≤ 32 → length (run_from (leaf_entries leaf entries) range start) ≤ 32
 leaf_short entries range start leaf short =
     let few = from_fewer start (leaf_entries leaf entries) in
-    let fewer = filter_count (is_in range) (from_on start (leaf_entries leaf entries)) in
+    let fewer = filter_length (is_in range) (from_on start (leaf_entries leaf entries)) in
     omega (arith, few, fewer)
 
 own_taken : (range : Range) (start next own : Option IndexEntry) (e : IndexEntry) → is_long range e ≡ true → IfSome own (λ c. is_long range c ≡ true) → is_taken range start (lesser next (within range own)) e ≡ true → (is_wanted range start e && is_below own e) ≡ true
@@ -193,7 +190,7 @@ laid_leaf entries cuts part range start leaf all next lays fit is next_is all_is
     let found : chunk.entries ≡ run_from (leaf_entries (leaf_at view_cuts start range) view) range start =
     here ∙ all_taken ∙ ap (λ n. filter (is_taken range start n) view) next_so ∙ sym (leaf_read view view_cuts range start view_long cuts_long) in
     let store_few = leaf_short entries range start (leaf_at cuts start range) (lays.short (is_passed start range)) in
-    let left_few = filter_count (λ e. is_below next e && not (has part.taken e)) leaf.entries in
+    let left_few = filter_length (λ e. is_below next e && not (has part.taken e)) leaf.entries in
     let added_few = few_added range start part.added long_added lays.added in
     let sharper = fewer_on (is_long range) (is_taken range start next) (λ e. is_wanted range start e && is_below own e) part.added long_added
     (λ e l h. own_taken range start leaf.next own e l own_long (subst (λ n. is_taken range start n e ≡ true) near h)) in

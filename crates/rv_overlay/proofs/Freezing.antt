@@ -1,10 +1,11 @@
 -- What was frozen of an index and of a table fits the reader that it is laid over.
-use Rattle.std.proofs.Common.{◌≡◌, ℕ, ◌+◌, ◌*◌, ◌/◌, ◌<◌, ◌≤◌, List, [], ◌∷◌, ◌++◌, Bool, true, false, not, ◌&&◌, ◌==◌, cond, Option, Some, None, IfSome, is_some, inl, inr, refl, ap, sym, subst, ◌∙◌, filter, length, arith}
+use Rattle.std.proofs.Common.{◌≡◌, ℕ, ◌+◌, ◌*◌, ◌/◌, ◌<◌, ◌≤◌, List, [], ◌∷◌, Bool, true, not, ◌&&◌, ◌==◌, cond, Option, Some, None, IfSome, is_some, inl, inr, refl, ap, sym, subst, ◌∙◌, filter, length, arith}
 use Rattle.std.specs.Prelude.{max}
 use Rattle.std.proofs.lemmas.Bool.{cases_Bool, and_parts, or_right}
 use Rattle.std.specs.List.{AllByRecursion, list_all}
 use Rattle.std.specs.Ordering.{is_eq}
 use Rattle.std.proofs.lemmas.List.{length-map}
+use Rattle.rv_value.proofs.Lists.{all_append, all_filter}
 use Rattle.rv_value.specs.declared.value.Value.{Value}
 use Rattle.rv_value.specs.declared.record.Record.{Record}
 use Rattle.rv_value.specs.declared.record.IndexEntry.{IndexEntry}
@@ -70,16 +71,6 @@ index_fits columns table changes rows cuts part keeps =
 
 -- Tables.
 
-all_kept : (P : Record → Type 0) (t : Record → Bool) (rows : List Record) → AllByRecursion P rows → AllByRecursion P (filter t rows)
-all_kept P t [] all = tt
-all_kept P t (r ∷ rows) all =
-    let rest = all_kept P t rows all.1 in
-    elim (t r) as (λ b. AllByRecursion P (cond b (r ∷ filter t rows) (filter t rows))) [ true ↦ (all.0, rest) | false ↦ rest ]
-
-all_joined : (P : Record → Type 0) (xs ys : List Record) → AllByRecursion P xs → AllByRecursion P ys → AllByRecursion P (xs ++ ys)
-all_joined P [] ys h k = k
-all_joined P (x ∷ xs) ys h k = (h.0, all_joined P xs ys h.1 k)
-
 all_more : (n m : ℕ) → n ≤ m → (rows : List Record) → AllByRecursion (λ (r : Record). r.row.0 < 32 * n) rows → AllByRecursion (λ (r : Record). r.row.0 < 32 * m) rows
 all_more n m le [] all = tt
 all_more n m le (r ∷ rows) all = let first = all.0 in (omega (arith, first, le), all_more n m le rows all.1)
@@ -90,14 +81,14 @@ with_within table pages c rows t all = by c.values refl
     by : (values : Option (List Value)) → c.values ≡ values → AllByRecursion (λ (r : Record). r.row.0 < 32 * pages_with table c pages) (with_values c.row.0 values rows)
     by None e =
         let same : pages_with table c pages ≡ pages = ap (λ b. cond (b && is_some c.values) (max pages (c.row.0 / 32 + 1)) pages) t ∙ ap (λ v. cond (true && is_some v) (max pages (c.row.0 / 32 + 1)) pages) e in
-        rw same (all_kept (λ (r : Record). r.row.0 < 32 * pages) (λ (r : Record). not (r.row.0 == c.row.0)) rows all)
+        rw same (all_filter (λ (r : Record). r.row.0 < 32 * pages) (λ (r : Record). not (r.row.0 == c.row.0)) rows all)
     by (Some vs) e =
         let new : Record = record { row = record { 0 = c.row.0 }; values = vs } in
         let next : pages_with table c pages ≡ max pages (c.row.0 / 32 + 1) = ap (λ b. cond (b && is_some c.values) (max pages (c.row.0 / 32 + 1)) pages) t ∙ ap (λ v. cond (true && is_some v) (max pages (c.row.0 / 32 + 1)) pages) e in
         let more = all_more pages (max pages (c.row.0 / 32 + 1)) (omega arith) rows all in
-        rw next (all_joined (λ (r : Record). r.row.0 < 32 * max pages (c.row.0 / 32 + 1)) (filter (λ (r : Record). comes_below r new) rows) (new ∷ filter (λ (r : Record). comes_below new r) rows)
-        (all_kept (λ (r : Record). r.row.0 < 32 * max pages (c.row.0 / 32 + 1)) (λ (r : Record). comes_below r new) rows more)
-        (omega arith, all_kept (λ (r : Record). r.row.0 < 32 * max pages (c.row.0 / 32 + 1)) (λ (r : Record). comes_below new r) rows more))
+        rw next (all_append (λ (r : Record). r.row.0 < 32 * max pages (c.row.0 / 32 + 1)) (filter (λ (r : Record). comes_below r new) rows) (new ∷ filter (λ (r : Record). comes_below new r) rows)
+        (all_filter (λ (r : Record). r.row.0 < 32 * max pages (c.row.0 / 32 + 1)) (λ (r : Record). comes_below r new) rows more)
+        (omega arith, all_filter (λ (r : Record). r.row.0 < 32 * max pages (c.row.0 / 32 + 1)) (λ (r : Record). comes_below new r) rows more))
 
 applied_within : (table pages : ℕ) (cs : List Change) (rows : List Record) → AllByRecursion (λ (r : Record). r.row.0 < 32 * pages) rows → AllByRecursion (λ (r : Record). r.row.0 < 32 * pages_after table cs pages) (rows_with_changes table cs rows)
 applied_within table pages [] rows all = all

@@ -6,6 +6,7 @@ use Rattle.std.specs.Ordering.{is_eq, is_lt, ordering_reverse}
 use Rattle.std.specs.declared.cmp.Ordering.{Ordering}
 use Rattle.std.specs.declared.cmp.Ordering.TheVariants.{Less, Equal, Greater}
 use Rattle.std.proofs.lemmas.List.Elements.{filter-append, filter_agree}
+use Rattle.rv_value.proofs.Lists.{filter_passes}
 use Rattle.rv_value.specs.declared.record.IndexEntry.{IndexEntry}
 use Rattle.rv_value.specs.Entries.{entry_cmp}
 use Rattle.rv_value.specs.Orders.{entry_cmp_total}
@@ -39,10 +40,6 @@ turn false false = refl
 filters_turn : (p q : IndexEntry → Bool) (xs : List IndexEntry) → filter p (filter q xs) ≡ filter q (filter p xs)
 filters_turn p q xs = filter_twice p q xs ∙ filter_agree (λ x. q x && p x) (λ x. p x && q x) (λ x. turn (q x) (p x)) xs ∙ sym (filter_twice q p xs)
 
-passes_own : (p : IndexEntry → Bool) (xs : List IndexEntry) → list_all p (filter p xs) ≡ true
-passes_own p [] = refl
-passes_own p (x ∷ xs) = elim (cases_Bool (p x)) [ inl t ↦ rw t (rw t (passes_own p xs)) | inr f ↦ rw f (passes_own p xs) ]
-
 -- entries that are other than one are before it or behind it
 apart : (e x : IndexEntry) → (x ≡ e → true ≡ false) → not (comes_before x e) ≡ comes_before e x
 apart e x other = elim (cases_Bool (comes_before x e)) [
@@ -71,7 +68,7 @@ filter_put p e xs ascend =
     filter-append p (filter (λ x. comes_before x e) xs) (e ∷ filter (λ x. comes_before e x) xs)
     ∙ elim (cases_Bool (p e)) [
       | inl t ↦ rw (t, front, back) refl
-      | inr f ↦ rw (f, front, back) (around p e (filter p xs) (rising_filter comes_before p xs ascend) (passes_own p xs) f)
+      | inr f ↦ rw (f, front, back) (around p e (filter p xs) (rising_filter comes_before p xs ascend) (filter_passes p xs) f)
     ]
 
 pub with_ascends : (es xs : List IndexEntry) → Ascend xs → Ascend (with_all es xs)

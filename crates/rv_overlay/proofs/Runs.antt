@@ -10,6 +10,7 @@ use Rattle.std.specs.declared.cmp.Ordering.{Ordering}
 use Rattle.std.specs.declared.cmp.Ordering.TheVariants.{Less, Equal, Greater}
 use Rattle.std.proofs.lemmas.List.Elements.{filter_agree}
 use Rattle.std.proofs.lemmas.Option.{slice_get_within}
+use Rattle.rv_value.proofs.Lists.{filter_passes}
 use Rattle.rv_value.specs.declared.record.IndexEntry.{IndexEntry}
 use Rattle.rv_value.specs.declared.range.Range.{Range}
 use Rattle.rv_value.specs.declared.range.Side.{Side}
@@ -48,17 +49,13 @@ PassesTo p n [] = Unit {0}
 PassesTo p zero (x ∷ xs) = (p x ≡ false) × PassesTo p zero xs
 PassesTo p (suc n) (x ∷ xs) = (p x ≡ true) × PassesTo p n xs
 
-all_own : {X : Type 0} (p : X → Bool) (xs : List X) → list_all p (filter p xs) ≡ true
-all_own p [] = refl
-all_own p (x ∷ xs) = elim (cases_Bool (p x)) [ inl t ↦ rw t (rw t (all_own p xs)) | inr f ↦ rw f (all_own p xs) ]
-
 passes_to : {X : Type 0} (p : X → Bool) (n : ℕ) (xs : List X) → list_all p (take n xs) ≡ true → list_all (λ x. not (p x)) (drop n xs) ≡ true → PassesTo p n xs
 passes_to p n [] h k = tt
 passes_to p zero (x ∷ xs) h k = let parts = and_parts (not (p x)) (list_all (λ y. not (p y)) xs) k in (not-true (p x) parts.0, passes_to p zero xs refl parts.1)
 passes_to p (suc n) (x ∷ xs) h k = let parts = and_parts (p x) (list_all p (take n xs)) h in (parts.0, passes_to p n xs parts.1 k)
 
 counted : {X : Type 0} (p : X → Bool) (n : ℕ) (xs : List X) → take n xs ≡ filter p xs → drop n xs ≡ filter (λ x. not (p x)) xs → PassesTo p n xs
-counted p n xs f b = passes_to p n xs (rw f (all_own p xs)) (rw b (all_own (λ x. not (p x)) xs))
+counted p n xs f b = passes_to p n xs (rw f (filter_passes p xs)) (rw b (filter_passes (λ x. not (p x)) xs))
 
 take_none : {X : Type 0} (d : ℕ) → (λ (xs : List X). take d xs ≡ xs) []
 take_none zero = refl

@@ -1,6 +1,5 @@
 -- What always holds of a store shows what a store promises, and is kept by its calls.
 use Rattle.std.proofs.Common.{◌≡◌, ℕ, ◌+◌, ◌<◌, ◌≤◌, List, [], ◌∷◌, ◌++◌, Bool, true, false, not, ◌==◌, cond, refl, ap, sym, ◌∙◌, inl, inr, arith, subst, length, filter, Option, Some, None, IfSome, unwrap_or, length-append}
-use Rattle.std.specs.Prelude.{Result, Ok, Err, OnErr}
 use Rattle.std.proofs.lemmas.Bool.{cases_Bool, cases_eq, cases_lt}
 use Rattle.std.proofs.lemmas.Bool.Decides.{nat_tests}
 use Rattle.std.proofs.lemmas.Grind.{common_steps}
@@ -12,7 +11,7 @@ use Rattle.rv_rows.specs.Changes.{rows_with_changes}
 use Rattle.rv_rows.specs.Rows.{Ascend, comes_below, with_values}
 use Rattle.rv_reader.specs.Entries as rows_entries
 use Rattle.rv_reader.specs.Storing as storing
-use Rattle.rv_reader.specs.Storing.{AreWide, IsStored, IsOver, Stays, Committed, Swept, CanCommit, IsChange, pages_after}
+use Rattle.rv_reader.specs.Storing.{AreWide, IsStored, Stays, Committed, Swept, CanCommit, IsChange, pages_after}
 use Rattle.rv_versions.specs.Chains.{AllChainsBelow}
 use Rattle.rv_versions.proofs.Values.{chains_more}
 use Rattle.rv_records.specs.Pages.{IsBelow, IsSame, rows_at, pages_at}
@@ -526,10 +525,6 @@ kept_turns k turns kept = record {
   tables = kept.tables;
   indexes = kept.indexes;
 }
-
-pub err_any : {A E : Type 0} (r : Result A E) (Q : Type 0) → Q → OnErr r Q
-err_any (Ok a) Q q = tt
-err_any (Err e) Q q = q
 
 pub tree_indexed : (k : Kept) (table : ℕ) (columns : List ℕ) (new : Index) → IsNewIndex table columns (rows_in k.tables table k.newest) k.newest new → tree_in (k.indexes ++ new ∷ []) (length k.indexes) k.newest ≡ tree_over columns (rows_in k.tables table k.newest) empty_tree
 tree_indexed k table columns new made = ap (λ (x : Index). tree_of x.tree k.newest) (index_new k.indexes new (length k.indexes) refl) ∙ made.tree

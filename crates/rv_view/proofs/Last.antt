@@ -7,13 +7,14 @@ use Rattle.std.proofs.lemmas.List.{length-take-le}
 use Rattle.std.specs.List.{list_all}
 use Rattle.std.specs.List.Sorted.{IsPartitionedBy}
 use Rattle.std.proofs.lemmas.Option.{same_Some}
+use Rattle.rv_value.proofs.Lists.{filter_passes}
 use Rattle.rv_rows.specs.declared.changes.Change.{Change}
 use Rattle.rv_rows.specs.Changes.{Rise, is_before}
 use Rattle.rv_rows.proofs.Cuts.{partitioned}
 use Rattle.rv_rows.proofs.Filters.{filter_same, filter_twice}
 use Rattle.rv_rows.proofs.Puts.{rising_filter}
 use Rattle.rv_view.specs.Making.{last_of, of_table}
-use Rattle.rv_view.proofs.Written.{all_last, all_own, last_is, last_or}
+use Rattle.rv_view.proofs.Written.{all_last, last_is, last_or}
 
 all_true : (cs : List Change) → list_all (λ (c : Change). true) cs ≡ true
 all_true [] = refl
@@ -89,5 +90,5 @@ last_at table rank cs l rise within front some got =
         let there : slice_get (take rank cs) (rank - 1) ≡ Some l = taken_at (rank - 1) rank cs l (omega (arith, some)) got in
         let last : last_or d ds ≡ l = same_Some (last_or d ds) l (sym (last_is d ds) ∙ ap (slice_get (d ∷ ds)) (sym place) ∙ ap (λ xs. slice_get xs (rank - 1)) (sym (front ∙ is)) ∙ there) in
         let rises : Rise (d ∷ ds) = subst Rise is (rising_filter is_before (λ (c : Change). nat_le c.table table) cs rise) in
-        let low : list_all (λ (c : Change). nat_le c.table table) (d ∷ ds) ≡ true = ap (list_all (λ (c : Change). nat_le c.table table)) (sym is) ∙ all_own (λ (c : Change). nat_le c.table table) cs in
+        let low : list_all (λ (c : Change). nat_le c.table table) (d ∷ ds) ≡ true = ap (list_all (λ (c : Change). nat_le c.table table)) (sym is) ∙ filter_passes (λ (c : Change). nat_le c.table table) cs in
         last_own table d ds rises low ∙ ap (λ (x : Change). cond (x.table == table) (Some x) None) last

@@ -1,7 +1,8 @@
 -- What is kept beside changes fits the store that they were made on.
-use Rattle.std.proofs.Common.{◌≡◌, ℕ, ◌+◌, ◌<◌, ◌≤◌, ◌^◌, List, [], ◌∷◌, Bool, true, false, not, ◌&&◌, ◌||◌, ◌==◌, cond, Option, Some, None, IfSome, inl, inr, refl, ap, sym, subst, ◌∙◌, filter, length, arith}
+use Rattle.std.proofs.Common.{◌≡◌, ℕ, ◌+◌, ◌<◌, ◌≤◌, ◌^◌, List, [], ◌∷◌, Bool, true, false, not, ◌&&◌, ◌||◌, ◌==◌, Option, Some, None, IfSome, inl, inr, refl, ap, sym, subst, ◌∙◌, filter, length, arith}
 use Rattle.std.proofs.lemmas.Bool.{cases_Bool}
 use Rattle.std.proofs.lemmas.Bool.Decides.{nat_tests}
+use Rattle.rv_value.proofs.Lists.{filter_length}
 use Rattle.rv_value.specs.declared.record.Record.{Record}
 use Rattle.rv_value.specs.declared.record.IndexEntry.{IndexEntry}
 use Rattle.rv_rows.specs.declared.changes.Change.{Change}
@@ -25,16 +26,10 @@ use Rattle.rv_overlay.proofs.Freezing.{applied_fits, index_fits, table_fits}
 use Rattle.rv_overlay.proofs.Members.{has_filter, has_self, laid_has, members_tell}
 use Rattle.rv_overlay.proofs.Tabling.{applied_ascends}
 use Rattle.rv_overlay.proofs.Viewing.{view_is}
-use Rattle.rv_view.specs.Making.{Keeps, KeepsPart, LaysKept}
+use Rattle.rv_view.specs.Making.{KeepsPart, LaysKept}
 use Rattle.rv_view.proofs.Rows.{pages_more, rows_few}
 
 -- Of an index at most as many entries are added as the view has rows.
-
-filter_length : (p : IndexEntry → Bool) (xs : List IndexEntry) → length (filter p xs) ≤ length xs
-filter_length p [] = omega arith
-filter_length p (x ∷ xs) =
-    let rest = filter_length p xs in
-    elim (p x) as (λ b. length (cond b (x ∷ filter p xs) (filter p xs)) ≤ length (x ∷ xs)) [ true ↦ omega (arith, rest) | false ↦ omega (arith, rest) ]
 
 first_or : (a b : Bool) → a ≡ (a && (a || b))
 first_or true b = refl

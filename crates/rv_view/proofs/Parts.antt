@@ -2,7 +2,7 @@
 use Rattle.std.proofs.Common.{◌≡◌, ℕ, zero, suc, ◌+◌, ◌<◌, arith, List, [], ◌∷◌, ◌++◌, true, Option, Some, refl, ap, sym, subst, ◌∙◌, take, drop, length}
 use Rattle.std.specs.Prelude.{slice_get, slice_set}
 use Rattle.std.proofs.lemmas.List.Folds.{list_all-append}
-use Rattle.std.specs.List.{AllByRecursion, list_all}
+use Rattle.std.specs.List.{list_all}
 use Rattle.std.proofs.lemmas.Bool.{and_parts}
 use Rattle.std.proofs.lemmas.Option.{same_Some}
 use Rattle.rv_value.specs.declared.record.Record.{Record}
@@ -16,11 +16,6 @@ use Rattle.rv_overlay.specs.declared.frozen.Part.{Part}
 use Rattle.rv_view.specs.Making.{empty_part, empty_parts, part_after, parts_after}
 
 -- The item of a place has what all have.
-
-pub all_at : {X : Type 0} (P : X → Type 0) (xs : List X) (i : ℕ) (x : X) → AllByRecursion P xs → slice_get xs i ≡ Some x → P x
-all_at P [] i x all is = cc
-all_at P (y ∷ ys) zero x all is = subst P (same_Some y x is) all.0
-all_at P (y ∷ ys) (suc i) x all is = all_at P ys i x all.1 is
 
 -- The part of a place.
 

@@ -4,6 +4,7 @@ use Rattle.std.specs.Prelude.{max, slice_get}
 use Rattle.std.proofs.lemmas.Bool.{cases_Bool, and_parts}
 use Rattle.std.proofs.lemmas.Bool.Decides.{nat_tests}
 use Rattle.std.specs.List.{AllByRecursion, list_all}
+use Rattle.rv_value.proofs.Lists.{filter_passes}
 use Rattle.rv_rows.specs.declared.changes.Change.{Change}
 use Rattle.rv_rows.specs.Changes.{Rise, is_before, with_change}
 use Rattle.rv_rows.specs.Rising.{put_in}
@@ -121,10 +122,6 @@ pages_are table (c ∷ cs) pages = elim (cases_Bool (is_some c.values)) [
   ]
 ]
 
-pub all_own : (p : Change → Bool) (cs : List Change) → list_all p (filter p cs) ≡ true
-all_own p [] = refl
-all_own p (c ∷ cs) = elim (cases_Bool (p c)) [ inl t ↦ rw t (rw t (all_own p cs)) | inr f ↦ rw f (all_own p cs) ]
-
 abbrev pub last_or : Change → List Change → Change
 last_or c [] = c
 last_or c (d ∷ ds) = last_or d ds
@@ -157,12 +154,12 @@ up_last table (c ∷ cs) pages rise own =
 pub pages_written : (table : ℕ) (cs : List Change) (pages : ℕ) → Rise cs → pages_after table cs pages ≡ pages_up (last_of table (written_of cs)) pages
 pages_written table cs pages rise =
     pages_are table cs pages
-    ∙ up_last table (of_table table (written_of cs)) pages (rising_filter is_before (λ (c : Change). c.table == table) (written_of cs) (written_rise cs rise)) (all_own (λ (c : Change). c.table == table) (written_of cs))
+    ∙ up_last table (of_table table (written_of cs)) pages (rising_filter is_before (λ (c : Change). c.table == table) (written_of cs) (written_rise cs rise)) (filter_passes (λ (c : Change). c.table == table) (written_of cs))
 
 -- How far they reach after one change more.
 
 own_last : (table : ℕ) (cs : List Change) (pages : ℕ) → Rise cs → pages_over (of_table table cs) pages ≡ pages_up (last_of table cs) pages
-own_last table cs pages rise = up_last table (of_table table cs) pages (rising_filter is_before (λ (c : Change). c.table == table) cs rise) (all_own (λ (c : Change). c.table == table) cs)
+own_last table cs pages rise = up_last table (of_table table cs) pages (rising_filter is_before (λ (c : Change). c.table == table) cs rise) (filter_passes (λ (c : Change). c.table == table) cs)
 
 over_max : (cs : List Change) (pages n : ℕ) → pages_over cs (max pages n) ≡ max (pages_over cs pages) n
 over_max [] pages n = refl

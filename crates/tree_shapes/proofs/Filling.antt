@@ -3,6 +3,7 @@ use Rattle.std.proofs.Common.{ℕ, true, false, inl, inr, ◌+◌, ◌<◌, ◌�
 use Rattle.std.specs.Prelude.{◌||◌, slice_index_or}
 use Rattle.std.specs.List.{AllByRecursion, list_all}
 use Rattle.std.proofs.lemmas.Bool.{cases_eq, eq-eqb, ne_eqb}
+use Rattle.rv_value.proofs.Lists.{all_more}
 use Rattle.rv_value.specs.declared.record.IndexEntry.{IndexEntry}
 use Rattle.rv_value.specs.declared.range.Range.{Range}
 use Rattle.rv_reader.specs.Entries.{comes_before, sorted_in, AreLong}
@@ -11,7 +12,6 @@ use Rattle.rv_reader.proofs.Suiting.{long_keys}
 use Rattle.rv_versions.specs.declared.chain.Version.{Version}
 use Rattle.rv_versions.specs.Chains.{AllBelow, AllChainsBelow}
 use Rattle.rv_node.specs.Sound.{Absent}
-use Rattle.rv_node.proofs.Lists.{All-map}
 use Rattle.rv_node.proofs.Rising.{All-of, list_all-of}
 use Rattle.rv_index.specs.Index.{Nodes, entries_of, cuts_of, IsNew, IsInserted}
 use Rattle.rv_index.proofs.Facts.{other_row}
@@ -35,20 +35,20 @@ of_one : (e : IndexEntry) → one_value e ≡ true → length e.key ≡ 1
 of_one e h = elim (cases_eq (length e.key) 1) [ inl l ↦ l | inr ne ↦ let no = ne_eqb (length e.key) 1 ne in cc ]
 
 ones : (es : List IndexEntry) → AreKeys 1 es → list_all one_value es ≡ true
-ones es keys = list_all-of one_value es (All-map (λ e. length e.key ≡ 1) (λ e. one_value e ≡ true) es one_of keys)
+ones es keys = list_all-of one_value es (all_more (λ e. length e.key ≡ 1) (λ e. one_value e ≡ true) one_of es keys)
 
 keys_of : (es : List IndexEntry) → list_all one_value es ≡ true → AreKeys 1 es
-keys_of es all = All-map (λ e. one_value e ≡ true) (λ e. length e.key ≡ 1) es of_one (All-of one_value es all)
+keys_of es all = all_more (λ e. one_value e ≡ true) (λ e. length e.key ≡ 1) of_one es (All-of one_value es all)
 
 pub absent_next : (row : ℕ) (e : IndexEntry) (tree : Nodes) → IsFilled row tree → e.row.0 ≡ row → Absent comes_before e (entries_of tree 1)
-absent_next row e tree filled is = All-map (λ x. x.row.0 < row) (λ x. (comes_before x e || comes_before e x) ≡ true) (entries_of tree 1) (λ x l. other_row e x (λ same. absurd (omega arith))) filled.rows
+absent_next row e tree filled is = all_more (λ x. x.row.0 < row) (λ x. (comes_before x e || comes_before e x) ≡ true) (λ x l. other_row e x (λ same. absurd (omega arith))) (entries_of tree 1) filled.rows
 
 pub filled_next : (row : ℕ) (e : IndexEntry) (old new : Nodes) → IsFilled row old → e.row.0 ≡ row → length e.key ≡ 1 → IsInserted 1 e old new → AllChainsBelow 2 new → IsFilled (row + 1) new
 filled_next row e old new filled is one put below = record {
   sound = put.sound;
   newest = below;
   number = subst (λ es. length es ≡ row + 1) (sym put.entries) (sorted_length e (entries_of old 1) row filled.number);
-  rows = subst (AllByRecursion (λ x. x.row.0 < row + 1)) (sym put.entries) (sorted_all (λ x. x.row.0 < row + 1) e (entries_of old 1) (omega arith) (All-map (λ x. x.row.0 < row) (λ x. x.row.0 < row + 1) (entries_of old 1) (λ x l. omega arith) filled.rows));
+  rows = subst (AllByRecursion (λ x. x.row.0 < row + 1)) (sym put.entries) (sorted_all (λ x. x.row.0 < row + 1) e (entries_of old 1) (omega arith) (all_more (λ x. x.row.0 < row) (λ x. x.row.0 < row + 1) (λ x l. omega arith) (entries_of old 1) filled.rows));
   keys = subst (AreKeys 1) (sym put.entries) (sorted_all (λ x. length x.key ≡ 1) e (entries_of old 1) one filled.keys);
   cuts = keys_of (cuts_of new 1) (put.cuts one_value (one_of e one) (ones (cuts_of old 1) filled.cuts) (ones (entries_of old 1) filled.keys));
 }

@@ -1,9 +1,9 @@
-use Rattle.std.proofs.Common.{sym, ap, ◌∙◌, refl, not, arith, length, inl, inr}
+use Rattle.std.proofs.Common.{sym, ◌∙◌, arith, length, inl, inr}
 use Rattle.std.proofs.lemmas.Bool.{cases_lt}
+use Rattle.rv_value.proofs.Lists.{filter_length}
 use Rattle.rv_reader.specs.Entries.{is_in}
-use Rattle.rv_reader.specs.Shown.{IsEstimate}
-use Rattle.rv_overlay.proofs.Chunked.{all_long, filter_count}
-use Rattle.rv_overlay.proofs.Counted.{no_view, view_count, view_estimate, view_index, without_count}
+use Rattle.rv_overlay.proofs.Chunked.{all_long}
+use Rattle.rv_overlay.proofs.Counted.{no_view, view_estimate, view_index, without_count}
 use Rattle.rv_overlay.proofs.Keying.{taken_keys}
 use Rattle.rv_overlay.proofs.reading.estimate_over.Goals as goal
 
@@ -27,8 +27,8 @@ counted-requires-clause-less g c h =
 pub counted-requires-clause-fits : goal.counted-requires-clause-fits
 counted-requires-clause-fits g c h =
     let whole = c.estimate-estimate.ensures.exact.exact h in
-    let few = filter_count (is_in c.args.range.now) c.args.part.now.added in
-    let fewer = filter_count (is_in c.args.range.now) ((g.R.Reader.shown c.args.reader.now).entries c.args.index c.args.snap) in
+    let few = filter_length (is_in c.args.range.now) c.args.part.now.added in
+    let fewer = filter_length (is_in c.args.range.now) ((g.R.Reader.shown c.args.reader.now).entries c.args.index c.args.snap) in
     elim (cases_lt 0 (length c.args.part.now.added)) [
       | inl some ↦ (let many = c.requires.lays.many some in omega (arith, whole, few, fewer, many))
       | inr none ↦ omega (arith, few, none)

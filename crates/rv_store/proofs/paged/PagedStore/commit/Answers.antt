@@ -1,5 +1,6 @@
-use Rattle.rv_store.proofs.Standing.{can_put, committed_is, err_any, failed_same, index_open, kept_committed, kept_failed, open_is, trees_committed}
+use Rattle.rv_store.proofs.Standing.{can_put, committed_is, failed_same, index_open, kept_committed, kept_failed, open_is, trees_committed}
 use Rattle.rv_store.proofs.paged.PagedStore.commit.Goals as goal
+use Rattle.rv_value.proofs.Lists.{on_err}
 
 pub commit_changes-requires-clause-open : goal.commit_changes-requires-clause-open
 commit_changes-requires-clause-open c = open_is _ c.self.invariant
@@ -19,7 +20,7 @@ invariant_of-self c =
 
 pub returns-in_err-commit_changes-clause-err : goal.returns-in_err-commit_changes-clause-err
 returns-in_err-commit_changes-clause-err c =
-    rw (← c.self.view_is) (err_any c.from_residual.result _
+    rw (← c.self.view_is) (on_err c.from_residual.result _
     (failed_same (record { horizon = c.self.inside.horizon; newest = c.self.inside.newest; tables = c.self.inside.tables.items; indexes = c.self.inside.indexes.items; turns = c.self.inside.places }) c.commit_changes.new.tables.items c.commit_changes.new.indexes.items c.commit_changes.new.places c.commit_changes.ensures.tables c.commit_changes.ensures.indexes))
 
 pub invariant_of-self-2 : goal.invariant_of-self-2
