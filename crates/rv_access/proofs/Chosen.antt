@@ -7,6 +7,7 @@ use Rattle.std.proofs.lemmas.List.{length-map}
 use Rattle.std.proofs.lemmas.List.Sorted.{length_permutation}
 use Rattle.std.specs.Cmp.{first_so, second_so}
 use Rattle.std.proofs.lemmas.Bool.{and_from}
+use Rattle.rv_value.proofs.Tests.{no_way}
 use Rattle.rv_judge.specs.declared.counting.Counts.{Counts}
 use Rattle.rv_judge.specs.declared.events.Strategy.{Strategy}
 use Rattle.rv_judge.specs.declared.events.Strategy.TheVariants.{Table, BackgroundOnly, FastFirst, Sorted, IndexOnly, Union}
@@ -49,9 +50,6 @@ use Rattle.rv_access.specs.declared.racing.RacedQuery.{RacedQuery}
 use Rattle.rv_access.specs.Accesses.{RacedFits, RacedTells}
 use Rattle.rv_access.specs.Opened.{Begins, BeginsRace, Competes, Opened, OpenedBy, Races, Unites, is_background_only, is_each, is_table, races, restricted, unites}
 use Rattle.rv_access.proofs.Lives.{raced_life}
-
-no_way : {X : Type 0} → true ≡ false → X
-no_way bad = absurd (cc)
 
 -- WHERE INDEXES RACE, only a background is chosen, and it scans each restricted index
 

@@ -1,5 +1,6 @@
 -- The leaves that an access may still read where members are put together.
 use Rattle.std.proofs.Common.{◌≡◌, ℕ, true, false, List, Result, Ok, Err, IfOk, ap, sym, subst}
+use Rattle.rv_value.proofs.Tests.{no_other}
 use Rattle.rv_judge.specs.declared.counting.Counts.{Counts}
 use Rattle.rv_restrict.specs.declared.atom.Atom.{Atom}
 use Rattle.rv_reader.specs.Shown.{Shown}
@@ -20,15 +21,12 @@ opened_ahead table snap only plans cursor opening pages u shown opened ahead = s
 pub all_ahead : (query : Query) (shown : Shown) (u : UnitedQuery) → u.query ≡ query → leaves_left u.union shown ≡ planned_leaves u.union.plans shown query.snap → AllAhead shown (Uniting u)
 all_ahead query shown u asked ahead = λ united. subst (λ (q : Query). leaves_left u.union shown ≡ planned_leaves u.union.plans shown q.snap) (sym asked) ahead
 
-not_so : {X : Type 0} → false ≡ true → X
-not_so h = absurd (cc)
-
 -- no members are put together
 pub none_ahead : (shown : Shown) (v : Access) → is_union v ≡ false → AllAhead shown v
-none_ahead shown v other = λ united. not_so (subst (λ b. b ≡ true) other united)
+none_ahead shown v other = λ united. no_other (subst (λ b. b ≡ true) other united)
 
 pub none_near : {X E : Type 0} (r : Result X E) (shown : Shown) (before after : Counts) (old new : Access) → is_union old ≡ false → IfOk r (λ x. LeavesNear shown before after old new)
-none_near (Ok x) shown before after old new other = λ united. not_so (subst (λ b. b ≡ true) other united)
+none_near (Ok x) shown before after old new other = λ united. no_other (subst (λ b. b ≡ true) other united)
 none_near (Err e) shown before after old new other = tt
 
 pub union_near : {X E : Type 0} (r : Result X E) (shown : Shown) (before after : Counts) (old new : UnitedQuery) → IfOk r (λ x. LeavesFall before after (leaves_left old.union shown) (leaves_left new.union shown)) → IfOk r (λ x. LeavesNear shown before after (Uniting old) (Uniting new))

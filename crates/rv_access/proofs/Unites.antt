@@ -5,6 +5,8 @@ use Rattle.std.proofs.lemmas.Bool.{cases_Bool, and_from, or_left, or_right}
 use Rattle.std.proofs.lemmas.Bool.Decides.{nat_tests}
 use Rattle.std.proofs.lemmas.List.{length-map}
 use Rattle.std.specs.Cmp.{first_so, second_so}
+use Rattle.rv_value.proofs.Tests.{same_number}
+use Rattle.rv_value.proofs.Lists.{all_at}
 use Rattle.rv_value.specs.declared.value.Value.{Value}
 use Rattle.rv_value.specs.declared.record.Record.{Record}
 use Rattle.rv_judge.specs.declared.counting.Counts.{Counts}
@@ -26,7 +28,6 @@ use Rattle.rv_jscan.specs.Joint.{CanMake, meets, no_plan}
 use Rattle.rv_choice.specs.declared.query.Query.{Query}
 use Rattle.rv_choice.specs.Asked.{CanAsk, with_only}
 use Rattle.rv_choice.specs.Members.{AreMembers, AreUnited, IsMember}
-use Rattle.rv_choice.proofs.Choices.{all_at}
 use Rattle.rv_choice.proofs.OfMembers.{member_has, member_planned}
 use Rattle.rv_final.specs.Rest.{qualifies_at, qualifying}
 use Rattle.rv_retrieval.specs.Effort.{cuts_and_entries, life_of as retrieval_life}
@@ -133,12 +134,9 @@ members_some query shown plans u =
 
 -- their indexes are the table's
 
-itself : (n : ℕ) → nat_eq n n ≡ true
-itself n = grind (arith, nat_tests)
-
 each_known : (is : List (ℕ × List ℕ)) → AllByRecursion (λ (i : ℕ × List ℕ). has_index i.0 (map (λ (j : ℕ × List ℕ). j.0) is) ≡ true) is
 each_known [] = tt
-each_known (i ∷ is) = (or_left (nat_eq i.0 i.0) (has_index i.0 (map (λ (j : ℕ × List ℕ). j.0) is)) (itself i.0), known_more i.0 (map (λ (j : ℕ × List ℕ). j.0) is) is (each_known is))
+each_known (i ∷ is) = (or_left (nat_eq i.0 i.0) (has_index i.0 (map (λ (j : ℕ × List ℕ). j.0) is)) (same_number i.0), known_more i.0 (map (λ (j : ℕ × List ℕ). j.0) is) is (each_known is))
   where
     known_more : (x : ℕ) (xs : List ℕ) (is : List (ℕ × List ℕ)) → AllByRecursion (λ (i : ℕ × List ℕ). has_index i.0 xs ≡ true) is → AllByRecursion (λ (i : ℕ × List ℕ). has_index i.0 (x ∷ xs) ≡ true) is
     known_more x xs [] all = tt

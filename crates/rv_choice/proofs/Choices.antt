@@ -1,9 +1,9 @@
 -- The choice among the indexes: the least one, what candidates are, and what the background's scans and the foreground are.
-use Rattle.std.proofs.Common.{◌≡◌, ℕ, zero, suc, ◌+◌, ◌<◌, ◌≤◌, ◌⊎◌, List, [], ◌∷◌, ◌++◌, cond, length, Bool, true, false, not, ◌&&◌, refl, ap, sym, ◌∙◌, arith, subst, Some, None, Option, nat_eq, nat_lt, inl, inr, map, filter, take, ◌||◌}
+use Rattle.std.proofs.Common.{◌≡◌, ℕ, ◌+◌, ◌<◌, ◌≤◌, ◌⊎◌, List, [], ◌∷◌, ◌++◌, cond, length, Bool, true, false, not, ◌&&◌, refl, ap, sym, ◌∙◌, arith, subst, Some, None, Option, nat_eq, nat_lt, inl, inr, map, filter, take, ◌||◌}
 use Rattle.std.proofs.lemmas.Bool.{cases_Bool}
 use Rattle.std.proofs.lemmas.Bool.Decides.{nat_tests}
 use Rattle.std.specs.Cmp.Lexicographic.{pointwise}
-use Rattle.std.specs.List.{AllByRecursion, starts_with, slice_index_or}
+use Rattle.std.specs.List.{AllByRecursion, starts_with}
 use Rattle.rv_restrict.specs.Parts.{stands_among}
 use Rattle.rv_restrict.specs.Ranges.{range_for}
 use Rattle.rv_reader.specs.Shown.{Shown}
@@ -87,12 +87,6 @@ pub record IsCandidate (query : Query) (shown : Shown) (c : Candidate) : Type 0 
 pub are_candidates : (query : Query) (shown : Shown) (is : List (ℕ × List ℕ)) → AllByRecursion (λ (i : ℕ × List ℕ). IsIndexOf query shown i.0 i.1) is → AllByRecursion (IsCandidate query shown) (map (candidate_of query shown) is)
 are_candidates query shown [] all = tt
 are_candidates query shown (i ∷ is) all = (record { index_of = all.0; its_range = refl; its_columns = refl }, are_candidates query shown is all.1)
-
--- an element of a list of which all have a property
-pub all_at : {X : Type 0} (P : X → Type 0) (xs : List X) (i : ℕ) (d : X) → AllByRecursion P xs → i < length xs → P (slice_index_or xs i d)
-all_at P [] i d all l = absurd (omega arith)
-all_at P (x ∷ xs) zero d all l = all.0
-all_at P (x ∷ xs) (suc i) d all l = all_at P xs i d all.1 (omega arith)
 
 -- columns that are needed are the index's
 pub stand_all : (columns need : List ℕ) (c : ℕ) → has_all columns need ≡ true → stands_among need c ≡ true → stands_among columns c ≡ true

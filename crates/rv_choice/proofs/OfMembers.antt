@@ -4,6 +4,7 @@ use Rattle.std.proofs.lemmas.Bool.Decides.{nat_tests}
 use Rattle.std.proofs.lemmas.List.{get_or_read_under}
 use Rattle.std.specs.List.{AllByRecursion, list_all, list_any, slice_index_or}
 use Rattle.std.proofs.lemmas.Bool.{and_from, and_left, and_right, or_from, or_left, or_right}
+use Rattle.rv_value.proofs.Lists.{all_at}
 use Rattle.rv_restrict.specs.declared.atom.Atom.{Atom}
 use Rattle.rv_restrict.specs.Branches.{branches_of, group_at}
 use Rattle.rv_reader.specs.Shown.{Shown}
@@ -14,7 +15,7 @@ use Rattle.rv_choice.specs.declared.choosing.Role.TheVariants.{Restricted}
 use Rattle.rv_choice.specs.Asked.{CanAsk, IsIndexOf, IsPlanned, with_only}
 use Rattle.rv_choice.specs.Choice.{IsLeastOf, NonePlays, candidate_at, candidate_of, no_candidate, plan_of}
 use Rattle.rv_choice.specs.Members.{AddsMembers, AreMembers, AreUnited, IsMember, NoneServes, PutsMembers, is_bounded, seen_by, serves, some_restricted, some_serves}
-use Rattle.rv_choice.proofs.Choices.{IsCandidate, all_at, are_candidates, either_below}
+use Rattle.rv_choice.proofs.Choices.{IsCandidate, are_candidates, either_below}
 use Rattle.rv_choice.proofs.Suited.{index_of_any}
 
 -- THE MEMBER OF A BRANCH

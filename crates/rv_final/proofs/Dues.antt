@@ -3,6 +3,7 @@ use Rattle.std.proofs.Common.{◌≡◌, ℕ, List, [], ◌∷◌, drop, filter,
 use Rattle.std.specs.List.{AllByRecursion}
 use Rattle.std.proofs.lemmas.Bool.{cases_Bool, and_parts}
 use Rattle.std.proofs.lemmas.Bool.Decides.{nat_tests}
+use Rattle.rv_value.proofs.Lists.{all_drop}
 use Rattle.rv_value.specs.declared.record.Record.{Record}
 use Rattle.rv_rows.specs.Rows.{Ascend}
 use Rattle.rv_restrict.specs.declared.atom.Atom.{Atom}
@@ -160,11 +161,6 @@ pub rows_apart : (rows : List Record) → Ascend rows → RowsApart rows
 rows_apart [] a = tt
 rows_apart (r ∷ rows) a = (below_all r rows r.row.0 (omega arith) a.0, rows_apart rows a.1)
 
-pub all_dropped : {X : Type 0} (P : X → Type 0) (k : ℕ) (xs : List X) → AllByRecursion P xs → AllByRecursion P (drop k xs)
-all_dropped P zero xs a = a
-all_dropped P (suc k) [] a = a
-all_dropped P (suc k) (x ∷ xs) a = all_dropped P k xs a.1
-
 rows_apart_dropped : (k : ℕ) (xs : List Record) → RowsApart xs → RowsApart (drop k xs)
 rows_apart_dropped zero xs a = a
 rows_apart_dropped (suc k) [] a = a
@@ -172,7 +168,7 @@ rows_apart_dropped (suc k) (x ∷ xs) a = rows_apart_dropped k xs a.1
 
 pub rows_looks : (need : List ℕ) (only : List (List Atom)) (rows : List Record) (k : ℕ) → Ascend rows → Looks need only rows (drop k rows)
 rows_looks need only rows k asc = record {
-  each = stands (drop k rows) (all_dropped (λ (x : Record). row_at rows x.row.0 ≡ Some x) k rows (rows_found rows asc));
+  each = stands (drop k rows) (all_drop (λ (x : Record). row_at rows x.row.0 ≡ Some x) k rows (rows_found rows asc));
   apart = rows_apart_dropped k rows (rows_apart rows asc);
 }
   where

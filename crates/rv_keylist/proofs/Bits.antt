@@ -3,6 +3,7 @@ use Rattle.std.proofs.Common.{◌≡◌, ℕ, ◌+◌, ◌<◌, ◌++◌, ◌∷
 use Rattle.std.proofs.lemmas.Bool.{cond_both, or_cases, or_left, or_right, eq-eqb, eqb-true}
 use Rattle.std.proofs.lemmas.List.Folds.{list_any-append, list_any_more}
 use Rattle.std.proofs.lemmas.List.Sorted.{list_any-IsPermutation}
+use Rattle.rv_value.proofs.Tests.{or_false}
 use Rattle.rv_filter.specs.Bits.{bit_of, is_set, holds, SetsBit}
 use Rattle.rv_keys.specs.Keys.{has_key}
 use Rattle.rv_keylist.specs.Keys.{has_bit, may_key, Marks}
@@ -11,10 +12,6 @@ use Rattle.rv_keylist.specs.Whole.{AddsBits}
 or_assoc : (a b c : Bool) → ((a || b) || c) ≡ (a || (b || c))
 or_assoc true b c = refl
 or_assoc false b c = refl
-
-or_false : (a : Bool) → (a || false) ≡ a
-or_false true = refl
-or_false false = refl
 
 pub AddsBits-none : (words : List ℕ) → AddsBits words words []
 AddsBits-none words = record { bits = λ b. sym (or_false (is_set words b)) }

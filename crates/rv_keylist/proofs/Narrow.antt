@@ -4,14 +4,11 @@ use Rattle.std.proofs.lemmas.Bool.{cases_Bool}
 use Rattle.std.proofs.lemmas.Bool.Decides.{nat_tests}
 use Rattle.std.proofs.lemmas.List.{length-append}
 use Rattle.std.proofs.lemmas.List.Elements.{filter-append}
+use Rattle.rv_value.proofs.Lists.{filter_length}
 use Rattle.rv_keys.specs.Keys.{has_key, Once}
 use Rattle.rv_keys.proofs.Onces.{Once-nil, Once-cons, Once-head, Once-tail}
 use Rattle.rv_keylist.specs.Keys.{Marks, may_key}
 use Rattle.rv_keylist.specs.Whole.{Moves, Placed, Whole}
-
-pub few_stay : (p : ℕ → Bool) (xs : List ℕ) → length (filter p xs) ≤ length xs
-few_stay p [] = omega arith
-few_stay p (x ∷ xs) = let more = few_stay p xs in elim (p x) as (λ b. length (cond b (x ∷ filter p xs) (filter p xs)) ≤ length (x ∷ xs)) [ true ↦ omega arith | false ↦ omega arith ]
 
 pub none_stays : (p : ℕ → Bool) (n : ℕ) (xs : List ℕ) → has_key n xs ≡ false → has_key n (filter p xs) ≡ false
 none_stays p n [] h = refl
@@ -58,7 +55,7 @@ once_stays p (x ∷ xs) once =
 
 pub still_moved : (list few many few' many' : List ℕ) → Placed few many → few' ≡ filter (λ k. may_key k list) few → many' ≡ filter (λ k. may_key k list) many → 0 < length many' → few' ≡ []
 still_moved list few many few' many' placed f m some =
-    let fewer = few_stay (λ k. may_key k list) many in
+    let fewer = filter_length (λ k. may_key k list) many in
     let same = ap length m in
     f ∙ ap (filter (λ k. may_key k list)) (placed.moved (omega arith))
 
@@ -98,7 +95,7 @@ pub narrowed :
     → Whole few'' many'' capacity'' filter'' 0 done
 narrowed list few many few' many' few'' many'' capacity capacity' capacity'' filter' filter'' spare done whole f m same moves short kept marks unfinished =
     let keys = narrowed_keys list few many few' many' few'' many'' f m moves.keys in
-    let count : length (few'' ++ many'') ≤ length (few ++ many) = let fewer = few_stay (λ k. may_key k list) (few ++ many) in let is = ap length keys in omega arith in
+    let count : length (few'' ++ many'') ≤ length (few ++ many) = let fewer = filter_length (λ k. may_key k list) (few ++ many) in let is = ap length keys in omega arith in
     record {
       placed = moves.placed;
       once = subst Once (sym keys) (once_stays (λ k. may_key k list) (few ++ many) whole.once);
@@ -111,7 +108,7 @@ narrowed list few many few' many' few'' many'' capacity capacity' capacity'' fil
     room : 20 < length (few'' ++ many'') + 0 → length (few'' ++ many'') + 0 ≤ capacity''
     room some =
         let keys = narrowed_keys list few many few' many' few'' many'' f m moves.keys in
-        let fewer = few_stay (λ k. may_key k list) (few ++ many) in
+        let fewer = filter_length (λ k. may_key k list) (few ++ many) in
         let is = ap length keys in
         let before : length (few ++ many) + spare ≤ capacity = whole.room (omega arith) in
         let sum = length-append few'' many'' in

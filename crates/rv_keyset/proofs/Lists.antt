@@ -7,6 +7,7 @@ use Rattle.std.proofs.lemmas.List.Folds.{list_any-append}
 use Rattle.std.proofs.lemmas.List.Sorted.{IsPermutation-append_comm, IsPermutation-append_left, IsPermutation-append_right, IsPermutation-trans, length_permutation, list_any-IsPermutation}
 use Rattle.std.proofs.lemmas.Option.{get_or_from_slice_get, slice_get_within}
 use Rattle.std.proofs.lemmas.Bool.{and_right, or_from}
+use Rattle.rv_value.proofs.Tests.{right_false}
 use Rattle.rv_keys.specs.Keys.{has_key, Once}
 use Rattle.rv_keys.proofs.Onces.{Once-cons, Once-head, Once-IsPermutation, Once-nil, Once-tail}
 use Rattle.rv_keylist.specs.Listed.{Listed}
@@ -17,12 +18,6 @@ use Rattle.rv_keyset.specs.Sets.{AreApart, AreFinished, AreRuns, Keyed, Pours, f
 pub key_append : (n : ℕ) (xs ys : List ℕ) → has_key n (xs ++ ys) ≡ (has_key n xs || has_key n ys)
 key_append n xs ys = list_any-append (nat_eq n) xs ys
 
-left_off : (a b : Bool) → (a || b) ≡ false → a ≡ false
-left_off a b h = grind arith
-
-right_off : (a b : Bool) → (a || b) ≡ false → b ≡ false
-right_off a b h = grind arith
-
 number : (a b : ℕ) → nat_eq a b ≡ true → b ≡ a
 number a b h = grind (arith, nat_tests)
 
@@ -31,7 +26,7 @@ one_apart : (x n : ℕ) (xs ys : List ℕ) → has_key x (xs ++ ys) ≡ false �
 one_apart x n xs ys fresh rest = by (nat_eq n x) refl
   where
     by : (b : Bool) → nat_eq n x ≡ b → ((b || has_key n xs) && has_key n ys) ≡ false
-    by true e = and_right (true || has_key n xs) (has_key n ys) (subst (λ (m : ℕ). has_key m ys ≡ false) (number n x e) (right_off (has_key x xs) (has_key x ys) (sym (key_append x xs ys) ∙ fresh)))
+    by true e = and_right (true || has_key n xs) (has_key n ys) (subst (λ (m : ℕ). has_key m ys ≡ false) (number n x e) (right_false (has_key x xs) (has_key x ys) (sym (key_append x xs ys) ∙ fresh)))
     by false e = rest
 
 pub once_apart : (xs ys : List ℕ) → Once (xs ++ ys) → AreApart xs ys

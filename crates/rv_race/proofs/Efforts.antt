@@ -1,9 +1,10 @@
 -- The effort of a race falls with each leaf read, each piece accepted and each scan that ends.
-use Rattle.std.proofs.Common.{◌≡◌, ℕ, ◌+◌, ◌<◌, ◌≤◌, List, [], ◌∷◌, ◌++◌, length, drop, filter, Bool, true, false, not, cond, ◌&&◌, refl, ap, sym, ◌∙◌, arith, subst, Option, Some, None, is_some, IfSome, IsPermutation, inl, inr, Result, Ok, Err, IfOk, OnErr}
+use Rattle.std.proofs.Common.{◌≡◌, ℕ, ◌+◌, ◌<◌, ◌≤◌, List, [], ◌++◌, length, drop, filter, Bool, true, false, not, ◌&&◌, refl, ap, sym, ◌∙◌, arith, subst, Option, Some, None, is_some, IfSome, IsPermutation, inl, inr, Result, Ok, Err, IfOk, OnErr}
 use Rattle.std.specs.Prelude.{if◌then◌else◌}
 use Rattle.std.proofs.lemmas.List.{drop_more, length-append, length-map}
 use Rattle.std.proofs.lemmas.List.Sorted.{length_permutation}
 use Rattle.std.specs.Cmp.{first_so}
+use Rattle.rv_value.proofs.Lists.{filter_length}
 use Rattle.rv_value.specs.declared.record.IndexEntry.{IndexEntry}
 use Rattle.rv_judge.specs.declared.counting.Counts.{Counts}
 use Rattle.rv_judge.specs.declared.events.Control.{Control}
@@ -19,7 +20,6 @@ use Rattle.rv_judge.specs.Counting.{leaf_read, one_more, reads}
 use Rattle.rv_judge.specs.Course.{next_control}
 use Rattle.rv_judge.specs.Verdicts.{Ruling}
 use Rattle.rv_keylist.specs.Keys.{may_key}
-use Rattle.rv_keylist.proofs.Narrow.{few_stay}
 use Rattle.rv_reader.specs.declared.reader.Chunk.{Chunk}
 use Rattle.rv_reader.specs.Leaves.{leaves_after, leaves_from, run_after}
 use Rattle.rv_reader.specs.Shown.{Shown}
@@ -89,7 +89,7 @@ advanced_work plans shown snap listed w h =
 
 narrowed_work : (plans : List ScanPlan) (shown : Shown) (snap : ℕ) (keys : List ℕ) (o : Option Runner) → other_work plans shown snap (narrowed_by keys o) ≤ other_work plans shown snap o
 narrowed_work plans shown snap keys None = omega arith
-narrowed_work plans shown snap keys (Some other) = let fewer = few_stay (λ k. may_key k keys) other.lane.building in omega arith
+narrowed_work plans shown snap keys (Some other) = let fewer = filter_length (λ k. may_key k keys) other.lane.building in omega arith
 
 read_once : (h : Option Chunk) → to_read h ≤ 1
 read_once None = omega arith
@@ -97,14 +97,10 @@ read_once (Some c) = omega arith
 
 -- A PIECE IS ACCEPTED
 
-fewer : {X : Type 0} (p : X → Bool) (xs : List X) → length (filter p xs) ≤ length xs
-fewer p [] = omega arith
-fewer p (x ∷ xs) = let more = fewer p xs in elim (p x) as (λ b. length (cond b (x ∷ filter p xs) (filter p xs)) ≤ length (x ∷ xs)) [ true ↦ omega arith | false ↦ omega arith ]
-
 kept_few : (admits : ℕ → Bool) (piece : Pieced) → length (kept_by admits piece.part piece.entries) ≤ length piece.entries
 kept_few admits piece =
     let mapped = length-map (filter (is_kept admits piece.part) piece.entries) (λ (e : IndexEntry). e.row.0) in
-    let few = fewer (is_kept admits piece.part) piece.entries in
+    let few = filter_length (is_kept admits piece.part) piece.entries in
     omega arith
 
 -- the leaves ahead fall with the leaf held

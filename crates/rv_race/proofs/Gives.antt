@@ -1,6 +1,7 @@
 -- What a give leaves: an accepted piece, and then the end of its scan, or the verdict on it.
 use Rattle.std.proofs.Common.{◌≡◌, ℕ, List, length, Bool, true, false, refl, ap, sym, ◌∙◌, subst, Option, Some, None, is_some, IfSome, IsPermutation, Result, Ok, Err, IfOk, OnErr, inl, inr}
 use Rattle.std.specs.Cmp.{first_so}
+use Rattle.rv_value.proofs.Tests.{no_way}
 use Rattle.rv_value.specs.declared.record.IndexEntry.{IndexEntry}
 use Rattle.rv_judge.specs.declared.events.Control.{Control}
 use Rattle.rv_judge.specs.declared.events.Happening.{Happening}
@@ -150,9 +151,6 @@ gives_kin (Err x) would state after piece old new o e = subst (Kin old) (sym e) 
 
 abbrev pub Turns : Option Runner → Raced → Type 0
 Turns other new = racing new.control ≡ true → IfSome other (λ o. new.running.turn.scan ≡ o.scan)
-
-no_way : {X : Type 0} → true ≡ false → X
-no_way bad = absurd (cc)
 
 turned_turn : (w : Running) → IfSome w.other (λ o. (turned w).turn.scan ≡ o.scan)
 turned_turn w = by w.other

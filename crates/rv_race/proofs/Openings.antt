@@ -1,8 +1,9 @@
 -- A race before its first step.
-use Rattle.std.proofs.Common.{◌≡◌, ℕ, ◌+◌, ◌*◌, ◌<◌, ◌≤◌, List, [], ◌∷◌, length, filter, Bool, true, false, cond, ◌&&◌, refl, ap, sym, ◌∙◌, arith, subst, nat_lt}
+use Rattle.std.proofs.Common.{◌≡◌, ℕ, ◌+◌, ◌*◌, ◌<◌, ◌≤◌, List, [], ◌∷◌, length, Bool, true, ◌&&◌, refl, ap, sym, ◌∙◌, arith, subst, nat_lt}
 use Rattle.std.specs.List.{AllByRecursion, list_all}
 use Rattle.std.proofs.lemmas.Bool.Decides.{nat_tests}
 use Rattle.std.proofs.lemmas.List.{length-map}
+use Rattle.rv_value.proofs.Lists.{filter_length}
 use Rattle.rv_value.specs.declared.record.Record.{Record}
 use Rattle.rv_rows.specs.Rows.{Ascend}
 use Rattle.rv_restrict.specs.declared.atom.Atom.{Atom}
@@ -90,14 +91,10 @@ rows_within : (rows : List Record) (high : ℕ) → Ascend rows → AllByRecursi
 rows_within [] high asc below = omega arith
 rows_within (r ∷ rows) high asc below = let more = rows_above rows r.row.0 high asc.1 below.1 asc.0 below.0 in omega arith
 
-fewer : {X : Type 0} (p : X → Bool) (xs : List X) → length (filter p xs) ≤ length xs
-fewer p [] = omega arith
-fewer p (x ∷ xs) = let more = fewer p xs in elim (p x) as (λ b. length (cond b (x ∷ filter p xs) (filter p xs)) ≤ length (x ∷ xs)) [ true ↦ omega arith | false ↦ omega arith ]
-
 planned_cost : (plans : List ScanPlan) (shown : Shown) (snap : ℕ) → planned_work plans shown snap ≤ 2 * cuts_and_entries plans shown snap + 2 * length plans
 planned_cost [] shown snap = omega arith
 planned_cost (p ∷ plans) shown snap =
-    let few = fewer (is_in p.range) (shown.entries p.index snap) in
+    let few = filter_length (is_in p.range) (shown.entries p.index snap) in
     let more = planned_cost plans shown snap in
     omega arith
 

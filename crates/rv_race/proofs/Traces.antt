@@ -2,10 +2,10 @@
 use Rattle.std.proofs.Common.{◌≡◌, ◌∙◌, ℕ, ◌+◌, ◌*◌, ◌-◌, ◌≤◌, List, [], ◌∷◌, ◌++◌, Bool, true, false, ◌||◌, Option, Some, None, is_some, length, take, nat_lt, nat_eq, refl, ap, sym, subst, arith, append_assoc, append-nil, length-append}
 use Rattle.std.specs.List.{list_all}
 use Rattle.std.proofs.Math.Seq.{take-append_seam}
-use Rattle.std.proofs.lemmas.Bool.Decides.{nat_tests}
 use Rattle.std.proofs.lemmas.List.Folds.{list_any-append}
 use Rattle.std.specs.Cmp.{first_so, second_so}
 use Rattle.std.proofs.lemmas.Bool.{lt-ltb}
+use Rattle.rv_value.proofs.Tests.{number_turned}
 use Rattle.rv_judge.specs.declared.events.Control.{Control}
 use Rattle.rv_judge.specs.declared.events.Control.TheVariants.{Building, ForegroundAlone, BackgroundAlone, FinalList, FinalTable, Done}
 use Rattle.rv_judge.specs.declared.events.Event.{Event}
@@ -188,9 +188,6 @@ last_off xs x =
 
 -- Each index is scanned once.
 
-flips : (a b : ℕ) → nat_eq a b ≡ nat_eq b a
-flips a b = grind (arith, nat_tests)
-
 index_append : (i : ℕ) (xs ys : List ℕ) → has_index i (xs ++ ys) ≡ (has_index i xs || has_index i ys)
 index_append i xs ys = list_any-append (λ (k : ℕ). nat_eq k i) xs ys
 
@@ -202,7 +199,7 @@ once_front (x ∷ xs) ys o = (left_off (has_index x xs) (has_index x ys) (sym (i
     left_off a b h = grind arith
 
 pub once_swap : (xs : List ℕ) (a b : ℕ) (ys : List ℕ) → EachOnce (xs ++ a ∷ b ∷ ys) → EachOnce (xs ++ b ∷ a ∷ ys)
-once_swap [] a b ys o = (second (nat_eq b a) (has_index a ys) (has_index b ys) (nat_eq a b) (flips a b) o.0 o.1.0, (third (nat_eq b a) (has_index a ys) o.0, o.1.1))
+once_swap [] a b ys o = (second (nat_eq b a) (has_index a ys) (has_index b ys) (nat_eq a b) (number_turned a b) o.0 o.1.0, (third (nat_eq b a) (has_index a ys) o.0, o.1.1))
   where
     second : (c d e f : Bool) → f ≡ c → (c || d) ≡ false → e ≡ false → (f || e) ≡ false
     second c d e f s h i = grind arith
@@ -216,7 +213,7 @@ once_swap (x ∷ xs) a b ys o = (index_append x xs (b ∷ a ∷ ys) ∙ same (ha
 
 pub once_apart : (xs : List ℕ) (a : ℕ) (ys : List ℕ) → EachOnce (xs ++ a ∷ ys) → has_index a xs ≡ false
 once_apart [] a ys o = refl
-once_apart (x ∷ xs) a ys o = both_off (nat_eq x a) (has_index a xs) (flips x a ∙ off (has_index x xs) (nat_eq a x) (has_index x ys) (sym (index_append x xs (a ∷ ys)) ∙ o.0)) (once_apart xs a ys o.1)
+once_apart (x ∷ xs) a ys o = both_off (nat_eq x a) (has_index a xs) (number_turned x a ∙ off (has_index x xs) (nat_eq a x) (has_index x ys) (sym (index_append x xs (a ∷ ys)) ∙ o.0)) (once_apart xs a ys o.1)
   where
     off : (p q r : Bool) → (p || (q || r)) ≡ false → q ≡ false
     off p q r h = grind arith

@@ -2,6 +2,7 @@
 use Rattle.std.proofs.Common.{◌≡◌, ◌⊎◌, ◌∙◌, ◌-◌, ◌<◌, ℕ, ap, sym, subst, refl, true, false, Bool, ◌&&◌, List, Option, IsSome, is_some, inl, inr, arith}
 use Rattle.std.specs.Prelude.{if◌then◌else◌}
 use Rattle.std.proofs.lemmas.Bool.{cases_Bool}
+use Rattle.rv_value.proofs.Tests.{no_way}
 use Rattle.rv_value.specs.declared.record.Record.{Record}
 use Rattle.rv_reader.specs.Shown.{Shown}
 use Rattle.rv_judge.specs.Account.{guarantee_with}
@@ -28,7 +29,6 @@ use Rattle.rv_retrieval.specs.Rulings.{going_on, gone, listed, scan_over}
 use Rattle.rv_retrieval.specs.Shape.{DoesStep, RetrievalFits, Shape, is_background, rest}
 use Rattle.rv_retrieval.specs.Telling.{list_len}
 use Rattle.rv_judge.specs.Tracing.{CountsAll, NothingCounted, counted}
-use Rattle.rv_retrieval.proofs.Chosen.{no_way}
 use Rattle.rv_retrieval.proofs.Switching.{joint_fits, joint_rest}
 
 pub all_fits : (v mid : Shape) (shown : Shown) → mid ≡ record v { joint = mid.joint } → SameScans v.joint mid.joint → is_background v.control ≡ true → JointFits mid.joint shown → RetrievalFits v shown → RetrievalFits mid shown

@@ -1,8 +1,9 @@
 -- The work of the background falls with each leaf read, each piece accepted and each scan dropped.
-use Rattle.std.proofs.Common.{◌≡◌, ℕ, ◌+◌, ◌-◌, ◌<◌, ◌≤◌, List, [], ◌∷◌, ◌++◌, length, drop, filter, Bool, true, false, cond, ◌&&◌, refl, ap, sym, ◌∙◌, arith, subst, Option, Some, None, is_some, IsPermutation, not}
+use Rattle.std.proofs.Common.{◌≡◌, ℕ, ◌+◌, ◌-◌, ◌<◌, ◌≤◌, List, [], ◌∷◌, ◌++◌, length, drop, filter, Bool, true, false, ◌&&◌, refl, ap, sym, ◌∙◌, arith, subst, Option, Some, None, is_some, IsPermutation, not}
 use Rattle.std.specs.Prelude.{if◌then◌else◌}
 use Rattle.std.proofs.lemmas.List.{drop_more, length-append, length-map}
 use Rattle.std.proofs.lemmas.List.Sorted.{length_permutation}
+use Rattle.rv_value.proofs.Lists.{filter_length}
 use Rattle.rv_value.specs.declared.record.IndexEntry.{IndexEntry}
 use Rattle.rv_judge.specs.declared.counting.Counts.{Counts}
 use Rattle.rv_judge.specs.Counting.{leaf_read, one_more, reads}
@@ -37,14 +38,10 @@ pub entries_split : (j : Joint) (shown : Shown) → j.ended < length j.plans →
 entries_split j shown lt =
     ap (λ (ps : List ScanPlan). entries_of_scans ps j.place shown j.snap) (drop_more j.plans j.ended no_plan lt) ∙ ap (λ (n : ℕ). length (to_sieve j shown) + n) (sym (entries_sum (drop (j.ended + 1) j.plans) shown j.snap))
 
-fewer : {X : Type 0} (p : X → Bool) (xs : List X) → length (filter p xs) ≤ length xs
-fewer p [] = omega arith
-fewer p (x ∷ xs) = let more = fewer p xs in elim (p x) as (λ b. length (cond b (x ∷ filter p xs) (filter p xs)) ≤ length (x ∷ xs)) [ true ↦ omega arith | false ↦ omega arith ]
-
 pub kept_few : (j : Joint) (entries : List IndexEntry) → length (kept_of j entries) ≤ length entries
 kept_few j entries =
     let mapped = length-map (filter (is_kept (may j.list) (present j).part) entries) (λ (e : IndexEntry). e.row.0) in
-    let few = fewer (is_kept (may j.list) (present j).part) entries in
+    let few = filter_length (is_kept (may j.list) (present j).part) entries in
     omega arith
 
 -- The keys to borrow.

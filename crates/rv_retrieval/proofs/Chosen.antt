@@ -6,6 +6,8 @@ use Rattle.std.proofs.lemmas.List.Quantifiers.{position-Some}
 use Rattle.std.proofs.lemmas.List.{length-map}
 use Rattle.std.proofs.lemmas.List.Sorted.{All-permutation, length_permutation}
 use Rattle.std.specs.List.{All, AllByRecursion, list_any, starts_with, position, position_or_len}
+use Rattle.rv_value.proofs.Tests.{no_way}
+use Rattle.rv_value.proofs.Lists.{all_at, all_filter, filter_length}
 use Rattle.rv_value.specs.declared.record.IndexEntry.{IndexEntry}
 use Rattle.rv_value.specs.declared.range.Range.{Range}
 use Rattle.rv_value.specs.Ranges.{in_side}
@@ -45,8 +47,8 @@ use Rattle.rv_retrieval.specs.Opens.{Opens, first_of}
 use Rattle.rv_final.specs.Rest.{qualifies_at}
 use Rattle.rv_retrieval.specs.Shape.{FrontFits, Shape, is_background, is_index_only, is_led, is_sorted}
 use Rattle.rv_choice.proofs.Suited.{range_suits}
-use Rattle.rv_choice.proofs.Choices.{IsCandidate, all_at, are_candidates, leads_begins, stand_all}
-use Rattle.rv_retrieval.proofs.Entered.{all_kept, entered}
+use Rattle.rv_choice.proofs.Choices.{IsCandidate, are_candidates, leads_begins, stand_all}
+use Rattle.rv_retrieval.proofs.Entered.{entered}
 use Rattle.rv_retrieval.proofs.Planning.{is_true_true, planned_apart, planned_meets}
 
 -- The background's scans.
@@ -70,7 +72,7 @@ from_all P [] all = tt
 from_all P (x ∷ xs) all = (all zero x (omega arith), from_all P xs (λ k d l. all (suc k) d (omega arith)))
 
 pub are_planned : (query : Query) (shown : Shown) (cs : List Candidate) (choice : Choice) (scans : List ScanPlan) → AllByRecursion (IsCandidate query shown) cs → AreScans query.only cs choice.background scans → AllByRecursion (IsPlanned query shown) scans
-are_planned query shown cs choice scans all s = from_all (IsPlanned query shown) scans (All-permutation (IsPlanned query shown) (map (plan_of query.only) (filter (is_scanned choice.background) cs)) scans s.these (to_all (IsPlanned query shown) (map (plan_of query.only) (filter (is_scanned choice.background) cs)) (plans_made query shown (filter (is_scanned choice.background) cs) (all_kept (IsCandidate query shown) (is_scanned choice.background) cs all))))
+are_planned query shown cs choice scans all s = from_all (IsPlanned query shown) scans (All-permutation (IsPlanned query shown) (map (plan_of query.only) (filter (is_scanned choice.background) cs)) scans s.these (to_all (IsPlanned query shown) (map (plan_of query.only) (filter (is_scanned choice.background) cs)) (plans_made query shown (filter (is_scanned choice.background) cs) (all_filter (IsCandidate query shown) (is_scanned choice.background) cs all))))
 
 -- The foreground.
 
@@ -108,9 +110,6 @@ chosen_front order goal cs choice chosen led = go (order_index order cs) chosen.
       suffices = λ h. l.is;
     }
     go None None None restricted e l r = no_lead goal choice restricted r led
-
-pub no_way : {X : Type 0} → true ≡ false → X
-no_way bad = absurd (cc)
 
 -- where some index begins with the order's columns there is an order index
 leads_found : (query : Query) (shown : Shown) (is : List (ℕ × List ℕ)) → nat_eq (length query.order) 0 ≡ false → list_any (λ (i : ℕ × List ℕ). starts_with nat_eq i.1 query.order) is ≡ true → list_any (λ (c : Candidate). leads query.order c.columns) (map (candidate_of query shown) is) ≡ true
@@ -240,15 +239,11 @@ chosen_opens query shown choice scans front cs e can chosen s f =
 
 -- How many scans there are.
 
-filter_most : {X : Type 0} (p : X → Bool) (xs : List X) → length (filter p xs) ≤ length xs
-filter_most p [] = omega arith
-filter_most p (x ∷ xs) = let more = filter_most p xs in elim (p x) as (λ b. length (cond b (x ∷ filter p xs) (filter p xs)) ≤ length (x ∷ xs)) [ true ↦ omega arith | false ↦ omega arith ]
-
 pub few_scans : (query : Query) (shown : Shown) (background : Background) (scans : List ScanPlan) (cs : List Candidate) → cs ≡ candidates_of query shown → CanAsk query shown → AreScans query.only cs background scans → length scans ≤ 8
 few_scans query shown background scans cs e can s =
     let same = length_permutation (map (plan_of query.only) (filter (is_scanned background) cs)) scans s.these in
     let mapped = length-map (filter (is_scanned background) cs) (plan_of query.only) in
-    let most = filter_most (is_scanned background) cs in
+    let most = filter_length (is_scanned background) cs in
     let all = ap length e in
     let indexes = length-map query.indexes (candidate_of query shown) in
     let few = can.few in

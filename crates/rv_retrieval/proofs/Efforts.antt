@@ -2,6 +2,7 @@
 use Rattle.std.proofs.Common.{◌≡◌, ℕ, ◌+◌, ◌<◌, ◌≤◌, ◌++◌, Bool, true, false, refl, ap, sym, ◌∙◌, arith, subst, Option, Some, None, is_some, Result, Ok, Err, IfOk, OnErr, nat_eq}
 use Rattle.std.specs.Prelude.{if◌then◌else◌}
 use Rattle.std.proofs.lemmas.Bool.Decides.{nat_tests}
+use Rattle.rv_value.proofs.Tests.{no_way, same_number}
 use Rattle.rv_value.specs.declared.record.IndexEntry.{IndexEntry}
 use Rattle.rv_judge.specs.declared.events.Event.TheVariants.{Stop}
 use Rattle.rv_judge.specs.declared.events.Happening.{Happening}
@@ -30,9 +31,6 @@ use Rattle.rv_retrieval.specs.Telling.{can_stop}
 use Rattle.rv_judge.specs.Tracing.{noted}
 use Rattle.rv_retrieval.proofs.BackWork.{abandoned_less, accepted_less, completed_less}
 use Rattle.rv_retrieval.proofs.Courses.{HasFront, back_none, building_back, ended_none, goes_lower, keys_back, lower_back, lower_building, may_lead, scan_none, sum_less, sum_lower, sum_near}
-
-no_way : {X : Type 0} → true ≡ false → X
-no_way bad = absurd (cc)
 
 -- The control changes.
 
@@ -87,9 +85,6 @@ obeyed_less false way would state after before v new shown limit o w near again 
     let is = ap (λ (x : Shape). effort x shown) o.0 in
     let first = again refl in
     omega arith
-
-same_number : (n : ℕ) → nat_eq n n ≡ true
-same_number n = grind (arith, nat_tests)
 
 pub given_less : (would : ℕ → Facts → Ruling) (state after : ℕ) (piece : Pieced) (old new : Shape) (j : Joint) (shown : Shown) → is_background old.control ≡ true → Awaits old.joint piece → Accepts old.joint j piece.entries (held_next old.joint.held) → Obeys would state after old.joint.ended (record old { joint = j }) new → JointFits old.joint shown → effort new shown < effort old shown
 given_less would state after piece old new j shown back w a o f =

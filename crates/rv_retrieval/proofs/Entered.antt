@@ -3,6 +3,7 @@ use Rattle.std.proofs.Common.{◌≡◌, ℕ, List, [], ◌∷◌, filter, map, 
 use Rattle.std.specs.List.{list_any, AllByRecursion, cons_option}
 use Rattle.std.proofs.lemmas.Bool.{cases_Bool}
 use Rattle.std.proofs.lemmas.Bool.Decides.{nat_tests}
+use Rattle.rv_value.proofs.Lists.{all_drop, all_filter}
 use Rattle.rv_value.specs.declared.record.Record.{Record}
 use Rattle.rv_value.specs.declared.record.IndexEntry.{IndexEntry}
 use Rattle.rv_rows.specs.Rows.{Ascend}
@@ -18,7 +19,7 @@ use Rattle.rv_jscan.specs.Entries.{has_entry, Apart}
 use Rattle.rv_jscan.proofs.Parts.{Apart-filter}
 use Rattle.rv_final.specs.Rest.{qualifies_at, has_row}
 use Rattle.rv_final.proofs.Rests.{found_row, rows_found}
-use Rattle.rv_final.proofs.Dues.{StandsFor, RowsApart, Looks, all_dropped, rows_apart}
+use Rattle.rv_final.proofs.Dues.{StandsFor, RowsApart, Looks, rows_apart}
 
 -- an entry of a row
 pub record EntryOf (columns : List ℕ) (rows : List Record) (e : IndexEntry) : Type 0 where
@@ -95,10 +96,6 @@ stand_mapped columns rows (r ∷ some) a = (record { row = r; there = a.0; is = 
 pub entries_stand : (columns : List ℕ) (rows : List Record) → Ascend rows → AreOf columns rows (entries_of columns rows)
 entries_stand columns rows asc = all_sorted (EntryOf columns rows) (map (entry_of columns) rows) (stand_mapped columns rows rows (rows_found rows asc))
 
-pub all_kept : {X : Type 0} (P : X → Type 0) (p : X → Bool) (xs : List X) → AllByRecursion P xs → AllByRecursion P (filter p xs)
-all_kept P p [] a = tt
-all_kept P p (x ∷ xs) a = elim (p x) as (λ b. AllByRecursion P (cond b (x ∷ filter p xs) (filter p xs))) [ true ↦ (a.0, all_kept P p xs a.1) | false ↦ all_kept P p xs a.1 ]
-
 apart_dropped : (k : ℕ) (xs : List IndexEntry) → Apart xs → Apart (drop k xs)
 apart_dropped zero xs a = a
 apart_dropped (suc k) [] a = a
@@ -109,7 +106,7 @@ pub left_apart : (along : Along) (entries : List IndexEntry) → Follows along e
 left_apart along entries f a = subst Apart (sym f.1) (apart_dropped f.0 (run entries along.range) (Apart-filter (is_in along.range) entries a))
 
 pub left_stands : (along : Along) (columns : List ℕ) (rows : List Record) (entries : List IndexEntry) → Follows along entries → AreOf columns rows entries → AreOf columns rows (left along entries)
-left_stands along columns rows entries f a = subst (AreOf columns rows) (sym f.1) (all_dropped (EntryOf columns rows) f.0 (run entries along.range) (all_kept (EntryOf columns rows) (is_in along.range) entries a))
+left_stands along columns rows entries f a = subst (AreOf columns rows) (sym f.1) (all_drop (EntryOf columns rows) f.0 (run entries along.range) (all_filter (EntryOf columns rows) (is_in along.range) entries a))
 
 -- records fetched
 fetched_has : (columns : List ℕ) (rows : List Record) (es : List IndexEntry) (n : ℕ) → AreOf columns rows es → has_row n (fetched rows es) ≡ has_entry n es

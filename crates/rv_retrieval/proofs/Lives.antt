@@ -7,6 +7,8 @@ use Rattle.std.proofs.lemmas.List.{length-map}
 use Rattle.std.proofs.lemmas.List.Quantifiers.{position-Some}
 use Rattle.std.proofs.lemmas.List.Sums.{sum_by-cons}
 use Rattle.std.proofs.lemmas.List.Sorted.{length_permutation, sum_by-IsPermutation}
+use Rattle.rv_value.proofs.Tests.{no_way}
+use Rattle.rv_value.proofs.Lists.{filter_length}
 use Rattle.rv_value.specs.declared.record.Record.{Record}
 use Rattle.rv_judge.specs.declared.events.Control.{Control}
 use Rattle.rv_judge.specs.declared.events.Control.TheVariants.{Building}
@@ -41,9 +43,6 @@ use Rattle.rv_retrieval.specs.Opens.{first_of}
 use Rattle.rv_retrieval.specs.Shape.{Shape, is_background, is_building, is_led}
 use Rattle.rv_retrieval.proofs.Chosen.{chosen_front, walk_same}
 use Rattle.rv_retrieval.proofs.Courses.{HasFront, keys_back, sum_lower}
-
-no_way : {X : Type 0} → true ≡ false → X
-no_way bad = absurd (cc)
 
 -- The rows of a table are at most as many as its pages have places.
 
@@ -80,17 +79,13 @@ planned_sum (p ∷ plans) shown snap =
     let first = sum_by-cons (plan_cost shown snap) p plans in
     omega arith
 
-fewer : {X : Type 0} (p : X → Bool) (xs : List X) → length (filter p xs) ≤ length xs
-fewer p [] = omega arith
-fewer p (x ∷ xs) = let more = fewer p xs in elim (p x) as (λ b. length (cond b (x ∷ filter p xs) (filter p xs)) ≤ length (x ∷ xs)) [ true ↦ omega arith | false ↦ omega arith ]
-
 plans_cost : (query : Query) (shown : Shown) (background : Background) (is : List (ℕ × List ℕ)) → sum_by (plan_cost shown query.snap) (map (plan_of query.only) (filter (is_scanned background) (map (candidate_of query shown) is))) ≤ 3 * cuts_and_entries is shown query.snap + 2 * length is
 plans_cost query shown background [] = omega arith
 plans_cost query shown background (i ∷ is) =
     let rest = map (plan_of query.only) (filter (is_scanned background) (map (candidate_of query shown) is)) in
     let first = sum_by-cons (plan_cost shown query.snap) (plan_of query.only (candidate_of query shown i)) rest in
     let more = plans_cost query shown background is in
-    let few = fewer (is_in (candidate_of query shown i).range) (shown.entries i.0 query.snap) in
+    let few = filter_length (is_in (candidate_of query shown i).range) (shown.entries i.0 query.snap) in
     elim (is_scanned background (candidate_of query shown i)) as (λ b. sum_by (plan_cost shown query.snap) (map (plan_of query.only) (cond b (candidate_of query shown i ∷ filter (is_scanned background) (map (candidate_of query shown) is)) (filter (is_scanned background) (map (candidate_of query shown) is)))) ≤ 3 * cuts_and_entries (i ∷ is) shown query.snap + 2 * length (i ∷ is)) [
       | true ↦ omega arith
       | false ↦ omega arith
@@ -112,7 +107,7 @@ index_cost query shown (i ∷ is) zero l = omega arith
 index_cost query shown (i ∷ is) (suc at) l = let more = index_cost query shown is at (omega arith) in omega arith
 
 walk_cost : (query : Query) (shown : Shown) (c : Candidate) → leaf_work (walk_begun query c) (shown.entries c.index query.snap) (shown.cuts c.index query.snap) ≤ length (shown.entries c.index query.snap) + length (shown.cuts c.index query.snap) + 1
-walk_cost query shown c = let few = fewer (is_in c.range) (shown.entries c.index query.snap) in omega arith
+walk_cost query shown c = let few = filter_length (is_in c.range) (shown.entries c.index query.snap) in omega arith
 
 begun_cost : (query : Query) (shown : Shown) (c : Candidate) → leaf_work (walk_of (front_begun query c)) (shown.entries (walk_of (front_begun query c)).index query.snap) (shown.cuts (walk_of (front_begun query c)).index query.snap) ≤ length (shown.entries c.index query.snap) + length (shown.cuts c.index query.snap) + 1
 begun_cost query shown c = subst (λ (w : Along). leaf_work w (shown.entries w.index query.snap) (shown.cuts w.index query.snap) ≤ length (shown.entries c.index query.snap) + length (shown.cuts c.index query.snap) + 1) (sym (walk_same query c)) (walk_cost query shown c)

@@ -3,6 +3,7 @@ use Rattle.std.proofs.Common.{◌≡◌, ◌∙◌, ℕ, ◌+◌, ◌*◌, ◌-�
 use Rattle.std.proofs.lemmas.Bool.{cases_Bool, lt-ltb, ltb-true, or_from}
 use Rattle.std.proofs.lemmas.Bool.Decides.{nat_tests}
 use Rattle.std.proofs.lemmas.List.Folds.{list_any-append}
+use Rattle.rv_value.proofs.Tests.{no_way}
 use Rattle.rv_judge.specs.declared.events.Control.{Control}
 use Rattle.rv_judge.specs.declared.events.Control.TheVariants.{Building, ForegroundAlone, BackgroundAlone, FinalList, FinalTable, Done}
 use Rattle.rv_judge.specs.declared.events.Event.{Event}
@@ -21,7 +22,6 @@ use Rattle.rv_retrieval.specs.Accounts.{list_length}
 use Rattle.rv_retrieval.specs.Runs.{TellsOf, events_left, is_drop, was_dropped, goes_on, indexes_of, runs_both, standing_of}
 use Rattle.rv_retrieval.specs.Shape.{is_background, is_building, is_led}
 use Rattle.rv_judge.specs.Tracing.{with_events}
-use Rattle.rv_retrieval.proofs.Chosen.{no_way}
 use Rattle.rv_retrieval.proofs.Turns.{OneTurn, all_rests, drop_all, drop_last, drop_on, drop_rests, final_turn, front_turn, full_fast, full_index, list_last, list_on, list_rests, standing, stop_turn}
 
 pub with_room : (items es : List Event) → length items + length es ≤ 32 → with_events items es ≡ items ++ es

@@ -9,6 +9,8 @@ use Rattle.std.proofs.lemmas.List.Sums.{sum_by-cons}
 use Rattle.std.proofs.lemmas.Map.Keys.{IsDistinct-head, IsDistinct-tail}
 use Rattle.std.proofs.lemmas.List.Sorted.{length_permutation, sum_by-IsPermutation}
 use Rattle.std.proofs.lemmas.List.Elements.{filter_agree}
+use Rattle.rv_value.proofs.Lists.{all_at}
+use Rattle.rv_value.proofs.Tests.{no_way}
 use Rattle.rv_value.specs.declared.record.IndexEntry.{IndexEntry}
 use Rattle.rv_judge.specs.declared.events.Strategy.{Strategy}
 use Rattle.rv_judge.specs.declared.events.Strategy.TheVariants.{Table, BackgroundOnly, FastFirst, Sorted, IndexOnly, Union}
@@ -47,7 +49,6 @@ use Rattle.rv_retrieval.specs.Shape.{RetrievalFits, Shape, front_entries, is_bac
 use Rattle.rv_retrieval.specs.Short.{Settled, fetches_by, fetches_left, has_short, is_settled, keys_most, scan_fetches}
 use Rattle.rv_retrieval.specs.Telling.{list_len}
 use Rattle.rv_retrieval.proofs.BackWork.{entries_split, kept_few}
-use Rattle.rv_choice.proofs.Choices.{all_at}
 use Rattle.rv_retrieval.proofs.Controls.{sorted_is_led}
 use Rattle.rv_retrieval.proofs.Courses.{HasFront, keys_few}
 use Rattle.rv_retrieval.proofs.Entered.{entries_apart, left_apart}
@@ -90,9 +91,6 @@ gives_keys old mid new piece (Stale asked now) shown t g f =
     omega arith
 
 -- The end of the scan.
-
-no_way : {X : Type 0} → true ≡ false → X
-no_way bad = absurd (cc)
 
 settled_next : (s : Strategy) (c : Control) → HasFront s c → is_background c ≡ true → (is_settled (next_control s c (ScanEnded false true)) ≡ true) × (next_control s c (ScanEnded false true) ≡ ForegroundAlone → is_sorted s ≡ true)
 settled_next Table Building f b = no_way (sym (f refl))

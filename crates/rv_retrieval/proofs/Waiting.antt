@@ -41,10 +41,6 @@ took_only old new e leaves = record {
   fewer = subst (λ (n : ℕ). n ≤ keys_work old) (sym (ap keys_work e ∙ ap (λ (l : Option (List ℕ)). length (keys_left l old.at)) (lists (is_background old.control) old.joint new.joint leaves))) (omega arith);
 }
 
-pub kept_if_not : {X E : Type 0} (r : Result X E) (P : Type 0) → P → OnErr r P
-kept_if_not (Ok x) P p = tt
-kept_if_not (Err e) P p = p
-
 only_itself : (v : Shape) → OnlyTakes v v
 only_itself v = record { same = refl; leaves = inl refl; fresh = λ way. refl; fewer = omega arith }
 

@@ -1,8 +1,9 @@
 -- The effort of a union falls with each leaf read, each piece accepted and each member that ends.
-use Rattle.std.proofs.Common.{◌≡◌, ℕ, ◌+◌, ◌<◌, ◌≤◌, List, [], ◌∷◌, ◌++◌, length, drop, filter, Bool, true, false, not, cond, ◌&&◌, refl, ap, sym, ◌∙◌, arith, subst, Option, Some, None, is_some, IfSome, Result, Ok, Err, IfOk, OnErr}
+use Rattle.std.proofs.Common.{◌≡◌, ℕ, ◌+◌, ◌<◌, ◌≤◌, List, [], ◌++◌, length, drop, filter, Bool, true, false, not, ◌&&◌, refl, ap, sym, ◌∙◌, arith, subst, Option, Some, None, is_some, IfSome, Result, Ok, Err, IfOk, OnErr}
 use Rattle.std.specs.Prelude.{if◌then◌else◌}
 use Rattle.std.proofs.lemmas.List.{drop_more, length-append, length-map}
 use Rattle.std.proofs.lemmas.List.Sorted.{length_permutation}
+use Rattle.rv_value.proofs.Lists.{filter_length}
 use Rattle.rv_value.specs.declared.record.IndexEntry.{IndexEntry}
 use Rattle.rv_judge.specs.declared.counting.Counts.{Counts}
 use Rattle.rv_judge.specs.declared.events.Control.{Control}
@@ -53,14 +54,10 @@ read_once (Some c) = omega arith
 
 -- A PIECE IS ACCEPTED
 
-fewer : {X : Type 0} (p : X → Bool) (xs : List X) → length (filter p xs) ≤ length xs
-fewer p [] = omega arith
-fewer p (x ∷ xs) = let more = fewer p xs in elim (p x) as (λ b. length (cond b (x ∷ filter p xs) (filter p xs)) ≤ length (x ∷ xs)) [ true ↦ omega arith | false ↦ omega arith ]
-
 pub kept_few : (admits : ℕ → Bool) (piece : Pieced) → length (kept_by admits piece.part piece.entries) ≤ length piece.entries
 kept_few admits piece =
     let mapped = length-map (filter (is_kept admits piece.part) piece.entries) (λ (e : IndexEntry). e.row.0) in
-    let few = fewer (is_kept admits piece.part) piece.entries in
+    let few = filter_length (is_kept admits piece.part) piece.entries in
     omega arith
 
 -- the leaves ahead fall with the leaf held

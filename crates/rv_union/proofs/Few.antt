@@ -5,16 +5,8 @@ use Rattle.std.proofs.lemmas.Bool.Decides.{nat_tests}
 use Rattle.std.proofs.lemmas.List.Folds.{list_any-append}
 use Rattle.std.proofs.lemmas.Bool.{and_from, eqb-true, or_left, or_right}
 use Rattle.std.specs.Cmp.{first_so, second_so}
+use Rattle.rv_value.proofs.Tests.{left_false, number_turned, right_false}
 use Rattle.rv_judge.specs.Runs.{EachOnce, has_index}
-
-left_off : (a b : Bool) → (a || b) ≡ false → a ≡ false
-left_off a b h = grind arith
-
-right_off : (a b : Bool) → (a || b) ≡ false → b ≡ false
-right_off a b h = grind arith
-
-flips : (a b : ℕ) → nat_eq a b ≡ nat_eq b a
-flips a b = grind (arith, nat_tests)
 
 either : (a b c : Bool) → (a || b) ≡ true → (a ≡ true → c ≡ true) → (b ≡ true → c ≡ true) → c ≡ true
 either true b c h f g = f refl
@@ -43,7 +35,7 @@ others_stay i k (y ∷ ys) apart h = stay_step i k y (nat_eq y i) ys (without i 
 
 all_stay : (i : ℕ) (xs ys : List ℕ) → has_index i xs ≡ false → list_all (λ k. has_index k ys) xs ≡ true → list_all (λ k. has_index k (without i ys)) xs ≡ true
 all_stay i [] ys apart h = refl
-all_stay i (x ∷ xs) ys apart h = and_from (has_index x (without i ys)) (list_all (λ k. has_index k (without i ys)) xs) (others_stay i x ys (flips i x ∙ left_off (nat_eq x i) (has_index i xs) apart) (first_so (has_index x ys) (list_all (λ k. has_index k ys) xs) h)) (all_stay i xs ys (right_off (nat_eq x i) (has_index i xs) apart) (second_so (has_index x ys) (list_all (λ k. has_index k ys) xs) h))
+all_stay i (x ∷ xs) ys apart h = and_from (has_index x (without i ys)) (list_all (λ k. has_index k (without i ys)) xs) (others_stay i x ys (number_turned i x ∙ left_false (nat_eq x i) (has_index i xs) apart) (first_so (has_index x ys) (list_all (λ k. has_index k ys) xs) h)) (all_stay i xs ys (right_false (nat_eq x i) (has_index i xs) apart) (second_so (has_index x ys) (list_all (λ k. has_index k ys) xs) h))
 
 pub few : (xs ys : List ℕ) → EachOnce xs → list_all (λ k. has_index k ys) xs ≡ true → length xs ≤ length ys
 few [] ys once h = omega arith
@@ -69,7 +61,7 @@ index_append i xs ys = list_any-append (λ (k : ℕ). nat_eq k i) xs ys
 
 pub once_push : (xs : List ℕ) (i : ℕ) → EachOnce xs → has_index i xs ≡ false → EachOnce (xs ++ i ∷ [])
 once_push [] i once off = (refl, tt)
-once_push (x ∷ xs) i once off = (index_append x xs (i ∷ []) ∙ none (has_index x xs) (nat_eq i x) once.0 (flips i x ∙ left_off (nat_eq x i) (has_index i xs) off), once_push xs i once.1 (right_off (nat_eq x i) (has_index i xs) off))
+once_push (x ∷ xs) i once off = (index_append x xs (i ∷ []) ∙ none (has_index x xs) (nat_eq i x) once.0 (number_turned i x ∙ left_false (nat_eq x i) (has_index i xs) off), once_push xs i once.1 (right_false (nat_eq x i) (has_index i xs) off))
   where
     none : (a b : Bool) → a ≡ false → b ≡ false → (a || (b || false)) ≡ false
     none a b h k = grind arith

@@ -1,5 +1,6 @@
 -- The final stage of a union.
 use Rattle.std.proofs.Common.{◌≡◌, ℕ, List, [], true, false, refl, ap, sym, ◌∙◌, arith, subst, Some, None, Result, Ok, Err, OnErr}
+use Rattle.rv_value.proofs.Tests.{no_way}
 use Rattle.rv_value.specs.declared.record.Record.{Record}
 use Rattle.rv_rows.specs.Rows.{Ascend}
 use Rattle.rv_judge.specs.declared.counting.Counts.{Counts}
@@ -90,9 +91,6 @@ stage_err (Ok y) r s e = tt
 stage_err (Err y) r s e = ap (with_stage r) e
 
 -- THE FIT
-
-no_way : {X : Type 0} → true ≡ false → X
-no_way bad = absurd (cc)
 
 not_scanning : (c d : Control) → c ≡ d → scanning d ≡ false → scanning c ≡ true → true ≡ false
 not_scanning c d e off on = sym on ∙ ap scanning e ∙ off

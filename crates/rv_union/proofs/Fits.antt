@@ -5,6 +5,7 @@ use Rattle.std.specs.List.{list_any}
 use Rattle.std.proofs.lemmas.List.Elements.{filter-append}
 use Rattle.std.proofs.lemmas.List.Sorted.{list_any-IsPermutation}
 use Rattle.std.specs.Cmp.{first_so}
+use Rattle.rv_value.proofs.Tests.{either, or_false}
 use Rattle.rv_value.specs.declared.record.IndexEntry.{IndexEntry}
 use Rattle.rv_keys.specs.Keys.{has_key}
 use Rattle.rv_restrict.specs.Parts.{Parted, passes}
@@ -136,13 +137,9 @@ any_at (p ∷ plans) (suc i) shown snap n l h = second (meets p shown snap n) (m
     second : (a b : Bool) → b ≡ true → (a || b) ≡ true
     second a b h = grind arith
 
-either_met : (a b : Bool) (P : Type 0) → (a || b) ≡ true → (a ≡ true → P) → (b ≡ true → P) → P
-either_met true b P h f g = f refl
-either_met false b P h f g = g h
-
 -- of the leaf that the present member holds
 pub passed_met : (u : Unioned) (piece : Pieced) (shown : Shown) → Awaits u piece → UnionFits u shown → AreMet (u.lane.building ++ kept_of u piece) u.plans shown u.snap
-passed_met u piece shown a f = record { met = λ n h. either_met (has_key n u.lane.building) (has_key n (kept_of u piece)) (meets_any u.plans shown u.snap n ≡ true) (sym (key_append n u.lane.building (kept_of u piece)) ∙ h) (λ b. f.building.met n b) (λ k. met n k) }
+passed_met u piece shown a f = record { met = λ n h. either (has_key n u.lane.building) (has_key n (kept_of u piece)) (sym (key_append n u.lane.building (kept_of u piece)) ∙ h) (λ b. f.building.met n b) (λ k. met n k) }
   where
     met : (n : ℕ) → has_key n (kept_of u piece) ≡ true → meets_any u.plans shown u.snap n ≡ true
     met n k =
@@ -164,14 +161,10 @@ pub record Gathers (u : Unioned) (keys : List ℕ) (shown : Shown) : Type 0 wher
 regroup : (a b c : Bool) → (a || (b || c)) ≡ ((a || b) || c)
 regroup a b c = grind arith
 
-or_false : (b : Bool) → (b || false) ≡ b
-or_false true = refl
-or_false false = refl
-
 pub last_gathers : (u : Unioned) (piece : Pieced) (keys : List ℕ) (shown : Shown) → Awaits u piece → held_next u.lane.held ≡ None → IsPermutation (u.keys ++ (u.lane.building ++ kept_of u piece)) keys → UnionFits u shown → Gathers u keys shown
 last_gathers u piece keys shown a next perm f = record {
   each = λ n o. ap (λ (b : Bool). b || later n) (is_key n) ∙ sym (regroup (has_key n u.keys) (has_key n built) (later n)) ∙ all n (f.finds a.under_way n o);
-  met = record { met = λ n h. either_met (has_key n u.keys) (has_key n built) (meets_any u.plans shown u.snap n ≡ true) (sym (is_key n) ∙ h) (λ b. f.listed.met n b) (λ b. (passed_met u piece shown a f).met n b) };
+  met = record { met = λ n h. either (has_key n u.keys) (has_key n built) (sym (is_key n) ∙ h) (λ b. f.listed.met n b) (λ b. (passed_met u piece shown a f).met n b) };
 }
   where
     built : List ℕ

@@ -1,8 +1,10 @@
 -- A union before its first step.
-use Rattle.std.proofs.Common.{◌≡◌, ℕ, ◌+◌, ◌*◌, ◌<◌, ◌≤◌, List, [], ◌∷◌, length, filter, drop, Bool, true, false, cond, ◌&&◌, ◌||◌, refl, ap, sym, ◌∙◌, arith, subst, nat_eq, nat_lt}
+use Rattle.std.proofs.Common.{◌≡◌, ℕ, ◌+◌, ◌*◌, ◌<◌, ◌≤◌, List, [], ◌∷◌, length, drop, Bool, true, false, ◌&&◌, ◌||◌, refl, ap, sym, ◌∙◌, arith, subst, nat_eq, nat_lt}
 use Rattle.std.specs.List.{AllByRecursion, list_all}
 use Rattle.std.proofs.lemmas.Bool.Decides.{nat_tests}
 use Rattle.std.proofs.lemmas.Bool.{and_from}
+use Rattle.rv_value.proofs.Lists.{filter_length}
+use Rattle.rv_value.proofs.Tests.{same_number}
 use Rattle.rv_value.specs.declared.record.Record.{Record}
 use Rattle.rv_rows.specs.Rows.{Ascend}
 use Rattle.rv_restrict.specs.declared.atom.Atom.{Atom}
@@ -47,9 +49,6 @@ opened_fits table snap only members cursor opening pages u shown o can some =
 pub opened_rest : (table snap : ℕ) (only : List (List Atom)) (members : List ScanPlan) (cursor opening pages : ℕ) (u : Unioned) (shown : Shown) → Opened table snap only members cursor opening pages u → rest u shown ≡ qualifying only (shown.rows table snap)
 opened_rest table snap only members cursor opening pages u shown o = ap (λ (x : Unioned). rest x shown) o.is ∙ all_qualifying only (shown.rows table snap)
 
-itself : (n : ℕ) → nat_eq n n ≡ true
-itself n = grind (arith, nat_tests)
-
 or_first : (a : Bool) → a ≡ true → (a || false) ≡ true
 or_first a h = grind arith
 
@@ -62,7 +61,7 @@ opened_tells table snap only members cursor opening pages u shown o can some =
       tail = Scanning;
       told = refl;
       at = refl;
-      present = or_first (nat_eq index index) (itself index);
+      present = or_first (nat_eq index index) (same_number index);
       among = refl;
       once = (refl, tt);
       known = and_from (has_index index (indexes_of members)) true (index_known members 0 (omega arith)) refl;
@@ -89,14 +88,10 @@ rows_within : (rows : List Record) (high : ℕ) → Ascend rows → AllByRecursi
 rows_within [] high asc below = omega arith
 rows_within (r ∷ rows) high asc below = let more = rows_above rows r.row.0 high asc.1 below.1 asc.0 below.0 in omega arith
 
-fewer : {X : Type 0} (p : X → Bool) (xs : List X) → length (filter p xs) ≤ length xs
-fewer p [] = omega arith
-fewer p (x ∷ xs) = let more = fewer p xs in elim (p x) as (λ b. length (cond b (x ∷ filter p xs) (filter p xs)) ≤ length (x ∷ xs)) [ true ↦ omega arith | false ↦ omega arith ]
-
 -- a member's work is below its life
 member_cost : (pages : ℕ) (plan : ScanPlan) (shown : Shown) (snap : ℕ) → lane_work plan shown snap no_lane + 256 * pages + 62 ≤ member_life pages plan shown snap
 member_cost pages plan shown snap =
-    let few = fewer (is_in plan.range) (shown.entries plan.index snap) in
+    let few = filter_length (is_in plan.range) (shown.entries plan.index snap) in
     omega arith
 
 members_cost : (pages : ℕ) (plans : List ScanPlan) (shown : Shown) (snap : ℕ) → planned_work plans shown snap ≤ members_life pages plans shown snap

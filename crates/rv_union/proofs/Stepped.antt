@@ -27,10 +27,6 @@ use Rattle.rv_union.proofs.Gives.{gives_keep, gives_kin}
 use Rattle.rv_union.proofs.Takes.{none_counted, none_leaves}
 use Rattle.rv_union.proofs.Tellings.{gives_tell}
 
-pub kept_if_not : {X E : Type 0} (r : Result X E) (P : Type 0) → P → OnErr r P
-kept_if_not (Ok x) P p = tt
-kept_if_not (Err e) P p = p
-
 pub below : (a b c : ℕ) → c < b → b ≤ a → c < a
 below a b c l m = omega arith
 

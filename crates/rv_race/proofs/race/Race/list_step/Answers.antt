@@ -1,9 +1,10 @@
 use Rattle.std.proofs.Common.{◌≡◌, ◌∙◌, ap, inl}
+use Rattle.rv_value.proofs.Lists.{on_err}
 use Rattle.rv_judge.specs.declared.events.Control.TheVariants.{FinalList}
 use Rattle.rv_scan.specs.declared.skip.Scanned.TheVariants.{Found, Working, End}
 use Rattle.rv_race.specs.Raced.{Raced, racing}
 use Rattle.rv_race.proofs.Finals.{ended_steady, ended_step, ended_tries, ends_done, list_does, list_falls, list_over, list_scanned, list_steady, list_tries, passed_rest}
-use Rattle.rv_race.proofs.Stepped.{only_at_keys, kept_if_not, list_read}
+use Rattle.rv_race.proofs.Stepped.{only_at_keys, list_read}
 use Rattle.rv_race.proofs.race.Race.list_step.Goals as goal
 
 pub returns-in-Found-clause-does : goal.returns-in-Found-clause-does
@@ -85,7 +86,7 @@ pub returns-in_err-row-clause-may_read : goal.returns-in_err-row-clause-may_read
 returns-in_err-row-clause-may_read g c = list_read c.args.self.now _ _ c.requires.control c.scan_list.ensures.may_read
 
 pub returns-in_err-row-clause-err : goal.returns-in_err-row-clause-err
-returns-in_err-row-clause-err g c = kept_if_not _ _ (passed_rest c.args.self.now c.scan_list.new.self (g.R.Reader.shown c.args.reader.now) c.requires.control c.scan_list.ensures.same c.in_err-row.ensures.passed)
+returns-in_err-row-clause-err g c = on_err _ _ (passed_rest c.args.self.now c.scan_list.new.self (g.R.Reader.shown c.args.reader.now) c.requires.control c.scan_list.ensures.same c.in_err-row.ensures.passed)
 
 pub returns-in_err-row-clause-still : goal.returns-in_err-row-clause-still
-returns-in_err-row-clause-still g c = kept_if_not _ _ (only_at_keys c.args.self.now c.scan_list.new.self _ _ (ap racing c.requires.control) c.scan_list.ensures.same c.scan_list.ensures.tries)
+returns-in_err-row-clause-still g c = on_err _ _ (only_at_keys c.args.self.now c.scan_list.new.self _ _ (ap racing c.requires.control) c.scan_list.ensures.same c.scan_list.ensures.tries)

@@ -1,10 +1,11 @@
 use Rattle.std.proofs.Common.{◌≡◌, ◌∙◌, ap, inr, subst, sym}
+use Rattle.rv_value.proofs.Lists.{on_err}
 use Rattle.rv_judge.specs.declared.events.Control.TheVariants.{FinalTable}
 use Rattle.rv_scan.specs.declared.skip.Scanned.TheVariants.{Found, Working, End}
 use Rattle.rv_race.specs.Opened.{OnlyTakes}
 use Rattle.rv_race.specs.Raced.{Raced, racing}
 use Rattle.rv_race.proofs.Finals.{ended_steady, ended_step, ended_tries, ends_done, table_does, table_falls, table_over, table_scanned, table_steady, table_tries}
-use Rattle.rv_race.proofs.Stepped.{kept_if_not, only_itself, table_read}
+use Rattle.rv_race.proofs.Stepped.{only_itself, table_read}
 use Rattle.rv_race.proofs.race.Race.table_step.Goals as goal
 
 pub returns-in-Found-clause-does : goal.returns-in-Found-clause-does
@@ -86,4 +87,4 @@ pub returns-in_err-found-clause-may_read : goal.returns-in_err-found-clause-may_
 returns-in_err-found-clause-may_read g c = table_read c.args.self.now _ _ c.requires.control c.scan_last.ensures.may_read
 
 pub returns-in_err-found-clause-still : goal.returns-in_err-found-clause-still
-returns-in_err-found-clause-still g c = kept_if_not _ _ (subst (OnlyTakes c.args.self.now) (sym c.in_err-found.ensures.err) (only_itself c.args.self.now (ap racing c.requires.control)))
+returns-in_err-found-clause-still g c = on_err _ _ (subst (OnlyTakes c.args.self.now) (sym c.in_err-found.ensures.err) (only_itself c.args.self.now (ap racing c.requires.control)))

@@ -1,9 +1,9 @@
 use Rattle.std.proofs.Common.{◌≡◌, ap, arith, false}
 use Rattle.std.proofs.lemmas.Bool.Decides.{nat_tests}
+use Rattle.rv_value.proofs.Lists.{on_err}
 use Rattle.rv_race.specs.Raced.{Raced, racing}
 use Rattle.rv_race.specs.Given.{turn_lane}
 use Rattle.rv_race.proofs.Takes.{none_leaves, none_read}
-use Rattle.rv_race.proofs.Stepped.{kept_if_not}
 use Rattle.rv_race.proofs.race.Race.take_piece.Goals as goal
 
 pub returns-then-not-is_racing-clause-leaves : goal.returns-then-not-is_racing-clause-leaves
@@ -17,4 +17,4 @@ returns-then-not-is_racing-clause-reads g c =
     none_read c.args.self.now c.args.steps.now off
 
 pub returns-in_err-take_awaited-clause-untaken : goal.returns-in_err-take_awaited-clause-untaken
-returns-in_err-take_awaited-clause-untaken g c = kept_if_not _ _ (ap (λ (x : Raced). (turn_lane x).held) c.in_err-take_awaited.ensures.err)
+returns-in_err-take_awaited-clause-untaken g c = on_err _ _ (ap (λ (x : Raced). (turn_lane x).held) c.in_err-take_awaited.ensures.err)

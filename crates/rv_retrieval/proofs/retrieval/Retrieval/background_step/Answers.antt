@@ -1,10 +1,11 @@
 use Rattle.std.proofs.Common.{◌∙◌, ap, refl, rules, subst, sym}
+use Rattle.rv_value.proofs.Lists.{on_err}
 use Rattle.rv_retrieval.proofs.Stepped.{as_it_is, one_piece}
 use Rattle.rv_retrieval.specs.Shape.{is_background}
 use Rattle.rv_retrieval.proofs.Efforts.{give_awaits, give_less}
 use Rattle.rv_retrieval.proofs.Openings.{below, gave_less, nothing_awaited, tries_to}
 use Rattle.rv_retrieval.specs.Stepping.{OnlyTakes}
-use Rattle.rv_retrieval.proofs.Waiting.{kept_if_not, steady_by, steady_on, took_only}
+use Rattle.rv_retrieval.proofs.Waiting.{steady_by, steady_on, took_only}
 use Rattle.rv_retrieval.proofs.retrieval.Retrieval.background_step.Goals as goal
 
 pub returns-in_ok-_given-in-Piece-clause-does : goal.returns-in_ok-_given-in-Piece-clause-does
@@ -42,7 +43,7 @@ pub returns-in-Nothing-clause-falls : goal.returns-in-Nothing-clause-falls
 returns-in-Nothing-clause-falls g c back a = nothing_awaited c.take_piece.new.self (ap is_background c.take_piece.ensures.control ∙ back) (c.take_piece.ensures.awaiting a) (rw c.in-Nothing.is at c.in_ok-piece.ensures.taken)
 
 pub returns-in_err-piece-clause-still : goal.returns-in_err-piece-clause-still
-returns-in_err-piece-clause-still g c = kept_if_not _ _ (took_only c.args.self.now c.take_piece.new.self c.take_piece.ensures.same c.take_piece.ensures.leaves)
+returns-in_err-piece-clause-still g c = on_err _ _ (took_only c.args.self.now c.take_piece.new.self c.take_piece.ensures.same c.take_piece.ensures.leaves)
 
 pub returns-in_err-_given-in-Piece-clause-still : goal.returns-in_err-_given-in-Piece-clause-still
-returns-in_err-_given-in-Piece-clause-still g c = kept_if_not _ _ (subst (OnlyTakes c.args.self.now) (sym c.in_err-_given-in-Piece.ensures.err) (took_only c.args.self.now c.take_piece.new.self c.take_piece.ensures.same c.take_piece.ensures.leaves))
+returns-in_err-_given-in-Piece-clause-still g c = on_err _ _ (subst (OnlyTakes c.args.self.now) (sym c.in_err-_given-in-Piece.ensures.err) (took_only c.args.self.now c.take_piece.new.self c.take_piece.ensures.same c.take_piece.ensures.leaves))

@@ -1,9 +1,10 @@
 use Rattle.std.proofs.Common.{◌≡◌, ◌∙◌, ap, false, refl, subst, sym, true}
+use Rattle.rv_value.proofs.Lists.{on_err}
 use Rattle.rv_union.specs.Opened.{OnlyTakes}
 use Rattle.rv_union.specs.Unioned.{Unioned, scanning}
 use Rattle.rv_union.proofs.Efforts.{gives_less, leaf_spends, piece_falls, tries_on}
 use Rattle.rv_union.proofs.Finals.{accepted_piece, one_piece}
-use Rattle.rv_union.proofs.Stepped.{only_took, background_read, below, gave_steady, kept_if_not}
+use Rattle.rv_union.proofs.Stepped.{only_took, background_read, below, gave_steady}
 use Rattle.rv_union.proofs.Gives.{gives_stay}
 use Rattle.rv_union.proofs.Lanes.{right_of}
 use Rattle.rv_union.proofs.Takes.{took_parts, took_rest, took_steady}
@@ -57,7 +58,7 @@ pub returns-in_err-piece-clause-steady : goal.returns-in_err-piece-clause-steady
 returns-in_err-piece-clause-steady g c = took_steady c.args.self.now c.take_piece.new.self (g.R.Reader.shown c.args.reader.now) c.take_piece.ensures.leaves c.take_piece.ensures.told c.take_piece.ensures.fits
 
 pub returns-in_err-piece-clause-err : goal.returns-in_err-piece-clause-err
-returns-in_err-piece-clause-err g c = kept_if_not _ _ (took_rest c.args.self.now c.take_piece.new.self (g.R.Reader.shown c.args.reader.now) c.take_piece.ensures.leaves)
+returns-in_err-piece-clause-err g c = on_err _ _ (took_rest c.args.self.now c.take_piece.new.self (g.R.Reader.shown c.args.reader.now) c.take_piece.ensures.leaves)
 
 pub returns-in_err-piece-clause-may_read : goal.returns-in_err-piece-clause-may_read
 returns-in_err-piece-clause-may_read g c = background_read c.args.self.now _ _ c.requires.control c.take_piece.ensures.reads
@@ -75,7 +76,7 @@ pub returns-in_err-_given-in-Piece-clause-err : goal.returns-in_err-_given-in-Pi
 returns-in_err-_given-in-Piece-clause-err g c =
     let shown = g.R.Reader.shown c.args.reader.now in
     let mid = c.take_piece.new.self in
-    kept_if_not _ _ ((gives_stay c.give_piece.result (right_of c.give_piece.ensures.stays) _ _ c.sieve.result mid c.give_piece.new.self shown c.give_piece.ensures.given c.give_piece.ensures.obeys c.give_piece.ensures.err c.take_piece.ensures.fits).1 ∙ took_rest c.args.self.now mid shown c.take_piece.ensures.leaves)
+    on_err _ _ ((gives_stay c.give_piece.result (right_of c.give_piece.ensures.stays) _ _ c.sieve.result mid c.give_piece.new.self shown c.give_piece.ensures.given c.give_piece.ensures.obeys c.give_piece.ensures.err c.take_piece.ensures.fits).1 ∙ took_rest c.args.self.now mid shown c.take_piece.ensures.leaves)
 
 pub returns-in_err-_given-in-Piece-clause-may_read : goal.returns-in_err-_given-in-Piece-clause-may_read
 returns-in_err-_given-in-Piece-clause-may_read g c = background_read c.args.self.now _ _ c.requires.control c.take_piece.ensures.reads
@@ -87,10 +88,10 @@ returns-in_err-_given-in-Piece-clause-tries g c =
     tries_on _ _ _ _ _ _ (leaf_spends c.args.self.now mid shown c.args.steps.now c.take_piece.new.steps c.take_piece.ensures.leaves c.take_piece.ensures.reads) refl (gives_less c.give_piece.result (right_of c.give_piece.ensures.stays) _ _ c.sieve.result mid c.give_piece.new.self shown c.give_piece.ensures.given c.give_piece.ensures.obeys c.give_piece.ensures.err c.take_piece.ensures.fits)
 
 pub returns-in_err-piece-clause-still : goal.returns-in_err-piece-clause-still
-returns-in_err-piece-clause-still g c = kept_if_not _ _ (only_took c.args.self.now c.take_piece.new.self c.take_piece.ensures.leaves)
+returns-in_err-piece-clause-still g c = on_err _ _ (only_took c.args.self.now c.take_piece.new.self c.take_piece.ensures.leaves)
 
 pub returns-in_err-_given-in-Piece-clause-still : goal.returns-in_err-_given-in-Piece-clause-still
-returns-in_err-_given-in-Piece-clause-still g c = kept_if_not _ _ (subst (OnlyTakes c.args.self.now) (sym c.in_err-_given-in-Piece.ensures.err) (only_took c.args.self.now c.take_piece.new.self c.take_piece.ensures.leaves))
+returns-in_err-_given-in-Piece-clause-still g c = on_err _ _ (subst (OnlyTakes c.args.self.now) (sym c.in_err-_given-in-Piece.ensures.err) (only_took c.args.self.now c.take_piece.new.self c.take_piece.ensures.leaves))
 
 pub returns-clause-nearer : goal.returns-clause-nearer
 returns-clause-nearer g c =

@@ -3,8 +3,9 @@ use Rattle.rv_judge.specs.declared.events.Control.TheVariants.{FinalList}
 use Rattle.rv_scan.specs.declared.skip.Scanned.TheVariants.{Found, Working, End}
 use Rattle.rv_union.specs.Unioned.{Unioned, scanning}
 use Rattle.rv_union.proofs.Finals.{ended_steady, ended_step, ended_tries, ends_done, list_does, list_falls, list_over, list_scanned, list_steady, list_tries, passed_rest}
-use Rattle.rv_union.proofs.Stepped.{only_at_keys, kept_if_not, list_read}
+use Rattle.rv_union.proofs.Stepped.{only_at_keys, list_read}
 use Rattle.std.proofs.Common.{refl}
+use Rattle.rv_value.proofs.Lists.{on_err}
 use Rattle.rv_judge.specs.declared.events.Control.TheVariants.{Done}
 use Rattle.rv_judge.specs.Counting.{record_read}
 use Rattle.rv_union.proofs.Leaves.{none_left, stage_leaves}
@@ -89,10 +90,10 @@ pub returns-in_err-row-clause-may_read : goal.returns-in_err-row-clause-may_read
 returns-in_err-row-clause-may_read g c = list_read c.args.self.now _ _ c.requires.control c.scan_list.ensures.may_read
 
 pub returns-in_err-row-clause-err : goal.returns-in_err-row-clause-err
-returns-in_err-row-clause-err g c = kept_if_not _ _ (passed_rest c.args.self.now c.scan_list.new.self (g.R.Reader.shown c.args.reader.now) c.requires.control c.scan_list.ensures.same c.in_err-row.ensures.passed)
+returns-in_err-row-clause-err g c = on_err _ _ (passed_rest c.args.self.now c.scan_list.new.self (g.R.Reader.shown c.args.reader.now) c.requires.control c.scan_list.ensures.same c.in_err-row.ensures.passed)
 
 pub returns-in_err-row-clause-still : goal.returns-in_err-row-clause-still
-returns-in_err-row-clause-still g c = kept_if_not _ _ (only_at_keys c.args.self.now c.scan_list.new.self _ _ (ap scanning c.requires.control) c.scan_list.ensures.same c.scan_list.ensures.tries)
+returns-in_err-row-clause-still g c = on_err _ _ (only_at_keys c.args.self.now c.scan_list.new.self _ _ (ap scanning c.requires.control) c.scan_list.ensures.same c.scan_list.ensures.tries)
 
 pub returns-in-Found-clause-nearer : goal.returns-in-Found-clause-nearer
 returns-in-Found-clause-nearer g c = stage_leaves record_read c.args.steps.now c.scan_list.new.steps _ _ (λ d. refl) c.scan_list.ensures.may_read (none_left c.scan_list.new.self (g.R.Reader.shown c.args.reader.now) FinalList (ap (λ (x : Unioned). x.control) c.scan_list.ensures.same ∙ c.requires.control) refl)

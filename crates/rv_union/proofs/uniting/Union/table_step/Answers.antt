@@ -4,8 +4,9 @@ use Rattle.rv_scan.specs.declared.skip.Scanned.TheVariants.{Found, Working, End}
 use Rattle.rv_union.specs.Opened.{OnlyTakes}
 use Rattle.rv_union.specs.Unioned.{Unioned, scanning}
 use Rattle.rv_union.proofs.Finals.{ended_steady, ended_step, ended_tries, ends_done, table_does, table_falls, table_over, table_scanned, table_steady, table_tries}
-use Rattle.rv_union.proofs.Stepped.{kept_if_not, only_itself, table_read}
+use Rattle.rv_union.proofs.Stepped.{only_itself, table_read}
 use Rattle.std.proofs.Common.{refl}
+use Rattle.rv_value.proofs.Lists.{on_err}
 use Rattle.rv_judge.specs.declared.events.Control.TheVariants.{Done}
 use Rattle.rv_judge.specs.Counting.{page_read}
 use Rattle.rv_union.proofs.Leaves.{none_left, stage_leaves}
@@ -90,7 +91,7 @@ pub returns-in_err-found-clause-may_read : goal.returns-in_err-found-clause-may_
 returns-in_err-found-clause-may_read g c = table_read c.args.self.now _ _ c.requires.control c.scan_last.ensures.may_read
 
 pub returns-in_err-found-clause-still : goal.returns-in_err-found-clause-still
-returns-in_err-found-clause-still g c = kept_if_not _ _ (subst (OnlyTakes c.args.self.now) (sym c.in_err-found.ensures.err) (only_itself c.args.self.now (ap scanning c.requires.control)))
+returns-in_err-found-clause-still g c = on_err _ _ (subst (OnlyTakes c.args.self.now) (sym c.in_err-found.ensures.err) (only_itself c.args.self.now (ap scanning c.requires.control)))
 
 pub returns-in-Found-clause-nearer : goal.returns-in-Found-clause-nearer
 returns-in-Found-clause-nearer g c = stage_leaves page_read c.args.steps.now c.scan_last.new.steps _ _ (λ d. refl) c.scan_last.ensures.may_read (none_left c.scan_last.new.self (g.R.Reader.shown c.args.reader.now) FinalTable (ap (λ (x : Unioned). x.control) c.scan_last.ensures.same ∙ c.requires.control) refl)

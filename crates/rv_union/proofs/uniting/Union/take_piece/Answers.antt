@@ -1,8 +1,8 @@
 use Rattle.std.proofs.Common.{◌≡◌, ap, arith, false}
 use Rattle.std.proofs.lemmas.Bool.Decides.{nat_tests}
+use Rattle.rv_value.proofs.Lists.{on_err}
 use Rattle.rv_union.specs.Unioned.{Unioned, scanning}
 use Rattle.rv_union.proofs.Takes.{none_leaves, none_read}
-use Rattle.rv_union.proofs.Stepped.{kept_if_not}
 use Rattle.rv_union.proofs.uniting.Union.take_piece.Goals as goal
 
 pub returns-then-not-is_scanning-clause-leaves : goal.returns-then-not-is_scanning-clause-leaves
@@ -16,4 +16,4 @@ returns-then-not-is_scanning-clause-reads g c =
     none_read c.args.self.now c.args.steps.now off
 
 pub returns-in_err-take_awaited-clause-untaken : goal.returns-in_err-take_awaited-clause-untaken
-returns-in_err-take_awaited-clause-untaken g c = kept_if_not _ _ (ap (λ (x : Unioned). x.lane.held) c.in_err-take_awaited.ensures.err)
+returns-in_err-take_awaited-clause-untaken g c = on_err _ _ (ap (λ (x : Unioned). x.lane.held) c.in_err-take_awaited.ensures.err)
