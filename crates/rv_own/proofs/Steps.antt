@@ -9,6 +9,7 @@ use Rattle.std.proofs.lemmas.List.Folds.{find_at}
 use Rattle.std.proofs.lemmas.List.Quantifiers.{position-Some}
 use Rattle.std.proofs.lemmas.Option.{same_Some, slice_get_past}
 use Rattle.std.proofs.lemmas.List.{nil_from_length}
+use Rattle.rv_value.proofs.Lists.{all_at}
 use Rattle.rv_rows.specs.declared.changes.Change.{Change}
 use Rattle.rv_rows.specs.Changes.{with_change, with_changes}
 use Rattle.rv_reader.specs.Shown.{Shown, CanRead}
@@ -19,17 +20,6 @@ use Rattle.rv_own.specs.declared.views.OwnView.{OwnView}
 use Rattle.rv_own.specs.Views.{AreOwn, CanKeep, IsFrozenOf, IsMadeOf, IsOwnOf, MayJoin, others, view_of}
 
 -- ---- lists
-
--- a fact of all holds of the one in a place
-pub all_in : {X : Type 0} (P : X → Type 0) (xs : List X) (i : ℕ) (d : X) → i < length xs → AllByRecursion P xs → P (slice_index_or xs i d)
-all_in P [] i d low all = absurd (omega (arith, low))
-all_in P (x ∷ xs) zero d low all = all.0
-all_in P (x ∷ xs) (suc i) d low all = all_in P xs i d (omega (arith, low)) all.1
-
-pub all_got : {X : Type 0} (P : X → Type 0) (xs : List X) (i : ℕ) (x : X) → AllByRecursion P xs → slice_get xs i ≡ Some x → P x
-all_got P [] i x all is = cc
-all_got P (y ∷ ys) zero x all is = subst P (same_Some y x is) all.0
-all_got P (y ∷ ys) (suc i) x all is = all_got P ys i x all.1 is
 
 pub all_behind : {X : Type 0} (P : X → Type 0) (xs : List X) (x : X) → AllByRecursion P xs → P x → AllByRecursion P (xs ++ x ∷ [])
 all_behind P [] x all here = (here, tt)
@@ -97,7 +87,7 @@ found_freezes shown t views seen read place f same same_too own at is =
     let v : OwnView = slice_index_or views place d in
     let test = its.1 in
     let there : v.session ≡ t.session = grind (arith, nat_tests, test) in
-    let made : IsMadeOf shown t.session t.base t.changes v = all_in (IsOwnOf shown t) views place d its.0 own there in
+    let made : IsMadeOf shown t.session t.base t.changes v = all_at (IsOwnOf shown t) views place d own its.0 there in
     let told : f ≡ v.view = is d ∙ ap (λ (xs : List OwnView). (slice_index_or xs place d).view) same_too in
     subst (IsFrozenOf shown t) (sym told) (record { base = made.base; changes = made.changes; written = v.written; keeps = made.keeps })
 

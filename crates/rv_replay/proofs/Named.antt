@@ -1,7 +1,8 @@
 -- After any history the names of indexes are all different.
-use Rattle.std.proofs.Common.{◌≡◌, ℕ, ◌≤◌, List, [], ◌∷◌, ◌++◌, refl, sym, Bool, true, false, ◌||◌, Option, Some, None, Result, Ok, Err, bytes_eq, nat_lt, length, remove}
+use Rattle.std.proofs.Common.{◌≡◌, ℕ, ◌≤◌, List, [], ◌∷◌, ◌++◌, refl, sym, Bool, true, false, Option, Some, None, Result, Ok, Err, bytes_eq, nat_lt, length, remove}
 use Rattle.std.proofs.lemmas.Slice.Eq.{bytes_eq-Decides}
 use Rattle.std.proofs.lemmas.Bool.{ltb-false, or_from}
+use Rattle.rv_value.proofs.Tests.{left_false, right_false}
 use Rattle.rv_rows.specs.declared.changes.Change.{Change}
 use Rattle.rv_lang.specs.declared.statement.Statement.{Statement}
 use Rattle.rv_lang.specs.declared.reply.Refusal.{Refusal}
@@ -109,14 +110,6 @@ same_sides a b h = by (bytes_eq b a) refl
         let same : b ≡ a = (bytes_eq-Decides b a).0 e in
         let bad : bytes_eq a b ≡ true = (bytes_eq-Decides a b).1 (sym same) in
         cc
-
-left_false : (a b : Bool) → (a || b) ≡ false → a ≡ false
-left_false true b h = cc
-left_false false b h = refl
-
-right_false : (a b : Bool) → (a || b) ≡ false → b ≡ false
-right_false true b h = cc
-right_false false b h = h
 
 behind : (name : List ℕ) (ds : List IndexDef) (def : IndexDef) → is_named name ds ≡ false → bytes_eq name def.name ≡ false → is_named name (ds ++ def ∷ []) ≡ false
 behind name [] def none other = or_from _ _ other refl

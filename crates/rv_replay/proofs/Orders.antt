@@ -7,6 +7,7 @@ use Rattle.std.specs.List.{list_all, slice_index_or}
 use Rattle.std.specs.Ordering.{is_eq, is_lt, ordering_reverse}
 use Rattle.std.specs.declared.cmp.Ordering.{Ordering}
 use Rattle.std.specs.declared.cmp.Ordering.TheVariants.{Less, Equal, Greater}
+use Rattle.rv_value.proofs.Tests.{equal_is}
 use Rattle.rv_value.specs.declared.value.Value.{Value}
 use Rattle.rv_value.specs.Order.{values_cmp}
 use Rattle.rv_rows.specs.Rising.{Rising}
@@ -43,11 +44,6 @@ less_not Less e = refl
 less_not Equal e = cc
 less_not Greater e = cc
 
-is_equal : (r : Ordering) → is_eq r ≡ true → r ≡ Equal
-is_equal Less e = cc
-is_equal Equal e = refl
-is_equal Greater e = cc
-
 -- what comes before an offer is not equal to it
 pub under_not : (first : Offer) (values : List Value) (o : Offer) → less o (sought first values) ≡ true → fits first values o ≡ false
 under_not first values o h = fits_is first values o ∙ less_not (offer_cmp o (sought first values)) h
@@ -56,7 +52,7 @@ under_not first values o h = fits_is first values o ∙ less_not (offer_cmp o (s
 pub over_not : (first : Offer) (values : List Value) (x o : Offer) → less x (sought first values) ≡ false → less x o ≡ true → fits first values o ≡ false
 over_not first values x o low h = elim (cases_Bool (fits first values o)) [
   | inl pass ↦
-      let tied : offer_cmp o (sought first values) ≡ Equal = is_equal (offer_cmp o (sought first values)) (sym (fits_is first values o) ∙ pass) in
+      let tied : offer_cmp o (sought first values) ≡ Equal = equal_is (offer_cmp o (sought first values)) (sym (fits_is first values o) ∙ pass) in
       let moved : offer_cmp x o ≡ offer_cmp x (sought first values) = alike_right offer_cmp_total o (sought first values) x tied in
       let fail : true ≡ false = sym h ∙ ap is_lt moved ∙ low in
       cc
@@ -67,8 +63,8 @@ over_not first values x o low h = elim (cases_Bool (fits first values o)) [
 pub fits_same : (first : Offer) (values : List Value) (o : Offer) → fits first values o ≡ true → o ≡ sought first values
 fits_same first values o h =
     let parts = and_parts (is_eq (values_cmp o.order first.order)) (is_eq (values_cmp o.returned values)) h in
-    let order : o.order ≡ first.order = values_same o.order first.order (is_equal (values_cmp o.order first.order) parts.0) in
-    let returned : o.returned ≡ values = values_same o.returned values (is_equal (values_cmp o.returned values) parts.1) in
+    let order : o.order ≡ first.order = values_same o.order first.order (equal_is (values_cmp o.order first.order) parts.0) in
+    let returned : o.returned ≡ values = values_same o.returned values (equal_is (values_cmp o.returned values) parts.1) in
     λ i. record { order = order i; returned = returned i }
 
 -- ---- equal offers together

@@ -6,6 +6,8 @@ use Rattle.std.proofs.lemmas.Bool.Decides.{nat_tests}
 use Rattle.std.specs.List.{AllByRecursion, list_all}
 use Rattle.std.specs.Ordering.{is_eq}
 use Rattle.std.proofs.lemmas.Option.{same_Some}
+use Rattle.rv_value.proofs.Tests.{or_false}
+use Rattle.rv_value.proofs.Lists.{passes_take}
 use Rattle.rv_value.specs.declared.value.Value.{Value}
 use Rattle.rv_value.specs.declared.record.Record.{Record}
 use Rattle.rv_value.specs.declared.record.IndexEntry.{IndexEntry}
@@ -60,15 +62,10 @@ written_given table (c ∷ cs) rise of =
 
 -- They ascend, and so do those of the changes in front.
 
-all_taken : {X : Type 0} (p : X → Bool) (k : ℕ) (xs : List X) → list_all p xs ≡ true → list_all p (take k xs) ≡ true
-all_taken p zero xs all = refl
-all_taken p (suc k) [] all = refl
-all_taken p (suc k) (x ∷ xs) all = (let parts = and_parts (p x) (list_all p xs) all in rw parts.0 (all_taken p k xs parts.1))
-
 rise_taken : (k : ℕ) (cs : List Change) → Rise cs → Rise (take k cs)
 rise_taken zero cs rise = tt
 rise_taken (suc k) [] rise = tt
-rise_taken (suc k) (c ∷ cs) rise = (all_taken (is_before c) k cs rise.0, rise_taken k cs rise.1)
+rise_taken (suc k) (c ∷ cs) rise = (passes_take (is_before c) k cs rise.0, rise_taken k cs rise.1)
 
 of_taken : (table k : ℕ) (cs : List Change) → AllByRecursion (λ (c : Change). c.table ≡ table) cs → AllByRecursion (λ (c : Change). c.table ≡ table) (take k cs)
 of_taken table zero cs of = tt
@@ -100,10 +97,6 @@ row_last (s ∷ rows) r n ascend = elim (cases_Bool (s.row.0 == n)) [
       rw (t, apart) refl
   | inr f ↦ rw f (row_last rows r n ascend.1)
 ]
-
-or_false : (b : Bool) → (b || false) ≡ b
-or_false true = refl
-or_false false = refl
 
 one_entry : (columns : List ℕ) (rows : List Record) (r : Record) (e : IndexEntry) → rows_by_number.Ascend (rows ++ r ∷ [])
     → (is_eq (entry_cmp (entry_of columns r) e) || is_entry columns (row_at rows e.row.0) e) ≡ is_entry columns (cond (r.row.0 == e.row.0) (Some r) (row_at rows e.row.0)) e

@@ -14,6 +14,7 @@ use Rattle.rv_value.specs.declared.range.Range.{Range}
 use Rattle.rv_value.specs.Orders.{values_cmp_total}
 use Rattle.std.specs.Option.{option_map}
 use Rattle.std.proofs.lemmas.List.{length-map}
+use Rattle.rv_value.proofs.Lists.{passes_take}
 use Rattle.rv_value.specs.declared.record.RowNo.{RowNo}
 use Rattle.rv_catalog.specs.declared.def.IndexDef.{IndexDef}
 use Rattle.rv_rows.specs.Rising.{put_in}
@@ -180,15 +181,10 @@ counted_any key range entries n is count = ap (λ m. not (m == 0)) (count ∙ ap
 pub null_key : (columns : List ℕ) (values key : List Value) (b : Bool) → key ≡ key_of columns values → b ≡ list_any is_null key → list_any is_null (key_of columns values) ≡ b
 null_key columns values key b is told = ap (list_any is_null) (sym is) ∙ sym told
 
-all_taken : {X : Type 0} (p : X → Bool) (k : ℕ) (xs : List X) → list_all p xs ≡ true → list_all p (take k xs) ≡ true
-all_taken p zero xs all = refl
-all_taken p (suc k) [] all = refl
-all_taken p (suc k) (x ∷ xs) all = (let parts = and_parts (p x) (list_all p xs) all in (λ i. parts.0 i && all_taken p k xs parts.1 i))
-
 pub ascend_taken : (k : ℕ) (rows : List Record) → Ascend rows → Ascend (take k rows)
 ascend_taken zero rows ascend = tt
 ascend_taken (suc k) [] ascend = tt
-ascend_taken (suc k) (r ∷ rows) ascend = (all_taken (comes_below r) k rows ascend.0, ascend_taken k rows ascend.1)
+ascend_taken (suc k) (r ∷ rows) ascend = (passes_take (comes_below r) k rows ascend.0, ascend_taken k rows ascend.1)
 
 split_at : (rows : List Record) (k : ℕ) (r : Record) → slice_get rows k ≡ Some r → rows ≡ take k rows ++ r ∷ drop (suc k) rows
 split_at [] k r is = cc

@@ -10,12 +10,12 @@ use Rattle.rv_reader.specs.Storing.{IsStored}
 use Rattle.rv_overlay.specs.declared.frozen.Frozen.{Frozen}
 use Rattle.rv_view.specs.Making.{AreIndexes}
 use Rattle.rv_own.specs.Views.{CanKeep, CanView, Freezes}
-use Rattle.rv_own.proofs.Steps.{all_got, all_in}
 use Rattle.rv_rivals.proofs.Places.{statement_rows}
 use Rattle.rv_rivals.proofs.Telling.{has_index}
 use Rattle.std.proofs.lemmas.Option.{slice_get_within}
 use Rattle.std.proofs.lemmas.List.Elements.{filter-append}
 use Rattle.std.specs.Cmp.{second_so}
+use Rattle.rv_value.proofs.Lists.{all_at, all_got}
 use Rattle.rv_value.proofs.Places.{read_as}
 use Rattle.rv_rows.specs.Changes.{touches}
 use Rattle.rv_model.specs.declared.transactions.Transaction.{Transaction}
@@ -55,7 +55,7 @@ unique_next table indexes k d is =
 -- what is asked where a key is looked up
 
 pub own_has : (P : Transaction → Type 0) (active : List Transaction) (own : Transaction) → IsPlaced active own → AllByRecursion P active → P own
-own_has P active own placed all = subst P placed.here (all_in P active placed.place no_transaction (position-Some (λ (t : Transaction). t.session == own.session) active placed.place no_transaction placed.found).0 all)
+own_has P active own placed all = subst P placed.here (all_at P active placed.place no_transaction all (position-Some (λ (t : Transaction). t.session == own.session) active placed.place no_transaction placed.found).0)
 
 pub can_test : (shown : Shown) (indexes : List IndexDef) (table number : ℕ) (columns : List ℕ) (own : Transaction) (view : Option Frozen) (entries : List IndexEntry) (new : List Change) → IsStored shown → AreIndexes shown indexes → IsPlace indexes table number columns → IsSnapshot shown own.base → Freezes shown own view
     → entries ≡ entries_written columns table new → CanTest shown table number columns own view entries

@@ -19,6 +19,7 @@ use Rattle.rv_reader.proofs.Orders.{order, one_way}
 use Rattle.rv_value.specs.Orders.{values_cmp_total}
 use Rattle.std.specs.Cmp.{tied_itself}
 use Rattle.std.proofs.lemmas.List.{length-map}
+use Rattle.rv_value.proofs.Tests.{equal_is}
 use Rattle.rv_value.specs.declared.range.Side.TheVariants.{Before, In, After}
 use Rattle.rv_reader.proofs.Sorting.{entries_ascend}
 use Rattle.rv_overlay.proofs.Placing.{equal_same}
@@ -82,16 +83,11 @@ filter_in p e (x ∷ xs) ascend = elim (cases_Bool (comes_before x e)) [
 
 -- Entries of one key come in the order of their rows.
 
-eq_is : (o : Ordering) → is_eq o ≡ true → o ≡ Equal
-eq_is Less h = cc
-eq_is Equal h = refl
-eq_is Greater h = cc
-
 pub values_same : (xs ys : List Value) → is_eq (values_cmp xs ys) ≡ true → xs ≡ ys
 values_same xs ys h =
     let one : IndexEntry = record { key = xs; row = record { 0 = 0 } } in
     let other : IndexEntry = record { key = ys; row = record { 0 = 0 } } in
-    ap (λ (e : IndexEntry). e.key) (equal_same one other (ap (λ o. is_eq (ordering_then o (nat_cmp 0 0))) (eq_is (values_cmp xs ys) h)))
+    ap (λ (e : IndexEntry). e.key) (equal_same one other (ap (λ o. is_eq (ordering_then o (nat_cmp 0 0))) (equal_is (values_cmp xs ys) h)))
 
 values_itself : (xs : List Value) → values_cmp xs xs ≡ Equal
 values_itself xs = tied_itself values_cmp_total xs

@@ -121,7 +121,3 @@ has_at table (d ∷ ds) (suc k) c is of = ap (λ b. ((d.table == table) && (d.ro
     or_true : (b : Bool) → (b || true) ≡ true
     or_true true = refl
     or_true false = refl
-
-pub all_more : {X : Type 0} (P Q : X → Type 0) → ((x : X) → P x → Q x) → (xs : List X) → AllByRecursion P xs → AllByRecursion Q xs
-all_more P Q more [] a = tt
-all_more P Q more (x ∷ xs) a = (more x a.0, all_more P Q more xs a.1)

@@ -246,10 +246,6 @@ pub ruling_more : (ruling next i last : ℕ) (phases : List Phase) (p : Phase) �
 ruling_more ruling next i last phases p within is named before =
     ap (λ n. ruling_after n (drop (i + 1) phases)) named ∙ ap (ruling_after ruling) (sym (phase_here phases i p within is)) ∙ before
 
-pub err_so : {X E P : Type 0} (r : Result X E) → P → OnErr r P
-err_so (Ok x) p = tt
-err_so (Err e) p = p
-
 -- whole runs
 
 pub calls_under : {S : Type 0} (shows : S → StoreShown) (settings wanted : Settings) (begun : Shown S) (store : S) (js judges : List Judging) (ruling first : ℕ) (phases : List Phase) (script : Script) (core : Shown S) (stand : List Judging) → settings ≡ wanted → begun ≡ fresh store → js ≡ judges → ruling ≡ first → phases ≡ script.phases → AnswersAll shows settings (ruled_from ruling 1 phases) (between begun js) (between core stand) → CallsUnder shows wanted store judges first core script

@@ -1,5 +1,5 @@
 -- The rows of a view that a restriction keeps.
-use Rattle.std.proofs.Common.{◌≡◌, ◌≤◌, arith, ℕ, List, [], ◌∷◌, ◌++◌, Bool, true, false, not, ◌==◌, refl, ap, sym, ◌∙◌, inl, inr, subst, filter, map, Option, Some, None, length, IfSome, cond}
+use Rattle.std.proofs.Common.{◌≡◌, ℕ, List, [], ◌∷◌, ◌++◌, Bool, true, false, not, ◌==◌, refl, ap, sym, ◌∙◌, inl, inr, subst, filter, map, Option, Some, None, length, IfSome, cond}
 use Rattle.std.specs.List.{AllByRecursion, list_all}
 use Rattle.std.proofs.lemmas.Bool.{cases_Bool, and_parts}
 use Rattle.std.proofs.lemmas.List.Elements.{filter-append}
@@ -42,12 +42,6 @@ filter_have only p [] have = tt
 filter_have only p (r ∷ rows) have =
     let rest = filter_have only p rows have.1 in
     elim (p r) as (λ b. HaveColumns only (cond b (r ∷ filter p rows) (filter p rows))) [ true ↦ (have.0, rest) | false ↦ rest ]
-
-pub filter_short : {X : Type 0} (p : X → Bool) (xs : List X) → length (filter p xs) ≤ length xs
-filter_short p [] = omega arith
-filter_short p (x ∷ xs) =
-    let rest = filter_short p xs in
-    elim (p x) as (λ b. length (cond b (x ∷ filter p xs) (filter p xs)) ≤ length (x ∷ xs)) [ true ↦ omega arith | false ↦ omega arith ]
 
 -- Rows that a test passes, with changes of which the values that it does not pass are left out.
 

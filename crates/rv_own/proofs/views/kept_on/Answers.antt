@@ -1,10 +1,11 @@
 use Rattle.std.proofs.Common.{◌≡◌, ◌+◌, ◌∙◌, suc, Some, ap, arith, length, refl, subst, sym, take, take_all}
 use Rattle.std.specs.Prelude.{slice_get}
 use Rattle.std.proofs.lemmas.Option.{slice_get_read}
+use Rattle.rv_value.proofs.Lists.{all_got}
 use Rattle.rv_rows.specs.Changes.{with_change, with_changes}
 use Rattle.rv_reader.specs.Shown.{CanRead}
 use Rattle.rv_own.specs.Views.{CanKeep}
-use Rattle.rv_own.proofs.Steps.{all_got, changes_next}
+use Rattle.rv_own.proofs.Steps.{changes_next}
 use Rattle.rv_own.proofs.views.kept_on.Goals as goal
 
 pub keep-requires-clause-can : goal.keep-requires-clause-can

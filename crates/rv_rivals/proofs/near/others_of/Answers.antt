@@ -1,9 +1,9 @@
-use Rattle.std.proofs.Common.{◌≡◌, ◌+◌, ◌∙◌, ◌++◌, ◌∷◌, [], suc, Some, ap, arith, length, refl, sym, take, take_all}
+use Rattle.std.proofs.Common.{◌≡◌, ◌+◌, ◌∙◌, ◌++◌, ◌∷◌, [], suc, Some, ap, arith, length, refl, take}
 use Rattle.std.specs.Prelude.{slice_get}
 use Rattle.std.proofs.lemmas.Option.{slice_get_read}
+use Rattle.rv_value.proofs.Lists.{all_got}
 use Rattle.rv_own.specs.Views.{CanView}
 use Rattle.rv_own.proofs.Bases.{are_own}
-use Rattle.rv_own.proofs.Steps.{all_got}
 use Rattle.rv_rivals.specs.Lookups.{touching}
 use Rattle.rv_rivals.proofs.Nearing.{placed_at, touching_next}
 use Rattle.rv_rivals.proofs.near.others_of.Goals as goal

@@ -2,10 +2,10 @@ use Rattle.std.proofs.Common.{◌≡◌, ◌+◌, ◌∙◌, List, Option, ℕ, 
 use Rattle.std.specs.Prelude.{slice_get}
 use Rattle.std.proofs.lemmas.Option.{slice_get_read}
 use Rattle.std.proofs.lemmas.List.{drop_all}
+use Rattle.rv_value.proofs.Lists.{all_got}
 use Rattle.rv_lang.specs.declared.reply.Refusal.{Refusal}
 use Rattle.rv_model.specs.Rivals.{key_of}
 use Rattle.rv_model.specs.Transactions.{refuse_at, touched_by}
-use Rattle.rv_own.proofs.Steps.{all_got}
 use Rattle.rv_rivals.specs.declared.near.Other.{Other}
 use Rattle.rv_rivals.specs.declared.rivals.Unique.{Unique}
 use Rattle.rv_rivals.specs.Lookups.{IsStatement, first_equal_to, none_in}

@@ -1,6 +1,7 @@
 use Rattle.std.proofs.Common.{◌≡◌, ◌+◌, ◌∙◌, List, Option, ℕ, suc, Some, ap, arith, drop, length, map, refl, sym}
 use Rattle.std.specs.Prelude.{slice_get}
 use Rattle.std.proofs.lemmas.Option.{slice_get_read}
+use Rattle.rv_value.proofs.Lists.{all_more}
 use Rattle.rv_lang.specs.declared.reply.Refusal.{Refusal}
 use Rattle.rv_value.specs.declared.record.Record.{Record}
 use Rattle.rv_model.specs.Rivals.{key_of}
@@ -9,7 +10,7 @@ use Rattle.rv_rivals.specs.declared.near.Other.{Other}
 use Rattle.rv_rivals.specs.declared.rivals.Unique.{Unique}
 use Rattle.rv_rivals.specs.Lookups.{IsStatement, all_none, entries_written, first_equal_to, none_in}
 use Rattle.rv_rivals.proofs.Entries.{given, written_given}
-use Rattle.rv_rivals.proofs.Testing.{all_more, has_at, row_faults, row_passes}
+use Rattle.rv_rivals.proofs.Testing.{has_at, row_faults, row_passes}
 use Rattle.rv_rivals.proofs.rivals.test_rows.Goals as goal
 
 pub rows-init : goal.rows-init

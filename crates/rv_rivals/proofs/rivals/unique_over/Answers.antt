@@ -1,9 +1,9 @@
-use Rattle.std.proofs.Common.{◌≡◌, ◌+◌, ◌≤◌, ◌∙◌, ◌++◌, ◌∷◌, [], suc, Some, ap, arith, length, map, refl, subst, sym, take}
+use Rattle.std.proofs.Common.{◌≡◌, ◌+◌, ◌≤◌, ◌∙◌, ◌++◌, ◌∷◌, [], suc, Some, ap, arith, length, map, refl, take}
 use Rattle.std.specs.Prelude.{slice_get}
 use Rattle.std.proofs.lemmas.Option.{slice_get_read}
+use Rattle.rv_value.proofs.Lists.{all_got}
 use Rattle.rv_catalog.specs.declared.def.IndexDef.{IndexDef}
 use Rattle.rv_model.specs.Rivals.{unique_over}
-use Rattle.rv_own.proofs.Steps.{all_got}
 use Rattle.rv_rivals.proofs.Nearing.{unique_next}
 use Rattle.rv_rivals.proofs.rivals.unique_over.Goals as goal
 

@@ -1,13 +1,14 @@
 use Rattle.std.proofs.Common.{◌∙◌, refl, sym, append-nil}
+use Rattle.rv_value.proofs.Lists.{on_err}
 use Rattle.rv_run.specs.Ruling.{judging}
-use Rattle.rv_run.proofs.Rulings.{err_so, none_ruled, phase_more, stopped_at, told_more}
+use Rattle.rv_run.proofs.Rulings.{none_ruled, phase_more, stopped_at, told_more}
 use Rattle.rv_run.proofs.calls.make_phase.Goals as goal
 
 pub lines-init : goal.lines-init
 lines-init g c = record { phase = refl; calls = sym (append-nil _); ruled = none_ruled g.S.Reader.shown c.args.core.now.settings c.args.core.now.engine _; rules = refl; settings = refl }
 
 pub returns-in_err-make_call-clause-stopped : goal.returns-in_err-make_call-clause-stopped
-returns-in_err-make_call-clause-stopped g c = err_so c.from_residual.result (stopped_at g.S.Reader.shown c.args.core.now.settings c.args.core.now.engine.phase c.lines.line-index c.args.lines.now c.args.core.now.engine c.lines.core.engine (judging ((goal.Judge-dyn g (c.args.core.now.judge.vtable, c.args.core.now.judge.value)).would c.args.core.now.judge.value) ((goal.Judge-dyn g (c.args.core.now.judge.vtable, c.args.core.now.judge.value)).state c.args.core.now.judge.value)) (judging ((goal.Judge-dyn g (c.args.core.now.judge.vtable, c.args.core.now.judge.value)).would c.args.core.now.judge.value) ((goal.Judge-dyn g (c.lines.core.judge.vtable, c.lines.core.judge.value)).state c.lines.core.judge.value)) c.make_call.new.core.engine (judging ((goal.Judge-dyn g (c.args.core.now.judge.vtable, c.args.core.now.judge.value)).would c.args.core.now.judge.value) ((goal.Judge-dyn g (c.make_call.new.core.judge.vtable, c.make_call.new.core.judge.value)).state c.make_call.new.core.judge.value)) c.in_err-make_call.ensures.err c.lines.invariant.ruled)
+returns-in_err-make_call-clause-stopped g c = on_err c.from_residual.result _ (stopped_at g.S.Reader.shown c.args.core.now.settings c.args.core.now.engine.phase c.lines.line-index c.args.lines.now c.args.core.now.engine c.lines.core.engine (judging ((goal.Judge-dyn g (c.args.core.now.judge.vtable, c.args.core.now.judge.value)).would c.args.core.now.judge.value) ((goal.Judge-dyn g (c.args.core.now.judge.vtable, c.args.core.now.judge.value)).state c.args.core.now.judge.value)) (judging ((goal.Judge-dyn g (c.args.core.now.judge.vtable, c.args.core.now.judge.value)).would c.args.core.now.judge.value) ((goal.Judge-dyn g (c.lines.core.judge.vtable, c.lines.core.judge.value)).state c.lines.core.judge.value)) c.make_call.new.core.engine (judging ((goal.Judge-dyn g (c.args.core.now.judge.vtable, c.args.core.now.judge.value)).would c.args.core.now.judge.value) ((goal.Judge-dyn g (c.make_call.new.core.judge.vtable, c.make_call.new.core.judge.value)).state c.make_call.new.core.judge.value)) c.in_err-make_call.ensures.err c.lines.invariant.ruled)
 
 pub lines-preserved : goal.lines-preserved
 lines-preserved g c = record {
