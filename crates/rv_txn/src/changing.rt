@@ -223,7 +223,7 @@ pub fn viewed_rows<S: Store + Reader<Ledger = Uncounted>>(
 }
 
 /// How many rows are not changed yet.
-#[tactic(auto, using(crate::proofs::Views::filter_short))]
+#[tactic(auto, using(rv_value::proofs::Lists::filter_length))]
 fn count_new(changes: &Changes, table: u32, rows: &[Record]) -> usize
     ensures same { result ≡ length (filter (λ r. not (has_change table r.row.0 changes.now)) rows.now) }
     ensures few { result ≤ length rows.now }
