@@ -31,10 +31,10 @@ use Rattle.rv_choice.specs.declared.query.Query.{Query}
 use Rattle.rv_final.proofs.Marks.{unordered}
 use Rattle.rv_retrieval.specs.declared.steps.Fg.{Fg}
 use Rattle.rv_retrieval.specs.declared.steps.Fg.TheVariants.{Row, Working as FgWorking, End as FgEnd}
-use Rattle.rv_retrieval.specs.Effort.{FgSpends, GiveSpends as RetrievalSpends}
+use Rattle.rv_retrieval.specs.Effort.{FgSpends}
 use Rattle.rv_retrieval.specs.Opens.{fg_of}
 use Rattle.rv_retrieval.specs.Runs.{indexes_asked}
-use Rattle.rv_race.specs.Effort.{GiveSpends, Spends}
+use Rattle.rv_final.specs.LaneWork.{Spends}
 use Rattle.rv_race.specs.Given.{Awaits, awaited, piece_read, turn_lane, turn_scan}
 use Rattle.rv_race.specs.Opened.{DoesAs, DoesStep, EndsIn, OnlyTakes, ended_by}
 use Rattle.rv_race.specs.Raced.{RaceFits, Raced, SameRace, racing, rest}
@@ -240,8 +240,3 @@ same_if (Err x) old new e = ap (λ (race : Raced). record old { race = race }) e
 
 pub raced_keeps : (old new : RacedQuery) → new ≡ record old { race = new.race } → ((shown : Shown) → RacedFits old shown → RacedFits new shown) → ((shown : Shown) → RacedFits old shown → rest new.race shown ≡ rest old.race shown) → Keeps (Racing old) (Racing new)
 raced_keeps old new same fits left = record { query = ap (λ (r : RacedQuery). r.query) same; fits = fits; rest = left }
-
-pub gives_spends : {E : Type 0} (r : Result Given E) (old new : ℕ) → IfOk r (λ g. GiveSpends g old new) → IfOk r (λ g. RetrievalSpends g old new)
-gives_spends (Ok Accepted) old new spends = spends
-gives_spends (Ok (Stale asked now)) old new spends = spends
-gives_spends (Err x) old new spends = tt

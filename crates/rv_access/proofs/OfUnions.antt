@@ -22,10 +22,10 @@ use Rattle.rv_jscan.specs.Steps.{held_next}
 use Rattle.rv_choice.specs.declared.query.Query.{Query}
 use Rattle.rv_final.proofs.Marks.{unordered}
 use Rattle.rv_retrieval.specs.declared.steps.Fg.{Fg}
-use Rattle.rv_retrieval.specs.Effort.{FgSpends, GiveSpends as RetrievalSpends}
+use Rattle.rv_retrieval.specs.Effort.{FgSpends}
 use Rattle.rv_retrieval.specs.Opens.{fg_of}
 use Rattle.rv_retrieval.specs.Runs.{indexes_asked}
-use Rattle.rv_union.specs.Effort.{GiveSpends, Spends}
+use Rattle.rv_final.specs.LaneWork.{Spends}
 use Rattle.rv_union.specs.Given.{Awaits, awaited, piece_read}
 use Rattle.rv_union.specs.Opened.{DoesAs, DoesStep, OnlyTakes, ended_by}
 use Rattle.rv_union.specs.Rulings.{GivesOn, Obeys, accepted, joined, next_member, over, ruled}
@@ -189,8 +189,3 @@ same_if (Err x) old new e = ap (λ (union : Unioned). record old { union = union
 
 pub united_keeps : (old new : UnitedQuery) → new ≡ record old { union = new.union } → ((shown : Shown) → UnitedFits old shown → UnitedFits new shown) → ((shown : Shown) → UnitedFits old shown → rest new.union shown ≡ rest old.union shown) → Keeps (Uniting old) (Uniting new)
 united_keeps old new same fits left = record { query = ap (λ (u : UnitedQuery). u.query) same; fits = fits; rest = left }
-
-pub gives_spends : {E : Type 0} (r : Result Given E) (old new : ℕ) → IfOk r (λ g. GiveSpends g old new) → IfOk r (λ g. RetrievalSpends g old new)
-gives_spends (Ok Accepted) old new spends = spends
-gives_spends (Ok (Stale asked now)) old new spends = spends
-gives_spends (Err x) old new spends = tt

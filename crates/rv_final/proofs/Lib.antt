@@ -3,3 +3,4 @@ pub mod Dues
 pub mod Marks
 pub mod Lists
 pub mod Tables
+pub mod LaneWork

@@ -1,3 +1,4 @@
 pub mod Rest
 pub mod Stage
 pub mod Work
+pub mod LaneWork

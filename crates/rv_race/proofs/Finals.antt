@@ -24,7 +24,8 @@ use Rattle.rv_final.specs.Stage.{FetchesKey, LastFits, PassesKeys, Staged, first
 use Rattle.rv_final.specs.Work.{Falls, Tries}
 use Rattle.rv_final.proofs.Marks.{marks_steps}
 use Rattle.rv_final.proofs.Rests.{no_rest, same_rest}
-use Rattle.rv_race.specs.Effort.{effort, effort_by, keys_work, racing_work, table_work}
+use Rattle.rv_final.specs.LaneWork.{effort_by}
+use Rattle.rv_race.specs.Effort.{effort, keys_work, racing_work, table_work}
 use Rattle.rv_race.specs.Given.{Answers, Awaits, TakesLeaf, piece_read}
 use Rattle.rv_race.specs.Opened.{Does, DoesAs, DoesStep, Steady, ended_by}
 use Rattle.rv_race.specs.Raced.{RaceFits, Raced, SameRace, left_by, racing, rest, rows_of}

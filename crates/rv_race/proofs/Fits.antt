@@ -7,20 +7,21 @@ use Rattle.rv_keylist.specs.Keys.{may_key}
 use Rattle.rv_keylist.proofs.Bits.{may_key-never_denies}
 use Rattle.rv_keylist.proofs.Narrow.{it_stays}
 use Rattle.rv_restrict.specs.Parts.{Parted}
-use Rattle.rv_reader.specs.declared.reader.Chunk.{Chunk}
 use Rattle.rv_reader.specs.Leaves.{run_after, run_from}
 use Rattle.rv_reader.specs.Shown.{Shown}
 use Rattle.rv_jscan.specs.declared.jscan.ScanPlan.{ScanPlan}
 use Rattle.rv_jscan.specs.Entries.{Apart, Disjoint, has_entry}
 use Rattle.rv_jscan.specs.Joint.{passing, plan_at}
-use Rattle.rv_jscan.specs.Lanes.{IsLeafAt, Laned, passed}
+use Rattle.rv_jscan.specs.Lanes.{Laned, passed}
 use Rattle.rv_jscan.specs.Pieces.{Pieced, kept_by, may}
 use Rattle.rv_jscan.specs.Steps.{HasEntries, held_next}
 use Rattle.rv_jscan.proofs.Kept.{found_or_ahead, fresh_after, narrowed_fresh}
 use Rattle.rv_jscan.proofs.Parts.{Apart-run}
 use Rattle.rv_race.specs.declared.running.Runner.{Runner}
 use Rattle.rv_race.specs.declared.running.Running.{Running}
-use Rattle.rv_race.specs.Raced.{Covers, PlansFit, RunnerFits, RunningFits, ahead}
+use Rattle.rv_final.specs.LaneWork.{ahead}
+use Rattle.rv_final.proofs.LaneWork.{ahead_split}
+use Rattle.rv_race.specs.Raced.{Covers, PlansFit, RunnerFits, RunningFits}
 use Rattle.rv_race.specs.Rulings.{narrowed_by}
 use Rattle.rv_race.specs.Ways.{advanced, begun, followed, has_next, turned, turned_to}
 use Rattle.rv_race.proofs.Ways.{advanced_as, followed_as, some_at}
@@ -35,11 +36,6 @@ begun_fits plans owed shown snap i p l = record {
 }
 
 -- A piece is accepted.
-
--- the entries of the leaf held, and what is ahead behind them
-pub ahead_split : (plan : ScanPlan) (shown : Shown) (snap : ℕ) (place : Option IndexEntry) (held : Option Chunk) (entries : List IndexEntry) → HasEntries held entries → IfSome held (IsLeafAt plan shown snap place) → run_from (shown.entries plan.index snap) plan.range place ≡ entries ++ run_after (shown.entries plan.index snap) plan.range (held_next held)
-ahead_split plan shown snap place None entries has d = absurd has
-ahead_split plan shown snap place (Some chunk) entries has d = d.parts ∙ ap (λ (es : List IndexEntry). es ++ run_after (shown.entries plan.index snap) plan.range chunk.next) has
 
 -- a list that covers what is owed denies none of it
 pub covered_may : (list : Option (List ℕ)) (owed : ℕ → Bool) → IfSome list (Covers owed) → (n : ℕ) → owed n ≡ true → may list n ≡ true

@@ -13,7 +13,8 @@ use Rattle.rv_reader.specs.Shown.{Shown}
 use Rattle.rv_reader.specs.Tables.{IsTable}
 use Rattle.rv_jscan.specs.declared.jscan.ScanPlan.{ScanPlan}
 use Rattle.rv_final.specs.Rest.{qualifies_at, qualifying}
-use Rattle.rv_race.specs.Effort.{cuts_and_entries, effort, life_of, planned_work, running_work}
+use Rattle.rv_final.specs.LaneWork.{planned_work}
+use Rattle.rv_race.specs.Effort.{cuts_and_entries, effort, life_of, running_work}
 use Rattle.rv_race.specs.Opened.{CanRace, Opened, opened}
 use Rattle.rv_race.specs.Raced.{RaceFits, Raced, rest}
 use Rattle.rv_race.specs.Runs.{Tells, TellsRacing, indexes_of, left_of}

@@ -18,6 +18,7 @@ use Rattle.rv_judge.specs.Course.{final, has_row}
 use Rattle.rv_judge.specs.Runs.{EachOnce, HasScans, IsRun, MayCome, Standing, Turn, after, begun as begins, events_of, has_index, idle, is_more, run_end, run_events, scan_events, start, start_events}
 use Rattle.rv_judge.specs.Tracing.{with_events}
 use Rattle.rv_judge.proofs.RunSteps.{IsRun-push, run_end-push, run_events-push}
+use Rattle.rv_final.specs.LaneWork.{ahead}
 use Rattle.rv_race.specs.Runs.{Ended, ended_indexes, is_keyed, keyed, later, listed_by, outcome, told_ends, was_dropped}
 
 -- One turn.

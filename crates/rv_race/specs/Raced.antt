@@ -1,7 +1,6 @@
 -- A race as contracts see it, and the records that it still owes.
 use Rattle.std.specs.Prelude.{◌≡◌, ℕ, ◌<◌, ◌≤◌, Bool, true, false, ◌||◌, List, length, Option, None, IsSome, IfSome}
 use Rattle.rv_value.specs.declared.record.Record.{Record}
-use Rattle.rv_value.specs.declared.record.IndexEntry.{IndexEntry}
 use Rattle.rv_rows.specs.Rows.{Ascend}
 use Rattle.rv_keys.specs.Keys.{has_key}
 use Rattle.rv_keylist.specs.Listed.{Listed}
@@ -9,7 +8,6 @@ use Rattle.rv_judge.specs.declared.events.Control.{Control}
 use Rattle.rv_judge.specs.declared.events.Control.TheVariants.{Building, ForegroundAlone, BackgroundAlone, FinalList, FinalTable, Done}
 use Rattle.rv_judge.specs.declared.events.Trace.{Trace}
 use Rattle.rv_restrict.specs.declared.atom.Atom.{Atom}
-use Rattle.rv_reader.specs.Leaves.{run_from}
 use Rattle.rv_reader.specs.Shown.{Shown, CanRead}
 use Rattle.rv_scan.specs.Due.{HaveColumns}
 use Rattle.rv_scan.specs.Places.{Place}
@@ -17,9 +15,10 @@ use Rattle.rv_jscan.specs.declared.jscan.ScanPlan.{ScanPlan}
 use Rattle.rv_jscan.specs.declared.jscan.ScanCounts.{ScanCounts}
 use Rattle.rv_jscan.specs.Entries.{Apart, has_entry}
 use Rattle.rv_jscan.specs.Joint.{CanMake, meets, passing, plan_at}
-use Rattle.rv_jscan.specs.Lanes.{LaneFits, Laned}
+use Rattle.rv_jscan.specs.Lanes.{LaneFits}
 use Rattle.rv_final.specs.Rest.{qualifies_at, rest_by}
 use Rattle.rv_final.specs.Stage.{LastFits, Unbegun, list_left, table_left}
+use Rattle.rv_final.specs.LaneWork.{ahead}
 use Rattle.rv_race.specs.declared.running.Runner.{Runner}
 use Rattle.rv_race.specs.declared.running.Running.{Running}
 
@@ -98,10 +97,6 @@ pub record PlansFit (plans : List ScanPlan) (owed : ℕ → Bool) (shown : Shown
   pub each : (i : ℕ) → i < length plans → CanMake (plan_at plans i) shown snap
   pub apart : (i : ℕ) → i < length plans → Apart (shown.entries (plan_at plans i).index snap)
   pub entered : (i : ℕ) → i < length plans → (n : ℕ) → owed n ≡ true → meets (plan_at plans i) shown snap n ≡ true
-
--- the entries that a scan has still to sieve
-abbrev pub ahead : ScanPlan → Shown → ℕ → Laned → List IndexEntry
-ahead plan shown snap l = run_from (shown.entries plan.index snap) plan.range l.place
 
 -- what a scan under way holds was drawn from its index: each row that is owed is in the list that it builds, or ahead
 pub record RunnerFits (plans : List ScanPlan) (owed : ℕ → Bool) (shown : Shown) (snap : ℕ) (run : Runner) : Type 0 where

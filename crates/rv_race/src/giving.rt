@@ -2,7 +2,8 @@ ghost use Rattle.std.specs.Prelude.{◌≡◌, ◌≤◌, ◌↔◌, false, true
 ghost use Rattle.rv_judge.specs.Tracing.{SameCounts};
 ghost use Rattle.rv_reader.specs.Shown.{Shown};
 ghost use Rattle.rv_jscan.specs.Steps.{held_next};
-ghost use Rattle.rv_race.specs.Effort.{GiveSpends, effort};
+ghost use Rattle.rv_final.specs.LaneWork.{GiveSpends};
+ghost use Rattle.rv_race.specs.Effort.{effort};
 ghost use Rattle.rv_race.specs.Given.{Answers, Awaits, turn_lane};
 ghost use Rattle.rv_race.specs.Raced.{Keeps, RaceFits, SameRace};
 ghost use Rattle.rv_race.specs.Rulings.{Completes, GivesOn, HasNextTurn, IsRuled, accepted, dropped, ended, facts_of, going_on, lowered, more, over, ruled, stopped, told_list};

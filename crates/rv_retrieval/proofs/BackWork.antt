@@ -6,7 +6,7 @@ use Rattle.std.proofs.lemmas.List.Sorted.{length_permutation}
 use Rattle.rv_value.proofs.Lists.{filter_length}
 use Rattle.rv_value.specs.declared.record.IndexEntry.{IndexEntry}
 use Rattle.rv_judge.specs.declared.counting.Counts.{Counts}
-use Rattle.rv_judge.specs.Counting.{leaf_read, one_more, reads}
+use Rattle.rv_judge.specs.Counting.{leaf_read, reads}
 use Rattle.rv_reader.specs.declared.reader.Chunk.{Chunk}
 use Rattle.rv_reader.specs.Leaves.{run_after, run_from}
 use Rattle.rv_reader.specs.Shown.{Shown}
@@ -18,15 +18,10 @@ use Rattle.rv_jscan.specs.Joint.{Joint, JointFits, leaves_ahead, no_plan, presen
 use Rattle.rv_jscan.specs.Steps.{Accepts, Awaits, HasEntries, TakeLeaves, Takes, abandoned, completed, going, held_next, kept_of, reads_leaf, steps_read}
 use Rattle.rv_jscan.proofs.Fits.{by_held, way_within}
 use Rattle.rv_jscan.proofs.Leaves.{abandoned_nearer, accepts_nearer}
-use Rattle.rv_retrieval.specs.Effort.{back_work, entries_ahead, entries_of_scans, entries_planned, to_read}
+use Rattle.rv_final.specs.LaneWork.{to_read}
+use Rattle.rv_final.proofs.LaneWork.{read_once, leaf_once}
+use Rattle.rv_retrieval.specs.Effort.{back_work, entries_ahead, entries_of_scans, entries_planned}
 use Rattle.rv_retrieval.specs.Shape.{lending_of}
-
--- a leaf read raises the reads by at most one
-pub leaf_once : (c : Counts) → reads (leaf_read c) ≤ reads c + 1
-leaf_once c = let m = one_few c.leaves in omega arith
-  where
-    one_few : (n : ℕ) → one_more n ≤ n + 1
-    one_few n = omega arith
 
 -- The entries ahead.
 
@@ -84,10 +79,6 @@ accepted_less old new piece shown borrowed w a f = by (held_next old.held) a (by
 dropped_lent : (list : Option (List ℕ)) (b : List ℕ) (n : ℕ) → length (lending_of list []) - (if is_some list then n else 0) ≤ length (lending_of list b) - n
 dropped_lent None b n = omega arith
 dropped_lent (Some keys) b n = omega arith
-
-read_once : (h : Option Chunk) → to_read h ≤ 1
-read_once None = omega arith
-read_once (Some c) = omega arith
 
 pub abandoned_less : (j : Joint) (shown : Shown) (borrowed : ℕ) → under_way j ≡ true → back_work (abandoned j) (if is_some j.list then borrowed else 0) shown ≤ back_work j borrowed shown
 abandoned_less j shown borrowed way =

@@ -23,7 +23,8 @@ use Rattle.rv_jscan.specs.Steps.{Accepts, Awaits, abandoned, held_next}
 use Rattle.rv_jscan.proofs.Fits.{by_held}
 use Rattle.rv_jscan.proofs.Leaves.{accepts_nearer}
 use Rattle.rv_retrieval.specs.Accounts.{account_of}
-use Rattle.rv_retrieval.specs.Effort.{Awaiting, GiveSpends, back_work, effort, front_work, keys_work, table_work}
+use Rattle.rv_final.specs.LaneWork.{GiveSpends}
+use Rattle.rv_retrieval.specs.Effort.{Awaiting, back_work, effort, front_work, keys_work, table_work}
 use Rattle.rv_retrieval.specs.Given.{Answers, more_behind}
 use Rattle.rv_retrieval.specs.Rulings.{GivesOn, Obeyed, Obeys, dropped, dropping, going_on, gone, listed, ruled, scan_over, stopped}
 use Rattle.rv_retrieval.specs.Shape.{RetrievalFits, Shape, is_background}

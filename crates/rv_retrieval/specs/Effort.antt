@@ -1,27 +1,26 @@
 -- HOW MUCH WORK A RETRIEVAL STILL HAS, as a number over what it holds and what a reader shows: a sum of parts, one each
 -- for the background's scans with the keys that may be fetched of them, the foreground's scan, the final scan of the
 -- table and the final list.
-use Rattle.std.specs.Prelude.{◌≡◌, ℕ, ◌+◌, ◌-◌, ◌*◌, ◌<◌, ◌≤◌, true, List, [], ◌∷◌, length, drop, Option, Some, None, if◌then◌else◌}
+use Rattle.std.specs.Prelude.{◌≡◌, ℕ, ◌+◌, ◌-◌, ◌*◌, ◌<◌, ◌≤◌, true, List, [], ◌∷◌, length, drop, Option, None, if◌then◌else◌}
 use Rattle.rv_value.specs.declared.record.IndexEntry.{IndexEntry}
 use Rattle.rv_judge.specs.declared.counting.Counts.{Counts}
 use Rattle.rv_judge.specs.declared.events.Control.{Control}
 use Rattle.rv_judge.specs.declared.events.Control.TheVariants.{Building, ForegroundAlone, BackgroundAlone, FinalList, FinalTable, Done}
 use Rattle.rv_judge.specs.Account.{life_bound}
 use Rattle.rv_judge.specs.Counting.{reads}
-use Rattle.rv_reader.specs.declared.reader.Chunk.{Chunk}
 use Rattle.rv_reader.specs.Leaves.{run_from}
 use Rattle.rv_reader.specs.Shown.{Shown}
 use Rattle.rv_scan.specs.Alongs.{leaf_work}
 use Rattle.rv_scan.specs.Places.{work as pages_work}
 use Rattle.rv_jscan.specs.declared.jscan.ScanPlan.{ScanPlan}
-use Rattle.rv_jscan.specs.declared.jscan.Given.{Given}
-use Rattle.rv_jscan.specs.declared.jscan.Given.TheVariants.{Accepted, Stale}
 use Rattle.rv_jscan.specs.Joint.{Joint, leaves_ahead, under_way}
 use Rattle.rv_choice.specs.declared.query.Query.{Query}
 use Rattle.rv_retrieval.specs.declared.steps.Fg.{Fg}
 use Rattle.rv_retrieval.specs.declared.steps.Fg.TheVariants.{Row, Working as FgWorking, End as FgEnd}
 use Rattle.rv_scan.specs.Fronts.{walk_of}
 use Rattle.rv_retrieval.specs.Shape.{Shape, front_entries, is_background, is_building, is_led, lending, rows_of}
+pub use Rattle.rv_final.specs.LaneWork.{GiveSpends}
+use Rattle.rv_final.specs.LaneWork.{to_read}
 use Rattle.rv_final.specs.Stage.{keys_left}
 use Rattle.rv_retrieval.specs.Telling.{list_len}
 use Rattle.rv_judge.specs.Course.{fast_first}
@@ -41,11 +40,6 @@ entries_of_scans (plan ∷ plans) place shown snap = length (run_from (shown.ent
 -- the entries that the scans which have not ended may still sieve
 abbrev pub entries_ahead : Joint → Shown → ℕ
 entries_ahead j shown = entries_of_scans (drop j.ended j.plans) j.place shown j.snap
-
--- whether the awaited leaf is still to be read
-abbrev pub to_read : Option Chunk → ℕ
-to_read None = 1
-to_read (Some chunk) = 0
 
 -- the keys that fast-first has still to borrow of the list that it borrows from
 abbrev pub to_borrow : Joint → ℕ → ℕ
@@ -88,11 +82,6 @@ abbrev pub FgSpends : Fg → Counts → Counts → ℕ → ℕ → Type 0
 FgSpends (Row r) before after old new = (reads after + new ≤ reads before + old) × (new < old)
 FgSpends FgWorking before after old new = (reads after + new ≤ reads before + old) × (new < old)
 FgSpends FgEnd before after old new = (reads after + new ≤ reads before + old) × (new ≤ old)
-
--- an accepted piece lowers the effort; another one changes nothing
-abbrev pub GiveSpends : Given → ℕ → ℕ → Type 0
-GiveSpends Accepted old new = new < old
-GiveSpends (Stale asked now) old new = new ≡ old
 
 -- Where pieces are awaited a scan is under way, and where both sides run the strategy has a foreground.
 pub record Awaiting (v : Shape) : Type 0 where

@@ -11,7 +11,8 @@ ghost use Rattle.rv_retrieval.specs.Shape.{DoesStep, EndsIn, Keeps, RetrievalFit
 ghost use Rattle.rv_retrieval.specs.Stepping.{OnlyTakes, Steady, StepsBackground, piece_read};
 ghost use Rattle.rv_retrieval.specs.Telling.{can_stop, list_len, noted_drop, noted_list, noted_scan};
 ghost use Rattle.rv_judge.specs.Tracing.{CountsRise, SameCounts, noted};
-ghost use Rattle.rv_retrieval.specs.Effort.{Awaiting, GiveSpends, effort};
+ghost use Rattle.rv_final.specs.LaneWork.{GiveSpends};
+ghost use Rattle.rv_retrieval.specs.Effort.{Awaiting, effort};
 ghost use Rattle.rv_final.specs.Work.{Falls, Tries};
 ghost use Rattle.rv_judge.specs.Counting.{reads};
 ghost use Rattle.rv_retrieval.specs.Short.{Settled};

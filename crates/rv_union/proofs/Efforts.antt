@@ -1,9 +1,8 @@
 -- The effort of a union falls with each leaf read, each piece accepted and each member that ends.
-use Rattle.std.proofs.Common.{◌≡◌, ℕ, ◌+◌, ◌<◌, ◌≤◌, List, [], ◌++◌, length, drop, filter, Bool, true, false, not, ◌&&◌, refl, ap, sym, ◌∙◌, arith, subst, Option, Some, None, is_some, IfSome, Result, Ok, Err, IfOk, OnErr}
+use Rattle.std.proofs.Common.{◌≡◌, ℕ, ◌+◌, ◌<◌, ◌≤◌, List, [], ◌++◌, length, drop, Bool, true, false, refl, ap, sym, ◌∙◌, arith, subst, Option, Some, None, IfSome, Result, Ok, Err, IfOk, OnErr}
 use Rattle.std.specs.Prelude.{if◌then◌else◌}
-use Rattle.std.proofs.lemmas.List.{drop_more, length-append, length-map}
+use Rattle.std.proofs.lemmas.List.{drop_more, length-append}
 use Rattle.std.proofs.lemmas.List.Sorted.{length_permutation}
-use Rattle.rv_value.proofs.Lists.{filter_length}
 use Rattle.rv_value.specs.declared.record.IndexEntry.{IndexEntry}
 use Rattle.rv_judge.specs.declared.counting.Counts.{Counts}
 use Rattle.rv_judge.specs.declared.events.Control.{Control}
@@ -12,10 +11,10 @@ use Rattle.rv_judge.specs.declared.events.Trace.{Trace}
 use Rattle.rv_judge.specs.declared.judging.Facts.{Facts}
 use Rattle.rv_judge.specs.declared.judging.Verdict.{Verdict}
 use Rattle.rv_judge.specs.declared.judging.Verdict.TheVariants.{Continue, AbandonScan, AbandonForeground, AbandonBackground}
-use Rattle.rv_judge.specs.Counting.{leaf_read, one_more, reads}
+use Rattle.rv_judge.specs.Counting.{leaf_read, reads}
 use Rattle.rv_judge.specs.Verdicts.{Ruling}
 use Rattle.rv_reader.specs.declared.reader.Chunk.{Chunk}
-use Rattle.rv_reader.specs.Leaves.{leaves_after, leaves_from, run_after}
+use Rattle.rv_reader.specs.Leaves.{run_after}
 use Rattle.rv_reader.specs.Shown.{Shown}
 use Rattle.rv_jscan.specs.declared.jscan.Given.{Given}
 use Rattle.rv_jscan.specs.declared.jscan.Given.TheVariants.{Accepted, Stale}
@@ -23,59 +22,26 @@ use Rattle.rv_jscan.specs.declared.jscan.ScanPlan.{ScanPlan}
 use Rattle.rv_jscan.specs.declared.jscan.Taken.{Taken}
 use Rattle.rv_jscan.specs.declared.jscan.Taken.TheVariants.{Piece, Nothing}
 use Rattle.rv_jscan.specs.Joint.{no_plan, plan_at}
-use Rattle.rv_jscan.specs.Lanes.{IsLeafAt, Laned, no_lane, passed}
-use Rattle.rv_jscan.specs.Pieces.{Pieced, is_kept, kept_by}
+use Rattle.rv_jscan.specs.Lanes.{IsLeafAt, Laned, no_lane}
+use Rattle.rv_jscan.specs.Pieces.{Pieced, kept_by}
 use Rattle.rv_jscan.specs.Steps.{HasEntries, held_next}
 use Rattle.rv_final.specs.Stage.{Unbegun, keys_left}
-use Rattle.rv_final.specs.Work.{Falls, Tries}
-use Rattle.rv_scan.specs.declared.skip.Scanned.{Scanned}
-use Rattle.rv_scan.specs.declared.skip.Scanned.TheVariants.{Found, Working, End}
-use Rattle.rv_union.specs.Effort.{GiveSpends, Spends, effort, effort_by, keys_work, lane_work, planned_work, scanning_work, table_work, to_read}
+use Rattle.rv_final.specs.Work.{Tries}
+use Rattle.rv_final.specs.LaneWork.{GiveSpends, effort_by, lane_work, planned_work, to_read}
+use Rattle.rv_union.specs.Effort.{effort, keys_work, scanning_work, table_work}
 use Rattle.rv_union.specs.Given.{Answers, Awaits, TakesLeaf, TakesPiece, count_read, holding, piece_read, reads_leaf}
 use Rattle.rv_union.specs.Rulings.{GivesOn, Obeys, accepted, dropped, facts_of, going_on, joined, kept_of, lacks, listed, next_member, over, ruled}
-use Rattle.rv_union.specs.Unioned.{UnionFits, Unioned, ahead, present, scanning}
-use Rattle.rv_union.proofs.Fits.{ahead_split}
+use Rattle.rv_union.specs.Unioned.{UnionFits, Unioned, present, scanning}
+use Rattle.rv_final.proofs.LaneWork.{ahead_split, some_leaf, read_once, kept_few, passed_work, leaf_once, none_held}
 use Rattle.rv_union.proofs.Switches.{dropped_leads, drops, is_scanning, listed_leads, over_as, told_parts}
 
 -- THE MEMBERS
-
--- a scan has a leaf ahead
-some_leaf : (cuts : List IndexEntry) (place : Option IndexEntry) → 1 ≤ leaves_from cuts place
-some_leaf cuts None = omega arith
-some_leaf cuts (Some c) = omega arith
 
 -- those behind a place, one by one
 planned_one : (plans : List ScanPlan) (shown : Shown) (snap k : ℕ) → k < length plans → planned_work (drop k plans) shown snap ≡ lane_work (plan_at plans k) shown snap no_lane + planned_work (drop (k + 1) plans) shown snap
 planned_one plans shown snap k l = ap (λ (ps : List ScanPlan). planned_work ps shown snap) (drop_more plans k no_plan l)
 
-read_once : (h : Option Chunk) → to_read h ≤ 1
-read_once None = omega arith
-read_once (Some c) = omega arith
-
 -- A PIECE IS ACCEPTED
-
-pub kept_few : (admits : ℕ → Bool) (piece : Pieced) → length (kept_by admits piece.part piece.entries) ≤ length piece.entries
-kept_few admits piece =
-    let mapped = length-map (filter (is_kept admits piece.part) piece.entries) (λ (e : IndexEntry). e.row.0) in
-    let few = filter_length (is_kept admits piece.part) piece.entries in
-    omega arith
-
--- the leaves ahead fall with the leaf held
-leaves_fall : (plan : ScanPlan) (shown : Shown) (snap : ℕ) (place : Option IndexEntry) (held : Option Chunk) (entries : List IndexEntry) → HasEntries held entries → IfSome held (IsLeafAt plan shown snap place) → leaves_after (shown.cuts plan.index snap) (held_next held) < leaves_from (shown.cuts plan.index snap) place
-leaves_fall plan shown snap place None entries has d = absurd has
-leaves_fall plan shown snap place (Some chunk) entries has d = d.nearer
-
--- one that is not the last: the member's work falls by two
-passed_work : (plan : ScanPlan) (shown : Shown) (snap : ℕ) (l : Laned) (admits : ℕ → Bool) (piece : Pieced) (cut : IndexEntry) → HasEntries l.held piece.entries → IfSome l.held (IsLeafAt plan shown snap l.place) → held_next l.held ≡ Some cut → lane_work plan shown snap (passed admits piece l) + 2 ≤ lane_work plan shown snap l
-passed_work plan shown snap l admits piece cut has d next =
-    let new : Laned = record { place = Some cut; held = None; building = l.building ++ kept_by admits piece.part piece.entries } in
-    let parts = ahead_split plan shown snap l.place l.held piece.entries has d ∙ ap (λ (o : Option IndexEntry). piece.entries ++ run_after (shown.entries plan.index snap) plan.range o) next in
-    let long : length (ahead plan shown snap l) ≡ length piece.entries + length (ahead plan shown snap new) = ap length parts ∙ length-append piece.entries (ahead plan shown snap new) in
-    let built = length-append l.building (kept_by admits piece.part piece.entries) in
-    let few = kept_few admits piece in
-    let near : leaves_from (shown.cuts plan.index snap) (Some cut) < leaves_from (shown.cuts plan.index snap) l.place = subst (λ (o : Option IndexEntry). leaves_after (shown.cuts plan.index snap) o < leaves_from (shown.cuts plan.index snap) l.place) next (leaves_fall plan shown snap l.place l.held piece.entries has d) in
-    let less : lane_work plan shown snap new + 2 ≤ lane_work plan shown snap l = omega arith in
-    subst (λ (o : Option IndexEntry). lane_work plan shown snap (record { place = o; held = None; building = l.building ++ kept_by admits piece.part piece.entries }) + 2 ≤ lane_work plan shown snap l) (sym next) less
 
 -- the last one: what was built has no more keys than the member had work, but for two
 passed_list : (plan : ScanPlan) (shown : Shown) (snap : ℕ) (l : Laned) (admits : ℕ → Bool) (piece : Pieced) → HasEntries l.held piece.entries → IfSome l.held (IsLeafAt plan shown snap l.place) → held_next l.held ≡ None → length (l.building ++ kept_by admits piece.part piece.entries) + 2 ≤ lane_work plan shown snap l
@@ -183,12 +149,6 @@ piece_falls would state after piece old new shown a o f = given_work would state
 
 -- WHAT A TAKE SPENDS
 
-leaf_once : (c : Counts) → reads (leaf_read c) ≤ reads c + 1
-leaf_once c = let m = one_few c.leaves in omega arith
-  where
-    one_few : (n : ℕ) → one_more n ≤ n + 1
-    one_few n = omega arith
-
 -- what does not depend on the counts and the trace
 pub with_turn : (old new : Unioned) → TakesLeaf old new → new ≡ record old { count = new.count; lane = new.lane; trace = new.trace }
 with_turn old new t = subst (λ (x : Unioned). x ≡ record old { count = x.count; lane = x.lane; trace = x.trace }) (sym t.same) refl
@@ -199,16 +159,6 @@ held_effort old h t shown back =
     let is = effort_scanning new shown back in
     let was = effort_scanning old shown back in
     omega arith
-
-pub none_held : (h : Option Chunk) (b : Bool) → (b && not (is_some h)) ≡ true → (h ≡ None) × (b ≡ true)
-none_held None b r = (refl, first b r)
-  where
-    first : (b : Bool) → (b && true) ≡ true → b ≡ true
-    first b r = grind arith
-none_held (Some c) b r = absurd (let bad = last b r in cc)
-  where
-    last : (b : Bool) → (b && false) ≡ true → true ≡ false
-    last b r = grind arith
 
 pub leaf_spends : (old new : Unioned) (shown : Shown) (before after : Counts) → TakesLeaf old new → after ≡ piece_read old before → Tries before after (effort old shown) (effort new shown)
 leaf_spends old new shown before after t e = by (reads_leaf old) refl
@@ -264,25 +214,3 @@ take_spends (Ok taken) old mid new shown before after t m k e = by (reads_leaf o
         omega arith
 
 -- WHAT A STEP SPENDS
-
-pub tries_on : (before middle after : Counts) (old mid new : ℕ) → Tries before middle old mid → after ≡ middle → new ≤ mid → Tries before after old new
-tries_on before middle after old mid new t e l =
-    let once = t.once in
-    let less = t.less in
-    let same = ap reads e in
-    record { once = omega arith; less = omega arith }
-
-pub spends_by : {E : Type 0} (r : Result Scanned E) (before after : Counts) (old new : ℕ) → Tries before after old new → IfOk r (λ s. Falls s before after old new) → IfOk r (λ s. Spends s before after old new)
-spends_by (Err x) before after old new t f = tt
-spends_by (Ok s) before after old new t f = by s f
-  where
-    once : reads after ≤ reads before + 1
-    once = t.once
-
-    less : new ≤ old
-    less = t.less
-
-    by : (s : Scanned) → Falls s before after old new → Spends s before after old new
-    by (Found r) f = (omega (arith, once), f)
-    by Working f = (omega (arith, once), f)
-    by End f = let same = ap reads f in omega (arith, less)

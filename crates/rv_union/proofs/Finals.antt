@@ -22,7 +22,8 @@ use Rattle.rv_final.specs.Stage.{FetchesKey, LastFits, PassesKeys, Staged, first
 use Rattle.rv_final.specs.Work.{Falls, Tries}
 use Rattle.rv_final.proofs.Marks.{marks_steps}
 use Rattle.rv_final.proofs.Rests.{no_rest, same_rest}
-use Rattle.rv_union.specs.Effort.{effort, effort_by, keys_work, scanning_work, table_work}
+use Rattle.rv_final.specs.LaneWork.{effort_by}
+use Rattle.rv_union.specs.Effort.{effort, keys_work, scanning_work, table_work}
 use Rattle.rv_union.specs.Given.{Answers, Awaits, TakesLeaf, piece_read}
 use Rattle.rv_union.specs.Opened.{Does, DoesAs, DoesStep, Steady, ended_by}
 use Rattle.rv_union.specs.Unioned.{UnionFits, Unioned, SameUnion, left_by, scanning, rest, rows_of}

@@ -10,7 +10,6 @@ use Rattle.rv_value.specs.declared.record.IndexEntry.{IndexEntry}
 use Rattle.rv_keys.specs.Keys.{has_key}
 use Rattle.rv_restrict.specs.Parts.{Parted, passes}
 use Rattle.rv_reader.specs.Entries.{comes_before, is_in}
-use Rattle.rv_reader.specs.declared.reader.Chunk.{Chunk}
 use Rattle.rv_reader.specs.Leaves.{run_after, run_from}
 use Rattle.rv_reader.specs.Shown.{Shown}
 use Rattle.rv_jscan.specs.declared.jscan.ScanPlan.{ScanPlan}
@@ -23,8 +22,10 @@ use Rattle.rv_jscan.proofs.Kept.{found_or_ahead, fresh_after, kept_has}
 use Rattle.rv_jscan.proofs.Parts.{Apart-run, has_append}
 use Rattle.rv_union.specs.Given.{Awaits}
 use Rattle.rv_union.specs.Rulings.{kept_of, lacks}
-use Rattle.rv_union.specs.Unioned.{AreMet, MembersFit, UnionFits, Unioned, ahead, builds, found, meets_any, owed, present}
+use Rattle.rv_final.specs.LaneWork.{ahead}
+use Rattle.rv_union.specs.Unioned.{AreMet, MembersFit, UnionFits, Unioned, builds, found, meets_any, owed, present}
 use Rattle.rv_keyset.proofs.Lists.{key_append}
+use Rattle.rv_final.proofs.LaneWork.{ahead_split}
 
 -- A member that begins.
 
@@ -36,11 +37,6 @@ begun_builds : (plan : ScanPlan) (shown : Shown) (snap n : ℕ) → builds plan 
 begun_builds plan shown snap n = refl
 
 -- A piece is accepted.
-
--- the entries of the leaf held, and what is ahead behind them
-pub ahead_split : (plan : ScanPlan) (shown : Shown) (snap : ℕ) (place : Option IndexEntry) (held : Option Chunk) (entries : List IndexEntry) → HasEntries held entries → IfSome held (IsLeafAt plan shown snap place) → run_from (shown.entries plan.index snap) plan.range place ≡ entries ++ run_after (shown.entries plan.index snap) plan.range (held_next held)
-ahead_split plan shown snap place None entries has d = absurd has
-ahead_split plan shown snap place (Some chunk) entries has d = d.parts ∙ ap (λ (es : List IndexEntry). es ++ run_after (shown.entries plan.index snap) plan.range chunk.next) has
 
 -- what stands in the list with what is kept of the leaf, or behind the leaf
 builds_on : (plan : ScanPlan) (shown : Shown) (snap : ℕ) (l : Laned) (piece : Pieced) (admits : ℕ → Bool) (after : List IndexEntry) (n : ℕ) → piece.part ≡ plan.part → ahead plan shown snap l ≡ piece.entries ++ after → admits n ≡ true → builds plan shown snap l n ≡ true → (has_key n (l.building ++ kept_by admits piece.part piece.entries) || has_entry n (passing plan.part after)) ≡ true

@@ -33,7 +33,8 @@ use Rattle.rv_union.specs.Given.{Answers, Awaits, TakesLeaf, TakesPiece, count_r
 use Rattle.rv_union.specs.Leaves.{LeavesFall, held_leaves, lane_leaves, leaves_by, leaves_left, planned_leaves, scanning_leaves}
 use Rattle.rv_union.specs.Rulings.{GivesOn, Obeys, accepted, dropped, facts_of, going_on, joined, listed, next_member, over, ruled}
 use Rattle.rv_union.specs.Unioned.{UnionFits, Unioned, present, scanning}
-use Rattle.rv_union.proofs.Efforts.{none_held, with_turn}
+use Rattle.rv_final.proofs.LaneWork.{none_held}
+use Rattle.rv_union.proofs.Efforts.{with_turn}
 use Rattle.rv_union.proofs.Switches.{dropped_leads, drops, is_scanning, listed_leads, over_as, told_parts}
 
 left_at : (u : Unioned) (shown : Shown) (c : Control) → u.control ≡ c → leaves_left u shown ≡ leaves_by c (scanning_leaves u shown)

@@ -17,7 +17,8 @@ use Rattle.rv_jscan.specs.declared.jscan.ScanPlan.{ScanPlan}
 use Rattle.rv_jscan.specs.Joint.{plan_at}
 use Rattle.rv_jscan.specs.Lanes.{no_lane}
 use Rattle.rv_final.specs.Rest.{qualifies_at, qualifying}
-use Rattle.rv_union.specs.Effort.{effort, lane_work, life_of, member_life, members_life, planned_work}
+use Rattle.rv_final.specs.LaneWork.{lane_work, planned_work}
+use Rattle.rv_union.specs.Effort.{effort, life_of, member_life, members_life}
 use Rattle.rv_union.specs.Opened.{CanUnite, Opened, opened}
 use Rattle.rv_union.specs.Runs.{Tells, indexes_of}
 use Rattle.rv_union.specs.Unioned.{UnionFits, Unioned, rest}

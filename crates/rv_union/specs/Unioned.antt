@@ -1,8 +1,7 @@
 -- A union as contracts see it, and the records that it still owes.
-use Rattle.std.specs.Prelude.{◌≡◌, ℕ, ◌+◌, ◌<◌, ◌≤◌, Bool, true, false, not, ◌&&◌, ◌||◌, List, length, drop, Some, None}
+use Rattle.std.specs.Prelude.{◌≡◌, ℕ, ◌+◌, ◌<◌, Bool, true, false, ◌||◌, List, length, drop, Some, None}
 use Rattle.std.specs.List.{list_any}
 use Rattle.rv_value.specs.declared.record.Record.{Record}
-use Rattle.rv_value.specs.declared.record.IndexEntry.{IndexEntry}
 use Rattle.rv_rows.specs.Rows.{Ascend}
 use Rattle.rv_keys.specs.Keys.{has_key}
 use Rattle.rv_keyset.specs.Sets.{AreApart}
@@ -10,7 +9,6 @@ use Rattle.rv_judge.specs.declared.events.Control.{Control}
 use Rattle.rv_judge.specs.declared.events.Control.TheVariants.{Building, ForegroundAlone, BackgroundAlone, FinalList, FinalTable, Done}
 use Rattle.rv_judge.specs.declared.events.Trace.{Trace}
 use Rattle.rv_restrict.specs.declared.atom.Atom.{Atom}
-use Rattle.rv_reader.specs.Leaves.{run_from}
 use Rattle.rv_reader.specs.Shown.{Shown, CanRead}
 use Rattle.rv_scan.specs.Due.{HaveColumns}
 use Rattle.rv_scan.specs.Places.{Place}
@@ -21,6 +19,7 @@ use Rattle.rv_jscan.specs.Joint.{CanMake, meets, passing, plan_at}
 use Rattle.rv_jscan.specs.Lanes.{LaneFits, Laned}
 use Rattle.rv_final.specs.Rest.{qualifies_at, rest_by}
 use Rattle.rv_final.specs.Stage.{LastFits, Unbegun, list_left, table_left}
+use Rattle.rv_final.specs.LaneWork.{ahead}
 
 -- Everything that a union keeps. `plans` are its members, which never change; `member` is the position of the present
 -- one, `lane` where that one stands in its index, and `count` what it did. `keys` are those that the members before
@@ -105,10 +104,6 @@ pub record MembersFit (plans : List ScanPlan) (owed : ℕ → Bool) (shown : Sho
   pub each : (i : ℕ) → i < length plans → CanMake (plan_at plans i) shown snap
   pub apart : (i : ℕ) → i < length plans → Apart (shown.entries (plan_at plans i).index snap)
   pub met : (n : ℕ) → owed n ≡ true → meets_any plans shown snap n ≡ true
-
--- the entries that a scan has still to sieve
-abbrev pub ahead : ScanPlan → Shown → ℕ → Laned → List IndexEntry
-ahead plan shown snap l = run_from (shown.entries plan.index snap) plan.range l.place
 
 -- whether a row is in the list that the present member builds, or ahead of it
 abbrev pub builds : ScanPlan → Shown → ℕ → Laned → ℕ → Bool

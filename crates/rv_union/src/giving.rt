@@ -2,7 +2,8 @@ ghost use Rattle.std.specs.Prelude.{◌≡◌, ◌+◌, ◌<◌, ◌≤◌, ◌^
 ghost use Rattle.rv_judge.specs.Tracing.{SameCounts};
 ghost use Rattle.rv_reader.specs.Shown.{Shown};
 ghost use Rattle.rv_jscan.specs.Steps.{held_next};
-ghost use Rattle.rv_union.specs.Effort.{GiveSpends, effort};
+ghost use Rattle.rv_final.specs.LaneWork.{GiveSpends};
+ghost use Rattle.rv_union.specs.Effort.{effort};
 ghost use Rattle.rv_union.specs.Leaves.{leaves_left};
 ghost use Rattle.rv_union.specs.Given.{Answers, Awaits};
 ghost use Rattle.rv_union.specs.Rulings.{Completes, GivesOn, IsRuled, Obeys, accepted, dropped, facts_of, going_on, has_next, listed, over, ruled, told_scan};

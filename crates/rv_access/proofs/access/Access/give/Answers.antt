@@ -1,8 +1,8 @@
 use Rattle.std.proofs.Common.{ap}
 use Rattle.rv_access.specs.declared.access.Access.TheVariants.{Competing}
 use Rattle.rv_access.proofs.Accesses.{race_answers, raced_number, raced_plans, retrieval_answers, retrieval_keeps, retrieval_number, retrieval_plans, same_race, same_retrieval, same_union, union_answers, united_number, united_plans}
-use Rattle.rv_access.proofs.OfRaces.{gives_spends, raced_keeps}
-use Rattle.rv_access.proofs.OfUnions.{gives_spends as union_spends, united_keeps}
+use Rattle.rv_access.proofs.OfRaces.{raced_keeps}
+use Rattle.rv_access.proofs.OfUnions.{united_keeps}
 use Rattle.rv_access.proofs.access.Access.give.Goals as goal
 
 pub returns-in-Competing-clause-given : goal.returns-in-Competing-clause-given
@@ -36,7 +36,7 @@ pub returns-in-Racing-clause-keeps : goal.returns-in-Racing-clause-keeps
 returns-in-Racing-clause-keeps g c = rw c.in-Racing.is (raced_keeps _ _ c.give-in-Racing.ensures.same c.give-in-Racing.ensures.fits c.give-in-Racing.ensures.rest)
 
 pub returns-in-Racing-clause-spends : goal.returns-in-Racing-clause-spends
-returns-in-Racing-clause-spends g c = rw c.in-Racing.is (λ shown f. gives_spends c.give-in-Racing.result _ _ (c.give-in-Racing.ensures.spends shown f))
+returns-in-Racing-clause-spends g c = rw c.in-Racing.is c.give-in-Racing.ensures.spends
 
 pub returns-in-Competing-clause-settled : goal.returns-in-Competing-clause-settled
 returns-in-Competing-clause-settled g c = rw c.in-Competing.is (λ s. (ap Competing (c.give.ensures.settled s).0, (c.give.ensures.settled s).1))
@@ -60,7 +60,7 @@ pub returns-in-Uniting-clause-keeps : goal.returns-in-Uniting-clause-keeps
 returns-in-Uniting-clause-keeps g c = rw c.in-Uniting.is (united_keeps _ _ c.give-in-Uniting.ensures.same c.give-in-Uniting.ensures.fits c.give-in-Uniting.ensures.rest)
 
 pub returns-in-Uniting-clause-spends : goal.returns-in-Uniting-clause-spends
-returns-in-Uniting-clause-spends g c = rw c.in-Uniting.is (λ shown f. union_spends c.give-in-Uniting.result _ _ (c.give-in-Uniting.ensures.spends shown f))
+returns-in-Uniting-clause-spends g c = rw c.in-Uniting.is c.give-in-Uniting.ensures.spends
 
 pub returns-in-Uniting-clause-settled : goal.returns-in-Uniting-clause-settled
 returns-in-Uniting-clause-settled g c = rw c.in-Uniting.is (λ s. absurd s)

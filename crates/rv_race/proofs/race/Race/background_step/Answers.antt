@@ -2,7 +2,8 @@ use Rattle.std.proofs.Common.{◌≡◌, ◌∙◌, ap, false, refl, subst, sym,
 use Rattle.rv_value.proofs.Lists.{on_err}
 use Rattle.rv_race.specs.Opened.{OnlyTakes}
 use Rattle.rv_race.specs.Raced.{Raced, racing}
-use Rattle.rv_race.proofs.Efforts.{gives_less, leaf_spends, piece_falls, tries_on}
+use Rattle.rv_final.proofs.LaneWork.{tries_on}
+use Rattle.rv_race.proofs.Efforts.{gives_less, leaf_spends, piece_falls}
 use Rattle.rv_race.proofs.Finals.{accepted_piece, one_piece}
 use Rattle.rv_race.proofs.Stepped.{only_took, background_read, below, gave_steady}
 use Rattle.rv_race.proofs.Gives.{gives_stay}

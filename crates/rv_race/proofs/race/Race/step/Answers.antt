@@ -1,4 +1,4 @@
-use Rattle.rv_race.proofs.Efforts.{spends_by}
+use Rattle.rv_final.proofs.LaneWork.{spends_by}
 use Rattle.rv_race.proofs.Stepped.{only_counted, counted_does, counted_tries, counts_rise, ends_if, falls_if, rest_if, step_if}
 use Rattle.rv_race.proofs.Takes.{counted_fits, counted_race, counted_tells}
 use Rattle.rv_race.proofs.race.Race.step.Goals as goal

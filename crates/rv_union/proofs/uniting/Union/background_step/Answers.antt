@@ -2,7 +2,8 @@ use Rattle.std.proofs.Common.{◌≡◌, ◌∙◌, ap, false, refl, subst, sym,
 use Rattle.rv_value.proofs.Lists.{on_err}
 use Rattle.rv_union.specs.Opened.{OnlyTakes}
 use Rattle.rv_union.specs.Unioned.{Unioned, scanning}
-use Rattle.rv_union.proofs.Efforts.{gives_less, leaf_spends, piece_falls, tries_on}
+use Rattle.rv_final.proofs.LaneWork.{tries_on}
+use Rattle.rv_union.proofs.Efforts.{gives_less, leaf_spends, piece_falls}
 use Rattle.rv_union.proofs.Finals.{accepted_piece, one_piece}
 use Rattle.rv_union.proofs.Stepped.{only_took, background_read, below, gave_steady}
 use Rattle.rv_union.proofs.Gives.{gives_stay}

@@ -1,4 +1,4 @@
-use Rattle.rv_union.proofs.Efforts.{spends_by}
+use Rattle.rv_final.proofs.LaneWork.{spends_by}
 use Rattle.rv_union.proofs.Stepped.{only_counted, counted_does, counted_tries, counts_rise, ends_if, falls_if, rest_if, step_if}
 use Rattle.rv_union.proofs.Takes.{counted_fits, counted_union, counted_tells}
 use Rattle.rv_union.proofs.Leaves.{leaves_if}
