@@ -63,5 +63,6 @@ pub record Offers (shown : Shown) (snap : ℕ) : Type 0 where
   pub ascend : (table : ℕ) → table < 4 → Ascend (shown.rows table snap)
   pub wide : (table : ℕ) → table < 4 → AreWide 3 (shown.rows table snap)
   pub can : (index : ℕ) → index < 6 → CanScan shown index snap
-  pub entries : (index : ℕ) → index < 6 → shown.entries index snap ≡ entries_of (columns_of index) (shown.rows (table_of index) snap)
+  pub entries : (index : ℕ) → index < 6
+      → shown.entries index snap ≡ entries_of (columns_of index) (shown.rows (table_of index) snap)
   pub cuts : (index : ℕ) → index < 6 → AreKeys (length (columns_of index)) (shown.cuts index snap)

@@ -24,7 +24,8 @@ span_atoms column (Some span) = Between (record { place = 0; column = column }) 
 
 abbrev pub span_group : ℕ → Option Span → List (List Atom)
 span_group column None = []
-span_group column (Some span) = (Between (record { place = 0; column = column }) (Int span.low) (Int span.high) ∷ []) ∷ []
+span_group column (Some span) =
+    (Between (record { place = 0; column = column }) (Int span.low) (Int span.high) ∷ []) ∷ []
 
 -- some column lies in its span
 abbrev pub either_atoms : Either → List Atom
@@ -37,7 +38,8 @@ either_group (Some e) = either_atoms e ∷ []
 -- the restriction: each column lies in its span, where it has one, and one of those lies in its span of which one is
 -- enough
 abbrev pub spans_of : Asked → List (List Atom)
-spans_of asked = span_group 0 asked.first ++ span_group 1 asked.second ++ span_group 2 asked.third ++ either_group asked.either
+spans_of asked =
+    span_group 0 asked.first ++ span_group 1 asked.second ++ span_group 2 asked.third ++ either_group asked.either
 
 -- a column of the table
 abbrev pub is_column : ColRef → Bool

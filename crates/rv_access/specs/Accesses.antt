@@ -157,7 +157,8 @@ pub record Keeps (old new : Access) : Type 0 where
   pub rest : (shown : Shown) → AccessFits old shown → rest new shown ≡ rest old shown
 
 -- said of two accesses of one kind
-abbrev pub Alike : (Shape → Shape → Type 0) → (RacedQuery → RacedQuery → Type 0) → (UnitedQuery → UnitedQuery → Type 0) → Access → Access → Type 0
+abbrev pub Alike : (Shape → Shape → Type 0) → (RacedQuery → RacedQuery → Type 0) → (UnitedQuery → UnitedQuery → Type 0)
+    → Access → Access → Type 0
 Alike P Q S (Competing v) (Competing w) = P v w
 Alike P Q S (Competing v) (Racing s) = ⊥
 Alike P Q S (Competing v) (Uniting s) = ⊥

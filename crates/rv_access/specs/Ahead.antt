@@ -25,4 +25,5 @@ AllAhead shown v = is_union v ≡ true → leaves_ahead v shown ≡ planned_leav
 
 -- THE LEAVES THAT A CALL READS are no longer ahead
 abbrev pub LeavesNear : Shown → Counts → Counts → Access → Access → Type 0
-LeavesNear shown before after old new = is_union old ≡ true → LeavesFall before after (leaves_ahead old shown) (leaves_ahead new shown)
+LeavesNear shown before after old new =
+    is_union old ≡ true → LeavesFall before after (leaves_ahead old shown) (leaves_ahead new shown)

@@ -42,7 +42,8 @@ AwaitsPiece (Uniting u) piece = UnionAwaits u.union piece
 -- what a give answers, and that a stale piece changes nothing
 abbrev pub Answers : Access → Pieced → Given → Access → Type 0
 Answers old piece Accepted new = AwaitsPiece old piece
-Answers old piece (Stale asked now) new = ¬ AwaitsPiece old piece × (asked ≡ piece.id) × (now ≡ awaited old) × (new ≡ old)
+Answers old piece (Stale asked now) new =
+    ¬ AwaitsPiece old piece × (asked ≡ piece.id) × (now ≡ awaited old) × (new ≡ old)
 
 -- what a take answers
 abbrev pub TakesPiece : Access → Taken → Type 0
@@ -79,19 +80,23 @@ IsOfUndropped (Racing r) taken = RaceUndropped r.race taken
 IsOfUndropped (Uniting u) taken = UnionUndropped u.union taken
 
 -- what a give leaves of a race
-pub record RacedGives (would : ℕ → Facts → Ruling) (state after : ℕ) (piece : Pieced) (given : Given) (old new : RacedQuery) : Type 0 where
+pub record RacedGives (would : ℕ → Facts → Ruling) (state after : ℕ) (piece : Pieced) (given : Given)
+    (old new : RacedQuery) : Type 0 where
   pub same : new ≡ record old { race = new.race }
   pub gives : RaceGives would state after piece given old.race new.race
   pub turns : HasNextTurn given old.race new.race
 
 -- what it leaves of a union
-pub record UnitedGives (would : ℕ → Facts → Ruling) (state after : ℕ) (piece : Pieced) (given : Given) (old new : UnitedQuery) : Type 0 where
+pub record UnitedGives (would : ℕ → Facts → Ruling) (state after : ℕ) (piece : Pieced) (given : Given)
+    (old new : UnitedQuery) : Type 0 where
   pub same : new ≡ record old { union = new.union }
   pub gives : UnionGives would state after piece given old.union new.union
 
 -- WHAT A GIVE LEAVES: an accepted piece is counted, the judge is asked where its scan goes on, and is obeyed
 abbrev pub GivesOn : (ℕ → Facts → Ruling) → ℕ → ℕ → Pieced → Given → Access → Access → Type 0
-GivesOn would state after piece given old new = Alike (RetrievalGives would state after piece given) (RacedGives would state after piece given) (UnitedGives would state after piece given) old new
+GivesOn would state after piece given old new =
+    Alike (RetrievalGives would state after piece given) (RacedGives would state after piece given)
+      (UnitedGives would state after piece given) old new
 
 -- an accepted piece is counted, a stale one is not
 abbrev pub CountsPiece : Given → ℕ → ℕ → Type 0

@@ -77,13 +77,16 @@ abbrev pub life_of : Access → Query → Shown → ℕ
 life_of a query shown = lives a query.only * retrieval_life query shown
 
 -- the race of what was chosen
-pub record IsRaced (query : Query) (shown : Shown) (cursor opening : ℕ) (choice : Choice) (r : RacedQuery) : Type 0 where
+pub record IsRaced (query : Query) (shown : Shown) (cursor opening : ℕ) (choice : Choice)
+    (r : RacedQuery) : Type 0 where
   pub asked : r.query ≡ query
   pub scans : AreScans query.only (candidates_of query shown) choice.background r.race.plans
-  pub opened : RaceOpened query.table query.snap query.only r.race.plans cursor opening (shown.pages query.table query.snap) r.race
+  pub opened : RaceOpened query.table query.snap query.only r.race.plans cursor opening
+        (shown.pages query.table query.snap) r.race
 
 -- WHAT A RACE IS WHERE IT BEGINS: it owes each record that qualifies, and its effort is below the bound
-pub record BeginsRace (query : Query) (shown : Shown) (choice : Choice) (cursor opening : ℕ) (r : RacedQuery) : Type 0 where
+pub record BeginsRace (query : Query) (shown : Shown) (choice : Choice) (cursor opening : ℕ)
+    (r : RacedQuery) : Type 0 where
   pub raced : IsRaced query shown cursor opening choice r
   pub fits : RacedFits r shown
   pub owes : race_rest r.race shown ≡ qualifying query.only (shown.rows query.table query.snap)
@@ -94,7 +97,8 @@ pub record BeginsRace (query : Query) (shown : Shown) (choice : Choice) (cursor 
 pub record IsUnited (query : Query) (shown : Shown) (cursor opening : ℕ) (u : UnitedQuery) : Type 0 where
   pub asked : u.query ≡ query
   pub members : AreUnited query shown u.union.plans
-  pub opened : UnionOpened query.table query.snap query.only u.union.plans cursor opening (shown.pages query.table query.snap) u.union
+  pub opened : UnionOpened query.table query.snap query.only u.union.plans cursor opening
+        (shown.pages query.table query.snap) u.union
 
 -- WHAT A UNION IS WHERE IT BEGINS, likewise
 pub record BeginsUnion (query : Query) (shown : Shown) (cursor opening : ℕ) (u : UnitedQuery) : Type 0 where
@@ -131,7 +135,8 @@ OpenedBy false false query shown cursor opening choice a = Competes query shown 
 pub record Opened (race : Bool) (query : Query) (shown : Shown) (cursor opening : ℕ) (a : Access) : Type 0 where
   pub choice : Choice
   pub chosen : IsChosen query.order query.goal (candidates_of query shown) choice
-  pub opened : OpenedBy (race && races choice (candidates_of query shown)) (unites query shown choice) query shown cursor opening choice a
+  pub opened : OpenedBy (race && races choice (candidates_of query shown)) (unites query shown choice) query shown
+        cursor opening choice a
 
 -- WHAT IT IS WHERE IT BEGINS: it owes each record that qualifies; what the opening has read is counted, and with the
 -- effort it is within the life of an access of its kind

@@ -25,31 +25,38 @@ use Rattle.rv_access.specs.Accesses.{Alike, Settled, fetches_left, query_of, res
 -- WHAT A STEP GIVES: it takes one record out of the rest, least in the order columns, or leaves the rest, or the rest
 -- is empty
 abbrev pub GivesStep : Access → Access → Shown → Fg → Type 0
-GivesStep old new shown (Row r) = TakesOut (query_of old).need r (rest old shown) (rest new shown) × IsLeast (query_of old).order r (rest old shown)
+GivesStep old new shown (Row r) =
+    TakesOut (query_of old).need r (rest old shown) (rest new shown) × IsLeast (query_of old).order r (rest old shown)
 GivesStep old new shown Working = rest new shown ≡ rest old shown
 GivesStep old new shown End = (rest old shown ≡ []) × (rest new shown ≡ [])
 
 -- the same of a race, in its own words
 abbrev pub RacedGivesStep : RacedQuery → RacedQuery → Shown → Fg → Type 0
-RacedGivesStep old new shown (Row r) = TakesOut old.query.need r (race_rest old.race shown) (race_rest new.race shown) × IsLeast old.query.order r (race_rest old.race shown)
+RacedGivesStep old new shown (Row r) =
+    TakesOut old.query.need r (race_rest old.race shown) (race_rest new.race shown)
+    × IsLeast old.query.order r (race_rest old.race shown)
 RacedGivesStep old new shown Working = race_rest new.race shown ≡ race_rest old.race shown
 RacedGivesStep old new shown End = (race_rest old.race shown ≡ []) × (race_rest new.race shown ≡ [])
 
 -- the same of a union
 abbrev pub UnitedGivesStep : UnitedQuery → UnitedQuery → Shown → Fg → Type 0
-UnitedGivesStep old new shown (Row r) = TakesOut old.query.need r (union_rest old.union shown) (union_rest new.union shown) × IsLeast old.query.order r (union_rest old.union shown)
+UnitedGivesStep old new shown (Row r) =
+    TakesOut old.query.need r (union_rest old.union shown) (union_rest new.union shown)
+    × IsLeast old.query.order r (union_rest old.union shown)
 UnitedGivesStep old new shown Working = union_rest new.union shown ≡ union_rest old.union shown
 UnitedGivesStep old new shown End = (union_rest old.union shown ≡ []) × (union_rest new.union shown ≡ [])
 
 -- a step of a race
-pub record RacedSteps (would : ℕ → Facts → Ruling) (state after : ℕ) (shown : Shown) (c d : Counts) (fg : Fg) (old new : RacedQuery) : Type 0 where
+pub record RacedSteps (would : ℕ → Facts → Ruling) (state after : ℕ) (shown : Shown) (c d : Counts) (fg : Fg)
+    (old new : RacedQuery) : Type 0 where
   pub scanned : Scanned
   pub answers : fg ≡ fg_of scanned
   pub same : new ≡ record old { race = new.race }
   pub steps : RaceSteps would state after shown c d scanned old.race new.race
 
 -- a step of a union
-pub record UnitedSteps (would : ℕ → Facts → Ruling) (state after : ℕ) (shown : Shown) (c d : Counts) (fg : Fg) (old new : UnitedQuery) : Type 0 where
+pub record UnitedSteps (would : ℕ → Facts → Ruling) (state after : ℕ) (shown : Shown) (c d : Counts) (fg : Fg)
+    (old new : UnitedQuery) : Type 0 where
   pub scanned : Scanned
   pub answers : fg ≡ fg_of scanned
   pub same : new ≡ record old { union = new.union }
@@ -57,7 +64,9 @@ pub record UnitedSteps (would : ℕ → Facts → Ruling) (state after : ℕ) (s
 
 -- WHAT A STEP DOES AND READS, and that it is then counted
 abbrev pub StepsAs : (ℕ → Facts → Ruling) → ℕ → ℕ → Shown → Counts → Counts → Fg → Access → Access → Type 0
-StepsAs would state after shown c d fg old new = Alike (RetrievalSteps would state after shown c d fg) (RacedSteps would state after shown c d fg) (UnitedSteps would state after shown c d fg) old new
+StepsAs would state after shown c d fg old new =
+    Alike (RetrievalSteps would state after shown c d fg) (RacedSteps would state after shown c d fg)
+      (UnitedSteps would state after shown c d fg) old new
 
 -- what a step may read, whatever it answers
 abbrev pub MayReadIts : Access → Counts → Counts → Type 0

@@ -25,16 +25,17 @@ pub record IsFront (front whole : List (List ℕ)) : Type 0 where
   pub rest : List (List ℕ)
   pub is : whole ≡ front ++ rest
 
--- Up to some phase each session, of 1 to 8, has made its calls, in order: all of the phases before, a front of those of this
--- phase, and none of the phases behind.
+-- Up to some phase each session, of 1 to 8, has made its calls, in order: all of the phases before, a front of those
+-- of this phase, and none of the phases behind.
 pub record Follows (phases : List Phase) (history : List Entry) : Type 0 where
   pub at : ℕ
-  pub past : (session phase : ℕ) → 1 ≤ session → session ≤ 8 → phase < at → calls history session phase ≡ asked_in phases session phase
+  pub past : (session phase : ℕ) → 1 ≤ session → session ≤ 8 → phase < at
+      → calls history session phase ≡ asked_in phases session phase
   pub now : (session : ℕ) → 1 ≤ session → session ≤ 8 → IsFront (calls history session at) (asked_in phases session at)
   pub later : (session phase : ℕ) → 1 ≤ session → session ≤ 8 → at < phase → calls history session phase ≡ []
 
--- With some phases, which a transcript does not tell, the entries are a legal history that follows the script. That phases
--- never fall is part of `IsLegal`.
+-- With some phases, which a transcript does not tell, the entries are a legal history that follows the script. That
+-- phases never fall is part of `IsLegal`.
 pub record IsLegalTo (script : Script) (entries : List Entry) : Type 0 where
   pub history : List Entry
   pub same : AllSameButPhase entries history
@@ -43,7 +44,8 @@ pub record IsLegalTo (script : Script) (entries : List Entry) : Type 0 where
 
 -- Each call of the script has its entry.
 abbrev pub HasAll : List Phase → List Entry → Type 0
-HasAll phases history = (session phase : ℕ) → 1 ≤ session → session ≤ 8 → calls history session phase ≡ asked_in phases session phase
+HasAll phases history =
+    (session phase : ℕ) → 1 ≤ session → session ≤ 8 → calls history session phase ≡ asked_in phases session phase
 
 -- The same, and no call of the script is without an entry.
 pub record IsWhole (script : Script) (entries : List Entry) : Type 0 where
@@ -52,7 +54,8 @@ pub record IsWhole (script : Script) (entries : List Entry) : Type 0 where
   pub legal : IsLegal history
   pub all : HasAll script.phases history
 
--- A call of the session in the phase has no entry; no call of an earlier phase lacks one, and none of a lower session in it.
+-- A call of the session in the phase has no entry; no call of an earlier phase lacks one, and none of a lower session
+-- in it.
 pub record IsFirstMissing (phases : List Phase) (history : List Entry) (session phase : ℕ) : Type 0 where
   pub from : 1 ≤ session
   pub to : session ≤ 8

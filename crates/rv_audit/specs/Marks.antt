@@ -24,7 +24,9 @@ behind_line line (Some p) = Some (record { script = line ++ 10 ∷ p.script; tra
 -- lines and what stands behind the last line feed, parted at the first line that is the mark
 abbrev pub parted_lines : List (List ℕ) → List ℕ → Option Parted
 parted_lines [] rest = if bytes_eq rest (codes "====") then Some (record { script = []; transcript = [] }) else None
-parted_lines (l ∷ ls) rest = if is_mark l then Some (record { script = []; transcript = ended ls rest }) else behind_line l (parted_lines ls rest)
+parted_lines (l ∷ ls) rest =
+    if is_mark l then Some (record { script = []; transcript = ended ls rest })
+    else behind_line l (parted_lines ls rest)
 
 -- two parts of an input, as the code has them
 abbrev pub parts_by : Bor (List ℕ) × Bor (List ℕ) → Parted

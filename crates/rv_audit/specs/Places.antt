@@ -41,7 +41,8 @@ abbrev pub all_wait : List Call → List ℕ → ℕ → Bool
 all_wait calls places phase = list_all (λ at. waits_at calls phase at) places
 
 -- a session's next call has this text and this phase, and is made
-pub record Makes (calls : List Call) (old : List ℕ) (session : ℕ) (text : List ℕ) (phase : ℕ) (new : List ℕ) : Type 0 where
+pub record Makes (calls : List Call) (old : List ℕ) (session : ℕ) (text : List ℕ) (phase : ℕ)
+    (new : List ℕ) : Type 0 where
   pub stands : Stands calls new
   pub next : left_at calls old session ≡ asks phase session text ∷ left_at calls new session
   pub others : (s : ℕ) → 1 ≤ s → ¬ (s ≡ session) → left_at calls new s ≡ left_at calls old s
@@ -49,7 +50,8 @@ pub record Makes (calls : List Call) (old : List ℕ) (session : ℕ) (text : Li
 
 -- no such call can be made
 pub record Refuses (calls : List Call) (places : List ℕ) (session : ℕ) (text : List ℕ) : Type 0 where
-  pub none : (phase : ℕ) (more : List Call) → left_at calls places session ≡ asks phase session text ∷ more → all_wait calls places phase ≡ true → ⊥
+  pub none : (phase : ℕ) (more : List Call) → left_at calls places session ≡ asks phase session text ∷ more
+      → all_wait calls places phase ≡ true → ⊥
 
 abbrev pub Takes : List Call → List ℕ → ℕ → List ℕ → Option ℕ → List ℕ → Type 0
 Takes calls old session text None new = Refuses calls old session text × (new ≡ old)
@@ -65,11 +67,14 @@ FrontsFollow phases history = (k : ℕ) → Follows phases (take k history)
 
 -- the script leaves no choice of phases
 abbrev pub ArePhasesOf : List Phase → List Entry → Type 0
-ArePhasesOf phases history = (k : ℕ) (other : List Entry) → AllSameButPhase (take k history) other → IsLegal other → Follows phases other → other ≡ take k history
+ArePhasesOf phases history =
+    (k : ℕ) (other : List Entry) → AllSameButPhase (take k history) other → IsLegal other → Follows phases other
+    → other ≡ take k history
 
 -- with no phases the entries are a legal history that follows the script
 abbrev pub GoesNoFurther : List Phase → List Entry → Type 0
-GoesNoFurther phases entries = (history : List Entry) → AllSameButPhase entries history → IsLegal history → Follows phases history → ⊥
+GoesNoFurther phases entries =
+    (history : List Entry) → AllSameButPhase entries history → IsLegal history → Follows phases history → ⊥
 
 -- the entries stop at one with which they go no further
 pub record IsStuck (phases : List Phase) (entries history : List Entry) : Type 0 where
@@ -83,12 +88,15 @@ pub record IsStuck (phases : List Phase) (entries history : List Entry) : Type 0
 -- how entries follow a script, as far as they do
 abbrev pub EndsSo : List Phase → List Entry → List Entry → End → Type 0
 EndsSo phases entries history ends.Whole = AllSameButPhase entries history × HasAll phases history
-EndsSo phases entries history (ends.Missing session phase) = AllSameButPhase entries history × IsFirstMissing phases history session phase
+EndsSo phases entries history (ends.Missing session phase) =
+    AllSameButPhase entries history × IsFirstMissing phases history session phase
 EndsSo phases entries history ends.Bad = IsStuck phases entries history
 
 -- no text is longer than those of the script
 abbrev pub AreNoLonger : List Phase → List Entry → Type 0
-AreNoLonger phases history = (most : ℕ) → AllByRecursion (λ (c : Call). length c.text ≤ most) (calls_from 1 phases) → AllByRecursion (λ (e : Entry). length e.text ≤ most) history
+AreNoLonger phases history =
+    (most : ℕ) → AllByRecursion (λ (c : Call). length c.text ≤ most) (calls_from 1 phases)
+    → AllByRecursion (λ (e : Entry). length e.text ≤ most) history
 
 pub record FollowsSo (phases : List Phase) (entries : List Entry) (followed : Followed) : Type 0 where
   pub fronts : FrontsFollow phases followed.entries.items
@@ -114,7 +122,8 @@ LowestUpTo calls places n (Some left) = IsLowestOf calls places n left.session l
 abbrev pub lower_of : Option Left → ℕ → Option Call → Option Left
 lower_of lowest session None = lowest
 lower_of None session (Some c) = Some (record { session = session; phase = c.phase })
-lower_of (Some left) session (Some c) = if nat_lt c.phase left.phase then Some (record { session = session; phase = c.phase }) else Some left
+lower_of (Some left) session (Some c) =
+    if nat_lt c.phase left.phase then Some (record { session = session; phase = c.phase }) else Some left
 
 abbrev pub EndsAt : List Call → List ℕ → End → Type 0
 EndsAt calls places ends.Whole = LowestUpTo calls places 8 None
@@ -123,7 +132,8 @@ EndsAt calls places ends.Bad = ⊥
 
 -- each session stands at its first call
 abbrev pub StartsAt : List Call → List ℕ → Type 0
-StartsAt calls places = (session : ℕ) → 1 ≤ session → session ≤ 8 → left_at calls places session ≡ calls_by session calls
+StartsAt calls places =
+    (session : ℕ) → 1 ≤ session → session ≤ 8 → left_at calls places session ≡ calls_by session calls
 
 -- entry n, from 1, is the first up to which the entries are no legal history
 pub record BreaksAt (entries : List Entry) (n : ℕ) : Type 0 where

@@ -18,7 +18,8 @@ AreWholeLines bytes = (split bytes).rest ≡ []
 abbrev pub HasPlainReply : Entry → Type 0
 HasPlainReply e = IsPlainReply e.reply × CanHoldReply e.reply
 
--- A script of whole lines, a mark, and the transcript that a run writes of it with status 0, whose replies can be read back.
+-- A script of whole lines, a mark, and the transcript that a run writes of it with status 0, whose replies can be read
+-- back.
 pub record IsOfRun (input : List ℕ) : Type 0 where
   pub script : List ℕ
   pub lines : AreWholeLines script

@@ -5,6 +5,9 @@ use Rattle.rv_auditrun.specs.declared.status.AuditStatus.{AuditStatus}
 use Rattle.rv_auditrun.specs.declared.status.AuditStatus.TheVariants.{Legal}
 use Rattle.rv_auditrun.specs.Verdicts.{AreDue}
 
--- LAW: of a script, a mark and what a run wrote of the script the verdict is that it is legal, where the input is not too long.
+-- LAW: of a script, a mark and what a run wrote of the script the verdict is that it is legal, where the input is not
+-- too long.
 abbrev pub RunsAreJudgedLegal : Type 0
-RunsAreJudgedLegal = (input : List ℕ) (after : Option (List ℕ)) (line : List ℕ) (status : AuditStatus) → IsOfRun input → length input ≤ 268435456 → AreDue (Some input) after line status → status ≡ Legal
+RunsAreJudgedLegal =
+    (input : List ℕ) (after : Option (List ℕ)) (line : List ℕ) (status : AuditStatus) → IsOfRun input
+    → length input ≤ 268435456 → AreDue (Some input) after line status → status ≡ Legal

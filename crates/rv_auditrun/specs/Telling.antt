@@ -29,7 +29,8 @@ told_status status (Ok u) = status
 told_status status (Err fault) = WriteFault
 
 -- how the writing of a line that is due beside a status ends
-pub record Tells (line : List ℕ) (due : AuditStatus) (old new : Option (List ℕ)) (before now : ℕ) (status : AuditStatus) : Type 0 where
+pub record Tells (line : List ℕ) (due : AuditStatus) (old new : Option (List ℕ)) (before now : ℕ)
+    (status : AuditStatus) : Type 0 where
   pub verdict : IsVerdict status → (status ≡ due) × Appends old new line
   pub front : status ≡ WriteFault → AppendsFront old new line
   pub write : status ≡ WriteFault → Rose before now

@@ -56,7 +56,8 @@ verdict_words audited.Over = limit_words over.Bytes
 verdict_words (audited.Script fault) = script_words fault
 verdict_words (audited.BadText line) = codes "text line " ++ decimal line
 verdict_words (audited.BadEntry entry) = codes "bad entry " ++ decimal entry
-verdict_words (audited.Missing session phase) = (codes "missing session " ++ decimal session) ++ (codes " phase " ++ decimal phase)
+verdict_words (audited.Missing session phase) =
+    (codes "missing session " ++ decimal session) ++ (codes " phase " ++ decimal phase)
 verdict_words (audited.Legal entries) = codes "legal " ++ decimal entries
 
 -- with a line feed

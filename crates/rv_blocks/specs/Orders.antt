@@ -9,4 +9,5 @@ abbrev pub change_cmp : Change → Change → Ordering
 change_cmp = then_cmp (on (λ (c : Change). c.table) nat_cmp) (on (λ (c : Change). c.row.0) nat_cmp)
 
 pub change_cmp_total : IsTotalOrder change_cmp
-change_cmp_total = then_total (on_total (λ (c : Change). c.table) nat_cmp_total) (on_total (λ (c : Change). c.row.0) nat_cmp_total)
+change_cmp_total =
+    then_total (on_total (λ (c : Change). c.table) nat_cmp_total) (on_total (λ (c : Change). c.row.0) nat_cmp_total)

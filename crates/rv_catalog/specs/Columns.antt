@@ -33,7 +33,8 @@ also Several c = Several
 -- what a name fits among columns of one table, numbered from n, beside what it fits before them
 abbrev pub fit_columns : List ℕ → ℕ → ℕ → List (List ℕ × Kind) → Fit → Fit
 fit_columns name place n [] fit = fit
-fit_columns name place n (c ∷ cs) fit = fit_columns name place (n + 1) cs (cond (bytes_eq name c.0) (also fit (record { place = place; column = n })) fit)
+fit_columns name place n (c ∷ cs) fit =
+    fit_columns name place (n + 1) cs (cond (bytes_eq name c.0) (also fit (record { place = place; column = n })) fit)
 
 -- without a qualifier a name may be a column of every item
 abbrev pub item_fits : Option (List ℕ) → List ℕ → Bool
@@ -110,4 +111,5 @@ columns_from place n (c ∷ cs) = record { place = place; column = n } ∷ colum
 
 abbrev pub all_columns : List TableDef → ℕ → List Item → List ColRef
 all_columns tables place [] = []
-all_columns tables place (item ∷ more) = columns_from place 0 (columns_of tables item.table) ++ all_columns tables (place + 1) more
+all_columns tables place (item ∷ more) =
+    columns_from place 0 (columns_of tables item.table) ++ all_columns tables (place + 1) more

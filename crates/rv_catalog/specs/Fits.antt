@@ -24,7 +24,8 @@ all_different (c ∷ cs) = not (list_any (λ d. d == c) cs) && all_different cs
 
 -- a column of one of the tables, which are those of the places in order
 abbrev pub is_there : List TableDef → List ℕ → ColRef → Bool
-is_there tables places c = nat_lt c.place (length places) && is_column (width tables (slice_index_or places c.place 0)) c.column
+is_there tables places c =
+    nat_lt c.place (length places) && is_column (width tables (slice_index_or places c.place 0)) c.column
 
 -- a condition over columns of one table, at place 0
 abbrev pub is_over_table : List TableDef → ℕ → List (List Atom) → Bool

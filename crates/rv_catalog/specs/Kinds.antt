@@ -40,7 +40,8 @@ cannot_hold Big (Str text) = true
 cannot_hold (Chars n) (Int m) = true
 cannot_hold (Chars n) (Str text) = nat_lt n (length text)
 
--- the values of a row by their columns from the left; then the number of values: the first column without one, or the last
+-- the values of a row by their columns from the left; then the number of values: the first column without one, or the
+-- last
 abbrev pub row_kinds : List ℕ → List (List ℕ × Kind) → List Value → Result (Unit {0}) Refusal
 row_kinds last [] [] = Ok tt
 row_kinds last [] (v ∷ vs) = Err (WrongKind last)
@@ -50,7 +51,8 @@ row_kinds last (c ∷ cs) (v ∷ vs) = do
   row_kinds c.0 cs vs
 
 abbrev pub set_kind : List TableDef → ℕ → ℕ × Value → Result (Unit {0}) Refusal
-set_kind tables table set = refuse_if (cannot_hold (column_of tables table set.0).1 set.1) (WrongKind (column_of tables table set.0).0)
+set_kind tables table set =
+    refuse_if (cannot_hold (column_of tables table set.0).1 set.1) (WrongKind (column_of tables table set.0).0)
 
 -- In conditions: a literal, or a column, of the other kind, however long.
 
@@ -80,9 +82,13 @@ abbrev pub refuse_column : Bool → List ℕ × Kind → Result (Unit {0}) Refus
 refuse_column wrong column = refuse_if wrong (WrongKind column.0)
 
 abbrev pub atom_kind : List TableDef → List Item → Atom → Result (Unit {0}) Refusal
-atom_kind tables reach (Compare c op o) = refuse_column (is_wrong_operand tables reach (column_at tables reach c).1 o) (column_at tables reach c)
-atom_kind tables reach (Between c low high) = refuse_column (is_other_kind (column_at tables reach c).1 low || is_other_kind (column_at tables reach c).1 high) (column_at tables reach c)
-atom_kind tables reach (Among c list) = refuse_column (list_any (is_other_kind (column_at tables reach c).1) list) (column_at tables reach c)
+atom_kind tables reach (Compare c op o) =
+    refuse_column (is_wrong_operand tables reach (column_at tables reach c).1 o) (column_at tables reach c)
+atom_kind tables reach (Between c low high) =
+    refuse_column (is_other_kind (column_at tables reach c).1 low || is_other_kind (column_at tables reach c).1 high)
+      (column_at tables reach c)
+atom_kind tables reach (Among c list) =
+    refuse_column (list_any (is_other_kind (column_at tables reach c).1) list) (column_at tables reach c)
 atom_kind tables reach (IsNull c negated) = Ok tt
 atom_kind tables reach (Starts c text) = refuse_column (is_big (column_at tables reach c).1) (column_at tables reach c)
 atom_kind tables reach (Const t) = Ok tt

@@ -52,9 +52,13 @@ abbrev pub has_long_name : Statement → Bool
 has_long_name (CreateTable name columns) = is_long name || list_any (λ (c : List ℕ × RawKind). is_long c.0) columns
 has_long_name (CreateIndex unique name table columns) = is_long name || is_long table || list_any is_long columns
 has_long_name (Insert table values) = is_long table
-has_long_name (Update table sets only) = is_long table || list_any (λ (s : List ℕ × Value). is_long s.0) sets || has_long_names only
+has_long_name (Update table sets only) =
+    is_long table || list_any (λ (s : List ℕ × Value). is_long s.0) sets || has_long_names only
 has_long_name (Delete table only) = is_long table || has_long_names only
-has_long_name (Open cursor returned items only order goal) = is_long cursor || has_long_refs returned || list_any (λ (i : List ℕ × Option (List ℕ)). is_long i.0 || is_long_option i.1) items || has_long_names only || list_any is_long_ref order
+has_long_name (Open cursor returned items only order goal) =
+    is_long cursor || has_long_refs returned
+    || list_any (λ (i : List ℕ × Option (List ℕ)). is_long i.0 || is_long_option i.1) items || has_long_names only
+    || list_any is_long_ref order
 has_long_name (Fetch cursor) = is_long cursor
 has_long_name (Show cursor) = is_long cursor
 has_long_name (Close cursor) = is_long cursor

@@ -39,7 +39,8 @@ stands_among name_of seen name = list_any (λ x. bytes_eq name (name_of x)) seen
 
 abbrev pub first_repeat : {X : Type 0} → (X → List ℕ) → List X → List X → Option (List ℕ)
 first_repeat name_of seen [] = None
-first_repeat name_of seen (x ∷ xs) = cond (stands_among name_of seen (name_of x)) (Some (name_of x)) (first_repeat name_of (seen ++ x ∷ []) xs)
+first_repeat name_of seen (x ∷ xs) =
+    cond (stands_among name_of seen (name_of x)) (Some (name_of x)) (first_repeat name_of (seen ++ x ∷ []) xs)
 
 abbrev pub itself : List ℕ → List ℕ
 itself name = name
@@ -138,7 +139,8 @@ goal_of RawTotalTime = TotalTime
 abbrev pub item_table : Item → ℕ
 item_table i = i.table
 
-abbrev pub selected : Schema → Option (List RawCol) → List (List ℕ × Option (List ℕ)) → List (List RawAtom) → List RawCol → RawGoal → Result Select Refusal
+abbrev pub selected : Schema → Option (List RawCol) → List (List ℕ × Option (List ℕ)) → List (List RawAtom)
+    → List RawCol → RawGoal → Result Select Refusal
 selected schema returned items only order goal = do
   reach ← collected (item schema.tables) [] items
   shown ← returns schema.tables reach returned
@@ -148,7 +150,8 @@ selected schema returned items only order goal = do
   right ← kinds schema.tables reach where_true
   Ok (record { tables = map item_table reach; only = where_true; returns = shown; order = sorted; goal = goal_of goal })
 
-abbrev pub opened : Schema → List ℕ → Option (List RawCol) → List (List ℕ × Option (List ℕ)) → List (List RawAtom) → List RawCol → RawGoal → Result Resolved Refusal
+abbrev pub opened : Schema → List ℕ → Option (List RawCol) → List (List ℕ × Option (List ℕ)) → List (List RawAtom)
+    → List RawCol → RawGoal → Result Resolved Refusal
 opened schema cursor returned items only order goal = do
   select ← selected schema returned items only order goal
   Ok (Opens cursor select)

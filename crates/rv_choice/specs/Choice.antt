@@ -43,7 +43,9 @@ abbrev pub IsRight : Shown → ℕ → Candidate → Type 0
 IsRight shown snap c = IsEstimate (shown.entries c.index snap) c.range c.estimate
 
 abbrev pub no_candidate : Candidate
-no_candidate = record { index = 0; columns = []; range = record { low = None; high = None; starts = false }; estimate = record { value = 0; exact = false }; restricted = false; sufficient = false }
+no_candidate =
+    record { index = 0; columns = []; range = record { low = None; high = None; starts = false };
+      estimate = record { value = 0; exact = false }; restricted = false; sufficient = false }
 
 abbrev pub candidate_at : List Candidate → ℕ → Candidate
 candidate_at cs i = slice_index_or cs i no_candidate
@@ -63,8 +65,10 @@ pub record NonePlays (role : Role) (cs : List Candidate) (k : ℕ) : Type 0 wher
 pub record FirstLeast (role : Role) (cs : List Candidate) (k at : ℕ) : Type 0 where
   pub below : at < k
   pub is : plays role (candidate_at cs at) ≡ true
-  pub before : (i : ℕ) → i < at → plays role (candidate_at cs i) ≡ true → (candidate_at cs at).estimate.value < (candidate_at cs i).estimate.value
-  pub behind : (i : ℕ) → at < i → i < k → plays role (candidate_at cs i) ≡ true → (candidate_at cs at).estimate.value ≤ (candidate_at cs i).estimate.value
+  pub before : (i : ℕ) → i < at → plays role (candidate_at cs i) ≡ true
+      → (candidate_at cs at).estimate.value < (candidate_at cs i).estimate.value
+  pub behind : (i : ℕ) → at < i → i < k → plays role (candidate_at cs i) ≡ true
+      → (candidate_at cs at).estimate.value ≤ (candidate_at cs i).estimate.value
 
 abbrev pub LeastBelow : Role → List Candidate → ℕ → Option ℕ → Type 0
 LeastBelow role cs k None = NonePlays role cs k
@@ -83,8 +87,11 @@ order_index order cs = position (λ (c : Candidate). leads order c.columns) cs
 
 -- the choice where an order is asked: a scan of the order index delivers
 abbrev pub ordered_choice : List Candidate → ℕ → Option ℕ → Choice
-ordered_choice cs front (Some short) = record { strategy = Sorted; front = Some front; background = One (candidate_at cs short).index }
-ordered_choice cs front None = record { strategy = Sorted; front = Some front; background = if (candidate_at cs front).sufficient then Nothing else EachBut (candidate_at cs front).index }
+ordered_choice cs front (Some short) =
+    record { strategy = Sorted; front = Some front; background = One (candidate_at cs short).index }
+ordered_choice cs front None =
+    record { strategy = Sorted; front = Some front; background = if (candidate_at cs front).sufficient then Nothing
+      else EachBut (candidate_at cs front).index }
 
 abbrev pub restricted_choice : Goal2 → Option ℕ → Choice
 restricted_choice Soon (Some at) = record { strategy = FastFirst; front = None; background = Each }
@@ -93,8 +100,10 @@ restricted_choice goal None = record { strategy = Table; front = None; backgroun
 
 -- the choice where none is asked: the short index, else the sufficient one, else the restricted ones, else the table
 abbrev pub free_choice : List Candidate → Goal2 → Option ℕ → Option ℕ → Option ℕ → Choice
-free_choice cs goal (Some short) sufficient restricted = record { strategy = BackgroundOnly; front = None; background = One (candidate_at cs short).index }
-free_choice cs goal None (Some front) restricted = record { strategy = IndexOnly; front = Some front; background = EachBut (candidate_at cs front).index }
+free_choice cs goal (Some short) sufficient restricted =
+    record { strategy = BackgroundOnly; front = None; background = One (candidate_at cs short).index }
+free_choice cs goal None (Some front) restricted =
+    record { strategy = IndexOnly; front = Some front; background = EachBut (candidate_at cs front).index }
 free_choice cs goal None None restricted = restricted_choice goal restricted
 
 abbrev pub choice_of : List Candidate → Goal2 → Option ℕ → Option ℕ → Option ℕ → Option ℕ → Choice
@@ -127,7 +136,8 @@ abbrev pub plans_of : List (List Atom) → Background → List Candidate → Lis
 plans_of only background cs = map (plan_of only) (filter (is_scanned background) cs)
 
 -- the scans of the background, in ascending order of estimates; equal ones in order of creation
-pub record AreScans (only : List (List Atom)) (cs : List Candidate) (background : Background) (scans : List ScanPlan) : Type 0 where
+pub record AreScans (only : List (List Atom)) (cs : List Candidate) (background : Background)
+    (scans : List ScanPlan) : Type 0 where
   pub these : IsPermutation (plans_of only background cs) scans
   pub ascend : IsNonDecreasingBy (λ (p : ScanPlan). p.estimate) scans
   pub ties : IsStableByKey (λ (p : ScanPlan). p.estimate) nat_cmp (plans_of only background cs) scans

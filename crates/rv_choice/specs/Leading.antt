@@ -16,7 +16,9 @@ walk_begun query c = record { index = c.index; snap = query.snap; range = c.rang
 
 -- the foreground's scan of an index: by the index alone where it has every column needed
 abbrev pub front_begun : Query → Candidate → Front
-front_begun query c = record { alone = c.sufficient; columns = c.columns; fetching = record { table = query.table; walk = walk_begun query c }; telling = walk_begun query c }
+front_begun query c =
+    record { alone = c.sufficient; columns = c.columns; telling = walk_begun query c;
+      fetching = record { table = query.table; walk = walk_begun query c } }
 
 -- the index of the foreground's scan
 abbrev pub front_candidate : List Candidate → Option ℕ → Candidate
@@ -25,4 +27,6 @@ front_candidate cs (Some at) = candidate_at cs at
 
 -- the guarantee at opening
 abbrev pub guarantee_of : Query → Shown → List Candidate → Choice → ℕ
-guarantee_of query shown cs choice = first_guarantee choice.strategy (shown.pages query.table query.snap) (front_candidate cs choice.front).estimate.value
+guarantee_of query shown cs choice =
+    first_guarantee choice.strategy (shown.pages query.table query.snap)
+      (front_candidate cs choice.front).estimate.value

@@ -34,11 +34,13 @@ abbrev pub AreMembers : Query → Shown → List (List (List Atom)) → List Sca
 AreMembers query shown [] [] = Unit {0}
 AreMembers query shown [] (plan ∷ plans) = ⊥
 AreMembers query shown (branch ∷ branches) [] = ⊥
-AreMembers query shown (branch ∷ branches) (plan ∷ plans) = IsMember query shown branch plan × AreMembers query shown branches plans
+AreMembers query shown (branch ∷ branches) (plan ∷ plans) =
+    IsMember query shown branch plan × AreMembers query shown branches plans
 
 -- A GROUP SERVES where it has two branches or more, each of which bounds an index
 abbrev pub serves : Query → Shown → List Atom → Bool
-serves query shown group = nat_le 2 (length (branches_of group)) && list_all (is_bounded query shown) (branches_of group)
+serves query shown group =
+    nat_le 2 (length (branches_of group)) && list_all (is_bounded query shown) (branches_of group)
 
 abbrev pub some_serves : Query → Shown → Bool
 some_serves query shown = list_any (serves query shown) query.only
@@ -56,7 +58,8 @@ pub record AreUnited (query : Query) (shown : Shown) (plans : List ScanPlan) : T
   pub members : AreMembers query shown (branches_of (group_at query.only group)) plans
 
 -- members were put behind others
-pub record PutsMembers (query : Query) (shown : Shown) (branches : List (List (List Atom))) (old new : List ScanPlan) : Type 0 where
+pub record PutsMembers (query : Query) (shown : Shown) (branches : List (List (List Atom)))
+    (old new : List ScanPlan) : Type 0 where
   pub added : List ScanPlan
   pub are : AreMembers query shown branches added
   pub put : new ≡ old ++ added

@@ -79,7 +79,8 @@ leads_to strategy p (Drop i) to =
     is_scanning p.scan i
     && (leads strategy p.control (Ruled AbandonScan false (is_some p.listed)) to
     || leads strategy p.control (Ruled AbandonBackground false (is_some p.listed)) to)
-leads_to strategy p Stop to = is_some p.scan && leads strategy p.control (Ruled AbandonForeground false (is_some p.listed)) to
+leads_to strategy p Stop to =
+    is_some p.scan && leads strategy p.control (Ruled AbandonForeground false (is_some p.listed)) to
 leads_to strategy p FullEvent to = leads strategy p.control Full to
 leads_to strategy p e to = false
 
@@ -116,7 +117,8 @@ listed_by own before = before
 
 -- where the reading stands after an event
 abbrev pub passed : Place → Event → Place
-passed p (At to) = record { control = to; scan = if scans to then p.scan else None; listed = listed_by p.own p.listed; own = None }
+passed p (At to) =
+    record { control = to; scan = if scans to then p.scan else None; listed = listed_by p.own p.listed; own = None }
 passed p (Scan i) = record { control = p.control; scan = Some i; listed = listed_by p.own p.listed; own = None }
 passed p e = record { control = p.control; scan = p.scan; listed = p.listed; own = Some e }
 
@@ -132,7 +134,8 @@ place_at control scan = record { control = control; scan = scan; listed = None; 
 -- after the first control
 abbrev pub reads_at : Strategy → Control → List Event → Bool
 reads_at strategy control (Scan i ∷ es) =
-    same_control control (first_control strategy (i ∷ [])) && scans control && reads strategy (place_at control (Some i)) es
+    same_control control (first_control strategy (i ∷ [])) && scans control
+      && reads strategy (place_at control (Some i)) es
 reads_at strategy control es =
     same_control control (first_control strategy []) && not (scans control) && reads strategy (place_at control None) es
 

@@ -40,8 +40,8 @@ AgreesIn need x y = (c : ℕ) → stands_among need c ≡ true → column_of x.v
 abbrev pub IsWide : List ℕ → Record → Record → Type 0
 IsWide need x y = (c : ℕ) → stands_among need c ≡ true → c < length y.values → c < length x.values
 
--- one record is taken out, the others stay in order; the answer has its row number, agrees with it in the columns needed
--- and has a value in each of them that it has
+-- one record is taken out, the others stay in order; the answer has its row number, agrees with it in the columns
+-- needed and has a value in each of them that it has
 pub record TakesOut (need : List ℕ) (r : Record) (old new : List Record) : Type 0 where
   pub front : List Record
   pub taken : Record
@@ -58,7 +58,8 @@ order_of order r = map (column_of r.values) order
 
 -- no record is less in the order columns
 abbrev pub IsLeast : List ℕ → Record → List Record → Type 0
-IsLeast order r records = list_all (λ (x : Record). not (is_lt (values_cmp (order_of order x) (order_of order r)))) records ≡ true
+IsLeast order r records =
+    list_all (λ (x : Record). not (is_lt (values_cmp (order_of order x) (order_of order r)))) records ≡ true
 
 -- what a foreground step does to the rest
 abbrev pub Steps : List ℕ → List ℕ → Scanned → List Record → List Record → Type 0
@@ -68,7 +69,8 @@ Steps need order End old new = (old ≡ []) × (new ≡ [])
 
 -- The same said of each row number, by the tests before and after.
 
-pub record Marks (need : List ℕ) (only : List (List Atom)) (rows : List Record) (r : Record) (old new : ℕ → Bool) : Type 0 where
+pub record Marks (need : List ℕ) (only : List (List Atom)) (rows : List Record) (r : Record)
+    (old new : ℕ → Bool) : Type 0 where
   pub taken : Record
   pub there : row_at rows r.row.0 ≡ Some taken
   pub qualifies : qualifies only taken.values ≡ true

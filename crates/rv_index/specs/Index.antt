@@ -69,7 +69,8 @@ pub record IsInserted (commit : ℕ) (e : IndexEntry) (old new : Nodes) : Type 0
   pub sound : IsSound new commit
   pub tree : tree_of new commit ≡ inserted comes_before e (tree_of old commit)
   pub entries : entries_of new commit ≡ sorted_in e (entries_of old commit)
-  pub cuts : (q : IndexEntry → Bool) → q e ≡ true → list_all q (cuts_of old commit) ≡ true → list_all q (entries_of old commit) ≡ true → list_all q (cuts_of new commit) ≡ true
+  pub cuts : (q : IndexEntry → Bool) → q e ≡ true → list_all q (cuts_of old commit) ≡ true
+      → list_all q (entries_of old commit) ≡ true → list_all q (cuts_of new commit) ≡ true
 
 -- an entry less at a commit: every node is left, and every cut
 pub record IsDeleted (commit : ℕ) (e : IndexEntry) (old new : Nodes) : Type 0 where

@@ -51,23 +51,28 @@ leaf_without e node = record { level = 0; entries = filter (differs comes_before
 
 -- a node stored in one or two halves, the second under a new id
 abbrev pub IsHalved : ℕ → ℕ → ℕ → List IndexEntry → List ℕ → Option (IndexEntry × ℕ) → (ℕ → Parts) → Type 0
-IsHalved len level id es cs None new = (length es ≤ 32) × (new id ≡ record { level = level; entries = es; children = cs })
+IsHalved len level id es cs None new =
+    (length es ≤ 32) × (new id ≡ record { level = level; entries = es; children = cs })
 IsHalved len level id es cs (Some r) new =
     (32 < length es) × (r.1 ≡ len) × (new id ≡ record { level = level; entries = take 16 es; children = take 16 cs })
-    × (new len ≡ record { level = level; entries = drop 16 es; children = drop 16 cs }) × (drop 16 es ≡ r.0 ∷ drop 17 es)
+    × (new len ≡ record { level = level; entries = drop 16 es; children = drop 16 cs })
+    × (drop 16 es ≡ r.0 ∷ drop 17 es)
 
 -- how many ids are taken
 abbrev pub len_after : ℕ → Option (IndexEntry × ℕ) → ℕ
 len_after len None = len
 len_after len (Some r) = len + 1
 
-pub record IsStoredIn (len len' level id : ℕ) (es : List IndexEntry) (cs : List ℕ) (r : Option (IndexEntry × ℕ)) (old new : ℕ → Parts) : Type 0 where
+pub record IsStoredIn (len len' level id : ℕ) (es : List IndexEntry) (cs : List ℕ) (r : Option (IndexEntry × ℕ))
+    (old new : ℕ → Parts) : Type 0 where
   pub halves : IsHalved len level id es cs r new
   pub others : (n : ℕ) → (n ≡ id → ⊥) → (n ≡ len → ⊥) → new n ≡ old n
   pub count : len' ≡ len_after len r
 
 -- the tree below a node, and none or one further tree at its right, after a change of it; ids of other nodes stay
-pub record IsGrown (len len' level id : ℕ) (f : Tree IndexEntry level → Tree IndexEntry level × List (IndexEntry × Tree IndexEntry level)) (r : Option (IndexEntry × ℕ)) (old new : ℕ → Parts) : Type 0 where
+pub record IsGrown (len len' level id : ℕ)
+    (f : Tree IndexEntry level → Tree IndexEntry level × List (IndexEntry × Tree IndexEntry level))
+    (r : Option (IndexEntry × ℕ)) (old new : ℕ → Parts) : Type 0 where
   pub tree : (tree_at new level id, rights (tree_at new level) r) ≡ f (tree_at old level id)
   pub stored : IsStored new level id
   pub right : RightIs (IsStored new level) r
@@ -85,7 +90,8 @@ pub record IsRaised (len len' level : ℕ) (cut : IndexEntry) (right : ℕ) (old
   pub count : len' ≡ len + 1
 
 -- a deletion leaves no further tree
-abbrev pub shrunken : (level : ℕ) → IndexEntry → Tree IndexEntry level → Tree IndexEntry level × List (IndexEntry × Tree IndexEntry level)
+abbrev pub shrunken : (level : ℕ) → IndexEntry → Tree IndexEntry level → Tree IndexEntry level
+    × List (IndexEntry × Tree IndexEntry level)
 shrunken level e t = (shrink level comes_before e t, [])
 
 -- each version before a commit is as it was

@@ -105,8 +105,8 @@ pub record JointFits (j : Joint) (shown : Shown) : Type 0 where
   pub fresh : Disjoint j.building (to_sieve j shown)
   pub drawn : IfSome j.held (IsNextLeaf j shown)
 
--- A planned scan can be made at a snapshot: the index is there, its keys reach the range's bounds and have one value for
--- each column of the part.
+-- A planned scan can be made at a snapshot: the index is there, its keys reach the range's bounds and have one value
+-- for each column of the part.
 pub record CanMake (plan : ScanPlan) (shown : Shown) (snap : ℕ) : Type 0 where
   pub can : CanScan shown plan.index snap
   pub suits : Suits shown plan.index snap plan.range

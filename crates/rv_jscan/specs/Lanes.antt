@@ -16,8 +16,8 @@ use Rattle.rv_jscan.specs.Pieces.{Pieced, kept_by}
 use Rattle.rv_jscan.specs.Joint.{Joint}
 use Rattle.rv_jscan.specs.Steps.{HasEntries, held_next}
 
--- `place` is the cut at which the awaited leaf begins, None for the first leaf of the scan's range, and `held` that leaf
--- with the cut that follows, once it was taken. `building` has the rows kept so far, in the order of the entries.
+-- `place` is the cut at which the awaited leaf begins, None for the first leaf of the scan's range, and `held` that
+-- leaf with the cut that follows, once it was taken. `building` has the rows kept so far, in the order of the entries.
 pub record Laned : Type 0 where
   pub place : Option IndexEntry
   pub held : Option Chunk

@@ -87,18 +87,25 @@ abbrev pub kept_of : Joint → List IndexEntry → List ℕ
 kept_of j entries = kept_by (may j.list) (present j).part entries
 
 abbrev pub piece_counted : ScanCounts → ℕ → ℕ → Bool → ScanCounts
-piece_counted c entries kept listed = record { scanned = raised c.scanned entries; kept = raised c.kept kept; leaves = c.leaves; listed = listed }
+piece_counted c entries kept listed =
+    record { scanned = raised c.scanned entries; kept = raised c.kept kept; leaves = c.leaves; listed = listed }
 
 abbrev pub counts_after : Joint → List IndexEntry → Bool → List ScanCounts
-counts_after j entries listed = slice_set j.counts j.ended (piece_counted (counts_at j.counts j.ended) (length entries) (length (kept_of j entries)) listed)
+counts_after j entries listed =
+    slice_set j.counts j.ended (piece_counted (counts_at j.counts j.ended) (length entries)
+      (length (kept_of j entries)) listed)
 
 -- after an accepted piece that is not the last of its scan
 abbrev pub going : Joint → List IndexEntry → IndexEntry → Joint
-going j entries cut = record j { counts = counts_after j entries false; number = one_more j.number; held = None; place = Some cut; building = j.building ++ kept_of j entries }
+going j entries cut =
+    record j { counts = counts_after j entries false; number = one_more j.number; held = None; place = Some cut;
+      building = j.building ++ kept_of j entries }
 
 -- after the last one, with these keys as the complete list
 abbrev pub completed : Joint → List IndexEntry → List ℕ → Joint
-completed j entries keys = record j { counts = counts_after j entries true; ended = j.ended + 1; number = one_more j.number; held = None; place = None; building = []; list = Some keys }
+completed j entries keys =
+    record j { counts = counts_after j entries true; ended = j.ended + 1; number = one_more j.number; held = None;
+      place = None; building = []; list = Some keys }
 
 -- after a scan was abandoned
 abbrev pub abandoned : Joint → Joint
@@ -107,7 +114,9 @@ abandoned j = record j { ended = j.ended + 1; held = None; place = None; buildin
 -- a piece is accepted: its scan goes on at the next cut, or completes with the rows kept in ascending order
 abbrev pub Accepts : Joint → Joint → List IndexEntry → Option IndexEntry → Type 0
 Accepts old new entries (Some cut) = new ≡ going old entries cut
-Accepts old new entries None = (keys : List ℕ) × IsPermutation (old.building ++ kept_of old entries) keys × IsStrictlyIncreasing keys × (new ≡ completed old entries keys)
+Accepts old new entries None =
+    (keys : List ℕ) × IsPermutation (old.building ++ kept_of old entries) keys × IsStrictlyIncreasing keys
+    × (new ≡ completed old entries keys)
 
 -- the cut that follows the leaf held
 abbrev pub held_next : Option Chunk → Option IndexEntry

@@ -12,7 +12,8 @@ pub record Placed (few many : List ℕ) : Type 0 where
 
 -- There is room for the places made. A filter that was made has the bits of all keys, and it is there once the keys
 -- and the places made are more than 1,024.
-pub record Whole (few many : List ℕ) (capacity : ℕ) (filter : Option (List ℕ)) (spare : ℕ) (finished : Bool) : Type 0 where
+pub record Whole (few many : List ℕ) (capacity : ℕ) (filter : Option (List ℕ)) (spare : ℕ)
+    (finished : Bool) : Type 0 where
   pub placed : Placed few many
   pub once : Once (few ++ many)
   pub room : 20 < length (few ++ many) + spare → length (few ++ many) + spare ≤ capacity
@@ -24,8 +25,8 @@ pub record Whole (few many : List ℕ) (capacity : ℕ) (filter : Option (List �
 pub record AddsBits (old new keys : List ℕ) : Type 0 where
   pub bits : (b : ℕ) → is_set new b ≡ (is_set old b || has_bit b keys)
 
--- The keys stand as they stood, or those of the vector were few and stand in the fixed buffer now. Few of the vector's are
--- left there.
+-- The keys stand as they stood, or those of the vector were few and stand in the fixed buffer now. Few of the vector's
+-- are left there.
 pub record Moves (few many : List ℕ) (capacity : ℕ) (few' many' : List ℕ) (capacity' : ℕ) : Type 0 where
   pub keys : few' ++ many' ≡ few ++ many
   pub placed : Placed few' many'

@@ -1,8 +1,8 @@
 -- The grammar, production by production. A production stands above its definitions.
 --
--- Where a part has one spelling, a function gives it: the tokens of the part, followed by the tokens `rest`; a fact `Is..`
--- says which values are spelled so. Where the grammar leaves a choice, a relation says that `tokens` spell the part and are
--- followed by `rest`. Keywords and symbols in capitals stand for their tokens.
+-- Where a part has one spelling, a function gives it: the tokens of the part, followed by the tokens `rest`; a fact
+-- `Is..` says which values are spelled so. Where the grammar leaves a choice, a relation says that `tokens` spell the
+-- part and are followed by `rest`. Keywords and symbols in capitals stand for their tokens.
 use Rattle.std.specs.Prelude.{◌≡◌, ℕ, List, [], ◌∷◌, Option, Some, None, Bool, true, false, length, ◌<◌, ◌⊎◌}
 use Rattle.rv_value.specs.declared.value.Value.{Value}
 use Rattle.rv_value.specs.declared.value.Value.TheVariants as values
@@ -147,7 +147,8 @@ IsGroup atoms tokens rest = IsBare atoms tokens rest ⊎ (AreSome IsAtom atoms �
 abbrev pub AreGroups : List (List RawAtom) → List Token → List Token → Type 0
 AreGroups [] tokens rest = ⊥
 AreGroups (g ∷ []) tokens rest = IsGroup g tokens rest
-AreGroups (g ∷ h ∷ gs) tokens rest = (after : List Token) × IsGroup g tokens (AND ∷ after) × AreGroups (h ∷ gs) after rest
+AreGroups (g ∷ h ∷ gs) tokens rest =
+    (after : List Token) × IsGroup g tokens (AND ∷ after) × AreGroups (h ∷ gs) after rest
 
 -- one group of two or more atoms, without parentheses: atom OR atom {OR atom}
 abbrev pub IsLone : List (List RawAtom) → List Token → List Token → Type 0
@@ -223,8 +224,10 @@ abbrev pub IsGoal : RawGoal → List Token → List Token → Type 0
 IsGoal goals.FastFirst tokens rest = tokens ≡ OPTIMIZE ∷ FOR ∷ FAST ∷ FIRST ∷ rest
 IsGoal goals.TotalTime tokens rest = (tokens ≡ rest) ⊎ (tokens ≡ OPTIMIZE ∷ FOR ∷ TOTAL ∷ TIME ∷ rest)
 
--- what follows the items of a select: [WHERE cond] [ORDER BY colref {, colref}] [OPTIMIZE FOR FAST FIRST | OPTIMIZE FOR TOTAL TIME]
-pub record IsSelectEnd (only : List (List RawAtom)) (by : List RawCol) (goal : RawGoal) (tokens rest : List Token) : Type 0 where
+-- what follows the items of a select: [WHERE cond] [ORDER BY colref {, colref}] [OPTIMIZE FOR FAST FIRST | OPTIMIZE
+-- FOR TOTAL TIME]
+pub record IsSelectEnd (only : List (List RawAtom)) (by : List RawCol) (goal : RawGoal)
+    (tokens rest : List Token) : Type 0 where
   pub after_where : List Token
   pub after_order : List Token
   pub where_is : IsWhere only tokens after_where
@@ -246,7 +249,8 @@ abbrev pub IsBody : Statement → List Token → List Token → Type 0
 IsBody (CreateTable table columns) tokens rest = IsName table × AreSome IsColumnDef columns
     × (tokens ≡ CREATE ∷ TABLE ∷ Word table ∷ LPAREN ∷ listed COMMA column_def columns (RPAREN ∷ rest))
 IsBody (CreateIndex unique index table columns) tokens rest = IsName index × IsName table × AreSome IsName columns
-    × (tokens ≡ CREATE ∷ unique_word unique (INDEX ∷ Word index ∷ ON ∷ Word table ∷ LPAREN ∷ listed COMMA name columns (RPAREN ∷ rest)))
+    × (tokens ≡ CREATE ∷ unique_word unique (INDEX ∷ Word index ∷ ON ∷ Word table ∷ LPAREN
+      ∷ listed COMMA name columns (RPAREN ∷ rest)))
 IsBody (Begin false) tokens rest = tokens ≡ BEGIN ∷ rest
 IsBody (Begin true) tokens rest = tokens ≡ BEGIN ∷ READ ∷ ONLY ∷ rest
 IsBody (Insert table values) tokens rest = IsName table × AreSome AnyLiteral values
@@ -257,8 +261,10 @@ IsBody (Delete table only) tokens rest = (after : List Token) × IsName table
     × (tokens ≡ DELETE ∷ FROM ∷ Word table ∷ after) × IsWhere only after rest
 IsBody Commit tokens rest = tokens ≡ COMMIT ∷ rest
 IsBody Rollback tokens rest = tokens ≡ ROLLBACK ∷ rest
-IsBody (Open cursor columns items only by goal) tokens rest = (after : List Token) × IsName cursor × AreReturned columns × AreSome IsItem items
-    × (tokens ≡ OPEN ∷ Word cursor ∷ SELECT ∷ returned columns (FROM ∷ listed COMMA item items after)) × IsSelectEnd only by goal after rest
+IsBody (Open cursor columns items only by goal) tokens rest =
+    (after : List Token) × IsName cursor × AreReturned columns × AreSome IsItem items
+    × (tokens ≡ OPEN ∷ Word cursor ∷ SELECT ∷ returned columns (FROM ∷ listed COMMA item items after))
+    × IsSelectEnd only by goal after rest
 IsBody (Fetch cursor) tokens rest = IsName cursor × (tokens ≡ FETCH ∷ Word cursor ∷ rest)
 IsBody (Show cursor) tokens rest = IsName cursor × (tokens ≡ SHOW ∷ Word cursor ∷ rest)
 IsBody (Close cursor) tokens rest = IsName cursor × (tokens ≡ CLOSE ∷ Word cursor ∷ rest)

@@ -1,4 +1,5 @@
--- What the lexer reads: the token at the front of some bytes, and the tokens of a text. The laws of proofs/ say that this is what Tokens defines.
+-- What the lexer reads: the token at the front of some bytes, and the tokens of a text. The laws of proofs/ say that
+-- this is what Tokens defines.
 use Rattle.std.specs.Prelude.{◌≡◌, ◌≤◌, ℕ, pos, neg_ℤ, zero, suc, ◌+◌, ◌^◌, List, [], ◌∷◌, Option, Some, None, Bool, true, false, nat_eq, nat_lt, nat_le, if◌then◌else◌, length, take, drop, map, Result, Ok, Err}
 use Rattle.std.specs.Char.{is_ascii_alphabetic, is_ascii_digit, to_ascii_uppercase}
 use Rattle.rv_lang.specs.declared.token.Token.{Token}
@@ -30,7 +31,8 @@ or_here None rest = Some ([], rest)
 abbrev pub text_body : List ℕ → Option (List ℕ × List ℕ)
 text_body [] = None
 text_body (b ∷ []) = if nat_eq b 39 then Some ([], []) else None
-text_body (b ∷ c ∷ bs) = if nat_eq b 39 then (if nat_eq c 39 then or_here (text_body bs) (c ∷ bs) else Some ([], c ∷ bs))
+text_body (b ∷ c ∷ bs) =
+    if nat_eq b 39 then (if nat_eq c 39 then or_here (text_body bs) (c ∷ bs) else Some ([], c ∷ bs))
     else (if is_text_byte b then push_front b (text_body (c ∷ bs)) else None)
 
 abbrev pub begins_word : List ℕ → Bool
@@ -39,14 +41,20 @@ begins_word (b ∷ bs) = is_word_byte b
 
 -- digits and what follows them, as a number
 abbrev pub number_of : List ℕ → List ℕ → Option (Token × List ℕ)
-number_of digits rest = if begins_word rest then None else (if nat_lt (value_after 0 digits) (2 ^ 63) then Some (Int (pos (value_after 0 digits)), rest) else None)
+number_of digits rest =
+    if begins_word rest then None
+    else (if nat_lt (value_after 0 digits) (2 ^ 63) then Some (Int (pos (value_after 0 digits)), rest) else None)
 
 abbrev pub negative_of : List ℕ → List ℕ → Option (Token × List ℕ)
-negative_of digits rest = if begins_word rest then None else (if nat_le (value_after 0 digits) (2 ^ 63) then Some (Int (neg_ℤ (pos (value_after 0 digits))), rest) else None)
+negative_of digits rest =
+    if begins_word rest then None
+    else (if nat_le (value_after 0 digits) (2 ^ 63) then Some (Int (neg_ℤ (pos (value_after 0 digits))), rest)
+      else None)
 
 abbrev pub negative_at : List ℕ → Option (Token × List ℕ)
 negative_at [] = None
-negative_at (b ∷ bs) = if is_ascii_digit b then negative_of (b ∷ run is_ascii_digit bs) (past is_ascii_digit bs) else None
+negative_at (b ∷ bs) =
+    if is_ascii_digit b then negative_of (b ∷ run is_ascii_digit bs) (past is_ascii_digit bs) else None
 
 abbrev pub text_at : List ℕ → Option (Token × List ℕ)
 text_at bs = elim (text_body bs) [ Some x ↦ Some (Str x.0, x.1) | None ↦ None ]
@@ -107,11 +115,13 @@ tokens_of text = tokens_within (length text) (past is_blank text)
 
 -- ---- how the code reads a text: where it ends, and then its characters
 
--- the place of the last quote of the longest text, a byte at a time: the best place so far, the place now, and whether a quote was just seen
+-- the place of the last quote of the longest text, a byte at a time: the best place so far, the place now, and whether
+-- a quote was just seen
 abbrev pub scanned : Option ℕ → ℕ → Bool → List ℕ → Option ℕ
 scanned best at quoted [] = if quoted then Some at else best
 scanned best at quoted (b ∷ bs) = if quoted then (if nat_eq b 39 then scanned (Some at) (at + 2) false bs else Some at)
-    else (if nat_eq b 39 then scanned best at true bs else (if is_text_byte b then scanned best (at + 1) false bs else best))
+    else (if nat_eq b 39 then scanned best at true bs
+      else (if is_text_byte b then scanned best (at + 1) false bs else best))
 
 -- one quote of two; the flag tells that the first was just kept
 abbrev pub kept : Bool → List ℕ → List ℕ

@@ -101,8 +101,11 @@ Cuts bytes (t ∷ ts) rest =
 
 -- there are bytes, and no token begins at the first of them
 abbrev pub NoToken : List ℕ → Type 0
-NoToken bytes = (0 < length bytes) × ((front : List ℕ) (t : Token) (after : List ℕ) → bytes ≡ front ++ after → IsToken front t after → ⊥)
+NoToken bytes =
+    (0 < length bytes) × ((front : List ℕ) (t : Token) (after : List ℕ) → bytes ≡ front ++ after
+      → IsToken front t after → ⊥)
 
 -- the text is no sequence of tokens, and this is the first offset at which none begins
 abbrev pub IsCutTo : List ℕ → ℕ → Type 0
-IsCutTo text offset = (ts : List Token) × (rest : List ℕ) × Cuts text ts rest × NoToken rest × (offset + length rest ≡ length text)
+IsCutTo text offset =
+    (ts : List Token) × (rest : List ℕ) × Cuts text ts rest × NoToken rest × (offset + length rest ≡ length text)

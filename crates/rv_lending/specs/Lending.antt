@@ -20,15 +20,19 @@ shared core = record { history = core.history; phase = core.phase }
 
 -- A TAKE of the next awaited piece after that of the cursor of a number: it is that of `take_piece` of the core, with a
 -- counter of its own. Nothing but the plan of its cursor is changed.
-pub record TakesPiece {S : Type 0} (shows : StoreShown) (after : ℕ) (old new : Shown S) (result : Result Taken NoMemory) : Type 0 where
+pub record TakesPiece {S : Type 0} (shows : StoreShown) (after : ℕ) (old new : Shown S)
+    (result : Result Taken NoMemory) : Type 0 where
   pub read : Counts
-  pub taken : IfOk result (λ (taken : Taken). TakesNext shows (next_waiting after old.opens) no_counts read old.opens new.opens taken)
+  pub taken : IfOk result (λ (taken : Taken). TakesNext shows (next_waiting after old.opens) no_counts read old.opens
+        new.opens taken)
   pub tried : OnErr result (TriesNext shows (next_waiting after old.opens) no_counts read old.opens new.opens)
   pub same : new ≡ record old { opens = new.opens }
 
 -- A GIVE, under a judge that stood and now stands there: it is that of `give_piece` of the core.
-pub record GivesPiece {S : Type 0} (would : ℕ → Facts → Ruling) (stood stands : ℕ) (piece : Pieced) (old new : Shown S) (result : Result Given NoMemory) : Type 0 where
-  pub given : IfOk result (λ (given : Given). GivesTo (numbered piece.id.cursor old.opens) would stood stands old.opens piece given new.opens)
+pub record GivesPiece {S : Type 0} (would : ℕ → Facts → Ruling) (stood stands : ℕ) (piece : Pieced) (old new : Shown S)
+    (result : Result Given NoMemory) : Type 0 where
+  pub given : IfOk result (λ (given : Given). GivesTo (numbered piece.id.cursor old.opens) would stood stands old.opens
+        piece given new.opens)
   pub err : OnErr result ((new.opens ≡ old.opens) × (stands ≡ stood))
   pub same : new ≡ record old { opens = new.opens }
 

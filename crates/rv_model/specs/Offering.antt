@@ -1,5 +1,5 @@
--- What a select offers over several FROM items: one offer for each choice of one row per item whose restriction is True.
--- Equal offers stand as often as there are choices.
+-- What a select offers over several FROM items: one offer for each choice of one row per item whose restriction is
+-- True. Equal offers stand as often as there are choices.
 use Rattle.std.specs.Prelude.{ℕ, List, [], ◌∷◌, ◌++◌, filter, map, Bool}
 use Rattle.std.specs.List.{flat_map}
 use Rattle.rv_value.specs.declared.value.Value.{Value}

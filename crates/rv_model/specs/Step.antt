@@ -57,8 +57,8 @@ created s def = do
 abbrev pub rows_differ : State → IndexDef → Result (Unit {0}) Refusal
 rows_differ s def = refuse_at (first_equal def (rows_at s.rows def.table)) (λ (r : Record). Duplicate r.row View)
 
--- CREATE INDEX: not while a transaction is active, at most 8 indexes over a table, and a unique one not where two rows are
--- equal in it.
+-- CREATE INDEX: not while a transaction is active, at most 8 indexes over a table, and a unique one not where two rows
+-- are equal in it.
 abbrev pub indexed : State → IndexDef → Outcome
 indexed s def = do
   idle ← refuse_at (transactions.lowest s.transactions.active) Busy
@@ -74,12 +74,15 @@ began s session read_only = do
 
 -- the other sessions' transactions, with their numbers and changes
 abbrev pub others : List Transaction → ℕ → List (ℕ × List Change)
-others active session = map (λ (t : Transaction). (t.number, t.changes)) (filter (λ (t : Transaction). not (t.session == session)) active)
+others active session =
+    map (λ (t : Transaction). (t.number, t.changes)) (filter (λ (t : Transaction). not (t.session == session)) active)
 
 -- where rivals of rows of the transaction in a place are looked for, with further changes of it
 abbrev pub neighbours_of : State → ℕ → ℕ → ℕ → List Change → List Neighbour
-neighbours_of s session own table new = neighbours table (with_changes new (transaction_at s.transactions.active own).changes)
-    (base_rows s own table) (rows_at s.rows table) (touched_by s.transactions.touched table) (others s.transactions.active session)
+neighbours_of s session own table new =
+    neighbours table (with_changes new (transaction_at s.transactions.active own).changes)
+    (base_rows s own table) (rows_at s.rows table) (touched_by s.transactions.touched table)
+        (others s.transactions.active session)
 
 -- no row that further changes of it write has a rival
 abbrev pub no_rivals : State → ℕ → ℕ → ℕ → List Change → Result (Unit {0}) Refusal
@@ -97,7 +100,9 @@ new_change table row values = record { table = table; row = row; values = Some v
 
 -- the row that the session's transaction adds has no rival
 abbrev pub row_alone : State → ℕ → ℕ → List Value → RowNo → Result (Unit {0}) Refusal
-row_alone s session table values row = no_rivals_of s session (transaction_of s.transactions.active session) table (λ own. new_change table row values ∷ [])
+row_alone s session table values row =
+    no_rivals_of s session (transaction_of s.transactions.active session) table
+      (λ own. new_change table row values ∷ [])
 
 -- INSERT: a row that has no rival
 abbrev pub inserted : State → ℕ → ℕ → List Value → Outcome
@@ -113,7 +118,8 @@ rows_seen s (Some own) table = base_rows s own table
 
 -- THE VIEW of the transaction in a place: the rows at its base with its own changes
 abbrev pub view_rows : State → ℕ → ℕ → List Record
-view_rows s own table = transactions.seen (transaction_at s.transactions.active own) table (λ base. base_rows s own table)
+view_rows s own table =
+    transactions.seen (transaction_at s.transactions.active own) table (λ base. base_rows s own table)
 
 abbrev pub rows_viewed : State → Option ℕ → ℕ → List Record
 rows_viewed s None table = []
@@ -121,22 +127,27 @@ rows_viewed s (Some own) table = view_rows s own table
 
 -- the changes of the rows that the transaction in a place meets
 abbrev pub changes_met : State → ℕ → Option (List (ℕ × Value)) → List (List Atom) → ℕ → List Change
-changes_met s table sets only own = map (change_of table sets) (met (transaction_at s.transactions.active own) table only (λ base. base_rows s own table))
+changes_met s table sets only own =
+    map (change_of table sets) (met (transaction_at s.transactions.active own) table only
+      (λ base. base_rows s own table))
 
 -- the rows that the session's transaction changes have no rivals then
 abbrev pub rows_alone : State → ℕ → ℕ → Option (List (ℕ × Value)) → List (List Atom) → Result (Unit {0}) Refusal
-rows_alone s session table sets only = no_rivals_of s session (transaction_of s.transactions.active session) table (changes_met s table sets only)
+rows_alone s session table sets only =
+    no_rivals_of s session (transaction_of s.transactions.active session) table (changes_met s table sets only)
 
 -- UPDATE, which sets columns, and DELETE, which sets none: no row is written that has a rival
 abbrev pub changed : State → ℕ → ℕ → Option (List (ℕ × Value)) → List (List Atom) → Outcome
 changed s session table sets only = do
-  done ← transactions.changed s.transactions session table only sets (λ base. rows_seen s (transaction_of s.transactions.active session) table)
+  done ← transactions.changed s.transactions session table only sets
+      (λ base. rows_seen s (transaction_of s.transactions.active session) table)
   alone ← rows_alone s session table sets only
   Ok (Touched done.0, record s { transactions = done.1 })
 
 -- each table's rows with the changes of them applied
 abbrev pub tables_changed : List Change → List (List Record) → List (List Record)
-tables_changed changes rows = map (λ table. rows_with_changes table changes (rows_at rows table)) (range_with_len 0 (length rows))
+tables_changed changes rows =
+    map (λ table. rows_with_changes table changes (rows_at rows table)) (range_with_len 0 (length rows))
 
 -- the cursors of the other sessions
 abbrev pub other_cursors : List Cursor → ℕ → List Cursor
@@ -144,7 +155,8 @@ other_cursors cursors session = filter (λ (c : Cursor). not (c.session == sessi
 
 -- without the transaction in a place and the cursors of its session
 abbrev pub ended : State → ℕ → ℕ → Transactions → State
-ended s own session left = record s { transactions = left; bases = remove s.bases own; cursors = other_cursors s.cursors session }
+ended s own session left =
+    record s { transactions = left; bases = remove s.bases own; cursors = other_cursors s.cursors session }
 
 -- with its changes applied as the next commit; without a change there is no commit, and the base is answered
 abbrev pub committed_with : List Change → State → ℕ → ℕ → Reply × State
@@ -152,7 +164,8 @@ committed_with [] s session own =
     let base = (transaction_at s.transactions.active own).base in
     (Committed base, ended s own session (transactions.done s.transactions own base))
 committed_with (c ∷ cs) s session own =
-    (Committed (s.last + 1), record (ended s own session (transactions.done s.transactions own (s.last + 1))) { rows = tables_changed (c ∷ cs) s.rows; last = s.last + 1 })
+    (Committed (s.last + 1), record (ended s own session (transactions.done s.transactions own (s.last + 1))) {
+      rows = tables_changed (c ∷ cs) s.rows; last = s.last + 1 })
 
 -- COMMIT
 abbrev pub committed : State → ℕ → Outcome
@@ -173,8 +186,8 @@ own_cursors cursors session = filter (λ (c : Cursor). c.session == session) cur
 abbrev pub table_of : Select → ℕ
 table_of select = slice_index_or select.tables 0 0
 
--- the place of the session's transaction, where it may open a cursor of a name: not a name that is open in the session, and at
--- most 16 cursors
+-- the place of the session's transaction, where it may open a cursor of a name: not a name that is open in the
+-- session, and at most 16 cursors
 abbrev pub opening : List Transaction → List Cursor → ℕ → List ℕ → Result ℕ Refusal
 opening active cursors session name = do
   own ← ok_or (transaction_of active session) NoTransaction
@@ -187,10 +200,12 @@ opening active cursors session name = do
 abbrev pub opened : State → ℕ → List ℕ → Select → Outcome
 opened s session cursor select = do
   own ← opening s.transactions.active s.cursors session cursor
-  Ok (Opened, record s { cursors = s.cursors ++ record { session = session; name = cursor; table = table_of select; offers = offers_in_order (offers_over select (view_rows s own)) } ∷ [] })
+  Ok (Opened, record s { cursors = s.cursors ++ record {
+    session = session; name = cursor; table = table_of select;
+    offers = offers_in_order (offers_over select (view_rows s own)) } ∷ [] })
 
--- A reply that a cursor with these offers may give: the values of some offer whose order values equal the first offer's,
--- and End exactly where there is no offer.
+-- A reply that a cursor with these offers may give: the values of some offer whose order values equal the first
+-- offer's, and End exactly where there is no offer.
 abbrev pub Offers : List Offer → Reply → Type 0
 Offers offers (Row values) = IsSome (place_of offers values)
 Offers offers End = offers ≡ []

@@ -38,7 +38,8 @@ refuse_at (Some a) refusal = Err (refusal a)
 abbrev pub began : Transactions → ℕ → Bool → ℕ → Result (ℕ × Transactions) Refusal
 began t session read_only base = do
   free ← refuse_at (transaction_of t.active session) (λ own. Active (transaction_at t.active own).number)
-  Ok (t.next, record t { active = t.active ++ record { number = t.next; session = session; read_only = read_only; base = base; changes = [] } ∷ []; next = t.next + 1 })
+  Ok (t.next, record t { next = t.next + 1; active = t.active ++ record {
+    number = t.next; session = session; read_only = read_only; base = base; changes = [] } ∷ [] })
 
 -- the commits that last wrote the rows of a table, by row number
 abbrev pub touched_in : List (List ℕ) → ℕ → List ℕ
@@ -77,7 +78,9 @@ writer active session = do
 -- with a row of the next number, which the transaction in a place adds
 abbrev pub with_row : Transactions → ℕ → ℕ → List Value → RowNo → Transactions
 with_row t own table values row = record t {
-  active = with_own t.active own (with_change (record { table = table; row = row; values = Some values }) (transaction_at t.active own).changes);
+  active =
+      with_own t.active own (with_change (record { table = table; row = row; values = Some values })
+        (transaction_at t.active own).changes);
   touched = with_number t.touched table;
 }
 
@@ -112,7 +115,8 @@ change_of table sets r = record { table = table; row = r.row; values = new_value
 
 -- how many rows are changed, with further rows of a table
 abbrev pub changed_with : List Change → ℕ → List Record → ℕ
-changed_with changes table rows = length changes + length (filter (λ (r : Record). not (has_change table r.row.0 changes)) rows)
+changed_with changes table rows =
+    length changes + length (filter (λ (r : Record). not (has_change table r.row.0 changes)) rows)
 
 abbrev pub no_record : Record
 no_record = record { row = record { 0 = 0 }; values = [] }
@@ -126,7 +130,8 @@ first_changed touched table base rows = position (λ (r : Record). nat_lt base (
 
 -- the place of another session's transaction that has changed a row
 abbrev pub holder : List Transaction → ℕ → ℕ → ℕ → Option ℕ
-holder active session table row = position (λ (t : Transaction). not (t.session == session) && has_change table row t.changes) active
+holder active session table row =
+    position (λ (t : Transaction). not (t.session == session) && has_change table row t.changes) active
 
 -- the place of the first row that another session's transaction has changed
 abbrev pub first_held : List Transaction → ℕ → ℕ → List Record → Option ℕ
@@ -146,18 +151,23 @@ held_refusal active session table row = held_by active row (holder active sessio
 -- Rows may be changed that no later commit than the base has written, and that no other transaction has changed.
 abbrev pub unharmed : Transactions → ℕ → ℕ → ℕ → List Record → Result (Unit {0}) Refusal
 unharmed t session base table rows = do
-  unchanged ← refuse_at (first_changed t.touched table base rows) (λ place. changed_refusal t.touched table (row_in rows place))
+  unchanged ← refuse_at (first_changed t.touched table base rows)
+      (λ place. changed_refusal t.touched table (row_in rows place))
   refuse_at (first_held t.active session table rows) (λ place. held_refusal t.active session table (row_in rows place))
 
 -- UPDATE and DELETE of these rows by the transaction in a place
-abbrev pub changed_rows : Transactions → ℕ → ℕ → ℕ → Option (List (ℕ × Value)) → List Record → Result (ℕ × Transactions) Refusal
+abbrev pub changed_rows : Transactions → ℕ → ℕ → ℕ → Option (List (ℕ × Value)) → List Record
+    → Result (ℕ × Transactions) Refusal
 changed_rows t session own table sets rows = do
-  space ← refuse_if (nat_lt 100000 (changed_with (transaction_at t.active own).changes table rows)) (Limit Pending 100000)
+  space ← refuse_if (nat_lt 100000 (changed_with (transaction_at t.active own).changes table rows))
+      (Limit Pending 100000)
   free ← unharmed t session (transaction_at t.active own).base table rows
-  Ok (length rows, record t { active = with_own t.active own (with_changes (map (change_of table sets) rows) (transaction_at t.active own).changes) })
+  Ok (length rows, record t { active =
+    with_own t.active own (with_changes (map (change_of table sets) rows) (transaction_at t.active own).changes) })
 
 -- UPDATE and DELETE, over the rows that the table has at each commit
-abbrev pub changed : Transactions → ℕ → ℕ → List (List Atom) → Option (List (ℕ × Value)) → (ℕ → List Record) → Result (ℕ × Transactions) Refusal
+abbrev pub changed : Transactions → ℕ → ℕ → List (List Atom) → Option (List (ℕ × Value)) → (ℕ → List Record)
+    → Result (ℕ × Transactions) Refusal
 changed t session table only sets rows = do
   own ← writer t.active session
   changed_rows t session own table sets (met (transaction_at t.active own) table only rows)
@@ -176,7 +186,8 @@ without t own = record t { active = remove t.active own }
 
 -- without the transaction in a place, whose changes are those of a commit
 abbrev pub done : Transactions → ℕ → ℕ → Transactions
-done t own commit = record (without t own) { touched = touch_all commit (transaction_at t.active own).changes t.touched }
+done t own commit =
+    record (without t own) { touched = touch_all commit (transaction_at t.active own).changes t.touched }
 
 abbrev pub lower_of : ℕ → Option ℕ → ℕ
 lower_of n None = n

@@ -239,4 +239,6 @@ AllSameButPhase (a ∷ rest) (b ∷ bs) = SameButPhase a b × AllSameButPhase re
 
 -- Two lists of plain entries with the same transcript are equal in all but phases.
 abbrev pub TextTells : Type 0
-TextTells = (old new : List Entry) → AllByRecursion IsPlain old → AllByRecursion IsPlain new → text old ≡ text new → AllSameButPhase old new
+TextTells =
+    (old new : List Entry) → AllByRecursion IsPlain old → AllByRecursion IsPlain new → text old ≡ text new
+    → AllSameButPhase old new

@@ -20,7 +20,8 @@ leaf_in (suc level) goes t next = descend goes (leaf_in level goes) ([], next) t
 abbrev pub child_from : {E : Type 0} → (E → Bool) → ℕ → List E → List ℕ → Option E → ℕ × Option E
 child_from goes id [] ids next = (id, next)
 child_from goes id (low ∷ lows) [] next = (id, next)
-child_from goes id (low ∷ lows) (kid ∷ kids) next = if goes low then child_from goes kid lows kids next else (id, Some low)
+child_from goes id (low ∷ lows) (kid ∷ kids) next =
+    if goes low then child_from goes kid lows kids next else (id, Some low)
 
 abbrev pub child_in : {E : Type 0} → (E → Bool) → List E → List ℕ → Option E → ℕ × Option E
 child_in goes [] ids next = (0, next)

@@ -27,11 +27,14 @@ LeafIn lt low high (e ∷ es) = AtLeast lt low e × Below lt e high × Precedes 
 
 -- the low entries of children after the first ascend within the bounds, and each child is within its own: from its
 -- low entry on, and below that of the next one
-abbrev pub KidsFrom : {E T : Type 0} → (E → E → Bool) → (Option E → Option E → T → Type 0) → Option E → Option E → T → List (E × T) → Type 0
+abbrev pub KidsFrom : {E T : Type 0} → (E → E → Bool) → (Option E → Option E → T → Type 0) → Option E → Option E → T
+    → List (E × T) → Type 0
 KidsFrom lt P low high t [] = P low high t
-KidsFrom lt P low high t (kid ∷ kids) = P low (Some kid.0) t × Above lt low kid.0 × Below lt kid.0 high × KidsFrom lt P (Some kid.0) high kid.1 kids
+KidsFrom lt P low high t (kid ∷ kids) =
+    P low (Some kid.0) t × Above lt low kid.0 × Below lt kid.0 high × KidsFrom lt P (Some kid.0) high kid.1 kids
 
-abbrev pub Kids : {E T : Type 0} → (E → E → Bool) → (Option E → Option E → T → Type 0) → Option E → Option E → List (E × T) → Type 0
+abbrev pub Kids : {E T : Type 0} → (E → E → Bool) → (Option E → Option E → T → Type 0) → Option E → Option E
+    → List (E × T) → Type 0
 Kids lt P low high [] = ⊥
 Kids lt P low high (kid ∷ kids) = KidsFrom lt P low high kid.1 kids
 

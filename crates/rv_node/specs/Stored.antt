@@ -22,7 +22,9 @@ EachOf P (id ∷ ids) = P id × EachOf P ids
 -- the nodes have their levels, and each child its low entry
 abbrev pub IsStored : (ℕ → Parts) → (level : ℕ) → ℕ → Type 0
 IsStored at zero id = (at id).level ≡ 0
-IsStored at (suc level) id = ((at id).level ≡ suc level) × (length (at id).entries ≡ length (at id).children) × (0 < length (at id).children) × (length (at id).entries ≤ 32) × EachOf (IsStored at level) (at id).children
+IsStored at (suc level) id =
+    ((at id).level ≡ suc level) × (length (at id).entries ≡ length (at id).children) × (0 < length (at id).children)
+    × (length (at id).entries ≤ 32) × EachOf (IsStored at level) (at id).children
 
 -- how often a node stands in a tree
 abbrev pub same_id : ℕ → ℕ → ℕ

@@ -57,7 +57,8 @@ before_kids r kids = (r.0, r.1 ++ kids)
 
 abbrev pub change_from : {E T : Type 0} → (E → Bool) → (T → T × List (E × T)) → T → List (E × T) → T × List (E × T)
 change_from goes f t [] = f t
-change_from goes f t (kid ∷ kids) = if goes kid.0 then skipping t kid.0 (change_from goes f kid.1 kids) else before_kids (f t) (kid ∷ kids)
+change_from goes f t (kid ∷ kids) =
+    if goes kid.0 then skipping t kid.0 (change_from goes f kid.1 kids) else before_kids (f t) (kid ∷ kids)
 
 abbrev pub change : {E T : Type 0} → (E → Bool) → (T → T × List (E × T)) → List (E × T) → List (E × T)
 change goes f [] = []

@@ -165,7 +165,8 @@ sized-prop rows pages (Some s) = size-prop rows pages s
 lays_table-prop : (rows : List Record) (pages table : ℕ) (f : Frozen) → IsProp (LaysTable rows pages table f)
 lays_table-prop rows pages table f a b = λ i. record {
   ascend = rows-prop rows a.ascend b.ascend i;
-  sized = sized-prop (rows_with_changes table f.changes rows) (pages_after table f.changes pages) (size_of table f.sizes)
+  sized =
+      sized-prop (rows_with_changes table f.changes rows) (pages_after table f.changes pages) (size_of table f.sizes)
       a.sized b.sized i;
   other = →_prop (Coded-set coded_bool (touches table f.changes) false) a.other b.other i;
 }

@@ -21,8 +21,8 @@ own session entries = map (λ (e : Entry). call e.phase e.text) (filter (λ (e :
 abbrev pub asked : ℕ → ℕ → List Line → List Call
 asked session phase lines = map (λ (l : Line). call phase l.text) (filter (λ (l : Line). l.session == session) lines)
 
--- The session's calls are those of before and then those that the first of the lines ask; all of them where want of memory
--- stopped nobody.
+-- The session's calls are those of before and then those that the first of the lines ask; all of them where want of
+-- memory stopped nobody.
 pub record Made (session phase : ℕ) (lines : List Line) (short : Bool) (old new : List Entry) : Type 0 where
   pub count : ℕ
   pub within : count ≤ length lines

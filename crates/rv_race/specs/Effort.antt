@@ -21,7 +21,9 @@ other_work plans shown snap None = 0
 other_work plans shown snap (Some other) = runner_work plans shown snap other
 
 abbrev pub running_work : List ScanPlan → Shown → ℕ → Running → ℕ
-running_work plans shown snap w = runner_work plans shown snap w.turn + other_work plans shown snap w.other + planned_work (drop w.next plans) shown snap
+running_work plans shown snap w =
+    runner_work plans shown snap w.turn + other_work plans shown snap w.other
+    + planned_work (drop w.next plans) shown snap
 
 -- the final scan of the table, and the keys that the final stage has still to pass
 abbrev pub table_work : Raced → Shown → ℕ
@@ -31,7 +33,8 @@ abbrev pub keys_work : Raced → ℕ
 keys_work r = length (keys_left r.list r.at)
 
 abbrev pub racing_work : Raced → Shown → ℕ
-racing_work r shown = running_work r.plans shown r.snap r.running + to_read (turn_lane r).held + list_len r.list + table_work r shown
+racing_work r shown =
+    running_work r.plans shown r.snap r.running + to_read (turn_lane r).held + list_len r.list + table_work r shown
 
 -- THE EFFORT
 abbrev pub effort : Raced → Shown → ℕ
@@ -40,7 +43,8 @@ effort r shown = effort_by r.control (racing_work r shown) (keys_work r) (table_
 -- the numbers of cuts and of entries of the indexes that are scanned
 abbrev pub cuts_and_entries : List ScanPlan → Shown → ℕ → ℕ
 cuts_and_entries [] shown snap = 0
-cuts_and_entries (plan ∷ plans) shown snap = length (shown.cuts plan.index snap) + length (shown.entries plan.index snap) + cuts_and_entries plans shown snap
+cuts_and_entries (plan ∷ plans) shown snap =
+    length (shown.cuts plan.index snap) + length (shown.entries plan.index snap) + cuts_and_entries plans shown snap
 
 abbrev pub life_of : ℕ → ℕ → List ScanPlan → Shown → ℕ
 life_of table snap plans shown = life_bound (shown.pages table snap) (cuts_and_entries plans shown snap)

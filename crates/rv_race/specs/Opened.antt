@@ -68,7 +68,8 @@ opened table snap only scans cursor opening pages at last = record {
 }
 
 -- A RACE THAT WAS OPENED: it has read nothing, also not of its final stage
-pub record Opened (table snap : ℕ) (only : List (List Atom)) (scans : List ScanPlan) (cursor opening pages : ℕ) (r : Raced) : Type 0 where
+pub record Opened (table snap : ℕ) (only : List (List Atom)) (scans : List ScanPlan) (cursor opening pages : ℕ)
+    (r : Raced) : Type 0 where
   pub is : r ≡ opened table snap only scans cursor opening pages r.at r.last
   pub unbegun : Unbegun r.at r.last
   pub last_table : r.last.table ≡ table
@@ -107,14 +108,18 @@ pub record OnePiece (would : ℕ → Facts → Ruling) (state after : ℕ) (old 
   pub awaits : Awaits taken piece
   pub obeys : GivesOn would state after piece Accepted taken new
 
--- WHAT A STEP DOES AND READS, by the control: one piece, upon which the judge is asked and obeyed as by a give; the fetch of
--- the next key of the complete list; a step through the table; or nothing
+-- WHAT A STEP DOES AND READS, by the control: one piece, upon which the judge is asked and obeyed as by a give; the
+-- fetch of the next key of the complete list; a step through the table; or nothing
 abbrev pub DoesAs : Control → (ℕ → Facts → Ruling) → ℕ → ℕ → Shown → Counts → Counts → Scanned → Raced → Raced → Type 0
 DoesAs Building would state after shown c d s old new = ⊥
 DoesAs ForegroundAlone would state after shown c d s old new = ⊥
-DoesAs BackgroundAlone would state after shown c d s old new = (s ≡ Working) × OnePiece would state after old new × (d ≡ piece_read old c)
-DoesAs FinalList would state after shown c d s old new = (after ≡ state) × FetchesKey (first_key old.list None old.at) old.only (rows_of old shown) c d s × (new ≡ ended_by s (record old { at = new.at }))
-DoesAs FinalTable would state after shown c d s old new = (after ≡ state) × PageReads s c d × (new ≡ ended_by s (record old { last = new.last }))
+DoesAs BackgroundAlone would state after shown c d s old new =
+    (s ≡ Working) × OnePiece would state after old new × (d ≡ piece_read old c)
+DoesAs FinalList would state after shown c d s old new =
+    (after ≡ state) × FetchesKey (first_key old.list None old.at) old.only (rows_of old shown) c d s
+    × (new ≡ ended_by s (record old { at = new.at }))
+DoesAs FinalTable would state after shown c d s old new =
+    (after ≡ state) × PageReads s c d × (new ≡ ended_by s (record old { last = new.last }))
 DoesAs Done would state after shown c d s old new = (after ≡ state) × (s ≡ End) × (d ≡ c) × (new ≡ old)
 
 abbrev pub Does : (ℕ → Facts → Ruling) → ℕ → ℕ → Shown → Counts → Counts → Scanned → Raced → Raced → Type 0
@@ -131,13 +136,15 @@ MayRead Done r c d = d ≡ c
 
 -- WHAT A STEP LEAVES THAT FOUND NO MEMORY: the awaited leaf may have been taken. No piece is accepted and no scan ends.
 pub record OnlyTakes (old new : Raced) : Type 0 where
-  pub same : new ≡ record (holding (turn_lane new).held old) { counts = counts_read old; at = new.at; trace = new.trace }
+  pub same : new
+      ≡ record (holding (turn_lane new).held old) { counts = counts_read old; at = new.at; trace = new.trace }
   pub named : new.trace.strategy ≡ old.trace.strategy
   pub events : new.trace.events ≡ old.trace.events
   pub fewer : keys_work new ≤ keys_work old
 
 -- what it does, and then what it read is counted
-pub record StepsAs (would : ℕ → Facts → Ruling) (state after : ℕ) (shown : Shown) (c d : Counts) (s : Scanned) (old new : Raced) : Type 0 where
+pub record StepsAs (would : ℕ → Facts → Ruling) (state after : ℕ) (shown : Shown) (c d : Counts) (s : Scanned)
+    (old new : Raced) : Type 0 where
   pub stepped : Raced
   pub does : Does would state after shown c d s old stepped
   pub counts : new ≡ record stepped { trace = counted stepped.trace c d }

@@ -70,8 +70,8 @@ of_race Done = true
 abbrev pub rows_of : Raced → Shown → List Record
 rows_of r shown = shown.rows r.table r.snap
 
--- whether a row is still to be given, if it qualifies: each one while scans are under way, then those of the keys left of
--- the complete list, or on the pages left of the table
+-- whether a row is still to be given, if it qualifies: each one while scans are under way, then those of the keys left
+-- of the complete list, or on the pages left of the table
 abbrev pub left_by : Control → Option (List ℕ) → ℕ → Place → List Record → ℕ → Bool
 left_by Building list at last rows n = false
 left_by ForegroundAlone list at last rows n = false
@@ -102,7 +102,10 @@ pub record PlansFit (plans : List ScanPlan) (owed : ℕ → Bool) (shown : Shown
 pub record RunnerFits (plans : List ScanPlan) (owed : ℕ → Bool) (shown : Shown) (snap : ℕ) (run : Runner) : Type 0 where
   pub there : run.scan < length plans
   pub lane : LaneFits (plan_at plans run.scan) shown snap run.lane
-  pub builds : (n : ℕ) → owed n ≡ true → (has_key n run.lane.building || has_entry n (passing (plan_at plans run.scan).part (ahead (plan_at plans run.scan) shown snap run.lane))) ≡ true
+  pub builds : (n : ℕ) → owed n ≡ true
+      → (has_key n run.lane.building
+        || has_entry n (passing (plan_at plans run.scan).part (ahead (plan_at plans run.scan) shown snap run.lane)))
+      ≡ true
 
 -- the scans under way were; only the one whose turn it is holds a leaf
 pub record RunningFits (plans : List ScanPlan) (owed : ℕ → Bool) (shown : Shown) (snap : ℕ) (w : Running) : Type 0 where

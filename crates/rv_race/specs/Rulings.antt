@@ -29,22 +29,28 @@ use Rattle.rv_race.specs.Given.{turn_lane, turn_scan, with_lane}
 use Rattle.rv_race.specs.Raced.{Raced, racing}
 use Rattle.rv_race.specs.Ways.{advanced, has_next, lower, turned}
 
--- A PIECE IS ACCEPTED: its rows are added that the complete list, if any, may have, it is counted, and the scan goes on to
--- the next cut. `last` tells that there is none.
+-- A PIECE IS ACCEPTED: its rows are added that the complete list, if any, may have, it is counted, and the scan goes
+-- on to the next cut. `last` tells that there is none.
 
 abbrev pub kept_of : Raced → Pieced → List ℕ
 kept_of r piece = kept_by (may r.list) piece.part piece.entries
 
 abbrev pub counts_after : Raced → Pieced → Bool → List ScanCounts
-counts_after r piece last = slice_set r.counts (turn_scan r) (piece_counted (counts_at r.counts (turn_scan r)) (length piece.entries) (length (kept_of r piece)) last)
+counts_after r piece last =
+    slice_set r.counts (turn_scan r) (piece_counted (counts_at r.counts (turn_scan r)) (length piece.entries)
+      (length (kept_of r piece)) last)
 
 abbrev pub accepted : Pieced → Bool → Raced → Raced
-accepted piece last r = record (with_lane (passed (may r.list) piece (turn_lane r)) r) { counts = counts_after r piece last; number = one_more r.number }
+accepted piece last r =
+    record (with_lane (passed (may r.list) piece (turn_lane r)) r) {
+      counts = counts_after r piece last; number = one_more r.number }
 
 -- What the judge is told.
 
 abbrev pub account_of : Raced → ℕ → ScanAccount
-account_of r scan = record { estimate = (plan_at r.plans scan).estimate; scanned = (counts_at r.counts scan).scanned; kept = (counts_at r.counts scan).kept; leaves = (counts_at r.counts scan).leaves }
+account_of r scan =
+    record { estimate = (plan_at r.plans scan).estimate; scanned = (counts_at r.counts scan).scanned;
+      kept = (counts_at r.counts scan).kept; leaves = (counts_at r.counts scan).leaves }
 
 abbrev pub projected : Raced → ℕ → ℕ
 projected r scan = projection (total_of (account_of r scan)) (account_of r scan).scanned (account_of r scan).kept
@@ -54,7 +60,8 @@ abbrev pub scan_of : Option Runner → Option ℕ
 scan_of None = None
 scan_of (Some other) = Some other.scan
 
--- the cost at which the race can be finished without a scan: the lesser of the guarantee and the other scan's projection
+-- the cost at which the race can be finished without a scan: the lesser of the guarantee and the other scan's
+-- projection
 abbrev pub least_with : Raced → Option ℕ → ℕ
 least_with r None = r.guaranteed
 least_with r (Some other) = min r.guaranteed (projected r other)
@@ -83,7 +90,9 @@ more r = has_next (length r.plans) r.running && not (is_empty_list r.list)
 
 -- the control is that of the course, and the trace tells it
 abbrev pub gone : Happening → Raced → Raced
-gone happening r = record r { control = next_control BackgroundOnly r.control happening; trace = noted r.trace (At (next_control BackgroundOnly r.control happening)) }
+gone happening r =
+    record r { control = next_control BackgroundOnly r.control happening;
+      trace = noted r.trace (At (next_control BackgroundOnly r.control happening)) }
 
 -- another scan goes on
 abbrev pub going_on : Raced → Raced
@@ -94,8 +103,8 @@ going_on r =
 abbrev pub over : Bool → Happening → Raced → Raced
 over goes happening r = if goes then going_on r else gone happening r
 
--- A SCAN COMPLETED: its list is the complete list. Of the other scan's kept rows only those stay that the list may have,
--- and as many count as kept. As many fetches as the list has keys finish the race.
+-- A SCAN COMPLETED: its list is the complete list. Of the other scan's kept rows only those stay that the list may
+-- have, and as many count as kept. As many fetches as the list has keys finish the race.
 
 abbrev pub completed : List ℕ → Raced → Raced
 completed keys r = record (with_lane no_lane r) { list = Some keys }
@@ -113,7 +122,8 @@ narrowed r = narrowed_with r.list r
 
 abbrev pub recounted_by : Option Runner → List ScanCounts → List ScanCounts
 recounted_by None counts = counts
-recounted_by (Some other) counts = slice_set counts other.scan (record (counts_at counts other.scan) { kept = length other.lane.building })
+recounted_by (Some other) counts =
+    slice_set counts other.scan (record (counts_at counts other.scan) { kept = length other.lane.building })
 
 abbrev pub recounted : Raced → Raced
 recounted r = record r { counts = recounted_by r.running.other r.counts }
@@ -142,7 +152,9 @@ dropped r = over (more r) (Ruled AbandonScan (more r) (is_some r.list)) (told_ov
 
 -- the background is dropped: it is shown for the scan that stands last in the trace, the lower one
 abbrev pub stopped : Raced → Raced
-stopped r = gone (Ruled AbandonBackground (more r) (is_some r.list)) (record r { trace = noted r.trace (Drop (index_at r (lower r.running))) })
+stopped r =
+    gone (Ruled AbandonBackground (more r) (is_some r.list))
+      (record r { trace = noted r.trace (Drop (index_at r (lower r.running))) })
 
 -- the other scan, where there is one, has the next turn
 abbrev pub passed_on : Raced → Raced
@@ -167,15 +179,18 @@ pub record Completes (old new : Raced) : Type 0 where
 
 -- THE JUDGE IS ASKED ONCE where the scan goes on, with the facts of its piece, and never where the piece was its last
 abbrev pub Obeys : (ℕ → Facts → Ruling) → ℕ → ℕ → Pieced → Option IndexEntry → Raced → Raced → Type 0
-Obeys would state after piece (Some cut) old new = IsRuled (would state (facts_of (accepted piece false old))) after (accepted piece false old) new
+Obeys would state after piece (Some cut) old new =
+    IsRuled (would state (facts_of (accepted piece false old))) after (accepted piece false old) new
 Obeys would state after piece None old new = Completes (accepted piece true old) new × (after ≡ state)
 
 -- WHAT A GIVE LEAVES
 abbrev pub GivesOn : (ℕ → Facts → Ruling) → ℕ → ℕ → Pieced → Given → Raced → Raced → Type 0
-GivesOn would state after piece Accepted old new = Obeys would state after piece (held_next (turn_lane old).held) old new
+GivesOn would state after piece Accepted old new =
+    Obeys would state after piece (held_next (turn_lane old).held) old new
 GivesOn would state after piece (Stale asked now) old new = (new ≡ old) × (after ≡ state)
 
 -- WHERE TWO SCANS ARE UNDER WAY, THE ONE THAT HAD NOT THE TURN HAS THE NEXT ONE, while scans are under way
 abbrev pub HasNextTurn : Given → Raced → Raced → Type 0
-HasNextTurn Accepted old new = racing new.control ≡ true → IfSome old.running.other (λ other. new.running.turn.scan ≡ other.scan)
+HasNextTurn Accepted old new =
+    racing new.control ≡ true → IfSome old.running.other (λ other. new.running.turn.scan ≡ other.scan)
 HasNextTurn (Stale asked now) old new = new ≡ old

@@ -62,7 +62,8 @@ list_length (Some keys) = Some (length keys)
 -- the indexes of the scans that are not over: those under way, and those that have not begun
 abbrev pub left_by : List ScanPlan → Runner → Option Runner → ℕ → List ℕ
 left_by plans turn None next = (plan_at plans turn.scan).index ∷ indexes_of (drop next plans)
-left_by plans turn (Some other) next = (plan_at plans turn.scan).index ∷ (plan_at plans other.scan).index ∷ indexes_of (drop next plans)
+left_by plans turn (Some other) next =
+    (plan_at plans turn.scan).index ∷ (plan_at plans other.scan).index ∷ indexes_of (drop next plans)
 
 abbrev pub left_of : List ScanPlan → Running → List ℕ
 left_of plans w = left_by plans w.turn w.other w.next
@@ -75,8 +76,8 @@ pub record Placed (planned : ℕ) (w : Running) : Type 0 where
   pub other_begun : IfSome w.other (λ o. o.scan < w.next)
   pub next_planned : w.next ≤ planned
 
--- While scans are under way: the scans that are over, in the order in which they ended, and then the Scan of the lower one
--- under way. No list is empty, and each index is scanned once.
+-- While scans are under way: the scans that are over, in the order in which they ended, and then the Scan of the lower
+-- one under way. No list is empty, and each index is scanned once.
 pub record TellsRacing (r : Raced) : Type 0 where
   pub ends : List Ended
   pub told : r.trace.events.items ≡ At BackgroundAlone ∷ (told_ends ends ++ Scan (index_at r (lower r.running)) ∷ [])
@@ -101,7 +102,8 @@ pub record TellsOver (r : Raced) : Type 0 where
   pub planned : List ℕ
   pub turns : List Turn
   pub run : IsRun BackgroundOnly (start BackgroundOnly planned) turns
-  pub told : r.trace.events.items ≡ start_events BackgroundOnly planned ++ run_events BackgroundOnly (start BackgroundOnly planned) turns
+  pub told : r.trace.events.items ≡ start_events BackgroundOnly planned
+      ++ run_events BackgroundOnly (start BackgroundOnly planned) turns
   pub at : (run_end BackgroundOnly (start BackgroundOnly planned) turns).control ≡ r.control
   pub scanned : HasScans BackgroundOnly planned
   pub once : EachOnce planned
@@ -116,7 +118,8 @@ TellsBy FinalList r = TellsOver r
 TellsBy FinalTable r = TellsOver r
 TellsBy Done r = TellsOver r
 
--- WHAT THE TRACE TELLS IS ONE RUN OF THE COURSE over the planned scans, in an order in which they may have run one by one
+-- WHAT THE TRACE TELLS IS ONE RUN OF THE COURSE over the planned scans, in an order in which they may have run one by
+-- one
 pub record Tells (r : Raced) : Type 0 where
   pub named : r.trace.strategy ≡ BackgroundOnly
   pub tells : TellsBy r.control r
@@ -135,5 +138,6 @@ was_dropped index events = list_any (is_drop index) events
 
 -- a piece that is handed out is of a scan that was not dropped
 abbrev pub IsOfUndropped : Raced → Taken → Type 0
-IsOfUndropped r (Piece piece) = (piece.part ≡ (turn_plan r).part) × (was_dropped (index_at r (turn_scan r)) r.trace.events.items ≡ false)
+IsOfUndropped r (Piece piece) =
+    (piece.part ≡ (turn_plan r).part) × (was_dropped (index_at r (turn_scan r)) r.trace.events.items ≡ false)
 IsOfUndropped r Nothing = Unit {0}

@@ -76,7 +76,9 @@ pub record IsPut (number : ℕ) (values : Option (List Value)) (commit : ℕ) (o
   pub pages : (snap : ℕ) → commit ≤ snap → pages_at new snap ≡ pages_with number values (pages_at old snap)
 
 -- Versions of pages and of sizes: a page and the sizes were written.
-pub record IsWritten (n commit : ℕ) (page : List Record) (size : Sizes) (pages new_pages : List (List (Version (List Record)))) (sizes new_sizes : List (List (Version Sizes))) : Type 0 where
+pub record IsWritten (n commit : ℕ) (page : List Record) (size : Sizes)
+    (pages new_pages : List (List (Version (List Record))))
+    (sizes new_sizes : List (List (Version Sizes))) : Type 0 where
   pub page_put : chains.IsPut (List Record) n commit page pages new_pages
   pub size_put : chains.IsPut Sizes 0 commit size sizes new_sizes
   pub count : length new_pages ≡ max (length pages) (n + 1)
@@ -91,7 +93,8 @@ pub record IsTaken (n commit : ℕ) (pages new_pages : List (List (Version (List
   pub newest : AllChainsBelow (commit + 1) new_pages
 
 -- what was written at a commit was taken back
-pub record IsTakenBack (commit : ℕ) (pages new_pages : List (List (Version (List Record)))) (sizes new_sizes : List (List (Version Sizes))) : Type 0 where
+pub record IsTakenBack (commit : ℕ) (pages new_pages : List (List (Version (List Record))))
+    (sizes new_sizes : List (List (Version Sizes))) : Type 0 where
   pub older : (n snap : ℕ) → snap < commit → value_of new_pages n snap ≡ value_of pages n snap
   pub older_sizes : (n snap : ℕ) → snap < commit → value_of new_sizes n snap ≡ value_of sizes n snap
   pub count : length new_pages ≡ length pages

@@ -30,7 +30,10 @@ JudgesOffers b old given new = Judges b (Offers old given) (new ≡ offers_after
 
 -- the same of the cursor in a place
 abbrev pub JudgesAt : Bool → ℕ → List Cursor → Reply → List Cursor → Type 0
-JudgesAt b place old given new = Judges b (Offers (cursor_at old place).offers given) (new ≡ slice_set old place (record (cursor_at old place) { offers = offers_after (cursor_at old place).offers given }))
+JudgesAt b place old given new =
+    Judges b (Offers (cursor_at old place).offers given)
+      (new ≡ slice_set old place
+      (record (cursor_at old place) { offers = offers_after (cursor_at old place).offers given }))
 
 abbrev pub JudgesFetch : Bool → Option ℕ → State → List ℕ → Reply → State → Type 0
 JudgesFetch b place old name given new = Judges b (AllowsFetch place old name given) (new ≡ fetched place old given)
@@ -43,10 +46,12 @@ abbrev pub JudgesShow : Bool → Option ℕ → State → List ℕ → Reply →
 JudgesShow b place s name given = Judges b (AllowsShow place s name given) (s ≡ s)
 
 abbrev pub JudgesAsked : Bool → Result Resolved Refusal → State → ℕ → Reply → State → Type 0
-JudgesAsked b asked old session given new = Judges b (AllowsAsked asked old session given) (new ≡ next_asked asked old session given)
+JudgesAsked b asked old session given new =
+    Judges b (AllowsAsked asked old session given) (new ≡ next_asked asked old session given)
 
 abbrev pub JudgesStatement : Bool → State → ℕ → Option Statement → Reply → State → Type 0
-JudgesStatement b old session statement given new = Judges b (Allows old session statement given) (new ≡ next old session statement given)
+JudgesStatement b old session statement given new =
+    Judges b (Allows old session statement given) (new ≡ next old session statement given)
 
 abbrev pub JudgesEntry : Bool → State → ℕ → Entry → State → Type 0
 JudgesEntry b old phase e new = Judges b (IsNext old phase e) (new ≡ stepped old e)

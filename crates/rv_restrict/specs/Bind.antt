@@ -62,7 +62,8 @@ turned Ge = Le
 abbrev pub home : ColRef → ColRef
 home c = record c { place = 0 }
 
--- of two columns at least one is of the place itself; where the outer one is on the left, the comparison is turned round
+-- of two columns at least one is of the place itself; where the outer one is on the left, the comparison is turned
+-- round
 abbrev pub bound_columns : ℕ → List (List Value) → ColRef → Op → ColRef → Atom
 bound_columns place outer c op d =
     cond (is_below place c) (Compare (home d) (turned op) (Literal (rows_reads outer c)))
@@ -83,7 +84,8 @@ moved place outer (Const t) = Const t
 
 -- an atom of outer columns alone is a constant
 abbrev pub bound_atom : ℕ → List (List Value) → Atom → Atom
-bound_atom place outer a = cond (atom_names_only (is_below place) a) (Const (atom_truth (rows_reads outer) a)) (moved place outer a)
+bound_atom place outer a =
+    cond (atom_names_only (is_below place) a) (Const (atom_truth (rows_reads outer) a)) (moved place outer a)
 
 abbrev pub bound : ℕ → List (List Value) → List (List Atom) → List (List Atom)
 bound place outer only = map (map (bound_atom place outer)) (taken place only)

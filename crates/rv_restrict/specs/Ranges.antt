@@ -27,7 +27,8 @@ open_at v = record { value = v; closed = false }
 abbrev pub closed_at : Value → End
 closed_at v = record { value = v; closed = true }
 
--- what an atom says of its column alone: nothing, that it has a value, that it begins with a text, or that it lies between two ends
+-- what an atom says of its column alone: nothing, that it has a value, that it begins with a text, or that it lies
+-- between two ends
 pub data Limit : Type 0 where
   Free : Limit
   Same : Value → Limit
@@ -136,7 +137,8 @@ abbrev pub equal_range : List Value → Range
 equal_range prefix = record { low = closed_bound prefix; high = closed_bound prefix; starts = false }
 
 abbrev pub starting_range : List Value → List ℕ → Range
-starting_range prefix text = record { low = Some (record { key = prefix ++ Str text ∷ []; closed = true }); high = None; starts = true }
+starting_range prefix text =
+    record { low = Some (record { key = prefix ++ Str text ∷ []; closed = true }); high = None; starts = true }
 
 abbrev pub bound_at : List Value → End → Bound
 bound_at prefix e = record { key = prefix ++ e.value ∷ []; closed = e.closed }
@@ -146,13 +148,15 @@ high_bound prefix None = closed_bound prefix
 high_bound prefix (Some high) = Some (bound_at prefix high)
 
 abbrev pub bounded_range : List Value → End → Option End → Range
-bounded_range prefix low high = record { low = Some (bound_at prefix low); high = high_bound prefix high; starts = false }
+bounded_range prefix low high =
+    record { low = Some (bound_at prefix low); high = high_bound prefix high; starts = false }
 
 abbrev pub if_some : {A B : Type 0} → Option A → (A → B) → B → B
 if_some None f b = b
 if_some (Some a) f b = f a
 
--- where no atom gives the column its value: the first text that it begins with; else the ends between which it lies; else nothing
+-- where no atom gives the column its value: the first text that it begins with; else the ends between which it lies;
+-- else nothing
 abbrev pub last_range : List Value → List Limit → Range
 last_range prefix limits =
     if_some (first_start limits) (starting_range prefix)
@@ -162,7 +166,9 @@ last_range prefix limits =
 -- through the columns: the first value that an atom gives a column goes to the prefix
 abbrev pub range_from : List (List Atom) → List Value → List ℕ → Range
 range_from only prefix [] = equal_range prefix
-range_from only prefix (c ∷ more) = if_some (first_equal (limits_on c only)) (λ v. range_from only (prefix ++ v ∷ []) more) (last_range prefix (limits_on c only))
+range_from only prefix (c ∷ more) =
+    if_some (first_equal (limits_on c only)) (λ v. range_from only (prefix ++ v ∷ []) more)
+      (last_range prefix (limits_on c only))
 
 abbrev pub range_for : List (List Atom) → List ℕ → Range
 range_for only columns = range_from only [] columns

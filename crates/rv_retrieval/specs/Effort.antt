@@ -31,11 +31,13 @@ use Rattle.std.specs.Prelude.{◌||◌}
 -- the entries of whole scans
 abbrev pub entries_planned : List ScanPlan → Shown → ℕ → ℕ
 entries_planned [] shown snap = 0
-entries_planned (plan ∷ plans) shown snap = length (run_from (shown.entries plan.index snap) plan.range None) + entries_planned plans shown snap
+entries_planned (plan ∷ plans) shown snap =
+    length (run_from (shown.entries plan.index snap) plan.range None) + entries_planned plans shown snap
 
 abbrev pub entries_of_scans : List ScanPlan → Option IndexEntry → Shown → ℕ → ℕ
 entries_of_scans [] place shown snap = 0
-entries_of_scans (plan ∷ plans) place shown snap = length (run_from (shown.entries plan.index snap) plan.range place) + entries_planned plans shown snap
+entries_of_scans (plan ∷ plans) place shown snap =
+    length (run_from (shown.entries plan.index snap) plan.range place) + entries_planned plans shown snap
 
 -- the entries that the scans which have not ended may still sieve
 abbrev pub entries_ahead : Joint → Shown → ℕ
@@ -45,16 +47,20 @@ entries_ahead j shown = entries_of_scans (drop j.ended j.plans) j.place shown j.
 abbrev pub to_borrow : Joint → ℕ → ℕ
 to_borrow j borrowed = length (lending j) - borrowed
 
--- Each leaf is read, and given back as a piece. The row of each of its entries may be fetched three times: where its key
--- is borrowed from the list being built, where it is borrowed from the complete list, and in the final stage.
+-- Each leaf is read, and given back as a piece. The row of each of its entries may be fetched three times: where its
+-- key is borrowed from the list being built, where it is borrowed from the complete list, and in the final stage.
 abbrev pub back_work : Joint → ℕ → Shown → ℕ
-back_work j borrowed shown = 2 * leaves_ahead j shown + to_read j.held + 3 * entries_ahead j shown + 2 * length j.building + list_len j.list + to_borrow j borrowed
+back_work j borrowed shown =
+    2 * leaves_ahead j shown + to_read j.held + 3 * entries_ahead j shown + 2 * length j.building + list_len j.list
+    + to_borrow j borrowed
 
 -- The foreground's scan and the final stage.
 
 -- the work left of the foreground's scan, where one delivers
 abbrev pub front_work : Shape → Shown → ℕ
-front_work v shown = if is_led v.strategy then leaf_work (walk_of v.front) (front_entries v shown) (shown.cuts (walk_of v.front).index v.query.snap) else 0
+front_work v shown =
+    if is_led v.strategy
+    then leaf_work (walk_of v.front) (front_entries v shown) (shown.cuts (walk_of v.front).index v.query.snap) else 0
 
 -- the work left of the final scan of the table
 abbrev pub table_work : Shape → Shown → ℕ
@@ -75,7 +81,8 @@ sum_of Done back front table keys = 0
 
 -- THE EFFORT
 abbrev pub effort : Shape → Shown → ℕ
-effort v shown = sum_of v.control (back_work v.joint v.borrowed shown) (front_work v shown) (table_work v shown) (keys_work v)
+effort v shown =
+    sum_of v.control (back_work v.joint v.borrowed shown) (front_work v shown) (table_work v shown) (keys_work v)
 
 -- WHAT A FOREGROUND'S STEP SPENDS: it lowers the effort by at least its reads, and unless it ends by at least one
 abbrev pub FgSpends : Fg → Counts → Counts → ℕ → ℕ → Type 0
@@ -93,7 +100,8 @@ pub record Awaiting (v : Shape) : Type 0 where
 -- the numbers of cuts and of entries of the table's indexes
 abbrev pub cuts_and_entries : List (ℕ × List ℕ) → Shown → ℕ → ℕ
 cuts_and_entries [] shown snap = 0
-cuts_and_entries (i ∷ indexes) shown snap = length (shown.cuts i.0 snap) + length (shown.entries i.0 snap) + cuts_and_entries indexes shown snap
+cuts_and_entries (i ∷ indexes) shown snap =
+    length (shown.cuts i.0 snap) + length (shown.entries i.0 snap) + cuts_and_entries indexes shown snap
 
 abbrev pub life_of : Query → Shown → ℕ
 life_of query shown = life_bound (shown.pages query.table query.snap) (cuts_and_entries query.indexes shown query.snap)

@@ -22,7 +22,8 @@ pub record AwaitsPiece (v : Shape) (piece : Pieced) : Type 0 where
 -- what a give answers, and that a stale piece changes nothing
 abbrev pub Answers : Shape → Pieced → Given → Shape → Type 0
 Answers old piece Accepted new = AwaitsPiece old piece
-Answers old piece (Stale asked now) new = ¬ AwaitsPiece old piece × (asked ≡ piece.id) × (now ≡ awaited old) × (new ≡ old)
+Answers old piece (Stale asked now) new =
+    ¬ AwaitsPiece old piece × (asked ≡ piece.id) × (now ≡ awaited old) × (new ≡ old)
 
 -- what a take answers
 abbrev pub TakesPiece : Shape → Taken → Type 0

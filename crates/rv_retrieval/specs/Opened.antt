@@ -28,7 +28,8 @@ abbrev pub has_scans : List ScanPlan → Bool
 has_scans plans = nat_lt 0 (length plans)
 
 -- made of these parts, without a step
-pub record Begun (query : Query) (strategy : Strategy) (plans : List ScanPlan) (foreground : Front) (guaranteed cursor opening : ℕ) (v : Shape) : Type 0 where
+pub record Begun (query : Query) (strategy : Strategy) (plans : List ScanPlan) (foreground : Front)
+    (guaranteed cursor opening : ℕ) (v : Shape) : Type 0 where
   pub asked : v.query ≡ query
   pub chosen : v.strategy ≡ strategy
   pub joint : v.joint ≡ begun query.table query.snap plans cursor opening
@@ -41,7 +42,9 @@ pub record Begun (query : Query) (strategy : Strategy) (plans : List ScanPlan) (
 
 -- the first control, and the scan with which a background begins
 abbrev pub start_told : Shape → Trace
-start_told v = noted_all (noted v.trace (At v.control)) (if is_background v.control then events_for Scan (index_of v.joint v.joint.ended) else [])
+start_told v =
+    noted_all (noted v.trace (At v.control)) (if is_background v.control
+      then events_for Scan (index_of v.joint v.joint.ended) else [])
 
 -- a joint scan of the same plans at the same snapshot, for the same pieces
 pub record SameScans (old new : Joint) : Type 0 where
@@ -104,12 +107,13 @@ abbrev pub bounded_by : Bool → ℕ → Option (List ℕ) → ℕ
 bounded_by true guaranteed list = guarantee_with guaranteed (list_len list)
 bounded_by false guaranteed list = guaranteed
 
--- THE STRATEGY, THE SCANS AND THE FOREGROUND ARE THOSE OF THE FIVE RULES. Where a single index is scanned in the background
--- it was scanned already; else no step was made.
+-- THE STRATEGY, THE SCANS AND THE FOREGROUND ARE THOSE OF THE FIVE RULES. Where a single index is scanned in the
+-- background it was scanned already; else no step was made.
 pub record Opened (query : Query) (shown : Shown) (cursor opening : ℕ) (v : Shape) : Type 0 where
   pub choice : Choice
   pub chosen : IsChosen query.order query.goal (candidates_of query shown) choice
   pub made : IsMade query shown choice cursor opening v
   pub settled : is_one choice.background ≡ true → Settles v
   pub started : is_one choice.background ≡ false → Starts cursor opening v
-  pub bound : v.guaranteed ≡ bounded_by (is_one choice.background) (guarantee_of query shown (candidates_of query shown) choice) v.joint.list
+  pub bound : v.guaranteed ≡ bounded_by (is_one choice.background)
+        (guarantee_of query shown (candidates_of query shown) choice) v.joint.list

@@ -33,15 +33,19 @@ first_of IndexOnly false = ForegroundAlone
 
 -- The reader can be read as the strategy's scans will. Each row that qualifies has an entry that passes in each planned
 -- scan, and where a scan of an index is the foreground, one in its range.
-pub record Opens (query : Query) (strategy : Strategy) (scans : List ScanPlan) (front : Front) (shown : Shown) : Type 0 where
+pub record Opens (query : Query) (strategy : Strategy) (scans : List ScanPlan) (front : Front)
+    (shown : Shown) : Type 0 where
   pub ascend : Ascend (shown.rows query.table query.snap)
   pub read : CanRead shown query.table query.snap
   pub columns : HaveColumns query.only (shown.rows query.table query.snap)
   pub each : (i : ℕ) → i < length scans → CanMake (plan_at scans i) shown query.snap
   pub apart : (i : ℕ) → i < length scans → Apart (shown.entries (plan_at scans i).index query.snap)
-  pub planned : (i : ℕ) → i < length scans → (n : ℕ) → qualifies_at query.only (shown.rows query.table query.snap) n ≡ true → meets (plan_at scans i) shown query.snap n ≡ true
+  pub planned : (i : ℕ) → i < length scans → (n : ℕ)
+      → qualifies_at query.only (shown.rows query.table query.snap) n ≡ true
+      → meets (plan_at scans i) shown query.snap n ≡ true
   pub led : is_led strategy ≡ true → FrontFits query strategy front shown
-  pub all : is_led strategy ≡ true → (n : ℕ) → qualifies_at query.only (shown.rows query.table query.snap) n ≡ true → front_left front (shown.entries (walk_of front).index query.snap) n ≡ true
+  pub all : is_led strategy ≡ true → (n : ℕ) → qualifies_at query.only (shown.rows query.table query.snap) n ≡ true
+      → front_left front (shown.entries (walk_of front).index query.snap) n ≡ true
   pub ordered : is_sorted strategy ≡ false → query.order ≡ []
 
 -- a step's answer as the caller sees it
@@ -53,6 +57,7 @@ fg_of End = FgEnd
 -- WHAT A STEP DOES: it takes one record out of the rest, least in the order columns, or leaves the rest, or the rest
 -- is empty
 abbrev pub GivesStep : Shape → Shape → Shown → Fg → Type 0
-GivesStep old new shown (Row r) = TakesOut old.query.need r (rest old shown) (rest new shown) × IsLeast old.query.order r (rest old shown)
+GivesStep old new shown (Row r) =
+    TakesOut old.query.need r (rest old shown) (rest new shown) × IsLeast old.query.order r (rest old shown)
 GivesStep old new shown FgWorking = rest new shown ≡ rest old shown
 GivesStep old new shown FgEnd = (rest old shown ≡ []) × (rest new shown ≡ [])

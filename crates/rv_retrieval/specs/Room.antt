@@ -3,8 +3,8 @@ use Rattle.std.specs.Prelude.{◌≡◌, ℕ, Bool, true, false, List, [], Optio
 use Rattle.rv_judge.specs.declared.events.Strategy.{Strategy}
 use Rattle.rv_judge.specs.declared.events.Strategy.TheVariants.{Table, BackgroundOnly, FastFirst, Sorted, IndexOnly, Union}
 
--- whether rows are remembered: those that a foreground gives while a background runs, where what is left is told by what
--- was given
+-- whether rows are remembered: those that a foreground gives while a background runs, where what is left is told by
+-- what was given
 abbrev pub must_remember : Strategy → Bool
 must_remember Table = false
 must_remember BackgroundOnly = false

@@ -25,7 +25,9 @@ indexes_asked query = map (λ (i : ℕ × List ℕ). i.0) query.indexes
 
 -- where a run stands while the background runs
 abbrev pub standing_of : Control → List ScanPlan → ℕ → Option (List ℕ) → Standing
-standing_of now plans ended list = record { control = now; scan = Some (plan_at plans ended).index; ahead = indexes_of (drop (ended + 1) plans); listed = list_length list }
+standing_of now plans ended list =
+    record { control = now; scan = Some (plan_at plans ended).index; ahead = indexes_of (drop (ended + 1) plans);
+      listed = list_length list }
 
 -- a planned scan has not ended, and the complete list, if any, has a key
 abbrev pub goes_on : List ScanPlan → ℕ → Option (List ℕ) → Bool
@@ -57,13 +59,15 @@ abbrev pub runs_both : Strategy → Bool
 runs_both strategy = fast_first strategy || (sorted strategy || index_only strategy)
 
 -- The events are those of a run of the course over the planned scans, which are of these indexes, each once. The run
--- stands at the control, and while the background runs at the scan under way. A scan that has not ended was not dropped.
--- There is room for what may follow.
-pub record TellsOf (named strategy : Strategy) (now : Control) (plans : List ScanPlan) (ended : ℕ) (list : Option (List ℕ)) (indexes : List ℕ) (events : List Event) : Type 0 where
+-- stands at the control, and while the background runs at the scan under way. A scan that has not ended was not
+-- dropped. There is room for what may follow.
+pub record TellsOf (named strategy : Strategy) (now : Control) (plans : List ScanPlan) (ended : ℕ)
+    (list : Option (List ℕ)) (indexes : List ℕ) (events : List Event) : Type 0 where
   pub standing : Standing
   pub turns : List Turn
   pub run : IsRun strategy (start strategy (indexes_of plans)) turns
-  pub told : events ≡ start_events strategy (indexes_of plans) ++ run_events strategy (start strategy (indexes_of plans)) turns
+  pub told : events ≡ start_events strategy (indexes_of plans)
+      ++ run_events strategy (start strategy (indexes_of plans)) turns
   pub ends : run_end strategy (start strategy (indexes_of plans)) turns ≡ standing
   pub at : standing.control ≡ now
   pub running : is_background now ≡ true → standing ≡ standing_of now plans ended list
@@ -78,11 +82,14 @@ pub record TellsOf (named strategy : Strategy) (now : Control) (plans : List Sca
 
 -- WHAT THE TRACE TELLS IS ONE RUN OF THE COURSE
 abbrev pub Tells : Shape → Type 0
-Tells v = TellsOf v.trace.strategy v.strategy v.control v.joint.plans v.joint.ended v.joint.list (indexes_asked v.query) v.trace.events.items
+Tells v =
+    TellsOf v.trace.strategy v.strategy v.control v.joint.plans v.joint.ended v.joint.list (indexes_asked v.query)
+      v.trace.events.items
 
 -- a piece that is handed out is of a scan that was not dropped
 abbrev pub IsOfUndropped : Shape → Taken → Type 0
-IsOfUndropped v (Piece piece) = (piece.part ≡ (present v.joint).part) × (was_dropped (present v.joint).index v.trace.events.items ≡ false)
+IsOfUndropped v (Piece piece) =
+    (piece.part ≡ (present v.joint).part) × (was_dropped (present v.joint).index v.trace.events.items ≡ false)
 IsOfUndropped v Nothing = Unit {0}
 
 -- the control, the scans and the events stay

@@ -157,14 +157,17 @@ pub record RetrievalFits (v : Shape) (shown : Shown) : Type 0 where
   pub at_snap : v.joint.snap ≡ v.query.snap
   pub joint : JointFits v.joint shown
   pub scans : CanTake v.joint shown
-  pub planned : (i : ℕ) → i < length v.joint.plans → (n : ℕ) → qualifies_at v.query.only (rows_of v shown) n ≡ true → meets (plan_at v.joint.plans i) shown v.joint.snap n ≡ true
+  pub planned : (i : ℕ) → i < length v.joint.plans → (n : ℕ) → qualifies_at v.query.only (rows_of v shown) n ≡ true
+      → meets (plan_at v.joint.plans i) shown v.joint.snap n ≡ true
   pub front : is_led v.strategy ≡ true → FrontFits v.query v.strategy v.front shown
   pub led : source v ≡ Ahead → is_led v.strategy ≡ true
   pub last : LastFits v.query.table v.query.snap v.last shown
   pub unbegun : is_early (source v) ≡ true → Unbegun v.at v.last
   pub listed : source v ≡ Keys → IsSome v.joint.list
   pub room : is_building v.control ≡ true → length v.delivered < 1024
-  pub remembered : (is_building v.control && is_index_only v.strategy) ≡ true → Agree v.query.only (rows_of v shown) (λ n. not (has_key n v.delivered)) (front_left v.front (front_entries v shown))
+  pub remembered : (is_building v.control && is_index_only v.strategy) ≡ true
+      → Agree v.query.only (rows_of v shown) (λ n. not (has_key n v.delivered))
+        (front_left v.front (front_entries v shown))
   pub ordered : is_sorted v.strategy ≡ false → v.query.order ≡ []
   pub sorted : is_sorted v.strategy ≡ true → (source v ≡ Ahead) ⊎ (source v ≡ Nowhere)
 
@@ -191,7 +194,8 @@ pub record Remembers (old new : Shape) (row : ℕ) : Type 0 where
 pub record Delivers (old new : Shape) (row : ℕ) : Type 0 where
   pub adds : AddsRow old.delivered new.delivered row
   pub same : new ≡ record old { delivered = new.delivered; control = new.control; trace = new.trace }
-  pub counts : (new.trace.pages ≡ old.trace.pages) × (new.trace.leaves ≡ old.trace.leaves) × (new.trace.fetches ≡ old.trace.fetches)
+  pub counts : (new.trace.pages ≡ old.trace.pages) × (new.trace.leaves ≡ old.trace.leaves)
+      × (new.trace.fetches ≡ old.trace.fetches)
   pub full : (length new.delivered ≡ 1024 → new.control ≡ next_control old.strategy old.control Full)
   pub less : (length new.delivered < 1024) ⊎ (length new.delivered ≡ 1024)
   pub room : length new.delivered < 1024 → new.control ≡ old.control
@@ -208,7 +212,8 @@ EndsIn v End = v.control ≡ Done
 
 -- the record that a foreground's scan gives is least of those that are left
 abbrev pub LeastOf : Shape → Shown → Scanned → Type 0
-LeastOf v shown (Found r) = IsLeast v.query.order r (rest_by (front_left v.front (front_entries v shown)) v.query.only (rows_of v shown))
+LeastOf v shown (Found r) =
+    IsLeast v.query.order r (rest_by (front_left v.front (front_entries v shown)) v.query.only (rows_of v shown))
 LeastOf v shown Working = Unit {0}
 LeastOf v shown End = Unit {0}
 

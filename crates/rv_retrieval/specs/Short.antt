@@ -33,7 +33,10 @@ pub record Settled (v : Shape) : Type 0 where
 -- the records that a foreground's scan may still fetch, where a complete list hides what it cannot have: one for each
 -- entry ahead that the list may have, none where the index is scanned alone
 abbrev pub scan_fetches : Shape → Shown → ℕ
-scan_fetches v shown = if v.front.alone then 0 else length (filter (λ (e : IndexEntry). may v.joint.list e.row.0) (left v.front.fetching.walk (front_entries v shown)))
+scan_fetches v shown =
+    if v.front.alone then 0
+    else length (filter (λ (e : IndexEntry). may v.joint.list e.row.0)
+      (left v.front.fetching.walk (front_entries v shown)))
 
 abbrev pub fetches_by : Control → ℕ → ℕ → ℕ
 fetches_by Building front keys = 0

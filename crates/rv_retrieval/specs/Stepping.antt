@@ -142,15 +142,20 @@ kind_of Done strategy fresh = Over
 abbrev pub DoesAs : Kind → (ℕ → Facts → Ruling) → ℕ → ℕ → Shown → Counts → Counts → Scanned → Shape → Shape → Type 0
 DoesAs (Borrow key) would state after shown c d s old new = (after ≡ state) × Borrows key shown c d s old new
 DoesAs Piece would state after shown c d s old new = (s ≡ Working) × StepsBackground would state after old new
-DoesAs Walk would state after shown c d s old new = (after ≡ state) × WalkReads old shown c d s × (new ≡ ended_by FrontEnded s (record old { front = new.front }))
-DoesAs WalkBoth would state after shown c d s old new = (after ≡ state) × RemembersBy s (record old { front = new.front }) new
-DoesAs NextKey would state after shown c d s old new = (after ≡ state) × ListReads old shown c d s × (new ≡ ended_by FinalEnded s (record old { at = new.at }))
-DoesAs NextPage would state after shown c d s old new = (after ≡ state) × (new ≡ ended_by FinalEnded s (record old { last = new.last }))
+DoesAs Walk would state after shown c d s old new =
+    (after ≡ state) × WalkReads old shown c d s × (new ≡ ended_by FrontEnded s (record old { front = new.front }))
+DoesAs WalkBoth would state after shown c d s old new =
+    (after ≡ state) × RemembersBy s (record old { front = new.front }) new
+DoesAs NextKey would state after shown c d s old new =
+    (after ≡ state) × ListReads old shown c d s × (new ≡ ended_by FinalEnded s (record old { at = new.at }))
+DoesAs NextPage would state after shown c d s old new =
+    (after ≡ state) × (new ≡ ended_by FinalEnded s (record old { last = new.last }))
 DoesAs Over would state after shown c d s old new = (after ≡ state) × (s ≡ End) × (new ≡ old)
 
 -- WHAT A FOREGROUND STEP DOES
 abbrev pub DoesIts : (ℕ → Facts → Ruling) → ℕ → ℕ → Shown → Counts → Counts → Scanned → Shape → Shape → Type 0
-DoesIts would state after shown c d s old new = DoesAs (kind_of old.control old.strategy (fresh_of old)) would state after shown c d s old new
+DoesIts would state after shown c d s old new =
+    DoesAs (kind_of old.control old.strategy (fresh_of old)) would state after shown c d s old new
 
 -- the awaited leaf is read where it is not held
 abbrev pub piece_read : Shape → Counts → Counts
@@ -192,7 +197,8 @@ pub record OnlyTakes (old new : Shape) : Type 0 where
   pub fewer : keys_work new ≤ keys_work old
 
 -- what it does and reads, and then what it read is counted
-pub record StepsAs (would : ℕ → Facts → Ruling) (state after : ℕ) (shown : Shown) (c d : Counts) (fg : Fg) (old new : Shape) : Type 0 where
+pub record StepsAs (would : ℕ → Facts → Ruling) (state after : ℕ) (shown : Shown) (c d : Counts) (fg : Fg)
+    (old new : Shape) : Type 0 where
   pub scanned : Scanned
   pub stepped : Shape
   pub answers : fg ≡ fg_of scanned

@@ -78,8 +78,8 @@ pub record IsPlaced (active : List Transaction) (own : Transaction) : Type 0 whe
   pub found : transaction_of active own.session ≡ Some place
   pub here : transaction_at active place ≡ own
 
--- what is asked: of all active transactions views are kept over the store or may be made, and a statement's changes are of
--- rows of one table, the lowest first
+-- what is asked: of all active transactions views are kept over the store or may be made, and a statement's changes
+-- are of rows of one table, the lowest first
 pub record CanLook (shown : Shown) (indexes : List IndexDef) (txns : Transactions) (views : List OwnView)
     (own : Transaction) (table : ℕ) (new : List Change) : Type 0 where
   pub stored : IsStored shown
@@ -118,8 +118,8 @@ pub record HaveRows (columns : List ℕ) (entries : List IndexEntry) : Type 0 wh
   pub ascend : Ascend rows
   pub are : entries ≡ entries_of columns rows
 
--- what is asked where a key is looked up: an index of the store over the table, a transaction at a snapshot with its view,
--- and the entries of the rows that a statement of it writes
+-- what is asked where a key is looked up: an index of the store over the table, a transaction at a snapshot with its
+-- view, and the entries of the rows that a statement of it writes
 pub record CanTest (shown : Shown) (table number : ℕ) (columns : List ℕ) (own : Transaction) (view : Option Frozen)
     (entries : List IndexEntry) : Type 0 where
   pub stored : IsStored shown
@@ -151,8 +151,8 @@ written_first columns key row table (t ∷ ts) = first_some
     (shown_at (λ n. Txn t.number) (lowest_with columns key (other_than row) (rows_written table t.changes)))
     (written_first columns key row table ts)
 
--- the first other row with a key in the three places, as it is shown: in the view with a statement's changes, at the last
--- commit, and written by another transaction
+-- the first other row with a key in the three places, as it is shown: in the view with a statement's changes, at the
+-- last commit, and written by another transaction
 abbrev pub first_with : Shown → (ℕ → ℕ) → List ℕ → List Value → ℕ → ℕ → Transaction → List Change → List Transaction
     → Option Refusal
 first_with shown written_by columns key row table own new theirs =

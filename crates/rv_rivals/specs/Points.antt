@@ -13,7 +13,9 @@ use Rattle.rv_model.specs.Rivals.{has_key}
 
 -- the keys that are equal to one: both bounds closed
 abbrev pub point : List Value → Range
-point key = record { low = Some (record { key = key; closed = true }); high = Some (record { key = key; closed = true }); starts = false }
+point key =
+    record { low = Some (record { key = key; closed = true }); high = Some (record { key = key; closed = true });
+      starts = false }
 
 -- whether one of some entries is in the range of a key
 abbrev pub has_entry : List Value → List IndexEntry → Bool
@@ -25,7 +27,8 @@ first_row keeps entries = option_map (λ (e : IndexEntry). e.row) (find (λ (e :
 
 -- of rows the lowest that has a key and passes a test
 abbrev pub lowest_with : List ℕ → List Value → (ℕ → Bool) → List Record → Option RowNo
-lowest_with columns key keeps rows = option_map (λ (r : Record). r.row) (find (λ (r : Record). has_key columns key r && keeps r.row.0) rows)
+lowest_with columns key keeps rows =
+    option_map (λ (r : Record). r.row) (find (λ (r : Record). has_key columns key r && keeps r.row.0) rows)
 
 -- LAW: the range of a key holds the entries of the rows that have it, in the order of the rows.
 abbrev pub PointRuns : Type 0

@@ -39,14 +39,19 @@ pub record MakesFirst (history : List Entry) (all : List Call) : Type 0 where
 -- The calls of each of the eight sessions are those of so many phases, and of its first lines of the next one.
 pub record MadeFirst (history : List Entry) (all : List Phase) : Type 0 where
   pub phases : ℕ
-  pub each : (session : ℕ) → 1 ≤ session → session ≤ 8 → (lines : ℕ) × (of_session session (calls_made history) ≡ of_session session (first_calls phases lines all))
+  pub each : (session : ℕ) → 1 ≤ session → session ≤ 8 → (lines : ℕ)
+      × (of_session session (calls_made history) ≡ of_session session (first_calls phases lines all))
 
--- what calls under one judge do, which stood and now stands so: whatever its number is among judges, and whoever the others are
+-- what calls under one judge do, which stood and now stands so: whatever its number is among judges, and whoever the
+-- others are
 abbrev pub Anywhere : Judging → Judging → (ℕ → List Judging → List Judging → Type 0) → Type 0
-Anywhere stood stands Does = (number : ℕ) (judges : List Judging) → slice_get judges number ≡ Some stood → Does number judges (slice_set judges number stands)
+Anywhere stood stands Does =
+    (number : ℕ) (judges : List Judging) → slice_get judges number ≡ Some stood
+    → Does number judges (slice_set judges number stands)
 
 -- the same of a judge that a box hides, by what it would rule and where it stands
-abbrev pub MakesUnder : {J : Type 0} → (J → ℕ → Facts → Ruling) → (J → ℕ) → J → J → (ℕ → List Judging → List Judging → Type 0) → Type 0
+abbrev pub MakesUnder : {J : Type 0} → (J → ℕ → Facts → Ruling) → (J → ℕ) → J → J
+    → (ℕ → List Judging → List Judging → Type 0) → Type 0
 MakesUnder would state old new Does = Anywhere (judging (would old) (state old)) (judging (would old) (state new)) Does
 
 -- a part that stays

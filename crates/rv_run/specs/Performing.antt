@@ -14,7 +14,8 @@ use Rattle.rv_run.specs.declared.status.Status.TheVariants as statuses
 use Rattle.rv_run.specs.Script.{FailsToRead, HasFault, PassesLimit, Write, output}
 
 -- This was written of the output of a legal history, which has such calls of the script.
-pub record Performs (seed : Option ℕ) (Written : List ℕ → Type 0) (Has : List Entry → Script → Type 0) (script : Script) (history : List Entry) : Type 0 where
+pub record Performs (seed : Option ℕ) (Written : List ℕ → Type 0) (Has : List Entry → Script → Type 0) (script : Script)
+    (history : List Entry) : Type 0 where
   pub legal : IsLegal history
   pub written : Written (output seed history)
   pub calls : Has history script

@@ -45,30 +45,36 @@ pub record RuledCall : Type 0 where
 abbrev pub ruled_by : ℕ → Call → RuledCall
 ruled_by judge c = record { call = c; judge = judge }
 
--- The calls of phases numbered from one on, each under the judge that its phase names; where it names none, under the one
--- before.
+-- The calls of phases numbered from one on, each under the judge that its phase names; where it names none, under the
+-- one before.
 abbrev pub ruled_from : ℕ → ℕ → List Phase → List RuledCall
 ruled_from judge phase [] = []
-ruled_from judge phase (p ∷ ps) = map (ruled_by (unwrap_or p.judge judge)) (calls_in phase p.lines) ++ ruled_from (unwrap_or p.judge judge) (phase + 1) ps
+ruled_from judge phase (p ∷ ps) =
+    map (ruled_by (unwrap_or p.judge judge)) (calls_in phase p.lines)
+    ++ ruled_from (unwrap_or p.judge judge) (phase + 1) ps
 
--- A CALL IS ANSWERED UNDER ITS JUDGE, who rules from where he stands; no other judge moves. What the cursors that are open
--- behind it see is what they saw before it.
-pub record AnswersUnder {S : Type 0} (shows : S → StoreShown) (settings : Settings) (c : RuledCall) (old new : Between S) : Type 0 where
+-- A CALL IS ANSWERED UNDER ITS JUDGE, who rules from where he stands; no other judge moves. What the cursors that are
+-- open behind it see is what they saw before it.
+pub record AnswersUnder {S : Type 0} (shows : S → StoreShown) (settings : Settings) (c : RuledCall)
+    (old new : Between S) : Type 0 where
   pub judge : Judging
   pub seated : slice_get old.judges c.judge ≡ Some judge
   pub reply : Reply
   pub stands : ℕ
-  pub answers : Answers (under (shows old.core.store) judge.would settings) judge.state stands (in_phase c.call.phase old).core new.core c.call.session c.call.text reply
+  pub answers : Answers (under (shows old.core.store) judge.would settings) judge.state stands
+        (in_phase c.call.phase old).core new.core c.call.session c.call.text reply
   pub others : new.judges ≡ slice_set old.judges c.judge (judging judge.would stands)
   pub sees : SeesSame (shows old.core.store) (shows new.core.store) new.core.opens
 
 -- these calls, one after another; behind the last one other phases may have begun
 abbrev pub AnswersAll : {S : Type 0} → (S → StoreShown) → Settings → List RuledCall → Between S → Between S → Type 0
 AnswersAll shows settings [] old new = new ≡ in_phase new.core.phase old
-AnswersAll {S = S} shows settings (c ∷ cs) old new = (mid : Between S) × AnswersUnder shows settings c old mid × AnswersAll shows settings cs mid new
+AnswersAll {S = S} shows settings (c ∷ cs) old new =
+    (mid : Between S) × AnswersUnder shows settings c old mid × AnswersAll shows settings cs mid new
 
 -- The first of these calls, of which this history tells: all of them, or those before one that found no memory.
-pub record AnswersFirst {S : Type 0} (shows : S → StoreShown) (settings : Settings) (all : List RuledCall) (old : Between S) (history : List Entry) : Type 0 where
+pub record AnswersFirst {S : Type 0} (shows : S → StoreShown) (settings : Settings) (all : List RuledCall)
+    (old : Between S) (history : List Entry) : Type 0 where
   pub made : List RuledCall
   pub rest : List RuledCall
   pub whole : all ≡ made ++ rest
@@ -80,11 +86,16 @@ pub record AnswersFirst {S : Type 0} (shows : S → StoreShown) (settings : Sett
 abbrev pub fresh : {S : Type 0} → S → Shown S
 fresh store = record { history = []; phase = 1; store = store; db = empty; horizon = 0; opens = []; opened = 1 }
 
--- ALL CALLS OF A SCRIPT, from a fresh core over this store on, among these judges, of which the one of this number rules first
-pub record CallsUnder {S : Type 0} (shows : S → StoreShown) (settings : Settings) (store : S) (judges : List Judging) (first : ℕ) (core : Shown S) (script : Script) : Type 0 where
+-- ALL CALLS OF A SCRIPT, from a fresh core over this store on, among these judges, of which the one of this number
+-- rules first
+pub record CallsUnder {S : Type 0} (shows : S → StoreShown) (settings : Settings) (store : S) (judges : List Judging)
+    (first : ℕ) (core : Shown S) (script : Script) : Type 0 where
   pub stand : List Judging
-  pub answers : AnswersAll shows settings (ruled_from first 1 script.phases) (between (fresh store) judges) (between core stand)
+  pub answers : AnswersAll shows settings (ruled_from first 1 script.phases) (between (fresh store) judges)
+        (between core stand)
 
 -- the same of its first calls
-abbrev pub FirstCallsUnder : {S : Type 0} → (S → StoreShown) → Settings → S → List Judging → ℕ → Shown S → Script → Type 0
-FirstCallsUnder shows settings store judges first core script = AnswersFirst shows settings (ruled_from first 1 script.phases) (between (fresh store) judges) core.history
+abbrev pub FirstCallsUnder : {S : Type 0} → (S → StoreShown) → Settings → S → List Judging → ℕ → Shown S → Script
+    → Type 0
+FirstCallsUnder shows settings store judges first core script =
+    AnswersFirst shows settings (ruled_from first 1 script.phases) (between (fresh store) judges) core.history

@@ -85,7 +85,8 @@ is_given skip e = not (skips skip e.row.0)
 -- the place of the first entry whose row is not skipped, or all are
 abbrev pub FindsGiven : Skipped → List IndexEntry → Option ℕ → Type 0
 FindsGiven skip entries None = list_all (λ (e : IndexEntry). not (is_given skip e)) entries ≡ true
-FindsGiven skip entries (Some at) = (at < length entries) × (list_all (λ (e : IndexEntry). not (is_given skip e)) (take at entries) ≡ true)
+FindsGiven skip entries (Some at) =
+    (at < length entries) × (list_all (λ (e : IndexEntry). not (is_given skip e)) (take at entries) ≡ true)
 
 -- the table whose rows are fetched, and the walk along the index
 pub record Fetching : Type 0 where
@@ -106,7 +107,10 @@ looked only (Some r) = if qualifies only r.values then Found r else Working
 -- the first entry whose row is not skipped: how many stand before it, and its row
 abbrev pub FindsEntry : Skipped → List IndexEntry → Option (ℕ × RowNo) → Type 0
 FindsEntry skip entries None = FindsGiven skip entries None
-FindsEntry skip entries (Some found) = FindsGiven skip entries (Some found.0) × ((d : IndexEntry) → (is_given skip (slice_index_or entries found.0 d) ≡ true) × (found.1 ≡ (slice_index_or entries found.0 d).row))
+FindsEntry skip entries (Some found) =
+    FindsGiven skip entries (Some found.0)
+    × ((d : IndexEntry) → (is_given skip (slice_index_or entries found.0 d) ≡ true)
+      × (found.1 ≡ (slice_index_or entries found.0 d).row))
 
 -- the next leaf is read, or there is none
 abbrev pub Turned : Fetching → Fetching → List IndexEntry → List IndexEntry → Scanned → Type 0
@@ -125,7 +129,8 @@ FetchReads Working old new = TriedOne old new
 FetchReads End old new = new ≡ old
 
 -- the record of a row that is not skipped was read, and it is the answer where it qualifies
-pub record FetchesRow (skip : Skipped) (only : List (List Atom)) (rows : List Record) (scanned : Scanned) (old new : Counts) : Type 0 where
+pub record FetchesRow (skip : Skipped) (only : List (List Atom)) (rows : List Record) (scanned : Scanned)
+    (old new : Counts) : Type 0 where
   pub row : ℕ
   pub unskipped : skips skip row ≡ false
   pub read : new ≡ record_read old

@@ -49,7 +49,9 @@ HaveColumns only records = list_all (λ (r : Record). names_only (row_has r.valu
 -- the place of the first record that is due, or none is
 abbrev pub FindsDue : List (List Atom) → Skipped → List Record → Option ℕ → Type 0
 FindsDue only skip records None = due only skip records ≡ []
-FindsDue only skip records (Some at) = (at < length records) × ((d : Record) → due only skip records ≡ slice_index_or records at d ∷ due only skip (drop (at + 1) records))
+FindsDue only skip records (Some at) =
+    (at < length records)
+    × ((d : Record) → due only skip records ≡ slice_index_or records at d ∷ due only skip (drop (at + 1) records))
 
 -- What a step may answer, from one rest and work left to the next: it gives the first record of the rest, or leaves the
 -- rest and lowers the work left, or the rest is empty.

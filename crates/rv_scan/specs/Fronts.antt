@@ -24,7 +24,9 @@ walk_of f = if f.alone then f.telling else f.fetching.walk
 
 -- the records that it will still give, in key order
 abbrev pub front_rest : Front → List IndexEntry → List Record → List (List Atom) → Skipped → List Record
-front_rest f entries rows only skip = if f.alone then told_rest f.telling entries f.columns only skip else fetch_rest f.fetching.walk entries rows only skip
+front_rest f entries rows only skip =
+    if f.alone then told_rest f.telling entries f.columns only skip
+    else fetch_rest f.fetching.walk entries rows only skip
 
 -- the scan can be made: table and index are there, keys reach the range's bounds, rows have the columns named, and an
 -- index that is scanned alone has them all

@@ -45,5 +45,6 @@ PageReads End old new = new ≡ old
 -- the next page is read, or there is none
 abbrev pub Turns : Place → Place → List Record → ℕ → Scanned → Type 0
 Turns old new rows pages (Found r) = ⊥
-Turns old new rows pages Working = (old.next < pages) × (new ≡ record old { held = page_of rows old.next; next = old.next + 1 })
+Turns old new rows pages Working =
+    (old.next < pages) × (new ≡ record old { held = page_of rows old.next; next = old.next + 1 })
 Turns old new rows pages End = (pages ≤ old.next) × (new ≡ old)

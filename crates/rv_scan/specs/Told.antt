@@ -45,7 +45,10 @@ Tells columns only skip e (Some r) = (is_due only skip (told columns e) ≡ true
 -- the first record that is due, and how many entries stand before its own, or none is
 abbrev pub FindsTold : List ℕ → List (List Atom) → Skipped → List IndexEntry → Option (ℕ × Record) → Type 0
 FindsTold columns only skip entries None = due only skip (map (told columns) entries) ≡ []
-FindsTold columns only skip entries (Some found) = (found.0 < length entries) × (due only skip (map (told columns) entries) ≡ found.1 ∷ due only skip (map (told columns) (drop (found.0 + 1) entries)))
+FindsTold columns only skip entries (Some found) =
+    (found.0 < length entries)
+    × (due only skip (map (told columns) entries) ≡ found.1
+      ∷ due only skip (map (told columns) (drop (found.0 + 1) entries)))
 
 pub record SameWalk (old new : Along) : Type 0 where
   pub index : new.index ≡ old.index

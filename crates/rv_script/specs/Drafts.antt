@@ -29,7 +29,8 @@ Gives view (Err fault) said = FaultIs fault said
 abbrev pub added : Draft → Saying → Draft
 added draft Nothing = draft
 added draft (Call line) = record { over = draft.over; judge = draft.judge; calls = draft.calls ++ line ∷ [] }
-added draft (Next judge) = record { over = draft.over ++ record { judge = draft.judge; lines = draft.calls } ∷ []; judge = judge; calls = [] }
+added draft (Next judge) =
+    record { over = draft.over ++ record { judge = draft.judge; lines = draft.calls } ∷ []; judge = judge; calls = [] }
 
 abbrev pub added_if : Draft → Result Saying ScriptFault → Result Draft ScriptFault
 added_if draft (Ok saying) = Ok (added draft saying)
@@ -37,5 +38,6 @@ added_if draft (Err fault) = Err fault
 
 -- the whole script, where these sayings follow
 abbrev pub drafted : Draft → Result (List Saying) ScriptFault → Result Script ScriptFault
-drafted draft (Ok sayings) = Ok (record { phases = draft.over ++ calls_before draft.calls (phases_of draft.judge sayings) })
+drafted draft (Ok sayings) =
+    Ok (record { phases = draft.over ++ calls_before draft.calls (phases_of draft.judge sayings) })
 drafted draft (Err fault) = Err fault

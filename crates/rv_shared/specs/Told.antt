@@ -25,7 +25,8 @@ abbrev pub AddsCall : ℕ → ℕ → List ℕ → List Entry → List Entry →
 AddsCall session phase text found left (Ok reply) = left ≡ found ++ entry session phase text reply ∷ []
 AddsCall session phase text found left (Err refused) = left ≡ found
 
-pub record CallsOn (session phase : ℕ) (text : List ℕ) (found left : List Entry) (answer : Result Reply NoMemory) : Type 0 where
+pub record CallsOn (session phase : ℕ) (text : List ℕ) (found left : List Entry)
+    (answer : Result Reply NoMemory) : Type 0 where
   pub adds : AddsCall session phase text found left answer
   pub legal : IsLegal left
 
@@ -35,7 +36,8 @@ AddsPart session phase text found left (Ok (Some reply)) = left ≡ found ++ ent
 AddsPart session phase text found left (Ok None) = IsFetch text × (left ≡ found)
 AddsPart session phase text found left (Err refused) = left ≡ found
 
-pub record StepsOn (session phase : ℕ) (text : List ℕ) (found left : List Entry) (answer : Result (Option Reply) NoMemory) : Type 0 where
+pub record StepsOn (session phase : ℕ) (text : List ℕ) (found left : List Entry)
+    (answer : Result (Option Reply) NoMemory) : Type 0 where
   pub adds : AddsPart session phase text found left answer
   pub legal : IsLegal left
 
@@ -59,9 +61,11 @@ pub record GivesBack (found left : List Entry) : Type 0 where
   pub legal : IsLegal left
 
 -- what a worker's first turn does with the core: a piece is taken, or none is awaited and the store is swept a step
-abbrev pub Cuts : {C : Type 0} → (C → ℕ → Result Taken NoMemory → C → Type 0) → (C → C → Type 0) → C → ℕ → Result Cutting NoMemory → C → Type 0
+abbrev pub Cuts : {C : Type 0} → (C → ℕ → Result Taken NoMemory → C → Type 0) → (C → C → Type 0) → C → ℕ
+    → Result Cutting NoMemory → C → Type 0
 Cuts takes sweeps old after (Ok (cutting.Piece piece)) new = takes old after (Ok (taken.Piece piece)) new
-Cuts {C} takes sweeps old after (Ok (cutting.Idle cursors)) new = (between : C) × takes old after (Ok taken.Nothing) between × sweeps between new
+Cuts {C} takes sweeps old after (Ok (cutting.Idle cursors)) new =
+    (between : C) × takes old after (Ok taken.Nothing) between × sweeps between new
 Cuts takes sweeps old after (Err refused) new = takes old after (Err refused) new
 
 -- WHAT A PASS HAS SEEN
@@ -72,7 +76,8 @@ pub record IsFresh (turn : TurnState Entry) (pass : PassState Entry) : Type 0 wh
   pub left : pass.left ≡ 4294967295
   pub seen : pass.seen ≡ turn.opening
 
--- The history goes on from what the pass had seen, without an entry of its session, and ends with this call. It is legal.
+-- The history goes on from what the pass had seen, without an entry of its session, and ends with this call. It is
+-- legal.
 pub record Replied (number phase : ℕ) (text : List ℕ) (reply : Reply) (seen now : List Entry) : Type 0 where
   pub found : List Entry
   pub goes_on : GoesOn maker number seen found

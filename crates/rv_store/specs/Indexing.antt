@@ -63,7 +63,8 @@ abbrev pub tree_through : List ℕ → ℕ → List Change → List Record → W
 tree_through columns table [] rows tree = tree
 tree_through columns table (c ∷ cs) rows tree =
     if c.table == table
-    then tree_through columns table cs (with_values c.row.0 c.values rows) (tree_after (entry_at columns (row_at rows c.row.0)) (entry_at columns (row_with c.row.0 c.values)) tree)
+    then tree_through columns table cs (with_values c.row.0 c.values rows)
+      (tree_after (entry_at columns (row_at rows c.row.0)) (entry_at columns (row_with c.row.0 c.values)) tree)
     else tree_through columns table cs rows tree
 
 -- the tree of an index after entries of rows are inserted, one after another
@@ -92,14 +93,16 @@ pub record IsPutIn (commit : ℕ) (e : Option IndexEntry) (old new : Nodes) : Ty
   pub sound : IsSound new commit
   pub tree : tree_of new commit ≡ tree_with e (tree_of old commit)
   pub entries : entries_of new commit ≡ put_in e (entries_of old commit)
-  pub cuts : (test : IndexEntry → Bool) → Passes test e → list_all test (cuts_of old commit) ≡ true → list_all test (entries_of old commit) ≡ true → list_all test (cuts_of new commit) ≡ true
+  pub cuts : (test : IndexEntry → Bool) → Passes test e → list_all test (cuts_of old commit) ≡ true
+      → list_all test (entries_of old commit) ≡ true → list_all test (cuts_of new commit) ≡ true
 
 -- a tree at a commit after a row's entry changed; a test of the entries holds of the cuts too
 pub record IsTreeChanged (commit : ℕ) (before after : Option IndexEntry) (old new : Nodes) : Type 0 where
   pub sound : IsSound new commit
   pub tree : tree_of new commit ≡ tree_after before after (tree_of old commit)
   pub entries : entries_of new commit ≡ entries_after before after (entries_of old commit)
-  pub cuts : (test : IndexEntry → Bool) → Passes test after → list_all test (cuts_of old commit) ≡ true → list_all test (entries_of old commit) ≡ true → list_all test (cuts_of new commit) ≡ true
+  pub cuts : (test : IndexEntry → Bool) → Passes test after → list_all test (cuts_of old commit) ≡ true
+      → list_all test (entries_of old commit) ≡ true → list_all test (cuts_of new commit) ≡ true
 
 -- a tree at a snapshot has the entries of these rows, and its cuts have as many values
 pub record IsIndexed (columns : List ℕ) (rows : List Record) (snap : ℕ) (nodes : Nodes) : Type 0 where

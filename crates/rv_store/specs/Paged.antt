@@ -44,7 +44,8 @@ pub record IsIndexOf (horizon newest : ℕ) (tables : List Table) (index : Index
   pub columns : AreColumns (table_at tables index.table).width index.columns
   pub below : AllChainsBelow (newest + 1) index.tree
   pub few : length index.tree ≤ 4294967296
-  pub indexed : (snap : ℕ) → horizon ≤ snap → snap ≤ newest → IsIndexed index.columns (rows_in tables index.table snap) snap index.tree
+  pub indexed : (snap : ℕ) → horizon ≤ snap → snap ≤ newest
+      → IsIndexed index.columns (rows_in tables index.table snap) snap index.tree
 
 -- what always holds of a store
 pub record IsKept (kept : Kept) : Type 0 where
@@ -52,11 +53,13 @@ pub record IsKept (kept : Kept) : Type 0 where
   pub few_tables : length kept.tables ≤ 4294967296
   pub few_indexes : length kept.indexes ≤ 4294967296
   pub tables : AreTables kept.horizon kept.newest kept.tables
-  pub indexes : (index : ℕ) → index < length kept.indexes → IsIndexOf kept.horizon kept.newest kept.tables (index_at kept.indexes index)
+  pub indexes : (index : ℕ) → index < length kept.indexes
+      → IsIndexOf kept.horizon kept.newest kept.tables (index_at kept.indexes index)
 
 -- the tree of each index at a new commit is what the changes, made one after another, make of its tree before them
 abbrev pub AreTreesThrough : List Change → Kept → Kept → Type 0
 AreTreesThrough changes old new =
     (index : ℕ) → index < length old.indexes →
     let one = index_at old.indexes index in
-    tree_in new.indexes index new.newest ≡ tree_through one.columns one.table changes (rows_in old.tables one.table old.newest) (tree_in old.indexes index old.newest)
+    tree_in new.indexes index new.newest ≡ tree_through one.columns one.table changes
+        (rows_in old.tables one.table old.newest) (tree_in old.indexes index old.newest)

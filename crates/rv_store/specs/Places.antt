@@ -62,7 +62,8 @@ next_place next count = if nat_lt (next + 1) count then next + 1 else 0
 
 -- at most one version of a page, or of a node, is at or below a horizon
 abbrev pub IsPagePurged : ℕ → List Table → ℕ → ℕ → Type 0
-IsPagePurged horizon tables table n = versions_to horizon (slice_index_or (table_at tables table).records.pages n []) ≤ 1
+IsPagePurged horizon tables table n =
+    versions_to horizon (slice_index_or (table_at tables table).records.pages n []) ≤ 1
 
 abbrev pub IsNodePurged : ℕ → List Index → ℕ → ℕ → Type 0
 IsNodePurged horizon indexes index id = versions_to horizon (slice_index_or (index_at indexes index).tree id []) ≤ 1
@@ -76,7 +77,8 @@ pub record AreSameFrom (horizon : ℕ) (old new : List Table) : Type 0 where
   pub count : length new ≡ length old
   pub width : (table : ℕ) → (table_at new table).width ≡ (table_at old table).width
   pub horizon_is : (table : ℕ) → (table_at new table).records.horizon ≤ max (table_at old table).records.horizon horizon
-  pub same : (table snap : ℕ) → horizon ≤ snap → IsSame (table_at old table).records snap (table_at new table).records snap
+  pub same : (table snap : ℕ) → horizon ≤ snap
+      → IsSame (table_at old table).records snap (table_at new table).records snap
   pub below : (table high : ℕ) → IsBelow high (table_at old table).records → IsBelow high (table_at new table).records
 
 -- the same indexes, with the same trees at each snapshot from a horizon on

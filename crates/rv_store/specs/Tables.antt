@@ -27,7 +27,8 @@ pub record AreTables (horizon newest : ℕ) (tables : List Table) : Type 0 where
   pub kept : (table : ℕ) → (table_at tables table).records.horizon ≤ horizon
   pub below : (table : ℕ) → IsBelow (newest + 1) (table_at tables table).records
   pub ascend : (table snap : ℕ) → horizon ≤ snap → snap ≤ newest → Ascend (rows_in tables table snap)
-  pub wide : (table snap : ℕ) → horizon ≤ snap → snap ≤ newest → AreWide (table_at tables table).width (rows_in tables table snap)
+  pub wide : (table snap : ℕ) → horizon ≤ snap → snap ≤ newest
+      → AreWide (table_at tables table).width (rows_in tables table snap)
 
 -- tables that a commit may be written to: nothing is above it, and its pages can be taken back
 pub record AreOpen (commit : ℕ) (tables : List Table) : Type 0 where
@@ -39,12 +40,15 @@ pub record AreSameBelow (commit : ℕ) (old new : List Table) : Type 0 where
   pub count : length new ≡ length old
   pub width : (table : ℕ) → (table_at new table).width ≡ (table_at old table).width
   pub horizon : (table : ℕ) → (table_at new table).records.horizon ≡ (table_at old table).records.horizon
-  pub older : (table snap : ℕ) → snap < commit → IsSame (table_at old table).records snap (table_at new table).records snap
+  pub older : (table snap : ℕ) → snap < commit
+      → IsSame (table_at old table).records snap (table_at new table).records snap
 
 -- from a commit on the tables have these changes
 pub record AreChanged (commit : ℕ) (changes : List Change) (old new : List Table) : Type 0 where
-  pub rows : (table snap : ℕ) → commit ≤ snap → rows_in new table snap ≡ rows_with_changes table changes (rows_in old table snap)
-  pub pages : (table snap : ℕ) → commit ≤ snap → pages_in new table snap ≡ pages_after table changes (pages_in old table snap)
+  pub rows : (table snap : ℕ) → commit ≤ snap
+      → rows_in new table snap ≡ rows_with_changes table changes (rows_in old table snap)
+  pub pages : (table snap : ℕ) → commit ≤ snap
+      → pages_in new table snap ≡ pages_after table changes (pages_in old table snap)
 
 -- a change of one of so many tables, whose row number fits
 pub record CanPut (tables : ℕ) (c : Change) : Type 0 where

@@ -24,4 +24,6 @@ grown c (l ∷ ls) rest = record { lines = (c ∷ l) ∷ ls; rest = rest }
 
 abbrev pub split : List ℕ → Split
 split [] = record { lines = []; rest = [] }
-split (c ∷ cs) = if c == 10 then record { lines = [] ∷ (split cs).lines; rest = (split cs).rest } else grown c (split cs).lines (split cs).rest
+split (c ∷ cs) =
+    if c == 10 then record { lines = [] ∷ (split cs).lines; rest = (split cs).rest }
+    else grown c (split cs).lines (split cs).rest

@@ -1,4 +1,5 @@
--- What a reader of transcripts tells: the entries of which the bytes are the transcript, or the first line at which they are none.
+-- What a reader of transcripts tells: the entries of which the bytes are the transcript, or the first line at which
+-- they are none.
 use Rattle.std.specs.Prelude.{◌≡◌, ℕ, zero, suc, ◌+◌, ◌-◌, ◌≤◌, List, [], ◌∷◌, ◌++◌, ◌==◌, if◌then◌else◌, IsUtf8}
 use Rattle.std.specs.List.{AllByRecursion}
 use Rattle.rv_value.specs.declared.value.Value.{Value}
@@ -53,8 +54,8 @@ pub record IsTranscript (bytes : List ℕ) : Type 0 where
   pub readable : AreReadable entries
   pub is : text entries ≡ bytes
 
--- The bytes are no transcript, and this is the first line, from 1, with which none begins: the lines before it begin one. It
--- is the line behind the last line feed where all complete lines begin one.
+-- The bytes are no transcript, and this is the first line, from 1, with which none begins: the lines before it begin
+-- one. It is the line behind the last line feed where all complete lines begin one.
 pub record StopsAt (line : ℕ) (bytes : List ℕ) : Type 0 where
   pub first : 1 ≤ line
   pub last : line ≤ ends bytes + 1

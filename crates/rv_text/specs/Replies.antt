@@ -93,10 +93,14 @@ both_of (Some a) (Some b) = Some (record { first = a; second = b })
 
 -- a number, ` by ` and a number
 abbrev pub pair_at : List ℕ → Option (Pair ℕ ℕ)
-pair_at text = both_of (number_at (cut 32 text).word) (read_behind (cut 32 text).more (λ rest. number_behind (codes "by ") rest))
+pair_at text =
+    both_of (number_at (cut 32 text).word) (read_behind (cut 32 text).more (λ rest. number_behind (codes "by ") rest))
 
 abbrev pub limits_all : List Which
-limits_all = limits.Name ∷ limits.Text ∷ limits.Columns ∷ limits.Key ∷ limits.List ∷ limits.Atoms ∷ limits.Groups ∷ limits.Joined ∷ limits.Returned ∷ limits.Order ∷ limits.Steps ∷ limits.Tables ∷ limits.Indexes ∷ limits.Cursors ∷ limits.Rows ∷ limits.Pending ∷ []
+limits_all =
+    limits.Name ∷ limits.Text ∷ limits.Columns ∷ limits.Key ∷ limits.List ∷ limits.Atoms ∷ limits.Groups
+    ∷ limits.Joined ∷ limits.Returned ∷ limits.Order ∷ limits.Steps ∷ limits.Tables ∷ limits.Indexes ∷ limits.Cursors
+    ∷ limits.Rows ∷ limits.Pending ∷ []
 
 abbrev pub which_at : List ℕ → Option Which
 which_at word = find (λ w. bytes_eq (limit_word w) word) limits_all
@@ -123,17 +127,24 @@ duplicate_at text = both_of (number_at (cut 32 text).word) (rival_at (cut 32 tex
 -- refusals of a word and two things
 abbrev pub paired_at : List ℕ → Option Reply
 paired_at text = first_of (
-    made (λ (p : Pair ℕ ℕ). replies.Refused (refusals.Changed (record { 0 = p.first }) p.second)) (read_behind (after (codes "changed ") text) (λ rest. pair_at rest))
-    ∷ made (λ (p : Pair ℕ ℕ). replies.Refused (refusals.Held (record { 0 = p.first }) p.second)) (read_behind (after (codes "held ") text) (λ rest. pair_at rest))
-    ∷ made (λ (p : Pair Which ℕ). replies.Refused (refusals.Limit p.first p.second)) (read_behind (after (codes "limit ") text) (λ rest. limit_at rest))
-    ∷ made (λ (p : Pair ℕ Rival). replies.Refused (refusals.Duplicate (record { 0 = p.first }) p.second)) (read_behind (after (codes "duplicate ") text) (λ rest. duplicate_at rest))
+    made (λ (p : Pair ℕ ℕ). replies.Refused (refusals.Changed (record { 0 = p.first }) p.second))
+        (read_behind (after (codes "changed ") text) (λ rest. pair_at rest))
+    ∷ made (λ (p : Pair ℕ ℕ). replies.Refused (refusals.Held (record { 0 = p.first }) p.second))
+        (read_behind (after (codes "held ") text) (λ rest. pair_at rest))
+    ∷ made (λ (p : Pair Which ℕ). replies.Refused (refusals.Limit p.first p.second))
+        (read_behind (after (codes "limit ") text) (λ rest. limit_at rest))
+    ∷ made (λ (p : Pair ℕ Rival). replies.Refused (refusals.Duplicate (record { 0 = p.first }) p.second))
+        (read_behind (after (codes "duplicate ") text) (λ rest. duplicate_at rest))
     ∷ [])
 
 abbrev pub row_at : List ℕ → Option Reply
-row_at text = made (λ (vs : List Value). replies.Row vs) (read_behind (after (codes "row ") text) (λ rest. values_at rest))
+row_at text =
+    made (λ (vs : List Value). replies.Row vs) (read_behind (after (codes "row ") text) (λ rest. values_at rest))
 
 abbrev pub shown_at : List ℕ → Option Reply
-shown_at text = made (λ (shown : Shown). replies.Trace shown) (read_behind (after (codes "trace ") text) (λ rest. trace_at rest))
+shown_at text =
+    made (λ (shown : Shown). replies.Trace shown) (read_behind (after (codes "trace ") text) (λ rest. trace_at rest))
 
 abbrev pub reply_at : List ℕ → Option Reply
-reply_at text = first_of (lone_at text ∷ numbered_at text ∷ row_at text ∷ named_at text ∷ paired_at text ∷ shown_at text ∷ [])
+reply_at text =
+    first_of (lone_at text ∷ numbered_at text ∷ row_at text ∷ named_at text ∷ paired_at text ∷ shown_at text ∷ [])

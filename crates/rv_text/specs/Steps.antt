@@ -20,5 +20,6 @@ answered_at line call bytes = answered line call (cut 10 bytes).word (cut 10 byt
 
 -- what was read is an entry, before what is read of fewer bytes; or it is bad at a line
 abbrev pub Fronts : List ℕ → ℕ → Result (List Entry) ℕ → Front → Type 0
-Fronts bytes line read (fronts.Entry entry behind) = (length behind.now < length bytes) × (read ≡ entries_before (entry ∷ []) (read_from (line + 2) behind.now))
+Fronts bytes line read (fronts.Entry entry behind) =
+    (length behind.now < length bytes) × (read ≡ entries_before (entry ∷ []) (read_from (line + 2) behind.now))
 Fronts bytes line read (fronts.Bad at) = read ≡ Err at

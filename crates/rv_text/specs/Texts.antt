@@ -12,7 +12,9 @@ pub record Call : Type 0 where
   pub text : List ℕ
 
 abbrev pub call_at : List ℕ → Option Call
-call_at (s ∷ b ∷ text) = if (nat_le 49 s && nat_le s 56) && ((b == 32) && is_utf8 text) then Some (record { session = s - 48; text = text }) else None
+call_at (s ∷ b ∷ text) =
+    if (nat_le 49 s && nat_le s 56) && ((b == 32) && is_utf8 text) then Some (record { session = s - 48; text = text })
+    else None
 call_at _ = None
 
 abbrev pub answer_at : List ℕ → Option Reply

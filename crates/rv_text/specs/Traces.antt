@@ -17,13 +17,17 @@ is_name [] = false
 is_name (c ∷ cs) = is_capital c && list_all is_name_byte cs
 
 abbrev pub strategies_all : List Strategy
-strategies_all = strategies.Table ∷ strategies.BackgroundOnly ∷ strategies.FastFirst ∷ strategies.Sorted ∷ strategies.IndexOnly ∷ strategies.Union ∷ []
+strategies_all =
+    strategies.Table ∷ strategies.BackgroundOnly ∷ strategies.FastFirst ∷ strategies.Sorted ∷ strategies.IndexOnly
+    ∷ strategies.Union ∷ []
 
 abbrev pub strategy_at : List ℕ → Option Strategy
 strategy_at word = find (λ s. bytes_eq (strategy_word s) word) strategies_all
 
 abbrev pub controls_all : List Control
-controls_all = controls.Building ∷ controls.ForegroundAlone ∷ controls.BackgroundAlone ∷ controls.FinalList ∷ controls.FinalTable ∷ controls.Done ∷ []
+controls_all =
+    controls.Building ∷ controls.ForegroundAlone ∷ controls.BackgroundAlone ∷ controls.FinalList ∷ controls.FinalTable
+    ∷ controls.Done ∷ []
 
 abbrev pub control_at : List ℕ → Option Control
 control_at word = find (λ c. bytes_eq (control_word c) word) controls_all
@@ -82,17 +86,21 @@ step_at Dropped w = if is_name w then Some (Gives (events.Drop w)) else None
 
 abbrev pub events_before : List ShownEvent → Option Tail → Option Tail
 events_before es None = None
-events_before es (Some t) = Some (record { events = es ++ t.events; pages = t.pages; leaves = t.leaves; fetches = t.fetches })
+events_before es (Some t) =
+    Some (record { events = es ++ t.events; pages = t.pages; leaves = t.leaves; fetches = t.fetches })
 
 abbrev pub counted : Option ℕ → Option ℕ → Option ℕ → Option Tail
 counted None b c = None
 counted (Some pages) None c = None
 counted (Some pages) (Some leaves) None = None
-counted (Some pages) (Some leaves) (Some fetches) = Some (record { events = []; pages = pages; leaves = leaves; fetches = fetches })
+counted (Some pages) (Some leaves) (Some fetches) =
+    Some (record { events = []; pages = pages; leaves = leaves; fetches = fetches })
 
 -- the counts behind `pages`
 abbrev pub counts_at : List (List ℕ) → Option Tail
-counts_at (p ∷ l ∷ leaves ∷ f ∷ fetches ∷ []) = if bytes_eq l (codes "leaves") && bytes_eq f (codes "fetches") then counted (number_at p) (number_at leaves) (number_at fetches) else None
+counts_at (p ∷ l ∷ leaves ∷ f ∷ fetches ∷ []) =
+    if bytes_eq l (codes "leaves") && bytes_eq f (codes "fetches")
+    then counted (number_at p) (number_at leaves) (number_at fetches) else None
 counts_at ws = None
 
 abbrev pub stepped : Option Step → List (List ℕ) → (Awaited → Option Tail) → Option Tail
@@ -109,7 +117,8 @@ told a (w ∷ ws) = stepped (step_at a w) ws (λ next. told next ws)
 abbrev pub shown_of : Option Strategy → Option Tail → Option Shown
 shown_of None tail = None
 shown_of (Some s) None = None
-shown_of (Some s) (Some t) = Some (record { strategy = s; events = t.events; pages = t.pages; leaves = t.leaves; fetches = t.fetches })
+shown_of (Some s) (Some t) =
+    Some (record { strategy = s; events = t.events; pages = t.pages; leaves = t.leaves; fetches = t.fetches })
 
 abbrev pub trace_told : List (List ℕ) → Option Shown
 trace_told [] = None

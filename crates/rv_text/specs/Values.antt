@@ -8,7 +8,9 @@ use Rattle.rv_text.specs.Lines.{Cut, extended}
 
 -- the number that is written so: the digits are read, and written again
 abbrev pub number_at : List ℕ → Option ℕ
-number_at digits = if nat_lt (digits_value 10 digits) 18446744073709551616 && bytes_eq (decimal (digits_value 10 digits)) digits then Some (digits_value 10 digits) else None
+number_at digits =
+    if nat_lt (digits_value 10 digits) 18446744073709551616 && bytes_eq (decimal (digits_value 10 digits)) digits
+    then Some (digits_value 10 digits) else None
 
 abbrev pub positive : Option ℕ → Option ℤ
 positive None = None
@@ -29,8 +31,8 @@ abbrev pub before : ℕ → Option (List ℕ) → Option (List ℕ)
 before c None = None
 before c (Some bytes) = Some (c ∷ bytes)
 
--- what stands between quotes, from behind the first one on: two quotes are one, and a lone one ends it; `quoted` says that
--- the byte before was a quote
+-- what stands between quotes, from behind the first one on: two quotes are one, and a lone one ends it; `quoted` says
+-- that the byte before was a quote
 abbrev pub unquoted : Bool → List ℕ → Option (List ℕ)
 unquoted quoted [] = if quoted then Some [] else None
 unquoted quoted (c ∷ cs) =

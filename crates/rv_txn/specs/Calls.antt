@@ -35,7 +35,9 @@ rolled_back t session = do
   Ok (without t own)
 
 abbrev pub standing_at : List Transaction → ℕ → Standing
-standing_at active own = record { txn = (transaction_at active own).number; read_only = (transaction_at active own).read_only; base = (transaction_at active own).base }
+standing_at active own =
+    record { txn = (transaction_at active own).number; read_only = (transaction_at active own).read_only;
+      base = (transaction_at active own).base }
 
 -- the standing of the transaction in a place, if any
 abbrev pub standing : List Transaction → Option ℕ → Option Standing

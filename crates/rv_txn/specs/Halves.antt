@@ -23,20 +23,24 @@ inserting t session table = do
   Ok (record { 0 = next_row t.touched table })
 
 -- the changes that an UPDATE or DELETE of the rows that it meets would make
-abbrev pub changing_rows : Transactions → ℕ → ℕ → ℕ → Option (List (ℕ × Value)) → List Record → Result (List Change) Refusal
+abbrev pub changing_rows : Transactions → ℕ → ℕ → ℕ → Option (List (ℕ × Value)) → List Record
+    → Result (List Change) Refusal
 changing_rows t session own table sets rows = do
-  space ← refuse_if (nat_lt 100000 (changed_with (transaction_at t.active own).changes table rows)) (Limit Pending 100000)
+  space ← refuse_if (nat_lt 100000 (changed_with (transaction_at t.active own).changes table rows))
+      (Limit Pending 100000)
   free ← unharmed t session (transaction_at t.active own).base table rows
   Ok (map (change_of table sets) rows)
 
 -- the same of rows that were found
-abbrev pub changing_found : Transactions → ℕ → ℕ → Option (List (ℕ × Value)) → List Record → Result (List Change) Refusal
+abbrev pub changing_found : Transactions → ℕ → ℕ → Option (List (ℕ × Value)) → List Record
+    → Result (List Change) Refusal
 changing_found t session table sets rows = do
   own ← writer t.active session
   changing_rows t session own table sets rows
 
 -- and of those for which a restriction is True, over the rows that the table has at each commit
-abbrev pub changing : Transactions → ℕ → ℕ → List (List Atom) → Option (List (ℕ × Value)) → (ℕ → List Record) → Result (List Change) Refusal
+abbrev pub changing : Transactions → ℕ → ℕ → List (List Atom) → Option (List (ℕ × Value)) → (ℕ → List Record)
+    → Result (List Change) Refusal
 changing t session table only sets rows = do
   own ← writer t.active session
   changing_rows t session own table sets (met (transaction_at t.active own) table only rows)
@@ -52,4 +56,5 @@ with_new t (Some own) c = record t {
 -- with further changes of the session's transaction, where it has one
 abbrev pub with_these : Transactions → Option ℕ → List Change → Transactions
 with_these t None new = t
-with_these t (Some own) new = record t { active = with_own t.active own (with_changes new (transaction_at t.active own).changes) }
+with_these t (Some own) new =
+    record t { active = with_own t.active own (with_changes new (transaction_at t.active own).changes) }

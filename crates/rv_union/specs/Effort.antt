@@ -27,7 +27,8 @@ effort u shown = effort_by u.control (scanning_work u shown) (keys_work u) (tabl
 
 -- the life bound of a table of so many pages of which only this index is scanned
 abbrev pub member_life : ℕ → ScanPlan → Shown → ℕ → ℕ
-member_life pages plan shown snap = life_bound pages (length (shown.cuts plan.index snap) + length (shown.entries plan.index snap))
+member_life pages plan shown snap =
+    life_bound pages (length (shown.cuts plan.index snap) + length (shown.entries plan.index snap))
 
 -- THE LIFE OF A UNION: a life bound for each member
 abbrev pub members_life : ℕ → List ScanPlan → Shown → ℕ → ℕ

@@ -23,7 +23,8 @@ lane_leaves plan shown snap l = held_leaves (shown.cuts plan.index snap) plan.ra
 -- THE LEAVES THAT MAY HOLD THE MEMBERS' RANGES, counted for each member
 abbrev pub planned_leaves : List ScanPlan → Shown → ℕ → ℕ
 planned_leaves [] shown snap = 0
-planned_leaves (plan ∷ plans) shown snap = leaves_for (shown.cuts plan.index snap) plan.range None + planned_leaves plans shown snap
+planned_leaves (plan ∷ plans) shown snap =
+    leaves_for (shown.cuts plan.index snap) plan.range None + planned_leaves plans shown snap
 
 -- none once the members were scanned or the union was dropped
 abbrev pub leaves_by : Control → ℕ → ℕ
@@ -35,7 +36,8 @@ leaves_by FinalTable scans = 0
 leaves_by Done scans = 0
 
 abbrev pub scanning_leaves : Unioned → Shown → ℕ
-scanning_leaves u shown = lane_leaves (present u) shown u.snap u.lane + planned_leaves (drop (u.member + 1) u.plans) shown u.snap
+scanning_leaves u shown =
+    lane_leaves (present u) shown u.snap u.lane + planned_leaves (drop (u.member + 1) u.plans) shown u.snap
 
 abbrev pub leaves_left : Unioned → Shown → ℕ
 leaves_left u shown = leaves_by u.control (scanning_leaves u shown)

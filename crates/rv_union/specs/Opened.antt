@@ -67,7 +67,8 @@ opened table snap only members cursor opening pages at last = record {
 }
 
 -- A UNION THAT WAS OPENED: it has read nothing, also not of its final stage
-pub record Opened (table snap : ℕ) (only : List (List Atom)) (members : List ScanPlan) (cursor opening pages : ℕ) (u : Unioned) : Type 0 where
+pub record Opened (table snap : ℕ) (only : List (List Atom)) (members : List ScanPlan) (cursor opening pages : ℕ)
+    (u : Unioned) : Type 0 where
   pub is : u ≡ opened table snap only members cursor opening pages u.at u.last
   pub unbegun : Unbegun u.at u.last
   pub last_table : u.last.table ≡ table
@@ -108,12 +109,17 @@ pub record OnePiece (would : ℕ → Facts → Ruling) (state after : ℕ) (old 
 
 -- WHAT A STEP DOES AND READS, by the control: one piece, upon which the judge is asked and obeyed as by a give; the
 -- fetch of the next key of the list; a step through the table; or nothing
-abbrev pub DoesAs : Control → (ℕ → Facts → Ruling) → ℕ → ℕ → Shown → Counts → Counts → Scanned → Unioned → Unioned → Type 0
+abbrev pub DoesAs : Control → (ℕ → Facts → Ruling) → ℕ → ℕ → Shown → Counts → Counts → Scanned → Unioned → Unioned
+    → Type 0
 DoesAs Building would state after shown c d s old new = ⊥
 DoesAs ForegroundAlone would state after shown c d s old new = ⊥
-DoesAs BackgroundAlone would state after shown c d s old new = (s ≡ Working) × OnePiece would state after old new × (d ≡ piece_read old c)
-DoesAs FinalList would state after shown c d s old new = (after ≡ state) × FetchesKey (first_key (Some old.keys) None old.at) old.only (rows_of old shown) c d s × (new ≡ ended_by s (record old { at = new.at }))
-DoesAs FinalTable would state after shown c d s old new = (after ≡ state) × PageReads s c d × (new ≡ ended_by s (record old { last = new.last }))
+DoesAs BackgroundAlone would state after shown c d s old new =
+    (s ≡ Working) × OnePiece would state after old new × (d ≡ piece_read old c)
+DoesAs FinalList would state after shown c d s old new =
+    (after ≡ state) × FetchesKey (first_key (Some old.keys) None old.at) old.only (rows_of old shown) c d s
+    × (new ≡ ended_by s (record old { at = new.at }))
+DoesAs FinalTable would state after shown c d s old new =
+    (after ≡ state) × PageReads s c d × (new ≡ ended_by s (record old { last = new.last }))
 DoesAs Done would state after shown c d s old new = (after ≡ state) × (s ≡ End) × (d ≡ c) × (new ≡ old)
 
 abbrev pub Does : (ℕ → Facts → Ruling) → ℕ → ℕ → Shown → Counts → Counts → Scanned → Unioned → Unioned → Type 0
@@ -137,7 +143,8 @@ pub record OnlyTakes (old new : Unioned) : Type 0 where
   pub fewer : keys_work new ≤ keys_work old
 
 -- what it does, and then what it read is counted
-pub record StepsAs (would : ℕ → Facts → Ruling) (state after : ℕ) (shown : Shown) (c d : Counts) (s : Scanned) (old new : Unioned) : Type 0 where
+pub record StepsAs (would : ℕ → Facts → Ruling) (state after : ℕ) (shown : Shown) (c d : Counts) (s : Scanned)
+    (old new : Unioned) : Type 0 where
   pub stepped : Unioned
   pub does : Does would state after shown c d s old stepped
   pub counts : new ≡ record stepped { trace = counted stepped.trace c d }

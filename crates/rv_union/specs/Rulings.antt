@@ -46,7 +46,8 @@ accepted piece last u = record (with_lane (passed (lacks u.keys) piece u.lane) u
 -- its scan is finished and its list fetched, and with it the keys that the members before have added.
 
 abbrev pub account_of : Unioned → ScanAccount
-account_of u = record { estimate = (present u).estimate; scanned = u.count.scanned; kept = u.count.kept; leaves = u.count.leaves }
+account_of u =
+    record { estimate = (present u).estimate; scanned = u.count.scanned; kept = u.count.kept; leaves = u.count.leaves }
 
 -- its position, held at the greatest u32
 abbrev pub position : Unioned → ℕ
@@ -69,7 +70,9 @@ told event u = record u { trace = noted u.trace event }
 
 -- the control is that of the course, and the trace tells it
 abbrev pub gone : Happening → Unioned → Unioned
-gone happening u = record u { control = next_control Union u.control happening; trace = noted u.trace (At (next_control Union u.control happening)) }
+gone happening u =
+    record u { control = next_control Union u.control happening;
+      trace = noted u.trace (At (next_control Union u.control happening)) }
 
 -- A MEMBER ENDED: what it built and the keys before it are one list, and the next member begins. Its index is told
 -- where it is scanned for the first time. After the last member the list is fetched.
@@ -134,7 +137,8 @@ pub record Completes (old new : Unioned) : Type 0 where
 
 -- THE JUDGE IS ASKED ONCE where the member goes on, with the facts of its piece, and never where the piece was its last
 abbrev pub Obeys : (ℕ → Facts → Ruling) → ℕ → ℕ → Pieced → Option IndexEntry → Unioned → Unioned → Type 0
-Obeys would state after piece (Some cut) old new = IsRuled (would state (facts_of (accepted piece false old))) after (accepted piece false old) new
+Obeys would state after piece (Some cut) old new =
+    IsRuled (would state (facts_of (accepted piece false old))) after (accepted piece false old) new
 Obeys would state after piece None old new = Completes (accepted piece true old) new × (after ≡ state)
 
 -- WHAT A GIVE LEAVES

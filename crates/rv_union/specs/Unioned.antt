@@ -111,7 +111,9 @@ builds plan shown snap l n = has_key n l.building || has_entry n (passing plan.p
 
 -- whether a row was put together, is being built or ahead of the present member, or meets a member behind it
 abbrev pub found : Unioned → Shown → ℕ → Bool
-found u shown n = has_key n u.keys || (builds (present u) shown u.snap u.lane n || meets_any (drop (u.member + 1) u.plans) shown u.snap n)
+found u shown n =
+    has_key n u.keys || (builds (present u) shown u.snap u.lane n
+      || meets_any (drop (u.member + 1) u.plans) shown u.snap n)
 
 -- a list has each row that is owed
 abbrev pub Covers : (ℕ → Bool) → List ℕ → Type 0

@@ -27,7 +27,8 @@ versions_to horizon (v ∷ vs) = (if nat_le v.commit horizon then 1 else 0) + ve
 
 -- a write at a commit changes the value from that commit on
 abbrev pub IsWritten : {T : Type 0} → ℕ → T → List (Version T) → List (Version T) → Type 0
-IsWritten commit value old new = (snap : ℕ) → value_at new snap ≡ (if nat_le commit snap then Some value else value_at old snap)
+IsWritten commit value old new =
+    (snap : ℕ) → value_at new snap ≡ (if nat_le commit snap then Some value else value_at old snap)
 
 -- the value of an id at a snapshot; an id past the end has none
 abbrev pub value_of : {T : Type 0} → List (List (Version T)) → ℕ → ℕ → Option T

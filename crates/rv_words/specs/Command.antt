@@ -44,7 +44,8 @@ found_in rows option = option_and_then (value option) (first_of (id_of option) r
 
 -- whether an option that takes no value is among matches
 abbrev pub flag_in : List Row → Choice → Bool
-flag_in rows option = option_map_or (λ (text : List ℕ). bytes_eq text (codes "true")) (first_of (id_of option) rows) false
+flag_in rows option =
+    option_map_or (λ (text : List ℕ). bytes_eq text (codes "true")) (first_of (id_of option) rows) false
 
 -- what matches ask
 abbrev pub asked_in : List Row → Asked

@@ -56,12 +56,16 @@ held_to most None = None
 held_to most (Some n) = if nat_le n most then Some n else None
 
 abbrev pub value : Choice → List ℕ → Option ℕ
-value option digits = if nat_le 1 (length digits) && nat_le (length digits) 10 then held_to (greatest option) (number_from 0 digits) else None
+value option digits =
+    if nat_le 1 (length digits) && nat_le (length digits) 10 then held_to (greatest option) (number_from 0 digits)
+    else None
 
 -- ---- what was read so far
 
 abbrev pub start : Sofar
-start = record { threads = false; workers = false; judge = false; steps = false; seed = false; race = false; waiting = None }
+start =
+    record { threads = false; workers = false; judge = false; steps = false; seed = false; race = false;
+      waiting = None }
 
 abbrev pub given : Choice → Sofar → Bool
 given Threads s = s.threads
@@ -85,7 +89,8 @@ with_new s option false = None
 with_new s option true = if given option s then None else Some (marked s option)
 
 abbrev pub with_form : Sofar → Form → Option Sofar
-with_form s (Named option) = if is_flag option then with_new s option true else Some (record s { waiting = Some option })
+with_form s (Named option) =
+    if is_flag option then with_new s option true else Some (record s { waiting = Some option })
 with_form s (Joined option digits) = if is_flag option then None else with_new s option (is_some (value option digits))
 with_form s Other = None
 

@@ -16,8 +16,8 @@ likely_entries estimate = min (estimate + estimate / (if nat_lt estimate 256 the
 abbrev pub likely_cost : Facts → ℕ
 likely_cost facts = projection (max (likely_entries facts.estimate) facts.scanned) facts.scanned facts.kept
 
--- A scan is dear where its likely cost is 7 fourths of the guarantee or more; a scan behind the first one, where it is the
--- guarantee or more. A first list may yet be cut down by the next scan.
+-- A scan is dear where its likely cost is 7 fourths of the guarantee or more; a scan behind the first one, where it is
+-- the guarantee or more. A first list may yet be cut down by the next scan.
 abbrev pub is_dear : Facts → Bool
 is_dear facts =
     if facts.scan == 0 then nat_le (7 * facts.guaranteed) (4 * likely_cost facts) else
@@ -34,7 +34,8 @@ is_building Building = true
 is_building _ = false
 
 -- How many leaves of a scan are read before the one by which it may be dropped as dear: a 64th of the guarantee and one
--- where the estimate may be far too high; else one, but none beside a foreground, which fetches what is listed meanwhile.
+-- where the estimate may be far too high; else one, but none beside a foreground, which fetches what is listed
+-- meanwhile.
 abbrev pub leaves_granted : Facts → ℕ
 leaves_granted facts =
     if may_be_few facts.estimate then 1 + facts.guaranteed / 64 else
@@ -54,8 +55,8 @@ all_rows facts =
 abbrev pub was_tried : Facts → Bool
 was_tried facts = nat_lt 0 facts.delivered || nat_lt 48 facts.kept || nat_lt 0 facts.scan
 
--- For the first rows: beside a foreground a dear scan is dropped at once, and the foreground is stopped when it was tried
--- long enough. From then on it is as for all rows.
+-- For the first rows: beside a foreground a dear scan is dropped at once, and the foreground is stopped when it was
+-- tried long enough. From then on it is as for all rows.
 abbrev pub first_rows : Facts → Verdict
 first_rows facts =
     if is_building facts.control then
