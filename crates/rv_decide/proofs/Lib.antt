@@ -3,3 +3,4 @@ pub mod Names
 pub mod Known
 pub mod May
 pub mod Shown
+pub mod Named

@@ -11,4 +11,4 @@ mod truth;
 
 pub use atom::{Atom, ColRef, Op, Operand, Tri};
 pub use part::Part;
-pub use truth::Restriction;
+pub use truth::{Reads, Restriction};

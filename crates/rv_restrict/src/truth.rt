@@ -11,7 +11,7 @@ use std::alloc::Global;
 use std::cmp::Ordering;
 use std::marker::Model;
 
-/// Rows whose columns a restriction reads.
+/// Rows whose columns a restriction reads: which columns they have, and the value of each.
 pub trait Reads {
     ghost reads: { Self → Column → OneValue };
 
@@ -71,6 +71,14 @@ impl Restriction {
         ensures { result ≡ truth self.now row.now }
     {
         all_groups(self.groups.as_slice(), row)
+    }
+
+    /// The truth on rows that have its columns.
+    pub fn truth_on<R: Reads>(&self, rows: &R) -> Tri
+        requires { names_only (R.has rows.now) self.now ≡ true }
+        ensures { result ≡ truth_by (R.reads rows.now) self.now }
+    {
+        all_groups(self.groups.as_slice(), rows)
     }
 }
 
