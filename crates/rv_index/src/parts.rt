@@ -1,14 +1,15 @@
 ghost use Rattle.std.specs.Prelude.{◌≡◌, ◌<◌, ◌≤◌, length, filter, take, drop, None, IfOk, OnOk};
 ghost use Rattle.std.specs.Option.{option_copied};
 ghost use Rattle.rv_reader.specs.Entries.{AreLong, Ascend, comes_before};
-ghost use Rattle.rv_reader.specs.Leaves.{is_passed, is_wanted, within};
+ghost use Rattle.rv_reader.specs.Leaves.{is_passed, is_wanted};
 ghost use Rattle.rv_node.specs.Children.{PassesTo};
 ghost use Rattle.rv_node.specs.Descent.{child_in};
 ghost use Rattle.rv_node.specs.Trees.{differs, placed, up_to};
 ghost use Rattle.rv_index.specs.Steps.{behind_child, is_ahead, passed_first};
 
 use rv_node::{Node, count_not_after};
-use rv_value::{Duplicate, IndexEntry, NoMemory, Range, Side, cmp_entry, copy_slice};
+use rv_reader::is_passed;
+use rv_value::{IndexEntry, NoMemory, Range, Side, cmp_entry, copy_slice};
 use std::alloc::Global;
 use std::cmp::Ordering;
 
@@ -17,16 +18,6 @@ fn is_less(a: &IndexEntry, b: &IndexEntry) -> bool
     ensures { result ≡ comes_before a.now b.now }
 {
     cmp_entry(a, b) == Ordering::Less
-}
-
-/// Whether a cut is not behind the leaf in which a reading begins.
-fn passed(from: Option<&IndexEntry>, range: &Range, cut: &IndexEntry) -> bool
-    ensures { result ≡ is_passed (option_copied from.entry) range.now cut.now }
-{
-    match from {
-        None => range.place(&cut.key) == Side::Before,
-        Some(start) => !is_less(start, cut),
-    }
 }
 
 /// Whether an entry is before the range, or before the start.
@@ -78,26 +69,6 @@ pub fn wanted_of(
     copy_slice(alloc, wanted_part(leaf, from, range))
 }
 
-/// A copy of the following cut, none where its key is after the range.
-pub fn next_cut(
-    alloc: Global,
-    cut: Option<&IndexEntry>,
-    range: &Range,
-) -> Result<Option<IndexEntry>, NoMemory>
-    ensures { IfOk result (λ next. next ≡ within range.now (option_copied cut.entry)) }
-{
-    match cut {
-        None => Ok(None),
-        Some(cut) => {
-            if range.place(&cut.key) == Side::After {
-                Ok(None)
-            } else {
-                Ok(Some(cut.copy(alloc)?))
-            }
-        }
-    }
-}
-
 /// How many cuts are not behind the leaf in which a reading begins.
 fn count_passed(cuts: &[IndexEntry], from: Option<&IndexEntry>, range: &Range) -> usize
     requires ascend { Ascend cuts.now }
@@ -105,7 +76,7 @@ fn count_passed(cuts: &[IndexEntry], from: Option<&IndexEntry>, range: &Range) -
     ensures bound { result ≤ length cuts.now }
     ensures passes { PassesTo (is_passed (option_copied from.entry) range.now) result cuts.now }
 {
-    cuts.partition_point(|cut| passed(from, range, cut))
+    cuts.partition_point(|cut| is_passed(from, range, cut))
 }
 
 /// The child in which a descent goes on, and the cut at which the following one begins. It is found by halves.

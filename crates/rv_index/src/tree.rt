@@ -12,9 +12,9 @@ ghost use Rattle.rv_node.specs.Trees.{grow, placed, up_to};
 ghost use Rattle.rv_index.specs.Index.{cuts_of, entries_of, level_at, nodes_at, IsDeleted, IsInserted, IsNew, IsOlderSame, IsOwn, IsSound};
 ghost use Rattle.rv_index.specs.Steps.{behind_child, leaf_of, leaf_without, shrunken, AreOthersSame, HasParts, IsGrown, IsNodePut, IsOlderKept, IsRaised, IsStoredIn};
 
-use crate::parts::{child_for, child_of, cut_off, next_cut, put_entry, take_entry, wanted_of};
+use crate::parts::{child_for, child_of, cut_off, put_entry, take_entry, wanted_of};
 use rv_node::Node;
-use rv_reader::Chunk;
+use rv_reader::{Chunk, cut_within};
 use rv_value::{Duplicate, IndexEntry, Items, NoMemory, Range};
 use rv_versions::Versions;
 use std::alloc::Global;
@@ -157,7 +157,7 @@ impl Tree {
     {
         let (leaf, cut) = self.leaf(snap, from, range);
         let entries = self.part(leaf, from, range)?;
-        let next = next_cut(self.alloc, cut, range)?;
+        let next = cut_within(self.alloc, cut, range)?;
         Ok(Chunk { entries, next })
     }
 

@@ -10,12 +10,12 @@ use Rattle.rv_rows.specs.declared.changes.Change.{Change}
 use Rattle.rv_rows.specs.Changes.{is_before, is_of, with_change}
 use Rattle.rv_rows.specs.Rising.{put_in}
 use Rattle.rv_blocks.specs.Taking.{take_from}
-use Rattle.rv_reader.specs.Entries.{comes_before, entry_of}
+use Rattle.rv_reader.specs.Entries.{comes_before, entry_of, entry_at}
 use Rattle.rv_reader.specs.Tables.{row_at}
 use Rattle.rv_reader.proofs.Orders.{one_way}
 use Rattle.rv_reader.proofs.Sorting.{same}
 use Rattle.rv_overlay.specs.declared.frozen.Part.{Part}
-use Rattle.rv_overlay.specs.Keeping.{KeepsUp, NothingKept, OthersKeepUp, added_after, are_same, entry_at, taken_after, with_some, without_some}
+use Rattle.rv_overlay.specs.Keeping.{KeepsUp, NothingKept, OthersKeepUp, added_after, are_same, taken_after, with_some, without_some}
 use Rattle.rv_overlay.specs.Laying.{has}
 use Rattle.rv_overlay.specs.Rows.{change_of, changed_row}
 use Rattle.rv_overlay.specs.Views.{Freezes, adds, is_entry, takes}

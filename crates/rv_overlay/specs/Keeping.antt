@@ -8,7 +8,7 @@ use Rattle.rv_rows.specs.declared.changes.Change.{Change}
 use Rattle.rv_rows.specs.Changes.{with_change}
 use Rattle.rv_rows.specs.Rising.{put_in}
 use Rattle.rv_blocks.specs.Taking.{take_from}
-use Rattle.rv_reader.specs.Entries.{comes_before, entry_of}
+use Rattle.rv_reader.specs.Entries.{comes_before, entry_at}
 use Rattle.rv_reader.specs.Tables.{row_at}
 use Rattle.rv_overlay.specs.declared.frozen.Part.{Part}
 use Rattle.rv_overlay.specs.Rows.{change_of, changed_row}
@@ -46,11 +46,6 @@ moved base old new part = record part {
   taken = taken_after base new part.taken;
   added = added_after base old new part.added;
 }
-
--- the entry of a row, where there is one
-abbrev pub entry_at : List ℕ → Option Record → Option IndexEntry
-entry_at columns None = None
-entry_at columns (Some r) = Some (entry_of columns r)
 
 -- A further change of a table is kept up with: the lists are again what the changes take away and add. (On the side of
 -- an index of another table nothing is done.)

@@ -11,7 +11,8 @@ ghost use Rattle.rv_reader.specs.Leaves.{is_below, is_taken};
 
 use crate::fronts::{first_behind, has, span_of};
 use rv_blocks::{Before, Blocks, turn_in};
-use rv_value::{Duplicate, IndexEntry, NoMemory, Range, Side, cmp_entry};
+use rv_reader::cut_within;
+use rv_value::{IndexEntry, NoMemory, Range, cmp_entry};
 use std::alloc::Global;
 use std::cmp::Ordering;
 
@@ -22,26 +23,6 @@ fn below(next: Option<&IndexEntry>, entry: &IndexEntry) -> bool
     match next {
         None => true,
         Some(cut) => cmp_entry(entry, cut) == Ordering::Less,
-    }
-}
-
-/// A copy of a cut, none where its key is after the range.
-fn copy_within(
-    alloc: Global,
-    cut: Option<&IndexEntry>,
-    range: &Range,
-) -> Result<Option<IndexEntry>, NoMemory>
-    ensures { IfOk result (λ next. next ≡ within range.now (option_copied cut.entry)) }
-{
-    match cut {
-        None => Ok(None),
-        Some(cut) => {
-            if range.place(&cut.key) == Side::After {
-                Ok(None)
-            } else {
-                Ok(Some(cut.copy(alloc)?))
-            }
-        }
     }
 }
 
@@ -75,7 +56,7 @@ pub fn next_cut(
     requires few { length added.now ≤ 1099511627776 }
     ensures { IfOk result (λ cut. cut ≡ lesser next (within range.now (first_not (is_passed (option_copied from.entry) range.now) (sixteenths added.now)))) }
 {
-    let own = copy_within(alloc, first_behind(added, from, range), range)?;
+    let own = cut_within(alloc, first_behind(added, from, range), range)?;
     Ok(lesser(next, own))
 }
 

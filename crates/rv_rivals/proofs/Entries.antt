@@ -19,11 +19,11 @@ use Rattle.rv_rows.specs.Rising.{put_in}
 use Rattle.rv_rows.specs.Rows as rows_by_number
 use Rattle.rv_rows.specs.Rows.{comes_below}
 use Rattle.rv_rows.proofs.Merges.{passes_put}
-use Rattle.rv_reader.specs.Entries.{Ascend, comes_before, entries_of, entry_of}
+use Rattle.rv_reader.specs.Entries.{Ascend, comes_before, entries_of, entry_of, entry_at}
 use Rattle.rv_reader.specs.Tables.{row_at}
 use Rattle.rv_reader.proofs.Sorting.{entries_ascend}
 use Rattle.rv_model.specs.Rivals.{key_of, rows_written}
-use Rattle.rv_overlay.specs.Keeping.{entry_at, with_some}
+use Rattle.rv_overlay.specs.Keeping.{with_some}
 use Rattle.rv_overlay.specs.Rows.{changed_row}
 use Rattle.rv_overlay.specs.Views.{is_entry}
 use Rattle.rv_overlay.proofs.Members.{has_put, members_tell}

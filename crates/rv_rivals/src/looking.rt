@@ -2,7 +2,7 @@
 ghost use Rattle.std.specs.Prelude.{◌≡◌, ◌≤◌, ℕ, List, [], Some, true, IfOk, length};
 ghost use Rattle.std.specs.List.{list_any};
 ghost use Rattle.rv_value.specs.declared.record.Record.{Record as OneRecord};
-ghost use Rattle.rv_reader.specs.Entries.{column_of, run};
+ghost use Rattle.rv_reader.specs.Entries.{run};
 ghost use Rattle.rv_reader.specs.Shown.{CanScan, Suits};
 ghost use Rattle.rv_model.specs.Rivals.{is_null, key_of};
 ghost use Rattle.rv_view.specs.Sights.{LaysSome, laid_over};
@@ -16,34 +16,13 @@ use rv_value::{Bound, Duplicate, IndexEntry, Key, NoMemory, Range, RowNo, Value}
 use rv_view::{Seen, View};
 use std::alloc::Global;
 
-/// The value of a column, NULL where there is none.
-fn column_value(alloc: Global, values: &[Value], column: u32) -> Result<Value, NoMemory>
-    ensures { IfOk result (λ value. value ≡ column_of values.now column) }
-{
-    match values.get(column as usize) {
-        Some(value) => value.copy(alloc),
-        None => Ok(Value::Null),
-    }
-}
-
-fn key_values(alloc: Global, values: &[Value], columns: &[u32]) -> Result<Vec<Value>, NoMemory>
-    ensures { IfOk result (λ key. key.items ≡ key_of columns.now values.now) }
-{
-    let mut key = Vec::with_capacity(alloc, columns.len())?;
-    'columns: for column in columns {
-        key.push(column_value(alloc, values, *column)?)?;
-    }
-    Ok(key)
-}
-
-/// The key of values in an index of these columns.
+/// The key of values in an index of these columns, one to four.
 pub fn key_of(alloc: Global, values: &[Value], columns: &[u32]) -> Result<Key, NoMemory>
     requires some { 1 ≤ length columns.now }
     requires few { length columns.now ≤ 4 }
     ensures { IfOk result (λ key. key ≡ key_of columns.now values.now) }
 {
-    let key = key_values(alloc, values, columns)?;
-    Ok(Key::from_vec(key))
+    rv_reader::key_of(alloc, values, columns)
 }
 
 fn is_null(value: &Value) -> bool

@@ -17,7 +17,7 @@ use Rattle.rv_rows.specs.Changes.{Rise, is_before, rows_with_changes}
 use Rattle.rv_rows.specs.Rows.{comes_below, with_values, without_row, Ascend}
 use Rattle.rv_rows.proofs.Chains.{record_ascends, ascends_without}
 use Rattle.rv_reader.specs.Tables.{row_at}
-use Rattle.rv_reader.specs.Entries.{comes_before, entry_of, column_of}
+use Rattle.rv_reader.specs.Entries.{comes_before, entry_of, column_of, entry_at}
 use Rattle.rv_reader.specs.Entries as rows_entries
 use Rattle.rv_reader.specs.Storing.{AreKeys}
 use Rattle.rv_reader.proofs.Filters.{all_filter}
@@ -28,7 +28,7 @@ use Rattle.rv_index.specs.Index.{Nodes, tree_of, entries_of, cuts_of, IsSound}
 use Rattle.rv_index.proofs.Facts.{other_row}
 use Rattle.rv_store.specs.declared.indexes.Index.{Index}
 use Rattle.rv_store.specs.Indexes.{IsPassed, IsSameIndex}
-use Rattle.rv_store.specs.Indexing.{entry_at, row_with, taken_out, put_in, stays, entries_after, tree_after, tree_with, tree_through, Passes, IsAbsent, IsTakenOut, IsPutIn, IsTreeChanged, IsIndexed}
+use Rattle.rv_store.specs.Indexing.{row_with, taken_out, put_in, stays, entries_after, tree_after, tree_with, tree_through, Passes, IsAbsent, IsTakenOut, IsPutIn, IsTreeChanged, IsIndexed}
 use Rattle.rv_store.proofs.Tabling.{applied-append}
 use Rattle.rv_store.proofs.Indexing.{is_others, change_is, change_none, taken_is, others_all}
 

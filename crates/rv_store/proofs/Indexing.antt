@@ -13,9 +13,9 @@ use Rattle.rv_value.proofs.Sorting.{swap_in}
 use Rattle.rv_rows.specs.Rows as rows_by_number
 use Rattle.rv_rows.specs.Rows.{comes_below, with_values, without_row}
 use Rattle.rv_reader.specs.Tables.{row_at}
-use Rattle.rv_reader.specs.Entries.{comes_before, Ascend, entry_of, sorted_in, sorted, entries_of}
+use Rattle.rv_reader.specs.Entries.{comes_before, Ascend, entry_of, sorted_in, sorted, entries_of, entry_at}
 use Rattle.rv_node.specs.Trees.{differs}
-use Rattle.rv_store.specs.Indexing.{taken_out, put_in, entry_at, row_with}
+use Rattle.rv_store.specs.Indexing.{taken_out, put_in, row_with}
 use Rattle.rv_reader.proofs.Filters.{filter_same, filter_none, rising_cut}
 use Rattle.rv_reader.proofs.Orders.{one_way, through_below, itself}
 use Rattle.rv_reader.proofs.Sorting.{all_sorted, entries_ascend, same, sort_of_entries}

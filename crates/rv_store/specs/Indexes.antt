@@ -12,7 +12,8 @@ use Rattle.rv_index.specs.Index.{empty_tree, entries_of, cuts_of, tree_of, IsOld
 use Rattle.rv_store.specs.declared.tables.Table.{Table}
 use Rattle.rv_store.specs.Tables.{table_at, rows_in}
 use Rattle.rv_store.specs.declared.indexes.Index.{Index}
-use Rattle.rv_store.specs.Indexing.{entry_at, row_with, tree_over, tree_through, IsIndexed, IsTreeChanged}
+use Rattle.rv_reader.specs.Entries.{entry_at}
+use Rattle.rv_store.specs.Indexing.{row_with, tree_over, tree_through, IsIndexed, IsTreeChanged}
 
 abbrev pub no_index : Index
 no_index = record { table = 0; columns = []; tree = [] }

@@ -8,7 +8,7 @@ use Rattle.rv_value.specs.declared.record.IndexEntry.{IndexEntry}
 use Rattle.rv_value.specs.Entries.{entry_cmp}
 use Rattle.rv_rows.specs.declared.changes.Change.{Change}
 use Rattle.rv_rows.specs.Rows.{with_values}
-use Rattle.rv_reader.specs.Entries.{comes_before, entry_of, sorted_in}
+use Rattle.rv_reader.specs.Entries.{comes_before, entry_at, entry_of, sorted_in}
 use Rattle.rv_reader.specs.Entries as rows_entries
 use Rattle.rv_reader.specs.Storing.{AreKeys}
 use Rattle.rv_reader.specs.Tables.{row_at}
@@ -25,11 +25,6 @@ taken_out (Some e) entries = filter (differs comes_before e) entries
 abbrev pub put_in : Option IndexEntry → List IndexEntry → List IndexEntry
 put_in None entries = entries
 put_in (Some e) entries = sorted_in e entries
-
--- the entry of a row, where there is one
-abbrev pub entry_at : List ℕ → Option Record → Option IndexEntry
-entry_at columns None = None
-entry_at columns (Some r) = Some (entry_of columns r)
 
 -- the row of a number with values, where there are some
 abbrev pub row_with : ℕ → Option (List Value) → Option Record

@@ -8,11 +8,13 @@ ghost use Rattle.rv_versions.specs.Chains.{AllChainsBelow};
 ghost use Rattle.rv_records.specs.Pages.{page_at, rows_at, rows_of};
 ghost use Rattle.rv_index.specs.Index.{entries_of, tree_of, IsOlderSame, IsSound};
 ghost use Rattle.rv_store.specs.Indexes.{index_at, AreFew, AreIndexesBelow, AreSameIndexes, IsNewIndex, IsOpen, IsPassed, IsSameIndex, IsThrough};
-ghost use Rattle.rv_store.specs.Indexing.{entry_at, row_with, stays, taken_out, tree_over, tree_through, IsAbsent, IsIndexed, IsPutIn, IsTakenOut, IsTreeChanged};
+ghost use Rattle.rv_reader.specs.Entries.{entry_at};
+ghost use Rattle.rv_store.specs.Indexing.{row_with, stays, taken_out, tree_over, tree_through, IsAbsent, IsIndexed, IsPutIn, IsTakenOut, IsTreeChanged};
 
-use crate::entries::{new_entry, old_entry, row_entry};
+use crate::entries::new_entry;
 use crate::tables::Table;
 use rv_index::Tree;
+use rv_reader::entry_at;
 use rv_records::Records;
 use rv_rows::Change;
 use rv_value::{IndexEntry, Items, NoMemory, Record, cmp_entry, copy_slice};
@@ -112,7 +114,7 @@ fn change_index(
     ensures older { IsOlderSame commit index.old.tree index.new.tree }
     ensures newest { AllChainsBelow (commit + 1) index.new.tree }
 {
-    let before = old_entry(alloc, old, index.columns.as_slice())?;
+    let before = entry_at(alloc, old, index.columns.as_slice())?;
     let after = new_entry(alloc, change, index.columns.as_slice())?;
     change_tree(&mut index.tree, before, after, commit)
 }

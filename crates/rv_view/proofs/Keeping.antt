@@ -15,7 +15,7 @@ use Rattle.rv_rows.specs.Rows as rows_by_number
 use Rattle.rv_rows.proofs.Chains.{change_rises}
 use Rattle.rv_rows.proofs.Puts.{rising_put}
 use Rattle.rv_catalog.specs.declared.def.IndexDef.{IndexDef}
-use Rattle.rv_reader.specs.Entries.{Ascend, comes_before}
+use Rattle.rv_reader.specs.Entries.{Ascend, comes_before, entry_at}
 use Rattle.rv_reader.specs.Shown.{Shown, CanRead, CanScan}
 use Rattle.rv_reader.specs.Storing.{pages_after}
 use Rattle.rv_reader.specs.Tables.{IsTable, row_at}
@@ -24,7 +24,7 @@ use Rattle.rv_overlay.specs.declared.frozen.Frozen.{Frozen}
 use Rattle.rv_overlay.specs.declared.frozen.Part.{Part}
 use Rattle.rv_overlay.specs.declared.frozen.TableSize.{TableSize}
 use Rattle.rv_overlay.specs.Freezing.{KeepsSize}
-use Rattle.rv_overlay.specs.Keeping.{added_after, are_same, entry_at, moved, taken_after, with_some, without_some}
+use Rattle.rv_overlay.specs.Keeping.{added_after, are_same, moved, taken_after, with_some, without_some}
 use Rattle.rv_overlay.specs.Overlaid.{part_at, size_of}
 use Rattle.rv_overlay.specs.Rows.{change_of, changed_row}
 use Rattle.rv_overlay.proofs.Moving.{find_back, find_front, find_kept, find_left, keeps_up, nothing_kept, others_keep_up}

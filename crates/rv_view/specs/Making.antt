@@ -10,14 +10,14 @@ use Rattle.rv_rows.specs.Rising.{put_in}
 use Rattle.rv_blocks.specs.Orders.{change_cmp}
 use Rattle.rv_blocks.specs.Taking.{take_from}
 use Rattle.rv_catalog.specs.declared.def.IndexDef.{IndexDef}
-use Rattle.rv_reader.specs.Entries.{Ascend}
+use Rattle.rv_reader.specs.Entries.{Ascend, entry_at}
 use Rattle.rv_reader.specs.Shown.{Shown, CanRead, CanScan}
 use Rattle.rv_reader.specs.Storing.{IsStored}
 use Rattle.rv_overlay.specs.declared.frozen.Frozen.{Frozen}
 use Rattle.rv_overlay.specs.declared.frozen.Part.{Part}
 use Rattle.rv_overlay.specs.declared.frozen.TableSize.{TableSize}
 use Rattle.rv_overlay.specs.Freezing.{KeepsSize}
-use Rattle.rv_overlay.specs.Keeping.{entry_at, moved}
+use Rattle.rv_overlay.specs.Keeping.{moved}
 use Rattle.rv_overlay.specs.Overlaid.{Lays, part_at, size_of}
 use Rattle.rv_overlay.specs.Views.{Freezes}
 

@@ -7,7 +7,8 @@ use Rattle.rv_rows.specs.Changes.{is_before, rows_with_changes}
 use Rattle.rv_reader.specs.Tables.{row_at}
 use Rattle.rv_records.specs.Pages.{rows_at}
 use Rattle.rv_index.specs.Index.{tree_of, entries_of}
-use Rattle.rv_store.specs.Indexing.{entry_at, row_with, taken_out, tree_through, IsAbsent, IsIndexed}
+use Rattle.rv_reader.specs.Entries.{entry_at}
+use Rattle.rv_store.specs.Indexing.{row_with, taken_out, tree_through, IsAbsent, IsIndexed}
 use Rattle.rv_store.proofs.Changing.{same_index_trans, absent_new, row_before, rise_before, applied_ascends, pass_indexed, pass_tree, applied_more}
 use Rattle.rv_store.proofs.indexes.index_part.Goals as goal
 

@@ -2,7 +2,8 @@ use Rattle.std.proofs.Common.{◌≡◌, ◌∙◌, ◌==◌, ap, sym, arith, co
 use Rattle.std.specs.Option.{option_copied}
 use Rattle.std.proofs.lemmas.Bool.Decides.{nat_tests}
 use Rattle.std.proofs.lemmas.Option.{same_Some}
-use Rattle.rv_overlay.specs.Keeping.{entry_at, moved}
+use Rattle.rv_reader.specs.Entries.{entry_at}
+use Rattle.rv_overlay.specs.Keeping.{moved}
 use Rattle.rv_view.proofs.Parts.{put_back}
 use Rattle.rv_view.proofs.making.keep_at.Goals as goal
 
