@@ -18,7 +18,8 @@ use Rattle.rv_reader.specs.Shown.{IsEstimate}
 use Rattle.rv_reader.proofs.Chunks.{is_long}
 use Rattle.rv_reader.proofs.Orders.{order, one_way, key_not}
 use Rattle.rv_reader.proofs.Sides.{before_along, after_along}
-use Rattle.rv_node.specs.Children.{is_before, is_not_after, last_place, first_child, last_child}
+use Rattle.rv_reader.specs.Halves.{is_before, is_not_after}
+use Rattle.rv_node.specs.Children.{last_place, first_child, last_child}
 use Rattle.rv_node.specs.Trees.{Tree, Whole, entries_in, entries_all, cuts_in, cuts_all, cuts_under}
 use Rattle.rv_node.specs.Sound.{AtLeast, Below, Kids, KidsFrom, IsTree, IsWhole}
 use Rattle.rv_node.proofs.Bounds.{entries_within, kids_within}

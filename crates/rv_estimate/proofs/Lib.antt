@@ -1,4 +1,3 @@
 mod Empty
 pub mod Exact
 pub mod Steps
-pub mod Counted

@@ -5,8 +5,8 @@ ghost use Rattle.rv_estimate.specs.Estimates.{estimate, estimate_in, exactly, gu
 ghost use Rattle.rv_index.specs.Index.{cuts_of, entries_of, level_at, nodes_at, tree_of, whole_at, IsSound};
 
 use rv_index::Tree;
-use rv_node::{children_between, count_before, count_not_after};
-use rv_reader::Estimate;
+use rv_node::children_between;
+use rv_reader::{Estimate, count_in};
 use rv_value::{IndexEntry, Range};
 
 /// How many entries of the tree at a snapshot are in a range, by one descent to the split node, at which more than
@@ -72,12 +72,12 @@ fn spread(level: u32, first: u32, last: u32) -> Estimate
     }
 }
 
-/// How many entries of a leaf are in a range: those that are not after it, without those before it.
+/// How many entries of a leaf are in a range.
 fn counted(leaf: &[IndexEntry], range: &Range) -> Estimate
     requires ascend { Ascend leaf.now }
     requires long { AreLong range.now leaf.now }
     ensures { result ≡ exactly (length (run leaf.now range.now)) }
 {
-    let value = (count_not_after(leaf, range) - count_before(leaf, range)) as u64;
+    let value = count_in(leaf, range) as u64;
     Estimate { value, exact: true }
 }

@@ -2,13 +2,13 @@ ghost use Rattle.std.specs.Prelude.{◌≡◌, ◌<◌, ◌≤◌, length, filte
 ghost use Rattle.std.specs.Option.{option_copied};
 ghost use Rattle.rv_reader.specs.Entries.{AreLong, Ascend, comes_before};
 ghost use Rattle.rv_reader.specs.Leaves.{is_passed, is_wanted};
-ghost use Rattle.rv_node.specs.Children.{PassesTo};
+ghost use Rattle.rv_reader.specs.Halves.{PassesTo};
 ghost use Rattle.rv_node.specs.Descent.{child_in};
 ghost use Rattle.rv_node.specs.Trees.{differs, placed, up_to};
 ghost use Rattle.rv_index.specs.Steps.{behind_child, is_ahead, passed_first};
 
-use rv_node::{Node, count_not_after};
-use rv_reader::is_passed;
+use rv_node::Node;
+use rv_reader::{count_not_after, count_passed};
 use rv_value::{IndexEntry, NoMemory, Range, Side, cmp_entry, copy_slice};
 use std::alloc::Global;
 use std::cmp::Ordering;
@@ -67,16 +67,6 @@ pub fn wanted_of(
     ensures { IfOk result (λ found. found.items ≡ filter (is_wanted range.now (option_copied from.entry)) leaf.now) }
 {
     copy_slice(alloc, wanted_part(leaf, from, range))
-}
-
-/// How many cuts are not behind the leaf in which a reading begins.
-fn count_passed(cuts: &[IndexEntry], from: Option<&IndexEntry>, range: &Range) -> usize
-    requires ascend { Ascend cuts.now }
-    requires long { AreLong range.now cuts.now }
-    ensures bound { result ≤ length cuts.now }
-    ensures passes { PassesTo (is_passed (option_copied from.entry) range.now) result cuts.now }
-{
-    cuts.partition_point(|cut| is_passed(from, range, cut))
 }
 
 /// The child in which a descent goes on, and the cut at which the following one begins. It is found by halves.

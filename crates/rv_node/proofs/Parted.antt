@@ -1,60 +1,25 @@
 -- Searches by halves among entries that ascend.
-use Rattle.std.proofs.Common.{◌≡◌, ℕ, zero, suc, ◌+◌, ◌≤◌, List, [], ◌∷◌, Bool, true, false, not, refl, ap, sym, ◌∙◌, inl, inr, subst, arith, length, filter, take, drop, Option, Some, None}
-use Rattle.std.proofs.lemmas.Bool.{cases_Bool, and_parts, not-true}
-use Rattle.std.specs.List.{list_all, AllWithin}
+use Rattle.std.proofs.Common.{◌≡◌, ℕ, zero, suc, ◌+◌, ◌≤◌, List, [], ◌∷◌, Bool, true, not, refl, ap, sym, ◌∙◌, subst, arith, length, filter, take, drop}
+use Rattle.std.proofs.lemmas.Bool.{and_parts, not-true}
+use Rattle.std.specs.List.{list_all}
 use Rattle.std.specs.List.Sorted.{IsPartitionedBy}
 use Rattle.rv_value.proofs.Lists.{passes_take}
 use Rattle.rv_value.specs.declared.record.IndexEntry.{IndexEntry}
 use Rattle.rv_value.specs.declared.range.Range.{Range}
-use Rattle.rv_value.specs.Ranges.{place}
 use Rattle.rv_rows.specs.Rising.{Rising}
 use Rattle.rv_rows.proofs.Cuts.{partitioned}
 use Rattle.rv_reader.specs.Entries.{AreLong, Ascend, comes_before}
-use Rattle.rv_reader.specs.Leaves.{after_side, is_passed}
-use Rattle.rv_reader.proofs.Orders.{key_not, one_way, order}
-use Rattle.rv_reader.proofs.Sides.{after_along, before_along}
-use Rattle.rv_node.specs.Children.{PassesTo, first_child, is_before, is_not_after, last_child, last_place}
+use Rattle.rv_reader.proofs.Orders.{one_way, order}
+use Rattle.rv_reader.specs.Halves.{PassesTo, is_before, is_not_after}
+use Rattle.rv_node.specs.Children.{first_child, last_child, last_place}
 use Rattle.rv_node.specs.Ranks.{any, is_long}
 use Rattle.rv_node.specs.Trees.{up_to}
 use Rattle.rv_node.proofs.Orders.{lt_trans}
 
--- a place up to which a test holds and from which it fails
-pub passes_to : {X : Type 0} (p : X → Bool) (xs : List X) (i : ℕ) → i ≤ length xs → AllWithin (λ y. p y ≡ true) xs 0 i → AllWithin (λ y. p y ≡ false) xs i (length xs) → PassesTo p i xs
-passes_to p [] i h front back = tt
-passes_to p (x ∷ xs) zero h front back =
-    (back 0 x (omega arith) (omega arith), passes_to p xs zero (omega arith) (λ k d l u. absurd (omega arith)) (λ k d l u. back (suc k) d (omega arith) (omega arith)))
-passes_to p (x ∷ xs) (suc i) h front back =
-    (front 0 x (omega arith) (omega arith), passes_to p xs i (omega arith) (λ k d l u. front (suc k) d (omega arith) (omega arith)) (λ k d l u. back (suc k) d (omega arith) (omega arith)))
-
 -- Tests that, once they fail, fail of all that comes after.
-
-pub before_goes : (range : Range) (x y : IndexEntry) → comes_before x y ≡ true → is_long range x ≡ true → is_long range y ≡ true → is_before range y ≡ true → is_before range x ≡ true
-before_goes range x y h lx ly p = before_along range x.key y.key (key_not x y (one_way x y h)) lx ly p
-
-pub before_parted : (range : Range) (es : List IndexEntry) → Ascend es → AreLong range es → IsPartitionedBy (is_before range) es
-before_parted range es ascend long = partitioned comes_before (is_long range) (is_before range) (before_goes range) es ascend long
-
-not_after_goes : (range : Range) (x y : IndexEntry) → comes_before x y ≡ true → is_long range x ≡ true → is_long range y ≡ true → is_not_after range y ≡ true → is_not_after range x ≡ true
-not_after_goes range x y h lx ly p = elim (cases_Bool (after_side (place range x.key))) [
-  | inl t ↦
-      let after = after_along range x.key y.key (key_not x y (one_way x y h)) lx ly t in
-      let no : not (after_side (place range y.key)) ≡ false = rw after refl in
-      cc
-  | inr f ↦ rw f refl
-]
-
-pub not_after_parted : (range : Range) (es : List IndexEntry) → Ascend es → AreLong range es → IsPartitionedBy (is_not_after range) es
-not_after_parted range es ascend long = partitioned comes_before (is_long range) (is_not_after range) (not_after_goes range) es ascend long
 
 up_to_goes : (e x y : IndexEntry) → comes_before x y ≡ true → up_to comes_before e y ≡ true → up_to comes_before e x ≡ true
 up_to_goes e x y h p = rw (order.chain e y x (not-true (comes_before e y) p) (one_way x y h)) refl
-
-passed_goes : (range : Range) (start : Option IndexEntry) (x y : IndexEntry) → comes_before x y ≡ true → is_long range x ≡ true → is_long range y ≡ true → is_passed start range y ≡ true → is_passed start range x ≡ true
-passed_goes range None x y h lx ly p = before_goes range x y h lx ly p
-passed_goes range (Some s) x y h lx ly p = up_to_goes s x y h p
-
-pub passed_parted : (range : Range) (start : Option IndexEntry) (es : List IndexEntry) → Ascend es → AreLong range es → IsPartitionedBy (is_passed start range) es
-passed_parted range start es ascend long = partitioned comes_before (is_long range) (is_passed start range) (passed_goes range start) es ascend long
 
 pub all_any : (es : List IndexEntry) → list_all any es ≡ true
 all_any [] = refl

@@ -1,5 +1,6 @@
 ghost use Rattle.std.specs.Prelude.{◌≡◌, ◌<◌, drop, length};
-ghost use Rattle.rv_node.specs.Children.{is_before, last_child, last_place};
+ghost use Rattle.rv_reader.specs.Halves.{is_before};
+ghost use Rattle.rv_node.specs.Children.{last_child, last_place};
 
 use rv_value::{IndexEntry, Range, Side};
 

@@ -1,29 +1,10 @@
 //! Searches by halves among entries that ascend.
 ghost use Rattle.std.specs.Prelude.{◌≡◌, ◌<◌, ◌≤◌, drop, length};
 ghost use Rattle.rv_reader.specs.Entries.{AreLong, Ascend};
-ghost use Rattle.rv_node.specs.Children.{PassesTo, first_child, is_before, is_not_after, last_child};
+ghost use Rattle.rv_node.specs.Children.{first_child, last_child};
 
-use rv_value::{IndexEntry, Range, Side};
-
-/// How many of ascending entries are before a range.
-pub fn count_before(entries: &[IndexEntry], range: &Range) -> usize
-    requires ascend { Ascend entries.now }
-    requires long { AreLong range.now entries.now }
-    ensures bound { result ≤ length entries.now }
-    ensures passes { PassesTo (is_before range.now) result entries.now }
-{
-    entries.partition_point(|entry| range.place(&entry.key) == Side::Before)
-}
-
-/// How many of ascending entries are not after a range.
-pub fn count_not_after(entries: &[IndexEntry], range: &Range) -> usize
-    requires ascend { Ascend entries.now }
-    requires long { AreLong range.now entries.now }
-    ensures bound { result ≤ length entries.now }
-    ensures passes { PassesTo (is_not_after range.now) result entries.now }
-{
-    entries.partition_point(|entry| range.place(&entry.key) != Side::After)
-}
+use rv_reader::{count_before, count_not_after};
+use rv_value::{IndexEntry, Range};
 
 /// The places of the first and the last child that may hold keys of a range, as `Node::children_for` tells them, of low
 /// entries that ascend.

@@ -5,5 +5,5 @@ mod children;
 mod halving;
 mod node;
 
-pub use halving::{children_between, count_before, count_not_after};
+pub use halving::children_between;
 pub use node::Node;

@@ -28,7 +28,8 @@ use Rattle.rv_blocks.specs.Orders.{change_cmp}
 use Rattle.rv_blocks.specs.Taking.{is_level, standing}
 use Rattle.rv_blocks.proofs.Order.{over}
 use Rattle.rv_reader.specs.Entries.{comes_before, run, is_in, Ascend, AreLong}
-use Rattle.rv_reader.specs.Leaves.{after_side, before_side, is_from, is_passed}
+use Rattle.rv_reader.specs.Halves.{PassesTo}
+use Rattle.rv_reader.specs.Leaves.{after_side, before_side, is_from}
 use Rattle.rv_reader.proofs.Chunks.{is_long}
 use Rattle.rv_reader.proofs.Orders.{follows, key_not, one_way, order}
 use Rattle.rv_reader.proofs.Sides.{before_along, after_along}
@@ -39,15 +40,8 @@ use Rattle.rv_overlay.specs.Laying.{first_not, has, marks, sixteenths}
 use Rattle.rv_reader.specs.Leaves.{is_below, is_taken}
 use Rattle.rv_overlay.specs.Overlaid.{size_of}
 use Rattle.rv_overlay.specs.Rows.{change_of}
-use Rattle.rv_overlay.proofs.Following.{passes_down}
 
 -- Fronts.
-
--- the number up to which a test holds, and from which it fails
-abbrev PassesTo : {X : Type 0} → (X → Bool) → ℕ → List X → Type 0
-PassesTo p n [] = Unit {0}
-PassesTo p zero (x ∷ xs) = (p x ≡ false) × PassesTo p zero xs
-PassesTo p (suc n) (x ∷ xs) = (p x ≡ true) × PassesTo p n xs
 
 passes_to : {X : Type 0} (p : X → Bool) (n : ℕ) (xs : List X) → list_all p (take n xs) ≡ true → list_all (λ x. not (p x)) (drop n xs) ≡ true → PassesTo p n xs
 passes_to p n [] h k = tt
@@ -128,9 +122,6 @@ early_parted range start es ascend long = partitioned comes_before (is_long rang
 
 pub until_parted : (range : Range) (next : Option IndexEntry) (es : List IndexEntry) → Ascend es → AreLong range es → IsPartitionedBy (is_until next range) es
 until_parted range next es ascend long = partitioned comes_before (is_long range) (is_until next range) (until_down range next) es ascend long
-
-pub passed_parted : (range : Range) (start : Option IndexEntry) (es : List IndexEntry) → Ascend es → AreLong range es → IsPartitionedBy (is_passed start range) es
-passed_parted range start es ascend long = partitioned comes_before (is_long range) (is_passed start range) (λ x y h lx ly p. passes_down range start x y lx ly h p) es ascend long
 
 in_span : (from below : Bool) (s : Side) → ((below && not (after_side s)) && not (not from || before_side s)) ≡ ((from && in_side s) && below)
 in_span true true Before = refl

@@ -1,5 +1,6 @@
 use Rattle.std.proofs.Common.{◌<◌, ◌≡◌, drop, length}
-use Rattle.rv_node.specs.Children.{is_before, last_place}
+use Rattle.rv_reader.specs.Halves.{is_before}
+use Rattle.rv_node.specs.Children.{last_place}
 use Rattle.rv_node.proofs.children.last_before.Given as goal
 
 abbrev pub invariant-lows : goal.invariant-lows

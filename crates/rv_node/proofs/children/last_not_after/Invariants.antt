@@ -1,5 +1,6 @@
 use Rattle.std.proofs.Common.{◌<◌, ◌≡◌, drop, length}
-use Rattle.rv_node.specs.Children.{is_not_after, last_place, last_child}
+use Rattle.rv_reader.specs.Halves.{is_not_after}
+use Rattle.rv_node.specs.Children.{last_place, last_child}
 use Rattle.rv_node.proofs.children.last_not_after.Given as goal
 
 abbrev pub invariant-lows : goal.invariant-lows

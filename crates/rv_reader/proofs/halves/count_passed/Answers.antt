@@ -2,8 +2,8 @@ use Rattle.std.proofs.Common.{rules}
 use Rattle.std.proofs.lemmas.List.Sorted.{IsPartitionPoint-from_clause}
 use Rattle.std.specs.Option.{option_copied}
 use Rattle.rv_reader.specs.Leaves.{is_passed}
-use Rattle.rv_node.proofs.Parted.{passed_parted, passes_to}
-use Rattle.rv_index.proofs.parts.count_passed.Goals as goal
+use Rattle.rv_reader.proofs.Halves.{passed_parted, passes_to}
+use Rattle.rv_reader.proofs.halves.count_passed.Goals as goal
 
 pub returns-clause-passes : goal.returns-clause-passes
 returns-clause-passes c =

@@ -1,8 +1,8 @@
 use Rattle.std.proofs.Common.{rules}
 use Rattle.std.proofs.lemmas.List.Sorted.{IsPartitionPoint-from_clause}
-use Rattle.rv_node.specs.Children.{is_before}
-use Rattle.rv_node.proofs.Parted.{before_parted, passes_to}
-use Rattle.rv_node.proofs.halving.count_before.Goals as goal
+use Rattle.rv_reader.specs.Halves.{is_before}
+use Rattle.rv_reader.proofs.Halves.{before_parted, passes_to}
+use Rattle.rv_reader.proofs.halves.count_before.Goals as goal
 
 pub returns-clause-passes : goal.returns-clause-passes
 returns-clause-passes c =

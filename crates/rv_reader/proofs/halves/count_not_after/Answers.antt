@@ -1,8 +1,8 @@
 use Rattle.std.proofs.Common.{rules}
 use Rattle.std.proofs.lemmas.List.Sorted.{IsPartitionPoint-from_clause}
-use Rattle.rv_node.specs.Children.{is_not_after}
-use Rattle.rv_node.proofs.Parted.{not_after_parted, passes_to}
-use Rattle.rv_node.proofs.halving.count_not_after.Goals as goal
+use Rattle.rv_reader.specs.Halves.{is_not_after}
+use Rattle.rv_reader.proofs.Halves.{not_after_parted, passes_to}
+use Rattle.rv_reader.proofs.halves.count_not_after.Goals as goal
 
 pub returns-clause-passes : goal.returns-clause-passes
 returns-clause-passes c =
