@@ -21,10 +21,11 @@ use Rattle.rv_retrieval.specs.Short.{Settled as RetrievalSettled}
 use Rattle.rv_retrieval.proofs.Tellings.{allowed as retrieval_allowed}
 use Rattle.rv_race.specs.Given.{Answers as RaceAnswers, TakesPiece as RaceTakesPiece}
 use Rattle.rv_race.specs.Raced.{Raced}
-use Rattle.rv_race.specs.Runs.{IsOfUndropped as RaceUndropped, indexes_of}
+use Rattle.rv_jscan.specs.Planned.{indexes_of, indexes_of as united_indexes}
+use Rattle.rv_race.specs.Runs.{IsOfUndropped as RaceUndropped}
 use Rattle.rv_race.proofs.Tellings.{allowed as race_allowed}
 use Rattle.rv_union.specs.Given.{Answers as UnionAnswers, TakesPiece as UnionTakesPiece}
-use Rattle.rv_union.specs.Runs.{IsOfUndropped as UnionUndropped, indexes_of as united_indexes}
+use Rattle.rv_union.specs.Runs.{IsOfUndropped as UnionUndropped}
 use Rattle.rv_union.specs.Unioned.{Unioned}
 use Rattle.rv_union.proofs.Tellings.{allowed as union_allowed}
 use Rattle.rv_access.specs.declared.access.Access.{Access}

@@ -43,7 +43,8 @@ use Rattle.rv_retrieval.proofs.Starting.{planned_known, planned_once}
 use Rattle.rv_race.specs.Effort.{effort as race_effort, life_of as race_life}
 use Rattle.rv_race.specs.Opened.{CanRace, Opened as RaceOpened}
 use Rattle.rv_race.specs.Raced.{RaceFits, Raced, rest as race_rest}
-use Rattle.rv_race.specs.Runs.{Tells as RaceTells, indexes_of}
+use Rattle.rv_jscan.specs.Planned.{indexes_of}
+use Rattle.rv_race.specs.Runs.{Tells as RaceTells}
 use Rattle.rv_access.specs.declared.access.Access.{Access}
 use Rattle.rv_access.specs.declared.access.Access.TheVariants.{Racing}
 use Rattle.rv_access.specs.declared.racing.RacedQuery.{RacedQuery}

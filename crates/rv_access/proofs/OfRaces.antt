@@ -39,7 +39,8 @@ use Rattle.rv_race.specs.Given.{Awaits, awaited, piece_read, turn_lane, turn_sca
 use Rattle.rv_race.specs.Opened.{DoesAs, DoesStep, EndsIn, OnlyTakes, ended_by}
 use Rattle.rv_race.specs.Raced.{RaceFits, Raced, SameRace, racing, rest}
 use Rattle.rv_race.specs.Rulings.{GivesOn, HasNextTurn, Obeys, accepted, ended, index_at, listed, more, over, ruled, told_over}
-use Rattle.rv_race.specs.Runs.{Tells, indexes_of}
+use Rattle.rv_jscan.specs.Planned.{indexes_of}
+use Rattle.rv_race.specs.Runs.{Tells}
 use Rattle.rv_race.proofs.Switches.{over_as}
 use Rattle.rv_access.specs.declared.access.Access.TheVariants.{Racing}
 use Rattle.rv_access.specs.declared.racing.RacedQuery.{RacedQuery}

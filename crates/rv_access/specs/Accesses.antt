@@ -19,9 +19,10 @@ use Rattle.rv_retrieval.specs.Short.{Settled as RetrievalSettled, fetches_left a
 use Rattle.rv_race.specs.Effort.{effort as race_effort}
 use Rattle.rv_race.specs.Given.{turn_lane}
 use Rattle.rv_race.specs.Raced.{RaceFits, Raced, rest as race_rest}
-use Rattle.rv_race.specs.Runs.{Tells as RaceTells, indexes_of}
+use Rattle.rv_jscan.specs.Planned.{indexes_of, indexes_of as united_indexes}
+use Rattle.rv_race.specs.Runs.{Tells as RaceTells}
 use Rattle.rv_union.specs.Effort.{effort as union_effort}
-use Rattle.rv_union.specs.Runs.{Tells as UnionTells, indexes_of as united_indexes}
+use Rattle.rv_union.specs.Runs.{Tells as UnionTells}
 use Rattle.rv_union.specs.Unioned.{UnionFits, Unioned, rest as union_rest}
 use Rattle.rv_access.specs.declared.access.Access.{Access}
 use Rattle.rv_access.specs.declared.access.Access.TheVariants.{Competing, Racing, Uniting}

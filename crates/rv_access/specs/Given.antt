@@ -96,7 +96,7 @@ pub record UnitedGives (would : ℕ → Facts → Ruling) (state after : ℕ) (p
 abbrev pub GivesOn : (ℕ → Facts → Ruling) → ℕ → ℕ → Pieced → Given → Access → Access → Type 0
 GivesOn would state after piece given old new =
     Alike (RetrievalGives would state after piece given) (RacedGives would state after piece given)
-      (UnitedGives would state after piece given) old new
+    (UnitedGives would state after piece given) old new
 
 -- an accepted piece is counted, a stale one is not
 abbrev pub CountsPiece : Given → ℕ → ℕ → Type 0

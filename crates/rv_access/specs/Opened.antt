@@ -82,7 +82,7 @@ pub record IsRaced (query : Query) (shown : Shown) (cursor opening : ℕ) (choic
   pub asked : r.query ≡ query
   pub scans : AreScans query.only (candidates_of query shown) choice.background r.race.plans
   pub opened : RaceOpened query.table query.snap query.only r.race.plans cursor opening
-        (shown.pages query.table query.snap) r.race
+      (shown.pages query.table query.snap) r.race
 
 -- WHAT A RACE IS WHERE IT BEGINS: it owes each record that qualifies, and its effort is below the bound
 pub record BeginsRace (query : Query) (shown : Shown) (choice : Choice) (cursor opening : ℕ)
@@ -98,7 +98,7 @@ pub record IsUnited (query : Query) (shown : Shown) (cursor opening : ℕ) (u : 
   pub asked : u.query ≡ query
   pub members : AreUnited query shown u.union.plans
   pub opened : UnionOpened query.table query.snap query.only u.union.plans cursor opening
-        (shown.pages query.table query.snap) u.union
+      (shown.pages query.table query.snap) u.union
 
 -- WHAT A UNION IS WHERE IT BEGINS, likewise
 pub record BeginsUnion (query : Query) (shown : Shown) (cursor opening : ℕ) (u : UnitedQuery) : Type 0 where
@@ -136,7 +136,7 @@ pub record Opened (race : Bool) (query : Query) (shown : Shown) (cursor opening 
   pub choice : Choice
   pub chosen : IsChosen query.order query.goal (candidates_of query shown) choice
   pub opened : OpenedBy (race && races choice (candidates_of query shown)) (unites query shown choice) query shown
-        cursor opening choice a
+      cursor opening choice a
 
 -- WHAT IT IS WHERE IT BEGINS: it owes each record that qualifies; what the opening has read is counted, and with the
 -- effort it is within the life of an access of its kind

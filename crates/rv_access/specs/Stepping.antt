@@ -66,7 +66,7 @@ pub record UnitedSteps (would : ℕ → Facts → Ruling) (state after : ℕ) (s
 abbrev pub StepsAs : (ℕ → Facts → Ruling) → ℕ → ℕ → Shown → Counts → Counts → Fg → Access → Access → Type 0
 StepsAs would state after shown c d fg old new =
     Alike (RetrievalSteps would state after shown c d fg) (RacedSteps would state after shown c d fg)
-      (UnitedSteps would state after shown c d fg) old new
+    (UnitedSteps would state after shown c d fg) old new
 
 -- what a step may read, whatever it answers
 abbrev pub MayReadIts : Access → Counts → Counts → Type 0

@@ -86,7 +86,7 @@ atom_kind tables reach (Compare c op o) =
     refuse_column (is_wrong_operand tables reach (column_at tables reach c).1 o) (column_at tables reach c)
 atom_kind tables reach (Between c low high) =
     refuse_column (is_other_kind (column_at tables reach c).1 low || is_other_kind (column_at tables reach c).1 high)
-      (column_at tables reach c)
+    (column_at tables reach c)
 atom_kind tables reach (Among c list) =
     refuse_column (list_any (is_other_kind (column_at tables reach c).1) list) (column_at tables reach c)
 atom_kind tables reach (IsNull c negated) = Ok tt

@@ -44,8 +44,14 @@ IsRight shown snap c = IsEstimate (shown.entries c.index snap) c.range c.estimat
 
 abbrev pub no_candidate : Candidate
 no_candidate =
-    record { index = 0; columns = []; range = record { low = None; high = None; starts = false };
-      estimate = record { value = 0; exact = false }; restricted = false; sufficient = false }
+    record {
+      index = 0;
+      columns = [];
+      range = record { low = None; high = None; starts = false };
+      estimate = record { value = 0; exact = false };
+      restricted = false;
+      sufficient = false;
+    }
 
 abbrev pub candidate_at : List Candidate → ℕ → Candidate
 candidate_at cs i = slice_index_or cs i no_candidate
@@ -90,8 +96,12 @@ abbrev pub ordered_choice : List Candidate → ℕ → Option ℕ → Choice
 ordered_choice cs front (Some short) =
     record { strategy = Sorted; front = Some front; background = One (candidate_at cs short).index }
 ordered_choice cs front None =
-    record { strategy = Sorted; front = Some front; background = if (candidate_at cs front).sufficient then Nothing
-      else EachBut (candidate_at cs front).index }
+    record {
+      strategy = Sorted;
+      front = Some front;
+      background = if (candidate_at cs front).sufficient then Nothing
+          else EachBut (candidate_at cs front).index;
+    }
 
 abbrev pub restricted_choice : Goal2 → Option ℕ → Choice
 restricted_choice Soon (Some at) = record { strategy = FastFirst; front = None; background = Each }

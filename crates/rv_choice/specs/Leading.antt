@@ -17,8 +17,12 @@ walk_begun query c = record { index = c.index; snap = query.snap; range = c.rang
 -- the foreground's scan of an index: by the index alone where it has every column needed
 abbrev pub front_begun : Query → Candidate → Front
 front_begun query c =
-    record { alone = c.sufficient; columns = c.columns; telling = walk_begun query c;
-      fetching = record { table = query.table; walk = walk_begun query c } }
+    record {
+      alone = c.sufficient;
+      columns = c.columns;
+      telling = walk_begun query c;
+      fetching = record { table = query.table; walk = walk_begun query c };
+    }
 
 -- the index of the foreground's scan
 abbrev pub front_candidate : List Candidate → Option ℕ → Candidate
@@ -29,4 +33,4 @@ front_candidate cs (Some at) = candidate_at cs at
 abbrev pub guarantee_of : Query → Shown → List Candidate → Choice → ℕ
 guarantee_of query shown cs choice =
     first_guarantee choice.strategy (shown.pages query.table query.snap)
-      (front_candidate cs choice.front).estimate.value
+    (front_candidate cs choice.front).estimate.value

@@ -3,6 +3,7 @@ use Rattle.std.proofs.Common.{◌≡◌, ℕ, ◌<◌, ◌≤◌, List, [], ◌�
 use Rattle.std.specs.List.{AllByRecursion, list_all}
 use Rattle.std.proofs.lemmas.Bool.Decides.{nat_tests}
 use Rattle.std.proofs.lemmas.Bool.{and_parts}
+use Rattle.rv_reader.proofs.Rows.{applied_ascends}
 use Rattle.rv_value.specs.declared.value.Value.{Value}
 use Rattle.rv_value.specs.declared.record.Record.{Record}
 use Rattle.rv_rows.specs.declared.changes.Change.{Change}
@@ -21,7 +22,6 @@ use Rattle.rv_model.specs.Rivals.{all_alone, neighbours, rows_written, unique_ov
 use Rattle.rv_model.specs.Step.{no_rivals_of, others}
 use Rattle.rv_model.specs.Transactions as calls
 use Rattle.rv_model.specs.Transactions.{touched_by, transaction_at, transaction_of}
-use Rattle.rv_overlay.proofs.Tabling.{applied_ascends}
 use Rattle.rv_own.specs.declared.views.OwnView.{OwnView}
 use Rattle.rv_own.specs.Views.{AreViews, CanView}
 use Rattle.rv_txn.specs.Halves.{changing}

@@ -4,6 +4,7 @@ use Rattle.std.specs.List.{AllByRecursion, list_all}
 use Rattle.std.proofs.lemmas.Bool.{cases_Bool, and_parts}
 use Rattle.std.proofs.lemmas.List.Folds.{list_all-append}
 use Rattle.std.proofs.lemmas.Bool.Decides.{nat_tests}
+use Rattle.rv_reader.proofs.Rows.{applied_ascends}
 use Rattle.rv_value.specs.declared.value.Value.{Value}
 use Rattle.rv_value.specs.declared.record.Record.{Record}
 use Rattle.rv_rows.specs.declared.changes.Change.{Change}
@@ -20,7 +21,6 @@ use Rattle.rv_overlay.specs.declared.frozen.Frozen.{Frozen}
 use Rattle.rv_overlay.specs.Freezing.{KeepsSize}
 use Rattle.rv_overlay.specs.Laying.{laid, sixteenths}
 use Rattle.rv_overlay.specs.Overlaid.{Lays, LaysIndex, LaysTable, overlaid, part_at, size_of}
-use Rattle.rv_overlay.proofs.Tabling.{applied_ascends}
 use Rattle.rv_overlay.proofs.Viewing.{view_is}
 use Rattle.rv_view.specs.Making.{Keeps, KeepsPart}
 use Rattle.rv_view.specs.Sights.{LaysSome}

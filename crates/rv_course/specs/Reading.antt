@@ -135,7 +135,7 @@ place_at control scan = record { control = control; scan = scan; listed = None; 
 abbrev pub reads_at : Strategy → Control → List Event → Bool
 reads_at strategy control (Scan i ∷ es) =
     same_control control (first_control strategy (i ∷ [])) && scans control
-      && reads strategy (place_at control (Some i)) es
+    && reads strategy (place_at control (Some i)) es
 reads_at strategy control es =
     same_control control (first_control strategy []) && not (scans control) && reads strategy (place_at control None) es
 

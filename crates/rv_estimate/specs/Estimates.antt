@@ -25,7 +25,7 @@ in_child f none (suc at) (kid ∷ kids) = in_child f none at kids
 abbrev pub estimate_by : {T : Type 0} → (T → Estimate) → ℕ → Range → List IndexEntry → List (IndexEntry × T) → Estimate
 estimate_by f level range lows kids =
     if first_child range lows == last_child range lows then in_child f (exactly 0) (first_child range lows) kids
-      else guess level (first_child range lows) (last_child range lows)
+    else guess level (first_child range lows) (last_child range lows)
 
 -- the descent to the split node; a leaf is counted
 abbrev pub estimate_in : (level : ℕ) → Range → Tree IndexEntry level → Estimate

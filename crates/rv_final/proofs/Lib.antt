@@ -4,3 +4,4 @@ pub mod Marks
 pub mod Lists
 pub mod Tables
 pub mod LaneWork
+pub mod Owed

@@ -4,6 +4,7 @@ use Rattle.std.proofs.Common.{◌≡◌, ℕ, List, [], ◌∷◌, Bool, true, f
 use Rattle.std.specs.Prelude.{if◌then◌else◌}
 use Rattle.std.proofs.lemmas.Bool.{cases_Bool}
 use Rattle.std.proofs.lemmas.Bool.Decides.{nat_tests}
+use Rattle.rv_reader.proofs.Rows.{found_row}
 use Rattle.rv_value.specs.declared.record.Record.{Record}
 use Rattle.rv_rows.specs.Rows.{Ascend}
 use Rattle.rv_restrict.specs.declared.atom.Atom.{Atom}
@@ -13,7 +14,7 @@ use Rattle.rv_scan.specs.declared.skip.Scanned.{Scanned}
 use Rattle.rv_scan.specs.declared.skip.Scanned.TheVariants.{Found, Working, End}
 use Rattle.rv_scan.specs.Alongs.{looked}
 use Rattle.rv_final.specs.Rest.{Agree, IsLeast, StepMarks, Steps, qualifies_at, rest_by}
-use Rattle.rv_final.proofs.Rests.{found_row, marks_out, no_rest, not_there, same_rest, told_by}
+use Rattle.rv_final.proofs.Rests.{marks_out, no_rest, not_there, same_rest, told_by}
 
 no_order : (r : Record) (records : List Record) → IsLeast [] r records
 no_order r [] = refl

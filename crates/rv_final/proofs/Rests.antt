@@ -3,6 +3,7 @@ use Rattle.std.proofs.Common.{◌≡◌, ℕ, ◌≤◌, List, [], ◌∷◌, Bo
 use Rattle.std.specs.List.{list_all, AllByRecursion}
 use Rattle.std.proofs.lemmas.Bool.{cases_Bool, and_parts}
 use Rattle.std.proofs.lemmas.Bool.Decides.{nat_tests}
+use Rattle.rv_reader.proofs.Rows.{found_row}
 use Rattle.rv_value.specs.declared.record.Record.{Record}
 use Rattle.rv_rows.specs.Rows.{Ascend, comes_below}
 use Rattle.rv_restrict.specs.declared.atom.Atom.{Atom}
@@ -63,17 +64,6 @@ no_row only (r ∷ rows) n h =
   where
     out : (a b c : Bool) → a ≡ false → c ≡ false → ((a && b) || c) ≡ false
     out a b c h i = grind arith
-
-pub found_row : (rows : List Record) (k : ℕ) (r : Record) → row_at rows k ≡ Some r → r.row.0 ≡ k
-found_row [] k r f = absurd (cc)
-found_row (x ∷ rows) k r f =
-    elim (x.row.0 == k) as (λ b. (x.row.0 == k) ≡ b → cond b (Some x) (row_at rows k) ≡ Some r → r.row.0 ≡ k) [
-      | true ↦ λ e f. let same : x ≡ r = cc in ap (λ (y : Record). y.row.0) (sym same) ∙ same_number _ _ e
-      | false ↦ λ e f. found_row rows k r f
-    ] refl f
-  where
-    same_number : (a b : ℕ) → (a == b) ≡ true → a ≡ b
-    same_number a b e = grind (arith, nat_tests)
 
 -- whether a row qualifies is told by the record that a look-up finds
 pub told_by : (only : List (List Atom)) (rows : List Record) (k : ℕ) (x : Record) → Ascend rows → row_at rows k ≡ Some x → qualifies_at only rows k ≡ qualifies only x.values

@@ -14,7 +14,7 @@ Reads old new r buf =
 abbrev pub Writes : {E : Type 0} → Option (List ℕ) → Option (List ℕ) → Result ℕ E → List ℕ → Type 0
 Writes old new r bytes =
     MatchResult r (λ n. Appends old new (take n bytes) × (n ≤ length bytes)
-      × (0 < length bytes → 0 < n)) (λ _. Keeps old new)
+    × (0 < length bytes → 0 < n)) (λ _. Keeps old new)
 
 -- The list gained a piece, which was taken.
 pub record TakesPiece (old new : Option (List ℕ)) (before now : List ℕ) (n : ℕ) : Type 0 where

@@ -6,3 +6,4 @@ pub mod Fits
 pub mod Leaves
 pub mod Lanes
 pub mod Works
+pub mod Planned

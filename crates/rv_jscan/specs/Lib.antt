@@ -3,3 +3,4 @@ pub mod Pieces
 pub mod Joint
 pub mod Steps
 pub mod Lanes
+pub mod Planned

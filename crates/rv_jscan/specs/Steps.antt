@@ -93,19 +93,31 @@ piece_counted c entries kept listed =
 abbrev pub counts_after : Joint → List IndexEntry → Bool → List ScanCounts
 counts_after j entries listed =
     slice_set j.counts j.ended (piece_counted (counts_at j.counts j.ended) (length entries)
-      (length (kept_of j entries)) listed)
+    (length (kept_of j entries)) listed)
 
 -- after an accepted piece that is not the last of its scan
 abbrev pub going : Joint → List IndexEntry → IndexEntry → Joint
 going j entries cut =
-    record j { counts = counts_after j entries false; number = one_more j.number; held = None; place = Some cut;
-      building = j.building ++ kept_of j entries }
+    record j {
+      counts = counts_after j entries false;
+      number = one_more j.number;
+      held = None;
+      place = Some cut;
+      building = j.building ++ kept_of j entries;
+    }
 
 -- after the last one, with these keys as the complete list
 abbrev pub completed : Joint → List IndexEntry → List ℕ → Joint
 completed j entries keys =
-    record j { counts = counts_after j entries true; ended = j.ended + 1; number = one_more j.number; held = None;
-      place = None; building = []; list = Some keys }
+    record j {
+      counts = counts_after j entries true;
+      ended = j.ended + 1;
+      number = one_more j.number;
+      held = None;
+      place = None;
+      building = [];
+      list = Some keys;
+    }
 
 -- after a scan was abandoned
 abbrev pub abandoned : Joint → Joint

@@ -24,9 +24,12 @@ noted t e = noted_all t (e ∷ [])
 -- what was read between two counts
 abbrev pub counted : Trace → Counts → Counts → Trace
 counted t before after =
-    record t { pages = raised t.pages (after.pages - before.pages);
-      leaves = raised t.leaves (after.leaves - before.leaves); fetches = raised t.fetches
-      (after.records - before.records) }
+    record t {
+      pages = raised t.pages (after.pages - before.pages);
+      leaves = raised t.leaves (after.leaves - before.leaves);
+      fetches = raised t.fetches
+          (after.records - before.records);
+    }
 
 -- only events were added
 pub record SameCounts (old new : Trace) : Type 0 where

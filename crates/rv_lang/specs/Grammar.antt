@@ -250,7 +250,7 @@ IsBody (CreateTable table columns) tokens rest = IsName table × AreSome IsColum
     × (tokens ≡ CREATE ∷ TABLE ∷ Word table ∷ LPAREN ∷ listed COMMA column_def columns (RPAREN ∷ rest))
 IsBody (CreateIndex unique index table columns) tokens rest = IsName index × IsName table × AreSome IsName columns
     × (tokens ≡ CREATE ∷ unique_word unique (INDEX ∷ Word index ∷ ON ∷ Word table ∷ LPAREN
-      ∷ listed COMMA name columns (RPAREN ∷ rest)))
+    ∷ listed COMMA name columns (RPAREN ∷ rest)))
 IsBody (Begin false) tokens rest = tokens ≡ BEGIN ∷ rest
 IsBody (Begin true) tokens rest = tokens ≡ BEGIN ∷ READ ∷ ONLY ∷ rest
 IsBody (Insert table values) tokens rest = IsName table × AreSome AnyLiteral values

@@ -49,7 +49,7 @@ abbrev pub negative_of : List ℕ → List ℕ → Option (Token × List ℕ)
 negative_of digits rest =
     if begins_word rest then None
     else (if nat_le (value_after 0 digits) (2 ^ 63) then Some (Int (neg_ℤ (pos (value_after 0 digits))), rest)
-      else None)
+    else None)
 
 abbrev pub negative_at : List ℕ → Option (Token × List ℕ)
 negative_at [] = None
@@ -121,7 +121,7 @@ abbrev pub scanned : Option ℕ → ℕ → Bool → List ℕ → Option ℕ
 scanned best at quoted [] = if quoted then Some at else best
 scanned best at quoted (b ∷ bs) = if quoted then (if nat_eq b 39 then scanned (Some at) (at + 2) false bs else Some at)
     else (if nat_eq b 39 then scanned best at true bs
-      else (if is_text_byte b then scanned best (at + 1) false bs else best))
+    else (if is_text_byte b then scanned best (at + 1) false bs else best))
 
 -- one quote of two; the flag tells that the first was just kept
 abbrev pub kept : Bool → List ℕ → List ℕ

@@ -103,7 +103,7 @@ Cuts bytes (t ∷ ts) rest =
 abbrev pub NoToken : List ℕ → Type 0
 NoToken bytes =
     (0 < length bytes) × ((front : List ℕ) (t : Token) (after : List ℕ) → bytes ≡ front ++ after
-      → IsToken front t after → ⊥)
+    → IsToken front t after → ⊥)
 
 -- the text is no sequence of tokens, and this is the first offset at which none begins
 abbrev pub IsCutTo : List ℕ → ℕ → Type 0

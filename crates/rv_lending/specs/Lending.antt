@@ -24,7 +24,7 @@ pub record TakesPiece {S : Type 0} (shows : StoreShown) (after : ℕ) (old new :
     (result : Result Taken NoMemory) : Type 0 where
   pub read : Counts
   pub taken : IfOk result (λ (taken : Taken). TakesNext shows (next_waiting after old.opens) no_counts read old.opens
-        new.opens taken)
+      new.opens taken)
   pub tried : OnErr result (TriesNext shows (next_waiting after old.opens) no_counts read old.opens new.opens)
   pub same : new ≡ record old { opens = new.opens }
 
@@ -32,7 +32,7 @@ pub record TakesPiece {S : Type 0} (shows : StoreShown) (after : ℕ) (old new :
 pub record GivesPiece {S : Type 0} (would : ℕ → Facts → Ruling) (stood stands : ℕ) (piece : Pieced) (old new : Shown S)
     (result : Result Given NoMemory) : Type 0 where
   pub given : IfOk result (λ (given : Given). GivesTo (numbered piece.id.cursor old.opens) would stood stands old.opens
-        piece given new.opens)
+      piece given new.opens)
   pub err : OnErr result ((new.opens ≡ old.opens) × (stands ≡ stood))
   pub same : new ≡ record old { opens = new.opens }
 

@@ -15,8 +15,14 @@ cursor_named cursors session name =
 -- no table, last commit 0, next transaction 1
 abbrev pub empty : State
 empty =
-    record { schema = record { tables = []; indexes = [] }; rows = []; last = 0; transactions = no_transactions;
-      bases = []; cursors = [] }
+    record {
+      schema = record { tables = []; indexes = [] };
+      rows = [];
+      last = 0;
+      transactions = no_transactions;
+      bases = [];
+      cursors = [];
+    }
 
 -- what stands behind the last cursor
 abbrev pub no_cursor : Cursor

@@ -7,4 +7,4 @@ use Rattle.rv_model.specs.Offers.{offer_cmp}
 pub offer_cmp_total : IsTotalOrder offer_cmp
 offer_cmp_total =
     then_total (on_total (λ (o : Offer). o.order) values_cmp_total)
-      (on_total (λ (o : Offer). o.returned) values_cmp_total)
+    (on_total (λ (o : Offer). o.returned) values_cmp_total)

@@ -82,7 +82,7 @@ abbrev pub neighbours_of : State → ℕ → ℕ → ℕ → List Change → Lis
 neighbours_of s session own table new =
     neighbours table (with_changes new (transaction_at s.transactions.active own).changes)
     (base_rows s own table) (rows_at s.rows table) (touched_by s.transactions.touched table)
-        (others s.transactions.active session)
+    (others s.transactions.active session)
 
 -- no row that further changes of it write has a rival
 abbrev pub no_rivals : State → ℕ → ℕ → ℕ → List Change → Result (Unit {0}) Refusal
@@ -102,7 +102,7 @@ new_change table row values = record { table = table; row = row; values = Some v
 abbrev pub row_alone : State → ℕ → ℕ → List Value → RowNo → Result (Unit {0}) Refusal
 row_alone s session table values row =
     no_rivals_of s session (transaction_of s.transactions.active session) table
-      (λ own. new_change table row values ∷ [])
+    (λ own. new_change table row values ∷ [])
 
 -- INSERT: a row that has no rival
 abbrev pub inserted : State → ℕ → ℕ → List Value → Outcome
@@ -129,7 +129,7 @@ rows_viewed s (Some own) table = view_rows s own table
 abbrev pub changes_met : State → ℕ → Option (List (ℕ × Value)) → List (List Atom) → ℕ → List Change
 changes_met s table sets only own =
     map (change_of table sets) (met (transaction_at s.transactions.active own) table only
-      (λ base. base_rows s own table))
+    (λ base. base_rows s own table))
 
 -- the rows that the session's transaction changes have no rivals then
 abbrev pub rows_alone : State → ℕ → ℕ → Option (List (ℕ × Value)) → List (List Atom) → Result (Unit {0}) Refusal
@@ -163,9 +163,13 @@ abbrev pub committed_with : List Change → State → ℕ → ℕ → Reply × S
 committed_with [] s session own =
     let base = (transaction_at s.transactions.active own).base in
     (Committed base, ended s own session (transactions.done s.transactions own base))
-committed_with (c ∷ cs) s session own =
-    (Committed (s.last + 1), record (ended s own session (transactions.done s.transactions own (s.last + 1))) {
-      rows = tables_changed (c ∷ cs) s.rows; last = s.last + 1 })
+committed_with (c ∷ cs) s session own = (
+  Committed (s.last + 1),
+  record (ended s own session (transactions.done s.transactions own (s.last + 1))) {
+    rows = tables_changed (c ∷ cs) s.rows;
+    last = s.last + 1;
+  },
+)
 
 -- COMMIT
 abbrev pub committed : State → ℕ → Outcome
@@ -200,9 +204,17 @@ opening active cursors session name = do
 abbrev pub opened : State → ℕ → List ℕ → Select → Outcome
 opened s session cursor select = do
   own ← opening s.transactions.active s.cursors session cursor
-  Ok (Opened, record s { cursors = s.cursors ++ record {
-    session = session; name = cursor; table = table_of select;
-    offers = offers_in_order (offers_over select (view_rows s own)) } ∷ [] })
+  Ok (
+    Opened,
+    record s {
+      cursors = s.cursors ++ record {
+        session = session;
+        name = cursor;
+        table = table_of select;
+        offers = offers_in_order (offers_over select (view_rows s own));
+      } ∷ [];
+    },
+  )
 
 -- A reply that a cursor with these offers may give: the values of some offer whose order values equal the first
 -- offer's, and End exactly where there is no offer.

@@ -38,8 +38,19 @@ refuse_at (Some a) refusal = Err (refusal a)
 abbrev pub began : Transactions → ℕ → Bool → ℕ → Result (ℕ × Transactions) Refusal
 began t session read_only base = do
   free ← refuse_at (transaction_of t.active session) (λ own. Active (transaction_at t.active own).number)
-  Ok (t.next, record t { next = t.next + 1; active = t.active ++ record {
-    number = t.next; session = session; read_only = read_only; base = base; changes = [] } ∷ [] })
+  Ok (
+    t.next,
+    record t {
+      next = t.next + 1;
+      active = t.active ++ record {
+        number = t.next;
+        session = session;
+        read_only = read_only;
+        base = base;
+        changes = [];
+      } ∷ [];
+    },
+  )
 
 -- the commits that last wrote the rows of a table, by row number
 abbrev pub touched_in : List (List ℕ) → ℕ → List ℕ
@@ -80,7 +91,7 @@ abbrev pub with_row : Transactions → ℕ → ℕ → List Value → RowNo → 
 with_row t own table values row = record t {
   active =
       with_own t.active own (with_change (record { table = table; row = row; values = Some values })
-        (transaction_at t.active own).changes);
+      (transaction_at t.active own).changes);
   touched = with_number t.touched table;
 }
 
@@ -162,8 +173,13 @@ changed_rows t session own table sets rows = do
   space ← refuse_if (nat_lt 100000 (changed_with (transaction_at t.active own).changes table rows))
       (Limit Pending 100000)
   free ← unharmed t session (transaction_at t.active own).base table rows
-  Ok (length rows, record t { active =
-    with_own t.active own (with_changes (map (change_of table sets) rows) (transaction_at t.active own).changes) })
+  Ok (
+    length rows,
+    record t {
+      active =
+          with_own t.active own (with_changes (map (change_of table sets) rows) (transaction_at t.active own).changes);
+    },
+  )
 
 -- UPDATE and DELETE, over the rows that the table has at each commit
 abbrev pub changed : Transactions → ℕ → ℕ → List (List Atom) → Option (List (ℕ × Value)) → (ℕ → List Record)

@@ -5,6 +5,7 @@ use Rattle.std.proofs.lemmas.Bool.{cases_Bool, and_parts, or_right}
 use Rattle.std.specs.List.{AllByRecursion, list_all}
 use Rattle.std.specs.Ordering.{is_eq}
 use Rattle.std.proofs.lemmas.List.{length-map}
+use Rattle.rv_reader.proofs.Rows.{applied_ascends}
 use Rattle.rv_value.proofs.Lists.{all_append, all_filter}
 use Rattle.rv_value.specs.declared.value.Value.{Value}
 use Rattle.rv_value.specs.declared.record.Record.{Record}
@@ -27,7 +28,6 @@ use Rattle.rv_overlay.specs.Views.{is_entry}
 use Rattle.rv_overlay.proofs.Counted.{itself_true}
 use Rattle.rv_overlay.proofs.Moving.{adds_is, takes_is}
 use Rattle.rv_overlay.proofs.Placing.{equal_same}
-use Rattle.rv_overlay.proofs.Tabling.{applied_ascends}
 use Rattle.rv_overlay.proofs.Viewing.{has_entries}
 
 -- Members and lists.

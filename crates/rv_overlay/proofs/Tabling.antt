@@ -3,12 +3,12 @@ use Rattle.std.proofs.Common.{◌≡◌, ℕ, ◌/◌, List, [], ◌∷◌, ◌+
 use Rattle.std.proofs.lemmas.Bool.{cases_Bool, cases_lt, and_parts}
 use Rattle.std.proofs.lemmas.Bool.Decides.{nat_tests}
 use Rattle.std.specs.List.{list_all}
+use Rattle.rv_reader.proofs.Rows.{ascend_with, find_back, find_front, find_kept, find_left}
 use Rattle.rv_value.specs.declared.value.Value.{Value}
 use Rattle.rv_value.specs.declared.record.Record.{Record}
 use Rattle.rv_rows.specs.declared.changes.Change.{Change}
 use Rattle.rv_rows.specs.Changes.{Rise, is_before, is_of, rows_with_changes, touches}
 use Rattle.rv_rows.specs.Rows.{Ascend, comes_below, with_values, without_row}
-use Rattle.rv_rows.proofs.Chains.{record_ascends, ascends_without}
 use Rattle.rv_rows.specs.Merging.{Passes}
 use Rattle.rv_rows.proofs.Filters.{all_filter, filter_same, filter_twice}
 use Rattle.rv_rows.proofs.Merges.{without_cut}
@@ -19,10 +19,6 @@ use Rattle.rv_overlay.specs.declared.frozen.Frozen.{Frozen}
 use Rattle.rv_overlay.specs.Overlaid.{LaysTable, size_of}
 use Rattle.rv_overlay.specs.Fronts.{is_on}
 use Rattle.rv_overlay.specs.Rows.{PassesOn, change_of, changed_row, on_page}
-
-pub ascend_with : (number : ℕ) (values : Option (List Value)) (rows : List Record) → Ascend rows → Ascend (with_values number values rows)
-ascend_with number (Some vs) rows ascend = record_ascends (record { row = record { 0 = number }; values = vs }) rows ascend
-ascend_with number None rows ascend = ascends_without number rows ascend
 
 -- Pages: a test on row numbers.
 
@@ -120,35 +116,6 @@ on_applied table page (c ∷ cs) rows = elim (cases_Bool (c.table == table)) [
 
 -- Rows by number.
 
-find_kept : (t : Record → Bool) (number : ℕ) → ((r : Record) → r.row.0 == number ≡ true → t r ≡ true) → (rows : List Record) → row_at (filter t rows) number ≡ row_at rows number
-find_kept t number keeps [] = refl
-find_kept t number keeps (r ∷ rows) =
-    let rest = find_kept t number keeps rows in
-    elim (cases_Bool (r.row.0 == number)) [
-      | inl h ↦ rw (keeps r h, h) refl
-      | inr f ↦ elim (cases_Bool (t r)) [ inl k ↦ rw (k, f) rest | inr g ↦ rw (g, f) rest ]
-    ]
-
-find_left : (t : Record → Bool) (number : ℕ) → ((r : Record) → r.row.0 == number ≡ true → t r ≡ false) → (rows : List Record) → row_at (filter t rows) number ≡ None
-find_left t number leaves [] = refl
-find_left t number leaves (r ∷ rows) =
-    let rest = find_left t number leaves rows in
-    elim (cases_Bool (r.row.0 == number)) [
-      | inl h ↦ rw (leaves r h) rest
-      | inr f ↦ elim (cases_Bool (t r)) [ inl k ↦ rw (k, f) rest | inr g ↦ rw g rest ]
-    ]
-
-find_front : (xs ys : List Record) (number : ℕ) → row_at ys number ≡ None → row_at (xs ++ ys) number ≡ row_at xs number
-find_front [] ys number none = none
-find_front (x ∷ xs) ys number none =
-    let rest = find_front xs ys number none in
-    elim (x.row.0 == number) as (λ b. cond b (Some x) (row_at (xs ++ ys) number) ≡ cond b (Some x) (row_at xs number)) [ true ↦ refl | false ↦ rest ]
-
-find_back : (xs ys : List Record) (number : ℕ) → row_at xs number ≡ None → row_at (xs ++ ys) number ≡ row_at ys number
-find_back [] ys number none = refl
-find_back (x ∷ xs) ys number none = elim (cases_Bool (x.row.0 == number)) [
-  | inl t ↦ (let no = rw t at none in cc)
-  | inr f ↦ (let rest = rw f at none in rw f (find_back xs ys number rest))
 ]
 
 pub row_with_other : (number other : ℕ) (values : Option (List Value)) (rows : List Record) → number == other ≡ false → row_at (with_values number values rows) other ≡ row_at rows other
@@ -232,11 +199,6 @@ past_table table page c old rows f = record {
   same = λ ds rise. ap (λ rs. old ++ rs) (step_other (λ n. n / 32 == page) table c (on_page page ds) rows (c.row.0 / 32 == page) f);
 }
 
-pub applied_ascends : (table : ℕ) (cs : List Change) (rows : List Record) → Ascend rows → Ascend (rows_with_changes table cs rows)
-applied_ascends table [] rows ascend = ascend
-applied_ascends table (c ∷ cs) rows ascend = elim (cases_Bool (c.table == table)) [
-  | inl t ↦ rw t (applied_ascends table cs (with_values c.row.0 c.values rows) (ascend_with c.row.0 c.values rows ascend))
-  | inr f ↦ rw f (applied_ascends table cs rows ascend)
 ]
 
 -- No change, and a table that no change touches.

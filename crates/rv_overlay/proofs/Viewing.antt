@@ -4,6 +4,7 @@ use Rattle.std.proofs.lemmas.Bool.{cases_Bool, and_parts}
 use Rattle.std.proofs.lemmas.Bool.Decides.{nat_tests}
 use Rattle.std.specs.List.{list_all}
 use Rattle.std.specs.Ordering.{is_eq}
+use Rattle.rv_reader.proofs.Rows.{applied_ascends}
 use Rattle.rv_value.specs.declared.record.Record.{Record}
 use Rattle.rv_value.specs.declared.record.IndexEntry.{IndexEntry}
 use Rattle.rv_value.specs.Entries.{entry_cmp}
@@ -20,7 +21,7 @@ use Rattle.rv_overlay.specs.Rows.{change_of, changed_row}
 use Rattle.rv_overlay.specs.Views.{ViewIs, adds, is_entry, takes}
 use Rattle.rv_overlay.proofs.Members.{laid_has, members_tell}
 use Rattle.rv_overlay.proofs.Placing.{equal_same, with_ascends}
-use Rattle.rv_overlay.proofs.Tabling.{applied_ascends, row_applied}
+use Rattle.rv_overlay.proofs.Tabling.{row_applied}
 
 or_turn : (a b c : Bool) → (a || (b || c)) ≡ (b || (a || c))
 or_turn true true c = refl

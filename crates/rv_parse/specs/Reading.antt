@@ -101,7 +101,7 @@ op_at _ = None
 abbrev pub operand_at : List Token → Read RawOperand
 operand_at tokens =
     (literal_at tokens >>= λ value. Some (operands.Literal value.0, value.1)) <|>
-      (column_at tokens >>= λ column. Some (operands.Column column.0, column.1))
+    (column_at tokens >>= λ column. Some (operands.Column column.0, column.1))
 
 -- where one thing begins the list, what follows it; else the other
 abbrev pub choose : {A B : Type 0} → Option A → (A → Option B) → Option B → Option B
@@ -146,7 +146,7 @@ abbrev pub list_at : {X : Type 0} → (List Token → Read X) → Separator → 
 list_at part separator zero tokens = None
 list_at part separator (suc n) tokens =
     part tokens >>= λ first. list_end first.0 first.1 (separator_at separator first.1)
-      (λ after. list_at part separator n after)
+    (λ after. list_at part separator n after)
 
 -- as many as there are tokens, at most
 unfoldable pub list_of : {X : Type 0} → (List Token → Read X) → Separator → List Token → Read (List X)
@@ -214,7 +214,7 @@ groups_at tokens = list_of group_at separators.And tokens
 unfoldable pub bare_end : List RawAtom → List Token → Read (List (List RawAtom))
 bare_end atoms rest = if nat_eq (length atoms) 1
     then choose (word_at (codes "AND") rest) (λ after. groups_at after >>= λ more. Some (atoms ∷ more.0, more.1))
-      (Some (atoms ∷ [], rest))
+    (Some (atoms ∷ [], rest))
     else Some (atoms ∷ [], rest)
 
 unfoldable pub cond_at : List Token → Read (List (List RawAtom))

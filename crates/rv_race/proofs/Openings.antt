@@ -1,11 +1,8 @@
 -- A race before its first step.
-use Rattle.std.proofs.Common.{◌≡◌, ℕ, ◌+◌, ◌*◌, ◌<◌, ◌≤◌, List, [], ◌∷◌, length, Bool, true, ◌&&◌, refl, ap, sym, ◌∙◌, arith, subst, nat_lt}
-use Rattle.std.specs.List.{AllByRecursion, list_all}
-use Rattle.std.proofs.lemmas.Bool.Decides.{nat_tests}
+use Rattle.std.proofs.Common.{◌≡◌, ℕ, ◌+◌, ◌*◌, ◌<◌, ◌≤◌, List, [], ◌∷◌, length, Bool, true, ◌&&◌, refl, ap, sym, ◌∙◌, arith, subst}
 use Rattle.std.proofs.lemmas.List.{length-map}
+use Rattle.rv_final.proofs.Owed.{all_qualifying, rows_within}
 use Rattle.rv_value.proofs.Lists.{filter_length}
-use Rattle.rv_value.specs.declared.record.Record.{Record}
-use Rattle.rv_rows.specs.Rows.{Ascend}
 use Rattle.rv_restrict.specs.declared.atom.Atom.{Atom}
 use Rattle.rv_judge.specs.Runs.{EachOnce}
 use Rattle.rv_reader.specs.Entries.{is_in}
@@ -17,10 +14,10 @@ use Rattle.rv_final.specs.LaneWork.{planned_work}
 use Rattle.rv_race.specs.Effort.{cuts_and_entries, effort, life_of, running_work}
 use Rattle.rv_race.specs.Opened.{CanRace, Opened, opened}
 use Rattle.rv_race.specs.Raced.{RaceFits, Raced, rest}
-use Rattle.rv_race.specs.Runs.{Tells, TellsRacing, indexes_of, left_of}
+use Rattle.rv_jscan.specs.Planned.{indexes_of}
+use Rattle.rv_race.specs.Runs.{Tells, TellsRacing, left_of}
 use Rattle.rv_race.specs.Ways.{first_two}
 use Rattle.rv_race.proofs.Fits.{begun_fits}
-use Rattle.rv_race.proofs.Switches.{all_qualifying}
 
 pub opened_fits : (table snap : ℕ) (only : List (List Atom)) (scans : List ScanPlan) (cursor opening pages : ℕ) (r : Raced) (shown : Shown) → Opened table snap only scans cursor opening pages r → CanRace table snap only scans shown → 2 ≤ length scans → RaceFits r shown
 opened_fits table snap only scans cursor opening pages r shown o can two =
@@ -75,22 +72,8 @@ opened_tells table snap only scans cursor opening pages r shown o can two few =
 
 -- THE EFFORT
 
-rows_above : (rows : List Record) (low high : ℕ) → Ascend rows → AllByRecursion (λ (r : Record). r.row.0 < high) rows → list_all (λ (r : Record). nat_lt low r.row.0) rows ≡ true → low < high → length rows + low + 1 ≤ high
-rows_above [] low high asc below above l = omega arith
-rows_above (r ∷ rows) low high asc below above l =
-    let first : low < r.row.0 = number low r.row.0 (left_true _ _ above) in
-    let more = rows_above rows r.row.0 high asc.1 below.1 asc.0 below.0 in
-    omega arith
-  where
-    number : (a b : ℕ) → nat_lt a b ≡ true → a < b
-    number a b h = grind (arith, nat_tests)
-
     left_true : (a b : Bool) → (a && b) ≡ true → a ≡ true
     left_true a b h = grind arith
-
-rows_within : (rows : List Record) (high : ℕ) → Ascend rows → AllByRecursion (λ (r : Record). r.row.0 < high) rows → length rows ≤ high
-rows_within [] high asc below = omega arith
-rows_within (r ∷ rows) high asc below = let more = rows_above rows r.row.0 high asc.1 below.1 asc.0 below.0 in omega arith
 
 planned_cost : (plans : List ScanPlan) (shown : Shown) (snap : ℕ) → planned_work plans shown snap ≤ 2 * cuts_and_entries plans shown snap + 2 * length plans
 planned_cost [] shown snap = omega arith

@@ -1,8 +1,6 @@
 -- A change of the scans under way, of the list or of the control leaves the fit and the rest.
-use Rattle.std.proofs.Common.{◌≡◌, ℕ, ◌⊎◌, List, [], ◌∷◌, Bool, true, false, not, cond, ◌&&◌, ◌||◌, refl, ap, sym, ◌∙◌, arith, subst, Option, Some, None, is_some, IsSome, IfSome, inl, inr, nat_eq}
-use Rattle.rv_value.specs.declared.record.Record.{Record}
-use Rattle.rv_restrict.specs.declared.atom.Atom.{Atom}
-use Rattle.rv_restrict.specs.Truth.{qualifies}
+use Rattle.std.proofs.Common.{◌≡◌, ℕ, ◌⊎◌, List, Bool, true, false, not, ◌&&◌, refl, ap, sym, ◌∙◌, arith, subst, Option, Some, None, is_some, IsSome, IfSome, inl, inr}
+use Rattle.rv_final.proofs.Owed.{row_there}
 use Rattle.rv_keys.specs.Keys.{has_key}
 use Rattle.rv_judge.specs.declared.events.Control.{Control}
 use Rattle.rv_judge.specs.declared.events.Control.TheVariants.{Building, ForegroundAlone, BackgroundAlone, FinalList, FinalTable, Done}
@@ -14,7 +12,7 @@ use Rattle.rv_judge.specs.declared.judging.Verdict.TheVariants.{AbandonScan, Aba
 use Rattle.rv_judge.specs.Course.{next_control}
 use Rattle.rv_reader.specs.Shown.{Shown}
 use Rattle.rv_scan.specs.Places.{unseen}
-use Rattle.rv_final.specs.Rest.{has_row, qualifies_at, qualifying, rest_by}
+use Rattle.rv_final.specs.Rest.{has_row, qualifies_at, rest_by}
 use Rattle.rv_final.specs.Stage.{keys_left, list_left, table_left}
 use Rattle.rv_final.proofs.Rests.{same_rest}
 use Rattle.rv_race.specs.Raced.{Covers, RaceFits, Raced, RunningFits, left_by, owed, racing, rest, rows_of}
@@ -32,20 +30,7 @@ is_racing Done h = absurd (cc)
 pub rest_racing : (r : Raced) (shown : Shown) → racing r.control ≡ true → rest r shown ≡ rest_by (λ n. true) r.only (rows_of r shown)
 rest_racing r shown h = ap (λ (c : Control). rest_by (left_by c r.list r.at r.last (rows_of r shown)) r.only (rows_of r shown)) (is_racing r.control h)
 
-pub all_qualifying : (only : List (List Atom)) (rows : List Record) → rest_by (λ n. true) only rows ≡ qualifying only rows
-all_qualifying only [] = refl
-all_qualifying only (r ∷ rows) = elim (qualifies only r.values) as (λ b. cond (b && true) (r ∷ rest_by (λ n. true) only rows) (rest_by (λ n. true) only rows) ≡ cond b (r ∷ qualifying only rows) (qualifying only rows)) [
-  | true ↦ ap (λ (rs : List Record). r ∷ rs) (all_qualifying only rows)
-  | false ↦ all_qualifying only rows
 ]
-
-pub row_there : (only : List (List Atom)) (rows : List Record) (n : ℕ) → qualifies_at only rows n ≡ true → has_row n rows ≡ true
-row_there only [] n q = q
-row_there only (r ∷ rows) n q = either (nat_eq n r.row.0) (qualifies only r.values) (qualifies_at only rows n) (has_row n rows) q (row_there only rows n)
-  where
-    either : (a b c d : Bool) → ((a && b) || c) ≡ true → (c ≡ true → d ≡ true) → (a || d) ≡ true
-    either true b c d h f = refl
-    either false b c d h f = f h
 
 -- While scans are under way.
 

@@ -1,11 +1,13 @@
 -- A race's trace goes on telling a run of the course, with each piece, each end of a scan and each verdict.
-use Rattle.std.proofs.Common.{◌≡◌, ◌⊎◌, ◌∙◌, ℕ, ◌+◌, ◌-◌, ◌<◌, ◌≤◌, List, [], ◌∷◌, ◌++◌, Bool, true, false, not, ◌&&◌, ◌||◌, Option, Some, None, is_some, IfSome, length, drop, take, min, nat_lt, nat_eq, refl, ap, sym, subst, arith, append_assoc, length-append, zero, suc, inl, inr, Result, Ok, Err, IfOk, OnErr}
+use Rattle.std.proofs.Common.{◌≡◌, ◌⊎◌, ◌∙◌, ℕ, ◌+◌, ◌-◌, ◌<◌, ◌≤◌, List, [], ◌∷◌, ◌++◌, Bool, true, false, not, ◌&&◌, ◌||◌, Option, Some, None, is_some, IfSome, length, drop, take, min, nat_lt, nat_eq, refl, ap, sym, subst, arith, append_assoc, length-append, suc, inl, inr, Result, Ok, Err, IfOk, OnErr}
 use Rattle.std.specs.List.{list_all}
 use Rattle.std.proofs.lemmas.Bool.{cases_Bool, and_from}
 use Rattle.std.proofs.lemmas.Bool.Decides.{nat_tests}
 use Rattle.std.proofs.lemmas.List.{map-append}
 use Rattle.std.proofs.lemmas.List.Folds.{list_all-append}
 use Rattle.std.specs.Cmp.{first_so}
+use Rattle.rv_judge.proofs.Rooms.{with_room}
+use Rattle.rv_jscan.proofs.Planned.{dropped_one, index_known}
 use Rattle.rv_value.specs.declared.record.IndexEntry.{IndexEntry}
 use Rattle.rv_judge.specs.declared.counting.Counts.{Counts}
 use Rattle.rv_judge.specs.declared.events.Control.{Control}
@@ -36,27 +38,15 @@ use Rattle.rv_race.specs.declared.running.Running.{Running}
 use Rattle.rv_race.specs.Given.{Answers, TakesPiece, turn_lane, turn_scan}
 use Rattle.rv_race.specs.Raced.{Raced, racing}
 use Rattle.rv_race.specs.Rulings.{GivesOn, Obeys, accepted, dropped, ended, going_on, gone, index_at, listed, more, narrowed_by, passed_on, ruled, stopped, told_over}
-use Rattle.rv_race.specs.Runs.{Ended, IsOfUndropped, Placed, Tells, TellsBy, TellsOver, TellsRacing, ended_indexes, events_left, indexes_of, is_keyed, keyed, later, left_by, left_of, list_length, listed_by, outcome, told_ends, was_dropped}
+use Rattle.rv_jscan.specs.Planned.{indexes_of}
+use Rattle.rv_judge.specs.Drops.{was_dropped}
+use Rattle.rv_race.specs.Runs.{Ended, IsOfUndropped, Placed, Tells, TellsBy, TellsOver, TellsRacing, ended_indexes, events_left, is_keyed, keyed, later, left_by, left_of, list_length, listed_by, outcome, told_ends}
 use Rattle.rv_race.specs.Ways.{advanced, followed, followed_by, has_next, joined, lower, lower_of, turned, turned_to}
 use Rattle.rv_race.proofs.Switches.{is_racing, over_as}
-use Rattle.rv_race.proofs.Traces.{OneTurn, chain_went, drop_last, final_of, final_turn, has_scans, last_off, list_last, listed_more, one_more, once_apart, once_front, once_swap, so_far, stop_last, told_length, told_more, turns_of, undropped, with_room}
+use Rattle.rv_race.proofs.Traces.{OneTurn, chain_went, drop_last, final_of, final_turn, has_scans, last_off, list_last, listed_more, one_more, once_apart, once_front, once_swap, so_far, stop_last, told_length, told_more, turns_of, undropped}
 use Rattle.rv_race.proofs.Ways.{advanced_as, followed_as, some_at}
 
 -- THE SCANS THAT ARE LEFT
-
-dropped_one : (plans : List ScanPlan) (k : ℕ) → k < length plans → indexes_of (drop k plans) ≡ (plan_at plans k).index ∷ indexes_of (drop (k + 1) plans)
-dropped_one [] k l = absurd (omega arith)
-dropped_one (p ∷ plans) zero l = refl
-dropped_one (p ∷ plans) (suc k) l =
-    let step : suc (k + 1) ≡ suc k + 1 = omega arith in
-    dropped_one plans k (omega arith) ∙ ap (λ (x : ℕ). (plan_at plans k).index ∷ indexes_of (drop x (p ∷ plans))) step
-
-index_known : (plans : List ScanPlan) (k : ℕ) → k < length plans → has_index (plan_at plans k).index (indexes_of plans) ≡ true
-index_known [] k l = absurd (omega arith)
-index_known (p ∷ plans) zero l = first (nat_eq p.index p.index) (has_index p.index (indexes_of plans)) (itself p.index)
-  where
-    itself : (n : ℕ) → nat_eq n n ≡ true
-    itself n = grind (arith, nat_tests)
 
     first : (a b : Bool) → a ≡ true → (a || b) ≡ true
     first a b h = grind arith

@@ -1,10 +1,9 @@
 -- The runs of which a race's trace tells: the scans that are over, one after another, and then one under way.
-use Rattle.std.proofs.Common.{◌≡◌, ◌∙◌, ℕ, ◌+◌, ◌*◌, ◌-◌, ◌≤◌, List, [], ◌∷◌, ◌++◌, Bool, true, false, ◌||◌, Option, Some, None, is_some, length, take, nat_lt, nat_eq, refl, ap, sym, subst, arith, append_assoc, append-nil, length-append}
+use Rattle.std.proofs.Common.{◌≡◌, ◌∙◌, ℕ, ◌+◌, ◌*◌, ◌-◌, List, [], ◌∷◌, ◌++◌, Bool, true, false, ◌||◌, Option, Some, None, is_some, length, take, nat_eq, refl, ap, sym, subst, arith, append_assoc, length-append}
 use Rattle.std.specs.List.{list_all}
 use Rattle.std.proofs.Math.Seq.{take-append_seam}
 use Rattle.std.proofs.lemmas.List.Folds.{list_any-append}
 use Rattle.std.specs.Cmp.{first_so, second_so}
-use Rattle.std.proofs.lemmas.Bool.{lt-ltb}
 use Rattle.rv_value.proofs.Tests.{number_turned}
 use Rattle.rv_judge.specs.declared.events.Control.{Control}
 use Rattle.rv_judge.specs.declared.events.Control.TheVariants.{Building, ForegroundAlone, BackgroundAlone, FinalList, FinalTable, Done}
@@ -16,10 +15,10 @@ use Rattle.rv_judge.specs.declared.events.Strategy.TheVariants.{BackgroundOnly}
 use Rattle.rv_judge.specs.declared.judging.Verdict.TheVariants.{AbandonScan, AbandonBackground}
 use Rattle.rv_judge.specs.Course.{final, has_row}
 use Rattle.rv_judge.specs.Runs.{EachOnce, HasScans, IsRun, MayCome, Standing, Turn, after, begun as begins, events_of, has_index, idle, is_more, run_end, run_events, scan_events, start, start_events}
-use Rattle.rv_judge.specs.Tracing.{with_events}
 use Rattle.rv_judge.proofs.RunSteps.{IsRun-push, run_end-push, run_events-push}
 use Rattle.rv_final.specs.LaneWork.{ahead}
-use Rattle.rv_race.specs.Runs.{Ended, ended_indexes, is_keyed, keyed, later, listed_by, outcome, told_ends, was_dropped}
+use Rattle.rv_judge.specs.Drops.{was_dropped}
+use Rattle.rv_race.specs.Runs.{Ended, ended_indexes, is_keyed, keyed, later, listed_by, outcome, told_ends}
 
 -- One turn.
 
@@ -173,13 +172,6 @@ told_length [] = refl
 told_length (e ∷ ends) = let more = told_length ends in omega arith
 
 -- The events of a trace.
-
-pub with_room : (items es : List Event) → length items + length es ≤ 32 → with_events items es ≡ items ++ es
-with_room items [] h = sym (append-nil items)
-with_room items (e ∷ es) h =
-    let less : nat_lt (length items) 32 ≡ true = lt-ltb (length items) 32 (omega arith) in
-    let one : length (items ++ e ∷ []) ≡ length items + 1 = length-append items (e ∷ []) in
-    rw less (with_room (items ++ e ∷ []) es (omega arith) ∙ append_assoc items (e ∷ []) es)
 
 pub last_off : (xs : List Event) (x : Event) → take (length (xs ++ x ∷ []) - 1) (xs ++ x ∷ []) ≡ xs
 last_off xs x =

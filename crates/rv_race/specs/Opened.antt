@@ -32,7 +32,8 @@ use Rattle.rv_race.specs.Effort.{keys_work}
 use Rattle.rv_race.specs.Given.{Awaits, TakesLeaf, counts_read, holding, piece_read, turn_lane}
 use Rattle.rv_race.specs.Raced.{PlansFit, RaceFits, Raced, SameRace, rest, rows_of}
 use Rattle.rv_race.specs.Rulings.{GivesOn, gone}
-use Rattle.rv_race.specs.Runs.{Tells, indexes_of}
+use Rattle.rv_jscan.specs.Planned.{indexes_of}
+use Rattle.rv_race.specs.Runs.{Tells}
 use Rattle.rv_race.specs.Ways.{first_two}
 
 -- Two to eight scans of different indexes can race over a table of a reader.

@@ -104,7 +104,7 @@ pub record RunnerFits (plans : List ScanPlan) (owed : ℕ → Bool) (shown : Sho
   pub lane : LaneFits (plan_at plans run.scan) shown snap run.lane
   pub builds : (n : ℕ) → owed n ≡ true
       → (has_key n run.lane.building
-        || has_entry n (passing (plan_at plans run.scan).part (ahead (plan_at plans run.scan) shown snap run.lane)))
+      || has_entry n (passing (plan_at plans run.scan).part (ahead (plan_at plans run.scan) shown snap run.lane)))
       ≡ true
 
 -- the scans under way were; only the one whose turn it is holds a leaf

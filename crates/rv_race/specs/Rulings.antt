@@ -38,19 +38,25 @@ kept_of r piece = kept_by (may r.list) piece.part piece.entries
 abbrev pub counts_after : Raced → Pieced → Bool → List ScanCounts
 counts_after r piece last =
     slice_set r.counts (turn_scan r) (piece_counted (counts_at r.counts (turn_scan r)) (length piece.entries)
-      (length (kept_of r piece)) last)
+    (length (kept_of r piece)) last)
 
 abbrev pub accepted : Pieced → Bool → Raced → Raced
 accepted piece last r =
     record (with_lane (passed (may r.list) piece (turn_lane r)) r) {
-      counts = counts_after r piece last; number = one_more r.number }
+      counts = counts_after r piece last;
+      number = one_more r.number;
+    }
 
 -- What the judge is told.
 
 abbrev pub account_of : Raced → ℕ → ScanAccount
 account_of r scan =
-    record { estimate = (plan_at r.plans scan).estimate; scanned = (counts_at r.counts scan).scanned;
-      kept = (counts_at r.counts scan).kept; leaves = (counts_at r.counts scan).leaves }
+    record {
+      estimate = (plan_at r.plans scan).estimate;
+      scanned = (counts_at r.counts scan).scanned;
+      kept = (counts_at r.counts scan).kept;
+      leaves = (counts_at r.counts scan).leaves;
+    }
 
 abbrev pub projected : Raced → ℕ → ℕ
 projected r scan = projection (total_of (account_of r scan)) (account_of r scan).scanned (account_of r scan).kept
@@ -91,8 +97,10 @@ more r = has_next (length r.plans) r.running && not (is_empty_list r.list)
 -- the control is that of the course, and the trace tells it
 abbrev pub gone : Happening → Raced → Raced
 gone happening r =
-    record r { control = next_control BackgroundOnly r.control happening;
-      trace = noted r.trace (At (next_control BackgroundOnly r.control happening)) }
+    record r {
+      control = next_control BackgroundOnly r.control happening;
+      trace = noted r.trace (At (next_control BackgroundOnly r.control happening));
+    }
 
 -- another scan goes on
 abbrev pub going_on : Raced → Raced
@@ -154,7 +162,7 @@ dropped r = over (more r) (Ruled AbandonScan (more r) (is_some r.list)) (told_ov
 abbrev pub stopped : Raced → Raced
 stopped r =
     gone (Ruled AbandonBackground (more r) (is_some r.list))
-      (record r { trace = noted r.trace (Drop (index_at r (lower r.running))) })
+    (record r { trace = noted r.trace (Drop (index_at r (lower r.running))) })
 
 -- the other scan, where there is one, has the next turn
 abbrev pub passed_on : Raced → Raced

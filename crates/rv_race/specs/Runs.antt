@@ -1,25 +1,24 @@
 -- The run of the course that a race has taken, as its trace tells it.
-use Rattle.std.specs.Prelude.{◌≡◌, ℕ, ◌+◌, ◌<◌, ◌≤◌, Bool, true, false, List, [], ◌∷◌, ◌++◌, map, drop, length, nat_lt, nat_eq, Option, Some, None, IfSome}
-use Rattle.std.specs.List.{list_all, list_any}
+use Rattle.std.specs.Prelude.{◌≡◌, ℕ, ◌+◌, ◌<◌, ◌≤◌, Bool, true, false, List, [], ◌∷◌, ◌++◌, map, drop, length, nat_lt, Option, Some, None, IfSome}
+use Rattle.std.specs.List.{list_all}
 use Rattle.rv_judge.specs.declared.events.Control.{Control}
 use Rattle.rv_judge.specs.declared.events.Control.TheVariants.{Building, ForegroundAlone, BackgroundAlone, FinalList, FinalTable, Done}
 use Rattle.rv_judge.specs.declared.events.Event.{Event}
-use Rattle.rv_judge.specs.declared.events.Event.TheVariants.{At, Scan, List as ListOf, Drop, Full, Stop}
+use Rattle.rv_judge.specs.declared.events.Event.TheVariants.{At, Scan, List as ListOf, Drop}
 use Rattle.rv_judge.specs.declared.events.Strategy.TheVariants.{BackgroundOnly}
 use Rattle.rv_judge.specs.Runs.{EachOnce, HasScans, IsRun, Turn, has_index, run_end, run_events, start, start_events}
 use Rattle.rv_jscan.specs.declared.jscan.ScanPlan.{ScanPlan}
 use Rattle.rv_jscan.specs.declared.jscan.Taken.{Taken}
 use Rattle.rv_jscan.specs.declared.jscan.Taken.TheVariants.{Piece, Nothing}
 use Rattle.rv_jscan.specs.Joint.{plan_at}
+use Rattle.rv_jscan.specs.Planned.{indexes_of}
+use Rattle.rv_judge.specs.Drops.{was_dropped}
 use Rattle.rv_race.specs.declared.running.Runner.{Runner}
 use Rattle.rv_race.specs.declared.running.Running.{Running}
 use Rattle.rv_race.specs.Given.{turn_plan, turn_scan}
 use Rattle.rv_race.specs.Raced.{Raced}
 use Rattle.rv_race.specs.Rulings.{index_at}
 use Rattle.rv_race.specs.Ways.{lower}
-
-abbrev pub indexes_of : List ScanPlan → List ℕ
-indexes_of plans = map (λ (p : ScanPlan). p.index) plans
 
 -- A scan that is over: its index, and the number of keys of its list, none where it was dropped.
 pub record Ended : Type 0 where
@@ -123,18 +122,6 @@ TellsBy Done r = TellsOver r
 pub record Tells (r : Raced) : Type 0 where
   pub named : r.trace.strategy ≡ BackgroundOnly
   pub tells : TellsBy r.control r
-
--- the events tell that the scan of an index was dropped
-abbrev pub is_drop : ℕ → Event → Bool
-is_drop index (At now) = false
-is_drop index (Scan k) = false
-is_drop index (ListOf k keys) = false
-is_drop index (Drop k) = nat_eq k index
-is_drop index Full = false
-is_drop index Stop = false
-
-abbrev pub was_dropped : ℕ → List Event → Bool
-was_dropped index events = list_any (is_drop index) events
 
 -- a piece that is handed out is of a scan that was not dropped
 abbrev pub IsOfUndropped : Raced → Taken → Type 0

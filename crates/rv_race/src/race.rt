@@ -19,7 +19,8 @@ ghost use Rattle.rv_race.specs.Given.{Awaits, awaited, counts_read, next_id, one
 ghost use Rattle.rv_race.specs.Opened.{CanRace, Opened};
 ghost use Rattle.rv_race.specs.Raced.{RaceFits, racing, rest, rows_of};
 ghost use Rattle.rv_race.specs.Rulings.{completed, facts_of, gone, index_at, least_with, list_len, more, narrowed, passed_on, projected, recounted, scan_of, told_over, unnoted};
-ghost use Rattle.rv_race.specs.Runs.{Tells, indexes_of};
+ghost use Rattle.rv_jscan.specs.Planned.{indexes_of};
+ghost use Rattle.rv_race.specs.Runs.{Tells};
 ghost use Rattle.rv_race.specs.Ways.{advanced, lower};
 
 use crate::running::{Running, narrow};

@@ -5,10 +5,10 @@ use Rattle.std.proofs.lemmas.Bool.Decides.{nat_tests}
 use Rattle.std.proofs.lemmas.List.Elements.{filter-append}
 use Rattle.std.proofs.lemmas.List.Folds.{list_all-append}
 use Rattle.std.specs.List.{list_all, AllByRecursion}
+use Rattle.rv_reader.proofs.Rows.{ascend_with}
 use Rattle.rv_value.specs.declared.value.Value.{Value}
 use Rattle.rv_value.specs.declared.record.Record.{Record}
 use Rattle.rv_rows.specs.Rows.{Ascend, comes_below, with_values}
-use Rattle.rv_rows.proofs.Chains.{record_ascends, ascends_without}
 use Rattle.rv_reader.specs.Tables.{page_of, row_at, IsTable}
 use Rattle.rv_reader.proofs.Filters.{filter_none, all_filter}
 use Rattle.rv_records.specs.Pages.{rows_of, IsPage}
@@ -259,10 +259,6 @@ own_with number (Some vs) rows all =
     let here : number / 32 == number / 32 ≡ true = grind (arith, nat_tests) in
     rw (list_all-append (is_own (number / 32)) (filter (λ (r : Record). comes_below r new) rows) (new ∷ filter (λ (r : Record). comes_below new r) rows), front, here) back
 own_with number None rows all = all_filter (is_own (number / 32)) (λ (r : Record). not (r.row.0 == number)) rows all
-
-ascend_with : (number : ℕ) (values : Option (List Value)) (rows : List Record) → Ascend rows → Ascend (with_values number values rows)
-ascend_with number (Some vs) rows ascend = record_ascends (record { row = record { 0 = number }; values = vs }) rows ascend
-ascend_with number None rows ascend = ascends_without number rows ascend
 
 pub page_with : (number n : ℕ) (values : Option (List Value)) (rows : List Record) → n ≡ number / 32 → IsPage n rows → IsPage n (with_values number values rows)
 page_with number n values rows e page =

@@ -1,9 +1,10 @@
 -- A row found by its number in ascending rows.
-use Rattle.std.proofs.Common.{◌≡◌, ℕ, ◌<◌, ◌≤◌, List, [], ◌∷◌, Bool, true, false, not, ◌==◌, refl, ap, sym, inl, inr, arith, length, zero, suc, filter, drop, nat_lt, None}
+use Rattle.std.proofs.Common.{◌≡◌, ℕ, ◌<◌, ◌≤◌, List, [], ◌∷◌, Bool, true, false, not, ◌==◌, refl, ap, sym, inl, inr, arith, length, zero, suc, filter, drop, nat_lt}
 use Rattle.std.proofs.lemmas.Bool.{cases_Bool, and_parts}
 use Rattle.std.proofs.lemmas.Bool.Decides.{nat_tests}
 use Rattle.std.specs.List.{slice_index_or, list_all, AllWithin}
 use Rattle.std.specs.List.Sorted.{IsPartitionedBy}
+use Rattle.rv_reader.proofs.Rows.{row_behind}
 use Rattle.rv_value.specs.declared.record.Record.{Record}
 use Rattle.rv_rows.specs.Rows.{Ascend, comes_below}
 use Rattle.rv_reader.specs.Tables.{row_at}
@@ -39,15 +40,6 @@ parted number (r ∷ rows) ascend zero zero d l h t = t
 parted number (r ∷ rows) ascend zero (suc j) d l h t = below_first number r (slice_index_or rows j d) (above_all r rows j d (omega arith) ascend.0) t
 parted number (r ∷ rows) ascend (suc i) zero d l h t = absurd (omega arith)
 parted number (r ∷ rows) ascend (suc i) (suc j) d l h t = parted number rows ascend.1 i j d (omega arith) (omega arith) t
-
-row_behind : (number : ℕ) (r : Record) (rows : List Record) → list_all (comes_below r) rows ≡ true → number ≤ r.row.0 → row_at rows number ≡ None
-row_behind number r [] all h = refl
-row_behind number r (s ∷ rows) all h =
-    let parts = and_parts (comes_below r s) (list_all (comes_below r) rows) all in
-    let first = parts.0 in
-    let rest = row_behind number r rows parts.1 h in
-    let other : s.row.0 == number ≡ false = grind (arith, nat_tests) in
-    rw other rest
 
 -- the row of a number is the first one from the number on
 pub first_is : (number : ℕ) (rows : List Record) → Ascend rows → row_from number (filter (λ (r : Record). not (below number r)) rows) ≡ row_at rows number

@@ -32,8 +32,8 @@ JudgesOffers b old given new = Judges b (Offers old given) (new ≡ offers_after
 abbrev pub JudgesAt : Bool → ℕ → List Cursor → Reply → List Cursor → Type 0
 JudgesAt b place old given new =
     Judges b (Offers (cursor_at old place).offers given)
-      (new ≡ slice_set old place
-      (record (cursor_at old place) { offers = offers_after (cursor_at old place).offers given }))
+    (new ≡ slice_set old place
+    (record (cursor_at old place) { offers = offers_after (cursor_at old place).offers given }))
 
 abbrev pub JudgesFetch : Bool → Option ℕ → State → List ℕ → Reply → State → Type 0
 JudgesFetch b place old name given new = Judges b (AllowsFetch place old name given) (new ≡ fetched place old given)

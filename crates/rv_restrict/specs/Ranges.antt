@@ -168,7 +168,7 @@ abbrev pub range_from : List (List Atom) → List Value → List ℕ → Range
 range_from only prefix [] = equal_range prefix
 range_from only prefix (c ∷ more) =
     if_some (first_equal (limits_on c only)) (λ v. range_from only (prefix ++ v ∷ []) more)
-      (last_range prefix (limits_on c only))
+    (last_range prefix (limits_on c only))
 
 abbrev pub range_for : List (List Atom) → List ℕ → Range
 range_for only columns = range_from only [] columns

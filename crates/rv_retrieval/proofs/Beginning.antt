@@ -1,9 +1,8 @@
 -- A retrieval before its first step.
-use Rattle.std.proofs.Common.{◌≡◌, ℕ, ◌<◌, List, [], ◌∷◌, length, Bool, true, false, not, cond, ◌&&◌, ◌||◌, refl, ap, sym, ◌∙◌, arith, subst, inl}
+use Rattle.std.proofs.Common.{◌≡◌, ℕ, ◌<◌, List, [], length, Bool, true, false, not, ◌&&◌, ◌||◌, refl, ap, sym, ◌∙◌, arith, subst, inl}
 use Rattle.std.proofs.lemmas.Bool.{and_from}
+use Rattle.rv_final.proofs.Owed.{all_qualifying, row_there}
 use Rattle.rv_value.specs.declared.record.Record.{Record}
-use Rattle.rv_restrict.specs.declared.atom.Atom.{Atom}
-use Rattle.rv_restrict.specs.Truth.{qualifies}
 use Rattle.rv_keys.specs.Keys.{has_key}
 use Rattle.rv_judge.specs.declared.events.Strategy.{Strategy}
 use Rattle.rv_judge.specs.declared.events.Strategy.TheVariants.{Table, BackgroundOnly, FastFirst, Sorted, IndexOnly, Union}
@@ -13,17 +12,11 @@ use Rattle.rv_scan.specs.Places.{unseen, Fits as PlaceFits}
 use Rattle.rv_jscan.specs.declared.jscan.ScanPlan.{ScanPlan}
 use Rattle.rv_jscan.specs.Joint.{CanTake, Joint, JointFits, meets, plan_at}
 use Rattle.rv_jscan.specs.Steps.{begun}
-use Rattle.rv_final.specs.Rest.{qualifies_at, qualifying, rest_by, has_row}
+use Rattle.rv_final.specs.Rest.{qualifies_at, qualifying, has_row}
 use Rattle.rv_retrieval.specs.Opens.{Opens, first_of}
 use Rattle.rv_retrieval.specs.Shape.{Shape, RetrievalFits, Source, Undelivered, Ahead, Keys, Pages, rest, source, source_of, left_at, rows_of, is_building, is_index_only, is_sorted, is_led}
 use Rattle.rv_final.proofs.Rests.{same_rest}
-use Rattle.rv_retrieval.proofs.Switching.{row_there}
 
-pub all_qualifying : (only : List (List Atom)) (rows : List Record) → rest_by (λ n. true) only rows ≡ qualifying only rows
-all_qualifying only [] = refl
-all_qualifying only (r ∷ rows) = elim (qualifies only r.values) as (λ b. cond (b && true) (r ∷ rest_by (λ n. true) only rows) (rest_by (λ n. true) only rows) ≡ cond b (r ∷ qualifying only rows) (qualifying only rows)) [
-  | true ↦ ap (λ (rs : List Record). r ∷ rs) (all_qualifying only rows)
-  | false ↦ all_qualifying only rows
 ]
 
 first_led : (s : Strategy) (b : Bool) → source_of (first_of s b) s ≡ Ahead → is_led s ≡ true

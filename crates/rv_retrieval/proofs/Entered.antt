@@ -3,6 +3,7 @@ use Rattle.std.proofs.Common.{◌≡◌, ℕ, List, [], ◌∷◌, filter, map, 
 use Rattle.std.specs.List.{list_any, AllByRecursion, cons_option}
 use Rattle.std.proofs.lemmas.Bool.{cases_Bool}
 use Rattle.std.proofs.lemmas.Bool.Decides.{nat_tests}
+use Rattle.rv_reader.proofs.Rows.{found_row}
 use Rattle.rv_value.proofs.Lists.{all_drop, all_filter}
 use Rattle.rv_value.specs.declared.record.Record.{Record}
 use Rattle.rv_value.specs.declared.record.IndexEntry.{IndexEntry}
@@ -18,7 +19,7 @@ use Rattle.rv_scan.proofs.Telling.{told_wide, told_reads, told_truth}
 use Rattle.rv_jscan.specs.Entries.{has_entry, Apart}
 use Rattle.rv_jscan.proofs.Parts.{Apart-filter}
 use Rattle.rv_final.specs.Rest.{qualifies_at, has_row}
-use Rattle.rv_final.proofs.Rests.{found_row, rows_found}
+use Rattle.rv_final.proofs.Rests.{rows_found}
 use Rattle.rv_final.proofs.Dues.{StandsFor, RowsApart, Looks, rows_apart}
 
 -- an entry of a row

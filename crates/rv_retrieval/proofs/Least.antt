@@ -8,6 +8,7 @@ use Rattle.std.specs.declared.cmp.Ordering.{Ordering}
 use Rattle.std.specs.declared.cmp.Ordering.TheVariants.{Less, Equal, Greater}
 use Rattle.std.proofs.lemmas.Bool.{cases_Bool, and_parts, not_from_false}
 use Rattle.std.proofs.lemmas.Bool.Decides.{nat_tests}
+use Rattle.rv_reader.proofs.Rows.{found_row}
 use Rattle.rv_value.specs.declared.value.Value.{Value}
 use Rattle.rv_value.specs.declared.record.Record.{Record}
 use Rattle.rv_value.specs.declared.record.IndexEntry.{IndexEntry}
@@ -35,7 +36,7 @@ use Rattle.rv_final.specs.Rest.{order_of, qualifies_at}
 use Rattle.rv_retrieval.specs.Fronts.{front_left}
 use Rattle.rv_scan.specs.Fronts.{Front, front_rest, walk_of}
 use Rattle.rv_retrieval.specs.Shape.{LeastOf, RetrievalFits, Shape, front_entries, is_index_only, is_led, is_sorted, rows_of}
-use Rattle.rv_final.proofs.Rests.{found_row, rows_found, told_by}
+use Rattle.rv_final.proofs.Rests.{rows_found, told_by}
 use Rattle.rv_final.proofs.Dues.{StandsFor}
 use Rattle.rv_retrieval.proofs.Entered.{AreOf, Covering, EntryOf, entries_stand, left_stands}
 use Rattle.rv_retrieval.proofs.Fronting.{FrontStep, SkipsBy, front_items, items_rest, own_entries, unskipped}

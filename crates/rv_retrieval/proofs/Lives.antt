@@ -1,12 +1,13 @@
 -- The effort of a retrieval that was just made is at most the bound of the reader's lists.
 use Rattle.std.proofs.Common.{◌≡◌, ℕ, zero, suc, ◌+◌, ◌*◌, ◌<◌, ◌≤◌, List, [], ◌∷◌, length, filter, map, Bool, true, false, cond, ◌&&◌, ◌||◌, refl, ap, sym, ◌∙◌, arith, subst, Option, Some, None, Result, Ok, Err, IfOk, IfSome, nat_eq, nat_lt}
 use Rattle.std.specs.Prelude.{if◌then◌else◌}
-use Rattle.std.specs.List.{AllByRecursion, list_all, sum_by}
+use Rattle.std.specs.List.{sum_by}
 use Rattle.std.proofs.lemmas.Bool.Decides.{nat_tests}
 use Rattle.std.proofs.lemmas.List.{length-map}
 use Rattle.std.proofs.lemmas.List.Quantifiers.{position-Some}
 use Rattle.std.proofs.lemmas.List.Sums.{sum_by-cons}
 use Rattle.std.proofs.lemmas.List.Sorted.{length_permutation, sum_by-IsPermutation}
+use Rattle.rv_final.proofs.Owed.{rows_within}
 use Rattle.rv_value.proofs.Tests.{no_way}
 use Rattle.rv_value.proofs.Lists.{filter_length}
 use Rattle.rv_value.specs.declared.record.Record.{Record}
@@ -20,7 +21,6 @@ use Rattle.rv_reader.specs.Entries.{is_in}
 use Rattle.rv_reader.specs.Leaves.{run_from}
 use Rattle.rv_reader.specs.Shown.{Shown}
 use Rattle.rv_reader.specs.Tables.{IsTable}
-use Rattle.rv_rows.specs.Rows.{Ascend}
 use Rattle.rv_scan.specs.Alongs.{Along, leaf_work}
 use Rattle.rv_scan.specs.Places.{work as pages_work}
 use Rattle.rv_jscan.specs.declared.jscan.ScanPlan.{ScanPlan}
@@ -46,22 +46,8 @@ use Rattle.rv_retrieval.proofs.Courses.{HasFront, keys_back, sum_lower}
 
 -- The rows of a table are at most as many as its pages have places.
 
-rows_above : (rows : List Record) (low high : ℕ) → Ascend rows → AllByRecursion (λ (r : Record). r.row.0 < high) rows → list_all (λ (r : Record). nat_lt low r.row.0) rows ≡ true → low < high → length rows + low + 1 ≤ high
-rows_above [] low high asc below above l = omega arith
-rows_above (r ∷ rows) low high asc below above l =
-    let first : low < r.row.0 = number low r.row.0 (left_true _ _ above) in
-    let more = rows_above rows r.row.0 high asc.1 below.1 asc.0 below.0 in
-    omega arith
-  where
-    number : (a b : ℕ) → nat_lt a b ≡ true → a < b
-    number a b h = grind (arith, nat_tests)
-
     left_true : (a b : Bool) → (a && b) ≡ true → a ≡ true
     left_true a b h = grind arith
-
-rows_within : (rows : List Record) (high : ℕ) → Ascend rows → AllByRecursion (λ (r : Record). r.row.0 < high) rows → length rows ≤ high
-rows_within [] high asc below = omega arith
-rows_within (r ∷ rows) high asc below = let more = rows_above rows r.row.0 high asc.1 below.1 asc.0 below.0 in omega arith
 
 rows_few : (rows : List Record) (pages : ℕ) → IsTable rows pages → length rows ≤ 32 * pages
 rows_few rows pages t = rows_within rows (32 * pages) t.ascend t.within

@@ -1,8 +1,10 @@
 -- A trace goes on telling a run of the course, happening by happening.
-use Rattle.std.proofs.Common.{◌≡◌, ◌∙◌, ℕ, ◌+◌, ◌*◌, ◌-◌, ◌<◌, ◌≤◌, List, [], ◌∷◌, ◌++◌, Bool, true, false, not, ◌&&◌, ◌||◌, Option, Some, None, is_some, length, drop, nat_lt, nat_eq, refl, ap, sym, subst, arith, append_assoc, append-nil, length-append, zero, suc, inl, inr}
-use Rattle.std.proofs.lemmas.Bool.{cases_Bool, lt-ltb, ltb-true, or_from}
+use Rattle.std.proofs.Common.{◌≡◌, ◌∙◌, ℕ, ◌+◌, ◌*◌, ◌-◌, ◌<◌, ◌≤◌, List, [], ◌∷◌, ◌++◌, Bool, true, false, not, ◌&&◌, ◌||◌, Option, Some, None, is_some, length, drop, nat_lt, nat_eq, refl, ap, sym, subst, arith, append_assoc, length-append, zero, suc, inl, inr}
+use Rattle.std.proofs.lemmas.Bool.{cases_Bool, ltb-true, or_from}
 use Rattle.std.proofs.lemmas.Bool.Decides.{nat_tests}
 use Rattle.std.proofs.lemmas.List.Folds.{list_any-append}
+use Rattle.rv_jscan.proofs.Planned.{dropped_one}
+use Rattle.rv_judge.proofs.Rooms.{with_room}
 use Rattle.rv_value.proofs.Tests.{no_way}
 use Rattle.rv_judge.specs.declared.events.Control.{Control}
 use Rattle.rv_judge.specs.declared.events.Control.TheVariants.{Building, ForegroundAlone, BackgroundAlone, FinalList, FinalTable, Done}
@@ -19,17 +21,12 @@ use Rattle.rv_judge.proofs.RunSteps.{IsRun-push, run_end-push, run_events-push}
 use Rattle.rv_jscan.specs.declared.jscan.ScanPlan.{ScanPlan}
 use Rattle.rv_jscan.specs.Joint.{is_empty_list, plan_at}
 use Rattle.rv_retrieval.specs.Accounts.{list_length}
-use Rattle.rv_retrieval.specs.Runs.{TellsOf, events_left, is_drop, was_dropped, goes_on, indexes_of, runs_both, standing_of}
+use Rattle.rv_jscan.specs.Planned.{indexes_of}
+use Rattle.rv_judge.specs.Drops.{is_drop, was_dropped}
+use Rattle.rv_retrieval.specs.Runs.{TellsOf, events_left, goes_on, runs_both, standing_of}
 use Rattle.rv_retrieval.specs.Shape.{is_background, is_building, is_led}
 use Rattle.rv_judge.specs.Tracing.{with_events}
 use Rattle.rv_retrieval.proofs.Turns.{OneTurn, all_rests, drop_all, drop_last, drop_on, drop_rests, final_turn, front_turn, full_fast, full_index, list_last, list_on, list_rests, standing, stop_turn}
-
-pub with_room : (items es : List Event) → length items + length es ≤ 32 → with_events items es ≡ items ++ es
-with_room items [] h = sym (append-nil items)
-with_room items (e ∷ es) h =
-    let less : nat_lt (length items) 32 ≡ true = lt-ltb (length items) 32 (omega arith) in
-    let one : length (items ++ e ∷ []) ≡ length items + 1 = length-append items (e ∷ []) in
-    rw less (with_room (items ++ e ∷ []) es (omega arith) ∙ append_assoc items (e ∷ []) es)
 
 -- planned scans are of different indexes
 apart_from : (plans : List ScanPlan) (i k : ℕ) → has_index i (indexes_of plans) ≡ false → k < length plans → nat_eq i (plan_at plans k).index ≡ false
@@ -106,13 +103,6 @@ next_tells named st now next plans ended further list more indexes events own le
     }
 
 -- Whether there is more.
-
-pub dropped_one : (plans : List ScanPlan) (k : ℕ) → k < length plans → indexes_of (drop k plans) ≡ (plan_at plans k).index ∷ indexes_of (drop (k + 1) plans)
-dropped_one [] k l = absurd (omega arith)
-dropped_one (p ∷ plans) zero l = refl
-dropped_one (p ∷ plans) (suc k) l =
-    let step : suc (k + 1) ≡ suc k + 1 = omega arith in
-    dropped_one plans k (omega arith) ∙ ap (λ (x : ℕ). (plan_at plans k).index ∷ indexes_of (drop x (p ∷ plans))) step
 
 dropped_all : (plans : List ScanPlan) (k : ℕ) → length plans ≤ k → indexes_of (drop k plans) ≡ []
 dropped_all [] zero l = refl

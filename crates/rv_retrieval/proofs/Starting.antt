@@ -37,7 +37,8 @@ use Rattle.rv_scan.specs.Fronts.{Front}
 use Rattle.rv_retrieval.specs.Opened.{Begun, RunsOut, Starts, has_scans, is_one, start_told}
 use Rattle.rv_retrieval.specs.Opens.{first_of}
 use Rattle.rv_retrieval.specs.Rulings.{gone, listed}
-use Rattle.rv_retrieval.specs.Runs.{Tells, TellsOf, events_left, indexes_asked, indexes_of, runs_both, standing_of}
+use Rattle.rv_jscan.specs.Planned.{indexes_of}
+use Rattle.rv_retrieval.specs.Runs.{Tells, TellsOf, events_left, indexes_asked, runs_both, standing_of}
 use Rattle.rv_retrieval.specs.Shape.{Shape, is_background, is_building}
 use Rattle.rv_retrieval.specs.Telling.{events_for, index_of}
 use Rattle.rv_judge.specs.Tracing.{counted, new_trace, with_events}

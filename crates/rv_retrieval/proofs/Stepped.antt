@@ -2,6 +2,7 @@
 use Rattle.std.proofs.Common.{◌≡◌, ◌⊎◌, ◌∙◌, ℕ, ◌+◌, ◌∷◌, Bool, true, false, not, ◌&&◌, Option, Some, None, Result, Ok, Err, IfOk, drop, find, length, refl, ap, sym, subst, arith, inl, inr, ◌==◌}
 use Rattle.std.specs.Prelude.{if◌then◌else◌}
 use Rattle.std.proofs.lemmas.Bool.{cases_Bool}
+use Rattle.rv_reader.proofs.Rows.{found_row}
 use Rattle.rv_value.specs.declared.record.Record.{Record}
 use Rattle.rv_value.specs.declared.record.RowNo.{RowNo}
 use Rattle.rv_keys.specs.Keys.{has_key}
@@ -30,7 +31,6 @@ use Rattle.rv_retrieval.specs.Given.{Answers, AwaitsPiece, TakesLeafBy}
 use Rattle.rv_retrieval.specs.Rulings.{GivesOn}
 use Rattle.rv_retrieval.specs.Shape.{Shape, is_background, lending, rows_of}
 use Rattle.rv_retrieval.specs.Stepping.{Borrows, DoesAs, DoesIts, Kind, Piece, Remembered, StepsBackground, StepsBehind, filled, is_awaiting, kind_of, while_both}
-use Rattle.rv_final.proofs.Rests.{found_row}
 
 -- a delivered key is passed over
 pub passes_on : (v mid : Shape) (row : RowNo) → mid ≡ record v { borrowed = v.borrowed + 1 } → has_key row.0 v.delivered ≡ true → NextBorrowed v (Some row) → first_fresh mid ≡ first_fresh v

@@ -1,9 +1,7 @@
 -- A change of the control, of the joint scan or of what is borrowed leaves the fit and the rest.
-use Rattle.std.proofs.Common.{◌≡◌, ℕ, ◌<◌, ◌⊎◌, List, [], ◌∷◌, length, Bool, true, false, not, ◌&&◌, ◌||◌, refl, ap, sym, ◌∙◌, arith, rules, subst, Some, None, Option, is_some, inl, inr, IsSome, IfSome, nat_eq}
-use Rattle.rv_value.specs.declared.record.Record.{Record}
+use Rattle.std.proofs.Common.{◌≡◌, ℕ, ◌<◌, ◌⊎◌, List, length, Bool, true, false, not, ◌&&◌, refl, ap, sym, ◌∙◌, arith, rules, subst, Some, None, Option, is_some, inl, inr, IsSome, IfSome}
+use Rattle.rv_final.proofs.Owed.{row_there}
 use Rattle.rv_value.specs.declared.record.IndexEntry.{IndexEntry}
-use Rattle.rv_restrict.specs.declared.atom.Atom.{Atom}
-use Rattle.rv_restrict.specs.Truth.{qualifies}
 use Rattle.rv_keys.specs.Keys.{has_key}
 use Rattle.rv_judge.specs.declared.events.Strategy.{Strategy}
 use Rattle.rv_judge.specs.declared.events.Strategy.TheVariants.{Table, BackgroundOnly, FastFirst, Sorted, IndexOnly, Union}
@@ -47,14 +45,6 @@ in_list v shown n f q s = by_list v.joint.list s f.joint.covers
     by_list : (l : Option (List ℕ)) → IsSome l → IfSome l (Covers v.joint shown) → has_key n (keys_left l 0) ≡ true
     by_list None s c = absurd (cc)
     by_list (Some keys) s c = c n (in_completed v shown n f q)
-
-pub row_there : (only : List (List Atom)) (rows : List Record) (n : ℕ) → qualifies_at only rows n ≡ true → has_row n rows ≡ true
-row_there only [] n q = q
-row_there only (r ∷ rows) n q = either (nat_eq n r.row.0) (qualifies only r.values) (qualifies_at only rows n) (has_row n rows) q (row_there only rows n)
-  where
-    either : (a b c d : Bool) → ((a && b) || c) ≡ true → (c ≡ true → d ≡ true) → (a || d) ≡ true
-    either true b c d h f = refl
-    either false b c d h f = f h
 
 pub both_ahead : (c : Control) (s : Strategy) → (is_building c && is_index_only s) ≡ true → source_of c s ≡ Ahead
 both_ahead Building Table h = absurd (cc)

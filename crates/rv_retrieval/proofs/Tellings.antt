@@ -40,7 +40,8 @@ use Rattle.rv_scan.specs.declared.skip.Scanned.TheVariants.{Found, Working, End}
 use Rattle.rv_retrieval.specs.Accounts.{account_of, fresh_of}
 use Rattle.rv_retrieval.specs.Given.{Answers, TakesPiece, more_behind}
 use Rattle.rv_retrieval.specs.Rulings.{GivesOn, Obeyed, Obeys, dropping, going_on, gone, listed, ruled, scan_over}
-use Rattle.rv_retrieval.specs.Runs.{IsOfUndropped, SameCourse, Tells, TellsOf, events_left, goes_on, indexes_asked, indexes_of}
+use Rattle.rv_jscan.specs.Planned.{indexes_of}
+use Rattle.rv_retrieval.specs.Runs.{IsOfUndropped, SameCourse, Tells, TellsOf, events_left, goes_on, indexes_asked}
 use Rattle.rv_retrieval.specs.Shape.{Ahead, Shape, is_background, is_led, rows_of, source, source_of}
 use Rattle.rv_retrieval.specs.Stepping.{Borrows, DoesAs, DoesIts, RemembersBy, StepsBackground, StepsBehind, ended_by, filled, is_awaiting, kind_of}
 use Rattle.rv_retrieval.specs.Telling.{can_stop, events_for, index_of, list_len}

@@ -44,7 +44,7 @@ pub record Begun (query : Query) (strategy : Strategy) (plans : List ScanPlan) (
 abbrev pub start_told : Shape → Trace
 start_told v =
     noted_all (noted v.trace (At v.control)) (if is_background v.control
-      then events_for Scan (index_of v.joint v.joint.ended) else [])
+    then events_for Scan (index_of v.joint v.joint.ended) else [])
 
 -- a joint scan of the same plans at the same snapshot, for the same pieces
 pub record SameScans (old new : Joint) : Type 0 where
@@ -116,4 +116,4 @@ pub record Opened (query : Query) (shown : Shown) (cursor opening : ℕ) (v : Sh
   pub settled : is_one choice.background ≡ true → Settles v
   pub started : is_one choice.background ≡ false → Starts cursor opening v
   pub bound : v.guaranteed ≡ bounded_by (is_one choice.background)
-        (guarantee_of query shown (candidates_of query shown) choice) v.joint.list
+      (guarantee_of query shown (candidates_of query shown) choice) v.joint.list

@@ -23,15 +23,20 @@ use Rattle.rv_judge.specs.Tracing.{noted}
 -- the control is that of the course, and the trace tells it
 abbrev pub gone : Happening → Shape → Shape
 gone happening v =
-    record v { control = next_control v.strategy v.control happening;
-      trace = noted v.trace (At (next_control v.strategy v.control happening)) }
+    record v {
+      control = next_control v.strategy v.control happening;
+      trace = noted v.trace (At (next_control v.strategy v.control happening));
+    }
 
 -- the scan at a position completed: borrowing begins again, and as many fetches as the list has keys finish the
 -- retrieval
 abbrev pub listed : ℕ → Shape → Shape
 listed scan v =
-    record v { borrowed = 0; guaranteed = guarantee_with v.guaranteed (list_len v.joint.list);
-      trace = noted_list v.trace v.joint scan (list_len v.joint.list) }
+    record v {
+      borrowed = 0;
+      guaranteed = guarantee_with v.guaranteed (list_len v.joint.list);
+      trace = noted_list v.trace v.joint scan (list_len v.joint.list);
+    }
 
 -- the next scan begins
 abbrev pub going_on : Shape → Shape
@@ -45,8 +50,12 @@ scan_over scan v =
 -- the scan under way is dropped; where no list is complete, borrowing goes over to the next scan's list
 abbrev pub dropping : Shape → Shape
 dropping v =
-    record v { joint = abandoned v.joint; borrowed = (if is_some v.joint.list then v.borrowed
-      else 0); trace = noted_drop v.trace (abandoned v.joint) v.joint.ended }
+    record v {
+      joint = abandoned v.joint;
+      borrowed = (if is_some v.joint.list then v.borrowed
+          else 0);
+      trace = noted_drop v.trace (abandoned v.joint) v.joint.ended;
+    }
 
 abbrev pub dropped : Verdict → Bool → Bool → Shape → Shape
 dropped verdict more next v =
@@ -56,7 +65,7 @@ dropped verdict more next v =
 abbrev pub stopped : Bool → Shape → Shape
 stopped more v =
     if can_stop v then gone (Ruled AbandonForeground more (is_some v.joint.list))
-      (record v { trace = noted v.trace Stop }) else v
+    (record v { trace = noted v.trace Stop }) else v
 
 -- A VERDICT IS OBEYED
 abbrev pub ruled : Verdict → Shape → Shape

@@ -1,10 +1,9 @@
 -- The run of the course that a retrieval has taken, as its trace tells it.
-use Rattle.std.specs.Prelude.{◌≡◌, ℕ, ◌+◌, ◌*◌, ◌-◌, ◌<◌, ◌≤◌, Bool, true, false, not, ◌&&◌, ◌||◌, List, ◌++◌, map, drop, length, nat_lt, nat_eq, Option, Some}
-use Rattle.std.specs.List.{list_all, list_any}
+use Rattle.std.specs.Prelude.{◌≡◌, ℕ, ◌+◌, ◌*◌, ◌-◌, ◌<◌, ◌≤◌, Bool, true, false, not, ◌&&◌, ◌||◌, List, ◌++◌, map, drop, length, nat_lt, Option, Some}
+use Rattle.std.specs.List.{list_all}
 use Rattle.rv_judge.specs.declared.events.Control.{Control}
 use Rattle.rv_judge.specs.declared.events.Control.TheVariants.{Building, ForegroundAlone, BackgroundAlone, FinalList, FinalTable, Done}
 use Rattle.rv_judge.specs.declared.events.Event.{Event}
-use Rattle.rv_judge.specs.declared.events.Event.TheVariants.{At, Scan, List as ListOf, Drop, Full, Stop}
 use Rattle.rv_judge.specs.declared.events.Strategy.{Strategy}
 use Rattle.rv_judge.specs.Course.{fast_first, index_only, sorted}
 use Rattle.rv_judge.specs.Runs.{EachOnce, HasScans, IsRun, Standing, Turn, has_index, run_end, run_events, start, start_events}
@@ -12,12 +11,11 @@ use Rattle.rv_jscan.specs.declared.jscan.ScanPlan.{ScanPlan}
 use Rattle.rv_jscan.specs.declared.jscan.Taken.{Taken}
 use Rattle.rv_jscan.specs.declared.jscan.Taken.TheVariants.{Piece, Nothing}
 use Rattle.rv_jscan.specs.Joint.{is_empty_list, plan_at, present}
+use Rattle.rv_jscan.specs.Planned.{indexes_of}
 use Rattle.rv_retrieval.specs.Accounts.{list_length}
 use Rattle.rv_choice.specs.declared.query.Query.{Query}
+use Rattle.rv_judge.specs.Drops.{was_dropped}
 use Rattle.rv_retrieval.specs.Shape.{Shape, is_background, is_building}
-
-abbrev pub indexes_of : List ScanPlan → List ℕ
-indexes_of plans = map (λ (p : ScanPlan). p.index) plans
 
 -- the table's indexes
 abbrev pub indexes_asked : Query → List ℕ
@@ -26,24 +24,16 @@ indexes_asked query = map (λ (i : ℕ × List ℕ). i.0) query.indexes
 -- where a run stands while the background runs
 abbrev pub standing_of : Control → List ScanPlan → ℕ → Option (List ℕ) → Standing
 standing_of now plans ended list =
-    record { control = now; scan = Some (plan_at plans ended).index; ahead = indexes_of (drop (ended + 1) plans);
-      listed = list_length list }
+    record {
+      control = now;
+      scan = Some (plan_at plans ended).index;
+      ahead = indexes_of (drop (ended + 1) plans);
+      listed = list_length list;
+    }
 
 -- a planned scan has not ended, and the complete list, if any, has a key
 abbrev pub goes_on : List ScanPlan → ℕ → Option (List ℕ) → Bool
 goes_on plans ended list = nat_lt ended (length plans) && not (is_empty_list list)
-
--- the events tell that the scan of an index was dropped
-abbrev pub is_drop : ℕ → Event → Bool
-is_drop index (At now) = false
-is_drop index (Scan k) = false
-is_drop index (ListOf k keys) = false
-is_drop index (Drop k) = nat_eq k index
-is_drop index Full = false
-is_drop index Stop = false
-
-abbrev pub was_dropped : ℕ → List Event → Bool
-was_dropped index events = list_any (is_drop index) events
 
 -- how many events may follow beside those of the scans
 abbrev pub events_left : Control → ℕ
@@ -84,7 +74,7 @@ pub record TellsOf (named strategy : Strategy) (now : Control) (plans : List Sca
 abbrev pub Tells : Shape → Type 0
 Tells v =
     TellsOf v.trace.strategy v.strategy v.control v.joint.plans v.joint.ended v.joint.list (indexes_asked v.query)
-      v.trace.events.items
+    v.trace.events.items
 
 -- a piece that is handed out is of a scan that was not dropped
 abbrev pub IsOfUndropped : Shape → Taken → Type 0

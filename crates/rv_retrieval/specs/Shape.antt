@@ -167,7 +167,7 @@ pub record RetrievalFits (v : Shape) (shown : Shown) : Type 0 where
   pub room : is_building v.control ≡ true → length v.delivered < 1024
   pub remembered : (is_building v.control && is_index_only v.strategy) ≡ true
       → Agree v.query.only (rows_of v shown) (λ n. not (has_key n v.delivered))
-        (front_left v.front (front_entries v shown))
+      (front_left v.front (front_entries v shown))
   pub ordered : is_sorted v.strategy ≡ false → v.query.order ≡ []
   pub sorted : is_sorted v.strategy ≡ true → (source v ≡ Ahead) ⊎ (source v ≡ Nowhere)
 

@@ -36,7 +36,7 @@ abbrev pub scan_fetches : Shape → Shown → ℕ
 scan_fetches v shown =
     if v.front.alone then 0
     else length (filter (λ (e : IndexEntry). may v.joint.list e.row.0)
-      (left v.front.fetching.walk (front_entries v shown)))
+    (left v.front.fetching.walk (front_entries v shown)))
 
 abbrev pub fetches_by : Control → ℕ → ℕ → ℕ
 fetches_by Building front keys = 0

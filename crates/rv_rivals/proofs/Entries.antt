@@ -6,6 +6,7 @@ use Rattle.std.proofs.lemmas.Bool.Decides.{nat_tests}
 use Rattle.std.specs.List.{AllByRecursion, list_all}
 use Rattle.std.specs.Ordering.{is_eq}
 use Rattle.std.proofs.lemmas.Option.{same_Some}
+use Rattle.rv_reader.proofs.Rows.{applied_ascends}
 use Rattle.rv_value.proofs.Tests.{or_false}
 use Rattle.rv_value.proofs.Lists.{passes_take}
 use Rattle.rv_value.specs.declared.value.Value.{Value}
@@ -28,7 +29,6 @@ use Rattle.rv_overlay.specs.Rows.{changed_row}
 use Rattle.rv_overlay.specs.Views.{is_entry}
 use Rattle.rv_overlay.proofs.Members.{has_put, members_tell}
 use Rattle.rv_overlay.proofs.Placing.{put_ascends}
-use Rattle.rv_overlay.proofs.Tabling.{applied_ascends}
 use Rattle.rv_overlay.proofs.Viewing.{has_entries, row_other}
 
 pub take_next : {X : Type 0} (xs : List X) (k : ℕ) (x : X) → slice_get xs k ≡ Some x → take (suc k) xs ≡ take k xs ++ x ∷ []

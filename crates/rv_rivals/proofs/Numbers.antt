@@ -4,6 +4,7 @@ use Rattle.std.proofs.lemmas.Bool.{cases_Bool, and_parts}
 use Rattle.std.proofs.lemmas.Bool.Decides.{nat_tests}
 use Rattle.std.specs.List.{list_all, list_any}
 use Rattle.std.specs.Option.{option_map}
+use Rattle.rv_reader.proofs.Rows.{applied_ascends}
 use Rattle.rv_value.specs.declared.value.Value.{Value}
 use Rattle.rv_value.specs.declared.record.Record.{Record}
 use Rattle.rv_value.specs.declared.record.RowNo.{RowNo}
@@ -16,7 +17,7 @@ use Rattle.rv_rows.proofs.Puts.{rising_filter}
 use Rattle.rv_reader.specs.Tables.{row_at}
 use Rattle.rv_overlay.specs.Rows.{change_of, changed_row}
 use Rattle.rv_overlay.proofs.Moving.{put_other, put_own}
-use Rattle.rv_overlay.proofs.Tabling.{applied_ascends, row_applied, rows_untouched}
+use Rattle.rv_overlay.proofs.Tabling.{row_applied, rows_untouched}
 use Rattle.rv_view.proofs.Rows.{applied_other, applied_own, rows_tell}
 use Rattle.rv_model.specs.Rivals.{has_key, rows_left, rows_written}
 use Rattle.rv_rivals.specs.Lookups.{lower_row, other_than}

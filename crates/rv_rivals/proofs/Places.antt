@@ -1,6 +1,7 @@
 -- What each of the three places gives, put together of what was looked up.
 use Rattle.std.proofs.Common.{◌≡◌, ℕ, List, [], Bool, not, ◌&&◌, ◌||◌, Option, Some, None, ap, sym, subst, ◌∙◌, arith, length}
 use Rattle.std.specs.Option.{option_map}
+use Rattle.rv_reader.proofs.Rows.{applied_ascends}
 use Rattle.rv_value.specs.declared.value.Value.{Value}
 use Rattle.rv_value.specs.declared.record.Record.{Record}
 use Rattle.rv_value.specs.declared.record.RowNo.{RowNo}
@@ -13,7 +14,6 @@ use Rattle.rv_reader.specs.Storing.{IsStored}
 use Rattle.rv_model.specs.declared.transactions.Transaction.{Transaction}
 use Rattle.rv_model.specs.Rivals.{has_key, rows_left, rows_written}
 use Rattle.rv_overlay.specs.declared.frozen.Frozen.{Frozen}
-use Rattle.rv_overlay.proofs.Tabling.{applied_ascends}
 use Rattle.rv_own.specs.Views.{Freezes}
 use Rattle.rv_rivals.specs.Lookups.{AreEntries, HaveRows, IsStatement, entries_written, lower_row, other_than}
 use Rattle.rv_rivals.specs.Points.{lowest_with}

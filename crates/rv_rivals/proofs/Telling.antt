@@ -2,6 +2,7 @@
 use Rattle.std.proofs.Common.{◌≡◌, ℕ, zero, suc, ◌<◌, List, [], ◌∷◌, ◌++◌, Bool, true, false, cond, Option, Some, None, ap, sym, subst, ◌∙◌, filter, length, arith, nat_eq}
 use Rattle.std.proofs.lemmas.Bool.Decides.{nat_tests}
 use Rattle.std.specs.Prelude.{slice_get}
+use Rattle.rv_reader.proofs.Rows.{applied_ascends}
 use Rattle.rv_value.specs.declared.record.IndexEntry.{IndexEntry}
 use Rattle.rv_rows.specs.Changes.{rows_with_changes}
 use Rattle.rv_catalog.specs.declared.def.IndexDef.{IndexDef}
@@ -12,7 +13,6 @@ use Rattle.rv_model.specs.declared.transactions.Transaction.{Transaction}
 use Rattle.rv_overlay.specs.declared.frozen.Frozen.{Frozen}
 use Rattle.rv_overlay.specs.Laying.{laid, marks, sixteenths, with_all}
 use Rattle.rv_overlay.specs.Overlaid.{part_at}
-use Rattle.rv_overlay.proofs.Tabling.{applied_ascends}
 use Rattle.rv_overlay.proofs.Viewing.{view_is}
 use Rattle.rv_view.specs.Making.{AreIndexes, KeepsPart}
 use Rattle.rv_view.specs.Sights.{LaysSome, laid_over}

@@ -14,8 +14,11 @@ use Rattle.rv_model.specs.Rivals.{has_key}
 -- the keys that are equal to one: both bounds closed
 abbrev pub point : List Value → Range
 point key =
-    record { low = Some (record { key = key; closed = true }); high = Some (record { key = key; closed = true });
-      starts = false }
+    record {
+      low = Some (record { key = key; closed = true });
+      high = Some (record { key = key; closed = true });
+      starts = false;
+    }
 
 -- whether one of some entries is in the range of a key
 abbrev pub has_entry : List Value → List IndexEntry → Bool

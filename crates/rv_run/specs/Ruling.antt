@@ -62,7 +62,7 @@ pub record AnswersUnder {S : Type 0} (shows : S → StoreShown) (settings : Sett
   pub reply : Reply
   pub stands : ℕ
   pub answers : Answers (under (shows old.core.store) judge.would settings) judge.state stands
-        (in_phase c.call.phase old).core new.core c.call.session c.call.text reply
+      (in_phase c.call.phase old).core new.core c.call.session c.call.text reply
   pub others : new.judges ≡ slice_set old.judges c.judge (judging judge.would stands)
   pub sees : SeesSame (shows old.core.store) (shows new.core.store) new.core.opens
 
@@ -92,7 +92,7 @@ pub record CallsUnder {S : Type 0} (shows : S → StoreShown) (settings : Settin
     (first : ℕ) (core : Shown S) (script : Script) : Type 0 where
   pub stand : List Judging
   pub answers : AnswersAll shows settings (ruled_from first 1 script.phases) (between (fresh store) judges)
-        (between core stand)
+      (between core stand)
 
 -- the same of its first calls
 abbrev pub FirstCallsUnder : {S : Type 0} → (S → StoreShown) → Settings → S → List Judging → ℕ → Shown S → Script

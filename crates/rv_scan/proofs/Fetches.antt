@@ -2,9 +2,9 @@
 use Rattle.std.proofs.Common.{◌≡◌, ℕ, ◌+◌, ◌<◌, List, [], ◌∷◌, ◌++◌, Bool, true, false, not, ◌==◌, cond, refl, ap, sym, ◌∙◌, inl, inr, arith, length, zero, suc, drop, take, Option, Some, None, IfSome, Result, Ok, Err, IfOk, OnOk, OnErr, length-append}
 use Rattle.std.proofs.Math.Seq.{drop-drop}
 use Rattle.std.proofs.lemmas.Bool.{cases_Bool, and_parts, not-true}
-use Rattle.std.proofs.lemmas.Bool.Decides.{nat_tests}
 use Rattle.std.specs.List.{list_all, slice_index_or, cons_option}
 use Rattle.std.proofs.lemmas.List.{drop-append-le}
+use Rattle.rv_reader.proofs.Rows.{found_row}
 use Rattle.rv_value.specs.declared.record.Record.{Record}
 use Rattle.rv_value.specs.declared.record.RowNo.{RowNo}
 use Rattle.rv_value.specs.declared.record.IndexEntry.{IndexEntry}
@@ -19,15 +19,6 @@ use Rattle.rv_scan.specs.declared.skip.Scanned.TheVariants.{Found, Working, End}
 use Rattle.rv_scan.specs.Due.{Skipped, due, skips, HaveColumns, StepsTo}
 use Rattle.rv_scan.specs.Alongs.{Along, FetchesDue, Fetching, Follows, FindsEntry, FindsGiven, Turned, fetched, fetch_rest, is_given, leaf_work, looked, to_come}
 
-found_number : (rows : List Record) (number : ℕ) (r : Record) → row_at rows number ≡ Some r → r.row.0 ≡ number
-found_number [] number r e = cc
-found_number (s ∷ rows) number r e = elim (cases_Bool (s.row.0 == number)) [
-  | inl t ↦
-      let here : Some s ≡ Some r = rw t at e in
-      let same : s ≡ r = cc in
-      let first : s.row.0 ≡ number = grind (arith, nat_tests) in
-      ap (λ (x : Record). x.row.0) (sym same) ∙ first
-  | inr f ↦ found_number rows number r (rw f at e)
 ]
 
 pub found_columns : (only : List (List Atom)) (rows : List Record) (number : ℕ) → HaveColumns only rows → IfSome (row_at rows number) (λ r. names_only (row_has r.values) only ≡ true)
@@ -43,7 +34,7 @@ found_columns only (r ∷ rows) number have =
 one_row : (only : List (List Atom)) (skip : Skipped) (e : IndexEntry) (rows more : List Record) (found : Option Record) → (found ≡ row_at rows e.row.0) → (skips skip e.row.0 ≡ true → due only skip (cons_option found more) ≡ due only skip more)
 one_row only skip e rows more None is h = refl
 one_row only skip e rows more (Some r) is h =
-    let same : r.row.0 ≡ e.row.0 = found_number rows e.row.0 r (sym is) in
+    let same : r.row.0 ≡ e.row.0 = found_row rows e.row.0 r (sym is) in
     let skipped : skips skip r.row.0 ≡ true = ap (skips skip) same ∙ h in
     rw skipped refl
 
@@ -60,7 +51,7 @@ skip_front only skip rows (e ∷ xs) ys all =
 looked_step : (only : List (List Atom)) (skip : Skipped) (e : IndexEntry) (rows more : List Record) (old new : ℕ) (found : Option Record) → found ≡ row_at rows e.row.0 → skips skip e.row.0 ≡ false → new < old → StepsTo (looked only found) (due only skip (cons_option found more)) old (due only skip more) new
 looked_step only skip e rows more old new None is h less = (refl, less)
 looked_step only skip e rows more old new (Some r) is h less =
-    let same : r.row.0 ≡ e.row.0 = found_number rows e.row.0 r (sym is) in
+    let same : r.row.0 ≡ e.row.0 = found_row rows e.row.0 r (sym is) in
     let given : skips skip r.row.0 ≡ false = ap (skips skip) same ∙ h in
     elim (cases_Bool (qualifies only r.values)) [
       | inl t ↦ rw (t, given) (refl, less)

@@ -110,7 +110,7 @@ FindsEntry skip entries None = FindsGiven skip entries None
 FindsEntry skip entries (Some found) =
     FindsGiven skip entries (Some found.0)
     × ((d : IndexEntry) → (is_given skip (slice_index_or entries found.0 d) ≡ true)
-      × (found.1 ≡ (slice_index_or entries found.0 d).row))
+    × (found.1 ≡ (slice_index_or entries found.0 d).row))
 
 -- the next leaf is read, or there is none
 abbrev pub Turned : Fetching → Fetching → List IndexEntry → List IndexEntry → Scanned → Type 0

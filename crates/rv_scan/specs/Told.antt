@@ -48,7 +48,7 @@ FindsTold columns only skip entries None = due only skip (map (told columns) ent
 FindsTold columns only skip entries (Some found) =
     (found.0 < length entries)
     × (due only skip (map (told columns) entries) ≡ found.1
-      ∷ due only skip (map (told columns) (drop (found.0 + 1) entries)))
+    ∷ due only skip (map (told columns) (drop (found.0 + 1) entries)))
 
 pub record SameWalk (old new : Along) : Type 0 where
   pub index : new.index ≡ old.index

@@ -1,5 +1,5 @@
 -- An index through the changes of its table's rows.
-use Rattle.std.proofs.Common.{◌≡◌, ℕ, ◌<◌, List, [], ◌∷◌, ◌++◌, Bool, true, false, not, ◌&&◌, ◌||◌, ◌==◌, cond, refl, ap, sym, ◌∙◌, inl, inr, arith, subst, length, zero, suc, filter, take, nat_lt, Option, Some, None}
+use Rattle.std.proofs.Common.{◌≡◌, ℕ, ◌<◌, List, [], ◌∷◌, ◌++◌, Bool, true, false, not, ◌&&◌, ◌||◌, ◌==◌, refl, ap, sym, ◌∙◌, inl, inr, arith, subst, length, zero, suc, filter, take, nat_lt, Option, Some, None}
 use Rattle.std.proofs.lemmas.Bool.{cases_Bool, cases_lt, and_parts}
 use Rattle.std.proofs.lemmas.Bool.Decides.{nat_tests}
 use Rattle.std.specs.List.{list_all, slice_index_or}
@@ -7,6 +7,7 @@ use Rattle.std.specs.Ordering.{is_lt, is_eq, ordering_reverse}
 use Rattle.std.specs.declared.cmp.Ordering.{Ordering}
 use Rattle.std.specs.declared.cmp.Ordering.TheVariants.{Less, Equal, Greater}
 use Rattle.std.proofs.lemmas.List.{length-map}
+use Rattle.rv_reader.proofs.Rows.{find_back, find_front, find_kept, find_left}
 use Rattle.rv_value.specs.declared.value.Value.{Value}
 use Rattle.rv_value.specs.declared.record.Record.{Record}
 use Rattle.rv_value.specs.declared.record.IndexEntry.{IndexEntry}
@@ -15,7 +16,6 @@ use Rattle.rv_value.specs.Orders.{entry_cmp_total}
 use Rattle.rv_rows.specs.declared.changes.Change.{Change}
 use Rattle.rv_rows.specs.Changes.{Rise, is_before, rows_with_changes}
 use Rattle.rv_rows.specs.Rows.{comes_below, with_values, without_row, Ascend}
-use Rattle.rv_rows.proofs.Chains.{record_ascends, ascends_without}
 use Rattle.rv_reader.specs.Tables.{row_at}
 use Rattle.rv_reader.specs.Entries.{comes_before, entry_of, column_of, entry_at}
 use Rattle.rv_reader.specs.Entries as rows_entries
@@ -146,52 +146,8 @@ absent_new commit columns number (Some vs) old rows nodes ascend found indexed =
 
 -- Changes before one are of other rows.
 
-ascend_with : (number : ℕ) (values : Option (List Value)) (rows : List Record) → Ascend rows → Ascend (with_values number values rows)
-ascend_with number (Some vs) rows ascend = record_ascends (record { row = record { 0 = number }; values = vs }) rows ascend
-ascend_with number None rows ascend = ascends_without number rows ascend
-
-pub applied_ascends : (table : ℕ) (cs : List Change) (rows : List Record) → Ascend rows → Ascend (rows_with_changes table cs rows)
-applied_ascends table [] rows ascend = ascend
-applied_ascends table (c ∷ cs) rows ascend = elim (cases_Bool (c.table == table)) [
-  | inl t ↦ rw t (applied_ascends table cs (with_values c.row.0 c.values rows) (ascend_with c.row.0 c.values rows ascend))
-  | inr f ↦ rw f (applied_ascends table cs rows ascend)
 ]
 
-find_kept : (p : Record → Bool) (number : ℕ) → ((r : Record) → r.row.0 == number ≡ true → p r ≡ true) → (rows : List Record) → row_at (filter p rows) number ≡ row_at rows number
-find_kept p number keeps [] = refl
-find_kept p number keeps (r ∷ rows) =
-    let rest = find_kept p number keeps rows in
-    elim (cases_Bool (r.row.0 == number)) [
-      | inl t ↦ rw (keeps r t, t) refl
-      | inr f ↦ elim (cases_Bool (p r)) [
-        | inl k ↦ rw (k, f) rest
-        | inr g ↦ rw (g, f) rest
-      ]
-    ]
-
-find_left : (p : Record → Bool) (number : ℕ) → ((r : Record) → r.row.0 == number ≡ true → p r ≡ false) → (rows : List Record) → row_at (filter p rows) number ≡ None
-find_left p number leaves [] = refl
-find_left p number leaves (r ∷ rows) =
-    let rest = find_left p number leaves rows in
-    elim (cases_Bool (r.row.0 == number)) [
-      | inl t ↦ rw (leaves r t) rest
-      | inr f ↦ elim (cases_Bool (p r)) [
-        | inl k ↦ rw (k, f) rest
-        | inr g ↦ rw g rest
-      ]
-    ]
-
-find_front : (xs ys : List Record) (number : ℕ) → row_at ys number ≡ None → row_at (xs ++ ys) number ≡ row_at xs number
-find_front [] ys number none = none
-find_front (x ∷ xs) ys number none =
-    let rest = find_front xs ys number none in
-    elim (x.row.0 == number) as (λ b. cond b (Some x) (row_at (xs ++ ys) number) ≡ cond b (Some x) (row_at xs number)) [ true ↦ refl | false ↦ rest ]
-
-find_back : (xs ys : List Record) (number : ℕ) → row_at xs number ≡ None → row_at (xs ++ ys) number ≡ row_at ys number
-find_back [] ys number none = refl
-find_back (x ∷ xs) ys number none = elim (cases_Bool (x.row.0 == number)) [
-  | inl t ↦ (let no = rw t at none in cc)
-  | inr f ↦ (let rest = rw f at none in rw f (find_back xs ys number rest))
 ]
 
 row_with_other : (number other : ℕ) (values : Option (List Value)) (rows : List Record) → (other ≡ number → ⊥) → row_at (with_values number values rows) other ≡ row_at rows other

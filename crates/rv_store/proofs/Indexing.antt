@@ -6,6 +6,7 @@ use Rattle.std.proofs.lemmas.List.{map-append}
 use Rattle.std.specs.List.{list_all}
 use Rattle.std.proofs.lemmas.List.Elements.{filter_agree}
 use Rattle.std.proofs.lemmas.Option.{same_Some}
+use Rattle.rv_reader.proofs.Rows.{found_row}
 use Rattle.rv_value.specs.declared.value.Value.{Value}
 use Rattle.rv_value.specs.declared.record.Record.{Record}
 use Rattle.rv_value.specs.declared.record.IndexEntry.{IndexEntry}
@@ -234,13 +235,6 @@ either_way number old e own h = elim (cases_Bool (e.row.0 == number)) [
     turn true h = cc
     turn false h = refl
 
-row_of : (number : ℕ) (old : Record) (rows : List Record) → row_at rows number ≡ Some old → old.row.0 ≡ number
-row_of number old [] found = cc
-row_of number old (r ∷ rows) found = elim (cases_Bool (r.row.0 == number)) [
-  | inl t ↦
-      let e = ap (λ (x : Record). x.row.0) (same_Some r old (rw t at found)) in
-      grind (arith, nat_tests)
-  | inr f ↦ row_of number old rows (rw f at found)
 ]
 
 -- the entries of other rows are those apart from the row's old one
@@ -248,7 +242,7 @@ others_apart : (columns : List ℕ) (number : ℕ) (old : Record) (rows : List R
 others_apart columns number old rows ascend found =
     filter_same (is_either number (entry_of columns old)) (is_others number) (is_apart (entry_of columns old)) (entries_of columns rows)
     (all_sorted (is_either number (entry_of columns old)) (map (entry_of columns) rows) (either_all columns number old rows ascend found))
-    (λ e h. either_way number (entry_of columns old) e (row_of number old rows found) h)
+    (λ e h. either_way number (entry_of columns old) e (found_row rows number old found) h)
 
 pub taken_is : (columns : List ℕ) (number : ℕ) (old : Option Record) (rows : List Record) → rows_by_number.Ascend rows → old ≡ row_at rows number → taken_out (entry_at columns old) (entries_of columns rows) ≡ entries_of columns (without_row number rows)
 taken_is columns number None rows ascend found = ap (entries_of columns) (sym (without_none number rows (sym found)))

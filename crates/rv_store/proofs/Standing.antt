@@ -4,6 +4,7 @@ use Rattle.std.proofs.lemmas.Bool.{cases_Bool, cases_eq, cases_lt}
 use Rattle.std.proofs.lemmas.Bool.Decides.{nat_tests}
 use Rattle.std.proofs.lemmas.Grind.{common_steps}
 use Rattle.std.specs.List.{AllByRecursion}
+use Rattle.rv_reader.proofs.Rows.{applied_ascends}
 use Rattle.rv_value.specs.declared.value.Value.{Value}
 use Rattle.rv_value.specs.declared.record.Record.{Record}
 use Rattle.rv_rows.specs.declared.changes.Change.{Change}
@@ -29,7 +30,6 @@ use Rattle.rv_store.specs.Indexing.{tree_over, tree_through, IsIndexed}
 use Rattle.rv_store.specs.Whole.{AreThrough, AreBack}
 use Rattle.rv_store.specs.Places.{Turns, AreSameFrom, AreIndexesFrom}
 use Rattle.rv_store.specs.Paged.{Kept, IsKept, IsIndexOf, AreTreesThrough, shown_of}
-use Rattle.rv_store.proofs.Changing.{applied_ascends}
 
 -- Trees of the same nodes.
 

@@ -42,7 +42,7 @@ pub record IsSameIndex (commit : ℕ) (old new : Index) : Type 0 where
 pub record IsPassed (commit : ℕ) (c : Change) (before : Option Record) (old new : Index) : Type 0 where
   pub own : c.table ≡ old.table
       → IsTreeChanged commit (entry_at old.columns before) (entry_at old.columns (row_with c.row.0 c.values)) old.tree
-        new.tree
+      new.tree
   pub other : (c.table ≡ old.table → ⊥) → new.tree ≡ old.tree
 
 -- an index of a table that is there, with the entries of the table's rows at a snapshot above which there is no version
@@ -59,9 +59,9 @@ pub record IsOpen (snap : ℕ) (tables : List Table) (index : Index) : Type 0 wh
 -- changed rows, and its tree is that of the changes made one after another
 pub record IsThrough (commit : ℕ) (changes : List Change) (tables : List Table) (old new : Index) : Type 0 where
   pub indexed : IsIndexed old.columns (rows_with_changes old.table changes (rows_in tables old.table commit)) commit
-        new.tree
+      new.tree
   pub tree : tree_of new.tree commit ≡ tree_through old.columns old.table changes (rows_in tables old.table commit)
-        (tree_of old.tree commit)
+      (tree_of old.tree commit)
   pub few : length new.tree ≤ 4294967296
 
 -- the same indexes, with the same trees at each snapshot below a commit

@@ -59,7 +59,7 @@ tree_through columns table [] rows tree = tree
 tree_through columns table (c ∷ cs) rows tree =
     if c.table == table
     then tree_through columns table cs (with_values c.row.0 c.values rows)
-      (tree_after (entry_at columns (row_at rows c.row.0)) (entry_at columns (row_with c.row.0 c.values)) tree)
+    (tree_after (entry_at columns (row_at rows c.row.0)) (entry_at columns (row_with c.row.0 c.values)) tree)
     else tree_through columns table cs rows tree
 
 -- the tree of an index after entries of rows are inserted, one after another

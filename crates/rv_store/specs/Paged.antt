@@ -62,4 +62,4 @@ AreTreesThrough changes old new =
     (index : ℕ) → index < length old.indexes →
     let one = index_at old.indexes index in
     tree_in new.indexes index new.newest ≡ tree_through one.columns one.table changes
-        (rows_in old.tables one.table old.newest) (tree_in old.indexes index old.newest)
+    (rows_in old.tables one.table old.newest) (tree_in old.indexes index old.newest)

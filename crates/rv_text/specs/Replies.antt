@@ -128,13 +128,13 @@ duplicate_at text = both_of (number_at (cut 32 text).word) (rival_at (cut 32 tex
 abbrev pub paired_at : List ℕ → Option Reply
 paired_at text = first_of (
     made (λ (p : Pair ℕ ℕ). replies.Refused (refusals.Changed (record { 0 = p.first }) p.second))
-        (read_behind (after (codes "changed ") text) (λ rest. pair_at rest))
+    (read_behind (after (codes "changed ") text) (λ rest. pair_at rest))
     ∷ made (λ (p : Pair ℕ ℕ). replies.Refused (refusals.Held (record { 0 = p.first }) p.second))
-        (read_behind (after (codes "held ") text) (λ rest. pair_at rest))
+    (read_behind (after (codes "held ") text) (λ rest. pair_at rest))
     ∷ made (λ (p : Pair Which ℕ). replies.Refused (refusals.Limit p.first p.second))
-        (read_behind (after (codes "limit ") text) (λ rest. limit_at rest))
+    (read_behind (after (codes "limit ") text) (λ rest. limit_at rest))
     ∷ made (λ (p : Pair ℕ Rival). replies.Refused (refusals.Duplicate (record { 0 = p.first }) p.second))
-        (read_behind (after (codes "duplicate ") text) (λ rest. duplicate_at rest))
+    (read_behind (after (codes "duplicate ") text) (λ rest. duplicate_at rest))
     ∷ [])
 
 abbrev pub row_at : List ℕ → Option Reply

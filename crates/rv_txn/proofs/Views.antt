@@ -3,6 +3,7 @@ use Rattle.std.proofs.Common.{◌≡◌, ℕ, List, [], ◌∷◌, ◌++◌, Boo
 use Rattle.std.specs.List.{AllByRecursion, list_all}
 use Rattle.std.proofs.lemmas.Bool.{cases_Bool, and_parts}
 use Rattle.std.proofs.lemmas.List.Elements.{filter-append}
+use Rattle.rv_reader.proofs.Rows.{ascend_with}
 use Rattle.rv_value.specs.declared.value.Value.{Value}
 use Rattle.rv_value.specs.declared.record.Record.{Record}
 use Rattle.rv_rows.specs.declared.changes.Change.{Change}
@@ -10,7 +11,6 @@ use Rattle.rv_rows.specs.declared.changes.RowKey.{RowKey}
 use Rattle.rv_rows.specs.Changes.{Rise, change_at, is_before, rows_with_changes}
 use Rattle.rv_rows.specs.Merging.{Passes}
 use Rattle.rv_rows.specs.Rows.{Ascend, comes_below, with_values}
-use Rattle.rv_rows.proofs.Chains.{ascends_without, record_ascends}
 use Rattle.rv_rows.proofs.Merges.{without_cut}
 use Rattle.rv_rows.proofs.Puts.{rising_filter}
 use Rattle.rv_restrict.specs.declared.atom.Atom.{Atom}
@@ -75,10 +75,6 @@ kept_with only number (Some vs) rows ascend =
           (sym (without_cut number (filter (keeps only) rows) (rising_filter comes_below (keeps only) rows ascend)))
     ]
 
-with_ascends : (number : ℕ) (values : Option (List Value)) (rows : List Record) → Ascend rows → Ascend (with_values number values rows)
-with_ascends number None rows ascend = ascends_without number rows ascend
-with_ascends number (Some vs) rows ascend = record_ascends (record { row = record { 0 = number }; values = vs }) rows ascend
-
 -- one change of the table applied, of which values are left out where they are not kept
 one_kept : (only : List (List Atom)) (table : ℕ) (c : Change) (cs : List Change) (rows : List Record) (b : Bool) → c.table == table ≡ b → rows_with_changes table (kept_change only c ∷ cs) rows ≡ rows_with_changes table cs (cond b (with_values c.row.0 (kept_values only c.values) rows) rows)
 one_kept only table c cs rows b e = ap (λ (b : Bool). rows_with_changes table cs (cond b (with_values c.row.0 (kept_values only c.values) rows) rows)) e
@@ -88,7 +84,7 @@ kept_applied only table [] rows ascend = refl
 kept_applied only table (c ∷ cs) rows ascend = elim (cases_Bool (c.table == table)) [
   | inl here ↦
       ap (λ (b : Bool). filter (keeps only) (rows_with_changes table cs (cond b (with_values c.row.0 c.values rows) rows))) here
-      ∙ kept_applied only table cs (with_values c.row.0 c.values rows) (with_ascends c.row.0 c.values rows ascend)
+      ∙ kept_applied only table cs (with_values c.row.0 c.values rows) (ascend_with c.row.0 c.values rows ascend)
       ∙ ap (rows_with_changes table (map (kept_change only) cs)) (kept_with only c.row.0 c.values rows ascend)
       ∙ sym (one_kept only table c (map (kept_change only) cs) (filter (keeps only) rows) true here)
   | inr other ↦

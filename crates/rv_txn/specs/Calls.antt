@@ -36,8 +36,11 @@ rolled_back t session = do
 
 abbrev pub standing_at : List Transaction → ℕ → Standing
 standing_at active own =
-    record { txn = (transaction_at active own).number; read_only = (transaction_at active own).read_only;
-      base = (transaction_at active own).base }
+    record {
+      txn = (transaction_at active own).number;
+      read_only = (transaction_at active own).read_only;
+      base = (transaction_at active own).base;
+    }
 
 -- the standing of the transaction in a place, if any
 abbrev pub standing : List Transaction → Option ℕ → Option Standing

@@ -1,12 +1,10 @@
 -- A union before its first step.
-use Rattle.std.proofs.Common.{◌≡◌, ℕ, ◌+◌, ◌*◌, ◌<◌, ◌≤◌, List, [], ◌∷◌, length, drop, Bool, true, false, ◌&&◌, ◌||◌, refl, ap, sym, ◌∙◌, arith, subst, nat_eq, nat_lt}
-use Rattle.std.specs.List.{AllByRecursion, list_all}
-use Rattle.std.proofs.lemmas.Bool.Decides.{nat_tests}
+use Rattle.std.proofs.Common.{◌≡◌, ℕ, ◌+◌, ◌*◌, ◌<◌, ◌≤◌, List, [], ◌∷◌, length, drop, Bool, true, false, ◌&&◌, ◌||◌, refl, ap, sym, ◌∙◌, arith, subst, nat_eq}
 use Rattle.std.proofs.lemmas.Bool.{and_from}
+use Rattle.rv_jscan.proofs.Planned.{index_known}
+use Rattle.rv_final.proofs.Owed.{all_qualifying, rows_within}
 use Rattle.rv_value.proofs.Lists.{filter_length}
 use Rattle.rv_value.proofs.Tests.{same_number}
-use Rattle.rv_value.specs.declared.record.Record.{Record}
-use Rattle.rv_rows.specs.Rows.{Ascend}
 use Rattle.rv_restrict.specs.declared.atom.Atom.{Atom}
 use Rattle.rv_judge.specs.Runs.{has_index}
 use Rattle.rv_judge.specs.Runs.UnionTail.{Scanning}
@@ -20,11 +18,10 @@ use Rattle.rv_final.specs.Rest.{qualifies_at, qualifying}
 use Rattle.rv_final.specs.LaneWork.{lane_work, planned_work}
 use Rattle.rv_union.specs.Effort.{effort, life_of, member_life, members_life}
 use Rattle.rv_union.specs.Opened.{CanUnite, Opened, opened}
-use Rattle.rv_union.specs.Runs.{Tells, indexes_of}
+use Rattle.rv_jscan.specs.Planned.{indexes_of}
+use Rattle.rv_union.specs.Runs.{Tells}
 use Rattle.rv_union.specs.Unioned.{UnionFits, Unioned, rest}
 use Rattle.rv_union.proofs.Fits.{begun_lane, next_met}
-use Rattle.rv_union.proofs.Switches.{all_qualifying}
-use Rattle.rv_union.proofs.Tellings.{index_known}
 
 pub opened_fits : (table snap : ℕ) (only : List (List Atom)) (members : List ScanPlan) (cursor opening pages : ℕ) (u : Unioned) (shown : Shown) → Opened table snap only members cursor opening pages u → CanUnite table snap only members shown → 1 ≤ length members → UnionFits u shown
 opened_fits table snap only members cursor opening pages u shown o can some =
@@ -72,22 +69,8 @@ opened_tells table snap only members cursor opening pages u shown o can some =
 
 -- THE EFFORT
 
-rows_above : (rows : List Record) (low high : ℕ) → Ascend rows → AllByRecursion (λ (r : Record). r.row.0 < high) rows → list_all (λ (r : Record). nat_lt low r.row.0) rows ≡ true → low < high → length rows + low + 1 ≤ high
-rows_above [] low high asc below above l = omega arith
-rows_above (r ∷ rows) low high asc below above l =
-    let first : low < r.row.0 = number low r.row.0 (left_true _ _ above) in
-    let more = rows_above rows r.row.0 high asc.1 below.1 asc.0 below.0 in
-    omega arith
-  where
-    number : (a b : ℕ) → nat_lt a b ≡ true → a < b
-    number a b h = grind (arith, nat_tests)
-
     left_true : (a b : Bool) → (a && b) ≡ true → a ≡ true
     left_true a b h = grind arith
-
-rows_within : (rows : List Record) (high : ℕ) → Ascend rows → AllByRecursion (λ (r : Record). r.row.0 < high) rows → length rows ≤ high
-rows_within [] high asc below = omega arith
-rows_within (r ∷ rows) high asc below = let more = rows_above rows r.row.0 high asc.1 below.1 asc.0 below.0 in omega arith
 
 -- a member's work is below its life
 member_cost : (pages : ℕ) (plan : ScanPlan) (shown : Shown) (snap : ℕ) → lane_work plan shown snap no_lane + 256 * pages + 62 ≤ member_life pages plan shown snap

@@ -1,10 +1,8 @@
 -- A change of the member, of the keys or of the control leaves the fit and the rest.
-use Rattle.std.proofs.Common.{◌≡◌, ℕ, ◌+◌, ◌<◌, ◌≤◌, List, [], ◌∷◌, length, drop, Bool, true, false, not, cond, ◌&&◌, ◌||◌, refl, ap, sym, ◌∙◌, arith, subst, Some, None, nat_eq, nat_lt}
+use Rattle.std.proofs.Common.{◌≡◌, ℕ, ◌+◌, ◌<◌, ◌≤◌, length, drop, Bool, true, false, not, ◌&&◌, ◌||◌, refl, ap, sym, ◌∙◌, arith, subst, Some, None, nat_lt}
 use Rattle.std.specs.Prelude.{if◌then◌else◌}
 use Rattle.std.proofs.lemmas.Bool.Decides.{nat_tests}
-use Rattle.rv_value.specs.declared.record.Record.{Record}
-use Rattle.rv_restrict.specs.declared.atom.Atom.{Atom}
-use Rattle.rv_restrict.specs.Truth.{qualifies}
+use Rattle.rv_final.proofs.Owed.{row_there}
 use Rattle.rv_keys.specs.Keys.{has_key}
 use Rattle.rv_judge.specs.declared.events.Control.{Control}
 use Rattle.rv_judge.specs.declared.events.Control.TheVariants.{Building, ForegroundAlone, BackgroundAlone, FinalList, FinalTable, Done}
@@ -19,7 +17,7 @@ use Rattle.rv_reader.specs.Shown.{Shown}
 use Rattle.rv_scan.specs.Places.{unseen}
 use Rattle.rv_jscan.specs.Joint.{plan_at}
 use Rattle.rv_jscan.specs.Lanes.{LaneFits, Laned, no_lane}
-use Rattle.rv_final.specs.Rest.{has_row, qualifies_at, qualifying, rest_by}
+use Rattle.rv_final.specs.Rest.{has_row, qualifies_at, rest_by}
 use Rattle.rv_final.specs.Stage.{keys_left, list_left, table_left}
 use Rattle.rv_final.proofs.Rests.{same_rest}
 use Rattle.rv_union.specs.Rulings.{dropped, forgotten, going_on, has_next, index_of, listed, next_member, over, told, told_scan, was_begun}
@@ -38,20 +36,7 @@ is_scanning Done h = absurd (cc)
 pub rest_scanning : (u : Unioned) (shown : Shown) → scanning u.control ≡ true → rest u shown ≡ rest_by (λ n. true) u.only (rows_of u shown)
 rest_scanning u shown h = ap (λ (c : Control). rest_by (left_by c u.keys u.at u.last (rows_of u shown)) u.only (rows_of u shown)) (is_scanning u.control h)
 
-pub all_qualifying : (only : List (List Atom)) (rows : List Record) → rest_by (λ n. true) only rows ≡ qualifying only rows
-all_qualifying only [] = refl
-all_qualifying only (r ∷ rows) = elim (qualifies only r.values) as (λ b. cond (b && true) (r ∷ rest_by (λ n. true) only rows) (rest_by (λ n. true) only rows) ≡ cond b (r ∷ qualifying only rows) (qualifying only rows)) [
-  | true ↦ ap (λ (rs : List Record). r ∷ rs) (all_qualifying only rows)
-  | false ↦ all_qualifying only rows
 ]
-
-pub row_there : (only : List (List Atom)) (rows : List Record) (n : ℕ) → qualifies_at only rows n ≡ true → has_row n rows ≡ true
-row_there only [] n q = q
-row_there only (r ∷ rows) n q = either (nat_eq n r.row.0) (qualifies only r.values) (qualifies_at only rows n) (has_row n rows) q (row_there only rows n)
-  where
-    either : (a b c d : Bool) → ((a && b) || c) ≡ true → (c ≡ true → d ≡ true) → (a || d) ≡ true
-    either true b c d h f = refl
-    either false b c d h f = f h
 
 -- WHILE MEMBERS ARE SCANNED
 

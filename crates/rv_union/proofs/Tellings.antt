@@ -1,11 +1,12 @@
 -- A union's trace goes on telling of it, with each piece, each end of a member and each verdict.
-use Rattle.std.proofs.Common.{◌≡◌, ◌⊎◌, ◌∙◌, ℕ, ◌+◌, ◌<◌, ◌≤◌, List, [], ◌∷◌, ◌++◌, Bool, true, false, ◌||◌, Option, Some, None, length, map, nat_lt, nat_eq, refl, ap, sym, subst, arith, append_assoc, append-nil, length-append, zero, suc, inl, inr, Result, Ok, Err, IfOk, OnErr}
+use Rattle.std.proofs.Common.{◌≡◌, ◌⊎◌, ◌∙◌, ℕ, ◌+◌, ◌<◌, ◌≤◌, List, [], ◌∷◌, ◌++◌, Bool, true, false, ◌||◌, Option, Some, None, length, map, nat_eq, refl, ap, sym, subst, arith, append_assoc, append-nil, length-append, suc, inl, inr, Result, Ok, Err, IfOk, OnErr}
 use Rattle.std.specs.Prelude.{if◌then◌else◌}
 use Rattle.std.specs.List.{list_all, list_any}
-use Rattle.std.proofs.lemmas.Bool.Decides.{nat_tests}
 use Rattle.std.proofs.lemmas.List.{length-map, map-append}
 use Rattle.std.proofs.lemmas.List.Folds.{list_all-append}
-use Rattle.std.proofs.lemmas.Bool.{and_from, lt-ltb}
+use Rattle.std.proofs.lemmas.Bool.{and_from}
+use Rattle.rv_jscan.proofs.Planned.{index_known}
+use Rattle.rv_judge.proofs.Rooms.{with_room}
 use Rattle.rv_value.specs.declared.record.IndexEntry.{IndexEntry}
 use Rattle.rv_judge.specs.declared.counting.Counts.{Counts}
 use Rattle.rv_judge.specs.declared.events.Control.{Control}
@@ -33,19 +34,13 @@ use Rattle.rv_jscan.specs.Pieces.{Pieced}
 use Rattle.rv_jscan.specs.Steps.{held_next}
 use Rattle.rv_union.specs.Given.{Answers, TakesPiece}
 use Rattle.rv_union.specs.Rulings.{GivesOn, Obeys, accepted, dropped, going_on, gone, index_of, joined, listed, next_member, over, ruled, told, was_begun}
-use Rattle.rv_union.specs.Runs.{IsOfUndropped, OfFewIndexes, Tells, indexes_of, is_drop, tail_control}
+use Rattle.rv_jscan.specs.Planned.{indexes_of}
+use Rattle.rv_union.specs.Runs.{IsOfUndropped, OfFewIndexes, Tells, is_drop, tail_control}
 use Rattle.rv_union.specs.Unioned.{Unioned, present, scanning}
 use Rattle.rv_union.proofs.Few.{all_among, few, once_push, pushed_there, some_index}
 use Rattle.rv_union.proofs.Switches.{dropped_leads, drops, listed_leads, over_as}
 
 -- THE EVENTS
-
-with_room : (items es : List Event) → length items + length es ≤ 32 → with_events items es ≡ items ++ es
-with_room items [] h = sym (append-nil items)
-with_room items (e ∷ es) h =
-    let less : nat_lt (length items) 32 ≡ true = lt-ltb (length items) 32 (omega arith) in
-    let one : length (items ++ e ∷ []) ≡ length items + 1 = length-append items (e ∷ []) in
-    rw less (with_room (items ++ e ∷ []) es (omega arith) ∙ append_assoc items (e ∷ []) es)
 
 abbrev scans : List ℕ → List Event
 scans begun = map (λ (i : ℕ). Scan i) begun
@@ -120,13 +115,6 @@ aside_tells u new plans member items named control t =
     }
 
 -- A MEMBER IS OVER
-
-pub index_known : (plans : List ScanPlan) (k : ℕ) → k < length plans → has_index (plan_at plans k).index (indexes_of plans) ≡ true
-index_known [] k l = absurd (omega arith)
-index_known (p ∷ plans) zero l = first (nat_eq p.index p.index) (has_index p.index (indexes_of plans)) (itself p.index)
-  where
-    itself : (n : ℕ) → nat_eq n n ≡ true
-    itself n = grind (arith, nat_tests)
 
     first : (a b : Bool) → a ≡ true → (a || b) ≡ true
     first a b h = grind arith

@@ -71,8 +71,10 @@ told event u = record u { trace = noted u.trace event }
 -- the control is that of the course, and the trace tells it
 abbrev pub gone : Happening → Unioned → Unioned
 gone happening u =
-    record u { control = next_control Union u.control happening;
-      trace = noted u.trace (At (next_control Union u.control happening)) }
+    record u {
+      control = next_control Union u.control happening;
+      trace = noted u.trace (At (next_control Union u.control happening));
+    }
 
 -- A MEMBER ENDED: what it built and the keys before it are one list, and the next member begins. Its index is told
 -- where it is scanned for the first time. After the last member the list is fetched.

@@ -1,5 +1,5 @@
 -- What the trace of a union tells.
-use Rattle.std.specs.Prelude.{◌≡◌, ℕ, ◌≤◌, Bool, true, false, List, length, map}
+use Rattle.std.specs.Prelude.{◌≡◌, ℕ, ◌≤◌, Bool, true, false, List, length}
 use Rattle.std.specs.List.{list_all, list_any}
 use Rattle.rv_judge.specs.declared.events.Control.{Control}
 use Rattle.rv_judge.specs.declared.events.Control.TheVariants.{BackgroundAlone, FinalList, FinalTable, Done}
@@ -11,11 +11,9 @@ use Rattle.rv_judge.specs.Runs.UnionTail.{Scanning, Fetching, Fetched, Reading, 
 use Rattle.rv_jscan.specs.declared.jscan.ScanPlan.{ScanPlan}
 use Rattle.rv_jscan.specs.declared.jscan.Taken.{Taken}
 use Rattle.rv_jscan.specs.declared.jscan.Taken.TheVariants.{Piece, Nothing}
+use Rattle.rv_jscan.specs.Planned.{indexes_of}
 use Rattle.rv_union.specs.Rulings.{index_of}
 use Rattle.rv_union.specs.Unioned.{Unioned, present}
-
-abbrev pub indexes_of : List ScanPlan → List ℕ
-indexes_of plans = map (λ (p : ScanPlan). p.index) plans
 
 -- there are at most eight different indexes, as a table has no more
 pub record OfFewIndexes (plans : List ScanPlan) : Type 0 where

@@ -113,7 +113,7 @@ builds plan shown snap l n = has_key n l.building || has_entry n (passing plan.p
 abbrev pub found : Unioned → Shown → ℕ → Bool
 found u shown n =
     has_key n u.keys || (builds (present u) shown u.snap u.lane n
-      || meets_any (drop (u.member + 1) u.plans) shown u.snap n)
+    || meets_any (drop (u.member + 1) u.plans) shown u.snap n)
 
 -- a list has each row that is owed
 abbrev pub Covers : (ℕ → Bool) → List ℕ → Type 0

@@ -16,7 +16,8 @@ ghost use Rattle.rv_union.specs.Leaves.{leaves_left, planned_leaves};
 ghost use Rattle.rv_union.specs.Given.{Awaits, awaited, count_read, next_id, with_lane};
 ghost use Rattle.rv_union.specs.Opened.{CanUnite, Opened};
 ghost use Rattle.rv_union.specs.Rulings.{facts_of, forgotten, gone, has_next, index_of, joined, lacks, next_member, position, told, was_begun};
-ghost use Rattle.rv_union.specs.Runs.{Tells, indexes_of};
+ghost use Rattle.rv_jscan.specs.Planned.{indexes_of};
+ghost use Rattle.rv_union.specs.Runs.{Tells};
 ghost use Rattle.rv_union.specs.Unioned.{UnionFits, present, rest, rows_of, scanning};
 
 use crate::joining::add_lane;

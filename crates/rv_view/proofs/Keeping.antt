@@ -6,6 +6,7 @@ use Rattle.std.proofs.lemmas.Bool.Decides.{nat_tests}
 use Rattle.std.proofs.lemmas.List.Folds.{list_all-append}
 use Rattle.std.specs.List.{AllByRecursion, list_all}
 use Rattle.std.proofs.lemmas.Option.{same_Some}
+use Rattle.rv_reader.proofs.Rows.{applied_ascends}
 use Rattle.rv_value.specs.declared.record.Record.{Record}
 use Rattle.rv_value.specs.declared.record.IndexEntry.{IndexEntry}
 use Rattle.rv_rows.specs.declared.changes.Change.{Change}
@@ -28,7 +29,7 @@ use Rattle.rv_overlay.specs.Keeping.{added_after, are_same, moved, taken_after, 
 use Rattle.rv_overlay.specs.Overlaid.{part_at, size_of}
 use Rattle.rv_overlay.specs.Rows.{change_of, changed_row}
 use Rattle.rv_overlay.proofs.Moving.{find_back, find_front, find_kept, find_left, keeps_up, nothing_kept, others_keep_up}
-use Rattle.rv_overlay.proofs.Tabling.{applied_ascends, row_applied, rows_untouched}
+use Rattle.rv_overlay.proofs.Tabling.{row_applied, rows_untouched}
 use Rattle.rv_view.specs.Making.{AreIndexes, Keeps, KeepsPart, by_table, empty_part, empty_parts, last_of, one_if, pages_up, part_after, parts_after, rows_or, size_after, unchanged, written_after, written_of}
 use Rattle.rv_view.proofs.Rows.{applied_other, applied_own, length_with, pages_fit, pages_other, touches_other}
 use Rattle.rv_view.proofs.Written.{pages_written, written_with}

@@ -5,6 +5,7 @@ use Rattle.std.proofs.lemmas.Bool.{cases_Bool, cases_lt, and_parts}
 use Rattle.std.proofs.lemmas.Bool.Decides.{nat_tests}
 use Rattle.std.specs.List.{AllByRecursion, list_all, list_any}
 use Rattle.std.proofs.lemmas.Option.{same_Some}
+use Rattle.rv_reader.proofs.Rows.{applied_ascends, ascend_with, row_behind}
 use Rattle.rv_value.specs.declared.value.Value.{Value}
 use Rattle.rv_value.specs.declared.record.Record.{Record}
 use Rattle.rv_rows.specs.declared.changes.Change.{Change}
@@ -18,17 +19,10 @@ use Rattle.rv_reader.specs.Storing.{pages_after}
 use Rattle.rv_reader.specs.Tables.{IsTable, row_at}
 use Rattle.rv_overlay.specs.Rows.{changed_row}
 use Rattle.rv_overlay.proofs.Moving.{put_other, put_own}
-use Rattle.rv_overlay.proofs.Tabling.{applied_ascends, ascend_with, row_applied, row_with_other, row_with_own}
+use Rattle.rv_overlay.proofs.Tabling.{row_applied, row_with_other, row_with_own}
 use Rattle.rv_view.specs.Making.{one_if}
 
 -- Ascending rows are told by what stands at each number.
-
-none_at : (r : Record) (rows : List Record) (n : ℕ) → list_all (comes_below r) rows ≡ true → n ≤ r.row.0 → row_at rows n ≡ None
-none_at r [] n all low = refl
-none_at r (s ∷ rows) n all low =
-    let parts = and_parts (comes_below r s) (list_all (comes_below r) rows) all in
-    let apart : s.row.0 == n ≡ false = (let first = parts.0 in grind (arith, nat_tests)) in
-    rw apart (none_at r rows n parts.1 low)
 
 own_at : (r : Record) (rows : List Record) (n : ℕ) → r.row.0 ≡ n → row_at (r ∷ rows) n ≡ Some r
 own_at r rows n is = let here : r.row.0 == n ≡ true = grind (arith, nat_tests) in rw here refl
@@ -43,7 +37,7 @@ missing x xs ys h none = let no : Some x ≡ None = sym (own_at x xs x.row.0 ref
 none_first : (y : Record) (ys : List Record) (n : ℕ) → list_all (comes_below y) ys ≡ true → n < y.row.0 → row_at (y ∷ ys) n ≡ None
 none_first y ys n all low =
     let apart : y.row.0 == n ≡ false = grind (arith, nat_tests) in
-    rw apart (none_at y ys n all (omega (arith, low)))
+    rw apart (row_behind n y ys all (omega (arith, low)))
 
 rows_same : (x y : Record) (xs ys : List Record) (n : ℕ) → x.row.0 ≡ y.row.0 → list_all (comes_below x) xs ≡ true → list_all (comes_below y) ys ≡ true → row_at (x ∷ xs) n ≡ row_at (y ∷ ys) n → row_at xs n ≡ row_at ys n
 rows_same x y xs ys n even ax ay h = elim (cases_Bool (nat_lt x.row.0 n)) [
@@ -53,7 +47,7 @@ rows_same x y xs ys n even ax ay h = elim (cases_Bool (nat_lt x.row.0 n)) [
       sym (other_at x xs n fx) ∙ h ∙ other_at y ys n fy
   | inr f ↦
       let lx : n ≤ x.row.0 = grind (arith, nat_tests) in
-      none_at x xs n ax lx ∙ sym (none_at y ys n ay (omega (arith, lx, even)))
+      row_behind n x xs ax lx ∙ sym (row_behind n y ys ay (omega (arith, lx, even)))
 ]
 
 pub rows_tell : (xs ys : List Record) → Ascend xs → Ascend ys → ((n : ℕ) → row_at xs n ≡ row_at ys n) → xs ≡ ys
@@ -154,7 +148,7 @@ three number (r ∷ rows) ascend =
       | inl t ↦
           let low : below number r ≡ false = grind (arith, nat_tests) in
           let high : above number r ≡ false = grind (arith, nat_tests) in
-          let none : row_at rows number ≡ None = none_at r rows number ascend.0 (grind (arith, nat_tests)) in
+          let none : row_at rows number ≡ None = row_behind number r rows ascend.0 (grind (arith, nat_tests)) in
           let most = rw none at rest in
           rw (t, low, high) (omega (arith, most))
       | inr f ↦ elim (cases_Bool (below number r)) [

@@ -64,8 +64,15 @@ value option digits =
 
 abbrev pub start : Sofar
 start =
-    record { threads = false; workers = false; judge = false; steps = false; seed = false; race = false;
-      waiting = None }
+    record {
+      threads = false;
+      workers = false;
+      judge = false;
+      steps = false;
+      seed = false;
+      race = false;
+      waiting = None;
+    }
 
 abbrev pub given : Choice → Sofar → Bool
 given Threads s = s.threads

@@ -1,6 +1,6 @@
 use Rattle.std.proofs.Common.{[], subst, sym}
+use Rattle.rv_reader.proofs.Rows.{applied_ascends}
 use Rattle.rv_reader.specs.Shown.{Suits}
-use Rattle.rv_overlay.proofs.Tabling.{applied_ascends}
 use Rattle.rv_rows.specs.Changes.{rows_with_changes}
 use Rattle.rv_view.specs.Sights.{laid_over}
 use Rattle.rv_model.specs.Rivals.{rows_written}

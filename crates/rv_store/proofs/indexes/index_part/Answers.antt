@@ -1,6 +1,7 @@
 use Rattle.std.proofs.Common.{◌∙◌, ◌≡◌, ◌∷◌, ◌++◌, ◌+◌, [], true, take, drop, sym, ap, subst, List, ℕ}
 use Rattle.std.specs.List.{list_all}
 use Rattle.std.proofs.lemmas.List.{take_more, drop_more}
+use Rattle.rv_reader.proofs.Rows.{applied_ascends}
 use Rattle.rv_value.specs.declared.record.Record.{Record}
 use Rattle.rv_rows.specs.declared.changes.Change.{Change}
 use Rattle.rv_rows.specs.Changes.{is_before, rows_with_changes}
@@ -9,7 +10,7 @@ use Rattle.rv_records.specs.Pages.{rows_at}
 use Rattle.rv_index.specs.Index.{tree_of, entries_of}
 use Rattle.rv_reader.specs.Entries.{entry_at}
 use Rattle.rv_store.specs.Indexing.{row_with, taken_out, tree_through, IsAbsent, IsIndexed}
-use Rattle.rv_store.proofs.Changing.{same_index_trans, absent_new, row_before, rise_before, applied_ascends, pass_indexed, pass_tree, applied_more}
+use Rattle.rv_store.proofs.Changing.{same_index_trans, absent_new, row_before, rise_before, pass_indexed, pass_tree, applied_more}
 use Rattle.rv_store.proofs.indexes.index_part.Goals as goal
 
 pub pass_change-requires-clause-absent : goal.pass_change-requires-clause-absent

@@ -1,6 +1,5 @@
 use Rattle.rv_retrieval.specs.Runs.{indexes_asked}
-use Rattle.rv_race.specs.Runs.{indexes_of}
-use Rattle.rv_union.specs.Runs.{indexes_of as united_indexes}
+use Rattle.rv_jscan.specs.Planned.{indexes_of, indexes_of as united_indexes}
 use Rattle.rv_access.proofs.OfRaces.{wider}
 use Rattle.rv_access.proofs.access.Access.trace.Goals as goal
 

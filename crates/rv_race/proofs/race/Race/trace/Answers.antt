@@ -1,7 +1,7 @@
 use Rattle.std.proofs.Common.{subst, sym}
 use Rattle.rv_judge.specs.Runs.{Allowed}
 use Rattle.rv_race.specs.Raced.{Raced}
-use Rattle.rv_race.specs.Runs.{indexes_of}
+use Rattle.rv_jscan.specs.Planned.{indexes_of}
 use Rattle.rv_race.proofs.Tellings.{allowed}
 use Rattle.rv_race.proofs.race.Race.trace.Goals as goal
 

@@ -1,7 +1,7 @@
 use Rattle.std.proofs.Common.{subst, sym}
 use Rattle.rv_judge.specs.Runs.{Allowed}
 use Rattle.rv_union.specs.Unioned.{Unioned}
-use Rattle.rv_union.specs.Runs.{indexes_of}
+use Rattle.rv_jscan.specs.Planned.{indexes_of}
 use Rattle.rv_union.proofs.Tellings.{allowed}
 use Rattle.rv_union.proofs.uniting.Union.trace.Goals as goal
 
