@@ -45,8 +45,8 @@ all_at P (x ∷ xs) (suc i) d a within = all_at P xs i d a.1 (omega arith)
 -- Of each item, as a test.
 
 pub passes_take : {X : Type 0} (p : X → Bool) (n : ℕ) (xs : List X) → list_all p xs ≡ true → list_all p (take n xs) ≡ true
-passes_take p n [] h = grind arith
-passes_take p zero (x ∷ xs) h = refl
+passes_take p zero xs h = refl
+passes_take p (suc n) [] h = refl
 passes_take p (suc n) (x ∷ xs) h = let parts = and_parts (p x) (list_all p xs) h in rw parts.0 (passes_take p n xs parts.1)
 
 pub passes_more : {X : Type 0} (p q : X → Bool) → ((x : X) → p x ≡ true → q x ≡ true) → (xs : List X) → list_all p xs ≡ true → list_all q xs ≡ true
@@ -63,11 +63,9 @@ filter_length p (x ∷ xs) =
 
 pub filter_passes : {X : Type 0} (p : X → Bool) (xs : List X) → list_all p (filter p xs) ≡ true
 filter_passes p [] = refl
-filter_passes p (x ∷ xs) = by (p x) refl
-  where
-    by : (b : Bool) → p x ≡ b → list_all p (cond b (x ∷ filter p xs) (filter p xs)) ≡ true
-    by true e = rw e (filter_passes p xs)
-    by false e = filter_passes p xs
+filter_passes p (x ∷ xs) =
+    let rest = filter_passes p xs in
+    elim (p x) as (λ b. p x ≡ b → list_all p (cond b (x ∷ filter p xs) (filter p xs)) ≡ true) [ true ↦ λ e. rw (e, rest) refl | false ↦ λ e. rest ] refl
 
 -- An answer of which an error owes what holds anyway.
 
