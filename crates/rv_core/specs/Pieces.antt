@@ -11,8 +11,10 @@ use Rattle.rv_jscan.specs.declared.jscan.Taken.TheVariants.{Nothing}
 use Rattle.rv_jscan.specs.Pieces.{Pieced}
 use Rattle.rv_access.specs.Accesses.{Settled}
 use Rattle.rv_access.specs.Given.{CountsPiece, GivesOn, TakesPiece, piece_read}
+use Rattle.rv_access.specs.Stepping.{SameCourse}
 use Rattle.rv_judge.specs.Tracing.{CountsRise, SameCounts}
 use Rattle.rv_join.specs.Alone.{IsAlone, TakesOnce}
+use Rattle.rv_join.specs.Levels.{first_of}
 use Rattle.rv_join.specs.Pieces.{GivesPiece, TakesAwaited, plan_awaited, plan_pieces, waited, waiting}
 use Rattle.rv_join.specs.Plans.{PlanStays, plan_trace}
 use Rattle.rv_cursor.specs.declared.cursor.Open.{Open}
@@ -36,14 +38,16 @@ pub record CallsOne (place : ℕ) (old new : List Open) (c d : Open) : Type 0 wh
   pub called : new ≡ slice_set old place d
   pub same : d ≡ record c { plan = d.plan }
 
--- A TAKE from the cursor in a place, whatever it answers: the same piece is awaited, none is counted, and its leaf, which is read
--- where it is not held, is counted in the trace. Over one FROM item nothing is read where the background is over.
+-- A TAKE from the cursor in a place, whatever it answers: the same piece is awaited, none is counted, and its leaf, which is
+-- read where it is not held, is counted in the trace, which tells no more than before. Over one FROM item nothing is read
+-- where the background is over.
 pub record TriesAt (shown : Shown) (place : ℕ) (before after : Counts) (old new : List Open) : Type 0 where
   pub cursor : Open
   pub left : Open
   pub calls : CallsOne place old new cursor left
   pub awaited : plan_awaited left.plan ≡ plan_awaited cursor.plan
   pub pieces : plan_pieces left.plan ≡ plan_pieces cursor.plan
+  pub course : SameCourse (first_of cursor.plan.stack).here (first_of left.plan.stack).here
   pub reads : after ≡ piece_read (waiting cursor.plan) before
   pub counts : CountsRise (plan_trace cursor.plan) (plan_trace left.plan) before after
   pub once : IsAlone cursor.plan → TakesOnce (seen_by shown cursor) before after cursor.plan.stack.at left.plan.stack.at

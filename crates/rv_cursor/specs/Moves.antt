@@ -12,8 +12,10 @@ use Rattle.rv_jscan.specs.declared.jscan.Given.TheVariants.{Accepted}
 use Rattle.rv_reader.specs.Shown.{Shown}
 use Rattle.rv_access.specs.Accesses.{Settled}
 use Rattle.rv_access.specs.Given.{AwaitsPiece, GivesOn, piece_read}
+use Rattle.rv_access.specs.Stepping.{SameCourse}
 use Rattle.rv_judge.specs.Tracing.{CountsRise, SameCounts}
 use Rattle.rv_join.specs.Alone.{FewFetches, IsAlone, PlanAsks, PlanSpends, Spends, StepsOnce, TakesOnce, plan_effort}
+use Rattle.rv_join.specs.Levels.{first_of}
 use Rattle.rv_join.specs.Pieces.{plan_awaited, plan_pieces, stack_builds, waited, waiting}
 use Rattle.rv_join.specs.Plans.{PlanMoves, PlanStays, Planned, plan_trace, plan_work}
 use Rattle.rv_join.specs.declared.plan.PlanStep.{PlanStep}
@@ -52,7 +54,7 @@ pub record StepsFront (answer : Option PlanStep) (would : ℕ → Facts → Ruli
   pub few : IsAlone old.plan → FewFetches (wanting answer) shown old.plan new.plan
 
 -- THE AWAITED PIECE IS TAKEN, or no memory was found for it: its leaf is read where it is not held; it is awaited as before,
--- and none was counted
+-- and none was counted; and the trace tells no more than before
 pub record TakesOut (shown : Shown) (old new : Ruled) : Type 0 where
   pub judge : new.judge ≡ old.judge
   pub before : Counts
@@ -62,6 +64,7 @@ pub record TakesOut (shown : Shown) (old new : Ruled) : Type 0 where
   pub once : IsAlone old.plan → TakesOnce shown before after old.plan.stack.at new.plan.stack.at
   pub awaited : plan_awaited new.plan ≡ plan_awaited old.plan
   pub pieces : plan_pieces new.plan ≡ plan_pieces old.plan
+  pub course : SameCourse (first_of old.plan.stack).here (first_of new.plan.stack).here
   pub stays : PlanStays shown old.plan new.plan
 
 -- THAT PIECE, SIEVED, IS GIVEN and accepted: where it is not the last of its scan the judge is asked once, and obeyed. Over one

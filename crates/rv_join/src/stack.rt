@@ -19,6 +19,7 @@ ghost use Rattle.rv_retrieval.specs.Short.{OnlyLeaves, has_short};
 ghost use Rattle.rv_retrieval.specs.Shape.{is_building};
 ghost use Rattle.rv_access.specs.Accesses.{AccessFits, SamePlans, Settled, control_of, effort, fetches_left, held_of, query_of, trace_of};
 ghost use Rattle.rv_access.specs.Given.{Answers, CountsPiece, GivesOn, SamePieces, TakesPiece, piece_read};
+ghost use Rattle.rv_access.specs.Stepping.{SameCourse};
 ghost use Rattle.rv_access.specs.Opened.{Opened, is_race, life_of};
 ghost use Rattle.rv_judge.specs.Tracing.{CountsAll, CountsRise, SameCounts};
 
@@ -396,6 +397,7 @@ fn take_level<R: Reader>(
     ensures stays { (a : TheAsked) → LevelFits a (R.shown reader.now) level.old → LevelStays a (R.shown reader.now) level.old level.new }
     ensures waits { SamePieces level.old.here level.new.here }
     ensures plans { SamePlans level.old.here level.new.here }
+    ensures course { SameCourse level.old.here level.new.here }
     ensures once { TakesOnce (R.shown reader.now) steps.old steps.new level.old level.new }
     ensures spends { IfOk result (λ t. Spends steps.old steps.new (level_effort (R.shown reader.now) level.old) (level_effort (R.shown reader.now) level.new)) }
 {
@@ -419,6 +421,7 @@ fn take_at<R: Reader>(
     ensures led { (a : TheAsked) → AllFit a (R.shown reader.now) 0 levels.old.items → SameFirst a (R.shown reader.now) levels.old.items levels.new.items }
     ensures waits { LevelsAwait levels.old.items levels.new.items }
     ensures plans { (d : TheLevel) → SamePlans (first_in levels.old.items d).here (first_in levels.new.items d).here }
+    ensures course { (d : TheLevel) → SameCourse (first_in levels.old.items d).here (first_in levels.new.items d).here }
 {
     take_level(reader, &mut levels[at], steps)
 }
@@ -468,6 +471,7 @@ impl Stack {
         ensures stays { (a : TheAsked) → StackFits a (R.shown reader.now) self.old → StackStays a (R.shown reader.now) self.old self.new }
         ensures waits { StackAwaits self.old self.new }
         ensures plans { SamePlans (first_of self.old).here (first_of self.new).here }
+        ensures course { SameCourse (first_of self.old).here (first_of self.new).here }
         ensures once { self.old.above ≡ [] → TakesOnce (R.shown reader.now) steps.old steps.new self.old.at self.new.at }
         ensures spends { self.old.above ≡ [] → IfOk result (λ t. Spends steps.old steps.new (level_effort (R.shown reader.now) self.old.at) (level_effort (R.shown reader.now) self.new.at)) }
     {

@@ -2,6 +2,7 @@
 ghost use Rattle.std.specs.Prelude.{◌≡◌, ℕ, None, Ok, IfOk, OnErr, OnOk};
 ghost use Rattle.rv_reader.specs.Shown.{Shown};
 ghost use Rattle.rv_access.specs.Accesses.{SamePlans, Settled, held_of};
+ghost use Rattle.rv_access.specs.Stepping.{SameCourse};
 ghost use Rattle.rv_access.specs.Given.{CountsPiece, GivesOn, TakesPiece, piece_read};
 ghost use Rattle.rv_judge.specs.Tracing.{CountsRise, SameCounts};
 ghost use Rattle.rv_judge.specs.declared.counting.Counts.{Counts as TheCounts};
@@ -172,6 +173,7 @@ impl Plan {
         ensures place { waits self.new.stack ≡ waits self.old.stack }
         ensures awaited { plan_awaited self.new ≡ plan_awaited self.old }
         ensures pieces { plan_pieces self.new ≡ plan_pieces self.old }
+        ensures course { SameCourse (first_of self.old.stack).here (first_of self.new.stack).here }
         ensures once { IsAlone self.old → TakesOnce (R.shown reader.now) steps.old steps.new self.old.stack.at self.new.stack.at }
         ensures spends { IsAlone self.old → IfOk result (λ t. Spends steps.old steps.new (plan_effort (R.shown reader.now) self.old) (plan_effort (R.shown reader.now) self.new)) }
         ensures none { plan_awaited self.old ≡ None → (result ≡ Ok Taken.Nothing) × (self.new ≡ self.old) × (steps.new ≡ steps.old) }
