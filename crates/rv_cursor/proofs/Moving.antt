@@ -59,10 +59,10 @@ work_le (Row o) n k less = less
 work_le End n k less = less
 work_le Working n k less = omega (arith, less)
 
-pub front_ok : (m : PlanStep) (would : ℕ → Facts → Ruling) (shown : Shown) (state after : ℕ) (c d : Counts) (old new : Planned) → CountsRise (plan_trace old) (plan_trace new) c d → PlanAsks would state after shown c old new → (IsAlone old → StepsOnce would state after shown c d old.stack.at new.stack.at) → PlanMoves shown m old new → (IsAlone old → PlanSpends m c d (plan_effort shown old) (plan_effort shown new)) → (IsAlone old → FewFetches 0 shown old new) → StepsFront (Some m) would shown (record { plan = old; judge = state }) (record { plan = new; judge = after })
+pub front_ok : (m : PlanStep) (would : ℕ → Facts → Ruling) (shown : Shown) (state after : ℕ) (c d : Counts) (old new : Planned) → CountsRise (plan_trace old) (plan_trace new) c d → PlanAsks would state after shown c d old new → (IsAlone old → StepsOnce would state after shown c d old.stack.at new.stack.at) → PlanMoves shown m old new → (IsAlone old → PlanSpends m c d (plan_effort shown old) (plan_effort shown new)) → (IsAlone old → FewFetches 0 shown old new) → StepsFront (Some m) would shown (record { plan = old; judge = state }) (record { plan = new; judge = after })
 front_ok m would shown state after c d old new counts asks once moves spends few = record { asked = moves.asked; before = c; after = d; counts = counts; asks = asks; once = once; work = work_le m (plan_work shown old) (plan_work shown new) moves.work; answers = moves; spends = spends; few = few }
 
-pub front_err : (would : ℕ → Facts → Ruling) (shown : Shown) (state after : ℕ) (c d : Counts) (old new : Planned) → CountsRise (plan_trace old) (plan_trace new) c d → PlanAsks would state after shown c old new → (IsAlone old → StepsOnce would state after shown c d old.stack.at new.stack.at) → PlanKept shown old new → (IsAlone old → FewFetches 1 shown old new) → StepsFront None would shown (record { plan = old; judge = state }) (record { plan = new; judge = after })
+pub front_err : (would : ℕ → Facts → Ruling) (shown : Shown) (state after : ℕ) (c d : Counts) (old new : Planned) → CountsRise (plan_trace old) (plan_trace new) c d → PlanAsks would state after shown c d old new → (IsAlone old → StepsOnce would state after shown c d old.stack.at new.stack.at) → PlanKept shown old new → (IsAlone old → FewFetches 1 shown old new) → StepsFront None would shown (record { plan = old; judge = state }) (record { plan = new; judge = after })
 front_err would shown state after c d old new counts asks once kept few = record { asked = kept.asked; before = c; after = d; counts = counts; asks = asks; once = once; work = kept.work; answers = tt; spends = λ alone. tt; few = few }
 
 pub front_moves : (f : Filled) (hand : Option Offer) (would : ℕ → Facts → Ruling) (shown : Shown) (old new : Ruled) → FrontTo f hand would shown old new → Moves would shown old new

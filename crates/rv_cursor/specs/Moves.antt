@@ -46,7 +46,7 @@ pub record StepsFront (answer : Option PlanStep) (would : ℕ → Facts → Ruli
   pub before : Counts
   pub after : Counts
   pub counts : CountsRise (plan_trace old.plan) (plan_trace new.plan) before after
-  pub asks : PlanAsks would old.judge new.judge shown before old.plan new.plan
+  pub asks : PlanAsks would old.judge new.judge shown before after old.plan new.plan
   pub once : IsAlone old.plan → StepsOnce would old.judge new.judge shown before after old.plan.stack.at new.plan.stack.at
   pub work : plan_work shown new.plan ≤ plan_work shown old.plan
   pub answers : IfSome answer (λ step. PlanMoves shown step old.plan new.plan)

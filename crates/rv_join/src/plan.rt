@@ -211,7 +211,7 @@ impl Plan {
         ensures moves { IfOk result (λ m. Moves self.old.asked (R.shown reader.now) m self.old.stack self.new.stack) }
         ensures alone { length self.old.asked.items ≡ 1 → Rises (first_of self.old.stack).here (first_of self.new.stack).here steps.old steps.new }
         ensures stays { would judge.new ≡ would judge.old }
-        ensures asks { PlanAsks (would judge.old) (state judge.old) (state judge.new) (R.shown reader.now) steps.old self.old self.new }
+        ensures asks { PlanAsks (would judge.old) (state judge.old) (state judge.new) (R.shown reader.now) steps.old steps.new self.old self.new }
         ensures once { length self.old.asked.items ≡ 1 → StepsOnce (would judge.old) (state judge.old) (state judge.new) (R.shown reader.now) steps.old steps.new self.old.stack.at self.new.stack.at }
         ensures spends { length self.old.asked.items ≡ 1 → IfOk result (λ m. MovedSpends m steps.old steps.new (level_effort (R.shown reader.now) self.old.stack.at) (level_effort (R.shown reader.now) self.new.stack.at)) }
         ensures fetches { length self.old.asked.items ≡ 1 → OnOk result (Fetches (R.shown reader.now) steps.old steps.new self.old.stack.at.here self.new.stack.at.here) }
@@ -235,7 +235,7 @@ impl Plan {
         ensures gathers { IfOk result (λ all. Gathers all self.old.asked (R.shown reader.now) self.old.stack self.old.gathered self.new.stack self.new.gathered) }
         ensures alone { length self.old.asked.items ≡ 1 → Rises (first_of self.old.stack).here (first_of self.new.stack).here steps.old steps.new }
         ensures stays { would judge.new ≡ would judge.old }
-        ensures asks { PlanAsks (would judge.old) (state judge.old) (state judge.new) (R.shown reader.now) steps.old self.old self.new }
+        ensures asks { PlanAsks (would judge.old) (state judge.old) (state judge.new) (R.shown reader.now) steps.old steps.new self.old self.new }
         ensures once { length self.old.asked.items ≡ 1 → StepsOnce (would judge.old) (state judge.old) (state judge.new) (R.shown reader.now) steps.old steps.new self.old.stack.at self.new.stack.at }
         ensures spends { length self.old.asked.items ≡ 1 → IfOk result (λ all. GatherSpends all steps.old steps.new (level_effort (R.shown reader.now) self.old.stack.at) (level_effort (R.shown reader.now) self.new.stack.at)) }
         ensures fetches { length self.old.asked.items ≡ 1 → OnOk result (Fetches (R.shown reader.now) steps.old steps.new self.old.stack.at.here self.new.stack.at.here) }
