@@ -57,9 +57,10 @@ pub record Descends (a : Asked) (shown : Shown) (old new : Level) : Type 0 where
   pub work : level_work a shown new < row_cost (lives_of a.only) shown a.snap (items_below a old)
   pub bag : still a shown new ≡ over_held a shown old old.row
 
--- THE ACCESS OF AN INNER FROM ITEM, opened over the rows chosen before it and the one that is held: it is asked what the plan
--- asks of that item; which it is, and what it scans, go by the rules, with a race where the plan is asked for one; its pieces
--- bear the cursor's number and that of this opening. The opening reads leaves alone, and they are the counts of its trace.
+-- THE ACCESS OF AN INNER FROM ITEM, opened over the rows chosen before it and the one that is held: it is asked what
+-- the plan asks of that item; which it is, and what it scans, go by the rules, with a race where the plan is asked
+-- for one; its pieces bear the cursor's number and that of this opening. The opening reads leaves alone, and they are
+-- the counts of its trace.
 pub record OpensInner (a : Asked) (shown : Shown) (opening : ℕ) (before after : Counts) (old new : Level) : Type 0 where
   pub row : List Value
   pub held : old.row ≡ Some row
@@ -107,7 +108,9 @@ pub record LevelsStay (a : Asked) (shown : Shown) (place : ℕ) (old new : List 
 abbrev pub SameFirst : Asked → Shown → List Level → List Level → Type 0
 SameFirst a shown [] new = new ≡ []
 SameFirst a shown (f ∷ ls) [] = ⊥
-SameFirst a shown (f ∷ ls) (g ∷ ms) = (over_held a shown g g.row ≡ over_held a shown f f.row) × (flat_map (still a shown) ms ≡ flat_map (still a shown) ls)
+SameFirst a shown (f ∷ ls) (g ∷ ms) =
+    (over_held a shown g g.row ≡ over_held a shown f f.row)
+    × (flat_map (still a shown) ms ≡ flat_map (still a shown) ls)
 
 -- a stack was called, and owes what it owed
 pub record StackStays (a : Asked) (shown : Shown) (old new : Stacked) : Type 0 where
