@@ -24,7 +24,7 @@ use Rattle.rv_overlay.specs.declared.frozen.Frozen.{Frozen}
 use Rattle.rv_own.specs.Views.{Freezes}
 use Rattle.rv_access.specs.Accesses.{Settled, fetches_left, query_of}
 use Rattle.rv_retrieval.specs.Short.{has_short}
-use Rattle.rv_search.specs.Searching.{any_narrows, search_of}
+use Rattle.rv_search.specs.Searching.{Ran, any_narrows, search_of}
 use Rattle.rv_join.specs.Alone.{plan_effort, plan_life}
 use Rattle.rv_join.specs.Asking.{IsAsked, indexes_from, lives_of}
 use Rattle.rv_join.specs.Pieces.{counted_up, plan_awaited, plan_pieces}
@@ -158,26 +158,30 @@ closed_in (Some place) opens = remove opens place
 abbrev pub AsksJudge : Plans → Plans → Type 0
 AsksJudge old new = new ≡ record old { judge = new.judge }
 
--- in a view of the transaction no range that WHERE gives one of these indexes has an exact estimate of at most 20
-pub record IsLong (shown : Shown) (own : Transaction) (table : ℕ) (only : List (List Atom))
-    (indexes : List (ℕ × List ℕ)) : Type 0 where
+-- in a view of the transaction no range that WHERE gives one of these indexes has an exact estimate of at most 20, and
+-- the judge stands where the steps of one retrieval leave it, which was opened over that view for the search
+pub record IsLong (would : ℕ → Facts → Ruling) (state after : ℕ) (shown : Shown) (own : Transaction) (table : ℕ)
+    (only : List (List Atom)) (indexes : List (ℕ × List ℕ)) : Type 0 where
   pub view : Option Frozen
   pub frozen : Freezes shown own view
+  pub ran : Ran would state after (seen_at shown own.base view) (search_of table own.base only indexes)
   pub none_short : has_short (search_of table own.base only indexes) (seen_at shown own.base view) ≡ false
 
 -- WHERE AN UPDATE OR DELETE MAY ASK THE JUDGE: the session's transaction may write, and WHERE gives an index of the
 -- table a range, but none with an exact estimate of at most 20
-pub record MayAsk (shown : Shown) (indexes : List IndexDef) (active : List Transaction) (session table : ℕ)
-    (only : List (List Atom)) : Type 0 where
+pub record MayAsk (would : ℕ → Facts → Ruling) (state after : ℕ) (shown : Shown) (indexes : List IndexDef)
+    (active : List Transaction) (session table : ℕ) (only : List (List Atom)) : Type 0 where
   pub own : Transaction
   pub writes : writing active session ≡ Ok own
   pub narrows : any_narrows only (indexes_from table 0 indexes) ≡ true
-  pub long : IsLong shown own table only (indexes_from table 0 indexes)
+  pub long : IsLong would state after shown own table only (indexes_from table 0 indexes)
 
 -- UPDATE AND DELETE SEARCH: the plans of all cursors stay, and so does the judge, but where it may be asked
 abbrev pub Searches : Under → State → ℕ → ℕ → List (List Atom) → Plans → Plans → Type 0
 Searches u db session table only old new =
-    (new ≡ old) ⊎ (AsksJudge old new × MayAsk u.store db.schema.indexes db.transactions.active session table only)
+    (new ≡ old)
+    ⊎ (AsksJudge old new
+      × MayAsk u.would old.judge new.judge u.store db.schema.indexes db.transactions.active session table only)
 
 -- WHAT AN ANSWERED CALL DOES TO THE PLANS, by what it asks
 abbrev pub Handles : Under → Result Resolved Refusal → State → ℕ → Reply → Plans → Plans → Type 0

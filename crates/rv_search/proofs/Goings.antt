@@ -11,7 +11,7 @@ use Rattle.rv_retrieval.specs.Opened.{Opened}
 use Rattle.rv_retrieval.specs.Shape.{Shape}
 use Rattle.rv_retrieval.specs.Short.{OnlyLeaves}
 use Rattle.rv_retrieval.specs.Stepping.{StepsAs}
-use Rattle.rv_search.specs.Searching.{Goes, GoesOut, GoesSome, Ran, RanOut, Searched, StepsAll, searched}
+use Rattle.rv_search.specs.Searching.{Goes, GoesOut, GoesSome, Ran, RanFetched, RanOut, Searched, StepsAll, searched}
 
 steps_on : (more first : List Fg) (would : ℕ → Facts → Ruling) (shown : Shown) (a b c : Searched) → StepsAll first would shown a b → StepsAll more would shown b c → StepsAll (more ++ first) would shown a c
 steps_on [] first would shown a b c before then = subst (StepsAll first would shown a) (sym then) before
@@ -70,3 +70,8 @@ ran_of would state after shown c d query ran = record {
   opened = ran.opened;
   goes = record { last = ran.goes.last; counts = d; goes = record { answers = End ∷ ran.goes.before; made = ran.goes.made } };
 }
+
+-- whatever it came to
+pub ran_any : {X E : Type 0} (r : Result X E) (most : X → ℕ) (would : ℕ → Facts → Ruling) (state after : ℕ) (shown : Shown) (c d : Counts) (query : Query) → IfOk r (λ x. RanFetched (most x) would state after shown c d query) → OnErr r ((after ≡ state) ⊎ Ran would state after shown query) → (after ≡ state) ⊎ Ran would state after shown query
+ran_any (Ok x) most would state after shown c d query ran lost = inr (ran_of would state after shown c ran.counts query ran.ran)
+ran_any (Err e) most would state after shown c d query ran lost = lost
