@@ -31,7 +31,7 @@ TakesAt place old replies new =
     (replies.1 ≡ replies.0)
     × Offers (cursor_at old place).offers replies.0
     × (new ≡ slice_set old place
-        (record (cursor_at old place) { offers = offers_after (cursor_at old place).offers replies.0 }))
+    (record (cursor_at old place) { offers = offers_after (cursor_at old place).offers replies.0 }))
 
 -- STEP: how many background steps there were, and nothing changed
 abbrev pub StepsOn : Stand → ℕ → List ℕ → ℕ → Reply × Reply → Stand → Type 0
@@ -62,13 +62,13 @@ opening_base active cursors session name = do
 abbrev pub DoesAsked : Result Resolved Refusal → Stand → ℕ → Reply × Reply → Stand → Type 0
 DoesAsked asked old session replies new =
     (replies.1 ≡ replies.0) × AllowsAsked asked old.db session replies.0
-        × (new ≡ record old { db = next_asked asked old.db session replies.0 })
+    × (new ≡ record old { db = next_asked asked old.db session replies.0 })
 
 -- the same of the statement of a text, where there is one
 abbrev pub Executes : Stand → ℕ → Option Statement → Reply × Reply → Stand → Type 0
 Executes old session statement replies new =
     (replies.1 ≡ replies.0) × Allows old.db session statement replies.0
-        × (new ≡ record old { db = next old.db session statement replies.0 })
+    × (new ≡ record old { db = next old.db session statement replies.0 })
 
 -- A new index has a column, and a query has a FROM item.
 abbrev pub IsWhole : Resolved → Type 0

@@ -118,7 +118,7 @@ pub record OpensPlan (race : Bool) (shown : Shown) (s : Select) (db : State) (se
   pub raced : cursor.plan.asked.race ≡ race
   pub rows : AllByRecursion
       (λ (t : ℕ). (seen_by shown cursor).rows t cursor.snap
-        ≡ rows_viewed db (transaction_of db.transactions.active session) t)
+      ≡ rows_viewed db (transaction_of db.transactions.active session) t)
       s.tables
   pub fits : CursorFits shown cursor
   pub leads : LeadsWith (seen_by shown cursor) cursor.plan
@@ -236,7 +236,7 @@ is_fetch other = false
 abbrev pub Turns : Under → Result Resolved Refusal → ℕ → Reply → Plans → Plans → Type 0
 Turns u (Ok (asks.Fetch name)) session reply old new =
     MovesNamed (TurnOf (Some (reply, reply)) u.settings.steps u.would) u.store
-      (open_named old.opens session name) old new
+    (open_named old.opens session name) old new
 Turns u (Ok other) session reply old new = Unit {0}
 Turns u (Err refusal) session reply old new = Unit {0}
 

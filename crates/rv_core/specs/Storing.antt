@@ -24,7 +24,7 @@ abbrev pub changed_over : Shown → Schema → Transactions → ℕ → ℕ → 
     → Result (ℕ × Transactions) Refusal
 changed_over shown schema txns session table sets only =
     changed txns session table only sets
-      (λ base. rows_seen (db_of shown schema txns []) (transaction_of txns.active session) table)
+    (λ base. rows_seen (db_of shown schema txns []) (transaction_of txns.active session) table)
 
 -- no row that further changes of the session's transaction write has a rival in the database
 abbrev pub lone_over : Shown → Schema → Transactions → ℕ → ℕ → List Change → Result (Unit {0}) Refusal
