@@ -181,7 +181,7 @@ abbrev pub Searches : Under → State → ℕ → ℕ → List (List Atom) → P
 Searches u db session table only old new =
     (new ≡ old)
     ⊎ (AsksJudge old new
-      × MayAsk u.would old.judge new.judge u.store db.schema.indexes db.transactions.active session table only)
+    × MayAsk u.would old.judge new.judge u.store db.schema.indexes db.transactions.active session table only)
 
 -- WHAT AN ANSWERED CALL DOES TO THE PLANS, by what it asks
 abbrev pub Handles : Under → Result Resolved Refusal → State → ℕ → Reply → Plans → Plans → Type 0
