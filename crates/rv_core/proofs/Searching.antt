@@ -33,7 +33,9 @@ use Rattle.rv_choice.specs.Asked.{CanAsk, IsIndexOf}
 use Rattle.rv_final.specs.Rest.{qualifying}
 use Rattle.rv_search.specs.Named.{columns_named}
 use Rattle.rv_retrieval.specs.Short.{has_short}
-use Rattle.rv_search.specs.Searching.{search_of}
+use Rattle.rv_search.specs.Searching.{Ran, search_of}
+use Rattle.rv_judge.specs.declared.judging.Facts.{Facts}
+use Rattle.rv_judge.specs.Verdicts.{Ruling}
 use Rattle.rv_search.proofs.Columns.{named_home, none_needed}
 use Rattle.rv_join.specs.declared.places.Asked.{Asked}
 use Rattle.rv_join.specs.Asking.{CanPlan, CanRun, CanRunItem, IsAsked, IsIndexAt, IsItem, by_index, have_column, indexes_from, item_at}
@@ -170,9 +172,11 @@ few_columns table number (d ∷ ds) all =
 -- WHERE A SEARCH ASKS THE JUDGE.
 
 -- over what was frozen no index has a short range, or nobody was asked
-pub asks_long : (shown : Shown) (own : Transaction) (table : ℕ) (only : List (List Atom)) (indexes : List (ℕ × List ℕ)) (view : Option Frozen) (before after : ℕ) → Freezes shown own view
-    → (has_short (search_of table own.base only indexes) (seen_at shown own.base view) ≡ true → after ≡ before) → (after ≡ before) ⊎ IsLong shown own table only indexes
-asks_long shown own table only indexes view before after frozen unasked = elim (cases_Bool (has_short (search_of table own.base only indexes) (seen_at shown own.base view))) [
+pub asks_long : (would : ℕ → Facts → Ruling) (shown : Shown) (own : Transaction) (table : ℕ) (only : List (List Atom)) (indexes : List (ℕ × List ℕ)) (view : Option Frozen) (before after : ℕ) → Freezes shown own view
+    → (after ≡ before) ⊎ Ran would before after (seen_at shown own.base view) (search_of table own.base only indexes)
+    → (has_short (search_of table own.base only indexes) (seen_at shown own.base view) ≡ true → after ≡ before) → (after ≡ before) ⊎ IsLong would before after shown own table only indexes
+asks_long would shown own table only indexes view before after frozen (inl same) unasked = inl same
+asks_long would shown own table only indexes view before after frozen (inr ran) unasked = elim (cases_Bool (has_short (search_of table own.base only indexes) (seen_at shown own.base view))) [
   | inl short ↦ inl (unasked short)
-  | inr none ↦ inr (record { view = view; frozen = frozen; none_short = none })
+  | inr none ↦ inr (record { view = view; frozen = frozen; ran = ran; none_short = none })
 ]

@@ -101,6 +101,7 @@ take_moves state shown place before after old new tries = record {
   once = tries.once;
   awaited = tries.awaited;
   pieces = tries.pieces;
+  course = tries.course;
   stays = tries.stays;
 }
 

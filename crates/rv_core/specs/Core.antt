@@ -24,7 +24,15 @@ pub record Shown (S : Type 0) : Type 0 where
   pub opened : ℕ
 
 abbrev pub shown_of : {S : Type 0} → List Entry → ℕ → Whole S → Shown S
-shown_of history phase d = record { history = history; phase = phase; store = d.store; db = d.stand.db; horizon = d.stand.horizon; opens = d.opens; opened = d.opened }
+shown_of history phase d = record {
+  history = history;
+  phase = phase;
+  store = d.store;
+  db = d.stand.db;
+  horizon = d.stand.horizon;
+  opens = d.opens;
+  opened = d.opened;
+}
 
 -- its plans, under a judge that stands there
 abbrev pub plans_in : {S : Type 0} → Shown S → ℕ → Plans
@@ -50,7 +58,8 @@ entry session phase text reply = record { session = session; phase = phase; text
 -- AN ANSWERED CALL, made under a judge that stood and now stands there: the history gains exactly the entry of this
 -- call, and the database is the step by it. The store keeps what the transactions need. The plans are handled as the
 -- call asks, and a refused call leaves them; a search of an UPDATE or DELETE may have asked the judge.
-pub record Answers {S : Type 0} (u : Under) (judge ruled : ℕ) (old new : Shown S) (session : ℕ) (text : List ℕ) (reply : Reply) : Type 0 where
+pub record Answers {S : Type 0} (u : Under) (judge ruled : ℕ) (old new : Shown S) (session : ℕ) (text : List ℕ)
+    (reply : Reply) : Type 0 where
   pub gained : new.history ≡ old.history ++ entry session old.phase text reply ∷ []
   pub same_phase : new.phase ≡ old.phase
   pub allowed : IsNext old.db old.phase (entry session old.phase text reply)
@@ -61,17 +70,20 @@ pub record Answers {S : Type 0} (u : Under) (judge ruled : ℕ) (old new : Shown
 
 -- A CALL FOR WHICH NO MEMORY WAS FOUND: nothing is changed, but that a FETCH or STEP may have moved the plan of its
 -- cursor, and that an UPDATE or DELETE may have asked the judge
-pub record Unanswered {S : Type 0} (u : Under) (judge ruled : ℕ) (old new : Shown S) (session : ℕ) (text : List ℕ) : Type 0 where
+pub record Unanswered {S : Type 0} (u : Under) (judge ruled : ℕ) (old new : Shown S) (session : ℕ)
+    (text : List ℕ) : Type 0 where
   pub kept : new ≡ record old { store = new.store; opens = new.opens }
   pub plans : LeavesText u (statement_of text) old.db session (plans_in old judge) (plans_in new ruled)
 
 -- A CALL THAT WORKS ON: a FETCH has brought its cursor nearer to a row, and nothing else is changed
-pub record WorksFor {S : Type 0} (u : Under) (judge ruled : ℕ) (old new : Shown S) (session : ℕ) (text : List ℕ) : Type 0 where
+pub record WorksFor {S : Type 0} (u : Under) (judge ruled : ℕ) (old new : Shown S) (session : ℕ)
+    (text : List ℕ) : Type 0 where
   pub kept : new ≡ record old { opens = new.opens }
   pub plans : WorksText u (statement_of text) old.db session (plans_in old judge) (plans_in new ruled)
 
 -- a call that is answered in one turn
-pub record AnswersTurn {S : Type 0} (u : Under) (judge ruled : ℕ) (old new : Shown S) (session : ℕ) (text : List ℕ) (reply : Reply) : Type 0 where
+pub record AnswersTurn {S : Type 0} (u : Under) (judge ruled : ℕ) (old new : Shown S) (session : ℕ) (text : List ℕ)
+    (reply : Reply) : Type 0 where
   pub answers : Answers u judge ruled old new session text reply
   pub turn : TurnsText u (statement_of text) old.db session reply (plans_in old judge) (plans_in new ruled)
 

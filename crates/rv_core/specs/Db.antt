@@ -43,7 +43,8 @@ db_of shown schema transactions cursors = record {
 
 -- an open cursor as the definitions have it
 abbrev pub seen_of : Shown → Open → Cursor
-seen_of shown c = record { session = c.session; name = c.name; table = (item_at c.plan.asked 0).table; offers = left shown c }
+seen_of shown c =
+    record { session = c.session; name = c.name; table = (item_at c.plan.asked 0).table; offers = left shown c }
 
 abbrev pub seen : Shown → List Open → List Cursor
 seen shown cursors = map (seen_of shown) cursors
@@ -61,7 +62,8 @@ pub record Stand : Type 0 where
   pub horizon : ℕ
 
 abbrev pub stand_of : Shown → Schema → Transactions → List Cursor → Stand
-stand_of shown schema transactions cursors = record { db = db_of shown schema transactions cursors; horizon = shown.horizon }
+stand_of shown schema transactions cursors =
+    record { db = db_of shown schema transactions cursors; horizon = shown.horizon }
 
 -- the same with its store, the open cursors, in the order in which they were opened, and the number of the next
 pub record Whole (S : Type 0) : Type 0 where
@@ -71,7 +73,12 @@ pub record Whole (S : Type 0) : Type 0 where
   pub opened : ℕ
 
 abbrev pub whole_of : {S : Type 0} → S → Shown → Schema → Transactions → List Open → ℕ → Whole S
-whole_of store shown schema transactions opens opened = record { store = store; stand = stand_of shown schema transactions (seen shown opens); opens = opens; opened = opened }
+whole_of store shown schema transactions opens opened = record {
+  store = store;
+  stand = stand_of shown schema transactions (seen shown opens);
+  opens = opens;
+  opened = opened;
+}
 
 -- the base of the session's transaction, where it has one
 abbrev pub base_of : List Transaction → ℕ → Option ℕ
@@ -97,8 +104,8 @@ pub record HasIndex (shown : Shown) (indexes : List IndexDef) (index : ℕ) : Ty
   pub over : shown.over index ≡ (slice_index_or indexes index no_index).table
   pub keys : shown.keys index ≡ (slice_index_or indexes index no_index).columns
 
--- The store has the tables and the indexes of the schema, indexes are over these tables, each row has a number that was taken, at most 1,000,000 were taken of a table,
--- and each base is a snapshot.
+-- The store has the tables and the indexes of the schema, indexes are over these tables, each row has a number that
+-- was taken, at most 1,000,000 were taken of a table, and each base is a snapshot.
 pub record IsTied (shown : Shown) (schema : Schema) (transactions : Transactions) : Type 0 where
   pub count : shown.tables ≡ length schema.tables
   pub columns : (table : ℕ) → table < length schema.tables → shown.columns table ≡ width schema.tables table
@@ -134,19 +141,22 @@ abbrev pub AreNumbered : ℕ → ℕ → List Open → Type 0
 AreNumbered low high [] = low ≤ high
 AreNumbered low high (c ∷ cs) = (low ≤ c.number) × AreNumbered (c.number + 1) high cs
 
--- The open cursors stand in the order of their numbers, which lie below the next, and no session has more than 16 of them.
+-- The open cursors stand in the order of their numbers, which lie below the next, and no session has more than 16 of
+-- them.
 pub record AreListed (next : ℕ) (cursors : List Open) : Type 0 where
   pub numbers : AreNumbered 1 next cursors
   pub few : (session : ℕ) → length (own_opens cursors session) ≤ 16
   pub sessions : AllByRecursion (λ (c : Open). c.session < 256) cursors
 
 -- what a database keeps
-pub record IsStanding (shown : Shown) (schema : Schema) (transactions : Transactions) (cursors : List Open) (opened : ℕ) : Type 0 where
+pub record IsStanding (shown : Shown) (schema : Schema) (transactions : Transactions) (cursors : List Open)
+    (opened : ℕ) : Type 0 where
   pub tied : IsTied shown schema transactions
   pub opens : AllByRecursion (IsOpen shown schema transactions.active) cursors
   pub listed : AreListed opened cursors
 
 -- the same, and what is kept of its transactions' views is what their changes make
-pub record IsWhole (shown : Shown) (schema : Schema) (transactions : Transactions) (views : List OwnView) (cursors : List Open) (opened : ℕ) : Type 0 where
+pub record IsWhole (shown : Shown) (schema : Schema) (transactions : Transactions) (views : List OwnView)
+    (cursors : List Open) (opened : ℕ) : Type 0 where
   pub standing : IsStanding shown schema transactions cursors opened
   pub views_kept : AreViews shown transactions.active views

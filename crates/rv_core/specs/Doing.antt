@@ -15,7 +15,8 @@ use Rattle.rv_core.specs.Db.{Stand}
 
 -- Two equal replies, and a new state, are those of the outcome.
 abbrev pub Does : Outcome → Stand → Reply × Reply → Stand → Type 0
-Does outcome old replies new = (replies.1 ≡ replies.0) × (replies.0 ≡ reply_of outcome) × (new ≡ record old { db = state_of outcome old.db })
+Does outcome old replies new =
+    (replies.1 ≡ replies.0) × (replies.0 ≡ reply_of outcome) × (new ≡ record old { db = state_of outcome old.db })
 
 -- the same of FETCH
 abbrev pub Fetches : Stand → ℕ → List ℕ → Reply × Reply → Stand → Type 0
@@ -29,15 +30,18 @@ abbrev pub TakesAt : ℕ → List Cursor → Reply × Reply → List Cursor → 
 TakesAt place old replies new =
     (replies.1 ≡ replies.0)
     × Offers (cursor_at old place).offers replies.0
-    × (new ≡ slice_set old place (record (cursor_at old place) { offers = offers_after (cursor_at old place).offers replies.0 }))
+    × (new ≡ slice_set old place
+    (record (cursor_at old place) { offers = offers_after (cursor_at old place).offers replies.0 }))
 
 -- STEP: how many background steps there were, and nothing changed
 abbrev pub StepsOn : Stand → ℕ → List ℕ → ℕ → Reply × Reply → Stand → Type 0
-StepsOn old session name most replies new = (replies.1 ≡ replies.0) × AllowsStep (cursor_named old.db.cursors session name) name most replies.0 × (new ≡ old)
+StepsOn old session name most replies new =
+    (replies.1 ≡ replies.0) × AllowsStep (cursor_named old.db.cursors session name) name most replies.0 × (new ≡ old)
 
 -- SHOW
 abbrev pub Shows : Stand → ℕ → List ℕ → Reply × Reply → Type 0
-Shows old session name replies = (replies.1 ≡ replies.0) × AllowsShow (cursor_named old.db.cursors session name) old.db name replies.0
+Shows old session name replies =
+    (replies.1 ≡ replies.0) × AllowsShow (cursor_named old.db.cursors session name) old.db name replies.0
 
 -- one turn's part of a call: it is answered, or it works on
 abbrev pub PartIs : {R : Type 0} → (R → Type 0) → Type 0 → Option R → Type 0
@@ -57,12 +61,14 @@ opening_base active cursors session name = do
 -- Two equal replies are allowed to what is asked, and the state is the one after them.
 abbrev pub DoesAsked : Result Resolved Refusal → Stand → ℕ → Reply × Reply → Stand → Type 0
 DoesAsked asked old session replies new =
-    (replies.1 ≡ replies.0) × AllowsAsked asked old.db session replies.0 × (new ≡ record old { db = next_asked asked old.db session replies.0 })
+    (replies.1 ≡ replies.0) × AllowsAsked asked old.db session replies.0
+    × (new ≡ record old { db = next_asked asked old.db session replies.0 })
 
 -- the same of the statement of a text, where there is one
 abbrev pub Executes : Stand → ℕ → Option Statement → Reply × Reply → Stand → Type 0
 Executes old session statement replies new =
-    (replies.1 ≡ replies.0) × Allows old.db session statement replies.0 × (new ≡ record old { db = next old.db session statement replies.0 })
+    (replies.1 ≡ replies.0) × Allows old.db session statement replies.0
+    × (new ≡ record old { db = next old.db session statement replies.0 })
 
 -- A new index has a column, and a query has a FROM item.
 abbrev pub IsWhole : Resolved → Type 0

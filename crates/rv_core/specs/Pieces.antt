@@ -11,8 +11,10 @@ use Rattle.rv_jscan.specs.declared.jscan.Taken.TheVariants.{Nothing}
 use Rattle.rv_jscan.specs.Pieces.{Pieced}
 use Rattle.rv_access.specs.Accesses.{Settled}
 use Rattle.rv_access.specs.Given.{CountsPiece, GivesOn, TakesPiece, piece_read}
+use Rattle.rv_access.specs.Stepping.{SameCourse}
 use Rattle.rv_judge.specs.Tracing.{CountsRise, SameCounts}
 use Rattle.rv_join.specs.Alone.{IsAlone, TakesOnce}
+use Rattle.rv_join.specs.Levels.{first_of}
 use Rattle.rv_join.specs.Pieces.{GivesPiece, TakesAwaited, plan_awaited, plan_pieces, waited, waiting}
 use Rattle.rv_join.specs.Plans.{PlanStays, plan_trace}
 use Rattle.rv_cursor.specs.declared.cursor.Open.{Open}
@@ -25,10 +27,11 @@ abbrev pub or_else : Option ℕ → Option ℕ → Option ℕ
 or_else (Some place) other = Some place
 or_else None other = other
 
--- Of the open cursors that await a piece, the first with a number above another; where there is none above, the first. Open
--- cursors stand in ascending order of their numbers, so the first has the lowest.
+-- Of the open cursors that await a piece, the first with a number above another; where there is none above, the
+-- first. Open cursors stand in ascending order of their numbers, so the first has the lowest.
 abbrev pub next_waiting : ℕ → List Open → Option ℕ
-next_waiting after opens = or_else (position (λ (c : Open). nat_lt after c.number && is_waiting c) opens) (position is_waiting opens)
+next_waiting after opens =
+    or_else (position (λ (c : Open). nat_lt after c.number && is_waiting c) opens) (position is_waiting opens)
 
 -- the plan of the cursor in a place was called, and nothing else
 pub record CallsOne (place : ℕ) (old new : List Open) (c d : Open) : Type 0 where
@@ -36,21 +39,24 @@ pub record CallsOne (place : ℕ) (old new : List Open) (c d : Open) : Type 0 wh
   pub called : new ≡ slice_set old place d
   pub same : d ≡ record c { plan = d.plan }
 
--- A TAKE from the cursor in a place, whatever it answers: the same piece is awaited, none is counted, and its leaf, which is read
--- where it is not held, is counted in the trace. Over one FROM item nothing is read where the background is over.
+-- A TAKE from the cursor in a place, whatever it answers: the same piece is awaited, none is counted, and its leaf,
+-- which is read where it is not held, is counted in the trace, which tells no more than before. Over one FROM item
+-- nothing is read where the background is over.
 pub record TriesAt (shown : Shown) (place : ℕ) (before after : Counts) (old new : List Open) : Type 0 where
   pub cursor : Open
   pub left : Open
   pub calls : CallsOne place old new cursor left
   pub awaited : plan_awaited left.plan ≡ plan_awaited cursor.plan
   pub pieces : plan_pieces left.plan ≡ plan_pieces cursor.plan
+  pub course : SameCourse (first_of cursor.plan.stack).here (first_of left.plan.stack).here
   pub reads : after ≡ piece_read (waiting cursor.plan) before
   pub counts : CountsRise (plan_trace cursor.plan) (plan_trace left.plan) before after
   pub once : IsAlone cursor.plan → TakesOnce (seen_by shown cursor) before after cursor.plan.stack.at left.plan.stack.at
   pub stays : PlanStays (seen_by shown cursor) cursor.plan left.plan
 
 -- the piece that it answers is the one that was awaited before the call, and that may now be given
-pub record TakesAt (shown : Shown) (place : ℕ) (before after : Counts) (old new : List Open) (taken : Taken) : Type 0 where
+pub record TakesAt (shown : Shown) (place : ℕ) (before after : Counts) (old new : List Open)
+    (taken : Taken) : Type 0 where
   pub tries : TriesAt shown place before after old new
   pub answers : TakesAwaited tries.cursor.plan taken
   pub ready : TakesPiece (waiting tries.left.plan) taken
@@ -68,9 +74,10 @@ TriesNext shown (Some place) before after old new = TriesAt shown place before a
 abbrev pub numbered : ℕ → List Open → Option ℕ
 numbered number opens = position (λ (c : Open). c.number == number) opens
 
--- A GIVE to the cursor in a place: accepted exactly where the piece is the awaited one, once taken; an accepted piece is
--- counted and the judge obeyed, a stale one changes nothing
-pub record GivesAt (would : ℕ → Facts → Ruling) (state after : ℕ) (place : ℕ) (old : List Open) (piece : Pieced) (given : Given) (new : List Open) : Type 0 where
+-- A GIVE to the cursor in a place: accepted exactly where the piece is the awaited one, once taken; an accepted piece
+-- is counted and the judge obeyed, a stale one changes nothing
+pub record GivesAt (would : ℕ → Facts → Ruling) (state after : ℕ) (place : ℕ) (old : List Open) (piece : Pieced)
+    (given : Given) (new : List Open) : Type 0 where
   pub cursor : Open
   pub left : Open
   pub calls : CallsOne place old new cursor left
@@ -86,4 +93,5 @@ GivesTo (Some place) would state after old piece given new = GivesAt would state
 
 -- Over one FROM item a plan whose background is over awaits no piece: whatever is given, its cursor is left as it is.
 pub record KeepsSettled (old new : List Open) : Type 0 where
-  pub each : (place : ℕ) (c d : Open) → slice_get old place ≡ Some c → slice_get new place ≡ Some d → IsAlone c.plan → Settled c.plan.stack.at.here → d ≡ c
+  pub each : (place : ℕ) (c d : Open) → slice_get old place ≡ Some c → slice_get new place ≡ Some d
+      → IsAlone c.plan → Settled c.plan.stack.at.here → d ≡ c

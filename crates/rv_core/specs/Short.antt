@@ -44,21 +44,32 @@ abbrev pub lost_by : List (List Move) → ℕ
 lost_by [] = 0
 lost_by (moves ∷ calls) = lost_by calls + lost_in moves
 
--- LAW: where OPEN found a restricted index of its one FROM item with an exact estimate of at most 20, the background is over and
--- stays so, and the trace never counts more than 20 fetched records, but for one for each foreground step for which no memory was
--- found; whatever calls come, and whatever judges rule
+-- LAW: where OPEN found a restricted index of its one FROM item with an exact estimate of at most 20, the background
+-- is over and stays so, and the trace never counts more than 20 fetched records, but for one for each foreground step
+-- for which no memory was found; whatever calls come, and whatever judges rule
 abbrev pub ShortRangeIsFew : Type 0
-ShortRangeIsFew = (s : Select) (indexes : List IndexDef) (calls : List (List Move)) (opened now : Held) → IsBounded (seen_by opened.store opened.cursor) s indexes opened.cursor.snap opened.cursor.plan → has_short (query_of opened.cursor.plan.stack.at.here) (seen_by opened.store opened.cursor) ≡ true → IsAlone opened.cursor.plan → CallsMove calls opened now → Settled now.cursor.plan.stack.at.here × ((plan_trace now.cursor.plan).fetches ≤ 20 + lost_by calls)
+ShortRangeIsFew =
+    (s : Select) (indexes : List IndexDef) (calls : List (List Move)) (opened now : Held)
+    → IsBounded (seen_by opened.store opened.cursor) s indexes opened.cursor.snap opened.cursor.plan
+    → has_short (query_of opened.cursor.plan.stack.at.here) (seen_by opened.store opened.cursor) ≡ true
+    → IsAlone opened.cursor.plan → CallsMove calls opened now
+    → Settled now.cursor.plan.stack.at.here × ((plan_trace now.cursor.plan).fetches ≤ 20 + lost_by calls)
 
 -- LAW: a piece that is taken by itself is such a move, too
 abbrev pub TakeIsMove : Type 0
-TakeIsMove = (state : ℕ) (shown : Shown) (place : ℕ) (before after : Counts) (old new : List Open) (tries : TriesAt shown place before after old new) → TakesOut (seen_by shown tries.cursor) (ruled tries.cursor state) (ruled tries.left state)
+TakeIsMove =
+    (state : ℕ) (shown : Shown) (place : ℕ) (before after : Counts) (old new : List Open)
+    (tries : TriesAt shown place before after old new)
+    → TakesOut (seen_by shown tries.cursor) (ruled tries.cursor state) (ruled tries.left state)
 
 -- WHAT THE CALLS SAY OF PLANS IS SUCH MOVES, where what the open cursors see stays.
 
 -- LAW: so is what is said of the cursor in a place
 abbrev pub CallIsMoves : Type 0
-CallIsMoves = (would : ℕ → Facts → Ruling) (store later : Shown) (place judge ruled_to : ℕ) (old new : List Open) (call : MovesAt (AnyOf would) store place judge ruled_to old new) → SeesSame store later new → CallMoves call.moved.moves (held store call.before) (held later call.after)
+CallIsMoves =
+    (would : ℕ → Facts → Ruling) (store later : Shown) (place judge ruled_to : ℕ) (old new : List Open)
+    (call : MovesAt (AnyOf would) store place judge ruled_to old new) → SeesSame store later new
+    → CallMoves call.moved.moves (held store call.before) (held later call.after)
 
 -- moves that found memory for each foreground step
 pub record AnsweredMoves (old new : Held) : Type 0 where
@@ -68,8 +79,13 @@ pub record AnsweredMoves (old new : Held) : Type 0 where
 
 -- LAW: a call that is answered has such, where the cursor in a place moved in this way
 abbrev pub AnsweredIsMoves : (Open → Shown → Ruled → Ruled → Type 0) → Type 0
-AnsweredIsMoves way = (store later : Shown) (place judge ruled_to : ℕ) (old new : List Open) (call : MovesAt way store place judge ruled_to old new) → SeesSame store later new → AnsweredMoves (held store call.before) (held later call.after)
+AnsweredIsMoves way =
+    (store later : Shown) (place judge ruled_to : ℕ) (old new : List Open)
+    (call : MovesAt way store place judge ruled_to old new) → SeesSame store later new
+    → AnsweredMoves (held store call.before) (held later call.after)
 
 -- LAW: a cursor that a call left as it was made no move
 abbrev pub StillMoves : Type 0
-StillMoves = (would : ℕ → Facts → Ruling) (store later : Shown) (judge place : ℕ) (cs : List Open) (c : Open) → slice_get cs place ≡ Some c → SeesSame store later cs → CallMoves [] (held store c) (held later c)
+StillMoves =
+    (would : ℕ → Facts → Ruling) (store later : Shown) (judge place : ℕ) (cs : List Open) (c : Open)
+    → slice_get cs place ≡ Some c → SeesSame store later cs → CallMoves [] (held store c) (held later c)

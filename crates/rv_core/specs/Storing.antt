@@ -20,12 +20,16 @@ CommitsTo old new base [] c = (new ≡ old) × (c ≡ base)
 CommitsTo old new base (x ∷ xs) c = Committed old new (x ∷ xs) × (c ≡ new.newest)
 
 -- UPDATE and DELETE over the rows that the database has at the base of the session's transaction
-abbrev pub changed_over : Shown → Schema → Transactions → ℕ → ℕ → Option (List (ℕ × Value)) → List (List Atom) → Result (ℕ × Transactions) Refusal
-changed_over shown schema txns session table sets only = changed txns session table only sets (λ base. rows_seen (db_of shown schema txns []) (transaction_of txns.active session) table)
+abbrev pub changed_over : Shown → Schema → Transactions → ℕ → ℕ → Option (List (ℕ × Value)) → List (List Atom)
+    → Result (ℕ × Transactions) Refusal
+changed_over shown schema txns session table sets only =
+    changed txns session table only sets
+    (λ base. rows_seen (db_of shown schema txns []) (transaction_of txns.active session) table)
 
 -- no row that further changes of the session's transaction write has a rival in the database
 abbrev pub lone_over : Shown → Schema → Transactions → ℕ → ℕ → List Change → Result (Unit {0}) Refusal
-lone_over shown schema txns session table new = no_rivals_of (db_of shown schema txns []) session (transaction_of txns.active session) table (λ own. new)
+lone_over shown schema txns session table new =
+    no_rivals_of (db_of shown schema txns []) session (transaction_of txns.active session) table (λ own. new)
 
 -- INSERT of a row that has no rival
 abbrev pub inserted_alone : Shown → Schema → Transactions → ℕ → ℕ → List Value → Result (RowNo × Transactions) Refusal
@@ -35,7 +39,8 @@ inserted_alone shown schema txns session table values = do
   Ok more
 
 -- UPDATE and DELETE after which no row that is written has a rival
-abbrev pub changed_alone : Shown → Schema → Transactions → ℕ → ℕ → Option (List (ℕ × Value)) → List (List Atom) → Result (ℕ × Transactions) Refusal
+abbrev pub changed_alone : Shown → Schema → Transactions → ℕ → ℕ → Option (List (ℕ × Value)) → List (List Atom)
+    → Result (ℕ × Transactions) Refusal
 changed_alone shown schema txns session table sets only = do
   done ← changed_over shown schema txns session table sets only
   alone ← rows_alone (db_of shown schema txns []) session table sets only

@@ -240,7 +240,7 @@ impl<S: Store + Reader<Ledger = Uncounted> + Drop> Database<S> {
         ensures opened { self.new.opened ≡ self.old.opened }
         ensures opens { self.new.opens ≡ self.old.opens }
         ensures rules { would judge.new ≡ would judge.old }
-        ensures asks { (state judge.new ≡ state judge.old) ⊎ MayAsk (S.shown self.old.store) self.old.stand.db.schema.indexes self.old.stand.db.transactions.active session table only.now }
+        ensures asks { (state judge.new ≡ state judge.old) ⊎ MayAsk (would judge.old) (state judge.old) (state judge.new) (S.shown self.old.store) self.old.stand.db.schema.indexes self.old.stand.db.transactions.active session table only.now }
     {
         let count = match change_rows(
             self.alloc,

@@ -4,8 +4,10 @@ ghost use Rattle.std.specs.List.{AllByRecursion};
 ghost use Rattle.rv_catalog.specs.Schema.{Schema};
 ghost use Rattle.rv_reader.specs.Shown.{Shown};
 ghost use Rattle.rv_access.specs.Given.{TakesPiece, piece_read};
+ghost use Rattle.rv_access.specs.Stepping.{SameCourse};
 ghost use Rattle.rv_judge.specs.Tracing.{CountsRise};
 ghost use Rattle.rv_join.specs.Alone.{IsAlone, TakesOnce};
+ghost use Rattle.rv_join.specs.Levels.{first_of};
 ghost use Rattle.rv_join.specs.Pieces.{TakesAwaited, plan_awaited, plan_pieces, waiting};
 ghost use Rattle.rv_join.specs.Plans.{PlanStays, plan_trace};
 ghost use Rattle.rv_model.specs.declared.transactions.Transaction.{Transaction};
@@ -76,6 +78,7 @@ fn take<R: Reader>(
     ensures ready { IfOk result (TakesPiece (waiting cursor.new.plan)) }
     ensures awaited { plan_awaited cursor.new.plan ≡ plan_awaited cursor.old.plan }
     ensures pieces { plan_pieces cursor.new.plan ≡ plan_pieces cursor.old.plan }
+    ensures course { SameCourse (first_of cursor.old.plan.stack).here (first_of cursor.new.plan.stack).here }
     ensures reads { steps.new ≡ piece_read (waiting cursor.old.plan) steps.old }
     ensures counts { CountsRise (plan_trace cursor.old.plan) (plan_trace cursor.new.plan) steps.old steps.new }
     ensures once { IsAlone cursor.old.plan → TakesOnce (seen_by (R.shown reader.now) cursor.old) steps.old steps.new cursor.old.plan.stack.at cursor.new.plan.stack.at }

@@ -13,7 +13,7 @@ ghost use Rattle.rv_snapshot.specs.Alone.{alone};
 ghost use Rattle.rv_choice.specs.Asked.{CanAsk};
 ghost use Rattle.rv_final.specs.Rest.{qualifying};
 ghost use Rattle.rv_retrieval.specs.Short.{has_short};
-ghost use Rattle.rv_search.specs.Searching.{search_of};
+ghost use Rattle.rv_search.specs.Searching.{Ran, search_of};
 ghost use Rattle.rv_join.specs.Asking.{indexes_from};
 ghost use Rattle.rv_cursor.specs.Left.{seen_at};
 ghost use Rattle.rv_model.specs.Database.{no_index};
@@ -252,6 +252,7 @@ fn rows_seen<R: Reader>(
     requires can { CanAsk (search_of table snap only.now indexes) (seen_at (R.shown reader.now) snap view.now) }
     ensures rows { IfOk result (λ rows. rows.items ≡ qualifying only.now ((seen_at (R.shown reader.now) snap view.now).rows table snap)) }
     ensures stays { would judge.new ≡ would judge.old }
+    ensures ran { (state judge.new ≡ state judge.old) ⊎ Ran (would judge.old) (state judge.old) (state judge.new) (seen_at (R.shown reader.now) snap view.now) (search_of table snap only.now indexes) }
     ensures unasked { has_short (search_of table snap only.now indexes) (seen_at (R.shown reader.now) snap view.now) ≡ true → state judge.new ≡ state judge.old }
 {
     let at = Snapshot { reader, snap };
@@ -292,7 +293,7 @@ fn searched_rows<S: Store + Reader<Ledger = Uncounted>>(
     ensures rows { IfOk result (λ rows. rows.items ≡ met own.now table only.now ((S.shown store.now).rows table)) }
     ensures views { AreViews (S.shown store.now) txns.now.active views.new }
     ensures stays { would judge.new ≡ would judge.old }
-    ensures asks { (state judge.new ≡ state judge.old) ⊎ IsLong (S.shown store.now) own.now table only.now indexes }
+    ensures asks { (state judge.new ≡ state judge.old) ⊎ IsLong (would judge.old) (state judge.old) (state judge.new) (S.shown store.now) own.now table only.now indexes }
 {
     // What a store tells with its newest commit holds of all its rows.
     let _newest = store.last();
@@ -326,7 +327,7 @@ fn met_by<S: Store + Reader<Ledger = Uncounted>>(
     ensures rows { IfOk result (λ rows. rows.items ≡ met own.now table only.now ((S.shown store.now).rows table)) }
     ensures views { AreViews (S.shown store.now) txns.now.active views.new }
     ensures stays { would judge.new ≡ would judge.old }
-    ensures asks { (state judge.new ≡ state judge.old) ⊎ MayAsk (S.shown store.now) catalog.now.indexes txns.now.active session table only.now }
+    ensures asks { (state judge.new ≡ state judge.old) ⊎ MayAsk (would judge.old) (state judge.old) (state judge.new) (S.shown store.now) catalog.now.indexes txns.now.active session table only.now }
 {
     // What a store tells with its newest commit holds of its indexes.
     let _newest = store.last();
@@ -363,7 +364,7 @@ fn due_changes<S: Store + Reader<Ledger = Uncounted>>(
     ensures fault { IfErr result (λ fault. IsFault (changing txns.now session table only.now (option_copied sets.entry) ((S.shown store.now).rows table)) fault) }
     ensures views { AreViews (S.shown store.now) txns.now.active views.new }
     ensures stays { would judge.new ≡ would judge.old }
-    ensures asks { (state judge.new ≡ state judge.old) ⊎ MayAsk (S.shown store.now) catalog.now.indexes txns.now.active session table only.now }
+    ensures asks { (state judge.new ≡ state judge.old) ⊎ MayAsk (would judge.old) (state judge.old) (state judge.new) (S.shown store.now) catalog.now.indexes txns.now.active session table only.now }
 {
     let own = match txns.writing(session) {
         Ok(own) => own,
@@ -403,7 +404,7 @@ pub fn change_rows<S: Store + Reader<Ledger = Uncounted>>(
     ensures tied { IsTied (S.shown store.now) catalog.now txns.new }
     ensures views { AreViews (S.shown store.now) txns.new.active views.new }
     ensures stays { would judge.new ≡ would judge.old }
-    ensures asks { (state judge.new ≡ state judge.old) ⊎ MayAsk (S.shown store.now) catalog.now.indexes txns.old.active session table only.now }
+    ensures asks { (state judge.new ≡ state judge.old) ⊎ MayAsk (would judge.old) (state judge.old) (state judge.new) (S.shown store.now) catalog.now.indexes txns.old.active session table only.now }
 {
     // What a store tells with its newest commit holds of all its rows.
     let _newest = store.last();

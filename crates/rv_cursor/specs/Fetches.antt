@@ -20,10 +20,12 @@ abbrev pub lost_in : List Move → ℕ
 lost_in [] = 0
 lost_in (move ∷ moves) = lost_in moves + lost_of move
 
--- LAW: where the background is over, it stays so, and the records fetched and those left come to no more than before, but for
--- one for each foreground step for which no memory was found
+-- LAW: where the background is over, it stays so, and the records fetched and those left come to no more than before,
+-- but for one for each foreground step for which no memory was found
 abbrev pub MovesFetchFew : Type 0
-MovesFetchFew = (moves : List Move) (would : ℕ → Facts → Ruling) (shown : Shown) (old new : Ruled) → MovesByAll moves would shown old new → IsAlone old.plan → FewFetches (lost_in moves) shown old.plan new.plan
+MovesFetchFew =
+    (moves : List Move) (would : ℕ → Facts → Ruling) (shown : Shown) (old new : Ruled)
+    → MovesByAll moves would shown old new → IsAlone old.plan → FewFetches (lost_in moves) shown old.plan new.plan
 
 -- a plan moved, and found memory for each of its foreground steps
 pub record LosesNone (would : ℕ → Facts → Ruling) (shown : Shown) (old new : Ruled) : Type 0 where
@@ -33,10 +35,16 @@ pub record LosesNone (would : ℕ → Facts → Ruling) (shown : Shown) (old new
 
 -- LAW: so do a FETCH and a turn of it that are answered, and a STEP
 abbrev pub FetchLosesNone : Type 0
-FetchLosesNone = (hand : Option Offer) (most : ℕ) (would : ℕ → Facts → Ruling) (shown : Shown) (old new : Ruled) → FetchMoves hand most would shown old new → LosesNone would shown old new
+FetchLosesNone =
+    (hand : Option Offer) (most : ℕ) (would : ℕ → Facts → Ruling) (shown : Shown) (old new : Ruled)
+    → FetchMoves hand most would shown old new → LosesNone would shown old new
 
 abbrev pub TurnLosesNone : Type 0
-TurnLosesNone = (step : PlanStep) (most : ℕ) (would : ℕ → Facts → Ruling) (shown : Shown) (old new : Ruled) → Turn step most would shown old new → LosesNone would shown old new
+TurnLosesNone =
+    (step : PlanStep) (most : ℕ) (would : ℕ → Facts → Ruling) (shown : Shown) (old new : Ruled)
+    → Turn step most would shown old new → LosesNone would shown old new
 
 abbrev pub StepLosesNone : Type 0
-StepLosesNone = (done : ℕ) (would : ℕ → Facts → Ruling) (shown : Shown) (old new : Ruled) → StepsBacks done would shown old new → LosesNone would shown old new
+StepLosesNone =
+    (done : ℕ) (would : ℕ → Facts → Ruling) (shown : Shown) (old new : Ruled)
+    → StepsBacks done would shown old new → LosesNone would shown old new

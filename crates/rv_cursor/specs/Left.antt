@@ -36,7 +36,8 @@ to_come shown c = plan_rest (seen_by shown c) c.plan
 abbrev pub left : Shown → Open → List Offer
 left shown c = offers_in_order (in_hand c.hand ++ to_come shown c)
 
--- its plan was drawn from what it sees, none that is to come is less than the row in hand, and what was frozen fits the reader
+-- its plan was drawn from what it sees, none that is to come is less than the row in hand, and what was frozen fits
+-- the reader
 pub record CursorFits (shown : Shown) (c : Open) : Type 0 where
   pub at : c.plan.asked.snap ≡ c.snap
   pub plan : PlanFits (seen_by shown c) c.plan

@@ -16,6 +16,7 @@ pub mod Accounting
 pub mod Keeping
 pub mod Numbers
 pub mod OneItem
+pub mod Courses
 pub mod Going
 pub mod Lowering
 pub mod Orders

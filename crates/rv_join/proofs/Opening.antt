@@ -12,14 +12,18 @@ use Rattle.rv_judge.specs.declared.counting.Counts.{Counts}
 use Rattle.rv_final.specs.Work.{Tries}
 use Rattle.rv_final.specs.Rest.{AgreesIn, TakesOut}
 use Rattle.rv_access.specs.declared.access.Access.{Access}
-use Rattle.rv_access.specs.Accesses.{AccessFits, Awaiting, Keeps, Tells, effort, query_of, rest}
+use Rattle.rv_access.specs.Accesses.{AccessFits, Awaiting, Keeps, Tells, effort, query_of, rest, trace_of}
+use Rattle.rv_access.specs.Opened.{Opened}
+use Rattle.rv_judge.specs.Tracing.{CountsAll}
+use Rattle.rv_retrieval.specs.Short.{OnlyLeaves}
+use Rattle.rv_scan.specs.Told.{width}
 use Rattle.rv_join.specs.declared.places.Asked.{Asked}
 use Rattle.rv_join.specs.declared.places.Item.{Item}
 use Rattle.rv_join.specs.declared.level.Level.{Level}
-use Rattle.rv_join.specs.Asking.{AreWide, Asks, CanRun, OpensItem, lives_of, no_item, rows_at}
+use Rattle.rv_join.specs.Asking.{AreWide, Asks, CanRun, OpensItem, item_at, lives_of, no_item, rows_at}
 use Rattle.rv_join.specs.Levels.{LevelFits, below, over_held, over_rest, over_row, still, tables_of, under, widened}
 use Rattle.rv_join.specs.Work.{level_work, row_cost}
-use Rattle.rv_join.specs.Moves.{Descends, LevelStays}
+use Rattle.rv_join.specs.Moves.{Descends, LevelStays, OpensInner}
 use Rattle.rv_join.proofs.Working.{fresh_work, same_le, stays_work}
 use Rattle.rv_join.proofs.Same.{alike_last, alike_wide, flat_filter_same, under_same}
 
@@ -92,6 +96,13 @@ descends a shown old row width outer v held is inside wide opens =
       work = subst (λ n. level_work a shown (record { outer = outer; row = None; here = v }) < row_cost (lives_of a.only) shown a.snap (drop n a.items)) long (fresh_work a shown outer v in_it opens);
       bag = opened_is a shown outer v in_it opens ∙ rw (held, long, is) (under_same a shown (below a old) _ _ (alike_wide a old.outer width row));
     }
+
+-- and it is opened as the rules say, under its number
+pub opens_inner : (a : Asked) (shown : Shown) (opening : ℕ) (c d : Counts) (old : Level) (row : List Value) (outer : List (List Value)) (v : Access)
+    → old.row ≡ Some row → outer ≡ old.outer ++ widened (width (item_at a (length old.outer)).need) row ∷ [] → OpensItem a shown outer v
+    → Opened a.race (query_of v) shown a.cursor opening v → CountsAll (trace_of v) c d → OnlyLeaves c d
+    → OpensInner a shown opening c d old (record { outer = outer; row = None; here = v })
+opens_inner a shown opening c d old row outer v held is opens opened counts only = record { row = row; held = held; over = is; none = refl; asks = opens.asks; opened = opened; counts = counts; only = only }
 
 -- a level that owes what it owed has the same offers
 pub stays_held : (a : Asked) (shown : Shown) (old new : Level) → LevelStays a shown old new → over_held a shown new new.row ≡ over_held a shown old old.row

@@ -79,7 +79,10 @@ table_at s p = slice_index_or s.tables p 0
 -- the indexes over a table, each with its number, which is its position; the first of these has the number given
 abbrev pub indexes_from : ℕ → ℕ → List IndexDef → List (ℕ × List ℕ)
 indexes_from table number [] = []
-indexes_from table number (d ∷ ds) = if nat_eq d.table table then (number, d.columns) ∷ indexes_from table (number + 1) ds else indexes_from table (number + 1) ds
+indexes_from table number (d ∷ ds) =
+    if nat_eq d.table table
+    then (number, d.columns) ∷ indexes_from table (number + 1) ds
+    else indexes_from table (number + 1) ds
 
 abbrev pub is_first : ColRef → Bool
 is_first c = nat_eq c.place 0
@@ -89,7 +92,8 @@ columns_of columns = map (λ (c : ColRef). c.column) columns
 
 -- the order comes from an index: its columns are all of the first FROM item, and an index of its table begins with them
 abbrev pub by_index : Select → List IndexDef → Bool
-by_index s indexes = list_all is_first s.order && begins_any (indexes_from (table_at s 0) 0 indexes) (columns_of s.order)
+by_index s indexes =
+    list_all is_first s.order && begins_any (indexes_from (table_at s 0) 0 indexes) (columns_of s.order)
 
 -- the columns by which an item's rows are to come: only the first item is asked for an order
 abbrev pub order_at : Select → List IndexDef → ℕ → List ℕ
@@ -152,9 +156,11 @@ pub record CanPlan (s : Select) (indexes : List IndexDef) (shown : Shown) (snap 
   pub ascend : (p : ℕ) → p < length s.tables → Ascend (shown.rows (table_at s p) snap)
   pub read : (p : ℕ) → p < length s.tables → CanRead shown (table_at s p) snap
   pub places : (c : ColRef) → select_uses s c ≡ true → c.place < length s.tables
-  pub columns : (c : ColRef) → select_uses s c ≡ true → have_column c.column (shown.rows (table_at s c.place) snap) ≡ true
+  pub columns : (c : ColRef) → select_uses s c ≡ true → have_column c.column (shown.rows (table_at s c.place) snap)
+      ≡ true
   pub numbers : length indexes < 2 ^ 32
-  pub each : (i : ℕ) → i < length indexes → IsIndexAt shown (index_at indexes i).table snap i (index_at indexes i).columns
+  pub each : (i : ℕ) → i < length indexes → IsIndexAt shown (index_at indexes i).table snap i
+      (index_at indexes i).columns
   pub few : (p : ℕ) → p < length s.tables → length (indexes_from (table_at s p) 0 indexes) ≤ 8
 
 -- The same of what the plan keeps, so that each further retrieval can be opened.
@@ -168,7 +174,8 @@ pub record CanRunItem (a : Asked) (shown : Shown) (p : ℕ) : Type 0 where
   pub columns : (c : ℕ) → stands_among (item_at a p).need c ≡ true → have_column c (rows_at a shown p) ≡ true
   pub few : length (item_at a p).indexes ≤ 8
   pub different : IsDistinct nat_eq (map (λ (i : ℕ × List ℕ). i.0) (item_at a p).indexes)
-  pub indexes : AllByRecursion (λ (i : ℕ × List ℕ). IsIndexAt shown (item_at a p).table a.snap i.0 i.1) (item_at a p).indexes
+  pub indexes : AllByRecursion (λ (i : ℕ × List ℕ). IsIndexAt shown (item_at a p).table a.snap i.0 i.1)
+      (item_at a p).indexes
   pub need : (c : ℕ) → asked_uses a (col_at p c) ≡ true → stands_among (item_at a p).need c ≡ true
   pub ordered : ((item_at a p).order ≡ []) ⊎ (begins_any (item_at a p).indexes (item_at a p).order ≡ true)
   pub within : (c : ℕ) → stands_among (item_at a p).order c ≡ true → stands_among (item_at a p).need c ≡ true
@@ -203,7 +210,8 @@ pub record Asks (a : Asked) (outer : List (List Value)) (query : Query) : Type 0
   pub item : AsksItem a (length outer) query
   pub only : query.only ≡ bound (length outer) outer a.only
   pub binds : (row : List Value) → qualifies query.only row ≡ holds a.only (length outer) (outer ++ row ∷ [])
-  pub names : (p : ℕ → Bool) → names_only (passes_at (length outer) p) (taken (length outer) a.only) ≡ true → names_only (passes_home p) query.only ≡ true
+  pub names : (p : ℕ → Bool) → names_only (passes_at (length outer) p) (taken (length outer) a.only) ≡ true
+      → names_only (passes_home p) query.only ≡ true
 
 -- how many lives an access to an item may have: one, and one for each branch that a group may have
 abbrev pub lives_of : List (List Atom) → ℕ
@@ -220,4 +228,5 @@ pub record OpensItem (a : Asked) (shown : Shown) (outer : List (List Value)) (v 
   pub awaiting : Awaiting v
   pub tells : Tells v
   pub life : effort v shown ≤ item_life (lives_of a.only) shown a.snap (item_at a (length outer))
-  pub rest_is : rest v shown ≡ filter (λ (r : Record). holds a.only (length outer) (outer ++ r.values ∷ [])) (rows_at a shown (length outer))
+  pub rest_is : rest v shown ≡ filter (λ (r : Record). holds a.only (length outer) (outer ++ r.values ∷ []))
+      (rows_at a shown (length outer))

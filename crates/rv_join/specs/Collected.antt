@@ -1,4 +1,5 @@
--- Offers that are gathered: the values of all of them stand one behind another in one list, those of an offer's order first.
+-- Offers that are gathered: the values of all of them stand one behind another in one list, those of an offer's order
+-- first.
 use Rattle.std.specs.Prelude.{◌≡◌, ℕ, ◌+◌, ◌<◌, ◌≤◌, ◌^◌, Bool, List, length, take, drop, map, reverse}
 use Rattle.std.specs.List.{All}
 use Rattle.std.specs.Ordering.{is_lt}
@@ -18,7 +19,8 @@ run values start count = take count (drop start values)
 
 -- the offer whose values begin at a place
 abbrev pub offer_at : Widths → List Value → ℕ → Offer
-offer_at w values start = record { order = run values start w.order; returned = run values (start + w.order) w.returned }
+offer_at w values start =
+    record { order = run values start w.order; returned = run values (start + w.order) w.returned }
 
 -- THE OFFERS whose values begin at some places, the one of the last place first
 abbrev pub offers_at : Widths → List Value → List ℕ → List Offer

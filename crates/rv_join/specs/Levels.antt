@@ -101,7 +101,8 @@ widened width row = row ++ replicate (width - length row) Null
 
 -- the inner level is opened over the row that is held
 abbrev pub down : Stacked → Level → Stacked
-down v inner = record { above = v.above ++ (record v.at { row = None }) ∷ []; at = inner; openings = raised v.openings 1 }
+down v inner =
+    record { above = v.above ++ (record v.at { row = None }) ∷ []; at = inner; openings = raised v.openings 1 }
 
 -- the row that is held was used
 abbrev pub used : Stacked → Stacked

@@ -1,21 +1,25 @@
 -- What the calls do to open levels: whatever they answer, the bag of offers stays but for an offer that is given.
-use Rattle.std.specs.Prelude.{◌≡◌, ◌⊎◌, ℕ, ◌+◌, ◌<◌, ◌≤◌, length, List, [], ◌∷◌, None, IsSome}
+use Rattle.std.specs.Prelude.{◌≡◌, ◌⊎◌, ℕ, ◌+◌, ◌<◌, ◌≤◌, length, List, [], ◌∷◌, ◌++◌, None, Some, IsSome}
 use Rattle.std.specs.List.{flat_map}
 use Rattle.std.specs.List.Sorted.{IsPermutation}
+use Rattle.rv_value.specs.declared.value.Value.{Value}
 use Rattle.rv_model.specs.declared.state.Offer.{Offer}
 use Rattle.rv_reader.specs.Shown.{Shown}
 use Rattle.rv_judge.specs.declared.counting.Counts.{Counts}
 use Rattle.rv_access.specs.declared.access.Access.{Access}
-use Rattle.rv_access.specs.Accesses.{rest, trace_of}
-use Rattle.rv_judge.specs.Tracing.{CountsRise}
+use Rattle.rv_access.specs.Accesses.{query_of, rest, trace_of}
+use Rattle.rv_access.specs.Opened.{Opened}
+use Rattle.rv_judge.specs.Tracing.{CountsAll, CountsRise}
+use Rattle.rv_retrieval.specs.Short.{OnlyLeaves}
+use Rattle.rv_scan.specs.Told.{width}
 use Rattle.rv_join.specs.declared.places.Asked.{Asked}
 use Rattle.rv_join.specs.declared.level.Level.{Level}
 use Rattle.rv_join.specs.declared.level.Caught.{Caught}
 use Rattle.rv_join.specs.declared.level.Caught.TheVariants.{Ready, Ended, Worked}
 use Rattle.rv_join.specs.declared.stack.Moved.{Moved}
 use Rattle.rv_join.specs.declared.stack.Moved.TheVariants.{Gave, Done, Moving}
-use Rattle.rv_join.specs.Levels.{AllFit, LevelFits, Stacked, StackFits, bag, over_held, still, tables_of, under}
-use Rattle.rv_join.specs.Asking.{lives_of}
+use Rattle.rv_join.specs.Levels.{AllFit, LevelFits, Stacked, StackFits, bag, over_held, still, tables_of, under, widened}
+use Rattle.rv_join.specs.Asking.{Asks, item_at, lives_of}
 use Rattle.rv_join.specs.Collected.{HasWidths, widths_of}
 use Rattle.rv_join.specs.Work.{items_below, level_work, levels_work, loops_work, row_cost}
 use Rattle.rv_join.specs.Order.{IsByFirst, IsLeastOf, Led, LevelLed}
@@ -52,6 +56,20 @@ pub record Descends (a : Asked) (shown : Shown) (old new : Level) : Type 0 where
   pub none : new.row ≡ None
   pub work : level_work a shown new < row_cost (lives_of a.only) shown a.snap (items_below a old)
   pub bag : still a shown new ≡ over_held a shown old old.row
+
+-- THE ACCESS OF AN INNER FROM ITEM, opened over the rows chosen before it and the one that is held: it is asked what
+-- the plan asks of that item; which it is, and what it scans, go by the rules, with a race where the plan is asked
+-- for one; its pieces bear the cursor's number and that of this opening. The opening reads leaves alone, and they are
+-- the counts of its trace.
+pub record OpensInner (a : Asked) (shown : Shown) (opening : ℕ) (before after : Counts) (old new : Level) : Type 0 where
+  pub row : List Value
+  pub held : old.row ≡ Some row
+  pub over : new.outer ≡ old.outer ++ widened (width (item_at a (length old.outer)).need) row ∷ []
+  pub none : new.row ≡ None
+  pub asks : Asks a new.outer (query_of new.here)
+  pub opened : Opened a.race (query_of new.here) shown a.cursor opening new.here
+  pub counts : CountsAll (trace_of new.here) before after
+  pub only : OnlyLeaves before after
 
 -- the bag stays
 pub record Kept (a : Asked) (shown : Shown) (old new : Stacked) : Type 0 where
@@ -90,7 +108,9 @@ pub record LevelsStay (a : Asked) (shown : Shown) (place : ℕ) (old new : List 
 abbrev pub SameFirst : Asked → Shown → List Level → List Level → Type 0
 SameFirst a shown [] new = new ≡ []
 SameFirst a shown (f ∷ ls) [] = ⊥
-SameFirst a shown (f ∷ ls) (g ∷ ms) = (over_held a shown g g.row ≡ over_held a shown f f.row) × (flat_map (still a shown) ms ≡ flat_map (still a shown) ls)
+SameFirst a shown (f ∷ ls) (g ∷ ms) =
+    (over_held a shown g g.row ≡ over_held a shown f f.row)
+    × (flat_map (still a shown) ms ≡ flat_map (still a shown) ls)
 
 -- a stack was called, and owes what it owed
 pub record StackStays (a : Asked) (shown : Shown) (old new : Stacked) : Type 0 where

@@ -44,7 +44,8 @@ plan_awaited p = awaited (waiting p)
 -- what a give answers, and that a stale piece changes nothing
 abbrev pub GivesPiece : Planned → Pieced → Given → Planned → Type 0
 GivesPiece old piece Accepted new = AwaitsPiece (waiting old) piece
-GivesPiece old piece (Stale asked now) new = ¬ AwaitsPiece (waiting old) piece × (asked ≡ piece.id) × (now ≡ plan_awaited old) × (new ≡ old)
+GivesPiece old piece (Stale asked now) new =
+    ¬ AwaitsPiece (waiting old) piece × (asked ≡ piece.id) × (now ≡ plan_awaited old) × (new ≡ old)
 
 -- what a take answers of the awaited piece
 abbrev pub TakesAwaited : Planned → Taken → Type 0
@@ -55,7 +56,8 @@ TakesAwaited p Nothing = plan_awaited p ≡ None
 abbrev pub stack_builds : Stacked → Bool
 stack_builds v = list_any (λ (l : Level). is_building (control_of l.here)) v.above || is_building (control_of v.at.here)
 
--- THE NUMBER OF THE NEXT PIECE: over one FROM item that of its retrieval, over several those of the open retrievals added
+-- THE NUMBER OF THE NEXT PIECE: over one FROM item that of its retrieval, over several those of the open retrievals
+-- added
 abbrev pub pieces_in : List Level → Level → ℕ
 pieces_in [] at = number_of at.here
 pieces_in (l ∷ ls) at = raised (number_of l.here) (pieces_in ls at)

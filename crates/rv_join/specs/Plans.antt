@@ -64,11 +64,19 @@ pub record AreReads (t : Trace) (reads : Counts) : Type 0 where
 
 -- what a call has read, added
 abbrev pub reads_with : Counts → Counts → Counts → Counts
-reads_with reads before after = record { pages = raised reads.pages (after.pages - before.pages); leaves = raised reads.leaves (after.leaves - before.leaves); records = raised reads.records (after.records - before.records) }
+reads_with reads before after = record {
+  pages = raised reads.pages (after.pages - before.pages);
+  leaves = raised reads.leaves (after.leaves - before.leaves);
+  records = raised reads.records (after.records - before.records);
+}
 
 -- the events of the first FROM item's retrieval, with the counts of all retrievals of the plan
 abbrev pub plan_trace : Planned → Trace
-plan_trace p = record (trace_of (first_of p.stack).here) { pages = p.reads.pages; leaves = p.reads.leaves; fetches = p.reads.records }
+plan_trace p = record (trace_of (first_of p.stack).here) {
+  pages = p.reads.pages;
+  leaves = p.reads.leaves;
+  fetches = p.reads.records;
+}
 
 -- the numbers of indexes
 abbrev pub numbers_of : List (ℕ × List ℕ) → List ℕ
@@ -92,7 +100,8 @@ pub record PlanFits (shown : Shown) (p : Planned) : Type 0 where
 
 -- over one FROM item a call of the one retrieval was made, or none was
 abbrev pub RisesAlone : Planned → Planned → Counts → Counts → Type 0
-RisesAlone old new before after = length old.asked.items ≡ 1 → Rises (first_of old.stack).here (first_of new.stack).here before after
+RisesAlone old new before after =
+    length old.asked.items ≡ 1 → Rises (first_of old.stack).here (first_of new.stack).here before after
 
 -- one goes out, and none that stays comes before it
 pub record GivesOne (o : Offer) (old new : List Offer) : Type 0 where
@@ -139,12 +148,14 @@ step_of Moving = Working
 -- Gathering.
 
 -- a step that gathers, and one at which all are gathered
-pub record GathersMore (a : Asked) (shown : Shown) (old : Stacked) (had : List Offer) (new : Stacked) (has : List Offer) : Type 0 where
+pub record GathersMore (a : Asked) (shown : Shown) (old : Stacked) (had : List Offer) (new : Stacked)
+    (has : List Offer) : Type 0 where
   pub fits : StackFits a shown new
   pub bag : IsPermutation (had ++ bag a shown old) (has ++ bag a shown new)
   pub work : loops_work a shown new < loops_work a shown old
 
-pub record GathersAll (a : Asked) (shown : Shown) (old : Stacked) (had : List Offer) (new : Stacked) (has : List Offer) : Type 0 where
+pub record GathersAll (a : Asked) (shown : Shown) (old : Stacked) (had : List Offer) (new : Stacked)
+    (has : List Offer) : Type 0 where
   pub kept : Kept a shown old new
   pub none : bag a shown old ≡ []
   pub offers : has ≡ had

@@ -12,7 +12,9 @@ use Rattle.rv_access.specs.Opened.{unites}
 -- by whether members are put together
 abbrev pub StandsBy : Bool → Shown → Choice → Access → Type 0
 StandsBy true shown choice v = (strategy_of v ≡ Union) × AreUnited (query_of v) shown (planned_of v)
-StandsBy false shown choice v = (strategy_of v ≡ choice.strategy) × AreScans (query_of v).only (candidates_of (query_of v) shown) choice.background (planned_of v)
+StandsBy false shown choice v =
+    (strategy_of v ≡ choice.strategy)
+    × AreScans (query_of v).only (candidates_of (query_of v) shown) choice.background (planned_of v)
 
 -- ITS STRATEGY AND PLANNED SCANS ARE THOSE OF THE FIVE RULES, for what it was asked; where the table would be read
 -- and a group serves, they are those of a union

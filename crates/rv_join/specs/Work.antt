@@ -13,7 +13,8 @@ use Rattle.rv_join.specs.Levels.{Stacked}
 -- gives at most the rows of its table, and ends
 abbrev pub row_cost : ℕ → Shown → ℕ → List Item → ℕ
 row_cost lives shown snap [] = 1
-row_cost lives shown snap (i ∷ is) = item_life lives shown snap i + 2 + length (shown.rows i.table snap) * row_cost lives shown snap is
+row_cost lives shown snap (i ∷ is) =
+    item_life lives shown snap i + 2 + length (shown.rows i.table snap) * row_cost lives shown snap is
 
 abbrev pub items_below : Asked → Level → List Item
 items_below a l = drop (length l.outer + 1) a.items
@@ -24,7 +25,9 @@ held_rows (Some row) = 1
 
 -- the effort of its retrieval, its end, and what the rows may cost that it holds or has still to give
 abbrev pub level_work : Asked → Shown → Level → ℕ
-level_work a shown l = effort l.here shown + 1 + (held_rows l.row + length (rest l.here shown)) * row_cost (lives_of a.only) shown a.snap (items_below a l)
+level_work a shown l =
+    effort l.here shown + 1
+    + (held_rows l.row + length (rest l.here shown)) * row_cost (lives_of a.only) shown a.snap (items_below a l)
 
 abbrev pub levels_work : Asked → Shown → List Level → ℕ
 levels_work a shown [] = 0

@@ -79,7 +79,7 @@ impl Gathered {
         ensures gathers { IfOk result (λ all. Gathers all asked.now (R.shown reader.now) stack.old self.old.offers stack.new self.new.offers) }
         ensures alone { length asked.now.items ≡ 1 → Rises (first_of stack.old).here (first_of stack.new).here steps.old steps.new }
         ensures stays { would judge.new ≡ would judge.old }
-        ensures asks { StackAsks (would judge.old) (state judge.old) (state judge.new) (R.shown reader.now) steps.old stack.old stack.new }
+        ensures asks { StackAsks (would judge.old) (state judge.old) (state judge.new) asked.now (R.shown reader.now) steps.old steps.new stack.old stack.new }
         ensures once { length asked.now.items ≡ 1 → StepsOnce (would judge.old) (state judge.old) (state judge.new) (R.shown reader.now) steps.old steps.new stack.old.at stack.new.at }
         ensures spends { length asked.now.items ≡ 1 → IfOk result (λ all. GatherSpends all steps.old steps.new (level_effort (R.shown reader.now) stack.old.at) (level_effort (R.shown reader.now) stack.new.at)) }
         ensures fetches { length asked.now.items ≡ 1 → OnOk result (Fetches (R.shown reader.now) steps.old steps.new stack.old.at.here stack.new.at.here) }

@@ -5,11 +5,12 @@ ghost use Rattle.rv_restrict.specs.Bind.{rows_reads};
 ghost use Rattle.rv_reader.specs.Shown.{Shown};
 ghost use Rattle.rv_scan.specs.Told.{width};
 ghost use Rattle.rv_retrieval.specs.Shape.{is_building};
+ghost use Rattle.rv_retrieval.specs.Short.{OnlyLeaves};
 ghost use Rattle.rv_access.specs.Accesses.{control_of};
 ghost use Rattle.rv_join.specs.Alone.{Fetches, LevelSpends, StepsOnce};
 ghost use Rattle.rv_join.specs.Asking.{CanRun, item_at};
 ghost use Rattle.rv_join.specs.Levels.{LevelFits, offered, widened};
-ghost use Rattle.rv_join.specs.Moves.{Catches, Descends, LevelStays, Rises};
+ghost use Rattle.rv_join.specs.Moves.{Catches, Descends, LevelStays, OpensInner, Rises};
 ghost use Rattle.rv_model.specs.Offering.{picked_over};
 ghost use Rattle.rv_join.specs.Pieces.{is_waiting};
 
@@ -245,7 +246,9 @@ impl Level {
         requires fits { LevelFits asked.now (R.shown reader.now) self.now }
         requires holds { self.now.row ≡ Rattle.std.specs.Prelude.Some row.now }
         requires inside { length self.now.outer + 1 < length asked.now.items }
-        ensures { IfOk result (Descends asked.now (R.shown reader.now) self.now) }
+        ensures descends { IfOk result (Descends asked.now (R.shown reader.now) self.now) }
+        ensures opens { IfOk result (OpensInner asked.now (R.shown reader.now) opening steps.old steps.new self.now) }
+        ensures only { OnlyLeaves steps.old steps.new }
     {
         let outer = self.wide_rows(alloc, asked, row)?;
         let here = open_item(alloc, reader, asked, outer.as_slice(), opening, steps)?;

@@ -4,6 +4,7 @@ ghost use Rattle.std.specs.List.Sorted.{IsPermutation};
 ghost use Rattle.rv_judge.specs.Runs.{Allowed};
 ghost use Rattle.rv_reader.specs.Shown.{Shown};
 ghost use Rattle.rv_access.specs.Accesses.{AccessFits, SamePlans, Settled, fetches_left, held_of, query_of, trace_of};
+ghost use Rattle.rv_access.specs.Stepping.{SameCourse};
 ghost use Rattle.rv_access.specs.Opened.{is_race};
 ghost use Rattle.rv_access.specs.Given.{Answers, CountsPiece, GivesOn, TakesPiece, awaited, piece_read};
 ghost use Rattle.rv_judge.specs.Tracing.{CountsAll, CountsRise, SameCounts};
@@ -210,7 +211,7 @@ impl Plan {
         ensures moves { IfOk result (λ m. Moves self.old.asked (R.shown reader.now) m self.old.stack self.new.stack) }
         ensures alone { length self.old.asked.items ≡ 1 → Rises (first_of self.old.stack).here (first_of self.new.stack).here steps.old steps.new }
         ensures stays { would judge.new ≡ would judge.old }
-        ensures asks { PlanAsks (would judge.old) (state judge.old) (state judge.new) (R.shown reader.now) steps.old self.old self.new }
+        ensures asks { PlanAsks (would judge.old) (state judge.old) (state judge.new) (R.shown reader.now) steps.old steps.new self.old self.new }
         ensures once { length self.old.asked.items ≡ 1 → StepsOnce (would judge.old) (state judge.old) (state judge.new) (R.shown reader.now) steps.old steps.new self.old.stack.at self.new.stack.at }
         ensures spends { length self.old.asked.items ≡ 1 → IfOk result (λ m. MovedSpends m steps.old steps.new (level_effort (R.shown reader.now) self.old.stack.at) (level_effort (R.shown reader.now) self.new.stack.at)) }
         ensures fetches { length self.old.asked.items ≡ 1 → OnOk result (Fetches (R.shown reader.now) steps.old steps.new self.old.stack.at.here self.new.stack.at.here) }
@@ -234,7 +235,7 @@ impl Plan {
         ensures gathers { IfOk result (λ all. Gathers all self.old.asked (R.shown reader.now) self.old.stack self.old.gathered self.new.stack self.new.gathered) }
         ensures alone { length self.old.asked.items ≡ 1 → Rises (first_of self.old.stack).here (first_of self.new.stack).here steps.old steps.new }
         ensures stays { would judge.new ≡ would judge.old }
-        ensures asks { PlanAsks (would judge.old) (state judge.old) (state judge.new) (R.shown reader.now) steps.old self.old self.new }
+        ensures asks { PlanAsks (would judge.old) (state judge.old) (state judge.new) (R.shown reader.now) steps.old steps.new self.old self.new }
         ensures once { length self.old.asked.items ≡ 1 → StepsOnce (would judge.old) (state judge.old) (state judge.new) (R.shown reader.now) steps.old steps.new self.old.stack.at self.new.stack.at }
         ensures spends { length self.old.asked.items ≡ 1 → IfOk result (λ all. GatherSpends all steps.old steps.new (level_effort (R.shown reader.now) self.old.stack.at) (level_effort (R.shown reader.now) self.new.stack.at)) }
         ensures fetches { length self.old.asked.items ≡ 1 → OnOk result (Fetches (R.shown reader.now) steps.old steps.new self.old.stack.at.here self.new.stack.at.here) }
@@ -285,7 +286,7 @@ impl Plan {
     }
 
     /// Takes the awaited piece of the retrieval of a place, where it awaits one.
-    #[tactic(auto, using(crate::proofs::Numbers::still_waits, crate::proofs::Keeping::still_stays, crate::proofs::Accounting::rises_none, rv_access::proofs::Accesses::plans_stay, crate::proofs::OneItem::still_once, rv_access::proofs::Accesses::none_read))]
+    #[tactic(auto, using(crate::proofs::Numbers::still_waits, crate::proofs::Keeping::still_stays, crate::proofs::Accounting::rises_none, rv_access::proofs::Accesses::plans_stay, crate::proofs::Courses::course_stays, crate::proofs::OneItem::still_once, rv_access::proofs::Accesses::none_read))]
     pub(crate) fn take_at<R: Reader>(
         &mut self,
         at: usize,
@@ -301,6 +302,7 @@ impl Plan {
         ensures stays { StackFits self.old.asked (R.shown reader.now) self.old.stack → StackStays self.old.asked (R.shown reader.now) self.old.stack self.new.stack }
         ensures waits { StackAwaits self.old.stack self.new.stack }
         ensures plans { SamePlans (first_of self.old.stack).here (first_of self.new.stack).here }
+        ensures course { SameCourse (first_of self.old.stack).here (first_of self.new.stack).here }
         ensures once { self.old.stack.above ≡ [] → TakesOnce (R.shown reader.now) steps.old steps.new self.old.stack.at self.new.stack.at }
         ensures spends { self.old.stack.above ≡ [] → IfOk result (λ t. Spends steps.old steps.new (level_effort (R.shown reader.now) self.old.stack.at) (level_effort (R.shown reader.now) self.new.stack.at)) }
         ensures none { awaited (level_at self.old.stack at).here ≡ None → (result ≡ Ok Taken.Nothing) × (self.new ≡ self.old) × (steps.new ≡ steps.old) }

@@ -8,17 +8,19 @@ ghost use Rattle.rv_join.specs.Alone.{Fetches, GoesOn, LevelSpends, MovedSpends,
 ghost use Rattle.rv_join.specs.Asking.{Asks, CanRun};
 ghost use Rattle.rv_join.specs.Collected.{HasWidths, widths_of};
 ghost use Rattle.rv_join.specs.Levels.{AllFit, LevelFits, StackFits, Stacked, bag, down, first_in, first_of, is_last, offered, still, used};
-ghost use Rattle.rv_join.specs.Moves.{Catches, Descends, GivesWide, Kept, LevelStays, LevelsStay, Moves, Rises, SameFirst, StackStays, Starts};
+ghost use Rattle.rv_join.specs.Moves.{Catches, Descends, GivesWide, Kept, LevelStays, LevelsStay, Moves, OpensInner, Rises, SameFirst, StackStays, Starts};
 ghost use Rattle.rv_join.specs.Pieces.{LevelsAwait, StackAwaits, is_waiting, level_at, pieces_in, stack_builds, waits};
 ghost use Rattle.rv_join.specs.Work.{levels_work, loops_work};
 ghost use Rattle.rv_join.specs.declared.level.Level.{Level as TheLevel};
 ghost use Rattle.rv_jscan.specs.declared.piece.PieceId.{PieceId as Id};
-ghost use Rattle.rv_judge.specs.Counting.{reads};
+ghost use Rattle.rv_judge.specs.Counting.{raised, reads};
+ghost use Rattle.rv_judge.specs.declared.counting.Counts.{Counts as TheCounts};
 ghost use Rattle.rv_retrieval.specs.Effort.{GiveSpends};
 ghost use Rattle.rv_retrieval.specs.Short.{OnlyLeaves, has_short};
 ghost use Rattle.rv_retrieval.specs.Shape.{is_building};
 ghost use Rattle.rv_access.specs.Accesses.{AccessFits, SamePlans, Settled, control_of, effort, fetches_left, held_of, query_of, trace_of};
 ghost use Rattle.rv_access.specs.Given.{Answers, CountsPiece, GivesOn, SamePieces, TakesPiece, piece_read};
+ghost use Rattle.rv_access.specs.Stepping.{SameCourse};
 ghost use Rattle.rv_access.specs.Opened.{Opened, is_race, life_of};
 ghost use Rattle.rv_judge.specs.Tracing.{CountsAll, CountsRise, SameCounts};
 
@@ -187,7 +189,9 @@ impl Stack {
         requires fits { LevelFits asked.now (R.shown reader.now) self.now.at }
         requires some { IsSome self.now.at.row }
         requires inside { length self.now.at.outer + 1 < length asked.now.items }
-        ensures { IfOk result (Descends asked.now (R.shown reader.now) self.now.at) }
+        ensures descends { IfOk result (Descends asked.now (R.shown reader.now) self.now.at) }
+        ensures opens { IfOk result (OpensInner asked.now (R.shown reader.now) (raised self.now.openings 1) steps.old steps.new self.now.at) }
+        ensures only { OnlyLeaves steps.old steps.new }
     {
         match &self.at.row {
             Some(row) => {
@@ -281,7 +285,7 @@ impl Stack {
         ensures moves { IfOk result (λ m. Moves asked.now (R.shown reader.now) m self.old self.new) }
         ensures wide { IfOk result (GivesWide asked.now) }
         ensures first { (first_of self.new).here ≡ (first_of self.old).here }
-        ensures goes { GoesOn self.old self.new }
+        ensures goes { GoesOn asked.now (R.shown reader.now) steps.old steps.new self.old self.new }
         ensures err { OnErr result (self.new ≡ self.old) }
     {
         let inner = self.inner(alloc, reader, asked, steps)?;
@@ -322,7 +326,7 @@ impl Stack {
         ensures alone { length asked.now.items ≡ 1 → ((first_of self.new).here ≡ (first_of self.old).here) × (steps.new ≡ steps.old) }
         ensures used { length asked.now.items ≡ 1 → OnOk result (self.new ≡ used self.old) }
         ensures first { (first_of self.new).here ≡ (first_of self.old).here }
-        ensures goes { GoesOn self.old self.new }
+        ensures goes { GoesOn asked.now (R.shown reader.now) steps.old steps.new self.old self.new }
         ensures err { OnErr result (self.new ≡ self.old) }
     {
         if self.is_last(asked) {
@@ -340,7 +344,7 @@ impl Stack {
         ensures alone { self.old.above ≡ [] → self.new ≡ self.old }
         ensures first { first_of self.new ≡ first_of self.old }
         ensures done { self.old.above ≡ [] → result ≡ Moved.Done }
-        ensures goes { GoesOn self.old self.new }
+        ensures goes { (a : TheAsked) (shown : Shown) (c : TheCounts) → GoesOn a shown c c self.old self.new }
     {
         if self.climb() {
             Moved::Moving
@@ -366,7 +370,7 @@ impl Stack {
         ensures wide { IfOk result (GivesWide asked.now) }
         ensures alone { length asked.now.items ≡ 1 → Rises (first_of self.old).here (first_of self.new).here steps.old steps.new }
         ensures stays { would judge.new ≡ would judge.old }
-        ensures asks { StackAsks (would judge.old) (state judge.old) (state judge.new) (R.shown reader.now) steps.old self.old self.new }
+        ensures asks { StackAsks (would judge.old) (state judge.old) (state judge.new) asked.now (R.shown reader.now) steps.old steps.new self.old self.new }
         ensures once { length asked.now.items ≡ 1 → StepsOnce (would judge.old) (state judge.old) (state judge.new) (R.shown reader.now) steps.old steps.new self.old.at self.new.at }
         ensures spends { length asked.now.items ≡ 1 → IfOk result (λ m. MovedSpends m steps.old steps.new (level_effort (R.shown reader.now) self.old.at) (level_effort (R.shown reader.now) self.new.at)) }
         ensures fetches { length asked.now.items ≡ 1 → OnOk result (Fetches (R.shown reader.now) steps.old steps.new self.old.at.here self.new.at.here) }
@@ -396,6 +400,7 @@ fn take_level<R: Reader>(
     ensures stays { (a : TheAsked) → LevelFits a (R.shown reader.now) level.old → LevelStays a (R.shown reader.now) level.old level.new }
     ensures waits { SamePieces level.old.here level.new.here }
     ensures plans { SamePlans level.old.here level.new.here }
+    ensures course { SameCourse level.old.here level.new.here }
     ensures once { TakesOnce (R.shown reader.now) steps.old steps.new level.old level.new }
     ensures spends { IfOk result (λ t. Spends steps.old steps.new (level_effort (R.shown reader.now) level.old) (level_effort (R.shown reader.now) level.new)) }
 {
@@ -419,6 +424,7 @@ fn take_at<R: Reader>(
     ensures led { (a : TheAsked) → AllFit a (R.shown reader.now) 0 levels.old.items → SameFirst a (R.shown reader.now) levels.old.items levels.new.items }
     ensures waits { LevelsAwait levels.old.items levels.new.items }
     ensures plans { (d : TheLevel) → SamePlans (first_in levels.old.items d).here (first_in levels.new.items d).here }
+    ensures course { (d : TheLevel) → SameCourse (first_in levels.old.items d).here (first_in levels.new.items d).here }
 {
     take_level(reader, &mut levels[at], steps)
 }
@@ -468,6 +474,7 @@ impl Stack {
         ensures stays { (a : TheAsked) → StackFits a (R.shown reader.now) self.old → StackStays a (R.shown reader.now) self.old self.new }
         ensures waits { StackAwaits self.old self.new }
         ensures plans { SamePlans (first_of self.old).here (first_of self.new).here }
+        ensures course { SameCourse (first_of self.old).here (first_of self.new).here }
         ensures once { self.old.above ≡ [] → TakesOnce (R.shown reader.now) steps.old steps.new self.old.at self.new.at }
         ensures spends { self.old.above ≡ [] → IfOk result (λ t. Spends steps.old steps.new (level_effort (R.shown reader.now) self.old.at) (level_effort (R.shown reader.now) self.new.at)) }
     {

@@ -2,6 +2,7 @@
 ghost use Rattle.std.specs.Prelude.{◌≡◌, ℕ, None, Ok, IfOk, OnErr, OnOk};
 ghost use Rattle.rv_reader.specs.Shown.{Shown};
 ghost use Rattle.rv_access.specs.Accesses.{SamePlans, Settled, held_of};
+ghost use Rattle.rv_access.specs.Stepping.{SameCourse};
 ghost use Rattle.rv_access.specs.Given.{CountsPiece, GivesOn, TakesPiece, piece_read};
 ghost use Rattle.rv_judge.specs.Tracing.{CountsRise, SameCounts};
 ghost use Rattle.rv_judge.specs.declared.counting.Counts.{Counts as TheCounts};
@@ -44,7 +45,7 @@ impl Plan {
         ensures holds { HoldsGood (R.shown reader.now) self.new }
         ensures alone { RisesAlone self.old self.new steps.old steps.new }
         ensures stays { would judge.new ≡ would judge.old }
-        ensures asks { PlanAsks (would judge.old) (state judge.old) (state judge.new) (R.shown reader.now) steps.old self.old self.new }
+        ensures asks { PlanAsks (would judge.old) (state judge.old) (state judge.new) (R.shown reader.now) steps.old steps.new self.old self.new }
         ensures once { IsAlone self.old → StepsOnce (would judge.old) (state judge.old) (state judge.new) (R.shown reader.now) steps.old steps.new self.old.stack.at self.new.stack.at }
         ensures spends { IsAlone self.old → IfOk result (λ m. PlanSpends m steps.old steps.new (plan_effort (R.shown reader.now) self.old) (plan_effort (R.shown reader.now) self.new)) }
         ensures fetches { IsAlone self.old → OnOk result (Fetches (R.shown reader.now) steps.old steps.new self.old.stack.at.here self.new.stack.at.here) }
@@ -70,7 +71,7 @@ impl Plan {
         ensures holds { HoldsGood (R.shown reader.now) self.new }
         ensures alone { RisesAlone self.old self.new steps.old steps.new }
         ensures stays { would judge.new ≡ would judge.old }
-        ensures asks { PlanAsks (would judge.old) (state judge.old) (state judge.new) (R.shown reader.now) steps.old self.old self.new }
+        ensures asks { PlanAsks (would judge.old) (state judge.old) (state judge.new) (R.shown reader.now) steps.old steps.new self.old self.new }
         ensures once { IsAlone self.old → StepsOnce (would judge.old) (state judge.old) (state judge.new) (R.shown reader.now) steps.old steps.new self.old.stack.at self.new.stack.at }
         ensures spends { IsAlone self.old → IfOk result (λ m. PlanSpends m steps.old steps.new (plan_effort (R.shown reader.now) self.old) (plan_effort (R.shown reader.now) self.new)) }
         ensures fetches { IsAlone self.old → OnOk result (Fetches (R.shown reader.now) steps.old steps.new self.old.stack.at.here self.new.stack.at.here) }
@@ -110,7 +111,7 @@ impl Plan {
         ensures holds { HoldsGood (R.shown reader.now) self.new }
         ensures alone { RisesAlone self.old self.new steps.old steps.new }
         ensures stays { would judge.new ≡ would judge.old }
-        ensures asks { PlanAsks (would judge.old) (state judge.old) (state judge.new) (R.shown reader.now) steps.old self.old self.new }
+        ensures asks { PlanAsks (would judge.old) (state judge.old) (state judge.new) (R.shown reader.now) steps.old steps.new self.old self.new }
         ensures once { IsAlone self.old → StepsOnce (would judge.old) (state judge.old) (state judge.new) (R.shown reader.now) steps.old steps.new self.old.stack.at self.new.stack.at }
         ensures spends { IsAlone self.old → IfOk result (λ m. PlanSpends m steps.old steps.new (plan_effort (R.shown reader.now) self.old) (plan_effort (R.shown reader.now) self.new)) }
         ensures fetches { IsAlone self.old → OnOk result (Fetches (R.shown reader.now) steps.old steps.new self.old.stack.at.here self.new.stack.at.here) }
@@ -139,7 +140,7 @@ impl Plan {
         requires fits { PlanFits (R.shown reader.now) self.old }
         ensures counts { CountsRise (plan_trace self.old) (plan_trace self.new) steps.old steps.new }
         ensures stays { would judge.new ≡ would judge.old }
-        ensures asks { PlanAsks (would judge.old) (state judge.old) (state judge.new) (R.shown reader.now) steps.old self.old self.new }
+        ensures asks { PlanAsks (would judge.old) (state judge.old) (state judge.new) (R.shown reader.now) steps.old steps.new self.old self.new }
         ensures once { IsAlone self.old → StepsOnce (would judge.old) (state judge.old) (state judge.new) (R.shown reader.now) steps.old steps.new self.old.stack.at self.new.stack.at }
         ensures spends { IsAlone self.old → IfOk result (λ m. PlanSpends m steps.old steps.new (plan_effort (R.shown reader.now) self.old) (plan_effort (R.shown reader.now) self.new)) }
         ensures few { IsAlone self.old → OnOk result (FewFetches 0 (R.shown reader.now) self.old self.new) }
@@ -172,6 +173,7 @@ impl Plan {
         ensures place { waits self.new.stack ≡ waits self.old.stack }
         ensures awaited { plan_awaited self.new ≡ plan_awaited self.old }
         ensures pieces { plan_pieces self.new ≡ plan_pieces self.old }
+        ensures course { SameCourse (first_of self.old.stack).here (first_of self.new.stack).here }
         ensures once { IsAlone self.old → TakesOnce (R.shown reader.now) steps.old steps.new self.old.stack.at self.new.stack.at }
         ensures spends { IsAlone self.old → IfOk result (λ t. Spends steps.old steps.new (plan_effort (R.shown reader.now) self.old) (plan_effort (R.shown reader.now) self.new)) }
         ensures none { plan_awaited self.old ≡ None → (result ≡ Ok Taken.Nothing) × (self.new ≡ self.old) × (steps.new ≡ steps.old) }

@@ -1,5 +1,5 @@
 //! The rows of a table for which a restriction is True.
-ghost use Rattle.std.specs.Prelude.{◌≡◌, ℕ, ◌+◌, ◌<◌, ◌≤◌, List, [], ◌∷◌, ◌++◌, length, true, false, not, IfOk, OnOk, IsPermutation};
+ghost use Rattle.std.specs.Prelude.{◌≡◌, ◌⊎◌, ℕ, ◌+◌, ◌<◌, ◌≤◌, List, [], ◌∷◌, ◌++◌, length, true, false, not, IfOk, OnOk, OnErr, IsPermutation};
 ghost use Rattle.std.specs.List.{AllByRecursion};
 ghost use Rattle.rv_judge.specs.Counting.{reads, record_read};
 ghost use Rattle.rv_value.specs.Ranges.{is_whole};
@@ -9,8 +9,9 @@ ghost use Rattle.rv_choice.specs.Asked.{CanAsk};
 ghost use Rattle.rv_final.specs.Rest.{qualifying};
 ghost use Rattle.rv_retrieval.specs.Effort.{Awaiting, effort, life_of};
 ghost use Rattle.rv_retrieval.specs.Shape.{RetrievalFits, rest};
+ghost use Rattle.rv_retrieval.specs.Runs.{Tells};
 ghost use Rattle.rv_retrieval.specs.Short.{Settled, fetches_left, has_short};
-ghost use Rattle.rv_search.specs.Searching.{Gathers, OnlyRecords, any_narrows, numbers, rows_of, search_of};
+ghost use Rattle.rv_search.specs.Searching.{Gathers, GoesOut, GoesSome, OnlyRecords, Ran, RanFetched, RanOut, StepsOn, any_narrows, numbers, rows_of, search_of};
 
 use crate::named::columns_named;
 use rv_choice::{Goal2, Query};
@@ -83,11 +84,15 @@ fn forward<R: Reader>(
 ) -> Result<bool, NoMemory>
     requires fits { RetrievalFits retrieval.old (R.shown reader.now) }
     requires awaiting { Awaiting retrieval.old }
+    requires tells { Tells retrieval.old }
     ensures gathers { OnOk result (Gathers (R.shown reader.now) steps.old steps.new found.old.items found.new.items retrieval.old retrieval.new) }
     ensures nearer { IfOk result (λ ended. ended ≡ false → effort retrieval.new (R.shown reader.now) < effort retrieval.old (R.shown reader.now)) }
     ensures ends { IfOk result (λ ended. ended ≡ true → rest retrieval.new (R.shown reader.now) ≡ []) }
     ensures pages { Settled retrieval.old → steps.new.pages ≡ steps.old.pages }
     ensures unasked { Settled retrieval.old → state judge.new ≡ state judge.old }
+    ensures tells { Tells retrieval.new }
+    ensures does { IfOk result (λ ended. StepsOn ended (would judge.old) (state judge.old) (state judge.new) (R.shown reader.now) steps.old steps.new retrieval.old retrieval.new) }
+    ensures lost { OnErr result (GoesSome (would judge.old) (state judge.old) (state judge.new) (R.shown reader.now) steps.old retrieval.old) }
     ensures stays { would judge.new ≡ would judge.old }
 {
     match retrieval.fg_step(reader, judge, steps)? {
@@ -110,11 +115,14 @@ fn gather<R: Reader>(
 ) -> Result<(), NoMemory>
     requires fits { RetrievalFits retrieval.old (R.shown reader.now) }
     requires awaiting { Awaiting retrieval.old }
+    requires tells { Tells retrieval.old }
     ensures found { OnOk result (IsPermutation (found.old.items ++ numbers (rest retrieval.old (R.shown reader.now))) found.new.items) }
     ensures reads { OnOk result (reads steps.new ≤ reads steps.old + effort retrieval.old (R.shown reader.now)) }
     ensures pages { Settled retrieval.old → steps.new.pages ≡ steps.old.pages }
     ensures records { Settled retrieval.old → OnOk result (steps.new.records ≤ steps.old.records + fetches_left retrieval.old (R.shown reader.now)) }
     ensures unasked { Settled retrieval.old → state judge.new ≡ state judge.old }
+    ensures ran { OnOk result (GoesOut (would judge.old) (state judge.old) (state judge.new) (R.shown reader.now) steps.old steps.new retrieval.old) }
+    ensures lost { OnErr result (GoesSome (would judge.old) (state judge.old) (state judge.new) (R.shown reader.now) steps.old retrieval.old) }
     ensures stays { would judge.new ≡ would judge.old }
 {
     'turns: loop {
@@ -134,11 +142,14 @@ fn gathered_of<R: Reader>(
 ) -> Result<Vec<RowNo>, NoMemory>
     requires fits { RetrievalFits retrieval.old (R.shown reader.now) }
     requires awaiting { Awaiting retrieval.old }
+    requires tells { Tells retrieval.old }
     ensures found { IfOk result (λ found. IsPermutation (numbers (rest retrieval.old (R.shown reader.now))) found.items) }
     ensures reads { OnOk result (reads steps.new ≤ reads steps.old + effort retrieval.old (R.shown reader.now)) }
     ensures pages { Settled retrieval.old → steps.new.pages ≡ steps.old.pages }
     ensures records { Settled retrieval.old → OnOk result (steps.new.records ≤ steps.old.records + fetches_left retrieval.old (R.shown reader.now)) }
     ensures unasked { Settled retrieval.old → state judge.new ≡ state judge.old }
+    ensures ran { OnOk result (GoesOut (would judge.old) (state judge.old) (state judge.new) (R.shown reader.now) steps.old steps.new retrieval.old) }
+    ensures lost { OnErr result (GoesSome (would judge.old) (state judge.old) (state judge.new) (R.shown reader.now) steps.old retrieval.old) }
     ensures stays { would judge.new ≡ would judge.old }
 {
     let mut found = Vec::new(alloc);
@@ -164,6 +175,8 @@ fn gathered<R: Reader>(
     ensures records { has_short query (R.shown reader.now) ≡ true → OnOk result (steps.new.records ≤ steps.old.records + 20) }
     ensures few { query.order ≡ [] → has_short query (R.shown reader.now) ≡ true → IfOk result (λ found. length found.items ≤ 20) }
     ensures unasked { has_short query (R.shown reader.now) ≡ true → state judge.new ≡ state judge.old }
+    ensures ran { OnOk result (RanOut (would judge.old) (state judge.old) (state judge.new) (R.shown reader.now) steps.old steps.new query) }
+    ensures lost { OnErr result ((state judge.new ≡ state judge.old) ⊎ Ran (would judge.old) (state judge.old) (state judge.new) (R.shown reader.now) query) }
     ensures stays { would judge.new ≡ would judge.old }
 {
     let mut retrieval = Retrieval::open(alloc, reader, query, 0, 0, steps)?;
@@ -194,6 +207,8 @@ pub fn find<R: Reader>(
     ensures records { has_short (search_of table snap only.now indexes) (R.shown reader.now) ≡ true → OnOk result (steps.new.records ≤ steps.old.records + 20) }
     ensures few { has_short (search_of table snap only.now indexes) (R.shown reader.now) ≡ true → IfOk result (λ found. length found.items ≤ 20) }
     ensures unasked { has_short (search_of table snap only.now indexes) (R.shown reader.now) ≡ true → state judge.new ≡ state judge.old }
+    ensures ran { OnOk result (RanOut (would judge.old) (state judge.old) (state judge.new) (R.shown reader.now) steps.old steps.new (search_of table snap only.now indexes)) }
+    ensures lost { OnErr result ((state judge.new ≡ state judge.old) ⊎ Ran (would judge.old) (state judge.old) (state judge.new) (R.shown reader.now) (search_of table snap only.now indexes)) }
     ensures stays { would judge.new ≡ would judge.old }
 {
     let query = search_of(alloc, table, snap, only, indexes)?;
@@ -262,6 +277,8 @@ pub fn found_rows<R: Reader>(
     ensures pages { has_short (search_of table snap only.now indexes) (R.shown reader.now) ≡ true → OnOk result (steps.new.pages ≡ steps.old.pages) }
     ensures records { has_short (search_of table snap only.now indexes) (R.shown reader.now) ≡ true → OnOk result (steps.new.records ≤ steps.old.records + 40) }
     ensures unasked { has_short (search_of table snap only.now indexes) (R.shown reader.now) ≡ true → state judge.new ≡ state judge.old }
+    ensures ran { IfOk result (λ rows. RanFetched (length rows.items) (would judge.old) (state judge.old) (state judge.new) (R.shown reader.now) steps.old steps.new (search_of table snap only.now indexes)) }
+    ensures lost { OnErr result ((state judge.new ≡ state judge.old) ⊎ Ran (would judge.old) (state judge.old) (state judge.new) (R.shown reader.now) (search_of table snap only.now indexes)) }
     ensures stays { would judge.new ≡ would judge.old }
 {
     let found = find(alloc, reader, table, snap, only, indexes, judge, steps)?;

@@ -18,6 +18,7 @@ returns-clause-taken g c = if_ok_two c.take.result _ _ _ (λ taken answers ready
     calls = record { here = c.at_mut.ensures.value; called = refl; same = c.take.ensures.same };
     awaited = c.take.ensures.awaited;
     pieces = c.take.ensures.pieces;
+    course = c.take.ensures.course;
     reads = c.take.ensures.reads;
     counts = c.take.ensures.counts;
     once = c.take.ensures.once;

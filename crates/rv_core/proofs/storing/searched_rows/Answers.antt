@@ -36,10 +36,10 @@ pub returns-in_err-rows-clause-asks : goal.returns-in_err-rows-clause-asks
 returns-in_err-rows-clause-asks g c =
     let shown = g.S.Reader.shown c.args.store.now in
     let own = c.args.own.now in
-    asks_long shown own c.args.table c.args.only.now c.args.indexes c.in_ok-view.view _ _ (search_freezes shown c.args.txns.now c.args.session own c.in_ok-view.view c.requires.writes c.in_ok-view.ensures.freezes) c.rows_seen.ensures.unasked
+    asks_long _ shown own c.args.table c.args.only.now c.args.indexes c.in_ok-view.view _ _ (search_freezes shown c.args.txns.now c.args.session own c.in_ok-view.view c.requires.writes c.in_ok-view.ensures.freezes) c.rows_seen.ensures.ran c.rows_seen.ensures.unasked
 
 pub returns-clause-asks : goal.returns-clause-asks
 returns-clause-asks g c =
     let shown = g.S.Reader.shown c.args.store.now in
     let own = c.args.own.now in
-    asks_long shown own c.args.table c.args.only.now c.args.indexes c.in_ok-view.view _ _ (search_freezes shown c.args.txns.now c.args.session own c.in_ok-view.view c.requires.writes c.in_ok-view.ensures.freezes) c.rows_seen.ensures.unasked
+    asks_long _ shown own c.args.table c.args.only.now c.args.indexes c.in_ok-view.view _ _ (search_freezes shown c.args.txns.now c.args.session own c.in_ok-view.view c.requires.writes c.in_ok-view.ensures.freezes) c.rows_seen.ensures.ran c.rows_seen.ensures.unasked

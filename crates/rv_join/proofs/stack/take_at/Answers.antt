@@ -1,4 +1,5 @@
 use Rattle.rv_join.proofs.OneItem.{list_plans}
+use Rattle.rv_join.proofs.Courses.{list_course}
 use Rattle.rv_join.proofs.Calls.{levels_at}
 use Rattle.rv_join.proofs.Numbers.{levels_wait}
 use Rattle.rv_join.proofs.stack.take_at.Goals as goal
@@ -14,3 +15,6 @@ returns-clause-waits g c = levels_wait c.args.levels.now.items c.args.at c.index
 
 pub returns-clause-plans : goal.returns-clause-plans
 returns-clause-plans g c = list_plans c.args.levels.now.items c.args.at c.index_mut.result.now c.take_level.new.level c.requires.at c.index_mut.ensures.value c.take_level.ensures.plans
+
+pub returns-clause-course : goal.returns-clause-course
+returns-clause-course g c = list_course c.args.levels.now.items c.args.at c.index_mut.result.now c.take_level.new.level c.requires.at c.index_mut.ensures.value c.take_level.ensures.course

@@ -1,4 +1,4 @@
-use Rattle.std.proofs.Common.{◌∙◌, ◌+◌, ◌≤◌, ℕ, List, ap, arith, length, subst, sym}
+use Rattle.std.proofs.Common.{◌∙◌, ◌+◌, ◌≤◌, ℕ, List, ap, arith, inr, length, subst, sym}
 use Rattle.std.proofs.lemmas.List.{length-map}
 use Rattle.rv_value.specs.declared.record.Record.{Record}
 use Rattle.rv_value.specs.declared.record.RowNo.{RowNo}
@@ -6,7 +6,8 @@ use Rattle.rv_judge.specs.Counting.{reads}
 use Rattle.rv_restrict.specs.Truth.{qualifies}
 use Rattle.rv_final.specs.Rest.{qualifying}
 use Rattle.rv_retrieval.specs.Effort.{life_of}
-use Rattle.rv_search.specs.Searching.{rows_of, search_of}
+use Rattle.rv_search.specs.Searching.{OnlyRecords, rows_of, search_of}
+use Rattle.rv_search.proofs.Goings.{ran_of}
 use Rattle.rv_search.proofs.Fetching.{found_again}
 use Rattle.rv_search.proofs.Gathering.{reads_and}
 use Rattle.rv_search.proofs.search.found_rows.Goals as goal
@@ -36,3 +37,17 @@ returns-clause-records g c = λ short.
     let fetched = c.rows_of.ensures.only.records in
     let long = ap (λ (ns : List RowNo). length ns) c.as_slice.ensures.value in
     omega (arith, few, searched, fetched, long))
+
+pub returns-clause-ran : goal.returns-clause-ran
+returns-clause-ran g c =
+    let due = qualifying c.args.only.now ((g.R.Reader.shown c.args.reader.now).rows c.args.table c.args.snap) in
+    let owed = ap (λ (ns : List RowNo). length ns) (c.as_slice.ensures.value ∙ c.in_ok-found.ensures.found) ∙ length-map due (λ (r : Record). r.row) in
+    let given = ap (λ (rs : List Record). length rs) (returns-clause-rows g c) in
+    record {
+      counts = c.find.new.steps;
+      ran = c.in_ok-found.ensures.ran;
+      fetched = subst (λ (n : ℕ). OnlyRecords n c.find.new.steps c.rows_of.new.steps) (owed ∙ sym given) c.rows_of.ensures.only;
+    }
+
+pub returns-in_err-rows-clause-lost : goal.returns-in_err-rows-clause-lost
+returns-in_err-rows-clause-lost g c = inr (ran_of _ _ _ (g.R.Reader.shown c.args.reader.now) c.args.steps.now c.find.new.steps (search_of c.args.table c.args.snap c.args.only.now c.args.indexes) c.in_ok-found.ensures.ran)

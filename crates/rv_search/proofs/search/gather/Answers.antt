@@ -1,10 +1,13 @@
 use Rattle.std.proofs.Common.{◌∙◌, refl}
 use Rattle.rv_search.proofs.Gathering.{gathers_all, gathers_begun, gathers_on, gathers_reads, gathers_records}
+use Rattle.rv_search.proofs.Goings.{goes_none, goes_on, goes_out, some_on}
 use Rattle.rv_search.proofs.search.gather.Goals as goal
 
 pub turns-init : goal.turns-init
 turns-init g c = record {
   gathers = gathers_begun (g.R.Reader.shown c.args.reader.now) c.args.steps.now c.args.found.now.items c.args.retrieval.now c.requires.fits c.requires.awaiting;
+  tells = c.requires.tells;
+  goes = goes_none _ _ (g.R.Reader.shown c.args.reader.now) c.args.steps.now c.args.retrieval.now;
   rule = refl;
   unasked = λ settled. refl;
 }
@@ -14,6 +17,8 @@ turns-preserved g c =
     let before = c.turns.invariant in
     record {
       gathers = gathers_on (g.R.Reader.shown c.args.reader.now) c.args.steps.now c.turns.steps c.forward.new.steps c.args.found.now.items c.turns.found.items c.forward.new.found.items c.args.retrieval.now c.turns.retrieval c.forward.new.retrieval before.gathers c.in_ok-forward.ensures.gathers;
+      tells = c.forward.ensures.tells;
+      goes = goes_on _ _ _ _ _ (g.R.Reader.shown c.args.reader.now) c.args.steps.now c.turns.steps c.forward.new.steps c.args.retrieval.now c.turns.retrieval c.forward.new.retrieval before.rule before.goes (rw c.if-branch.false at c.in_ok-forward.ensures.does);
       rule = c.forward.ensures.stays ∙ before.rule;
       unasked = λ settled. (c.forward.ensures.unasked (before.gathers.settled settled) ∙ before.unasked settled);
     }
@@ -51,3 +56,9 @@ returns-in_err-forward-clause-pages g c = λ settled. (c.forward.ensures.pages (
 
 pub returns-in_err-forward-clause-unasked : goal.returns-in_err-forward-clause-unasked
 returns-in_err-forward-clause-unasked g c = λ settled. (c.forward.ensures.unasked (c.turns.invariant.gathers.settled settled) ∙ c.turns.invariant.unasked settled)
+
+pub returns-then-branch-clause-ran : goal.returns-then-branch-clause-ran
+returns-then-branch-clause-ran g c = goes_out _ _ _ _ _ (g.R.Reader.shown c.args.reader.now) c.args.steps.now c.turns.steps c.forward.new.steps c.args.retrieval.now c.turns.retrieval c.forward.new.retrieval c.turns.invariant.rule c.turns.invariant.goes (rw c.if-branch.true at c.in_ok-forward.ensures.does)
+
+pub returns-in_err-forward-clause-lost : goal.returns-in_err-forward-clause-lost
+returns-in_err-forward-clause-lost g c = some_on _ _ _ _ _ (g.R.Reader.shown c.args.reader.now) c.args.steps.now c.turns.steps c.args.retrieval.now c.turns.retrieval c.turns.invariant.rule c.turns.invariant.goes c.in_err-forward.ensures.lost

@@ -1,4 +1,4 @@
-use Rattle.std.proofs.Common.{◌+◌, ◌≤◌, List, IfOk, ap, subst, ◌∙◌}
+use Rattle.std.proofs.Common.{◌+◌, ◌≤◌, List, IfOk, ap, inl, refl, subst, ◌∙◌}
 use Rattle.std.specs.Prelude.{IsPermutation}
 use Rattle.rv_value.specs.declared.record.RowNo.{RowNo}
 use Rattle.rv_judge.specs.Counting.{reads}
@@ -8,10 +8,11 @@ use Rattle.rv_retrieval.specs.Short.{fetches_left}
 use Rattle.rv_search.specs.Searching.{numbers}
 use Rattle.rv_search.proofs.Few.{few_found, few_owed, if_ok}
 use Rattle.rv_search.proofs.Gathering.{ok_anyway, ok_more, reads_from, records_from}
+use Rattle.rv_search.proofs.Goings.{ran_lost, ran_out}
 use Rattle.rv_search.proofs.search.gathered.Goals as goal
 
 pub gathered_of-found-requires : goal.gathered_of-found-requires
-gathered_of-found-requires g c = record { fits = c.in_ok-retrieval.ensures.fits; awaiting = c.in_ok-retrieval.ensures.awaiting }
+gathered_of-found-requires g c = record { fits = c.in_ok-retrieval.ensures.fits; awaiting = c.in_ok-retrieval.ensures.awaiting; tells = c.in_ok-retrieval.ensures.tells }
 
 pub returns-clause-found : goal.returns-clause-found
 returns-clause-found g c =
@@ -40,3 +41,12 @@ returns-clause-few g c = λ unordered short.
     let v = c.in_ok-retrieval.retrieval in
     let owed = few_owed c.args.query shown 0 0 v unordered c.in_ok-retrieval.ensures.opened c.in_ok-retrieval.ensures.fits (c.in_ok-retrieval.ensures.short short) in
     if_ok c.gathered_of-found.result (λ found. IsPermutation (numbers (rest v shown)) found.items) _ (λ found all. few_found (rest v shown) found.items owed all) c.gathered_of-found.ensures.found)
+
+pub returns-in_err-retrieval-clause-lost : goal.returns-in_err-retrieval-clause-lost
+returns-in_err-retrieval-clause-lost g c = inl refl
+
+pub returns-clause-ran : goal.returns-clause-ran
+returns-clause-ran g c = ran_out c.gathered_of-found.result _ _ _ (g.R.Reader.shown c.args.reader.now) c.args.steps.now c.open.new.steps c.gathered_of-found.new.steps c.args.query c.in_ok-retrieval.retrieval c.in_ok-retrieval.ensures.opened c.open.ensures.only c.gathered_of-found.ensures.ran
+
+pub returns-clause-lost : goal.returns-clause-lost
+returns-clause-lost g c = ran_lost c.gathered_of-found.result _ _ _ (g.R.Reader.shown c.args.reader.now) c.open.new.steps c.args.query c.in_ok-retrieval.retrieval c.in_ok-retrieval.ensures.opened c.gathered_of-found.ensures.lost

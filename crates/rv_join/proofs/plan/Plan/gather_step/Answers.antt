@@ -18,10 +18,10 @@ returns-in_ok-sort-clause-holds g c =
     given_fits c.give_next.result shown c.sort.new.self c.give_next.new.self good (ap (λ (p : Planned). p.stage) c.in_ok-sort.ensures.ok.same) c.give_next.ensures.given c.give_next.ensures.err c.give_next.ensures.same
 
 pub returns-in_err-sort-clause-asks : goal.returns-in_err-sort-clause-asks
-returns-in_err-sort-clause-asks g c = asks_then _ _ _ _ _ c.args.self.now c.gather.new.self c.sort.new.self c.gather.ensures.asks (ap (λ (p : Planned). p.stack) c.in_err-sort.ensures.err)
+returns-in_err-sort-clause-asks g c = asks_then _ _ _ _ _ _ c.args.self.now c.gather.new.self c.sort.new.self c.gather.ensures.asks (ap (λ (p : Planned). p.stack) c.in_err-sort.ensures.err)
 
 pub returns-in_ok-sort-clause-asks : goal.returns-in_ok-sort-clause-asks
-returns-in_ok-sort-clause-asks g c = asks_then _ _ _ _ _ c.args.self.now c.gather.new.self c.give_next.new.self c.gather.ensures.asks (ap (λ (p : Planned). p.stack) c.give_next.ensures.same ∙ ap (λ (p : Planned). p.stack) c.in_ok-sort.ensures.ok.same)
+returns-in_ok-sort-clause-asks g c = asks_then _ _ _ _ _ _ c.args.self.now c.gather.new.self c.give_next.new.self c.gather.ensures.asks (ap (λ (p : Planned). p.stack) c.give_next.ensures.same ∙ ap (λ (p : Planned). p.stack) c.in_ok-sort.ensures.ok.same)
 
 pub returns-in_err-sort-clause-once : goal.returns-in_err-sort-clause-once
 returns-in_err-sort-clause-once g c = once_then _ _ _ _ _ _ c.args.self.now c.gather.new.self c.sort.new.self c.gather.ensures.once (ap (λ (p : Planned). p.stack) c.in_err-sort.ensures.err)

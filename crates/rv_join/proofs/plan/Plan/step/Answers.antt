@@ -19,7 +19,7 @@ pub returns-clause-err : goal.returns-clause-err
 returns-clause-err g c = counted_kept (g.R.Reader.shown c.args.reader.now) c.stage_step-stepped.result c.args.self.now c.stage_step-stepped.new.self c.count.new.self _ c.stage_step-stepped.ensures.err c.count.ensures.same
 
 pub returns-clause-asks : goal.returns-clause-asks
-returns-clause-asks g c = asks_then _ _ _ _ _ c.args.self.now c.stage_step-stepped.new.self c.count.new.self c.stage_step-stepped.ensures.asks (ap (λ (p : Planned). p.stack) c.count.ensures.same)
+returns-clause-asks g c = asks_then _ _ _ _ _ _ c.args.self.now c.stage_step-stepped.new.self c.count.new.self c.stage_step-stepped.ensures.asks (ap (λ (p : Planned). p.stack) c.count.ensures.same)
 
 pub returns-clause-once : goal.returns-clause-once
 returns-clause-once g c = once_then _ _ _ _ _ _ c.args.self.now c.stage_step-stepped.new.self c.count.new.self c.stage_step-stepped.ensures.once (ap (λ (p : Planned). p.stack) c.count.ensures.same)

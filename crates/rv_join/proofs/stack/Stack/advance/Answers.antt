@@ -85,16 +85,16 @@ pub returns-in-Ready-clause-spends : goal.returns-in-Ready-clause-spends
 returns-in-Ready-clause-spends g c = λ one. (let spends = c.in_ok-ready.ensures.spends in uses_spends c.use_row.result (g.R.Reader.shown c.args.reader.now) c.args.steps.now c.ready.new.steps c.use_row.new.steps c.args.self.now.at c.ready.new.self c.use_row.new.self (c.use_row.ensures.used one) (c.use_row.ensures.alone one).1 (rw c.in-Ready.is at spends))
 
 pub returns-in_err-ready-clause-asks : goal.returns-in_err-ready-clause-asks
-returns-in_err-ready-clause-asks g c = calls_at _ _ _ _ _ _ c.args.self.now c.ready.new.self c.ready.ensures.same c.ready.ensures.once
+returns-in_err-ready-clause-asks g c = calls_at _ _ _ _ _ _ _ c.args.self.now c.ready.new.self c.ready.ensures.same c.ready.ensures.once
 
 pub returns-in-Worked-clause-asks : goal.returns-in-Worked-clause-asks
-returns-in-Worked-clause-asks g c = calls_at _ _ _ _ _ _ c.args.self.now c.ready.new.self c.ready.ensures.same c.ready.ensures.once
+returns-in-Worked-clause-asks g c = calls_at _ _ _ _ _ _ _ c.args.self.now c.ready.new.self c.ready.ensures.same c.ready.ensures.once
 
 pub returns-in-Ended-clause-asks : goal.returns-in-Ended-clause-asks
-returns-in-Ended-clause-asks g c = calls_on _ _ _ _ _ _ c.args.self.now c.ready.new.self c.end.new.self c.ready.ensures.same c.ready.ensures.once c.end.ensures.goes
+returns-in-Ended-clause-asks g c = calls_on _ _ _ _ _ _ _ _ c.args.self.now c.ready.new.self c.end.new.self c.ready.ensures.same c.ready.ensures.once (c.end.ensures.goes c.args.asked.now (g.R.Reader.shown c.args.reader.now) c.ready.new.steps)
 
 pub returns-in-Ready-clause-asks : goal.returns-in-Ready-clause-asks
-returns-in-Ready-clause-asks g c = calls_on _ _ _ _ _ _ c.args.self.now c.ready.new.self c.use_row.new.self c.ready.ensures.same c.ready.ensures.once c.use_row.ensures.goes
+returns-in-Ready-clause-asks g c = calls_on _ _ _ _ _ _ _ _ c.args.self.now c.ready.new.self c.use_row.new.self c.ready.ensures.same c.ready.ensures.once c.use_row.ensures.goes
 
 pub returns-in-Worked-clause-fetches : goal.returns-in-Worked-clause-fetches
 returns-in-Worked-clause-fetches g c = λ one. c.in_ok-ready.ensures.fetches

@@ -1,15 +1,16 @@
-use Rattle.rv_join.proofs.Going.{goes_down, goes_not, goes_same}
+use Rattle.std.proofs.Common.{refl}
+use Rattle.rv_join.proofs.Going.{goes_down, goes_fails}
 use Rattle.rv_join.proofs.Stacking.{opens}
 use Rattle.rv_join.proofs.stack.Stack.open_inner.Goals as goal
 
 pub returns-clause-moves : goal.returns-clause-moves
-returns-clause-moves g c = opens c.args.asked.now (g.R.Reader.shown c.args.reader.now) c.args.self.now c.descend.new.self c.in_ok-inner.inner c.requires.fits c.requires.some c.in_ok-inner.ensures c.in_ok-descend.ensures.ok
+returns-clause-moves g c = opens c.args.asked.now (g.R.Reader.shown c.args.reader.now) c.args.self.now c.descend.new.self c.in_ok-inner.inner c.requires.fits c.requires.some c.in_ok-inner.ensures.descends c.in_ok-descend.ensures.ok
 
 pub returns-in_err-inner-clause-goes : goal.returns-in_err-inner-clause-goes
-returns-in_err-inner-clause-goes g c = goes_not c.args.self.now
+returns-in_err-inner-clause-goes g c = goes_fails c.args.asked.now (g.R.Reader.shown c.args.reader.now) c.args.steps.now c.inner.new.steps c.args.self.now c.args.self.now c.inner.ensures.only refl
 
 pub returns-in_err-descend-clause-goes : goal.returns-in_err-descend-clause-goes
-returns-in_err-descend-clause-goes g c = goes_same c.args.self.now c.descend.new.self c.in_err-descend.ensures.err
+returns-in_err-descend-clause-goes g c = goes_fails c.args.asked.now (g.R.Reader.shown c.args.reader.now) c.args.steps.now c.inner.new.steps c.args.self.now c.descend.new.self c.inner.ensures.only c.in_err-descend.ensures.err
 
 pub returns-clause-goes : goal.returns-clause-goes
-returns-clause-goes g c = goes_down c.args.self.now c.descend.new.self c.in_ok-inner.inner c.in_ok-descend.ensures.ok
+returns-clause-goes g c = goes_down c.args.asked.now (g.R.Reader.shown c.args.reader.now) c.args.steps.now c.inner.new.steps c.args.self.now c.descend.new.self c.in_ok-inner.inner c.in_ok-inner.ensures.opens c.in_ok-descend.ensures.ok

@@ -2,6 +2,7 @@ use Rattle.std.proofs.Common.{IfOk, refl, rules, subst, sym}
 use Rattle.rv_access.specs.Given.{TakesPiece}
 use Rattle.rv_join.specs.declared.level.Level.{Level}
 use Rattle.rv_join.proofs.OneItem.{first_plans, none_above}
+use Rattle.rv_join.proofs.Courses.{first_course}
 use Rattle.rv_join.proofs.Calls.{at_past, stays_above, stays_at}
 use Rattle.rv_join.proofs.Numbers.{at_waits}
 use Rattle.rv_join.proofs.stack.Stack.take.Goals as goal
@@ -21,6 +22,9 @@ returns-else-at-len-clause-waits g c = rw (← c.self.view_is) (at_waits (record
 pub returns-then-at-len-clause-plans : goal.returns-then-at-len-clause-plans
 returns-then-at-len-clause-plans g c = rw (← c.self.view_is) (c.take_at.ensures.plans c.self.inside.at)
 
+pub returns-then-at-len-clause-course : goal.returns-then-at-len-clause-course
+returns-then-at-len-clause-course g c = rw (← c.self.view_is) (c.take_at.ensures.course c.self.inside.at)
+
 pub returns-then-at-len-clause-once : goal.returns-then-at-len-clause-once
 returns-then-at-len-clause-once g c = rw (← c.self.view_is) (λ none. none_above c.args.at c.self.inside.above.items (search rules) none)
 
@@ -29,6 +33,9 @@ returns-then-at-len-clause-spends g c = rw (← c.self.view_is) (λ none. none_a
 
 pub returns-else-at-len-clause-plans : goal.returns-else-at-len-clause-plans
 returns-else-at-len-clause-plans g c = rw (← c.self.view_is) (first_plans (record { above = c.self.inside.above.items; at = c.self.inside.at; openings = c.self.inside.openings }) (record { above = c.self.inside.above.items; at = c.take_level.new.level; openings = c.self.inside.openings }) refl c.take_level.ensures.plans)
+
+pub returns-else-at-len-clause-course : goal.returns-else-at-len-clause-course
+returns-else-at-len-clause-course g c = rw (← c.self.view_is) (first_course (record { above = c.self.inside.above.items; at = c.self.inside.at; openings = c.self.inside.openings }) (record { above = c.self.inside.above.items; at = c.take_level.new.level; openings = c.self.inside.openings }) refl c.take_level.ensures.course)
 
 pub returns-else-at-len-clause-once : goal.returns-else-at-len-clause-once
 returns-else-at-len-clause-once g c = rw (← c.self.view_is) (λ none. c.take_level.ensures.once)
