@@ -35,7 +35,8 @@ impl Model for Delivered {
 }
 
 impl Delivered {
-    /// The empty set, with room for 1,024 rows (8 KB), so that no later call takes memory. `NoMemory` where there is none for it.
+    /// The empty set, with room for 1,024 rows (8 KB), so that no later call takes memory. `NoMemory` where there is none
+    /// for it.
     pub fn new(alloc: Global) -> Result<Delivered, NoMemory>
         ensures { IfOk result (λ delivered. delivered ≡ []) }
     {
