@@ -4,6 +4,7 @@ use Rattle.std.proofs.lemmas.Bool.Decides.{nat_tests}
 use Rattle.std.specs.Prelude.{ℕ, ℤ, pos, negsuc, List, [], ◌∷◌, ◌++◌, Bool, true, false, ◌||◌, Option, Some, None, Ok, Err, map, nat_lt, length}
 use Rattle.std.specs.List.{list_any, flat_map}
 use Rattle.std.specs.Option.{unwrap_or, option_to_list}
+use Rattle.rv_believed.proofs.ChangingSame.{pass_same}
 use Rattle.rv_value.specs.declared.value.Value.{Value}
 use Rattle.rv_value.specs.declared.value.Value.TheVariants.{Null, Int, Str}
 use Rattle.rv_lang.specs.declared.statement.RawKind.{RawKind}
@@ -21,7 +22,7 @@ use Rattle.rv_catalog.specs.Answers.{◌>>=◌, refuse_if, all_pass}
 use Rattle.rv_catalog.specs.Limits as today
 use Rattle.rv_believed.specs.Answers.{Test}
 use Rattle.rv_believed.specs.Limits.{literals, column_names, atom_names, names_in, values_in, item_names, at_most, names_fit, value_fits, texts_fit, kind_fits, list_fits, where_fits, is_outside, within_limits}
-use Rattle.rv_believed.proofs.Chains.{all_pass_refuse}
+use Rattle.rv_believed.proofs.Chains.{all_pass_refuse, test_end}
 
 -- ---- Bools and lists
 
@@ -51,20 +52,12 @@ any_flat p q f same (x ∷ xs) = any_append p (f x) (flat_map f xs) ∙ or_two (
 
 -- ---- tests
 
-test_end : (t : Test) → (t >>= (λ u. Ok tt)) ≡ t
-test_end (Ok u) = refl
-test_end (Err e) = refl
-
 both_tests : {a b c d : Test} → a ≡ b → c ≡ d → (a >>= (λ u. c)) ≡ (b >>= (λ u. d))
 both_tests p q = λ i. p i >>= (λ u. q i)
 
-all_same : {A : Type 0} (f g : A → Test) → ((x : A) → f x ≡ g x) → (xs : List A) → all_pass f xs ≡ all_pass g xs
-all_same f g same [] = refl
-all_same f g same (x ∷ xs) = both_tests (same x) (all_same f g same xs)
-
 all_by : {A : Type 0} (f : A → Test) (p : A → Bool) (r : Refusal) → ((x : A) → f x ≡ refuse_if (p x) r)
     → (xs : List A) → all_pass f xs ≡ refuse_if (list_any p xs) r
-all_by f p r same xs = all_same f (λ x. refuse_if (p x) r) same xs ∙ all_pass_refuse p r xs
+all_by f p r same xs = pass_same f (λ x. refuse_if (p x) r) same xs ∙ all_pass_refuse p r xs
 
 -- ---- names
 

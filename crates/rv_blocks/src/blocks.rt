@@ -60,7 +60,6 @@ impl<X: Placed> Blocks<X> {
         }
     }
 
-    /// The number of items.
     pub fn len(&self) -> usize
         ensures same { result ≡ length self.now }
         ensures rise { Rising X.before self.now }
@@ -68,7 +67,6 @@ impl<X: Placed> Blocks<X> {
         self.count
     }
 
-    /// Whether there is no item.
     pub fn is_empty(&self) -> bool
         ensures { result ≡ (length self.now == 0) }
     {
@@ -85,7 +83,7 @@ impl<X: Placed> Blocks<X> {
         count_kept(self.blocks.as_slice(), self.count, test)
     }
 
-    /// The item of a rank.
+    /// The item of a rank, counted from 0 in the order of the items.
     pub fn get(&self, rank: usize) -> &X
         requires { rank < length self.now }
         ensures { slice_get self.now rank ≡ Some result.now }
@@ -116,7 +114,8 @@ impl<X: Placed> Blocks<X> {
         copy_from(self.alloc, self.blocks.as_slice(), self.count, from, most)
     }
 
-    /// An equal list that shares the blocks.
+    /// An equal list that shares the blocks: no item is copied, and a later change of either copies the one block
+    /// that it changes. `NoMemory` where there is no room for the list of blocks.
     pub fn share(&self) -> Result<Blocks<X>, NoMemory>
         ensures { IfOk result (λ shared. shared ≡ self.now) }
     {

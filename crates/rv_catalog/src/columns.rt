@@ -116,7 +116,7 @@ pub fn find_column(
     fit_among(catalog, raw, 0, reach, Fit::Nothing).only_one(alloc, &raw.column)
 }
 
-/// The number of a table's column.
+/// The number of the table's column of a name, from 0. Refused where the table has none.
 pub fn find_own(alloc: Global, catalog: &Catalog, table: u32, name: &Text) -> Result<u32, BindFault>
     ensures { Gives result (own_column catalog.now.tables table name.now) }
 {

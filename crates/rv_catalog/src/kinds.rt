@@ -83,7 +83,7 @@ fn check_set(
     Ok(())
 }
 
-/// Whether each column can hold its new value.
+/// Whether each column can hold its new value: refused at the first, in the order of the SET, that cannot.
 pub fn check_sets(
     alloc: Global,
     catalog: &Catalog,
@@ -206,7 +206,7 @@ fn check_group(
     Ok(())
 }
 
-/// Whether each comparison is of one kind.
+/// Whether each comparison is of one kind: refused at the first, in the order of the text, that is not.
 pub fn check_groups(
     alloc: Global,
     catalog: &Catalog,

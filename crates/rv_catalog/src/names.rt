@@ -45,7 +45,7 @@ impl Catalog {
         }
     }
 
-    /// The tables in order of creation.
+    /// The tables in order of creation, at most 64: a table's number is its place.
     pub fn tables(&self) -> &[TableDef]
         ensures same { result.now ≡ self.now.tables }
         ensures room { length self.now.tables ≤ 64 }
@@ -53,7 +53,7 @@ impl Catalog {
         self.tables.as_slice()
     }
 
-    /// The indexes in order of creation.
+    /// The indexes in order of creation, at most 512: an index's number is its place.
     pub fn indexes(&self) -> &[IndexDef]
         ensures same { result.now ≡ self.now.indexes }
         ensures room { length self.now.indexes ≤ 512 }

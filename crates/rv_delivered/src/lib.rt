@@ -35,7 +35,8 @@ impl Model for Delivered {
 }
 
 impl Delivered {
-    /// The empty set, with all its places.
+    /// The empty set, with room for 1,024 rows (8 KB), so that no later call takes memory. `NoMemory` where there is none
+    /// for it.
     pub fn new(alloc: Global) -> Result<Delivered, NoMemory>
         ensures { IfOk result (λ delivered. delivered ≡ []) }
     {
@@ -44,7 +45,6 @@ impl Delivered {
         })
     }
 
-    /// The number of rows.
     pub fn len(&self) -> u32
         ensures count { result ≡ length self.now }
         ensures room { length self.now ≤ 1024 }
@@ -53,7 +53,6 @@ impl Delivered {
         self.rows.len() as u32
     }
 
-    /// Whether there is no row.
     pub fn is_empty(&self) -> bool
         ensures { result ≡ (length self.now == 0) }
     {
@@ -67,14 +66,14 @@ impl Delivered {
         self.rows.len() == PLACES
     }
 
-    /// Whether a row is in the set.
+    /// Whether a row is in the set, by binary search.
     pub fn has(&self, row: RowNo) -> bool
         ensures { result ≡ has_key row.0 self.now }
     {
         is_among(self.rows.as_slice(), row.0)
     }
 
-    /// Puts a row into the set.
+    /// Puts a row into the set, which has room and does not have it yet. Those above it move up by one place.
     pub fn add(&mut self, row: RowNo)
         requires room { length self.old < 1024 }
         requires fresh { has_key row.0 self.old ≡ false }

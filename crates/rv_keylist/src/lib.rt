@@ -70,7 +70,6 @@ impl KeyList {
         }
     }
 
-    /// The number of keys.
     pub fn len(&self) -> u64
         ensures count { result ≡ length self.now.keys }
         ensures once { Once self.now.keys }
@@ -79,7 +78,6 @@ impl KeyList {
         (self.few.len() + self.many.len()) as u64
     }
 
-    /// Whether there is no key.
     pub fn is_empty(&self) -> bool
         ensures { result ≡ (length self.now.keys == 0) }
     {

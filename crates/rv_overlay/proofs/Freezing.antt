@@ -5,6 +5,7 @@ use Rattle.std.proofs.lemmas.Bool.{cases_Bool, and_parts, or_right}
 use Rattle.std.specs.List.{AllByRecursion, list_all}
 use Rattle.std.specs.Ordering.{is_eq}
 use Rattle.std.proofs.lemmas.List.{length-map}
+use Rattle.rv_overlay.proofs.Members.{has_self}
 use Rattle.rv_reader.proofs.Rows.{applied_ascends}
 use Rattle.rv_value.proofs.Lists.{all_append, all_filter}
 use Rattle.rv_value.specs.declared.value.Value.{Value}
@@ -25,23 +26,19 @@ use Rattle.rv_overlay.specs.Laying.{has}
 use Rattle.rv_overlay.specs.Overlaid.{IsSizeOf, size_of}
 use Rattle.rv_overlay.specs.Rows.{change_of, changed_row}
 use Rattle.rv_overlay.specs.Views.{is_entry}
-use Rattle.rv_overlay.proofs.Counted.{itself_true}
 use Rattle.rv_overlay.proofs.Moving.{adds_is, takes_is}
 use Rattle.rv_overlay.proofs.Placing.{equal_same}
 use Rattle.rv_overlay.proofs.Viewing.{has_entries}
 
 -- Members and lists.
 
-has_first : (x : IndexEntry) (xs : List IndexEntry) → has (x ∷ xs) x ≡ true
-has_first x xs = rw (itself_true x) refl
-
 all_members : (P : IndexEntry → Type 0) (es : List IndexEntry) → ((e : IndexEntry) → has es e ≡ true → P e) → AllByRecursion P es
 all_members P [] h = tt
-all_members P (x ∷ xs) h = (h x (has_first x xs), all_members P xs (λ e k. h e (or_right (is_eq (entry_cmp x e)) (has xs e) k)))
+all_members P (x ∷ xs) h = (h x (has_self x xs), all_members P xs (λ e k. h e (or_right (is_eq (entry_cmp x e)) (has xs e) k)))
 
 tests_members : (p : IndexEntry → Bool) (es : List IndexEntry) → ((e : IndexEntry) → has es e ≡ true → p e ≡ true) → list_all p es ≡ true
 tests_members p [] h = refl
-tests_members p (x ∷ xs) h = rw (h x (has_first x xs)) (tests_members p xs (λ e k. h e (or_right (is_eq (entry_cmp x e)) (has xs e) k)))
+tests_members p (x ∷ xs) h = rw (h x (has_self x xs)) (tests_members p xs (λ e k. h e (or_right (is_eq (entry_cmp x e)) (has xs e) k)))
 
 -- Keys.
 

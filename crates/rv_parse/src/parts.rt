@@ -38,7 +38,7 @@ fn among(words: &[&str], name: &str) -> bool
     words.iter().any(|word| *word == name)
 }
 
-/// Whether both are the same text.
+/// Whether both are the same bytes.
 pub fn same(a: &str, b: &str) -> bool
     ensures { result ≡ bytes_eq a.now b.now }
 {

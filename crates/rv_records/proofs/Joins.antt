@@ -5,6 +5,7 @@ use Rattle.std.proofs.lemmas.Bool.Decides.{nat_tests}
 use Rattle.std.proofs.lemmas.List.Elements.{filter-append}
 use Rattle.std.proofs.lemmas.List.Folds.{list_all-append}
 use Rattle.std.specs.List.{list_all, AllByRecursion}
+use Rattle.rv_rows.proofs.Merges.{all_kept}
 use Rattle.rv_reader.proofs.Rows.{ascend_with}
 use Rattle.rv_value.specs.declared.value.Value.{Value}
 use Rattle.rv_value.specs.declared.record.Record.{Record}
@@ -189,31 +190,25 @@ joined_few page pages k =
 
 -- One page changed.
 
-all_pass : {X : Type 0} (q p : X → Bool) (xs : List X) → list_all q xs ≡ true → ((x : X) → q x ≡ true → p x ≡ true) → filter p xs ≡ xs
-all_pass q p [] all pass = refl
-all_pass q p (x ∷ xs) all pass =
-    let parts = and_parts (q x) (list_all q xs) all in
-    rw (pass x parts.0) (ap (λ ys. x ∷ ys) (all_pass q p xs parts.1 pass))
-
 with_back : (low number : ℕ) (values : Option (List Value)) (front back : List Record) → low ≤ number → list_all (λ (r : Record). nat_lt r.row.0 low) front ≡ true → with_values number values (front ++ back) ≡ front ++ with_values number values back
 with_back low number (Some vs) front back h all =
     let new : Record = record { row = record { 0 = number }; values = vs } in
-    let kept = all_pass (λ (r : Record). nat_lt r.row.0 low) (λ (r : Record). comes_below r new) front all (λ r k. let lower = k in grind (arith, nat_tests)) in
+    let kept = all_kept (λ (r : Record). nat_lt r.row.0 low) (λ (r : Record). comes_below r new) front all (λ r k. let lower = k in grind (arith, nat_tests)) in
     let gone = filter_none (λ (r : Record). nat_lt r.row.0 low) (λ (r : Record). comes_below new r) front all (λ r k. let lower = k in grind (arith, nat_tests)) in
     rw (filter-append (λ (r : Record). comes_below r new) front back, filter-append (λ (r : Record). comes_below new r) front back, kept, gone) (append_assoc front (filter (λ (r : Record). comes_below r new) back) (new ∷ filter (λ (r : Record). comes_below new r) back))
 with_back low number None front back h all =
-    let kept = all_pass (λ (r : Record). nat_lt r.row.0 low) (λ (r : Record). not (r.row.0 == number)) front all (λ r k. let lower = k in grind (arith, nat_tests)) in
+    let kept = all_kept (λ (r : Record). nat_lt r.row.0 low) (λ (r : Record). not (r.row.0 == number)) front all (λ r k. let lower = k in grind (arith, nat_tests)) in
     rw (filter-append (λ (r : Record). not (r.row.0 == number)) front back, kept) refl
 
 with_front : (high number : ℕ) (values : Option (List Value)) (front back : List Record) → number < high → list_all (λ (r : Record). not (nat_lt r.row.0 high)) back ≡ true → with_values number values (front ++ back) ≡ with_values number values front ++ back
 with_front high number (Some vs) front back h all =
     let new : Record = record { row = record { 0 = number }; values = vs } in
-    let kept = all_pass (λ (r : Record). not (nat_lt r.row.0 high)) (λ (r : Record). comes_below new r) back all (λ r k. let lower = k in grind (arith, nat_tests)) in
+    let kept = all_kept (λ (r : Record). not (nat_lt r.row.0 high)) (λ (r : Record). comes_below new r) back all (λ r k. let lower = k in grind (arith, nat_tests)) in
     let gone = filter_none (λ (r : Record). not (nat_lt r.row.0 high)) (λ (r : Record). comes_below r new) back all (λ r k. let lower = k in grind (arith, nat_tests)) in
     rw (filter-append (λ (r : Record). comes_below r new) front back, filter-append (λ (r : Record). comes_below new r) front back, kept, gone)
     (rw (append-nil (filter (λ (r : Record). comes_below r new) front)) (sym (append_assoc (filter (λ (r : Record). comes_below r new) front) (new ∷ filter (λ (r : Record). comes_below new r) front) back)))
 with_front high number None front back h all =
-    let kept = all_pass (λ (r : Record). not (nat_lt r.row.0 high)) (λ (r : Record). not (r.row.0 == number)) back all (λ r k. let lower = k in grind (arith, nat_tests)) in
+    let kept = all_kept (λ (r : Record). not (nat_lt r.row.0 high)) (λ (r : Record). not (r.row.0 == number)) back all (λ r k. let lower = k in grind (arith, nat_tests)) in
     rw (filter-append (λ (r : Record). not (r.row.0 == number)) front back, kept) refl
 
 -- another list of pages: one page with a row's values, or without it, and the others as they were

@@ -3,7 +3,6 @@ use Rattle.std.proofs.Common.{◌≡◌, ℕ, ◌<◌, ◌≤◌, List, [], ◌�
 use Rattle.std.proofs.lemmas.Bool.{cases_Bool, and_parts}
 use Rattle.std.proofs.lemmas.Bool.Decides.{nat_tests}
 use Rattle.std.specs.List.{slice_index_or, list_all, AllWithin}
-use Rattle.std.specs.List.Sorted.{IsPartitionedBy}
 use Rattle.rv_reader.proofs.Rows.{row_behind}
 use Rattle.rv_value.specs.declared.record.Record.{Record}
 use Rattle.rv_rows.specs.Rows.{Ascend, comes_below}
@@ -29,17 +28,6 @@ above_all : (x : Record) (rows : List Record) (i : ℕ) (d : Record) → i < len
 above_all x [] i d h all = absurd (omega arith)
 above_all x (r ∷ rows) zero d h all = (and_parts (comes_below x r) (list_all (comes_below x) rows) all).0
 above_all x (r ∷ rows) (suc i) d h all = above_all x rows i d (omega arith) (and_parts (comes_below x r) (list_all (comes_below x) rows) all).1
-
-below_first : (number : ℕ) (x y : Record) → comes_below x y ≡ true → below number y ≡ true → below number x ≡ true
-below_first number x y h k = grind (arith, nat_tests)
-
--- those below a number stand in front
-pub parted : (number : ℕ) (rows : List Record) → Ascend rows → IsPartitionedBy (below number) rows
-parted number [] ascend i j d l h t = absurd (omega arith)
-parted number (r ∷ rows) ascend zero zero d l h t = t
-parted number (r ∷ rows) ascend zero (suc j) d l h t = below_first number r (slice_index_or rows j d) (above_all r rows j d (omega arith) ascend.0) t
-parted number (r ∷ rows) ascend (suc i) zero d l h t = absurd (omega arith)
-parted number (r ∷ rows) ascend (suc i) (suc j) d l h t = parted number rows ascend.1 i j d (omega arith) (omega arith) t
 
 -- the row of a number is the first one from the number on
 pub first_is : (number : ℕ) (rows : List Record) → Ascend rows → row_from number (filter (λ (r : Record). not (below number r)) rows) ≡ row_at rows number

@@ -26,7 +26,7 @@ fn row_in(rows: &[Record], place: usize, row: RowNo) -> Option<&Record>
     }
 }
 
-/// The row of a number in ascending rows.
+/// The row of a number in ascending rows, found by halves; None where there is none.
 pub fn find_row(rows: &[Record], row: RowNo) -> Option<&Record>
     requires { Ascend rows.now }
     ensures { option_copied result ≡ row_at rows.now row.0 }

@@ -80,7 +80,7 @@ impl Part {
         all_groups(self.groups.as_slice(), &key) == Tri::True
     }
 
-    /// The columns of the index.
+    /// The columns of the index, numbered from 0, in the order of its keys.
     pub fn columns(&self) -> &[u32]
         ensures { result.now ≡ self.now.columns }
     {

@@ -73,7 +73,8 @@ impl Restriction {
         all_groups(self.groups.as_slice(), row)
     }
 
-    /// The truth on rows that have its columns.
+    /// The truth on rows of any kind that have its columns, in three values: the least truth of its groups, each the
+    /// greatest of its atoms. It ends at the first group that is False.
     pub fn truth_on<R: Reads>(&self, rows: &R) -> Tri
         requires { names_only (R.has rows.now) self.now ≡ true }
         ensures { result ≡ truth_by (R.reads rows.now) self.now }
@@ -88,7 +89,7 @@ impl Duplicate for Restriction {
     }
 }
 
-/// Copies of all groups, in their order.
+/// Copies of all groups, in their order. `NoMemory` where an allocation fails.
 pub fn copy_groups(alloc: Global, groups: &[Vec<Atom>]) -> Result<Vec<Vec<Atom>>, NoMemory>
     ensures { IfOk result (λ copies. groups_of copies.items ≡ groups_of groups.now) }
 {
@@ -128,7 +129,7 @@ fn any_atom<R: Reads>(atoms: &[Atom], rows: &R) -> Tri
 }
 
 impl Tri {
-    /// The greater truth.
+    /// The greater truth, in the order False, Unknown, True: SQL's OR.
     pub fn or(self, other: Tri) -> Tri
         ensures { result ≡ greater self other }
     {
@@ -141,7 +142,7 @@ impl Tri {
         }
     }
 
-    /// The lesser truth.
+    /// The lesser truth, in the order False, Unknown, True: SQL's AND.
     pub fn and(self, other: Tri) -> Tri
         ensures { result ≡ lesser self other }
     {
@@ -156,7 +157,7 @@ impl Tri {
 }
 
 impl Atom {
-    /// The truth on rows that have its columns.
+    /// The truth on rows that have its columns, in three values.
     pub fn truth<R: Reads>(&self, rows: &R) -> Tri
         requires { atom_names_only (R.has rows.now) self.now ≡ true }
         ensures { result ≡ atom_truth (R.reads rows.now) self.now }

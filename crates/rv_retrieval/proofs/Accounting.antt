@@ -1,11 +1,11 @@
 -- The account of a scan.
-use Rattle.std.proofs.Common.{◌≡◌, ℕ, zero, suc, ◌<◌, List, [], ◌∷◌, Bool, true, not, ◌&&◌, nat_lt, length, refl, arith}
+use Rattle.std.proofs.Common.{◌≡◌, ℕ, zero, suc, ◌<◌, List, [], ◌∷◌, true, nat_lt, length, refl, arith}
 use Rattle.std.proofs.lemmas.Bool.Decides.{nat_tests}
 use Rattle.std.specs.List.{slice_index_or}
 use Rattle.rv_judge.specs.Account.{no_scan}
 use Rattle.rv_jscan.specs.declared.jscan.ScanPlan.{ScanPlan}
 use Rattle.rv_jscan.specs.declared.jscan.ScanCounts.{ScanCounts}
-use Rattle.rv_jscan.specs.Joint.{Joint, counts_at, is_empty_list, plan_at, under_way}
+use Rattle.rv_jscan.specs.Joint.{counts_at, plan_at}
 use Rattle.rv_retrieval.specs.Accounts.{scan_account, scan_accounts}
 
 pub account_at : (plans : List ScanPlan) (counts : List ScanCounts) (i : ℕ) → i < length plans → slice_index_or (scan_accounts plans counts) i no_scan ≡ scan_account (plan_at plans i) (counts_at counts i)
@@ -14,12 +14,6 @@ account_at (plan ∷ plans) [] zero l = refl
 account_at (plan ∷ plans) (c ∷ counts) zero l = refl
 account_at (plan ∷ plans) [] (suc i) l = account_at plans [] i (omega arith)
 account_at (plan ∷ plans) (c ∷ counts) (suc i) l = account_at plans counts i (omega arith)
-
-pub position_within : (j : Joint) → under_way j ≡ true → j.ended < length j.plans
-position_within j h = number j.ended (length j.plans) (first (nat_lt j.ended (length j.plans)) (not (is_empty_list j.list)) h)
-  where
-    first : (a b : Bool) → (a && b) ≡ true → a ≡ true
-    first a b h = grind arith
 
     number : (a b : ℕ) → nat_lt a b ≡ true → a < b
     number a b h = grind (arith, nat_tests)

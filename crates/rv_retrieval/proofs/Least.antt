@@ -8,6 +8,7 @@ use Rattle.std.specs.declared.cmp.Ordering.{Ordering}
 use Rattle.std.specs.declared.cmp.Ordering.TheVariants.{Less, Equal, Greater}
 use Rattle.std.proofs.lemmas.Bool.{cases_Bool, and_parts, not_from_false}
 use Rattle.std.proofs.lemmas.Bool.Decides.{nat_tests}
+use Rattle.rv_retrieval.proofs.Controls.{sorted_is_led}
 use Rattle.rv_reader.proofs.Rows.{found_row}
 use Rattle.rv_value.specs.declared.value.Value.{Value}
 use Rattle.rv_value.specs.declared.record.Record.{Record}
@@ -20,7 +21,6 @@ use Rattle.rv_restrict.specs.declared.atom.Atom.{Atom}
 use Rattle.rv_restrict.specs.Parts.{stands_among}
 use Rattle.rv_restrict.specs.Truth.{qualifies}
 use Rattle.rv_reader.specs.Entries.{column_of, comes_before, entry_of, is_in, run}
-use Rattle.rv_judge.specs.declared.events.Strategy.{Strategy}
 use Rattle.rv_reader.specs.Shown.{Shown}
 use Rattle.rv_reader.specs.Tables.{row_at}
 use Rattle.rv_reader.proofs.Orders.{key_not, one_way}
@@ -35,7 +35,7 @@ use Rattle.rv_jscan.specs.Entries.{has_entry}
 use Rattle.rv_final.specs.Rest.{order_of, qualifies_at}
 use Rattle.rv_retrieval.specs.Fronts.{front_left}
 use Rattle.rv_scan.specs.Fronts.{Front, front_rest, walk_of}
-use Rattle.rv_retrieval.specs.Shape.{LeastOf, RetrievalFits, Shape, front_entries, is_index_only, is_led, is_sorted, rows_of}
+use Rattle.rv_retrieval.specs.Shape.{LeastOf, RetrievalFits, Shape, front_entries, is_sorted, rows_of}
 use Rattle.rv_final.proofs.Rests.{rows_found, told_by}
 use Rattle.rv_final.proofs.Dues.{StandsFor}
 use Rattle.rv_retrieval.proofs.Entered.{AreOf, Covering, EntryOf, entries_stand, left_stands}
@@ -201,12 +201,9 @@ rising_drop (suc k) (e ∷ es) up = rising_drop k es up.1
 left_rising : (along : Along) (entries : List IndexEntry) → Follows along entries → Rising comes_before entries → Rising comes_before (left along entries)
 left_rising along entries f up = subst (Rising comes_before) (sym f.1) (rising_drop f.0 (run entries along.range) (rising_filter comes_before (is_in along.range) entries up))
 
-sorted_led : (s : Strategy) → is_sorted s ≡ true → is_led s ≡ true
-sorted_led s h = ap (λ (b : Bool). b || is_index_only s) h
-
 found_least : (v : Shape) (shown : Shown) (skip : Skipped) (r : Record) (more : List Record) → RetrievalFits v shown → is_sorted v.strategy ≡ true → SkipsBy v skip → front_rest v.front (front_entries v shown) (rows_of v shown) v.query.only skip ≡ r ∷ more → LeastOf v shown (Found r)
 found_least v shown skip r more f sorted by e =
-    let led = sorted_led v.strategy sorted in
+    let led = sorted_is_led v.strategy sorted in
     let ff = f.front led in
     let entries = front_entries v shown in
     let rows = rows_of v shown in
@@ -228,7 +225,7 @@ found_least v shown skip r more f sorted by e =
 
 one_least : (v : Shape) (new : Front) (shown : Shown) (skip : Skipped) (s : Scanned) → RetrievalFits v shown → is_sorted v.strategy ≡ true → SkipsBy v skip → FrontStep v new shown skip s → LeastOf v shown s
 one_least v new shown skip (Found r) f sorted by step =
-    let ff = f.front (sorted_led v.strategy sorted) in
+    let ff = f.front (sorted_is_led v.strategy sorted) in
     let at : own_entries v shown ≡ front_entries v shown = ap (shown.entries (walk_of v.front).index) ff.can.at_snap in
     let rows : shown.rows v.front.fetching.table (walk_of v.front).snap ≡ rows_of v shown = ap (λ (t : ℕ). shown.rows t (walk_of v.front).snap) ff.can.of_table ∙ ap (shown.rows v.query.table) ff.can.at_snap in
     found_least v shown skip r _ f sorted by (sym (ap (λ (rs : List Record). front_rest v.front (own_entries v shown) rs v.query.only skip) rows ∙ ap (λ (es : List IndexEntry). front_rest v.front es (rows_of v shown) v.query.only skip) at) ∙ step.0)

@@ -41,7 +41,7 @@ use Rattle.rv_retrieval.specs.Opened.{Begun, has_scans}
 use Rattle.rv_choice.specs.Leading.{front_begun, front_candidate, walk_begun}
 use Rattle.rv_retrieval.specs.Opens.{first_of}
 use Rattle.rv_retrieval.specs.Shape.{Shape, is_background, is_building, is_led}
-use Rattle.rv_retrieval.proofs.Chosen.{chosen_front, walk_same}
+use Rattle.rv_retrieval.proofs.Chosen.{chosen_front, walk_same, filter_some}
 use Rattle.rv_retrieval.proofs.Courses.{HasFront, keys_back, sum_lower}
 
 -- The rows of a table are at most as many as its pages have places.
@@ -141,13 +141,6 @@ begun_life query shown choice scans front guaranteed cursor opening v can table 
         ∙ ap (λ (s : Strategy). if is_led s then leaf_work (walk_of (front_begun query (front_candidate (candidates_of query shown) choice.front))) (shown.entries (walk_of (front_begun query (front_candidate (candidates_of query shown) choice.front))).index query.snap) (shown.cuts (walk_of (front_begun query (front_candidate (candidates_of query shown) choice.front))).index query.snap) else 0) b.chosen
 
 -- Where a retrieval begins with a background a scan is planned.
-
-filter_some : (p : Candidate → Bool) (cs : List Candidate) (at : ℕ) → at < length cs → p (candidate_at cs at) ≡ true → 0 < length (filter p cs)
-filter_some p [] at l h = absurd (omega arith)
-filter_some p (c ∷ cs) zero l h = subst (λ (b : Bool). 0 < length (cond b (c ∷ filter p cs) (filter p cs))) (sym h) (omega arith)
-filter_some p (c ∷ cs) (suc at) l h =
-    let more = filter_some p cs at (omega arith) h in
-    elim (p c) as (λ b. 0 < length (cond b (c ∷ filter p cs) (filter p cs))) [ true ↦ omega arith | false ↦ more ]
 
 some_scans : (only : List (List Atom)) (background : Background) (cs : List Candidate) (scans : List ScanPlan) (at : ℕ) → AreScans only cs background scans → at < length cs → is_scanned background (candidate_at cs at) ≡ true → has_scans scans ≡ true
 some_scans only background cs scans at s l is =

@@ -16,9 +16,8 @@ use Rattle.rv_rows.specs.Rows.{comes_below}
 use Rattle.rv_reader.specs.Entries.{column_of, comes_before, entries_of, entry_of, is_in, run, sorted_in, Ascend}
 use Rattle.rv_reader.proofs.Filters.{all_filter}
 use Rattle.rv_reader.proofs.Orders.{order, one_way}
-use Rattle.rv_value.specs.Orders.{values_cmp_total}
-use Rattle.std.specs.Cmp.{tied_itself}
 use Rattle.std.proofs.lemmas.List.{length-map}
+use Rattle.rv_value.proofs.Same.{values_itself}
 use Rattle.rv_value.proofs.Tests.{equal_is}
 use Rattle.rv_value.specs.declared.range.Side.TheVariants.{Before, In, After}
 use Rattle.rv_reader.proofs.Sorting.{entries_ascend}
@@ -88,9 +87,6 @@ values_same xs ys h =
     let one : IndexEntry = record { key = xs; row = record { 0 = 0 } } in
     let other : IndexEntry = record { key = ys; row = record { 0 = 0 } } in
     ap (λ (e : IndexEntry). e.key) (equal_same one other (ap (λ o. is_eq (ordering_then o (nat_cmp 0 0))) (equal_is (values_cmp xs ys) h)))
-
-values_itself : (xs : List Value) → values_cmp xs xs ≡ Equal
-values_itself xs = tied_itself values_cmp_total xs
 
 later_not : (columns : List ℕ) (key : List Value) (r s : Record) → has_key columns key r ≡ true → has_key columns key s ≡ true → comes_below r s ≡ true → comes_before (entry_of columns s) (entry_of columns r) ≡ false
 later_not columns key r s hr hs below =

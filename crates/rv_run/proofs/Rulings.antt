@@ -3,6 +3,7 @@ use Rattle.std.proofs.Common.{◌≡◌, ◌∙◌, ◌+◌, ◌<◌, ◌++◌, 
 use Rattle.std.specs.List.{slice_index_or}
 use Rattle.std.proofs.lemmas.List.{map-append, take_more, take-append-drop}
 use Rattle.std.proofs.Math.Seq.{drop-cons}
+use Rattle.rv_value.proofs.Places.{put_back}
 use Rattle.rv_judge.specs.declared.judging.Facts.{Facts}
 use Rattle.rv_judge.specs.Verdicts.{Ruling}
 use Rattle.rv_value.specs.declared.duplicate.NoMemory.{NoMemory}
@@ -21,11 +22,6 @@ use Rattle.rv_run.specs.Making.{Anywhere}
 use Rattle.rv_run.specs.Script.{Call, call, calls_from, calls_in, calls_made}
 
 -- places
-
-pub set_got : {X : Type 0} (xs : List X) (i : ℕ) (x : X) → slice_get xs i ≡ Some x → slice_set xs i x ≡ xs
-set_got [] i x h = refl
-set_got (y ∷ ys) zero x h = let e : x ≡ y = cc in ap (λ z. z ∷ ys) e
-set_got (y ∷ ys) (suc i) x h = ap (λ zs. y ∷ zs) (set_got ys i x h)
 
 pub get_set : {X : Type 0} (xs : List X) (i : ℕ) (x y : X) → slice_get xs i ≡ Some x → slice_get (slice_set xs i y) i ≡ Some y
 get_set [] i x y h = absurd (cc)
@@ -111,7 +107,7 @@ pub call_ruled : {S : Type 0} (shows : S → StoreShown) (settings : Settings) (
 call_ruled shows settings line old new would stood stands reply a sees = λ number js at. record { judge = judging would stood; seated = at; reply = reply; stands = stands; answers = a; others = refl; sees = sees }
 
 pub none_ruled : {S : Type 0} (shows : S → StoreShown) (settings : Settings) (core : Shown S) (j : Judging) → Anywhere j j (λ number js ks. AnswersAll shows settings [] (between core js) (between core ks))
-none_ruled shows settings core j = λ number js at. ap (between core) (set_got js number j at)
+none_ruled shows settings core j = λ number js at. ap (between core) (put_back js number j at)
 
 pub one_ruled_more : {S : Type 0} (shows : S → StoreShown) (settings : Settings) (xs : List Call) (x : Call) (old mid new : Shown S) (a b c : Judging) → Anywhere a b (λ number js ks. AnswersAll shows settings (map (ruled_by number) xs) (between old js) (between mid ks)) → Anywhere b c (λ number js ks. AnswersUnder shows settings (ruled_by number x) (between mid js) (between new ks)) → Anywhere a c (λ number js ks. AnswersAll shows settings (map (ruled_by number) (xs ++ x ∷ [])) (between old js) (between new ks))
 one_ruled_more shows settings xs x old mid new a b c p q = λ number js at.

@@ -7,6 +7,7 @@ use Rattle.std.proofs.lemmas.List.Elements.{filter-append, filter_agree}
 use Rattle.std.specs.List.{AllByRecursion, slice_index_or}
 use Rattle.std.proofs.lemmas.Bool.{and_parts}
 use Rattle.std.proofs.lemmas.List.{drop-append-le}
+use Rattle.rv_scan.proofs.Fetches.{drop_all, length_drop}
 use Rattle.rv_value.specs.declared.record.Record.{Record}
 use Rattle.rv_rows.specs.Rows.{Ascend, comes_below}
 use Rattle.rv_restrict.specs.declared.atom.Atom.{Atom}
@@ -34,18 +35,6 @@ none_from page pages (r ∷ rows) all h =
 pub all_from : (rows : List Record) → rows_from rows 0 ≡ rows
 all_from [] = refl
 all_from (r ∷ rows) = let here : nat_le (32 * 0) r.row.0 ≡ true = grind (arith, nat_tests) in rw here (ap (λ rs. r ∷ rs) (all_from rows))
-
-drop_all : (xs ys : List Record) → drop (length xs) (xs ++ ys) ≡ ys
-drop_all [] ys = refl
-drop_all (x ∷ xs) ys = drop_all xs ys
-
-length_drop : (at : ℕ) (xs : List Record) → at < length xs → length (drop (at + 1) xs) < length xs
-length_drop at [] h = absurd (omega arith)
-length_drop zero (x ∷ xs) h = omega arith
-length_drop (suc at) (x ∷ xs) h =
-    let rest = length_drop at xs (omega arith) in
-    let e : suc at + 1 ≡ suc (at + 1) = omega arith in
-    rw e (omega arith)
 
 columns_drop : (only : List (List Atom)) (k : ℕ) (rows : List Record) → HaveColumns only rows → HaveColumns only (drop k rows)
 columns_drop only zero rows have = have

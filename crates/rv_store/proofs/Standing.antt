@@ -1,9 +1,10 @@
 -- What always holds of a store shows what a store promises, and is kept by its calls.
-use Rattle.std.proofs.Common.{◌≡◌, ℕ, ◌+◌, ◌<◌, ◌≤◌, List, [], ◌∷◌, ◌++◌, Bool, true, false, not, ◌==◌, cond, refl, ap, sym, ◌∙◌, inl, inr, arith, subst, length, filter, Option, Some, None, IfSome, unwrap_or, length-append}
+use Rattle.std.proofs.Common.{◌≡◌, ℕ, ◌+◌, ◌<◌, ◌≤◌, List, [], ◌∷◌, ◌++◌, Bool, true, false, not, ◌==◌, cond, refl, ap, sym, ◌∙◌, inl, inr, arith, subst, length, filter, Option, Some, None, IfSome, length-append}
 use Rattle.std.proofs.lemmas.Bool.{cases_Bool, cases_eq, cases_lt}
 use Rattle.std.proofs.lemmas.Bool.Decides.{nat_tests}
 use Rattle.std.proofs.lemmas.Grind.{common_steps}
 use Rattle.std.specs.List.{AllByRecursion}
+use Rattle.rv_index.proofs.Rooting.{nodes_above, sound_more}
 use Rattle.rv_reader.proofs.Rows.{applied_ascends}
 use Rattle.rv_value.specs.declared.value.Value.{Value}
 use Rattle.rv_value.specs.declared.record.Record.{Record}
@@ -13,11 +14,10 @@ use Rattle.rv_rows.specs.Rows.{Ascend, comes_below, with_values}
 use Rattle.rv_reader.specs.Entries as rows_entries
 use Rattle.rv_reader.specs.Storing as storing
 use Rattle.rv_reader.specs.Storing.{AreWide, IsStored, Stays, Committed, Swept, CanCommit, IsChange, pages_after}
-use Rattle.rv_versions.specs.Chains.{AllChainsBelow}
 use Rattle.rv_versions.proofs.Values.{chains_more}
 use Rattle.rv_records.specs.Pages.{IsBelow, IsSame, rows_at, pages_at}
-use Rattle.rv_records.proofs.Keeping.{below_more, same_above, value_of_above}
-use Rattle.rv_node.specs.Nodes.{Parts, empty_node}
+use Rattle.rv_records.proofs.Keeping.{below_more, same_above}
+use Rattle.rv_node.specs.Nodes.{Parts}
 use Rattle.rv_node.specs.Trees.{entries_all, cuts_all}
 use Rattle.rv_index.specs.Index.{Nodes, empty_tree, nodes_at, whole_at, tree_of, entries_of, IsIndexTree}
 use Rattle.rv_index.proofs.Facts.{few_cuts, index_is, short_leaves}
@@ -33,25 +33,14 @@ use Rattle.rv_store.specs.Paged.{Kept, IsKept, IsIndexOf, AreTreesThrough, shown
 
 -- Trees of the same nodes.
 
-longer_tree : (len more : ℕ) (at : ℕ → Parts) → len ≤ more → IsIndexTree len at → IsIndexTree more at
-longer_tree len more at h index = record {
-  own = record {
-    stored = index.own.stored;
-    once = index.own.once;
-    used = λ n l. index.own.used n (omega arith);
-  };
-  whole = index.whole;
 }
 
 pub indexed_same : (columns : List ℕ) (rows others : List Record) (before after : ℕ) (old new : Nodes) → nodes_at new after ≡ nodes_at old before → length old ≤ length new → others ≡ rows → IsIndexed columns rows before old → IsIndexed columns others after new
 indexed_same columns rows others before after old new same longer e indexed = record {
-  sound = subst (λ (at : ℕ → Parts). IsIndexTree (length new) at) (sym same) (longer_tree (length old) (length new) (nodes_at old before) longer indexed.sound);
+  sound = subst (λ (at : ℕ → Parts). IsIndexTree (length new) at) (sym same) (sound_more (length old) (length new) (nodes_at old before) longer indexed.sound);
   entries = ap (λ (at : ℕ → Parts). entries_all (whole_at at)) same ∙ indexed.entries ∙ ap (λ rs. rows_entries.entries_of columns rs) (sym e);
   cuts = subst (λ (at : ℕ → Parts). storing.AreKeys (length columns) (cuts_all (whole_at at))) (sym same) indexed.cuts;
 }
-
-nodes_above : (nodes : Nodes) (commit snap : ℕ) → AllChainsBelow (commit + 1) nodes → commit ≤ snap → nodes_at nodes snap ≡ nodes_at nodes commit
-nodes_above nodes commit snap below h = λ i id. unwrap_or (value_of_above nodes id commit snap below h i) empty_node
 
 -- What a store promises.
 

@@ -5,9 +5,8 @@ use Rattle.std.specs.List.{list_any, position_or_len}
 use Rattle.std.proofs.lemmas.Bool.{cases_Bool, and_parts, not-true}
 use Rattle.std.proofs.lemmas.Bool.Decides.{nat_tests}
 use Rattle.std.proofs.lemmas.Grind.{common_steps}
-use Rattle.std.proofs.lemmas.List.Folds.{find_at}
 use Rattle.std.proofs.lemmas.List.Sums.{position_or_len_is}
-use Rattle.std.proofs.lemmas.Option.{slice_get_past}
+use Rattle.rv_catalog.proofs.Known.{none_any}
 use Rattle.rv_rows.specs.declared.changes.Change.{Change}
 use Rattle.rv_value.proofs.Places.{read_as}
 use Rattle.rv_model.specs.declared.transactions.Transaction.{Transaction}
@@ -41,9 +40,6 @@ place_behind p xs e = grind (arith, common_steps)
 some_any : {X : Type 0} (p : X → Bool) (xs : List X) → list_any p xs ≡ is_some (find p xs)
 some_any p [] = refl
 some_any p (x ∷ xs) = elim (cases_Bool (p x)) [ inl t ↦ rw t refl | inr f ↦ rw f (some_any p xs) ]
-
-none_any : {X : Type 0} (p : X → Bool) (xs : List X) → position p xs ≡ None → list_any p xs ≡ false
-none_any p xs e = some_any p xs ∙ ap is_some (find_at p xs ∙ slice_get_past xs (position_or_len p xs) (place_behind p xs e))
 
 any_last : (p : Transaction → Bool) (xs : List Transaction) (t : Transaction) → list_any p (xs ++ t ∷ []) ≡ (list_any p xs || p t)
 any_last p [] t = or_none (p t)

@@ -32,11 +32,6 @@ part_there (p ∷ ps) (suc k) low =
 
 -- A part put where it stood leaves the parts as they are.
 
-pub put_back : (ps : List Part) (k : ℕ) (p : Part) → slice_get ps k ≡ Some p → slice_set ps k p ≡ ps
-put_back [] k p is = cc
-put_back (q ∷ ps) zero p is = ap (λ x. x ∷ ps) (sym (same_Some q p is))
-put_back (q ∷ ps) (suc k) p is = ap (λ xs. q ∷ xs) (put_back ps k p is)
-
 -- One part more is brought up to date.
 
 pub parts_step : (ds : List IndexDef) (k : ℕ) (d : IndexDef) (table : ℕ) (base old new : Option Record) (ps : List Part) (p : Part) → slice_get ds k ≡ Some d

@@ -2,9 +2,9 @@ use Rattle.std.proofs.Common.{◌≡◌, ◌∙◌, ◌==◌, ap, sym, arith, co
 use Rattle.std.specs.Option.{option_copied}
 use Rattle.std.proofs.lemmas.Bool.Decides.{nat_tests}
 use Rattle.std.proofs.lemmas.Option.{same_Some}
+use Rattle.rv_value.proofs.Places.{put_back}
 use Rattle.rv_reader.specs.Entries.{entry_at}
 use Rattle.rv_overlay.specs.Keeping.{moved}
-use Rattle.rv_view.proofs.Parts.{put_back}
 use Rattle.rv_view.proofs.making.keep_at.Goals as goal
 
 pub returns-then-index-table : goal.returns-then-index-table
