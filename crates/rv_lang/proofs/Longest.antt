@@ -1,5 +1,5 @@
 -- The token that is read is the longest one, and the longest one is read.
-use Rattle.std.proofs.Common.{◌≡◌, ℕ, ◌<◌, ◌≤◌, ◌^◌, List, [], ◌∷◌, ◌++◌, Option, Some, None, true, false, nat_eq, nat_lt, nat_le, length, refl, sym, ap, ◌∙◌, arith, append_assoc, length-append, drop, map, inl, inr, ⊎_elim, subst, ℤ, pos}
+use Rattle.std.proofs.Common.{◌≡◌, ℕ, ◌<◌, ◌≤◌, ◌^◌, List, [], ◌∷◌, ◌++◌, Option, Some, None, true, false, nat_eq, nat_lt, nat_le, length, refl, sym, ap, ◌∙◌, arith, append_assoc, length-append, drop, map, inl, inr, ⊎_elim, subst, ℤ, pos, neg_ℤ}
 use Rattle.std.specs.Prelude.{IfSome}
 use Rattle.std.specs.List.{list_all}
 use Rattle.std.specs.Char.{is_ascii_alphabetic, is_ascii_digit, to_ascii_uppercase}

@@ -14,7 +14,7 @@ ghost use Rattle.rv_store.specs.Indexing.{row_with, stays, taken_out, tree_over,
 use crate::entries::new_entry;
 use crate::tables::Table;
 use rv_index::Tree;
-use rv_reader::entry_at;
+use rv_reader::{entry_at, row_entry};
 use rv_records::Records;
 use rv_rows::Change;
 use rv_value::{IndexEntry, Items, NoMemory, Record, cmp_entry, copy_slice};
