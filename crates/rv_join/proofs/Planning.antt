@@ -1,9 +1,8 @@
 -- Plans: each step keeps what it keeps, and does to the rest what it answers.
-use Rattle.std.proofs.Common.{◌≡◌, ◌+◌, ◌<◌, ◌≤◌, List, [], ◌∷◌, ◌++◌, true, false, reverse, Result, Ok, Err, IfOk, OnErr, refl, ap, sym, ◌∙◌, arith, subst, suc, slice_index_or}
+use Rattle.std.proofs.Common.{◌≡◌, ◌+◌, ◌<◌, ◌≤◌, List, ◌∷◌, true, false, reverse, Result, Ok, Err, IfOk, OnErr, refl, ap, sym, ◌∙◌, arith, subst, suc, slice_index_or}
 use Rattle.std.specs.Cmp.{IsStrictWeakOrder}
 use Rattle.std.specs.List.Sorted.{IsPermutation, IsSortedBy}
 use Rattle.std.proofs.lemmas.List.Sorted.{IsPermutation-refl, IsPermutation-append, IsPermutation-append_right, IsPermutation-middle, IsPermutation-trans, IsPermutation-sym, IsPermutation-reverse, ranks_by, sorted_far}
-use Rattle.std.proofs.lemmas.List.{reverse-append}
 use Rattle.rv_value.specs.Orders.{values_cmp_total}
 use Rattle.rv_model.specs.declared.state.Offer.{Offer}
 use Rattle.rv_reader.specs.Shown.{Shown}

@@ -75,3 +75,10 @@ ran_of would state after shown c d query ran = record {
 pub ran_any : {X E : Type 0} (r : Result X E) (most : X → ℕ) (would : ℕ → Facts → Ruling) (state after : ℕ) (shown : Shown) (c d : Counts) (query : Query) → IfOk r (λ x. RanFetched (most x) would state after shown c d query) → OnErr r ((after ≡ state) ⊎ Ran would state after shown query) → (after ≡ state) ⊎ Ran would state after shown query
 ran_any (Ok x) most would state after shown c d query ran lost = inr (ran_of would state after shown c ran.counts query ran.ran)
 ran_any (Err e) most would state after shown c d query ran lost = lost
+
+-- for what is asked in the same words
+pub ran_for : (would : ℕ → Facts → Ruling) (state after : ℕ) (shown : Shown) (c d : Counts) (q r : Query) → q ≡ r → RanOut would state after shown c d q → RanOut would state after shown c d r
+ran_for would state after shown c d q r same ran = subst (RanOut would state after shown c d) same ran
+
+pub lost_for : (would : ℕ → Facts → Ruling) (state after : ℕ) (shown : Shown) (q r : Query) → q ≡ r → (after ≡ state) ⊎ Ran would state after shown q → (after ≡ state) ⊎ Ran would state after shown r
+lost_for would state after shown q r same lost = subst (λ (x : Query). (after ≡ state) ⊎ Ran would state after shown x) same lost

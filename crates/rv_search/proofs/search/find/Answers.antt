@@ -1,4 +1,4 @@
-use Rattle.std.proofs.Common.{◌≡◌, ◌⊎◌, ◌+◌, ◌≤◌, ap, arith, inl, inr, refl, rules, subst, sym, true}
+use Rattle.std.proofs.Common.{◌≡◌, ◌+◌, ◌≤◌, ap, arith, inl, inr, refl, rules, subst, sym, true}
 use Rattle.std.specs.Prelude.{IsPermutation}
 use Rattle.std.proofs.lemmas.List.Sorted.{IsNonDecreasingBy-from_sort_by_key, IsPermutation-trans, length_permutation}
 use Rattle.rv_value.specs.declared.record.Record.{Record}
@@ -12,8 +12,8 @@ use Rattle.rv_choice.specs.Asked.{CanAsk}
 use Rattle.rv_final.specs.Rest.{qualifying}
 use Rattle.rv_retrieval.specs.Effort.{life_of}
 use Rattle.rv_retrieval.specs.Short.{has_short}
-use Rattle.rv_search.specs.Searching.{Ran, RanOut, numbers, search_of}
-use Rattle.rv_search.proofs.Goings.{ran_of}
+use Rattle.rv_search.specs.Searching.{numbers}
+use Rattle.rv_search.proofs.Goings.{lost_for, ran_for, ran_of}
 use Rattle.rv_search.proofs.Sorted.{sorted_numbers}
 use Rattle.rv_search.proofs.search.find.Goals as goal
 
@@ -55,16 +55,13 @@ returns-clause-few g c = λ short.
     omega (arith, few, same))
 
 pub returns-clause-ran : goal.returns-clause-ran
-returns-clause-ran g c = subst (λ (q : Query). RanOut _ _ _ (g.R.Reader.shown c.args.reader.now) c.args.steps.now c.gathered.new.steps q) c.in_ok-query.ensures c.in_ok-found.ensures.ran
+returns-clause-ran g c = ran_for _ _ _ (g.R.Reader.shown c.args.reader.now) c.args.steps.now c.gathered.new.steps c.in_ok-query.query _ c.in_ok-query.ensures c.in_ok-found.ensures.ran
 
 pub returns-in_err-query-clause-lost : goal.returns-in_err-query-clause-lost
 returns-in_err-query-clause-lost g c = inl refl
 
 pub returns-in_err-found-clause-lost : goal.returns-in_err-found-clause-lost
-returns-in_err-found-clause-lost g c = subst (λ (q : Query). (_ ≡ _) ⊎ Ran _ _ _ (g.R.Reader.shown c.args.reader.now) q) c.in_ok-query.ensures c.in_err-found.ensures.lost
+returns-in_err-found-clause-lost g c = lost_for _ _ _ (g.R.Reader.shown c.args.reader.now) c.in_ok-query.query _ c.in_ok-query.ensures c.in_err-found.ensures.lost
 
 pub returns-in_err-sort_by_key-clause-lost : goal.returns-in_err-sort_by_key-clause-lost
-returns-in_err-sort_by_key-clause-lost g c =
-    let query = search_of c.args.table c.args.snap c.args.only.now c.args.indexes in
-    let shown = g.R.Reader.shown c.args.reader.now in
-    inr (ran_of _ _ _ shown c.args.steps.now c.gathered.new.steps query (subst (λ (q : Query). RanOut _ _ _ shown c.args.steps.now c.gathered.new.steps q) c.in_ok-query.ensures c.in_ok-found.ensures.ran))
+returns-in_err-sort_by_key-clause-lost g c = inr (ran_of _ _ _ (g.R.Reader.shown c.args.reader.now) c.args.steps.now c.gathered.new.steps _ (ran_for _ _ _ (g.R.Reader.shown c.args.reader.now) c.args.steps.now c.gathered.new.steps c.in_ok-query.query _ c.in_ok-query.ensures c.in_ok-found.ensures.ran))
