@@ -9,7 +9,7 @@ mod share;
 use crate::share::Share;
 use rv_io::{Sink, Source, StdSink, StdSource};
 use rv_judge::{Judge, Patient, Threshold};
-use rv_run::{Status, run_plain};
+use rv_run::{Ran, Status, run_plain};
 use rv_store::Paged;
 use rv_value::NoMemory;
 use std::alloc::Global;
@@ -25,6 +25,10 @@ fn main(rt: HostRuntime) -> ExitCode {
     }
     ExitCode::from(status.code())
 }
+
+/// What is left goes, with all that it holds. A function of any type calls its drop, and sees none of its parts: a core has so
+/// many that what their cases cost is minutes of the prover.
+fn leave<T: Drop>(_left: T) {}
 
 /// The run over the standard streams.
 fn run_standard(rt: &HostRuntime) -> Result<Status, NoMemory> {
@@ -55,5 +59,7 @@ fn run_shared<S: Source, K: Sink>(
     judges.push(Box::new(alloc, Patient::new())?)?;
     let store = Paged::new(alloc)?;
     let ran = run_plain(alloc, store, &[], source, sink, judges);
-    Ok(ran.status)
+    let Ran { status, core } = ran;
+    leave(core);
+    Ok(status)
 }

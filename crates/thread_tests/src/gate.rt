@@ -69,6 +69,10 @@ impl Gate for Crossing {
     }
 }
 
+/// What is left goes, with all that it holds. A function of any type calls its drop, and sees none of its parts: a core has so
+/// many that what their cases cost is minutes of the prover.
+fn leave<T: Drop>(_left: T) {}
+
 /// The words of a line, cut at its spaces.
 fn cut(alloc: Global, line: &str) -> Result<Vec<Text>, NoMemory> {
     let mut words = Vec::new(alloc);
@@ -100,10 +104,7 @@ fn run_over<
     judges.push(Box::new(alloc, Threshold::new())?)?;
     judges.push(Box::new(alloc, Patient::new())?)?;
     judges.push(Box::new(alloc, Contrary::new())?)?;
-    let Ran {
-        status,
-        core: _core,
-    } = run(
+    let Ran { status, core } = run(
         rt,
         alloc,
         store,
@@ -113,6 +114,7 @@ fn run_over<
         judges,
         gate,
     );
+    leave(core);
     Ok(status)
 }
 
