@@ -9,7 +9,7 @@ mod share;
 use crate::share::Share;
 use rv_io::{Sink, Source, StdSink, StdSource};
 use rv_judge::{Judge, Patient, Threshold};
-use rv_run::{Ran, Status, run_plain};
+use rv_run::{Status, run_plain};
 use rv_store::Paged;
 use rv_value::NoMemory;
 use std::alloc::Global;
@@ -59,7 +59,6 @@ fn run_shared<S: Source, K: Sink>(
     judges.push(Box::new(alloc, Patient::new())?)?;
     let store = Paged::new(alloc)?;
     let ran = run_plain(alloc, store, &[], source, sink, judges);
-    let Ran { status, core } = ran;
-    leave(core);
-    Ok(status)
+    leave(ran.core);
+    Ok(ran.status)
 }
