@@ -2,6 +2,7 @@
 //! the worker has it.
 ghost use Rattle.std.specs.Prelude.{◌≡◌};
 
+use crate::calls::leave;
 use rv_io::{MemSink, MemSource, Sink};
 use rv_judge::{Contrary, Judge, Patient, Threshold, Uncounted};
 use rv_reader::{Reader, Store};
@@ -68,10 +69,6 @@ impl Gate for Crossing {
         }
     }
 }
-
-/// What is left goes, with all that it holds. A function of any type calls its drop, and sees none of its parts: a core has so
-/// many that what their cases cost is minutes of the prover.
-fn leave<T: Drop>(_left: T) {}
 
 /// The words of a line, cut at its spaces.
 fn cut(alloc: Global, line: &str) -> Result<Vec<Text>, NoMemory> {
