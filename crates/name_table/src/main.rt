@@ -7,11 +7,16 @@ ghost use Rattle.rv_catalog.specs.Fits.{IsNewIndex, IsNewTable};
 mod told;
 
 use rv_catalog::{BindFault, Catalog, IndexDef, Resolved, TableDef};
+use rv_lang::Statement;
 use rv_parse::read_statement;
 use rv_value::NoMemory;
 use std::alloc::Global;
 use std::io;
 use told::{told_index, told_refusal, told_resolved};
+
+/// What is left goes, with all that it holds. A function of any type calls its drop, and sees none of its parts: a statement has
+/// so many that what their cases cost is minutes of the prover.
+fn leave<T: Drop>(_left: T) {}
 
 /// What a text gives, in words.
 fn answer(alloc: Global, catalog: &mut Catalog, text: &str) -> Result<String, NoMemory> {
@@ -20,13 +25,34 @@ fn answer(alloc: Global, catalog: &mut Catalog, text: &str) -> Result<String, No
     }
     match read_statement(alloc, text)? {
         None => Ok(String::from_str(alloc, "syntax")?),
-        Some(statement) => match catalog.resolve(&statement) {
-            Err(BindFault::NoMemory) => Err(NoMemory),
-            Err(BindFault::Refused(refusal)) => told_refusal(alloc, &refusal),
-            Ok(Resolved::CreateTable(def)) => add_table(alloc, catalog, def),
-            Ok(Resolved::CreateIndex(def)) => add_index(alloc, catalog, def),
-            Ok(resolved) => told_resolved(alloc, &resolved),
-        },
+        Some(statement) => {
+            let told = resolve(alloc, catalog, &statement);
+            leave(statement);
+            told
+        }
+    }
+}
+
+/// What a statement gives.
+fn resolve(
+    alloc: Global,
+    catalog: &mut Catalog,
+    statement: &Statement,
+) -> Result<String, NoMemory> {
+    match catalog.resolve(statement) {
+        Err(BindFault::NoMemory) => Err(NoMemory),
+        Err(BindFault::Refused(refusal)) => {
+            let told = told_refusal(alloc, &refusal);
+            leave(refusal);
+            told
+        }
+        Ok(Resolved::CreateTable(def)) => add_table(alloc, catalog, def),
+        Ok(Resolved::CreateIndex(def)) => add_index(alloc, catalog, def),
+        Ok(resolved) => {
+            let told = told_resolved(alloc, &resolved);
+            leave(resolved);
+            told
+        }
     }
 }
 
