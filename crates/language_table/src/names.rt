@@ -1,25 +1,19 @@
-//! Resolves the statements that it reads, a line each, adds what they create to the catalog, and writes what
-//! each gives. The file `stdout` has the answers that tools/name_table.py gives by hand.
-#![tactic(auto)]
-
+//! Statements, resolved against the catalog that those before them made, and what they create added to it.
 ghost use Rattle.rv_catalog.specs.Fits.{IsNewIndex, IsNewTable};
 
-mod told;
-
+use crate::resolved::{told_index, told_refusal, told_resolved};
 use rv_catalog::{BindFault, Catalog, IndexDef, Resolved, TableDef};
 use rv_lang::Statement;
 use rv_parse::read_statement;
 use rv_value::NoMemory;
 use std::alloc::Global;
-use std::io;
-use told::{told_index, told_refusal, told_resolved};
 
 /// What is left goes, with all that it holds. A function of any type calls its drop, and sees none of its parts: a statement has
 /// so many that what their cases cost is minutes of the prover.
 fn leave<T: Drop>(_left: T) {}
 
-/// What a text gives, in words.
-fn answer(alloc: Global, catalog: &mut Catalog, text: &str) -> Result<String, NoMemory> {
+/// What the statement of a text gives, in words.
+pub fn told(alloc: Global, catalog: &mut Catalog, text: &str) -> Result<String, NoMemory> {
     if text.len() > 4096 {
         return Ok(String::from_str(alloc, "too long")?);
     }
@@ -76,16 +70,4 @@ fn add_index(alloc: Global, catalog: &mut Catalog, def: IndexDef) -> Result<Stri
     let told = told_index(alloc, &def)?;
     let number = catalog.add_index(def)?;
     Ok(format!(in alloc; "index {number} {told}")?)
-}
-
-fn main(rt: HostRuntime) -> io::Result<()> {
-    let mut catalog = Catalog::new(rt.alloc());
-    'lines: for line in rt.lines(rt.alloc()) {
-        let line = line?;
-        match answer(rt.alloc(), &mut catalog, line.as_str()) {
-            Ok(told) => println!(rt; "{}", told.as_str())?,
-            Err(NoMemory) => println!(rt; "no memory")?,
-        }
-    }
-    Ok(())
 }
