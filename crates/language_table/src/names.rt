@@ -1,16 +1,13 @@
 //! Statements, resolved against the catalog that those before them made, and what they create added to it.
 ghost use Rattle.rv_catalog.specs.Fits.{IsNewIndex, IsNewTable};
 
+use crate::leave;
 use crate::resolved::{told_index, told_refusal, told_resolved};
 use rv_catalog::{BindFault, Catalog, IndexDef, Resolved, TableDef};
 use rv_lang::Statement;
 use rv_parse::read_statement;
 use rv_value::NoMemory;
 use std::alloc::Global;
-
-/// What is left goes, with all that it holds. A function of any type calls its drop, and sees none of its parts: a statement has
-/// so many that what their cases cost is minutes of the prover.
-fn leave<T: Drop>(_left: T) {}
 
 /// What the statement of a text gives, in words.
 pub fn told(alloc: Global, catalog: &mut Catalog, text: &str) -> Result<String, NoMemory> {
