@@ -6,18 +6,23 @@ from pathlib import Path
 
 TOOLS = Path(__file__).resolve().parents[1]
 CRATES = TOOLS.parent / "crates"
-ANSWERS = ["join_table", "language_table", "name_table", "paged_table", "piece_table", "replay_table", "retrieval_table",
-           "scan_table", "script_table", "storage_table", "tree_shapes"]  # fmt: skip
-QUESTIONS = {"join_table": "--lines", "language_table": "--lines", "name_table": "--statements", "replay_table": "--lines",
-             "script_table": "--lines", "storage_table": "--lines"}  # fmt: skip
+ANSWERS = ["join_table", "paged_table", "piece_table", "replay_table", "retrieval_table", "scan_table", "script_table",
+           "storage_table", "tree_shapes"]  # fmt: skip
+QUESTIONS = {"join_table": "--lines", "replay_table": "--lines", "script_table": "--lines", "storage_table": "--lines"}
 
 
 class Tables(unittest.TestCase):
-    def is_written(self, name: str, words: list[str], stdin: bytes, file: str) -> None:
+    def written(self, name: str, words: list[str], stdin: bytes) -> bytes:
         command = [sys.executable, str(TOOLS / f"{name}.py"), *words]
         ran = subprocess.run(command, input=stdin, capture_output=True, timeout=300, check=False)
         self.assertEqual((ran.returncode, ran.stderr), (0, b""), name)
-        self.assertTrue(ran.stdout == (CRATES / name / file).read_bytes(), f"{name}: {file} differs")
+        return ran.stdout
+
+    def has(self, name: str, file: str, written: bytes) -> None:
+        self.assertTrue(written == (CRATES / name / file).read_bytes(), f"{name}: {file} differs")
+
+    def is_written(self, name: str, words: list[str], stdin: bytes, file: str) -> None:
+        self.has(name, file, self.written(name, words, stdin))
 
     def test_answers(self):
         for name in ANSWERS:
@@ -26,6 +31,13 @@ class Tables(unittest.TestCase):
     def test_questions(self):
         for name, word in QUESTIONS.items():
             self.is_written(name, [word], b"", "stdin")
+
+    def test_language(self):
+        """The texts first, and then the statements that are resolved."""
+        answers = self.written("language_table", [], b"") + self.written("name_table", [], b"")
+        self.has("language_table", "stdout", answers)
+        lines = self.written("language_table", ["--lines"], b"") + self.written("name_table", ["--statements"], b"")
+        self.has("language_table", "stdin", lines)
 
     def test_own_judge(self):
         self.is_written("own_judge", [], (CRATES / "own_judge" / "stdin").read_bytes(), "stdout")

@@ -26,6 +26,10 @@ fn main(rt: HostRuntime) -> ExitCode {
     ExitCode::from(status.code())
 }
 
+/// What is left goes, with all that it holds. A function of any type calls its drop, and sees none of its parts: a core has so
+/// many that what their cases cost is minutes of the prover.
+fn leave<T: Drop>(_left: T) {}
+
 /// The run over the standard streams.
 fn run_standard(rt: &HostRuntime) -> Result<Status, NoMemory> {
     let Ok(out) = BufWriter::new(rt.alloc(), io::writer(rt)) else {
@@ -55,5 +59,6 @@ fn run_shared<S: Source, K: Sink>(
     judges.push(Box::new(alloc, Patient::new())?)?;
     let store = Paged::new(alloc)?;
     let ran = run_plain(alloc, store, &[], source, sink, judges);
+    leave(ran.core);
     Ok(ran.status)
 }

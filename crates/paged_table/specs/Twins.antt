@@ -11,6 +11,11 @@ pub record AreLaid (twins : Twins) : Type 0 where
   pub second : Laid twins.layout (plain.shown_of twins.plain)
   pub standing : twins.layout.horizon ≤ twins.layout.newest
 
+-- without tables, indexes and commits
+pub record AreNew (twins : Twins) : Type 0 where
+  pub laid : AreLaid twins
+  pub layout : twins.layout ≡ record { tables = 0; indexes = 0; horizon = 0; newest = 0 }
+
 -- with two tables, after so many commits
 pub record AreReady (commits : ℕ) (twins : Twins) : Type 0 where
   pub laid : AreLaid twins

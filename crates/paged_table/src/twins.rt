@@ -3,7 +3,7 @@ ghost use Rattle.rv_store.specs.Paged as paged;
 ghost use Rattle.rv_plain.specs.Kept as plain;
 ghost use Rattle.rv_reader.specs.Storing.{AreColumns, Committed};
 ghost use Rattle.rv_loading.specs.Laid.{IsBatch};
-ghost use Rattle.paged_table.specs.Twins.{AreLaid};
+ghost use Rattle.paged_table.specs.Twins.{AreLaid, AreNew};
 
 use rv_loading::{Layout, commit, lay_index, lay_table, sweep};
 use rv_plain::Plain;
@@ -23,8 +23,7 @@ pub struct Twins {
 impl Twins {
     /// Both without tables and indexes.
     pub fn new(alloc: Global) -> Result<Twins, NoMemory>
-        ensures laid { IfOk result AreLaid }
-        ensures layout { IfOk result (λ twins. twins.layout ≡ record { tables = 0; indexes = 0; horizon = 0; newest = 0 }) }
+        ensures { IfOk result AreNew }
     {
         Ok(Twins {
             paged: Paged::new(alloc)?,

@@ -1,4 +1,5 @@
 //! Whether the course allows a trace.
+use crate::read::small;
 use rv_course::is_allowed;
 use rv_judge::Event;
 use rv_lang::{Shown, ShownEvent};
@@ -8,8 +9,7 @@ use std::alloc::Global;
 
 /// The index of a name, which is `I` and a number.
 fn index_of(name: &Text) -> Option<u32> {
-    let number = name.as_str().strip_prefix("I")?;
-    number.parse().ok()
+    small(name.as_str().strip_prefix("I")?)
 }
 
 fn event_of(shown: &ShownEvent) -> Option<Event> {
@@ -39,7 +39,7 @@ fn events_of(alloc: Global, shown: &[ShownEvent]) -> Result<Option<Vec<Event>>, 
 fn numbers(alloc: Global, text: &str) -> Result<Vec<u32>, NoMemory> {
     let mut numbers = Vec::new(alloc);
     'words: for word in text.split(',') {
-        if let Ok(number) = word.parse() {
+        if let Some(number) = small(word) {
             numbers.push(number)?;
         }
     }

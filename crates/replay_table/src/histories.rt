@@ -1,4 +1,5 @@
 //! Whether a transcript is one of a legal history.
+use crate::read;
 use rv_model::Entry;
 use rv_replay::{Replayed, are_short, replay};
 use rv_text::{TextRead, read_text};
@@ -14,8 +15,8 @@ enum Change {
 
 fn change_of(word: &str, number: &str) -> Option<Change> {
     match word {
-        "session" => Some(Change::Session(number.parse().ok()?)),
-        "phase" => Some(Change::Phase(number.parse().ok()?)),
+        "session" => Some(Change::Session(u8::try_from(read::number(number)?).ok()?)),
+        "phase" => Some(Change::Phase(read::small(number)?)),
         _ => None,
     }
 }
@@ -25,7 +26,7 @@ fn read_change(words: &str) -> Option<(usize, Change)> {
     let (_front, words) = words.split_once(' ')?;
     let (place, rest) = words.split_once(' ')?;
     let (word, number) = rest.split_once(' ')?;
-    Some((place.parse().ok()?, change_of(word, number)?))
+    Some((read::number(place)? as usize, change_of(word, number)?))
 }
 
 fn change_entry(entry: &mut Entry, change: Change) {

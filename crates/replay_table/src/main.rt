@@ -6,6 +6,7 @@
 
 mod courses;
 mod histories;
+mod read;
 
 use rv_value::NoMemory;
 use std::alloc::Global;

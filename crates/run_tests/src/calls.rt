@@ -6,7 +6,7 @@ use rv_lang::Reply;
 use rv_model::Entry;
 use rv_reader::{Reader, Store};
 use rv_script::write_text;
-use rv_value::{NoMemory, Value};
+use rv_value::NoMemory;
 use std::alloc::Global;
 
 /// A query for its first rows over a table of the numbers below a count, and its calls: FETCH, then STEP, then FETCH again.
@@ -27,6 +27,10 @@ pub const THIRD: Reading = Reading {
     step: "STEP C 5",
     after: 28,
 };
+
+/// What is left goes, with all that it holds. A function of any type calls its drop, and sees none of its parts: a core has so
+/// many that what their cases cost is minutes of the prover.
+pub fn leave<T: Drop>(_left: T) {}
 
 /// Makes a call, and once more where it found no memory; how often it was made again. A text that is too long is left out.
 pub fn make<S: Store + Reader<Ledger = Uncounted> + Drop>(
@@ -68,48 +72,66 @@ pub fn make_often<S: Store + Reader<Ledger = Uncounted> + Drop>(
     Ok(again)
 }
 
-/// Makes the indexed table T of the numbers below a count, each with 0 beside it; how many calls were made again.
-pub fn fill<S: Store + Reader<Ledger = Uncounted> + Drop>(
+/// The rows of a table, by their numbers.
+#[derive(Clone, Copy)]
+pub enum Rows {
+    /// Of T: the number, and 0.
+    Numbers,
+    /// Of S: the rest of the number by 4, and the number.
+    Rests,
+}
+
+fn row_text(alloc: Global, rows: Rows, number: u32) -> Result<String, NoMemory> {
+    let rest = number % 4;
+    match rows {
+        Rows::Numbers => Ok(format!(in alloc; "INSERT INTO T VALUES ({number}, 0)")?),
+        Rows::Rests => Ok(format!(in alloc; "INSERT INTO S VALUES ({rest}, {number})")?),
+    }
+}
+
+/// Makes a table by its statements, with the rows of the numbers below a count; how many calls were made again.
+fn load<S: Store + Reader<Ledger = Uncounted> + Drop>(
     alloc: Global,
     core: &mut Core<S>,
+    statements: &[&str],
+    rows: Rows,
     count: u32,
 ) -> Result<u32, NoMemory> {
-    let mut again = make_all(
-        core,
-        &[
-            "CREATE TABLE T (A BIGINT, B BIGINT)",
-            "CREATE INDEX IA ON T (A)",
-            "BEGIN",
-        ],
-    )?;
+    let mut again = make_all(core, statements)?;
     for number in 0..count {
-        let text = format!(in alloc; "INSERT INTO T VALUES ({number}, 0)")?;
+        let text = row_text(alloc, rows, number)?;
         again = again.saturating_add(make(core, text.as_str())?);
     }
     let more = make_all(core, &["COMMIT", "BEGIN READ ONLY"])?;
     Ok(again.saturating_add(more))
 }
 
-/// Makes the table S of forty rows, the rest of a number by 4 and the number, with an index of each.
+/// Makes the table T of the numbers below a count, with an index of them; how many calls were made again.
+pub fn fill<S: Store + Reader<Ledger = Uncounted> + Drop>(
+    alloc: Global,
+    core: &mut Core<S>,
+    count: u32,
+) -> Result<u32, NoMemory> {
+    let statements = [
+        "CREATE TABLE T (A BIGINT, B BIGINT)",
+        "CREATE INDEX IA ON T (A)",
+        "BEGIN",
+    ];
+    load(alloc, core, &statements, Rows::Numbers, count)
+}
+
+/// Makes the table S of forty rows, with an index of each column.
 pub fn fill_rests<S: Store + Reader<Ledger = Uncounted> + Drop>(
     alloc: Global,
     core: &mut Core<S>,
 ) -> Result<(), NoMemory> {
-    make_all(
-        core,
-        &[
-            "CREATE TABLE S (A BIGINT, B BIGINT)",
-            "CREATE INDEX IA ON S (A)",
-            "CREATE INDEX IB ON S (B)",
-            "BEGIN",
-        ],
-    )?;
-    for number in 0..40u32 {
-        let rest = number % 4;
-        let text = format!(in alloc; "INSERT INTO S VALUES ({rest}, {number})")?;
-        make(core, text.as_str())?;
-    }
-    make_all(core, &["COMMIT", "BEGIN READ ONLY"])?;
+    let statements = [
+        "CREATE TABLE S (A BIGINT, B BIGINT)",
+        "CREATE INDEX IA ON S (A)",
+        "CREATE INDEX IB ON S (B)",
+        "BEGIN",
+    ];
+    load(alloc, core, &statements, Rows::Rests, 40)?;
     Ok(())
 }
 
@@ -128,40 +150,31 @@ pub fn read<S: Store + Reader<Ledger = Uncounted> + Drop>(
     Ok(early.saturating_add(stepped).saturating_add(after))
 }
 
-/// Makes a call; the integers of the row that it gives as one number, of two digits each, and None where it gives no row.
-pub fn row<S: Store + Reader<Ledger = Uncounted> + Drop>(
+/// Makes a call; whether it gives a row.
+pub fn gives_row<S: Store + Reader<Ledger = Uncounted> + Drop>(
     core: &mut Core<S>,
     text: &str,
-) -> Result<Option<i64>, NoMemory> {
+) -> Result<bool, NoMemory> {
     make(core, text)?;
-    Ok(last_row(core.history()))
+    Ok(ends_with_row(core.history()))
 }
 
-/// The row with which a history ends, where it ends with one, as one number.
-fn last_row(history: &[Entry]) -> Option<i64> {
-    let Some(entry) = history.last() else {
-        return None;
-    };
-    match &entry.reply {
-        Reply::Row(values) => Some(digits(values.as_slice())),
-        _ => None,
+fn ends_with_row(history: &[Entry]) -> bool {
+    match history.last() {
+        Some(entry) => matches!(&entry.reply, Reply::Row(_)),
+        None => false,
     }
 }
 
-fn digits(values: &[Value]) -> i64 {
-    let mut number = 0i64;
-    for value in values {
-        if let Value::Int(two) = value {
-            number = number.saturating_mul(100).saturating_add(*two);
-        }
-    }
-    number
-}
-
-/// Whether a history ends with the entry of these two lines of a transcript.
-pub fn ends_with(alloc: Global, history: &[Entry], lines: &str) -> Result<bool, NoMemory> {
-    let mut sink = MemSink::new(alloc, 1_000, Vec::new(alloc))?;
-    let last = history.len().saturating_sub(1);
-    let written = write_text(&mut sink, &history[last..]).is_ok();
+/// Whether the last so many entries of a history have these lines in its transcript.
+pub fn ends_with(
+    alloc: Global,
+    history: &[Entry],
+    entries: usize,
+    lines: &str,
+) -> Result<bool, NoMemory> {
+    let mut sink = MemSink::new(alloc, 10_000, Vec::new(alloc))?;
+    let before = history.len().saturating_sub(entries);
+    let written = write_text(&mut sink, &history[before..]).is_ok();
     Ok(written && sink.written() == lines.as_bytes())
 }

@@ -1,5 +1,5 @@
 //! Tests of a core under all verdicts, over a store that refuses, with pieces that leave it, with races and with searches, and of
-//! runs over the plain store. They stand in a crate of their own, since a crate with tests is proved twice.
+//! runs over the plain store and with threads. They stand in a crate of their own, since a crate with tests is proved twice.
 #![tactic(auto)]
 
 #[cfg(test)]
@@ -16,5 +16,7 @@ mod races;
 mod refusals;
 #[cfg(test)]
 mod searches;
+#[cfg(test)]
+mod threads;
 #[cfg(test)]
 mod traces;

@@ -1,5 +1,5 @@
 //! A query in the order of an index, whose rows another one bounds, under each list of three verdicts.
-use crate::calls::{ends_with, fill_rests, make, row};
+use crate::calls::{ends_with, fill_rests, leave, make, make_often};
 use rv_core::Core;
 use rv_judge::{Judge, Listed, Uncounted, Verdict};
 use rv_reader::{Reader, Store};
@@ -8,12 +8,12 @@ use rv_value::NoMemory;
 use std::alloc::Global;
 use std::test::Fail;
 
-/// The rows of the query, least in their first column, each as one number of two digits a column.
-const FIRST: [i64; 3] = [12, 16, 20];
+/// The first three rows of the query, least in their first column.
+const FIRST: &str = "2 FETCH C\n= row 0, 12\n2 FETCH C\n= row 0, 16\n2 FETCH C\n= row 0, 20\n";
 
-const REST: [i64; 17] = [
-    24, 28, 113, 117, 121, 125, 129, 210, 214, 218, 222, 226, 311, 315, 319, 323, 327,
-];
+/// The other seventeen, and the end.
+const REST: &str =
+    "2 FETCH C\n= row 0, 24\n2 FETCH C\n= row 0, 28\n2 FETCH C\n= row 1, 13\n2 FETCH C\n= row 1, 17\n2 FETCH C\n= row 1, 21\n2 FETCH C\n= row 1, 25\n2 FETCH C\n= row 1, 29\n2 FETCH C\n= row 2, 10\n2 FETCH C\n= row 2, 14\n2 FETCH C\n= row 2, 18\n2 FETCH C\n= row 2, 22\n2 FETCH C\n= row 2, 26\n2 FETCH C\n= row 3, 11\n2 FETCH C\n= row 3, 15\n2 FETCH C\n= row 3, 19\n2 FETCH C\n= row 3, 23\n2 FETCH C\n= row 3, 27\n2 FETCH C\n= end\n";
 
 /// The judge whose verdicts are the digits of a number in base four, from the last one.
 fn listed(alloc: Global, number: u32) -> Result<Box<dyn Judge>, NoMemory> {
@@ -41,30 +41,7 @@ fn shown(number: u32) -> &'static str {
     }
 }
 
-/// Whether FETCH gives these rows, one after another.
-fn gives<S: Store + Reader<Ledger = Uncounted> + Drop>(
-    core: &mut Core<S>,
-    rows: &[i64],
-) -> Result<bool, NoMemory> {
-    let mut good = true;
-    for number in rows {
-        good = row(core, "FETCH C")? == Some(*number) && good;
-    }
-    Ok(good)
-}
-
-/// Whether the query gives its rows and then the end.
-fn gives_all<S: Store + Reader<Ledger = Uncounted> + Drop>(
-    core: &mut Core<S>,
-) -> Result<bool, NoMemory> {
-    let first = gives(core, &FIRST)?;
-    make(core, "STEP C 9")?;
-    let rest = gives(core, &REST)?;
-    let ended = row(core, "FETCH C")?.is_none();
-    Ok(first && rest && ended)
-}
-
-/// Whether it does so, in the course that SHOW is to tell.
+/// Whether the query gives its rows and then the end, in the course that SHOW is to tell.
 fn gives_all_as<S: Store + Reader<Ledger = Uncounted> + Drop>(
     alloc: Global,
     core: &mut Core<S>,
@@ -75,16 +52,23 @@ fn gives_all_as<S: Store + Reader<Ledger = Uncounted> + Drop>(
         core,
         "OPEN C SELECT A, B FROM S WHERE B >= 10 AND B <= 29 ORDER BY A",
     )?;
-    let given = gives_all(core)?;
+    make_often(core, "FETCH C", 3)?;
+    let first = ends_with(alloc, core.history(), 3, FIRST)?;
+    make(core, "STEP C 9")?;
+    make_often(core, "FETCH C", 18)?;
+    let rest = ends_with(alloc, core.history(), 18, REST)?;
     make(core, "SHOW C")?;
-    Ok(given && ends_with(alloc, core.history(), course)?)
+    let told = ends_with(alloc, core.history(), 1, course)?;
+    Ok(first && rest && told)
 }
 
 /// Whether a core under the list of a number gives the rows, and obeys.
 fn is_given_under(alloc: Global, number: u32) -> Result<bool, NoMemory> {
     let judge = listed(alloc, number)?;
     let mut core = Core::new(alloc, Paged::new(alloc)?, judge, false, 0);
-    gives_all_as(alloc, &mut core, shown(number))
+    let given = gives_all_as(alloc, &mut core, shown(number));
+    leave(core);
+    given
 }
 
 #[test]

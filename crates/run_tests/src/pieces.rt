@@ -1,5 +1,5 @@
 //! Pieces that leave the core: taken twice, given late, given after the cursor is gone, and given to another core.
-use crate::calls::{fill, make, row};
+use crate::calls::{ends_with, fill, gives_row, leave, make};
 use rv_core::Core;
 use rv_jscan::{Given, Piece, PieceId, Taken, sieve};
 use rv_judge::{Judge, Patient, Steps, Threshold, Uncounted};
@@ -42,7 +42,7 @@ fn reopen<S: Store + Reader<Ledger = Uncounted> + Drop>(
 /// How many rows FETCH gives until it gives none.
 fn left<S: Store + Reader<Ledger = Uncounted> + Drop>(core: &mut Core<S>) -> Result<u32, NoMemory> {
     for count in 0..100u32 {
-        if row(core, "FETCH C")?.is_none() {
+        if !gives_row(core, "FETCH C")? {
             return Ok(count);
         }
     }
@@ -111,7 +111,9 @@ fn late<S: Store + Reader<Ledger = Uncounted> + Drop>(
 #[test]
 fn late_pieces_are_stale(rt: HostRuntime) -> Result<(), Fail> {
     let mut core = patient(rt.alloc())?;
-    assert!(rt; late(rt.alloc(), &mut core)?);
+    let stale = late(rt.alloc(), &mut core);
+    leave(core);
+    assert!(rt; stale?);
     Ok(())
 }
 
@@ -130,7 +132,9 @@ fn ended<S: Store + Reader<Ledger = Uncounted> + Drop>(
 /// Whether it is stale then.
 fn is_ended_by(alloc: Global, text: &str) -> Result<bool, NoMemory> {
     let mut core = patient(alloc)?;
-    ended(alloc, &mut core, text)
+    let stale = ended(alloc, &mut core, text);
+    leave(core);
+    stale
 }
 
 #[test]
@@ -148,7 +152,8 @@ fn dropped<S: Store + Reader<Ledger = Uncounted> + Drop>(
 ) -> Result<bool, NoMemory> {
     open(alloc, core)?;
     let piece = taken(core)?;
-    let first = row(core, "FETCH C")? == Some(1000);
+    make(core, "FETCH C")?;
+    let first = ends_with(alloc, core.history(), 1, "2 FETCH C\n= row 10, 0\n")?;
     let late = given(core, piece)? == stale(None);
     let none = taken(core)?.is_none();
     let rows = left(core)? == 19;
@@ -159,7 +164,9 @@ fn dropped<S: Store + Reader<Ledger = Uncounted> + Drop>(
 fn a_piece_of_a_scan_that_was_dropped_is_stale(rt: HostRuntime) -> Result<(), Fail> {
     let judge: Box<dyn Judge> = Box::new(rt.alloc(), Threshold::new())?;
     let mut core = core_under(rt.alloc(), judge)?;
-    assert!(rt; dropped(rt.alloc(), &mut core)?);
+    let stale = dropped(rt.alloc(), &mut core);
+    leave(core);
+    assert!(rt; stale?);
     Ok(())
 }
 
@@ -180,10 +187,25 @@ fn elsewhere<S: Store + Reader<Ledger = Uncounted> + Drop>(
     Ok(early && own && accepted && rows)
 }
 
+/// Whether they are taken so.
+fn is_taken_elsewhere(alloc: Global) -> Result<bool, NoMemory> {
+    let mut here = patient(alloc)?;
+    match patient(alloc) {
+        Ok(mut there) => {
+            let taken = elsewhere(alloc, &mut here, &mut there);
+            leave(there);
+            leave(here);
+            taken
+        }
+        Err(NoMemory) => {
+            leave(here);
+            Err(NoMemory)
+        }
+    }
+}
+
 #[test]
 fn another_core_takes_a_piece_by_its_content(rt: HostRuntime) -> Result<(), Fail> {
-    let mut here = patient(rt.alloc())?;
-    let mut there = patient(rt.alloc())?;
-    assert!(rt; elsewhere(rt.alloc(), &mut here, &mut there)?);
+    assert!(rt; is_taken_elsewhere(rt.alloc())?);
     Ok(())
 }

@@ -1,4 +1,5 @@
 //! A whole run over the plain store.
+use crate::calls::leave;
 use rv_io::{MemSink, MemSource};
 use rv_judge::{Contrary, Judge, Patient, Threshold};
 use rv_plain::Plain;
@@ -22,10 +23,8 @@ fn run(alloc: Global, source: &mut MemSource, sink: &mut MemSink) -> Result<Stat
     judges.push(Box::new(alloc, Patient::new())?)?;
     judges.push(Box::new(alloc, Contrary::new())?)?;
     let store = Plain::new(alloc)?;
-    let Ran {
-        status,
-        core: _core,
-    } = run_plain(alloc, store, words.as_slice(), source, sink, judges);
+    let Ran { status, core } = run_plain(alloc, store, words.as_slice(), source, sink, judges);
+    leave(core);
     Ok(status)
 }
 

@@ -1,5 +1,5 @@
 //! Courses of two indexes that race over the paged store, which SHOW tells.
-use crate::calls::{ends_with, fill_rests, make, make_often};
+use crate::calls::{ends_with, fill_rests, leave, make, make_often};
 use rv_core::Core;
 use rv_judge::{Judge, Listed, Patient, Uncounted, Verdict};
 use rv_reader::{Reader, Store};
@@ -18,13 +18,15 @@ fn has_course<S: Store + Reader<Ledger = Uncounted> + Drop>(
     make(core, "OPEN C SELECT * FROM S WHERE A >= 1 AND B >= 10")?;
     make_often(core, "FETCH C", 24)?;
     make(core, "SHOW C")?;
-    ends_with(alloc, core.history(), shown)
+    ends_with(alloc, core.history(), 1, shown)
 }
 
 /// Whether they do so under a judge where indexes race.
 fn is_course(alloc: Global, judge: Box<dyn Judge>, shown: &str) -> Result<bool, NoMemory> {
     let mut core = Core::new(alloc, Paged::new(alloc)?, judge, true, 0);
-    has_course(alloc, &mut core, shown)
+    let told = has_course(alloc, &mut core, shown);
+    leave(core);
+    told
 }
 
 #[test]

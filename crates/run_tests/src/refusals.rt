@@ -1,5 +1,5 @@
 //! A query over a store of which one call is refused, each in turn, where the core's call is made again.
-use crate::calls::{THIRD, read};
+use crate::calls::{THIRD, leave, read};
 use rv_core::Core;
 use rv_judge::{Judge, Patient, Uncounted};
 use rv_lang::Reply;
@@ -41,7 +41,9 @@ fn over_refusing(alloc: Global, number: u32) -> Result<Option<u32>, NoMemory> {
     let judge: Box<dyn Judge> = Box::new(alloc, Patient::new())?;
     let store = Refusing::new(Plain::new(alloc)?, vec![in alloc; number]?);
     let mut core = Core::new(alloc, store, judge, false, 0);
-    read_to_the_end(alloc, &mut core)
+    let again = read_to_the_end(alloc, &mut core);
+    leave(core);
+    again
 }
 
 /// Of the store's calls 36 are such that the core's call is made again where one finds no memory: two CREATEs, a COMMIT, two

@@ -1,55 +1,38 @@
 //! UPDATE over a store that refuses calls: its rows are found by an index, and no page is read.
-ghost use Rattle.std.specs.Prelude.{◌≤◌, length};
-
+use crate::calls::{ends_with, fill, leave, make_all};
 use rv_core::Core;
 use rv_judge::{Judge, Patient, Uncounted};
-use rv_lang::Reply;
 use rv_plain::{Plain, Refusing};
 use rv_reader::{Reader, Store};
 use rv_value::NoMemory;
 use std::alloc::Global;
 use std::test::Fail;
 
-/// Session 1 makes a call; how many rows it has changed, where it tells.
-fn touched<S: Store + Reader<Ledger = Uncounted> + Drop>(
-    core: &mut Core<S>,
-    text: &str,
-) -> Result<Option<u64>, NoMemory>
-    requires { length text.now ≤ 4096 }
-{
-    let Reply::Touched(count) = core.call(1, text)? else {
-        return Ok(None);
-    };
-    Ok(Some(count))
-}
-
-/// An indexed table of so many numbers from 0 on, committed.
-fn load<S: Store + Reader<Ledger = Uncounted> + Drop>(
+/// Whether an UPDATE of three of 1,100 rows tells that it changed three, and no call is made again.
+fn updates<S: Store + Reader<Ledger = Uncounted> + Drop>(
     alloc: Global,
     core: &mut Core<S>,
-    rows: u32,
-) -> Result<(), NoMemory> {
-    let _ = touched(core, "CREATE TABLE T (A BIGINT, B BIGINT)")?;
-    let _ = touched(core, "CREATE INDEX IA ON T (A)")?;
-    let _ = touched(core, "BEGIN")?;
-    for number in 0..rows {
-        let line = format!(in alloc; "INSERT INTO T VALUES ({number}, 0)")?;
-        if line.len() <= 4096 {
-            let _ = touched(core, &line)?;
-        }
-    }
-    let _ = touched(core, "COMMIT")?;
-    let _ = touched(core, "BEGIN")?;
-    Ok(())
+) -> Result<bool, NoMemory> {
+    let filled = fill(alloc, core, 1100)?;
+    let calls = [
+        "COMMIT",
+        "BEGIN",
+        "UPDATE T SET B = 1 WHERE A BETWEEN 20 AND 22",
+    ];
+    let again = make_all(core, &calls)?;
+    let lines = "2 UPDATE T SET B = 1 WHERE A BETWEEN 20 AND 22\n= touched 3\n";
+    let told = ends_with(alloc, core.history(), 1, lines)?;
+    Ok(told && filled == 0 && again == 0)
 }
 
-/// How many of 1,100 rows an UPDATE of three changes over a store that refuses these calls.
-fn updated(alloc: Global, fails: Vec<u32>) -> Result<Option<u64>, NoMemory> {
+/// Whether it does so over a store that refuses these calls.
+fn updates_over(alloc: Global, fails: Vec<u32>) -> Result<bool, NoMemory> {
     let store = Refusing::new(Plain::new(alloc)?, fails);
     let judge: Box<dyn Judge> = Box::new(alloc, Patient::new())?;
     let mut core = Core::new(alloc, store, judge, false, 0);
-    load(alloc, &mut core, 1100)?;
-    touched(&mut core, "UPDATE T SET B = 1 WHERE A BETWEEN 20 AND 22")
+    let updated = updates(alloc, &mut core);
+    leave(core);
+    updated
 }
 
 /// The calls that make the table, its index and the commit, and of each INSERT the one that looks for its row at the base,
@@ -62,6 +45,6 @@ fn an_update_by_an_index_reads_no_page(rt: HostRuntime) -> Result<(), Fail> {
     for call in 1124u32..1181 {
         fails.push(call)?;
     }
-    assert!(rt; updated(alloc, fails)? == Some(3));
+    assert!(rt; updates_over(alloc, fails)?);
     Ok(())
 }

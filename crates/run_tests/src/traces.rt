@@ -1,5 +1,5 @@
 //! Courses of retrievals over the plain store, which SHOW tells.
-use crate::calls::{Reading, THIRD, ends_with, make, read};
+use crate::calls::{Reading, THIRD, ends_with, leave, make, read};
 use rv_core::Core;
 use rv_judge::{Judge, Patient, Threshold, Uncounted};
 use rv_plain::Plain;
@@ -26,7 +26,7 @@ fn has_course<S: Store + Reader<Ledger = Uncounted> + Drop>(
 ) -> Result<bool, NoMemory> {
     read(alloc, core, reading)?;
     make(core, "SHOW C")?;
-    ends_with(alloc, core.history(), shown)
+    ends_with(alloc, core.history(), 1, shown)
 }
 
 /// Whether it has it under a judge over the plain store.
@@ -37,7 +37,9 @@ fn is_course(
     shown: &str,
 ) -> Result<bool, NoMemory> {
     let mut core = Core::new(alloc, Plain::new(alloc)?, judge, false, 0);
-    has_course(alloc, &mut core, reading, shown)
+    let told = has_course(alloc, &mut core, reading, shown);
+    leave(core);
+    told
 }
 
 #[test]

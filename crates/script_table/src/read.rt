@@ -37,9 +37,15 @@ pub fn number(word: &str) -> Result<u64, Fault> {
 }
 
 pub fn small(word: &str) -> Result<u32, Fault> {
-    word.parse().ok().ok_or(Fault::Form)
+    u32::try_from(number(word)?).ok().ok_or(Fault::Form)
 }
 
+/// The number of a session.
+pub fn session(word: &str) -> Result<u8, Fault> {
+    u8::try_from(number(word)?).ok().ok_or(Fault::Form)
+}
+
+/// A place in a list.
 pub fn place(word: &str) -> Result<usize, Fault> {
-    word.parse().ok().ok_or(Fault::Form)
+    Ok(number(word)? as usize)
 }

@@ -2,16 +2,12 @@
 //! what is told of them.
 ghost use Rattle.std.specs.Prelude.{◌+◌, ◌<◌, ◌≤◌};
 
-use crate::read::{Fault, cut, number, small};
+use crate::read::{Fault, cut, number, session, small};
 use rv_model::Refusal;
 use rv_rows::Change;
 use rv_txn::{Standing, TxnFault, Txns};
 use rv_value::{NoMemory, Value, Values};
 use std::alloc::Global;
-
-fn session(word: &str) -> Result<u8, Fault> {
-    word.parse().ok().ok_or(Fault::Form)
-}
 
 fn told_refusal(alloc: Global, refusal: &Refusal) -> Result<String, NoMemory> {
     match refusal {

@@ -1,6 +1,6 @@
 use Rattle.std.proofs.Common.{arith}
 use Rattle.rv_loading.proofs.Columns.{first_second, one_column, second_first}
-use Rattle.paged_table.proofs.begin.Goals as goal
+use Rattle.paged_table.proofs.lay.Goals as goal
 
 pub lay_index-requires-clause-columns : goal.lay_index-requires-clause-columns
 lay_index-requires-clause-columns c = one_column 0 (omega arith)

@@ -2,6 +2,7 @@
 //! the worker has it.
 ghost use Rattle.std.specs.Prelude.{◌≡◌};
 
+use crate::calls::leave;
 use rv_io::{MemSink, MemSource, Sink};
 use rv_judge::{Contrary, Judge, Patient, Threshold, Uncounted};
 use rv_reader::{Reader, Store};
@@ -100,10 +101,7 @@ fn run_over<
     judges.push(Box::new(alloc, Threshold::new())?)?;
     judges.push(Box::new(alloc, Patient::new())?)?;
     judges.push(Box::new(alloc, Contrary::new())?)?;
-    let Ran {
-        status,
-        core: _core,
-    } = run(
+    let Ran { status, core } = run(
         rt,
         alloc,
         store,
@@ -113,6 +111,7 @@ fn run_over<
         judges,
         gate,
     );
+    leave(core);
     Ok(status)
 }
 
