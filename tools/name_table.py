@@ -1,5 +1,5 @@
 #!/usr/bin/env python3
-"""Writes the statements that language_table resolves, and their answers. The answers are given here by hand, from the rules in
+"""Writes the statements that try_language resolves, and their answers. The answers are given here by hand, from the rules in
 words: limits of the statement first, then unknown names, then names that exist, then kinds; the leftmost in
 the text within each, but tables before columns."""
 import argparse

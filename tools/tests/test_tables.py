@@ -6,9 +6,9 @@ from pathlib import Path
 
 TOOLS = Path(__file__).resolve().parents[1]
 CRATES = TOOLS.parent / "crates"
-ANSWERS = ["join_table", "paged_table", "piece_table", "replay_table", "retrieval_table", "scan_table", "script_table",
-           "storage_table", "tree_shapes"]  # fmt: skip
-QUESTIONS = {"join_table": "--lines", "replay_table": "--lines", "script_table": "--lines", "storage_table": "--lines"}
+ANSWERS = ["try_joins", "try_paged", "try_pieces", "try_replays", "try_retrievals", "try_scans", "try_scripts",
+           "try_storage", "try_trees"]  # fmt: skip
+QUESTIONS = {"try_joins": "--lines", "try_replays": "--lines", "try_scripts": "--lines", "try_storage": "--lines"}
 
 
 class Tables(unittest.TestCase):
@@ -34,10 +34,10 @@ class Tables(unittest.TestCase):
 
     def test_language(self):
         """The texts first, and then the statements that are resolved."""
-        answers = self.written("language_table", [], b"") + self.written("name_table", [], b"")
-        self.has("language_table", "stdout", answers)
-        lines = self.written("language_table", ["--lines"], b"") + self.written("name_table", ["--statements"], b"")
-        self.has("language_table", "stdin", lines)
+        answers = self.written("try_language", [], b"") + self.written("name_table", [], b"")
+        self.has("try_language", "stdout", answers)
+        lines = self.written("try_language", ["--lines"], b"") + self.written("name_table", ["--statements"], b"")
+        self.has("try_language", "stdin", lines)
 
     def test_own_judge(self):
         self.is_written("own_judge", [], (CRATES / "own_judge" / "stdin").read_bytes(), "stdout")

@@ -1,5 +1,0 @@
-use Rattle.join_table.specs.Driving.{Stays}
-use Rattle.join_table.proofs.drive.background.Given as goal
-
-abbrev pub invariant-steps : goal.invariant-steps
-invariant-steps g l = Stays (g.R.Reader.shown l.reader) l.initial.plan l.plan

@@ -1,9 +1,0 @@
-use Rattle.std.proofs.Common.{◌*◌}
-use Rattle.paged_table.specs.Twins.{AreReady}
-use Rattle.paged_table.proofs.run_all.Given as goal
-
-abbrev pub invariant-early : goal.invariant-early
-invariant-early l = AreReady (l.ten * 10) l.run.twins
-
-abbrev pub invariant-late : goal.invariant-late
-invariant-late l = AreReady (l.ten * 10) l.run.twins

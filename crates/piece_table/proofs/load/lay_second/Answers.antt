@@ -1,6 +1,0 @@
-use Rattle.std.proofs.Common.{arith}
-use Rattle.piece_table.proofs.Kept.{one_column}
-use Rattle.piece_table.proofs.load.lay_second.Goals as goal
-
-pub create_index-requires-clause-columns : goal.create_index-requires-clause-columns
-create_index-requires-clause-columns g c = one_column _ 1 c.requires.width (omega arith)

@@ -1,5 +1,0 @@
-use Rattle.piece_table.specs.Laying.{IsBatch}
-use Rattle.piece_table.proofs.load.rows_below.Given as goal
-
-abbrev pub invariant-rows : goal.invariant-rows
-invariant-rows l = IsBatch l.row l.changes.items

@@ -1,5 +1,0 @@
-use Rattle.rv_access.specs.Accesses.{AccessFits}
-use Rattle.retrieval_table.proofs.drive.stays_ended.Given as goal
-
-abbrev pub invariant-hand : goal.invariant-hand
-invariant-hand g l = AccessFits l.access (g.R.Reader.shown l.reader)

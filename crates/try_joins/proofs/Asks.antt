@@ -1,0 +1,147 @@
+-- A select of ours can be planned over the loaded store.
+use Rattle.std.proofs.Common.{zero, suc, ◌≡◌, ℕ, ◌<◌, ◌≤◌, ◌+◌, ◌^◌, List, [], ◌∷◌, ◌++◌, Bool, true, false, cond, ◌||◌, nat_eq, nat_lt, refl, sym, ◌∙◌, arith, length, subst, slice_index_or}
+use Rattle.std.proofs.lemmas.Bool.Decides.{nat_tests}
+use Rattle.std.proofs.lemmas.Grind.{common_steps}
+use Rattle.std.proofs.lemmas.List.{get_or_append_left}
+use Rattle.std.specs.List.{list_all, list_any}
+use Rattle.std.specs.Cmp.{first_so, second_so}
+use Rattle.rv_value.specs.declared.record.Record.{Record}
+use Rattle.rv_restrict.specs.declared.atom.ColRef.{ColRef}
+use Rattle.rv_restrict.specs.declared.atom.Operand.TheVariants.{Literal, Column}
+use Rattle.rv_restrict.specs.declared.atom.Atom.{Atom}
+use Rattle.rv_restrict.specs.declared.atom.Atom.TheVariants.{Compare, Between, Among, IsNull, Starts, Const}
+use Rattle.rv_restrict.specs.Truth.{atom_names_only, group_names_only, names_only}
+use Rattle.rv_catalog.specs.declared.def.Select.{Select}
+use Rattle.rv_catalog.specs.declared.def.IndexDef.{IndexDef}
+use Rattle.rv_reader.specs.Shown.{Shown}
+use Rattle.rv_reader.specs.Storing.{AreColumns, AreWide}
+use Rattle.rv_join.specs.Asking.{CanPlan, IsIndexAt, atom_names, group_names, have_column, index_at, indexes_from, no_index, only_names, same_column, select_uses, table_at}
+use Rattle.try_joins.specs.Laying.{Offers, columns_of, table_of}
+use Rattle.try_joins.specs.Asking.{AreIndexes, HasIndexes, IsOurs, is_column, is_table}
+use Rattle.try_joins.proofs.Kept.{are_columns}
+
+either : (a b : Bool) (P : Type 0) → (a || b) ≡ true → (a ≡ true → P) → (b ≡ true → P) → P
+either true b P h f g = f refl
+either false b P h f g = g h
+
+same_is : (q : ColRef → Bool) (c d : ColRef) → same_column c d ≡ true → q d ≡ true → q c ≡ true
+same_is q c d same h = subst (λ (p : ℕ). q (record { place = p; column = c.column }) ≡ true) (sym (place (first_so (nat_eq c.place d.place) (nat_eq c.column d.column) same))) (subst (λ (n : ℕ). q (record { place = d.place; column = n }) ≡ true) (sym (column (second_so (nat_eq c.place d.place) (nat_eq c.column d.column) same))) h)
+  where
+    place : nat_eq c.place d.place ≡ true → c.place ≡ d.place
+    place e = grind (arith, nat_tests, e)
+
+    column : nat_eq c.column d.column ≡ true → c.column ≡ d.column
+    column e = grind (arith, nat_tests, e)
+
+any_is : (q : ColRef → Bool) (cs : List ColRef) (c : ColRef) → list_all q cs ≡ true → list_any (same_column c) cs ≡ true → q c ≡ true
+any_is q [] c all some = absurd (cc)
+any_is q (d ∷ cs) c all some = either (same_column c d) (list_any (same_column c) cs) (q c ≡ true) some (λ e. same_is q c d e (first_so (q d) (list_all q cs) all)) (λ e. any_is q cs c (second_so (q d) (list_all q cs) all) e)
+
+atom_is : (q : ColRef → Bool) (a : Atom) (c : ColRef) → atom_names_only q a ≡ true → atom_names c a ≡ true → q c ≡ true
+atom_is q (Compare d op (Literal v)) c only n = either (same_column c d) false (q c ≡ true) n (λ e. same_is q c d e (first_so (q d) true only)) (λ e. no e)
+  where
+    no : {X : Type 0} → false ≡ true → X
+    no e = absurd (cc)
+atom_is q (Compare d op (Column f)) c only n = either (same_column c d) (same_column c f) (q c ≡ true) n (λ e. same_is q c d e (first_so (q d) (q f) only)) (λ e. same_is q c f e (second_so (q d) (q f) only))
+atom_is q (Between d low high) c only n = same_is q c d n only
+atom_is q (Among d list) c only n = same_is q c d n only
+atom_is q (IsNull d negated) c only n = same_is q c d n only
+atom_is q (Starts d text) c only n = same_is q c d n only
+atom_is q (Const t) c only n = absurd (cc)
+
+group_is : (q : ColRef → Bool) (g : List Atom) (c : ColRef) → group_names_only q g ≡ true → group_names c g ≡ true → q c ≡ true
+group_is q [] c only n = absurd (cc)
+group_is q (a ∷ g) c only n = either (atom_names c a) (group_names c g) (q c ≡ true) n (λ e. atom_is q a c (first_so (atom_names_only q a) (group_names_only q g) only) e) (λ e. group_is q g c (second_so (atom_names_only q a) (group_names_only q g) only) e)
+
+only_is : (q : ColRef → Bool) (only : List (List Atom)) (c : ColRef) → names_only q only ≡ true → only_names c only ≡ true → q c ≡ true
+only_is q [] c all n = absurd (cc)
+only_is q (g ∷ only) c all n = either (group_names c g) (only_names c only) (q c ≡ true) n (λ e. group_is q g c (first_so (group_names_only q g) (names_only q only) all) e) (λ e. only_is q only c (second_so (group_names_only q g) (names_only q only) all) e)
+
+uses_is : (s : Select) (c : ColRef) → IsOurs s → select_uses s c ≡ true → is_column (length s.tables) c ≡ true
+uses_is s c ours u = either (list_any (same_column c) s.returns) (list_any (same_column c) s.order || only_names c s.only) (is_column (length s.tables) c ≡ true) u (λ e. any_is (is_column (length s.tables)) s.returns c ours.returns e) (λ e. either (list_any (same_column c) s.order) (only_names c s.only) (is_column (length s.tables) c ≡ true) e (λ f. any_is (is_column (length s.tables)) s.order c ours.order f) (λ f. only_is (is_column (length s.tables)) s.only c ours.only f))
+
+below : (n m : ℕ) → nat_lt n m ≡ true → n < m
+below n m h = grind (arith, nat_tests, h)
+
+table_low : (tables : List ℕ) (p : ℕ) → list_all is_table tables ≡ true → p < length tables → slice_index_or tables p 0 < 4
+table_low [] p all le = absurd (omega (arith, le))
+table_low (t ∷ tables) zero all le = below t 4 (first_so (is_table t) (list_all is_table tables) all)
+table_low (t ∷ tables) (suc p) all le = table_low tables p (second_so (is_table t) (list_all is_table tables) all) (omega (arith, le))
+
+wide_has : (c : ℕ) (rows : List Record) → c < 3 → AreWide 3 rows → have_column c rows ≡ true
+wide_has c [] low wide = refl
+wide_has c (r ∷ rows) low wide = let long = wide.0 in let tail = wide_has c rows low wide.1 in let here : nat_lt c (length r.values) ≡ true = test (length r.values) long in rw here tail
+  where
+    test : (n : ℕ) → n ≡ 3 → nat_lt c n ≡ true
+    test n h = grind (arith, nat_tests, h, low)
+
+from_less : (table n : ℕ) (ds : List IndexDef) → length (indexes_from table n ds) ≤ length ds
+from_less table n [] = omega arith
+from_less table n (d ∷ ds) = let tail = from_less table (n + 1) ds in elim (nat_eq d.table table) as (λ b. length (cond b ((n, d.columns) ∷ indexes_from table (n + 1) ds) (indexes_from table (n + 1) ds)) ≤ length (d ∷ ds)) [
+  | true ↦ omega (arith, tail)
+  | false ↦ omega (arith, tail)
+]
+
+index_is : (indexes : List IndexDef) (shown : Shown) (snap count i : ℕ) → count ≤ 6 → AreIndexes count indexes → Offers shown snap → i < count → IsIndexAt shown (index_at indexes i).table snap i (index_at indexes i).columns
+index_is indexes shown snap count i few are offers low = subst (λ t. IsIndexAt shown t snap i (index_at indexes i).columns) (sym (are.table i low)) (subst (IsIndexAt shown (table_of i) snap i) (sym (are.columns i low)) (record {
+  can = offers.can i six;
+  some = columns.some;
+  few = columns.few;
+  different = columns.different;
+  entries = offers.entries i six;
+  cuts = offers.cuts i six;
+}))
+  where
+    six : i < 6
+    six = omega (arith, few, low)
+
+    columns : AreColumns 3 (columns_of i)
+    columns = are_columns 3 i refl six
+
+pub can_plan : (s : Select) (indexes : List IndexDef) (shown : Shown) (snap : ℕ) → IsOurs s → HasIndexes indexes → Offers shown snap → CanPlan s indexes shown snap
+can_plan s indexes shown snap ours has offers =
+    let long = has.are.long in
+    record {
+      some = ours.some;
+      joined = ours.joined;
+      ascend = λ p le. offers.ascend (table_at s p) (table_low s.tables p ours.there le);
+      read = λ p le. offers.read (table_at s p) (table_low s.tables p ours.there le);
+      places = λ c u. inside c u;
+      columns = λ c u. wide_has c.column (shown.rows (table_at s c.place) snap) (below c.column 3 (second_so (nat_lt c.place (length s.tables)) (nat_lt c.column 3) (uses_is s c ours u))) (offers.wide (table_at s c.place) (table_low s.tables c.place ours.there (inside c u)));
+      numbers = small (length indexes) has.count has.few long;
+      each = λ i le. index_is indexes shown snap has.count i has.few has.are offers (omega (arith, le, long));
+      few = λ p le. eight (length (indexes_from (table_at s p) 0 indexes)) (length indexes) has.count has.few (from_less (table_at s p) 0 indexes) long;
+    }
+  where
+    inside : (c : ColRef) → select_uses s c ≡ true → c.place < length s.tables
+    inside c u = below c.place (length s.tables) (first_so (nat_lt c.place (length s.tables)) (nat_lt c.column 3) (uses_is s c ours u))
+
+    small : (n m : ℕ) → m ≤ 6 → n ≡ m → n < 2 ^ 32
+    small n m few h = omega (arith, few, h)
+
+    eight : (a b m : ℕ) → m ≤ 6 → a ≤ b → b ≡ m → a ≤ 8
+    eight a b m few h i = omega (arith, few, h, i)
+
+last_index : (indexes : List IndexDef) (d : IndexDef) → index_at (indexes ++ d ∷ []) (length indexes) ≡ d
+last_index [] d = refl
+last_index (x ∷ indexes) d = last_index indexes d
+
+-- one more index
+pub indexes_more : (n : ℕ) (indexes : List IndexDef) (d : IndexDef) → AreIndexes n indexes → d.table ≡ table_of n → d.columns ≡ columns_of n → AreIndexes (n + 1) (indexes ++ d ∷ [])
+indexes_more n indexes d are table columns = record {
+  long = let long = are.long in grind (arith, common_steps, long);
+  table = λ i le. by_place (λ (x : IndexDef) (k : ℕ). x.table ≡ table_of k) are.table table i le;
+  columns = λ i le. by_place (λ (x : IndexDef) (k : ℕ). x.columns ≡ columns_of k) are.columns columns i le;
+}
+  where
+    below_n : (i : ℕ) → nat_lt i n ≡ true → i < n
+    below_n i e = grind (arith, nat_tests, e)
+
+    at_n : (i : ℕ) → i < n + 1 → nat_lt i n ≡ false → i ≡ n
+    at_n i le e = grind (arith, nat_tests, e, le)
+
+    by_place : (P : IndexDef → ℕ → Type 0) → ((i : ℕ) → i < n → P (index_at indexes i) i) → P d n → (i : ℕ) → i < n + 1 → P (index_at (indexes ++ d ∷ []) i) i
+    by_place P before here i le = elim (nat_lt i n) as (λ b. nat_lt i n ≡ b → P (index_at (indexes ++ d ∷ []) i) i) [
+      | true ↦ λ e. let low = below_n i e in let long = are.long in subst (λ (x : IndexDef). P x i) (sym (get_or_append_left indexes (d ∷ []) no_index i (omega (arith, low, long)))) (before i low)
+      | false ↦ λ e. let at = at_n i le e in subst (λ (k : ℕ). P (index_at (indexes ++ d ∷ []) k) k) (are.long ∙ sym at) (subst (λ (x : IndexDef). P x (length indexes)) (sym (last_index indexes d)) (subst (P d) (sym are.long) here))
+    ] refl

@@ -1,0 +1,181 @@
+//! Plans for what is asked, and the lines that tell of them.
+ghost use Rattle.std.specs.Prelude.{◌≡◌, IfOk, true};
+ghost use Rattle.std.specs.List.Sorted.{IsPermutation};
+ghost use Rattle.rv_model.specs.Offering.{offers_over};
+ghost use Rattle.rv_plain.specs.Kept.{shown_of};
+ghost use Rattle.rv_join.specs.Levels.{table_rows};
+ghost use Rattle.rv_join.specs.Plans.{PlanFits, plan_rest};
+ghost use Rattle.try_joins.specs.Asking.{HasIndexes, IsOurs};
+ghost use Rattle.try_joins.specs.Laying.{Offers};
+
+use crate::drive::{Driven, drive};
+use crate::load::{Filling, Loaded, load, read_filling};
+use crate::read::{Asked, Fault, read_line, small};
+use crate::select::{indexes, select};
+use crate::told::{rows_text, told};
+use crate::trace::trace_text;
+use rv_catalog::{IndexDef, Select};
+use rv_join::Plan;
+use rv_judge::{Contrary, Judge, Patient, Steps, Threshold, Trace, Uncounted};
+use rv_reader::Reader;
+use rv_value::NoMemory;
+use std::alloc::Global;
+
+/// What is left goes, with all that it holds. A function of any type calls its drop, and sees none of its parts: a plan has so many
+/// that what its cases cost is minutes of the prover.
+fn leave<T: Drop>(_left: T) {}
+
+/// Drives a plan to its end, and tells its trace then.
+fn followed<R: Reader<Ledger = Uncounted>>(
+    alloc: Global,
+    reader: &R,
+    plan: &mut Plan,
+    judge: &mut Box<dyn Judge>,
+    so_many: u32,
+    steps: &mut Steps<Uncounted>,
+) -> Result<(Driven, Trace), NoMemory>
+    requires { PlanFits (R.shown reader.now) plan.old }
+    ensures { IfOk result (λ found. found.0.ended ≡ true → IsPermutation (plan_rest (R.shown reader.now) plan.old) found.0.offers.items) }
+{
+    let driven = drive(alloc, reader, plan, judge, so_many, steps)?;
+    Ok((driven, plan.trace()))
+}
+
+/// Opens a plan of a select, and drives it to its end. The offers of one that ended are those of the definition, each as
+/// often.
+fn planned<R: Reader<Ledger = Uncounted>>(
+    alloc: Global,
+    reader: &R,
+    snap: u64,
+    indexes: &[IndexDef],
+    select: &Select,
+    judge: &mut Box<dyn Judge>,
+    so_many: u32,
+) -> Result<(Driven, Trace), NoMemory>
+    requires offers { Offers (R.shown reader.now) snap }
+    requires indexes { HasIndexes indexes.now }
+    requires select { IsOurs select.now }
+    ensures { IfOk result (λ found. found.0.ended ≡ true → IsPermutation (offers_over select.now (table_rows (R.shown reader.now) snap)) found.0.offers.items) }
+{
+    let mut steps = Steps::new(Uncounted);
+    let mut plan = Plan::open(alloc, reader, select, indexes, snap, 1, false, &mut steps)?;
+    let found = followed(alloc, reader, &mut plan, judge, so_many, &mut steps);
+    leave(plan);
+    found
+}
+
+/// A judge of the three, by its name.
+#[derive(Clone, Copy, Debug, PartialEq, Eq)]
+enum Ruling {
+    Threshold,
+    Contrary,
+    Patient,
+}
+
+fn read_ruling(word: &str) -> Result<Ruling, Fault> {
+    match word {
+        "threshold" => Ok(Ruling::Threshold),
+        "contrary" => Ok(Ruling::Contrary),
+        "patient" => Ok(Ruling::Patient),
+        _ => Err(Fault::Form),
+    }
+}
+
+/// The same with one of three judges.
+fn run<R: Reader<Ledger = Uncounted>>(
+    alloc: Global,
+    reader: &R,
+    snap: u64,
+    indexes: &[IndexDef],
+    select: &Select,
+    ruling: Ruling,
+    so_many: u32,
+) -> Result<(Driven, Trace), NoMemory>
+    requires offers { Offers (R.shown reader.now) snap }
+    requires indexes { HasIndexes indexes.now }
+    requires select { IsOurs select.now }
+    ensures { IfOk result (λ found. found.0.ended ≡ true → IsPermutation (offers_over select.now (table_rows (R.shown reader.now) snap)) found.0.offers.items) }
+{
+    let mut judge: Box<dyn Judge> = match ruling {
+        Ruling::Threshold => Box::new(alloc, Threshold::new())?,
+        Ruling::Contrary => Box::new(alloc, Contrary::new())?,
+        Ruling::Patient => Box::new(alloc, Patient::new())?,
+    };
+    planned(alloc, reader, snap, indexes, select, &mut judge, so_many)
+}
+
+/// The same over what was loaded.
+fn driven(
+    alloc: Global,
+    loaded: &Loaded,
+    asked: &Asked,
+    select: &Select,
+) -> Result<(Driven, Trace), Fault>
+    requires loaded { Offers (shown_of loaded.now.store) loaded.now.snap }
+    requires select { IsOurs select.now }
+{
+    let ruling = read_ruling(asked.judge)?;
+    let steps = small(asked.steps)?;
+    let indexes = indexes(alloc, loaded.indexes())?;
+    let found = run(
+        alloc,
+        &loaded.store,
+        loaded.snap,
+        indexes.as_slice(),
+        select,
+        ruling,
+        steps,
+    )?;
+    Ok(found)
+}
+
+/// What came of a plan, as the line asks it.
+fn told_as(alloc: Global, asked: &Asked, driven: Driven, trace: &Trace) -> Result<String, Fault> {
+    match asked.tell {
+        "mix" => Ok(told(alloc, driven)?),
+        "reads" => told_reads(alloc, driven, trace),
+        "rows" => told_rows(alloc, &driven, trace),
+        _ => Err(Fault::Form),
+    }
+}
+
+fn told_reads(alloc: Global, driven: Driven, trace: &Trace) -> Result<String, Fault> {
+    let told = told(alloc, driven)?;
+    Ok(format!(in alloc;
+        "{}, pages {} leaves {} fetches {}",
+        told.as_str(),
+        trace.pages,
+        trace.leaves,
+        trace.fetches
+    )?)
+}
+
+fn told_rows(alloc: Global, driven: &Driven, trace: &Trace) -> Result<String, Fault> {
+    let rows = rows_text(alloc, driven)?;
+    let trace = trace_text(alloc, trace)?;
+    Ok(format!(in alloc; "{}; {}", rows.as_str(), trace.as_str())?)
+}
+
+/// What comes of a line.
+pub fn answer(alloc: Global, line: &str) -> Result<String, Fault> {
+    let asked = read_line(line)?;
+    let filling: Filling = read_filling(asked.rows)?;
+    match select(alloc, &asked)? {
+        Some(select) => answered(alloc, filling, &asked, &select),
+        None => Err(Fault::Form),
+    }
+}
+
+/// Loads a store, and drives a plan over it.
+fn answered(
+    alloc: Global,
+    filling: Filling,
+    asked: &Asked,
+    select: &Select,
+) -> Result<String, Fault>
+    requires select { IsOurs select.now }
+{
+    let loaded = load(alloc, filling)?;
+    let (driven, trace) = driven(alloc, &loaded, asked, select)?;
+    told_as(alloc, asked, driven, &trace)
+}

@@ -1,0 +1,5 @@
+use Rattle.try_paged.specs.Twins.{AreReady}
+use Rattle.try_paged.proofs.sweep_to.Given as goal
+
+abbrev pub invariant-sweeps : goal.invariant-sweeps
+invariant-sweeps l = AreReady l.commits l.twins

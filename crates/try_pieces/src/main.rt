@@ -1,0 +1,38 @@
+//! Drives joint scans over a plain store of eighty rows by a table: pieces are taken twice, given late, given twice,
+//! given to another scan and never given. The file `stdout` has what tools/try_pieces.py finds by the rules in words.
+#![tactic(auto)]
+
+ghost use Rattle.try_pieces.specs.Drawing.{Drawn, Lists};
+
+mod acts;
+mod joint;
+mod lines;
+mod load;
+mod table;
+
+use load::load;
+use rv_plain::Plain;
+use rv_value::NoMemory;
+use std::alloc::Global;
+use std::io;
+use table::add_table;
+
+fn all_lines(alloc: Global) -> Result<Vec<String>, NoMemory> {
+    let mut lines = Vec::new(alloc);
+    let mut store = Plain::new(alloc)?;
+    let snap = load(alloc, &mut store, 80)?;
+    add_table(alloc, &store, snap, &mut lines)?;
+    Ok(lines)
+}
+
+fn main(rt: HostRuntime) -> io::Result<()> {
+    match all_lines(rt.alloc()) {
+        Ok(lines) => {
+            'lines: for line in lines.as_slice() {
+                println!(rt; "{}", line.as_str())?;
+            }
+        }
+        Err(NoMemory) => println!(rt; "no memory")?,
+    }
+    Ok(())
+}

@@ -1,0 +1,282 @@
+//! The table: a name, a query, and the acts that are done with a joint scan for it.
+ghost use Rattle.std.specs.Prelude.{◌≡◌};
+ghost use Rattle.try_pieces.specs.Drawing.{Drawn, Lists};
+
+use crate::acts::{Act, carry_out};
+use crate::joint::{Name, Query, joint};
+use crate::lines::{state, total};
+use rv_jscan::Jscan;
+use rv_judge::{Steps, Uncounted};
+use rv_reader::Reader;
+use rv_value::NoMemory;
+use std::alloc::Global;
+
+/// The first value is from 10 to 40 and the second from 30 to 70.
+const BOTH: Query = Query {
+    low: 10,
+    high: 40,
+    without: 99,
+    second_low: 30,
+    second_high: 70,
+};
+
+/// The same without the row 35.
+const WITHOUT: Query = Query {
+    low: 10,
+    high: 40,
+    without: 35,
+    second_low: 30,
+    second_high: 70,
+};
+
+/// No row has such a first value.
+const NONE: Query = Query {
+    low: 90,
+    high: 95,
+    without: 99,
+    second_low: 30,
+    second_high: 70,
+};
+
+const OWN: Name = Name {
+    cursor: 1,
+    opening: 1,
+    turned: false,
+};
+
+const OTHER_CURSOR: Name = Name {
+    cursor: 2,
+    opening: 1,
+    turned: false,
+};
+
+const OTHER_OPENING: Name = Name {
+    cursor: 1,
+    opening: 2,
+    turned: false,
+};
+
+/// The same name, but the other index comes first.
+const TURNED: Name = Name {
+    cursor: 1,
+    opening: 1,
+    turned: true,
+};
+
+fn do_all<R: Reader<Ledger = Uncounted>>(
+    alloc: Global,
+    reader: &R,
+    snap: u64,
+    query: Query,
+    acts: &[Act],
+    jscan: &mut Jscan,
+    steps: &mut Steps<R::Ledger>,
+    lines: &mut Vec<String>,
+) -> Result<(), NoMemory>
+    requires lists { Lists (R.shown reader.now) snap }
+    requires drawn { Drawn (R.shown reader.now) jscan.old }
+{
+    let mut pieces = Vec::new(alloc);
+    'acts: for one in acts {
+        let did = carry_out(alloc, reader, snap, query, *one, jscan, &mut pieces, steps)?;
+        lines.push(state(alloc, did.as_str(), jscan)?)?;
+    }
+    Ok(())
+}
+
+/// A row of the table.
+fn row<R: Reader<Ledger = Uncounted>>(
+    alloc: Global,
+    reader: &R,
+    snap: u64,
+    name: &str,
+    query: Query,
+    acts: &[Act],
+    lines: &mut Vec<String>,
+) -> Result<(), NoMemory>
+    requires { Lists (R.shown reader.now) snap }
+{
+    lines.push(format!(in alloc; "{name}")?)?;
+    let mut jscan = joint(alloc, reader, snap, query, OWN)?;
+    let mut steps = Steps::new(Uncounted);
+    do_all(
+        alloc, reader, snap, query, acts, &mut jscan, &mut steps, lines,
+    )?;
+    lines.push(total(alloc, &jscan, steps.counts().leaves)?)?;
+    Ok(())
+}
+
+fn add_once<R: Reader<Ledger = Uncounted>>(
+    alloc: Global,
+    reader: &R,
+    snap: u64,
+    lines: &mut Vec<String>,
+) -> Result<(), NoMemory>
+    requires { Lists (R.shown reader.now) snap }
+{
+    let acts = [
+        Act::Take,
+        Act::Give(0),
+        Act::Take,
+        Act::Give(1),
+        Act::Take,
+        Act::Give(2),
+        Act::Take,
+        Act::Give(3),
+        Act::Take,
+        Act::Give(4),
+        Act::Take,
+        Act::Give(4),
+    ];
+    row(alloc, reader, snap, "each once", BOTH, &acts, lines)?;
+    row(
+        alloc,
+        reader,
+        snap,
+        "one row does not pass",
+        WITHOUT,
+        &acts,
+        lines,
+    )?;
+    let acts = [Act::Take, Act::Give(0), Act::Take, Act::Give(0)];
+    row(alloc, reader, snap, "an empty list", NONE, &acts, lines)
+}
+
+fn add_twice<R: Reader<Ledger = Uncounted>>(
+    alloc: Global,
+    reader: &R,
+    snap: u64,
+    lines: &mut Vec<String>,
+) -> Result<(), NoMemory>
+    requires { Lists (R.shown reader.now) snap }
+{
+    let acts = [
+        Act::Take,
+        Act::Take,
+        Act::Give(1),
+        Act::Give(0),
+        Act::Take,
+        Act::Take,
+        Act::Give(1),
+        Act::Give(3),
+        Act::Give(2),
+    ];
+    row(alloc, reader, snap, "taken twice", BOTH, &acts, lines)?;
+    let acts = [
+        Act::Take,
+        Act::Give(0),
+        Act::Give(0),
+        Act::Take,
+        Act::Give(0),
+        Act::Give(1),
+        Act::Give(1),
+        Act::Take,
+        Act::Give(0),
+        Act::Give(1),
+        Act::Give(2),
+    ];
+    row(
+        alloc,
+        reader,
+        snap,
+        "given twice and late",
+        BOTH,
+        &acts,
+        lines,
+    )
+}
+
+fn add_others<R: Reader<Ledger = Uncounted>>(
+    alloc: Global,
+    reader: &R,
+    snap: u64,
+    lines: &mut Vec<String>,
+) -> Result<(), NoMemory>
+    requires { Lists (R.shown reader.now) snap }
+{
+    let acts = [
+        Act::TakeOther(OTHER_CURSOR),
+        Act::TakeOther(OTHER_OPENING),
+        Act::TakeOther(TURNED),
+        Act::TakeOther(OWN),
+        Act::Give(3),
+        Act::Take,
+        Act::Give(0),
+        Act::Give(1),
+        Act::Give(2),
+        Act::Give(3),
+        Act::Give(4),
+    ];
+    row(alloc, reader, snap, "of another scan", BOTH, &acts, lines)
+}
+
+fn add_abandoned<R: Reader<Ledger = Uncounted>>(
+    alloc: Global,
+    reader: &R,
+    snap: u64,
+    lines: &mut Vec<String>,
+) -> Result<(), NoMemory>
+    requires { Lists (R.shown reader.now) snap }
+{
+    let acts = [
+        Act::Take,
+        Act::Give(0),
+        Act::Take,
+        Act::Abandon,
+        Act::Give(1),
+        Act::Take,
+        Act::Give(1),
+        Act::Give(2),
+        Act::Take,
+        Act::Give(3),
+        Act::Take,
+        Act::Give(4),
+        Act::Take,
+        Act::Abandon,
+    ];
+    row(
+        alloc,
+        reader,
+        snap,
+        "the first never given",
+        BOTH,
+        &acts,
+        lines,
+    )?;
+    let acts = [
+        Act::Take,
+        Act::Give(0),
+        Act::Take,
+        Act::Give(1),
+        Act::Take,
+        Act::Abandon,
+        Act::Give(2),
+        Act::Take,
+    ];
+    row(
+        alloc,
+        reader,
+        snap,
+        "the second never given",
+        BOTH,
+        &acts,
+        lines,
+    )?;
+    let acts = [Act::Abandon, Act::Abandon, Act::Take];
+    row(alloc, reader, snap, "both abandoned", BOTH, &acts, lines)
+}
+
+/// The lines of the whole table.
+pub fn add_table<R: Reader<Ledger = Uncounted>>(
+    alloc: Global,
+    reader: &R,
+    snap: u64,
+    lines: &mut Vec<String>,
+) -> Result<(), NoMemory>
+    requires { Lists (R.shown reader.now) snap }
+{
+    add_once(alloc, reader, snap, lines)?;
+    add_twice(alloc, reader, snap, lines)?;
+    add_others(alloc, reader, snap, lines)?;
+    add_abandoned(alloc, reader, snap, lines)
+}

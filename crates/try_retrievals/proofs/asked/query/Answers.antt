@@ -1,0 +1,11 @@
+use Rattle.std.proofs.Common.{◌∙◌, subst, List, ℕ}
+use Rattle.try_retrievals.specs.Asking.{Chosen, IsOrder}
+use Rattle.try_retrievals.proofs.Asks.{can_ask}
+use Rattle.try_retrievals.proofs.asked.query.Goals as goal
+
+pub returns-clause-can : goal.returns-clause-can
+returns-clause-can c = λ shown offers.
+    let indexes = c.from_vec.ensures in
+    let chosen : Chosen 4 c.from_vec.result = rw indexes c.in_ok-indexes.ensures in
+    let order : IsOrder c.from_vec.result c.from_vec-3.result = rw (indexes, c.from_vec-3.ensures) (subst (λ (is : List (ℕ × List ℕ)). IsOrder is c.in_ok-order.order.items) c.as_slice.ensures.value c.in_ok-order.ensures) in
+    can_ask shown c.args.snap c.args.asked.now c.in_ok-only.only c.from_vec.result c.from_vec-2.result c.from_vec-3.result c.args.asked.now.goal c.in_ok-only.ensures chosen (c.from_vec-2.ensures ∙ c.in_ok-need.ensures) order offers

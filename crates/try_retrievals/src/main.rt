@@ -1,0 +1,49 @@
+//! Drives retrievals over plain stores by a table: every strategy with every judge, with none, one and five background
+//! steps between two foreground steps, and with pieces given late, twice and never; and some single ones over plain and
+//! over paged stores. Of each it writes the rows in the order in which they came, whether they are the rows that qualify,
+//! each once and in order where an order is asked, and the trace. Of some searches it writes the rows and what was read.
+//! The file `stdout` has what tools/try_retrievals.py
+//! finds by the rules in words.
+#![tactic(auto)]
+
+mod asked;
+mod case;
+mod checked;
+mod drive;
+mod judges;
+mod kinds;
+mod lines;
+mod load;
+mod rows;
+mod searches;
+mod trace;
+mod unions;
+
+use kinds::add_kinds;
+use rows::add_rows;
+use rv_value::NoMemory;
+use searches::add_searches;
+use std::alloc::Global;
+use std::io;
+use unions::add_unions;
+
+fn all_lines(alloc: Global) -> Result<Vec<String>, NoMemory> {
+    let mut lines = Vec::new(alloc);
+    add_rows(alloc, &mut lines)?;
+    add_searches(alloc, &mut lines)?;
+    add_kinds(alloc, &mut lines)?;
+    add_unions(alloc, &mut lines)?;
+    Ok(lines)
+}
+
+fn main(rt: HostRuntime) -> io::Result<()> {
+    match all_lines(rt.alloc()) {
+        Ok(lines) => {
+            'lines: for line in lines.as_slice() {
+                println!(rt; "{}", line.as_str())?;
+            }
+        }
+        Err(NoMemory) => println!(rt; "no memory")?,
+    }
+    Ok(())
+}
