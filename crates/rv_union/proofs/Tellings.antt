@@ -116,8 +116,6 @@ aside_tells u new plans member items named control t =
 
 -- A MEMBER IS OVER
 
-    first : (a b : Bool) → a ≡ true → (a || b) ≡ true
-    first a b h = grind arith
 index_known (p ∷ plans) (suc k) l = second (nat_eq p.index (plan_at plans k).index) (has_index (plan_at plans k).index (indexes_of plans)) (index_known plans k (omega arith))
   where
     second : (a b : Bool) → b ≡ true → (a || b) ≡ true
