@@ -16,7 +16,7 @@ use Rattle.rv_reader.proofs.Orders.{order}
 use Rattle.rv_reader.specs.Halves.{PassesTo, is_not_after}
 use Rattle.rv_node.specs.Descent.{child_from, child_in}
 use Rattle.rv_node.specs.Ranks.{any, is_long}
-use Rattle.rv_reader.proofs.Parted.{before_goes}
+use Rattle.rv_reader.proofs.Halving.{before_goes}
 use Rattle.rv_node.proofs.Parted.{all_any, passed_parts}
 use Rattle.rv_node.proofs.Orders.{lt_trans}
 use Rattle.rv_index.specs.Steps.{is_ahead, passed_first}

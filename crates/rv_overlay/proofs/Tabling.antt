@@ -116,8 +116,6 @@ on_applied table page (c ∷ cs) rows = elim (cases_Bool (c.table == table)) [
 
 -- Rows by number.
 
-]
-
 pub row_with_other : (number other : ℕ) (values : Option (List Value)) (rows : List Record) → number == other ≡ false → row_at (with_values number values rows) other ≡ row_at rows other
 row_with_other number other None rows apart = find_kept (λ (r : Record). not (r.row.0 == number)) other (λ r t. grind (arith, nat_tests)) rows
 row_with_other number other (Some vs) rows apart =
@@ -198,8 +196,6 @@ pub past_table : (table page : ℕ) (c : Change) (old rows : List Record) → c.
 past_table table page c old rows f = record {
   same = λ ds rise. ap (λ rs. old ++ rs) (step_other (λ n. n / 32 == page) table c (on_page page ds) rows (c.row.0 / 32 == page) f);
 }
-
-]
 
 -- No change, and a table that no change touches.
 

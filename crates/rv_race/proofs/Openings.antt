@@ -72,9 +72,6 @@ opened_tells table snap only scans cursor opening pages r shown o can two few =
 
 -- THE EFFORT
 
-    left_true : (a b : Bool) → (a && b) ≡ true → a ≡ true
-    left_true a b h = grind arith
-
 planned_cost : (plans : List ScanPlan) (shown : Shown) (snap : ℕ) → planned_work plans shown snap ≤ 2 * cuts_and_entries plans shown snap + 2 * length plans
 planned_cost [] shown snap = omega arith
 planned_cost (p ∷ plans) shown snap =

@@ -30,8 +30,6 @@ is_racing Done h = absurd (cc)
 pub rest_racing : (r : Raced) (shown : Shown) → racing r.control ≡ true → rest r shown ≡ rest_by (λ n. true) r.only (rows_of r shown)
 rest_racing r shown h = ap (λ (c : Control). rest_by (left_by c r.list r.at r.last (rows_of r shown)) r.only (rows_of r shown)) (is_racing r.control h)
 
-]
-
 -- While scans are under way.
 
 -- what changes while the control stays

@@ -37,7 +37,8 @@ pub fn key_of(alloc: Global, values: &[Value], columns: &[u32]) -> Result<Key, N
     requires few { length columns.now ≤ 4 }
     ensures { IfOk result (λ key. key ≡ map (column_of values.now) columns.now) }
 {
-    Ok(Key::from_vec(key_values(alloc, values, columns)?))
+    let key = key_values(alloc, values, columns)?;
+    Ok(Key::from_vec(key))
 }
 
 /// The entry of a row of these values in an index of these columns, one to four.

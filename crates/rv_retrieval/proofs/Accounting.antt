@@ -14,6 +14,3 @@ account_at (plan ∷ plans) [] zero l = refl
 account_at (plan ∷ plans) (c ∷ counts) zero l = refl
 account_at (plan ∷ plans) [] (suc i) l = account_at plans [] i (omega arith)
 account_at (plan ∷ plans) (c ∷ counts) (suc i) l = account_at plans counts i (omega arith)
-
-    number : (a b : ℕ) → nat_lt a b ≡ true → a < b
-    number a b h = grind (arith, nat_tests)

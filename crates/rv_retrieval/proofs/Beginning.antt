@@ -17,8 +17,6 @@ use Rattle.rv_retrieval.specs.Opens.{Opens, first_of}
 use Rattle.rv_retrieval.specs.Shape.{Shape, RetrievalFits, Source, Undelivered, Ahead, Keys, Pages, rest, source, source_of, left_at, rows_of, is_building, is_index_only, is_sorted, is_led}
 use Rattle.rv_final.proofs.Rests.{same_rest}
 
-]
-
 first_led : (s : Strategy) (b : Bool) → source_of (first_of s b) s ≡ Ahead → is_led s ≡ true
 first_led Table b h = absurd (let bad : Pages ≡ Ahead = h in cc)
 first_led BackgroundOnly b h = absurd (let bad : Undelivered ≡ Ahead = h in cc)

@@ -46,9 +46,6 @@ use Rattle.rv_retrieval.proofs.Courses.{HasFront, keys_back, sum_lower}
 
 -- The rows of a table are at most as many as its pages have places.
 
-    left_true : (a b : Bool) → (a && b) ≡ true → a ≡ true
-    left_true a b h = grind arith
-
 rows_few : (rows : List Record) (pages : ℕ) → IsTable rows pages → length rows ≤ 32 * pages
 rows_few rows pages t = rows_within rows (32 * pages) t.ascend t.within
 

@@ -19,8 +19,6 @@ use Rattle.rv_scan.specs.declared.skip.Scanned.TheVariants.{Found, Working, End}
 use Rattle.rv_scan.specs.Due.{Skipped, due, skips, HaveColumns, StepsTo}
 use Rattle.rv_scan.specs.Alongs.{Along, FetchesDue, Fetching, Follows, FindsEntry, FindsGiven, Turned, fetched, fetch_rest, is_given, leaf_work, looked, to_come}
 
-]
-
 pub found_columns : (only : List (List Atom)) (rows : List Record) (number : ℕ) → HaveColumns only rows → IfSome (row_at rows number) (λ r. names_only (row_has r.values) only ≡ true)
 found_columns only [] number have = tt
 found_columns only (r ∷ rows) number have =

@@ -146,10 +146,6 @@ absent_new commit columns number (Some vs) old rows nodes ascend found indexed =
 
 -- Changes before one are of other rows.
 
-]
-
-]
-
 row_with_other : (number other : ℕ) (values : Option (List Value)) (rows : List Record) → (other ≡ number → ⊥) → row_at (with_values number values rows) other ≡ row_at rows other
 row_with_other number other None rows apart = find_kept (λ (r : Record). not (r.row.0 == number)) other (λ r t. grind (arith, nat_tests)) rows
 row_with_other number other (Some vs) rows apart =

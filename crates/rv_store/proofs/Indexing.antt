@@ -235,8 +235,6 @@ either_way number old e own h = elim (cases_Bool (e.row.0 == number)) [
     turn true h = cc
     turn false h = refl
 
-]
-
 -- the entries of other rows are those apart from the row's old one
 others_apart : (columns : List ℕ) (number : ℕ) (old : Record) (rows : List Record) → rows_by_number.Ascend rows → row_at rows number ≡ Some old → filter (is_others number) (entries_of columns rows) ≡ filter (is_apart (entry_of columns old)) (entries_of columns rows)
 others_apart columns number old rows ascend found =

@@ -33,8 +33,6 @@ use Rattle.rv_store.specs.Paged.{Kept, IsKept, IsIndexOf, AreTreesThrough, shown
 
 -- Trees of the same nodes.
 
-}
-
 pub indexed_same : (columns : List ℕ) (rows others : List Record) (before after : ℕ) (old new : Nodes) → nodes_at new after ≡ nodes_at old before → length old ≤ length new → others ≡ rows → IsIndexed columns rows before old → IsIndexed columns others after new
 indexed_same columns rows others before after old new same longer e indexed = record {
   sound = subst (λ (at : ℕ → Parts). IsIndexTree (length new) at) (sym same) (sound_more (length old) (length new) (nodes_at old before) longer indexed.sound);

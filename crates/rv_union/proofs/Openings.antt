@@ -69,9 +69,6 @@ opened_tells table snap only members cursor opening pages u shown o can some =
 
 -- THE EFFORT
 
-    left_true : (a b : Bool) → (a && b) ≡ true → a ≡ true
-    left_true a b h = grind arith
-
 -- a member's work is below its life
 member_cost : (pages : ℕ) (plan : ScanPlan) (shown : Shown) (snap : ℕ) → lane_work plan shown snap no_lane + 256 * pages + 62 ≤ member_life pages plan shown snap
 member_cost pages plan shown snap =

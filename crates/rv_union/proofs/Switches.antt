@@ -36,8 +36,6 @@ is_scanning Done h = absurd (cc)
 pub rest_scanning : (u : Unioned) (shown : Shown) → scanning u.control ≡ true → rest u shown ≡ rest_by (λ n. true) u.only (rows_of u shown)
 rest_scanning u shown h = ap (λ (c : Control). rest_by (left_by c u.keys u.at u.last (rows_of u shown)) u.only (rows_of u shown)) (is_scanning u.control h)
 
-]
-
 -- WHILE MEMBERS ARE SCANNED
 
 -- what changes while the control stays

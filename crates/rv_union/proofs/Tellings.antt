@@ -113,11 +113,8 @@ aside_tells u new plans member items named control t =
       known = subst (λ (ps : List ScanPlan). list_all (λ i. has_index i (indexes_of ps)) t.begun ≡ true) (sym plans) t.known;
       few = subst OfFewIndexes (sym plans) t.few;
     }
-
 -- A MEMBER IS OVER
 
-    first : (a b : Bool) → a ≡ true → (a || b) ≡ true
-    first a b h = grind arith
 index_known (p ∷ plans) (suc k) l = second (nat_eq p.index (plan_at plans k).index) (has_index (plan_at plans k).index (indexes_of plans)) (index_known plans k (omega arith))
   where
     second : (a b : Bool) → b ≡ true → (a || b) ≡ true

@@ -1,7 +1,7 @@
 use Rattle.std.proofs.Common.{rules}
 use Rattle.std.proofs.lemmas.List.Sorted.{IsPartitionPoint-from_clause}
 use Rattle.std.specs.Option.{option_copied}
-use Rattle.rv_reader.proofs.Parted.{passes_to}
+use Rattle.rv_reader.proofs.Halving.{passes_to}
 use Rattle.rv_index.specs.Steps.{is_ahead}
 use Rattle.rv_index.proofs.Finding.{ahead_parted}
 use Rattle.rv_index.proofs.parts.count_ahead.Goals as goal

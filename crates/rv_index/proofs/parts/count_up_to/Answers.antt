@@ -2,7 +2,7 @@ use Rattle.std.proofs.Common.{rules}
 use Rattle.std.proofs.lemmas.List.Sorted.{IsPartitionPoint-from_clause}
 use Rattle.rv_reader.specs.Entries.{comes_before}
 use Rattle.rv_node.specs.Trees.{up_to}
-use Rattle.rv_reader.proofs.Parted.{passes_to}
+use Rattle.rv_reader.proofs.Halving.{passes_to}
 use Rattle.rv_node.proofs.Parted.{up_to_parted}
 use Rattle.rv_index.proofs.Finding.{passed_count}
 use Rattle.rv_index.proofs.parts.count_up_to.Goals as goal

@@ -2,7 +2,7 @@ use Rattle.std.proofs.Common.{◌∙◌, sym, refl, arith}
 use Rattle.std.specs.Option.{option_copied}
 use Rattle.std.proofs.lemmas.Option.{slice_get_past}
 use Rattle.rv_reader.specs.Leaves.{is_passed}
-use Rattle.rv_reader.proofs.Parted.{passed_parted}
+use Rattle.rv_reader.proofs.Halving.{passed_parted}
 use Rattle.rv_overlay.proofs.Runs.{first_is}
 use Rattle.rv_overlay.proofs.fronts.first_behind.Goals as goal
 

@@ -1,7 +1,7 @@
 use Rattle.std.proofs.Common.{rules}
 use Rattle.std.proofs.lemmas.List.Sorted.{IsPartitionPoint-from_clause}
 use Rattle.rv_reader.specs.Halves.{is_before}
-use Rattle.rv_reader.proofs.Parted.{before_parted, passes_to}
+use Rattle.rv_reader.proofs.Halving.{before_parted, passes_to}
 use Rattle.rv_reader.proofs.halves.count_before.Goals as goal
 
 pub returns-clause-passes : goal.returns-clause-passes

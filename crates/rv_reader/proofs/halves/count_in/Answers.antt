@@ -1,4 +1,4 @@
-use Rattle.rv_reader.proofs.Parted.{count_is}
+use Rattle.rv_reader.proofs.Halving.{count_is}
 use Rattle.rv_reader.proofs.halves.count_in.Goals as goal
 
 pub overflow_sub-result : goal.overflow_sub-result

@@ -1,7 +1,7 @@
 use Rattle.std.proofs.Common.{rules}
 use Rattle.std.proofs.lemmas.List.Sorted.{IsPartitionPoint-from_clause}
 use Rattle.rv_reader.specs.Halves.{is_not_after}
-use Rattle.rv_reader.proofs.Parted.{not_after_parted, passes_to}
+use Rattle.rv_reader.proofs.Halving.{not_after_parted, passes_to}
 use Rattle.rv_reader.proofs.halves.count_not_after.Goals as goal
 
 pub returns-clause-passes : goal.returns-clause-passes

@@ -2,7 +2,7 @@ use Rattle.std.proofs.Common.{rules}
 use Rattle.std.proofs.lemmas.List.Sorted.{IsPartitionPoint-from_clause}
 use Rattle.std.specs.Option.{option_copied}
 use Rattle.rv_reader.specs.Leaves.{is_passed}
-use Rattle.rv_reader.proofs.Parted.{passed_parted, passes_to}
+use Rattle.rv_reader.proofs.Halving.{passed_parted, passes_to}
 use Rattle.rv_reader.proofs.halves.count_passed.Goals as goal
 
 pub returns-clause-passes : goal.returns-clause-passes
