@@ -414,7 +414,7 @@ def main() -> int:
     parser.add_argument("--queries", type=int, default=200, help="queries of a seed (200)")
     parser.add_argument("--steps", type=int, default=0, help="background steps beside each foreground step (0)")
     parser.add_argument("--verdicts", action="store_true", help="tell the reads by the best verdicts in hindsight, and no more")
-    parser.add_argument("--svg", metavar="FOLDER", help="draw the pictures of bench/judges.md into this folder")
+    parser.add_argument("--svg", metavar="FOLDER", help="draw the pictures of bench/judges/README.md into this folder")
     parser.add_argument("--check", metavar="TRANSCRIPT", help="compare with the program's transcript of the first seed and size")
     parser.add_argument("--judge", choices=JUDGES, default="threshold", help="with --check: the judge that ruled (threshold)")
     words = parser.parse_args()
