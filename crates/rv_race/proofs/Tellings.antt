@@ -48,11 +48,6 @@ use Rattle.rv_race.proofs.Ways.{advanced_as, followed_as, some_at}
 
 -- THE SCANS THAT ARE LEFT
 
-index_known (p ∷ plans) (suc k) l = second (nat_eq p.index (plan_at plans k).index) (has_index (plan_at plans k).index (indexes_of plans)) (index_known plans k (omega arith))
-  where
-    second : (a b : Bool) → b ≡ true → (a || b) ≡ true
-    second a b h = grind arith
-
 -- the other scan stands beside none
 followed_alone : (w : Running) → (followed w).other ≡ None
 followed_alone w = by w.other

@@ -63,11 +63,11 @@ cut_front (suc at) (x ∷ xs) d h =
     let e : suc at + 1 ≡ suc (at + 1) = omega arith in
     rw e (ap (λ ys. x ∷ ys) (cut_front at xs d (omega arith)))
 
-pub drop_all : (xs ys : List IndexEntry) → drop (length xs) (xs ++ ys) ≡ ys
+pub drop_all : {A : Type 0} (xs ys : List A) → drop (length xs) (xs ++ ys) ≡ ys
 drop_all [] ys = refl
 drop_all (x ∷ xs) ys = drop_all xs ys
 
-pub length_drop : (at : ℕ) (xs : List IndexEntry) → at < length xs → length (drop (at + 1) xs) < length xs
+pub length_drop : {A : Type 0} (at : ℕ) (xs : List A) → at < length xs → length (drop (at + 1) xs) < length xs
 length_drop at [] h = absurd (omega arith)
 length_drop zero (x ∷ xs) h = omega arith
 length_drop (suc at) (x ∷ xs) h =

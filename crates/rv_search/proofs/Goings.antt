@@ -55,6 +55,11 @@ some_on v w s t u shown c d old mid rule before more = by (subst (λ (x : ℕ �
 
 -- From the opening on.
 
+-- what holds is left where the call wanted memory
+pub if_lost : {X E : Type 0} (r : Result X E) (P : Type 0) → P → OnErr r P
+if_lost (Ok x) P p = tt
+if_lost (Err e) P p = p
+
 pub ran_out : {X E : Type 0} (r : Result X E) (would : ℕ → Facts → Ruling) (state after : ℕ) (shown : Shown) (c d e : Counts) (query : Query) (v : Shape) → Opened query shown 0 0 v → OnlyLeaves c d → OnOk r (GoesOut would state after shown d e v) → OnOk r (RanOut would state after shown c e query)
 ran_out (Ok x) would state after shown c d e query v opened only goes = record { begun = v; counts = d; only = only; opened = opened; goes = goes }
 ran_out (Err x) would state after shown c d e query v opened only goes = tt

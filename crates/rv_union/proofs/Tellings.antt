@@ -113,12 +113,8 @@ aside_tells u new plans member items named control t =
       known = subst (λ (ps : List ScanPlan). list_all (λ i. has_index i (indexes_of ps)) t.begun ≡ true) (sym plans) t.known;
       few = subst OfFewIndexes (sym plans) t.few;
     }
--- A MEMBER IS OVER
 
-index_known (p ∷ plans) (suc k) l = second (nat_eq p.index (plan_at plans k).index) (has_index (plan_at plans k).index (indexes_of plans)) (index_known plans k (omega arith))
-  where
-    second : (a b : Bool) → b ≡ true → (a || b) ≡ true
-    second a b h = grind arith
+-- A MEMBER IS OVER
 
 -- the next member begins
 going_tells : (u : Unioned) → scanning u.control ≡ true → u.member + 1 < length u.plans → Tells u → Tells (going_on u)
