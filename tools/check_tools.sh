@@ -18,6 +18,7 @@ if [ -x "$program" ]; then
     ./audit_texts.py "${program%/rv_cli/out/rv_cli}/rv_auditcli/out/rv_auditcli" || status=1
 fi
 ./gate_times check || status=1
+./prover_times check || status=1
 ./check_pages.py --test && ./check_pages.py || status=1
 ./believed.py --test && ./believed.py --check || status=1
 exit $status
