@@ -30,7 +30,7 @@ pub enum Goal {
 
 /// A query: the tables of its FROM items, the condition over them, and the columns returned and
 /// sorted by.
-#[derive(Drop, Debug)]
+#[derive(Drop)]
 pub struct Select {
     pub tables: Items<u32>,
     pub only: Restriction,
@@ -41,7 +41,7 @@ pub struct Select {
 
 /// A statement with numbers for names. `only` is over place 0 alone but in a `Select`, where a
 /// place is the position of a FROM item.
-#[derive(Drop, Debug)]
+#[derive(Drop)]
 pub enum Resolved {
     CreateTable(TableDef),
     CreateIndex(IndexDef),

@@ -112,10 +112,25 @@ impl Catalog {
         ensures ok { OnOk result (self.new ≡ record self.old { tables = self.old.tables ++ def ∷ [] }) }
         ensures err { OnErr result (self.new ≡ self.old) }
     {
-        let name = String::from_str(self.alloc, def.name.as_str())?;
+        let name = match String::from_str(self.alloc, def.name.as_str()) {
+            Ok(name) => name,
+            Err(fault) => {
+                drop(def);
+                return Err(NoMemory::from(fault));
+            }
+        };
         let number = self.tables.len();
-        self.tables.reserve(1)?;
-        self.table_keys.insert(name)?;
+        if let Err(fault) = self.tables.reserve(1) {
+            drop(def);
+            return Err(NoMemory::from(fault));
+        }
+        match self.table_keys.insert(name) {
+            Ok(_added) => {}
+            Err(fault) => {
+                drop(def);
+                return Err(NoMemory::from(fault));
+            }
+        }
         self.tables.push(def).unwrap();
         Ok(number as u32)
     }
@@ -129,10 +144,25 @@ impl Catalog {
         ensures ok { OnOk result (self.new ≡ record self.old { indexes = self.old.indexes ++ def ∷ [] }) }
         ensures err { OnErr result (self.new ≡ self.old) }
     {
-        let name = String::from_str(self.alloc, def.name.as_str())?;
+        let name = match String::from_str(self.alloc, def.name.as_str()) {
+            Ok(name) => name,
+            Err(fault) => {
+                drop(def);
+                return Err(NoMemory::from(fault));
+            }
+        };
         let number = self.indexes().len();
-        self.indexes.reserve(1)?;
-        self.index_keys.insert(name)?;
+        if let Err(fault) = self.indexes.reserve(1) {
+            drop(def);
+            return Err(NoMemory::from(fault));
+        }
+        match self.index_keys.insert(name) {
+            Ok(_added) => {}
+            Err(fault) => {
+                drop(def);
+                return Err(NoMemory::from(fault));
+            }
+        }
         self.indexes.push(def).unwrap();
         Ok(number as u32)
     }
@@ -143,7 +173,7 @@ impl Catalog {
         requires alone { indexes_over (length self.old.tables - 1) self.old.indexes ≡ 0 }
         ensures { self.new ≡ record self.old { tables = take (length self.old.tables - 1) self.old.tables } }
     {
-        let _table = self.tables.pop();
+        drop(self.tables.pop());
         let left = self.tables.len();
         self.table_keys.truncate(left);
     }
@@ -153,7 +183,7 @@ impl Catalog {
         requires { 1 ≤ length self.old.indexes }
         ensures { self.new ≡ record self.old { indexes = take (length self.old.indexes - 1) self.old.indexes } }
     {
-        let _index = self.indexes.pop();
+        drop(self.indexes.pop());
         let left = self.indexes.len();
         self.index_keys.truncate(left);
     }
