@@ -3,7 +3,7 @@ ghost use Rattle.std.specs.Prelude.{◌≡◌};
 ghost use Rattle.rv_parse.specs.Reading.{Gives, literal_at, atom_at, atom_rest, between_at, among_at, is_null_at, starts_at, compare_at, group_at, closed_at};
 
 use crate::fault::ParseFault;
-use crate::list::{Part, Separator, list};
+use crate::list::{Part, Separator, alone, list};
 use crate::parts::{close, column, literal, need, op, open, operand, text, word};
 use rv_lang::{RawAtom, RawCol, Token};
 use rv_value::{Items, Value, Values};
@@ -160,9 +160,7 @@ fn group<'a>(
         Some(rest) => closed(alloc, rest),
         None => {
             let (atom, rest) = atom(alloc, tokens)?;
-            let mut atoms = Items::new(alloc);
-            atoms.push(atom)?;
-            Ok((atoms, rest))
+            Ok((alone(alloc, atom)?, rest))
         }
     }
 }

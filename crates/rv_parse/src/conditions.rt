@@ -1,9 +1,9 @@
 //! Conditions: groups of atoms, with WHERE before them.
-ghost use Rattle.std.specs.Prelude.{◌≡◌, ◌∷◌, [], Some};
+ghost use Rattle.std.specs.Prelude.{◌≡◌};
 ghost use Rattle.rv_parse.specs.Reading.{Gives, groups_at, bare_end, cond_at, where_at};
 
 use crate::fault::ParseFault;
-use crate::list::{Separator, list};
+use crate::list::{Separator, alone, before, list};
 use crate::parts::{open, word};
 use rv_lang::{RawAtom, Token};
 use rv_value::Items;
@@ -29,25 +29,18 @@ fn bare_end<'a>(
 {
     if atoms.len() == 1 {
         match word(tokens, "AND") {
-            Some(rest) => {
-                let (mut more, rest) = groups(alloc, rest)?;
-                more.insert(0, atoms)?;
-                Ok((more, rest))
-            }
+            Some(rest) => match groups(alloc, rest) {
+                Ok((more, rest)) => Ok((before(atoms, more)?, rest)),
+                Err(fault) => {
+                    drop(atoms);
+                    Err(fault)
+                }
+            },
             None => Ok((alone(alloc, atoms)?, tokens)),
         }
     } else {
         Ok((alone(alloc, atoms)?, tokens))
     }
-}
-
-/// A list of one group.
-fn alone(alloc: Global, atoms: Items<RawAtom>) -> Result<Items<Items<RawAtom>>, ParseFault>
-    ensures { Gives (λ x. x) result (Some (atoms ∷ [])) }
-{
-    let mut groups = Items::new(alloc);
-    groups.push(atoms)?;
-    Ok(groups)
 }
 
 #[tactic(auto, unfolding(crate::specs::Reading::cond_at))]

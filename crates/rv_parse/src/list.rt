@@ -1,5 +1,5 @@
 //! Lists of parts: one or more, with a separator between two.
-ghost use Rattle.std.specs.Prelude.{◌≡◌, List, Option};
+ghost use Rattle.std.specs.Prelude.{◌≡◌, ◌∷◌, [], List, Option, Some};
 ghost use Rattle.std.specs.Option.{option_copied};
 ghost use Rattle.rv_lang.specs.declared.token.Token.{Token};
 ghost use Rattle.rv_parse.specs.Reading.{Gives, separator_at, list_of};
@@ -11,7 +11,7 @@ use rv_value::Items;
 use std::alloc::Global;
 
 /// What stands between two items of a list.
-#[derive(Clone, Copy, Debug, PartialEq, Eq)]
+#[derive(Clone, Copy)]
 pub enum Separator {
     Comma,
     Or,
@@ -58,4 +58,22 @@ pub fn list<'a, P: Part>(
         }
     }
     Err(ParseFault::Syntax)
+}
+
+/// A list of one item.
+pub fn alone<T: Drop>(alloc: Global, item: T) -> Result<Items<T>, ParseFault>
+    ensures { Gives (λ x. x) result (Some (item ∷ [])) }
+{
+    let mut items = Items::new(alloc);
+    items.push(item)?;
+    Ok(items)
+}
+
+/// A list with an item before the others.
+pub fn before<T: Drop>(first: T, others: Items<T>) -> Result<Items<T>, ParseFault>
+    ensures { Gives (λ x. x) result (Some (first ∷ others)) }
+{
+    let mut items = others;
+    items.insert(0, first)?;
+    Ok(items)
 }

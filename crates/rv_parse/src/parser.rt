@@ -28,6 +28,7 @@ fn statement(alloc: Global, tokens: &[Token]) -> Result<Statement, ParseFault>
     if ended(rest) {
         Ok(body)
     } else {
+        drop(body);
         Err(ParseFault::Syntax)
     }
 }

@@ -1,7 +1,8 @@
 //! What stands at the front of a list of tokens: a word, a mark, a name, a literal, a column.
-ghost use Rattle.std.specs.Prelude.{◌≡◌, Some, None, bytes_eq};
+ghost use Rattle.std.specs.Prelude.{◌≡◌, ◌∷◌, List, Some, None, bytes_eq};
 ghost use Rattle.std.specs.List.{list_any};
-ghost use Rattle.std.specs.Option.{option_copied};
+ghost use Rattle.std.specs.Option.{option_copied, option_map};
+ghost use Rattle.rv_lang.specs.declared.token.Token.{Token as Piece};
 ghost use Rattle.rv_lang.specs.Words.{is_keyword};
 ghost use Rattle.rv_parse.specs.Reading.{Gives, word_at, name_at, integer_at, text_at, literal_at, dot_at, open_at, close_at, comma_at, star_at, equal_at, semicolon_at, column_at, op_at, operand_at};
 
@@ -151,13 +152,26 @@ pub fn op(tokens: &[Token]) -> Result<(RawOp, &[Token]), ParseFault>
     ensures { Gives (λ x. (x.0, x.1.now)) result (op_at tokens.now) }
 {
     match tokens {
-        [Token::Symbol(Symbol::Equal), rest @ ..] => Ok((RawOp::Eq, rest)),
-        [Token::Symbol(Symbol::NotEqual), rest @ ..] => Ok((RawOp::Ne, rest)),
-        [Token::Symbol(Symbol::Less), rest @ ..] => Ok((RawOp::Lt, rest)),
-        [Token::Symbol(Symbol::AtMost), rest @ ..] => Ok((RawOp::Le, rest)),
-        [Token::Symbol(Symbol::Greater), rest @ ..] => Ok((RawOp::Gt, rest)),
-        [Token::Symbol(Symbol::AtLeast), rest @ ..] => Ok((RawOp::Ge, rest)),
+        [Token::Symbol(symbol), rest @ ..] => match comparison(*symbol) {
+            Some(op) => Ok((op, rest)),
+            None => Err(ParseFault::Syntax),
+        },
         _ => Err(ParseFault::Syntax),
+    }
+}
+
+/// The comparison that a mark spells.
+fn comparison(symbol: Symbol) -> Option<RawOp>
+    ensures { (rest : List Piece) → op_at (Piece.Symbol symbol ∷ rest) ≡ option_map (λ op. (op, rest)) result }
+{
+    match symbol {
+        Symbol::Equal => Some(RawOp::Eq),
+        Symbol::NotEqual => Some(RawOp::Ne),
+        Symbol::Less => Some(RawOp::Lt),
+        Symbol::AtMost => Some(RawOp::Le),
+        Symbol::Greater => Some(RawOp::Gt),
+        Symbol::AtLeast => Some(RawOp::Ge),
+        _ => None,
     }
 }
 
@@ -170,11 +184,13 @@ pub fn operand<'a>(
 {
     match literal(alloc, tokens) {
         Ok((value, rest)) => Ok((RawOperand::Literal(value), rest)),
-        Err(ParseFault::NoMemory) => Err(ParseFault::NoMemory),
-        Err(ParseFault::Syntax) => {
-            let (column, rest) = column(alloc, tokens)?;
-            Ok((RawOperand::Column(column), rest))
-        }
+        Err(fault) => match fault {
+            ParseFault::NoMemory => Err(ParseFault::NoMemory),
+            ParseFault::Syntax => {
+                let (column, rest) = column(alloc, tokens)?;
+                Ok((RawOperand::Column(column), rest))
+            }
+        },
     }
 }
 

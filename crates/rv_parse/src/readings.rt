@@ -11,12 +11,13 @@ use rv_lang::Statement;
 use rv_value::{NoMemory, Text};
 use std::alloc::Global;
 use std::marker::Model;
+use std::mem;
 
 /// How many texts are kept.
 const PLACES: usize = 8;
 
 /// A text, and the statement that it derives, none where it derives none.
-#[derive(Drop, Debug)]
+#[derive(Drop)]
 pub struct Reading {
     pub text: Text,
     pub statement: Option<Statement>,
@@ -24,7 +25,7 @@ pub struct Reading {
 
 /// The last eight texts that were read, each with its statement. A text that stands among them costs comparisons; any
 /// other one is read, and takes the place of the one that came first.
-#[derive(Drop, Debug)]
+#[derive(Drop)]
 pub struct Readings {
     alloc: Global,
     readings: Vec<Reading>,
@@ -62,7 +63,7 @@ fn put_reading(readings: &mut Vec<Reading>, place: usize, reading: Reading) -> R
     ensures err { OnErr result (readings.new.items ≡ readings.old.items) }
 {
     if place < readings.len() {
-        readings[place] = reading;
+        drop(mem::replace(&mut readings[place], reading));
     } else {
         readings.push(reading)?;
     }
@@ -107,8 +108,13 @@ impl Readings {
         ensures { IfOk result (Reads text.now self.new) }
     {
         let statement = read_statement(self.alloc, text)?;
-        let text = Text::read(self.alloc, text)?;
-        self.put(Reading { text, statement })
+        match Text::read(self.alloc, text) {
+            Ok(text) => self.put(Reading { text, statement }),
+            Err(fault) => {
+                drop(statement);
+                Err(fault)
+            }
+        }
     }
 
     /// The place of the statement of a text of at most 4,096 bytes, which is read where it does not stand among those
