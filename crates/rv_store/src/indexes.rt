@@ -50,7 +50,11 @@ fn take_out(tree: &mut Tree, entry: Option<IndexEntry>, commit: u64) -> Result<(
     ensures newest { AllChainsBelow (commit + 1) tree.new }
 {
     match entry {
-        Some(entry) => tree.delete(&entry, commit),
+        Some(entry) => {
+            let done = tree.delete(&entry, commit);
+            drop(entry);
+            done
+        }
         None => Ok(()),
     }
 }
@@ -88,9 +92,17 @@ fn change_tree(
     ensures newest { AllChainsBelow (commit + 1) tree.new }
 {
     if is_same(&before, &after) {
+        drop(before);
+        drop(after);
         return Ok(());
     }
-    take_out(tree, before, commit)?;
+    match take_out(tree, before, commit) {
+        Ok(()) => {}
+        Err(fault) => {
+            drop(after);
+            return Err(fault);
+        }
+    }
     put_in(tree, after, commit)
 }
 
@@ -115,7 +127,13 @@ fn change_index(
     ensures newest { AllChainsBelow (commit + 1) index.new.tree }
 {
     let before = entry_at(alloc, old, index.columns.as_slice())?;
-    let after = new_entry(alloc, change, index.columns.as_slice())?;
+    let after = match new_entry(alloc, change, index.columns.as_slice()) {
+        Ok(after) => after,
+        Err(fault) => {
+            drop(before);
+            return Err(fault);
+        }
+    };
     change_tree(&mut index.tree, before, after, commit)
 }
 
@@ -331,7 +349,14 @@ pub fn new_index(
     let own = Items::from_vec(copy_slice(alloc, columns)?);
     let mut tree = Tree::new(alloc)?;
     'pages: for n in 0..records.len() {
-        index_page(alloc, &mut tree, records, n as u32, columns, snap)?;
+        match index_page(alloc, &mut tree, records, n as u32, columns, snap) {
+            Ok(()) => {}
+            Err(fault) => {
+                drop(own);
+                drop(tree);
+                return Err(fault);
+            }
+        }
     }
     let _ids = tree.len();
     Ok(Index {

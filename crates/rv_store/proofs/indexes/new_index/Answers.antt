@@ -21,8 +21,8 @@ pages-preserved c =
     let n = c.pages.n in
     let columns = c.args.columns.now in
     record {
-      indexed = c.in_ok-index_page.ensures.ok;
-      tree = c.in_ok-index_page.ensures.tree ∙ ap (λ (t : Whole IndexEntry). tree_over columns (page n) t) c.pages.invariant.tree ∙ sym (tree_over_more columns (rows_of page n) (page n) empty_tree)
+      indexed = c.in-Ok.ensures.ok;
+      tree = c.in-Ok.ensures.tree ∙ ap (λ (t : Whole IndexEntry). tree_over columns (page n) t) c.pages.invariant.tree ∙ sym (tree_over_more columns (rows_of page n) (page n) empty_tree)
           ∙ ap (λ (rs : List Record). tree_over columns rs empty_tree) (sym (rows_more page n));
       newest = c.index_page.ensures.newest;
     }

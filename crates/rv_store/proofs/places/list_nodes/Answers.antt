@@ -13,6 +13,9 @@ indexes-init c = record {
   has = λ k low. absurd (omega arith);
 }
 
+pub returns-in_err-add_nodes-clause-longer : goal.returns-in_err-add_nodes-clause-longer
+returns-in_err-add_nodes-clause-longer c = longer_trans c.args.more.now.items c.indexes.more.items c.add_nodes.new.more.items c.indexes.invariant.longer c.add_nodes.ensures.longer
+
 pub indexes-preserved : goal.indexes-preserved
 indexes-preserved c =
     let items = c.args.indexes.now in

@@ -13,6 +13,9 @@ tables-init c = record {
   has = λ k low. absurd (omega arith);
 }
 
+pub returns-in_err-add_pages-clause-longer : goal.returns-in_err-add_pages-clause-longer
+returns-in_err-add_pages-clause-longer c = longer_trans c.args.more.now.items c.tables.more.items c.add_pages.new.more.items c.tables.invariant.longer c.add_pages.ensures.longer
+
 pub tables-preserved : goal.tables-preserved
 tables-preserved c =
     let items = c.args.tables.now in

@@ -5,6 +5,9 @@ use Rattle.rv_store.specs.Tables.{AreChanged}
 use Rattle.rv_store.proofs.Tabling.{same_below_trans, changed_more}
 use Rattle.rv_store.proofs.tables.put_changes.Goals as goal
 
+pub returns-in_err-put_change-clause-same : goal.returns-in_err-put_change-clause-same
+returns-in_err-put_change-clause-same c = same_below_trans c.args.commit c.args.tables.now.items c.changes.tables.items c.put_change.new.tables.items c.changes.invariant.same c.put_change.ensures.same
+
 pub changes-preserved : goal.changes-preserved
 changes-preserved c =
     let i = c.changes.change-index in

@@ -1,4 +1,4 @@
-use Rattle.std.proofs.Common.{ℕ, List, subst, sym}
+use Rattle.std.proofs.Common.{ℕ, List, refl, subst, sym}
 use Rattle.std.specs.List.{slice_index_or}
 use Rattle.rv_store.specs.declared.places.Place.{Place}
 use Rattle.rv_store.specs.Indexes.{index_at}
@@ -6,6 +6,15 @@ use Rattle.rv_store.specs.Places.{node_places, page_places, AreInTurn, HasAll, H
 use Rattle.rv_store.specs.Tables.{table_at}
 use Rattle.rv_store.proofs.Placing.{has_all, node_count, page_count, turn_filled, turn_of}
 use Rattle.rv_store.proofs.places.Places.list.Goals as goal
+
+pub invariant_of-self : goal.invariant_of-self
+invariant_of-self c =
+    let nodes = c.self.inside.nodes.items in
+    turn_filled c.self.inside.places.items c.self.inside.next c.self.inside.pages.items nodes c.fill.new.counts.items nodes c.self.invariant c.fill.ensures (λ at. refl)
+
+pub invariant_of-self-in_err-fill-2 : goal.invariant_of-self-in_err-fill-2
+invariant_of-self-in_err-fill-2 c =
+    turn_filled c.self.inside.places.items c.self.inside.next c.self.inside.pages.items c.self.inside.nodes.items c.fill.new.counts.items c.fill-2.new.counts.items c.self.invariant c.fill.ensures c.fill-2.ensures
 
 pub invariant_of-self-in_err-append : goal.invariant_of-self-in_err-append
 invariant_of-self-in_err-append c =
