@@ -18,13 +18,13 @@ pub fn keep_written(written: &mut Blocks<Change>, change: &Change) -> Result<(),
     ensures { OnOk result (written.new ≡ written_after change.now written.old) }
 {
     if change.values.is_some() {
-        written.put(Change {
+        drop(written.put(Change {
             table: change.table,
             row: change.row,
             values: None,
-        })?;
+        })?);
     } else {
-        written.take_out(change)?;
+        drop(written.take_out(change)?);
     }
     Ok(())
 }
@@ -130,10 +130,10 @@ pub fn keep_size(
     let pages = pages_then(before, base.pages, written, change);
     let more = u64::from(new.is_some());
     let fewer = u64::from(old.is_some());
-    sizes.put(TableSize {
+    drop(sizes.put(TableSize {
         table,
         pages,
         rows: rows + more - fewer,
-    })?;
+    })?);
     Ok(())
 }

@@ -1,5 +1,5 @@
 //! What was frozen, as several may hold it.
-ghost use Rattle.std.specs.Prelude.{◌≡◌, ◌<◌, IfOk, OnOk};
+ghost use Rattle.std.specs.Prelude.{◌≡◌, ◌<◌, [], IfOk, OnOk};
 ghost use Rattle.std.specs.Arc.{arc_value};
 ghost use Rattle.rv_rows.specs.Changes.{with_change};
 ghost use Rattle.rv_reader.specs.Shown.{CanRead};
@@ -15,6 +15,7 @@ use rv_rows::Change;
 use rv_value::{Items, NoMemory};
 use std::alloc::Global;
 use std::marker::Model;
+use std::mem;
 use std::sync::Arc;
 
 /// The view of a transaction as it stood once. The transaction shares it with the cursors that were opened then, until its
@@ -84,10 +85,25 @@ fn share_frozen(alloc: Global, frozen: &Frozen) -> Result<Frozen, NoMemory>
     ensures { IfOk result (λ shared. shared ≡ frozen.now) }
 {
     let parts = share_parts(alloc, frozen.parts.as_slice())?;
+    let changes = match frozen.changes.share() {
+        Ok(changes) => changes,
+        Err(fault) => {
+            drop(parts);
+            return Err(fault);
+        }
+    };
+    let sizes = match frozen.sizes.share() {
+        Ok(sizes) => sizes,
+        Err(fault) => {
+            drop(parts);
+            drop(changes);
+            return Err(fault);
+        }
+    };
     Ok(Frozen {
         base: frozen.base,
-        changes: frozen.changes.share()?,
-        sizes: frozen.sizes.share()?,
+        changes,
+        sizes,
         parts: Items::from_vec(parts),
     })
 }
@@ -96,10 +112,24 @@ fn share_parts(alloc: Global, parts: &[Part]) -> Result<Vec<Part>, NoMemory>
     ensures { IfOk result (λ shared. shared.items ≡ parts.now) }
 {
     let mut shared = Vec::with_capacity(alloc, parts.len())?;
+    match share_each(&mut shared, parts) {
+        Ok(()) => Ok(shared),
+        Err(fault) => {
+            drop(shared);
+            Err(fault)
+        }
+    }
+}
+
+/// Puts equal lists into a list that is empty.
+fn share_each(shared: &mut Vec<Part>, parts: &[Part]) -> Result<(), NoMemory>
+    requires { shared.old.items ≡ [] }
+    ensures { OnOk result (shared.new.items ≡ parts.now) }
+{
     'parts: for part in parts {
         shared.push(part.share()?)?;
     }
-    Ok(shared)
+    Ok(())
 }
 
 fn keep_in<R: Reader<Ledger = Uncounted>>(
@@ -122,8 +152,11 @@ fn keep_in<R: Reader<Ledger = Uncounted>>(
         Some(own) => keep_change(alloc, own, written, reader, indexes, change),
         None => {
             let mut next = share_frozen(alloc, &**frozen)?;
-            keep_change(alloc, &mut next, written, reader, indexes, change)?;
-            *frozen = Arc::new(alloc, next)?;
+            if let Err(fault) = keep_change(alloc, &mut next, written, reader, indexes, change) {
+                drop(next);
+                return Err(fault);
+            }
+            drop(mem::replace(frozen, Arc::new(alloc, next)?));
             Ok(())
         }
     }

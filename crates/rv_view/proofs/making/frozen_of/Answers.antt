@@ -1,34 +1,25 @@
-use Rattle.std.proofs.Common.{◌≡◌, ◌+◌, suc, ◌∙◌, ap, sym, subst, arith, length, refl, List, [], Some, take}
-use Rattle.std.specs.Prelude.{slice_get}
-use Rattle.std.proofs.lemmas.Option.{slice_get_read}
+use Rattle.std.proofs.Common.{◌<◌, ◌∙◌, ap, sym, subst, List, []}
+use Rattle.std.specs.List.{AllByRecursion}
 use Rattle.rv_rows.specs.declared.changes.Change.{Change}
-use Rattle.rv_rows.specs.Changes.{with_change}
 use Rattle.rv_overlay.specs.declared.frozen.Frozen.{Frozen}
+use Rattle.rv_reader.specs.Shown.{CanRead}
 use Rattle.rv_view.specs.Making.{Keeps}
 use Rattle.rv_view.proofs.Keeping.{starts_kept}
-use Rattle.rv_view.proofs.Parts.{taken_next}
 use Rattle.rv_view.proofs.making.frozen_of.Goals as goal
 
-pub changes-init : goal.changes-init
-changes-init g c =
+pub keep_changes-requires-clause-can : goal.keep_changes-requires-clause-can
+keep_changes-requires-clause-can g c =
     let shown = g.R.Reader.shown c.args.reader.now in
-    let is = c.in_ok-frozen.ensures in
-    let start = subst (λ (f : Frozen). Keeps shown f []) (sym is) (starts_kept shown c.args.indexes.now c.args.base c.requires.indexes) in
-    record {
-      keeps = subst (λ (w : List Change). Keeps shown c.in_ok-frozen.frozen w) (sym c.new-written.ensures) start;
-      changes = ap (λ (f : Frozen). f.changes) is;
-      base = ap (λ (f : Frozen). f.base) is;
-    }
+    subst (λ (f : Frozen). AllByRecursion (λ (x : Change). CanRead shown x.table f.base × (x.row.0 < 4294967296)) c.args.changes.now) (sym c.in_ok-frozen.ensures) c.requires.can
 
-pub changes-preserved : goal.changes-preserved
-changes-preserved g c =
-    let changes = c.args.changes.now in
-    let k = c.changes.change-index in
-    let is : slice_get changes k ≡ Some c.change-item.result = slice_get_read changes (length changes) k c.change-item.result refl c.changes-test.true c.change-item.is in
-    let more : suc k ≡ k + 1 = omega arith in
-    record {
-      keeps = c.in_ok-keep_change.ensures.keeps;
-      changes = c.in_ok-keep_change.ensures.changes ∙ ap (with_change c.change-item.result) c.changes.invariant.changes
-          ∙ taken_next changes k c.change-item.result is c.requires.rise ∙ ap (λ n. take n changes) more;
-      base = c.in_ok-keep_change.ensures.base ∙ c.changes.invariant.base;
-    }
+pub keep_changes-requires-clause-starts : goal.keep_changes-requires-clause-starts
+keep_changes-requires-clause-starts g c =
+    let shown = g.R.Reader.shown c.args.reader.now in
+    let start = subst (λ (f : Frozen). Keeps shown f []) (sym c.in_ok-frozen.ensures) (starts_kept shown c.args.indexes.now c.args.base c.requires.indexes) in
+    subst (λ (w : List Change). Keeps shown c.in_ok-frozen.frozen w) (sym c.new-written.ensures) start
+
+pub keep_changes-requires-clause-none : goal.keep_changes-requires-clause-none
+keep_changes-requires-clause-none g c = ap (λ (f : Frozen). f.changes) c.in_ok-frozen.ensures
+
+pub returns-in-Ok-clause-base : goal.returns-in-Ok-clause-base
+returns-in-Ok-clause-base g c = c.in-Ok.ensures.base ∙ ap (λ (f : Frozen). f.base) c.in_ok-frozen.ensures
