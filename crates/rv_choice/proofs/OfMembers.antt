@@ -101,6 +101,10 @@ too_few query shown group bs e l = and_left (nat_le 2 (length (branches_of group
     number : (n : ℕ) → n < 2 → nat_le 2 n ≡ false
     number n l = grind (arith, nat_tests)
 
+-- one branch alone does not serve
+pub plain_serves_not : (query : Query) (shown : Shown) (group : List Atom) → length (branches_of group) ≡ 1 → serves query shown group ≡ false
+plain_serves_not query shown group one = too_few query shown group (branches_of group) refl (omega (arith, one))
+
 -- a branch without a member
 pub one_without : (query : Query) (shown : Shown) (group : List Atom) (bs : List (List (List Atom))) → bs ≡ branches_of group → list_all (is_bounded query shown) bs ≡ false → serves query shown group ≡ false
 one_without query shown group bs e a = and_right (nat_le 2 (length (branches_of group))) (list_all (is_bounded query shown) (branches_of group)) (ap (list_all (is_bounded query shown)) (sym e) ∙ a)

@@ -117,9 +117,16 @@ fn view<R: Reader>(
     let estimate = reader.estimate(index, query.snap, &range);
     let restricted = !range.is_whole();
     let sufficient = has_all(columns.as_slice(), query.need.as_slice());
+    let columns = match columns.copy(alloc) {
+        Ok(columns) => columns,
+        Err(fault) => {
+            drop(range);
+            return Err(fault);
+        }
+    };
     Ok(Candidate {
         index,
-        columns: columns.copy(alloc)?,
+        columns,
         range,
         estimate,
         restricted,

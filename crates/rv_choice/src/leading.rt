@@ -17,25 +17,25 @@ use std::alloc::Global;
 fn front(alloc: Global, query: &Query, candidate: &Candidate) -> Result<Front, NoMemory>
     ensures { IfOk result (λ front. front ≡ front_begun query.now candidate.now) }
 {
-    let fetching = Fscan::new(
-        alloc,
-        query.table,
-        candidate.index,
-        query.snap,
-        candidate.range.copy(alloc)?,
-    );
-    let telling = Sscan::new(
-        alloc,
-        candidate.index,
-        query.snap,
-        candidate.range.copy(alloc)?,
-    );
-    Ok(Front::new(
-        candidate.sufficient,
-        candidate.columns.copy(alloc)?,
-        fetching,
-        telling,
-    ))
+    let fetched = candidate.range.copy(alloc)?;
+    let told = match candidate.range.copy(alloc) {
+        Ok(told) => told,
+        Err(fault) => {
+            drop(fetched);
+            return Err(fault);
+        }
+    };
+    let columns = match candidate.columns.copy(alloc) {
+        Ok(columns) => columns,
+        Err(fault) => {
+            drop(told);
+            drop(fetched);
+            return Err(fault);
+        }
+    };
+    let fetching = Fscan::new(alloc, query.table, candidate.index, query.snap, fetched);
+    let telling = Sscan::new(alloc, candidate.index, query.snap, told);
+    Ok(Front::new(candidate.sufficient, columns, fetching, telling))
 }
 
 /// What stands for the foreground's index where no index is scanned by the foreground. It is never read.
@@ -72,7 +72,12 @@ pub fn foreground(
 {
     match place {
         Some(at) => front(alloc, query, &candidates[at]),
-        None => front(alloc, query, &no_candidate(alloc)),
+        None => {
+            let nowhere = no_candidate(alloc);
+            let front = front(alloc, query, &nowhere);
+            drop(nowhere);
+            front
+        }
     }
 }
 

@@ -1,6 +1,6 @@
 //! The members of a union.
 ghost use Rattle.std.specs.Prelude.{◌≡◌, ◌<◌, false, true, length, None, IfOk, IfSome};
-ghost use Rattle.rv_restrict.specs.Branches.{branches_of, group_at};
+ghost use Rattle.rv_restrict.specs.Branches.{alternatives, branches_of, group_at};
 ghost use Rattle.rv_reader.specs.Shown.{Shown};
 ghost use Rattle.rv_choice.specs.Asked.{CanAsk};
 ghost use Rattle.rv_choice.specs.Members.{AddsMembers, AreMembers, AreUnited, IsMember, is_bounded, serves, some_serves};
@@ -9,7 +9,7 @@ use crate::choosing::{Role, candidates_for, least, plan};
 use crate::query::Query;
 use rv_jscan::ScanPlan;
 use rv_reader::Reader;
-use rv_restrict::Restriction;
+use rv_restrict::{Atom, Restriction};
 use rv_value::NoMemory;
 use std::alloc::Global;
 
@@ -55,6 +55,29 @@ fn add_members<R: Reader>(
     }
 }
 
+/// Whether a group is a single atom that is no IN: it has one branch, which need not be made to see that it does not serve.
+fn is_plain(group: &[Atom]) -> bool
+    ensures { result ≡ true → length (branches_of group.now) ≡ 1 }
+{
+    match group {
+        [atom] => !is_among(atom),
+        _ => false,
+    }
+}
+
+fn is_among(atom: &Atom) -> bool
+    ensures { result ≡ false → length (alternatives atom.now) ≡ 1 }
+{
+    match atom {
+        Atom::Among { .. } => true,
+        Atom::Compare { .. } => false,
+        Atom::Between { .. } => false,
+        Atom::IsNull { .. } => false,
+        Atom::Starts { .. } => false,
+        Atom::Const(_) => false,
+    }
+}
+
 /// The members of a group; None where it does not serve.
 fn members_of<R: Reader>(
     alloc: Global,
@@ -68,6 +91,9 @@ fn members_of<R: Reader>(
     ensures serves { IfOk result (λ m. IfSome m (λ plans. serves query.now (R.shown reader.now) (group_at query.now.only group) ≡ true)) }
     ensures some { IfOk result (λ m. IfSome m (λ plans. AreMembers query.now (R.shown reader.now) (branches_of (group_at query.now.only group)) plans.items)) }
 {
+    if is_plain(query.only.group(group)) {
+        return Ok(None);
+    }
     let branches = query.only.branches(alloc, group)?;
     if branches.len() < 2 {
         return Ok(None);

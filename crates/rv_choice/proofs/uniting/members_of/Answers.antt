@@ -1,7 +1,10 @@
 use Rattle.std.proofs.Common.{arith}
 use Rattle.rv_restrict.specs.Branches.{group_at}
-use Rattle.rv_choice.proofs.OfMembers.{group_members, group_serves, one_without, too_few}
+use Rattle.rv_choice.proofs.OfMembers.{group_members, group_serves, one_without, plain_serves_not, too_few}
 use Rattle.rv_choice.proofs.uniting.members_of.Goals as goal
+
+pub returns-then-is_plain-clause-none : goal.returns-then-is_plain-clause-none
+returns-then-is_plain-clause-none g c = λ none. plain_serves_not c.args.query.now (g.R.Reader.shown c.args.reader.now) (group_at c.args.query.now.only c.args.group) (rw c.group.ensures at (c.is_plain.ensures c.if-is_plain.true))
 
 pub returns-then-len-lt2-clause-none : goal.returns-then-len-lt2-clause-none
 returns-then-len-lt2-clause-none g c = λ none. too_few c.args.query.now (g.R.Reader.shown c.args.reader.now) (group_at c.args.query.now.only c.args.group) c.in_ok-branches.branches.items c.in_ok-branches.ensures.branches (omega arith)
