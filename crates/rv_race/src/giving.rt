@@ -184,12 +184,16 @@ impl Race {
         ensures stays { would judge.new ≡ would judge.old }
     {
         if !self.awaits(&sieved) {
+            let asked = sieved.id();
+            drop(sieved);
             return Ok(Given::Stale {
-                asked: sieved.id(),
+                asked,
                 now: self.awaited(),
             });
         }
-        let last = self.accept(&sieved)?;
+        let accepted = self.accept(&sieved);
+        drop(sieved);
+        let last = accepted?;
         self.go_by(last, judge);
         Ok(Given::Accepted)
     }

@@ -490,7 +490,7 @@ impl Race {
         ensures some { IsSome self.new.list }
     {
         let lane = mem::replace(&mut self.running.turn.lane, Lane::new(self.alloc));
-        let _before = self.list.replace(lane.into_list());
+        drop(self.list.replace(lane.into_list()));
     }
 
     /// Of the other scan's kept rows only those stay that the complete list may have.

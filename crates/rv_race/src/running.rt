@@ -54,7 +54,7 @@ impl Running {
         match self.other.take() {
             Some(other) => {
                 let before = mem::replace(&mut self.turn, other);
-                let _none = self.other.replace(before);
+                drop(self.other.replace(before));
             }
             None => {}
         }
@@ -67,10 +67,10 @@ impl Running {
     {
         match self.other.take() {
             Some(other) => {
-                let _over = mem::replace(&mut self.turn, other);
+                drop(mem::replace(&mut self.turn, other));
             }
             None => {
-                let _over = mem::replace(&mut self.turn, Runner::begin(alloc, self.next));
+                drop(mem::replace(&mut self.turn, Runner::begin(alloc, self.next)));
                 self.next += 1;
             }
         }
@@ -81,7 +81,7 @@ impl Running {
         requires { self.old.next ≤ 8 }
         ensures { self.new ≡ joined self.old }
     {
-        let _none = self.other.replace(Runner::begin(alloc, self.next));
+        drop(self.other.replace(Runner::begin(alloc, self.next)));
         self.next += 1;
     }
 

@@ -195,12 +195,16 @@ impl Union {
         ensures stays { would judge.new ≡ would judge.old }
     {
         if !self.awaits(&sieved) {
+            let asked = sieved.id();
+            drop(sieved);
             return Ok(Given::Stale {
-                asked: sieved.id(),
+                asked,
                 now: self.awaited(),
             });
         }
-        self.take_up(&sieved, judge)?;
+        let taken = self.take_up(&sieved, judge);
+        drop(sieved);
+        taken?;
         Ok(Given::Accepted)
     }
 

@@ -490,7 +490,7 @@ impl Union {
         ensures { self.new ≡ forgotten self.old }
     {
         self.keys.clear();
-        let _lane = mem::replace(&mut self.lane, Lane::new(self.alloc));
+        drop(mem::replace(&mut self.lane, Lane::new(self.alloc)));
     }
 
     /// A step through the list.
