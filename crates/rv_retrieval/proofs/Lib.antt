@@ -14,6 +14,9 @@ pub mod Running
 pub mod Tellings
 pub mod Starting
 pub mod Stepped
+pub mod OfKinds
+pub mod Counted
+pub mod Passing
 pub mod BackWork
 pub mod Courses
 pub mod Efforts

@@ -117,7 +117,7 @@ fast_behind (Ok s) would state after shown c d v mid new ec es e f none b =
     subst (λ (k : Kind). DoesAs k would state after shown c d s v new) (sym kind) (b.0, passed_first would state after v mid new e f b.1)
 
 -- a step while both sides run, of a strategy whose foreground gives nothing, is a background step
-background_kind : (control : Control) (strategy : Strategy) (fresh : Option ℕ) → control ≡ Building → (strategy ≡ Table) ⊎ ((strategy ≡ BackgroundOnly) ⊎ (strategy ≡ Union)) → kind_of control strategy fresh ≡ Piece
+pub background_kind : (control : Control) (strategy : Strategy) (fresh : Option ℕ) → control ≡ Building → (strategy ≡ Table) ⊎ ((strategy ≡ BackgroundOnly) ⊎ (strategy ≡ Union)) → kind_of control strategy fresh ≡ Piece
 background_kind control strategy fresh both (inl table) = rw (both, table) refl
 background_kind control strategy fresh both (inr (inl alone)) = rw (both, alone) refl
 background_kind control strategy fresh both (inr (inr union)) = rw (both, union) refl

@@ -38,7 +38,7 @@ use Rattle.rv_reader.specs.Shown.{Shown}
 use Rattle.rv_scan.specs.declared.skip.Scanned.{Scanned}
 use Rattle.rv_scan.specs.declared.skip.Scanned.TheVariants.{Found, Working, End}
 use Rattle.rv_retrieval.specs.Accounts.{account_of, fresh_of}
-use Rattle.rv_retrieval.specs.Given.{Answers, TakesPiece, more_behind}
+use Rattle.rv_retrieval.specs.Given.{Answers, TakesLeaf, TakesLeafBy, TakesPiece, more_behind}
 use Rattle.rv_retrieval.specs.Rulings.{GivesOn, Obeyed, Obeys, dropping, going_on, gone, listed, ruled, scan_over}
 use Rattle.rv_jscan.specs.Planned.{indexes_of}
 use Rattle.rv_retrieval.specs.Runs.{IsOfUndropped, SameCourse, Tells, TellsOf, events_left, goes_on, indexes_asked}
@@ -318,6 +318,15 @@ steps_tells would state after shown c d s v new led does t = go v.control v.stra
 
 pub counted_tells : (v new : Shape) (c d : Counts) → new ≡ record v { trace = counted v.trace c d } → Tells v → Tells new
 counted_tells v new c d e t = subst Tells (sym e) t
+
+-- A take leaves it.
+
+pub taken_tells : (v mid new : Shape) (c d : Counts) → mid ≡ record v { joint = mid.joint } → TakesLeaf v mid.joint → new ≡ record mid { trace = counted mid.trace c d } → Tells v → Tells new
+taken_tells v mid new c d m leaves n t = counted_tells mid new c d n (subst Tells (sym m) (by (is_background v.control) mid.joint leaves))
+  where
+    by : (b : Bool) (j : Joint) → TakesLeafBy b v.joint j → Tells (record v { joint = j })
+    by true j l = subst (λ (x : Joint). Tells (record v { joint = x })) (sym l.same) t
+    by false j e = subst (λ (x : Joint). Tells (record v { joint = x })) (sym e) t
 
 -- A trace that tells a run is allowed.
 pub allowed : (v : Shape) → Tells v → Allowed v.trace (indexes_asked v.query)

@@ -105,10 +105,10 @@ keeps_awaited old new e leaves = ap awaited e ∙ by (is_background old.control)
     by false e = refl
 
 -- a take leaves the course
-pub took_course : (old mid new : Shape) (c d : Counts) → mid ≡ record old { joint = mid.joint } → TakesLeaf old mid.joint → new ≡ record mid { trace = counted mid.trace c d } → SameCourse old new
-took_course old mid new c d m leaves n =
+pub leaf_course : (old mid : Shape) → mid ≡ record old { joint = mid.joint } → TakesLeaf old mid.joint → SameCourse old mid
+leaf_course old mid m leaves =
     let scans = by (is_background old.control) leaves in
-    subst (SameCourse old) (sym n) record {
+    record {
       strategy = ap (λ (x : Shape). x.strategy) m;
       control = ap (λ (x : Shape). x.control) m;
       plans = scans.0;
@@ -122,6 +122,12 @@ took_course old mid new c d m leaves n =
     by : (b : Bool) → TakesLeafBy b old.joint mid.joint → (mid.joint.plans ≡ old.joint.plans) × (mid.joint.ended ≡ old.joint.ended)
     by true t = (ap (λ (j : Joint). j.plans) t.same, ap (λ (j : Joint). j.ended) t.same)
     by false e = (ap (λ (j : Joint). j.plans) e, ap (λ (j : Joint). j.ended) e)
+
+pub counted_course : (old mid new : Shape) (c d : Counts) → new ≡ record mid { trace = counted mid.trace c d } → SameCourse old mid → SameCourse old new
+counted_course old mid new c d n s = subst (SameCourse old) (sym n) record { strategy = s.strategy; control = s.control; plans = s.plans; ended = s.ended; list = s.list; query = s.query; named = s.named; events = s.events }
+
+pub took_course : (old mid new : Shape) (c d : Counts) → mid ≡ record old { joint = mid.joint } → TakesLeaf old mid.joint → new ≡ record mid { trace = counted mid.trace c d } → SameCourse old new
+took_course old mid new c d m leaves n = counted_course old mid new c d n (leaf_course old mid m leaves)
 
 -- What every step keeps.
 
@@ -137,6 +143,20 @@ steady_on a b c s t = record {
   awaiting = λ w. t.awaiting (s.awaiting w);
   front = record { alone = t.front.alone ∙ s.front.alone; columns = t.front.columns ∙ s.front.columns; table = t.front.table ∙ s.front.table; index = t.front.index ∙ s.front.index; snap = t.front.snap ∙ s.front.snap; range = t.front.range ∙ s.front.range };
 }
+
+pub steady_moved : (old new : Shape) → new ≡ record old { front = new.front } → SameFront old.front new.front → Steady old new
+steady_moved old new e f = record {
+  counts = subst (λ (x : Shape). SameCounts old.trace x.trace) (sym e) (record { pages = refl; leaves = refl; fetches = refl });
+  query = ap (λ (x : Shape). x.query) e;
+  awaiting = λ w. subst Awaiting (sym e) (record { way = w.way; both = w.both });
+  front = f;
+}
+
+pub steady_at : (old new : Shape) → new ≡ record old { at = new.at } → Steady old new
+steady_at old new e = subst (Steady old) (sym e) (by new.at)
+  where
+    by : (n : ℕ) → Steady old (record old { at = n })
+    by n = steady_by old (record old { at = n }) (record { pages = refl; leaves = refl; fetches = refl }) refl (λ w. record { way = w.way; both = w.both }) refl
 
 pub steady_borrowed : (a b c : Shape) → b ≡ record a { borrowed = b.borrowed } → Steady b c → Steady a c
 steady_borrowed a b c e s = steady_on a b c (subst (Steady a) (sym e) (by b.borrowed)) s

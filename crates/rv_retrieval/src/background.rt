@@ -197,10 +197,9 @@ impl Retrieval {
         ensures front { self.new.front ≡ self.old.front }
     {
         if !self.is_background() {
-            return Ok(Given::Stale {
-                asked: sieved.id(),
-                now: None,
-            });
+            let asked = sieved.id();
+            drop(sieved);
+            return Ok(Given::Stale { asked, now: None });
         }
         let before = self.ended();
         let given = self.give_joint(sieved)?;

@@ -198,8 +198,21 @@ impl Retrieval {
         ensures unlisted { IfOk result (λ r. r.joint.list ≡ None) }
         ensures few { has_short query (R.shown reader.now) ≡ true → IfOk result (λ r. keys_most r.joint (R.shown reader.now) ≤ 20) }
     {
-        let scans = scans(alloc, &query.only, candidates, choice.background)?;
-        let front = foreground(alloc, &query, candidates, choice.front)?;
+        let scans = match scans(alloc, &query.only, candidates, choice.background) {
+            Ok(scans) => scans,
+            Err(fault) => {
+                drop(query);
+                return Err(fault);
+            }
+        };
+        let front = match foreground(alloc, &query, candidates, choice.front) {
+            Ok(front) => front,
+            Err(fault) => {
+                drop(scans);
+                drop(query);
+                return Err(fault);
+            }
+        };
         let guaranteed = guarantee(reader, &query, candidates, choice);
         Retrieval::begin(
             alloc,
@@ -245,9 +258,16 @@ impl Retrieval {
         let mut retrieval = Retrieval::chosen(
             alloc, reader, query, candidates, choice, cursor, opening,
         )?;
-        retrieval.settle(choice.background, reader, steps)?;
-        retrieval.count(before, steps.counts());
-        Ok(retrieval)
+        match retrieval.settle(choice.background, reader, steps) {
+            Ok(()) => {
+                retrieval.count(before, steps.counts());
+                Ok(retrieval)
+            }
+            Err(fault) => {
+                drop(retrieval);
+                Err(fault)
+            }
+        }
     }
 
     /// Opens a retrieval: it looks at the ranges that the restriction has for the indexes and at their estimates, and
@@ -277,9 +297,15 @@ impl Retrieval {
         ensures only { OnlyLeaves steps.old steps.new }
         ensures unread { has_short query (R.shown reader.now) ≡ false → steps.new ≡ steps.old }
     {
-        let candidates = candidates(alloc, reader, &query)?;
+        let candidates = match candidates(alloc, reader, &query) {
+            Ok(candidates) => candidates,
+            Err(fault) => {
+                drop(query);
+                return Err(fault);
+            }
+        };
         let choice = choose(candidates.as_slice(), query.order.as_slice(), query.goal);
-        Retrieval::open_chosen(
+        let opened = Retrieval::open_chosen(
             alloc,
             reader,
             query,
@@ -288,6 +314,8 @@ impl Retrieval {
             cursor,
             opening,
             steps,
-        )
+        );
+        drop(candidates);
+        opened
     }
 }

@@ -485,7 +485,15 @@ impl Retrieval {
         ensures unborrowed { IfOk result (λ r. r.borrowed ≡ 0) }
         ensures last { (rows : List OneRecord) (pages : ℕ) → IfOk result (λ r. pages_work r.last rows pages ≡ length rows + pages) }
     {
-        let delivered = room(alloc, strategy)?;
+        let delivered = match room(alloc, strategy) {
+            Ok(delivered) => delivered,
+            Err(fault) => {
+                drop(query);
+                drop(scans);
+                drop(front);
+                return Err(fault);
+            }
+        };
         let control = first_control(strategy, has_scans(scans.as_slice()));
         let ending = Final::new(alloc, query.table, query.snap);
         let joint = Jscan::new(alloc, query.table, query.snap, scans, cursor, opening);

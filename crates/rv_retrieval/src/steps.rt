@@ -27,7 +27,7 @@ use rv_scan::Scanned;
 use rv_value::{NoMemory, Record, RowNo};
 
 /// What a foreground step answers.
-#[derive(Drop, Debug)]
+#[derive(Drop)]
 pub enum Fg {
     /// A row of the rest, with every column needed.
     Row(Record),

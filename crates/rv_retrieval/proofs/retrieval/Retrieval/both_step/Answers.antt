@@ -1,9 +1,11 @@
-use Rattle.std.proofs.Common.{◌∙◌, ap, sym}
+use Rattle.std.proofs.Common.{◌∙◌, ap, refl, subst, sym}
+use Rattle.rv_value.proofs.Lists.{on_err}
+use Rattle.rv_retrieval.proofs.Waiting.{steady_moved}
 use Rattle.rv_scan.specs.declared.skip.Scanned.TheVariants.{Working, End}
 use Rattle.rv_retrieval.proofs.Controls.{ended, ends_fits}
 use Rattle.rv_keys.specs.Keys.{has_key}
 use Rattle.rv_retrieval.specs.Room.{must_remember}
-use Rattle.rv_retrieval.specs.Shape.{Shape}
+use Rattle.rv_retrieval.specs.Shape.{RetrievalFits, Shape}
 use Rattle.rv_retrieval.proofs.Delivering.{both_found_does, both_found_fits, fresh_row, front_ends, moved_does, moved_fits}
 use Rattle.rv_retrieval.proofs.Remembering.{both_remember}
 use Rattle.rv_retrieval.proofs.Switching.{both_ahead}
@@ -73,3 +75,30 @@ returns-in-Found-clause-falls g c = both_falls c.args.self.now c.scan_front.new.
 
 pub returns-in-End-clause-tries : goal.returns-in-End-clause-tries
 returns-in-End-clause-tries g c = both_tries c.args.self.now c.scan_front.new.self c.go.new.self (g.R.Reader.shown c.args.reader.now) c.args.steps.now c.scan_front.new.steps c.scan_front.new.self.delivered _ c.go.new.self.trace c.requires.both c.scan_front.ensures.same c.go.ensures.same c.scan_front.ensures.tries
+
+pub returns-in-Working-clause-steady : goal.returns-in-Working-clause-steady
+returns-in-Working-clause-steady g c = steady_moved c.args.self.now c.scan_front.new.self c.scan_front.ensures.same c.scan_front.ensures.front
+
+pub returns-in_err-record-clause-steady : goal.returns-in_err-record-clause-steady
+returns-in_err-record-clause-steady g c = steady_moved c.args.self.now c.scan_front.new.self c.scan_front.ensures.same c.scan_front.ensures.front
+
+pub returns-in-Working-clause-does : goal.returns-in-Working-clause-does
+returns-in-Working-clause-does g c = c.scan_front.ensures.same
+
+pub returns-in_err-record-clause-fits : goal.returns-in_err-record-clause-fits
+returns-in_err-record-clause-fits g c = subst (λ (x : Shape). RetrievalFits x (g.R.Reader.shown c.args.reader.now)) (sym c.in_err-record.ensures.err) c.requires.fits
+
+pub returns-in_err-record-clause-err : goal.returns-in_err-record-clause-err
+returns-in_err-record-clause-err g c = on_err _ _ c.in_err-record.ensures.err
+
+pub returns-in-Working-clause-tries : goal.returns-in-Working-clause-tries
+returns-in-Working-clause-tries g c = both_tries c.args.self.now c.scan_front.new.self c.scan_front.new.self (g.R.Reader.shown c.args.reader.now) c.args.steps.now c.scan_front.new.steps c.scan_front.new.self.delivered c.scan_front.new.self.control c.scan_front.new.self.trace c.requires.both c.scan_front.ensures.same refl c.scan_front.ensures.tries
+
+pub returns-in_err-record-clause-tries : goal.returns-in_err-record-clause-tries
+returns-in_err-record-clause-tries g c = both_tries c.args.self.now c.scan_front.new.self c.scan_front.new.self (g.R.Reader.shown c.args.reader.now) c.args.steps.now c.scan_front.new.steps c.scan_front.new.self.delivered c.scan_front.new.self.control c.scan_front.new.self.trace c.requires.both c.scan_front.ensures.same refl c.scan_front.ensures.tries
+
+pub returns-in-Working-clause-falls : goal.returns-in-Working-clause-falls
+returns-in-Working-clause-falls g c = both_falls c.args.self.now c.scan_front.new.self c.scan_front.new.self (g.R.Reader.shown c.args.reader.now) c.scan_front.new.self.delivered c.scan_front.new.self.control c.scan_front.new.self.trace c.requires.both c.scan_front.ensures.same refl (rw c.in-Working.is at c.in_ok-record.ensures.falls)
+
+pub returns-in-End-clause-falls : goal.returns-in-End-clause-falls
+returns-in-End-clause-falls g c = rw c.in-End.is at c.in_ok-record.ensures.falls
