@@ -87,7 +87,7 @@ pub fn open_cursor<R: Reader>(
     ensures frozen { IfOk result (λ c. c.frozen ≡ frozen) }
 {
     let at = Snapshot { reader, snap };
-    let plan = Plan::open(
+    let plan = match Plan::open(
         alloc,
         &Seen {
             reader: &at,
@@ -99,7 +99,14 @@ pub fn open_cursor<R: Reader>(
         number,
         race,
         steps,
-    )?;
+    ) {
+        Ok(plan) => plan,
+        Err(fault) => {
+            drop(name);
+            drop(frozen);
+            return Err(fault);
+        }
+    };
     Ok(Open {
         session,
         name,
@@ -137,7 +144,7 @@ pub fn fill<R: Reader>(
     };
     match cursor.plan.step(&seen, judge, steps) {
         Ok(PlanStep::Row(offer)) => {
-            let _before = cursor.hand.replace(offer);
+            drop(cursor.hand.replace(offer));
             Ok(Filled::Brought)
         }
         Ok(PlanStep::End) => Ok(Filled::Ended),

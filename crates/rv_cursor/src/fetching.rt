@@ -21,10 +21,14 @@ fn replies_of(given: Option<Offer>, copy: Values) -> (Reply, Reply)
 {
     match given {
         Some(offer) => {
-            let Offer { order: _, returned } = offer;
+            let Offer { order, returned } = offer;
+            drop(order);
             (Reply::Row(returned), Reply::Row(copy))
         }
-        None => (Reply::End, Reply::End),
+        None => {
+            drop(copy);
+            (Reply::End, Reply::End)
+        }
     }
 }
 

@@ -9,6 +9,11 @@ use std::alloc::Global;
 pub fn twice(alloc: Global, reply: Reply) -> Result<(Reply, Reply), NoMemory>
     ensures { IfOk result (λ replies. (replies.0 ≡ reply) × (replies.1 ≡ reply)) }
 {
-    let copy = reply.copy(alloc)?;
-    Ok((reply, copy))
+    match reply.copy(alloc) {
+        Ok(copy) => Ok((reply, copy)),
+        Err(fault) => {
+            drop(reply);
+            Err(fault)
+        }
+    }
 }

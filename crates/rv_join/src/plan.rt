@@ -127,8 +127,16 @@ impl Plan {
     {
         let stage = first_stage(alloc, select, indexes)?;
         let asked = ask(alloc, select, indexes, snap, cursor, race)?;
-        let stack = open(alloc, reader, &asked, steps)?;
-        let reads = reads_of(&stack.first_trace());
+        let stack = match open(alloc, reader, &asked, steps) {
+            Ok(stack) => stack,
+            Err(fault) => {
+                drop(asked);
+                return Err(fault);
+            }
+        };
+        let trace = stack.first_trace();
+        let reads = reads_of(&trace);
+        drop(trace);
         let gathered = Gathered::new(alloc, &asked);
         Ok(Plan {
             alloc,

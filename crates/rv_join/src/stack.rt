@@ -105,10 +105,6 @@ pub fn open<R: Reader>(
     })
 }
 
-/// A level that is left goes with all that it holds. A function of any type calls its drop, and sees none of its parts, which are
-/// so many that their cases cost minutes of the prover.
-fn leave<T: Drop>(_left: T) {}
-
 /// The open levels: changes of fields, and looks.
 impl Stack {
     fn ready<R: Reader>(
@@ -140,7 +136,7 @@ impl Stack {
     {
         match self.above.pop() {
             Some(level) => {
-                leave(mem::replace(&mut self.at, level));
+                drop(mem::replace(&mut self.at, level));
                 true
             }
             None => false,
@@ -153,11 +149,11 @@ impl Stack {
         ensures err { OnErr result (self.new ≡ self.old) }
     {
         if self.above.reserve(1).is_err() {
-            leave(inner);
+            drop(inner);
             return Err(NoMemory);
         }
         let mut outer = mem::replace(&mut self.at, inner);
-        let _row = outer.row.take();
+        drop(outer.row.take());
         self.above.push(outer).unwrap();
         self.openings = self.openings.saturating_add(1);
         Ok(())
@@ -166,7 +162,7 @@ impl Stack {
     fn drop_row(&mut self)
         ensures { self.new ≡ used self.old }
     {
-        let _row = self.at.row.take();
+        drop(self.at.row.take());
     }
 
     fn is_last(&self, asked: &Asked) -> bool

@@ -11,9 +11,9 @@ open-requires g c = can_run c.args.select.now c.args.indexes.now (g.R.Reader.sho
 
 pub returns-clause-fits : goal.returns-clause-fits
 returns-clause-fits g c = rw (c.new-gathered.ensures, c.in_ok-stage.ensures) (record {
-  holds = begins_good c.args.select.now c.args.indexes.now (g.R.Reader.shown c.args.reader.now) c.args.snap c.args.cursor c.in_ok-asked.asked c.in_ok-stack.stack c.reads_of-reads.result c.requires c.in_ok-asked.ensures.asked c.in_ok-stack.ensures.starts;
-  rules = opened_rules c.in_ok-asked.asked.race (g.R.Reader.shown c.args.reader.now) c.in_ok-asked.asked.cursor 1 (first_of c.in_ok-stack.stack).here (rw c.in_ok-stack.ensures.starts.top c.in_ok-stack.ensures.opened);
-  counted = λ one. rw c.first_trace.ensures at c.reads_of-reads.ensures;
+  holds = begins_good c.args.select.now c.args.indexes.now (g.R.Reader.shown c.args.reader.now) c.args.snap c.args.cursor c.in_ok-asked.asked c.in-Ok.stack c.reads_of-reads.result c.requires c.in_ok-asked.ensures.asked c.in-Ok.ensures.starts;
+  rules = opened_rules c.in_ok-asked.asked.race (g.R.Reader.shown c.args.reader.now) c.in_ok-asked.asked.cursor 1 (first_of c.in-Ok.stack).here (rw c.in-Ok.ensures.starts.top c.in-Ok.ensures.opened);
+  counted = λ one. rw c.first_trace-trace.ensures at c.reads_of-reads.ensures;
 })
 
 pub returns-clause-rest : goal.returns-clause-rest
@@ -21,7 +21,7 @@ returns-clause-rest g c =
     let select = c.args.select.now in
     let indexes = c.args.indexes.now in
     let shown = g.R.Reader.shown c.args.reader.now in
-    begins_with c.in_ok-asked.asked shown select indexes (record { asked = c.in_ok-asked.asked; stack = c.in_ok-stack.stack; gathered = c.new-gathered.result.offers; stage = c.in_ok-stage.stage; reads = c.reads_of-reads.result }) refl (ap (λ (g : Collected). g.offers) c.new-gathered.ensures) c.in_ok-stage.ensures ∙ c.in_ok-stack.ensures.starts.bag ∙ offers_are select indexes shown c.args.snap c.args.cursor c.in_ok-asked.asked c.requires c.in_ok-asked.ensures.asked
+    begins_with c.in_ok-asked.asked shown select indexes (record { asked = c.in_ok-asked.asked; stack = c.in-Ok.stack; gathered = c.new-gathered.result.offers; stage = c.in_ok-stage.stage; reads = c.reads_of-reads.result }) refl (ap (λ (g : Collected). g.offers) c.new-gathered.ensures) c.in_ok-stage.ensures ∙ c.in-Ok.ensures.starts.bag ∙ offers_are select indexes shown c.args.snap c.args.cursor c.in_ok-asked.asked c.requires c.in_ok-asked.ensures.asked
 
 pub returns-clause-life : goal.returns-clause-life
-returns-clause-life g c = begins_life c.args.select.now c.args.indexes.now (g.R.Reader.shown c.args.reader.now) c.args.snap c.args.cursor c.in_ok-asked.asked c.in_ok-stack.stack _ _ c.requires.some c.in_ok-asked.ensures.asked c.in_ok-stack.ensures.asks c.in_ok-stack.ensures.row c.in_ok-stack.ensures.life
+returns-clause-life g c = begins_life c.args.select.now c.args.indexes.now (g.R.Reader.shown c.args.reader.now) c.args.snap c.args.cursor c.in_ok-asked.asked c.in-Ok.stack _ _ c.requires.some c.in_ok-asked.ensures.asked c.in-Ok.ensures.asks c.in-Ok.ensures.row c.in-Ok.ensures.life
