@@ -80,11 +80,8 @@ pub fn close_at(cursors: &mut Items<Open>, place: usize)
     requires { place < length cursors.old }
     ensures { cursors.new ≡ remove cursors.old place }
 {
-    leave(cursors.remove(place));
+    drop(cursors.remove(place));
 }
-
-/// Lets a value of any type go. In a function of its own, which knows no parts of it.
-fn leave<T: Drop>(_left: T) {}
 
 /// The base of the session's transaction, where it may open a cursor of a name.
 pub fn opening(

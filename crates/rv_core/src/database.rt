@@ -124,9 +124,11 @@ impl<S: Store + Reader<Ledger = Uncounted> + Drop> Database<S> {
         // What a store tells with its newest commit holds of all that is kept of views.
         let _last = self.store.last();
         if let Some(number) = self.txns.active() {
+            drop(def);
             return refused(self.alloc, Refusal::Busy(number));
         }
         if self.catalog.tables().len() > 63 {
+            drop(def);
             return refused(self.alloc, limit(Which::Tables, 64));
         }
         match add_table(&mut self.catalog, &mut self.store, def) {
@@ -151,16 +153,22 @@ impl<S: Store + Reader<Ledger = Uncounted> + Drop> Database<S> {
         // What a store tells with its newest commit holds of all that is kept of views.
         let _last = self.store.last();
         if let Some(lowest) = self.txns.active() {
+            drop(def);
             return refused(self.alloc, Refusal::Busy(lowest));
         }
         if self.catalog.count_indexes(def.table) > 7 {
+            drop(def);
             return refused(self.alloc, limit(Which::Indexes, 8));
         }
         let equal = match first_equal(self.alloc, &self.store, &def) {
             Ok(equal) => equal,
-            Err(NoMemory) => return Err(NoMemory),
+            Err(NoMemory) => {
+                drop(def);
+                return Err(NoMemory);
+            }
         };
         if let Some(row) = equal {
+            drop(def);
             let by = Rival::View;
             return refused(self.alloc, Refusal::Duplicate { row, by });
         }
@@ -281,8 +289,12 @@ impl<S: Store + Reader<Ledger = Uncounted> + Drop> Database<S> {
         };
         let number = match commit_some(&mut self.store, &finished) {
             Ok(number) => number,
-            Err(NoMemory) => return Err(NoMemory),
+            Err(NoMemory) => {
+                drop(finished);
+                return Err(NoMemory);
+            }
         };
+        drop(finished);
         self.txns.commit_done(session, number);
         self.views.let_go(session);
         close_all(&mut self.cursors, session);
@@ -330,8 +342,14 @@ impl<S: Store + Reader<Ledger = Uncounted> + Drop> Database<S> {
     {
         let base = match opening(self.alloc, &self.txns, &self.cursors, session, &name) {
             Ok(base) => base,
-            Err(TxnFault::Refused(refusal)) => return refused(self.alloc, refusal),
-            Err(TxnFault::NoMemory) => return Err(NoMemory),
+            Err(TxnFault::Refused(refusal)) => {
+                drop(name);
+                return refused(self.alloc, refusal);
+            }
+            Err(TxnFault::NoMemory) => {
+                drop(name);
+                return Err(NoMemory);
+            }
         };
         let frozen = match freeze(
             &self.catalog,
@@ -341,7 +359,10 @@ impl<S: Store + Reader<Ledger = Uncounted> + Drop> Database<S> {
             session,
         ) {
             Ok(frozen) => frozen,
-            Err(NoMemory) => return Err(NoMemory),
+            Err(NoMemory) => {
+                drop(name);
+                return Err(NoMemory);
+            }
         };
         let cursor = match plan_cursor(
             self.alloc,
@@ -387,6 +408,7 @@ impl<S: Store + Reader<Ledger = Uncounted> + Drop> Database<S> {
         let Some(place) = cursor_named(&self.cursors, session, &name) else {
             return refused(self.alloc, Refusal::NoCursor(name));
         };
+        drop(name);
         let replies = match fetch_at(
             self.alloc,
             &self.store,
@@ -423,7 +445,8 @@ impl<S: Store + Reader<Ledger = Uncounted> + Drop> Database<S> {
         let Some(place) = cursor_named(&self.cursors, session, &name) else {
             return answered(refused(self.alloc, Refusal::NoCursor(name)));
         };
-        match fetch_step_at(
+        drop(name);
+        let part = match fetch_step_at(
             self.alloc,
             &self.store,
             &mut self.cursors,
@@ -431,9 +454,10 @@ impl<S: Store + Reader<Ledger = Uncounted> + Drop> Database<S> {
             judge,
             beside,
         ) {
-            Ok(part) => Ok(part),
-            Err(NoMemory) => Err(NoMemory),
-        }
+            Ok(part) => part,
+            Err(NoMemory) => return Err(NoMemory),
+        };
+        Ok(part)
     }
 
     /// STEP: so many background steps at most.
@@ -457,6 +481,7 @@ impl<S: Store + Reader<Ledger = Uncounted> + Drop> Database<S> {
         let Some(place) = cursor_named(&self.cursors, session, &name) else {
             return refused(self.alloc, Refusal::NoCursor(name));
         };
+        drop(name);
         let done = match step_at(&self.store, &mut self.cursors, place, judge, most) {
             Ok(done) => done,
             Err(NoMemory) => return Err(NoMemory),
@@ -472,6 +497,7 @@ impl<S: Store + Reader<Ledger = Uncounted> + Drop> Database<S> {
         let Some(place) = cursor_named(&self.cursors, session, &name) else {
             return refused(self.alloc, Refusal::NoCursor(name));
         };
+        drop(name);
         let trace = trace_at(&self.cursors, place);
         let shown = named_trace(self.alloc, self.catalog.indexes(), &trace)?;
         twice(self.alloc, Reply::Trace(shown))
@@ -511,6 +537,7 @@ impl<S: Store + Reader<Ledger = Uncounted> + Drop> Database<S> {
     {
         let id = sieved.id();
         let Some(place) = numbered(&self.cursors, id.cursor) else {
+            drop(sieved);
             return Ok(Given::Stale {
                 asked: id,
                 now: None,
@@ -533,6 +560,7 @@ impl<S: Store + Reader<Ledger = Uncounted> + Drop> Database<S> {
         let Some(place) = cursor_named(&self.cursors, session, &name) else {
             return refused(self.alloc, Refusal::NoCursor(name));
         };
+        drop(name);
         close_at(&mut self.cursors, place);
         Ok((Reply::Closed, Reply::Closed))
     }

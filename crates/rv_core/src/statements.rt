@@ -203,12 +203,23 @@ fn perform<S: Store + Reader<Ledger = Uncounted> + Drop>(
         Resolved::Begin { read_only } => database.begin(session, read_only),
         Resolved::Insert { table, values } => database.insert(session, table, values),
         Resolved::Update { table, sets, only } => {
-            database.change(session, table, Some(sets.as_slice()), &only, judge)
+            let replies = database.change(session, table, Some(sets.as_slice()), &only, judge);
+            drop(sets);
+            drop(only);
+            replies
         }
-        Resolved::Delete { table, only } => database.change(session, table, None, &only, judge),
+        Resolved::Delete { table, only } => {
+            let replies = database.change(session, table, None, &only, judge);
+            drop(only);
+            replies
+        }
         Resolved::Commit => database.commit(session),
         Resolved::Rollback => database.rollback(session),
-        Resolved::Open { cursor, select } => database.open(session, cursor, &select, settings.race),
+        Resolved::Open { cursor, select } => {
+            let replies = database.open(session, cursor, &select, settings.race);
+            drop(select);
+            replies
+        }
         Resolved::Fetch(name) => database.fetch(session, name, judge, settings.steps),
         Resolved::Step { cursor, n } => database.step(session, cursor, n, judge),
         Resolved::Show(name) => database.show(session, name),

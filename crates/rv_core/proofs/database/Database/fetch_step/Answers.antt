@@ -1,6 +1,6 @@
-use Rattle.std.proofs.Common.{◌∙◌, sym}
-use Rattle.rv_core.proofs.Facts.{if_ok}
-use Rattle.rv_core.proofs.Handling.{parted_ok, refused_fetch}
+use Rattle.std.proofs.Common.{◌∙◌, refl, sym}
+use Rattle.rv_core.proofs.Facts.{any_ok, if_ok, on_err}
+use Rattle.rv_core.proofs.Handling.{parted_err, parted_ok, refused_fetch}
 use Rattle.rv_core.proofs.Databases.{opens_fit, standing_at}
 use Rattle.rv_core.proofs.database.Database.fetch_step.Goals as goal
 
@@ -25,3 +25,21 @@ pub returns-in_default-clause-ok : goal.returns-in_default-clause-ok
 returns-in_default-clause-ok g c =
     let none = sym (c.cursor_named.ensures.seen (g.S.Reader.shown c.self.inside.store)) ∙ c.in_default.is in
     rw (← c.self.view_is, c.answered.ensures) (parted_ok c.refused.result _ _ (if_ok c.refused.result _ _ (λ replies k. refused_fetch _ c.args.session c.args.name replies none k) c.refused.ensures))
+
+pub returns-in_default-clause-moves : goal.returns-in_default-clause-moves
+returns-in_default-clause-moves g c =
+    let none = sym c.cursor_named.ensures.named ∙ c.in_default.is in
+    rw (← c.self.view_is, c.answered.ensures, none) (parted_ok c.refused.result _ _ (any_ok c.refused.result _ (λ replies. refl)))
+
+pub returns-in_default-clause-refuses : goal.returns-in_default-clause-refuses
+returns-in_default-clause-refuses g c refusal = rw c.answered.ensures (parted_ok c.refused.result _ _ (any_ok c.refused.result _ (λ replies same. refl)))
+
+pub returns-in_default-clause-turn : goal.returns-in_default-clause-turn
+returns-in_default-clause-turn g c =
+    let none = sym c.cursor_named.ensures.named ∙ c.in_default.is in
+    rw (← c.self.view_is, c.answered.ensures, none) (parted_ok c.refused.result _ _ (any_ok c.refused.result _ (λ replies. refl)))
+
+pub returns-in_default-clause-lost : goal.returns-in_default-clause-lost
+returns-in_default-clause-lost g c =
+    let none = sym c.cursor_named.ensures.named ∙ c.in_default.is in
+    rw (← c.self.view_is, c.answered.ensures, none) (parted_err c.refused.result _ (on_err c.refused.result _ refl))
