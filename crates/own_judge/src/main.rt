@@ -21,14 +21,12 @@ fn main(rt: HostRuntime) -> ExitCode {
     let status = run_standard(&rt).unwrap_or(Status::Memory);
     if status != Status::Done {
         let words = status.words();
-        let _ = rt.eprintln(words.as_str());
+        drop(rt.eprintln(words.as_str()));
     }
-    ExitCode::from(status.code())
+    let code = status.code();
+    drop(status);
+    ExitCode::from(code)
 }
-
-/// What is left goes, with all that it holds. A function of any type calls its drop, and sees none of its parts: a core has so
-/// many that what their cases cost is minutes of the prover.
-fn leave<T: Drop>(_left: T) {}
 
 /// The run over the standard streams.
 fn run_standard(rt: &HostRuntime) -> Result<Status, NoMemory> {
@@ -40,7 +38,10 @@ fn run_standard(rt: &HostRuntime) -> Result<Status, NoMemory> {
     let status = run_shared(rt.alloc(), &mut source, &mut sink)?;
     Ok(match sink.finish() {
         Ok(()) => status,
-        Err(_fault) => Status::WriteFault,
+        Err(_fault) => {
+            drop(status);
+            Status::WriteFault
+        }
     })
 }
 
@@ -59,6 +60,6 @@ fn run_shared<S: Source, K: Sink>(
     judges.push(Box::new(alloc, Patient::new())?)?;
     let store = Paged::new(alloc)?;
     let ran = run_plain(alloc, store, &[], source, sink, judges);
-    leave(ran.core);
+    drop(ran.core);
     Ok(ran.status)
 }

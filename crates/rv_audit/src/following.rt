@@ -156,6 +156,7 @@ pub fn follow(alloc: Global, phases: &[Phase], entries: Vec<Entry>) -> Result<Fo
                 continue;
             }
             None => {
+                drop(entry);
                 return Ok(Followed {
                     entries: followed,
                     end: End::Bad,

@@ -21,7 +21,10 @@ fn whole(rt: &HostRuntime) -> Result<AuditStatus, NoMemory> {
     let words = match read_words(rt) {
         Ok(words) => words,
         Err(Status::Usage) => return Ok(AuditStatus::Usage),
-        Err(_) => return Err(NoMemory),
+        Err(status) => {
+            drop(status);
+            return Err(NoMemory);
+        }
     };
     let Ok(out) = BufWriter::new(alloc, io::writer(rt)) else {
         return Err(NoMemory);

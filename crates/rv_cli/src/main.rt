@@ -18,9 +18,11 @@ fn main(rt: HostRuntime) -> ExitCode {
     let status = whole(&rt, &rt).unwrap_or(Status::Memory);
     if status != Status::Done {
         let words = status.words();
-        let _ = rt.eprintln(words.as_str());
+        drop(rt.eprintln(words.as_str()));
     }
-    ExitCode::from(status.code())
+    let code = status.code();
+    drop(status);
+    ExitCode::from(code)
 }
 
 /// The run over the standard streams, under the supplied judges. `threads` is the leave to start threads.
@@ -39,10 +41,7 @@ fn whole<R: Threads + Wait + Sync>(rt: &HostRuntime, threads: &R) -> Result<Stat
     };
     let mut source = StdSource::new(rt.reader());
     let mut sink = StdSink::new(out);
-    let Ran {
-        status,
-        core: _core,
-    } = run(
+    let Ran { status, core } = run(
         threads,
         alloc,
         Paged::new(alloc)?,
@@ -52,8 +51,12 @@ fn whole<R: Threads + Wait + Sync>(rt: &HostRuntime, threads: &R) -> Result<Stat
         judges,
         &OpenGate,
     );
+    drop(core);
     Ok(match sink.finish() {
         Ok(()) => status,
-        Err(_fault) => Status::WriteFault,
+        Err(_fault) => {
+            drop(status);
+            Status::WriteFault
+        }
     })
 }

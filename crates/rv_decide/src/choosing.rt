@@ -44,7 +44,7 @@ fn choose(
             'rows: for row in rows.as_slice() {
                 chosen.push(row.values.copy(alloc)?)?;
                 choose(alloc, select, more, chosen, found)?;
-                chosen.pop();
+                drop(chosen.pop());
             }
             Ok(())
         }

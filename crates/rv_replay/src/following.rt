@@ -28,7 +28,9 @@ pub fn replay(alloc: Global, entries: &[Entry]) -> Result<Replayed, NoMemory>
     ensures { IfOk result (Tells entries.now) }
 {
     let mut plain = PlainDatabase::new(alloc)?;
-    follow(alloc, &mut plain, entries)
+    let replayed = follow(alloc, &mut plain, entries);
+    drop(plain);
+    replayed
 }
 
 /// Whether each entry's text has at most 4,096 bytes.

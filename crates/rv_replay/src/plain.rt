@@ -1,5 +1,5 @@
 //! The one-thread database over a paged store, and what each statement does to it.
-ghost use Rattle.std.specs.Prelude.{◌≡◌, ◌≤◌, ◌<◌, Ok, IfOk, IfSome, length, true};
+ghost use Rattle.std.specs.Prelude.{◌≡◌, ◌≤◌, ◌<◌, ◌↔◌, Ok, IfOk, IfSome, IsTrue, length, true};
 ghost use Rattle.std.specs.Option.{option_copied};
 ghost use Rattle.rv_parse.specs.Needed.{HasParts};
 ghost use Rattle.rv_parse.specs.Reading.{statement_of};
@@ -181,8 +181,11 @@ impl PlainDatabase {
         ensures { JudgesFetch result (cursor_named self.old.cursors session name) self.old name given.now self.new }
     {
         match cursor_named(&self.cursors, session, &name) {
-            Some(place) => fetch_at(&mut self.cursors, place, given),
-            None => same_reply(&Reply::Refused(Refusal::NoCursor(name)), given),
+            Some(place) => {
+                drop(name);
+                fetch_at(&mut self.cursors, place, given)
+            }
+            None => refuses(Refusal::NoCursor(name), given),
         }
     }
 
@@ -191,8 +194,11 @@ impl PlainDatabase {
         ensures { JudgesStep result (cursor_named self.now.cursors session name) self.now name most given.now }
     {
         match cursor_named(&self.cursors, session, &name) {
-            Some(_place) => may_step(most, given),
-            None => same_reply(&Reply::Refused(Refusal::NoCursor(name)), given),
+            Some(_place) => {
+                drop(name);
+                may_step(most, given)
+            }
+            None => refuses(Refusal::NoCursor(name), given),
         }
     }
 
@@ -203,10 +209,11 @@ impl PlainDatabase {
     {
         match cursor_named(&self.cursors, session, &name) {
             Some(place) => {
+                drop(name);
                 let table = table_at(&self.cursors, place);
                 may_tell(self.alloc, self.database.catalog().indexes(), table, given)
             }
-            None => Ok(same_reply(&Reply::Refused(Refusal::NoCursor(name)), given)),
+            None => Ok(refuses(Refusal::NoCursor(name), given)),
         }
     }
 
@@ -216,7 +223,8 @@ impl PlainDatabase {
     {
         match cursor_named(&self.cursors, session, &name) {
             Some(place) => {
-                let _closed = self.cursors.remove(place);
+                drop(name);
+                drop(self.cursors.remove(place));
                 Ok(Reply::Closed)
             }
             None => Ok(Reply::Refused(Refusal::NoCursor(name))),
@@ -228,7 +236,8 @@ impl PlainDatabase {
 fn first(replies: (Reply, Reply)) -> Reply
     ensures { result ≡ replies.0 }
 {
-    let (reply, _kept) = replies;
+    let (reply, kept) = replies;
+    drop(kept);
     reply
 }
 
@@ -253,9 +262,23 @@ fn compared(made: Result<Reply, NoMemory>, given: &Reply) -> Result<bool, NoMemo
     ensures { Compares made given.now result }
 {
     match made {
-        Ok(reply) => Ok(same_reply(&reply, given)),
+        Ok(reply) => {
+            let same = same_reply(&reply, given);
+            drop(reply);
+            Ok(same)
+        }
         Err(NoMemory) => Err(NoMemory),
     }
+}
+
+/// Whether a refusal is the reply that is given.
+fn refuses(refusal: Refusal, given: &Reply) -> bool
+    ensures { IsTrue result ↔ (Refused refusal ≡ given.now) }
+{
+    let reply = Reply::Refused(refusal);
+    let same = same_reply(&reply, given);
+    drop(reply);
+    same
 }
 
 /// Whether a session's text may be answered by a reply. Where it may, the step is made.
@@ -272,7 +295,9 @@ pub fn judge(
     ensures { IfOk result (λ allowed. JudgesStatement allowed plain.old session (statement_of text.now) given.now plain.new) }
 {
     let statement = read_statement(alloc, text)?;
-    judge_statement(plain, session, &statement, given)
+    let judged = judge_statement(plain, session, &statement, given);
+    drop(statement);
+    judged
 }
 
 fn judge_statement(
@@ -288,7 +313,7 @@ fn judge_statement(
 {
     match understand(plain.catalog(), statement) {
         Ok(asked) => judge_asked(plain, session, asked, given),
-        Err(BindFault::Refused(refusal)) => Ok(same_reply(&Reply::Refused(refusal), given)),
+        Err(BindFault::Refused(refusal)) => Ok(refuses(refusal, given)),
         Err(BindFault::NoMemory) => Err(NoMemory),
     }
 }
@@ -312,17 +337,23 @@ fn judge_asked(
         Resolved::Begin { read_only } => compared(plain.begin(session, read_only), given),
         Resolved::Insert { table, values } => compared(plain.insert(session, table, values), given),
         Resolved::Update { table, sets, only } => {
-            compared(
-                plain.change(session, table, Some(sets.as_slice()), &only),
-                given,
-            )
+            let made = plain.change(session, table, Some(sets.as_slice()), &only);
+            drop(sets);
+            drop(only);
+            compared(made, given)
         }
         Resolved::Delete { table, only } => {
-            compared(plain.change(session, table, None, &only), given)
+            let made = plain.change(session, table, None, &only);
+            drop(only);
+            compared(made, given)
         }
         Resolved::Commit => compared(plain.commit(session), given),
         Resolved::Rollback => compared(plain.rollback(session), given),
-        Resolved::Open { cursor, select } => compared(plain.open(session, cursor, &select), given),
+        Resolved::Open { cursor, select } => {
+            let made = plain.open(session, cursor, &select);
+            drop(select);
+            compared(made, given)
+        }
         Resolved::Fetch(name) => Ok(plain.fetch(session, name, given)),
         Resolved::Close(name) => compared(plain.close(session, name), given),
         Resolved::Step { cursor, n } => Ok(plain.step(session, cursor, n, given)),

@@ -99,6 +99,7 @@ fn put(alike: &mut Vec<Alike>, offer: Offer) -> Result<(), NoMemory>
 {
     let place = place_of(alike.as_slice(), &offer.order, &offer.returned);
     if fits_at(alike.as_slice(), place, &offer, &offer.returned) {
+        drop(offer);
         one_more(alike, place)?;
         return Ok(());
     }

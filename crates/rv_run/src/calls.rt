@@ -99,6 +99,6 @@ fn make_call<S: Store + Reader<Ledger = Uncounted> + Drop>(
     ensures phase { core.new.engine.phase ≡ core.old.engine.phase }
     ensures settings { core.new.settings ≡ core.old.settings }
 {
-    let _ = core.call(line.session, line.text.as_str())?;
+    drop(core.call(line.session, line.text.as_str())?);
     Ok(())
 }

@@ -110,17 +110,25 @@ pub fn run<
     ensures settings { (asked : Askings) → Ask words.now asked → IfSome result.core (λ core. core.settings ≡ settings_of asked) }
 {
     match begin(alloc, words, source) {
-        Ok(begun) => perform_asked(
-            rt,
-            alloc,
-            store,
-            begun.asked,
-            &begun.script,
-            sink,
-            judges,
-            gate,
-        ),
-        Err(status) => ended(status),
+        Ok(begun) => {
+            let ran = perform_asked(
+                rt,
+                alloc,
+                store,
+                begun.asked,
+                &begun.script,
+                sink,
+                judges,
+                gate,
+            );
+            drop(begun);
+            ran
+        }
+        Err(status) => {
+            drop(store);
+            drop(judges);
+            ended(status)
+        }
     }
 }
 
@@ -179,8 +187,16 @@ pub fn run_plain<P: Store + Reader<Ledger = Uncounted> + Drop, S: Source, K: Sin
     ensures settings { (asked : Askings) → Ask words.now asked → IfSome result.core (λ core. core.settings ≡ settings_of asked) }
 {
     match begin(alloc, words, source) {
-        Ok(begun) => perform(alloc, store, begun.asked, &begun.script, sink, judges),
-        Err(status) => ended(status),
+        Ok(begun) => {
+            let ran = perform(alloc, store, begun.asked, &begun.script, sink, judges);
+            drop(begun);
+            ran
+        }
+        Err(status) => {
+            drop(store);
+            drop(judges);
+            ended(status)
+        }
     }
 }
 
@@ -328,6 +344,7 @@ fn perform<P: Store + Reader<Ledger = Uncounted> + Drop, K: Sink>(
 {
     let (mut core, mut judges) = judged_core(alloc, store, asked, judges);
     let called = make_calls(&mut core, &mut judges, script.phases.as_slice()).is_ok();
+    drop(judges);
     written(sink, asked.seed, core, called)
 }
 
@@ -410,6 +427,7 @@ fn perform_by_threads<
         u32::from(asked.workers),
         gate,
     );
+    drop(judges);
     written(sink, asked.seed, core, !short)
 }
 
