@@ -21,10 +21,6 @@ use rv_reader::Reader;
 use rv_value::NoMemory;
 use std::alloc::Global;
 
-/// What is left goes, with all that it holds. A function of any type calls its drop, and sees none of its parts: a plan has so many
-/// that what its cases cost is minutes of the prover.
-fn leave<T: Drop>(_left: T) {}
-
 /// Drives a plan to its end, and tells its trace then.
 fn followed<R: Reader<Ledger = Uncounted>>(
     alloc: Global,
@@ -60,12 +56,12 @@ fn planned<R: Reader<Ledger = Uncounted>>(
     let mut steps = Steps::new(Uncounted);
     let mut plan = Plan::open(alloc, reader, select, indexes, snap, 1, false, &mut steps)?;
     let found = followed(alloc, reader, &mut plan, judge, so_many, &mut steps);
-    leave(plan);
+    drop(plan);
     found
 }
 
 /// A judge of the three, by its name.
-#[derive(Clone, Copy, Debug, PartialEq, Eq)]
+#[derive(Clone, Copy)]
 enum Ruling {
     Threshold,
     Contrary,
@@ -125,8 +121,9 @@ fn driven(
         select,
         ruling,
         steps,
-    )?;
-    Ok(found)
+    );
+    drop(indexes);
+    Ok(found?)
 }
 
 /// What came of a plan, as the line asks it.
@@ -134,8 +131,15 @@ fn told_as(alloc: Global, asked: &Asked, driven: Driven, trace: &Trace) -> Resul
     match asked.tell {
         "mix" => Ok(told(alloc, driven)?),
         "reads" => told_reads(alloc, driven, trace),
-        "rows" => told_rows(alloc, &driven, trace),
-        _ => Err(Fault::Form),
+        "rows" => {
+            let told = told_rows(alloc, &driven, trace);
+            drop(driven);
+            told
+        }
+        _ => {
+            drop(driven);
+            Err(Fault::Form)
+        }
     }
 }
 
@@ -161,7 +165,11 @@ pub fn answer(alloc: Global, line: &str) -> Result<String, Fault> {
     let asked = read_line(line)?;
     let filling: Filling = read_filling(asked.rows)?;
     match select(alloc, &asked)? {
-        Some(select) => answered(alloc, filling, &asked, &select),
+        Some(select) => {
+            let told = answered(alloc, filling, &asked, &select);
+            drop(select);
+            told
+        }
         None => Err(Fault::Form),
     }
 }
@@ -176,6 +184,23 @@ fn answered(
     requires select { IsOurs select.now }
 {
     let loaded = load(alloc, filling)?;
-    let (driven, trace) = driven(alloc, &loaded, asked, select)?;
-    told_as(alloc, asked, driven, &trace)
+    let told = told_over(alloc, &loaded, asked, select);
+    drop(loaded);
+    told
+}
+
+/// Drives a plan over what was loaded.
+fn told_over(
+    alloc: Global,
+    loaded: &Loaded,
+    asked: &Asked,
+    select: &Select,
+) -> Result<String, Fault>
+    requires loaded { Offers (shown_of loaded.now.store) loaded.now.snap }
+    requires select { IsOurs select.now }
+{
+    let (driven, trace) = driven(alloc, loaded, asked, select)?;
+    let told = told_as(alloc, asked, driven, &trace);
+    drop(trace);
+    told
 }

@@ -29,7 +29,7 @@ fn third(table: u32, row: u64) -> Value {
 }
 
 /// Which rows are loaded.
-#[derive(Clone, Copy, PartialEq, Eq, Debug)]
+#[derive(Clone, Copy)]
 pub enum Filling {
     /// So many of the first table, and of each further one a row less.
     Many(u64),
@@ -277,7 +277,7 @@ fn settle<S: Store>(store: &S) -> u64
 }
 
 /// A plain store with the four tables.
-#[derive(Drop, Debug)]
+#[derive(Drop)]
 pub struct Loaded {
     pub store: Plain,
     pub snap: u64,
@@ -310,10 +310,15 @@ pub fn load(alloc: Global, filling: Filling) -> Result<Loaded, NoMemory>
     ensures { IfOk result (λ loaded. Offers (shown_of loaded.store) loaded.snap) }
 {
     let mut store = Plain::new(alloc)?;
-    let snap = load_store(alloc, &mut store, filling)?;
-    Ok(Loaded {
-        store,
-        snap,
-        filling,
-    })
+    match load_store(alloc, &mut store, filling) {
+        Ok(snap) => Ok(Loaded {
+            store,
+            snap,
+            filling,
+        }),
+        Err(fault) => {
+            drop(store);
+            Err(fault)
+        }
+    }
 }

@@ -16,14 +16,20 @@ use case::answer;
 use read::Fault;
 use std::io;
 
+/// The words for what a line gives.
+fn words(told: &Result<String, Fault>) -> &str {
+    match told {
+        Ok(told) => told.as_str(),
+        Err(Fault::Form) => "not read",
+        Err(Fault::NoMemory) => "no memory",
+    }
+}
+
 fn main(rt: HostRuntime) -> io::Result<()> {
     'lines: for line in rt.lines(rt.alloc()) {
         let line = line?;
-        match answer(rt.alloc(), line.as_str()) {
-            Ok(told) => println!(rt; "{}: {}", line.as_str(), told.as_str())?,
-            Err(Fault::Form) => println!(rt; "{}: not read", line.as_str())?,
-            Err(Fault::NoMemory) => println!(rt; "{}: no memory", line.as_str())?,
-        }
+        let told = answer(rt.alloc(), line.as_str());
+        println!(rt; "{}: {}", line.as_str(), words(&told))?;
     }
     Ok(())
 }

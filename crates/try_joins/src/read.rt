@@ -30,7 +30,7 @@ impl<T: Drop> From<AllocFailed<T>> for Fault {
 }
 
 /// The fields of a line, in their order.
-#[derive(Clone, Copy, Debug, PartialEq, Eq)]
+#[derive(Clone, Copy)]
 pub struct Asked<'a> {
     /// How many rows the first table has, each further one a row less; or `three` for the join of three tables.
     pub rows: &'a str,

@@ -107,6 +107,7 @@ pub fn select(alloc: Global, asked: &Asked) -> Result<Option<Select>, Fault>
     if is_ours(&select) {
         Ok(Some(select))
     } else {
+        drop(select);
         Ok(None)
     }
 }
@@ -130,10 +131,12 @@ fn index_def(alloc: Global, index: u32) -> Result<IndexDef, NoMemory>
     ensures table { IfOk result (λ d. d.table ≡ table_of index) }
     ensures columns { IfOk result (λ d. d.columns ≡ columns_of index) }
 {
+    let columns = columns_of(alloc, index)?;
+    let name = Text::read(alloc, "I")?;
     Ok(IndexDef {
-        name: Text::read(alloc, "I")?,
+        name,
         table: table_of(index),
-        columns: columns_of(alloc, index)?,
+        columns,
         unique: false,
     })
 }

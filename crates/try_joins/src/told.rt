@@ -61,15 +61,16 @@ fn word(rises: bool, ended: bool) -> &'static str {
 }
 
 fn value_text(alloc: Global, value: &Value) -> Result<String, NoMemory> {
-    match value {
-        Value::Int(n) => Ok(format!(in alloc; "{n}")?),
-        Value::Null => Ok(format!(in alloc; "NULL")?),
-        Value::Str(_) => Ok(format!(in alloc; "a text")?),
-    }
+    let word = match value {
+        Value::Int(n) => return Ok(format!(in alloc; "{n}")?),
+        Value::Null => "NULL",
+        Value::Str(_) => "a text",
+    };
+    Ok(String::from_str(alloc, word)?)
 }
 
 fn row_text(alloc: Global, values: &[Value]) -> Result<String, NoMemory> {
-    let mut text = format!(in alloc; "row")?;
+    let mut text = String::from_str(alloc, "row")?;
     let mut mark = " ";
     'values: for value in values {
         text.push_str(mark)?;

@@ -27,14 +27,30 @@ fn control_word(control: Control) -> &'static str {
 }
 
 fn event_text(alloc: Global, event: Event) -> Result<String, NoMemory> {
-    match event {
-        Event::At(control) => Ok(format!(in alloc; "{}", control_word(control))?),
-        Event::Scan(index) => Ok(format!(in alloc; "scan {}", index)?),
-        Event::List(index, keys) => Ok(format!(in alloc; "list {} {keys}", index)?),
-        Event::Drop(index) => Ok(format!(in alloc; "drop {}", index)?),
-        Event::Full => Ok(format!(in alloc; "full")?),
-        Event::Stop => Ok(format!(in alloc; "stop")?),
-    }
+    let (word, index) = match event {
+        Event::At(control) => return word_text(alloc, control_word(control)),
+        Event::Scan(index) => ("scan", index),
+        Event::List(index, keys) => return list_text(alloc, index, keys),
+        Event::Drop(index) => ("drop", index),
+        Event::Full => return word_text(alloc, "full"),
+        Event::Stop => return word_text(alloc, "stop"),
+    };
+    Ok(format!(in alloc; "{word} {index}")?)
+}
+
+fn word_text(alloc: Global, word: &str) -> Result<String, NoMemory> {
+    Ok(String::from_str(alloc, word)?)
+}
+
+fn list_text(alloc: Global, index: u32, keys: u64) -> Result<String, NoMemory> {
+    Ok(format!(in alloc; "list {index} {keys}")?)
+}
+
+fn counts_text(alloc: Global, trace: &Trace) -> Result<String, NoMemory> {
+    Ok(format!(in alloc;
+        " pages {} leaves {} fetches {}",
+        trace.pages, trace.leaves, trace.fetches
+    )?)
 }
 
 /// The strategy, the events and the counts of a trace.
@@ -45,10 +61,7 @@ pub fn trace_text(alloc: Global, trace: &Trace) -> Result<String, NoMemory> {
         text.push(' ')?;
         text.push_str(word.as_str())?;
     }
-    let counts = format!(in alloc;
-        " pages {} leaves {} fetches {}",
-        trace.pages, trace.leaves, trace.fetches
-    )?;
+    let counts = counts_text(alloc, trace)?;
     text.push_str(counts.as_str())?;
     Ok(text)
 }

@@ -16,10 +16,6 @@ use std::alloc::Global;
 use std::io;
 use tokens::told_tokens;
 
-/// What is left goes, with all that it holds. A function of any type calls its drop, and sees none of its parts: a statement has
-/// so many that what their cases cost is minutes of the prover.
-fn leave<T: Drop>(_left: T) {}
-
 fn cut(alloc: Global, text: &str) -> Result<String, NoMemory> {
     if text.len() > 4096 {
         return Ok(String::from_str(alloc, "too long")?);
@@ -38,7 +34,7 @@ fn derived(alloc: Global, text: &str) -> Result<String, NoMemory> {
     match read_statement(alloc, text)? {
         Some(statement) => {
             let told = format!(in alloc; "{statement:?}");
-            leave(statement);
+            drop(statement);
             Ok(told?)
         }
         None => Ok(String::from_str(alloc, "nothing")?),
@@ -55,14 +51,21 @@ fn answer(alloc: Global, catalog: &mut Catalog, line: &str) -> Result<String, No
     }
 }
 
-fn main(rt: HostRuntime) -> io::Result<()> {
-    let mut catalog = Catalog::new(rt.alloc());
+/// Writes what each line gives.
+fn tell_all(rt: &HostRuntime, catalog: &mut Catalog) -> io::Result<()> {
     'lines: for line in rt.lines(rt.alloc()) {
         let line = line?;
-        match answer(rt.alloc(), &mut catalog, line.as_str()) {
+        match answer(rt.alloc(), catalog, line.as_str()) {
             Ok(told) => println!(rt; "{}", told.as_str())?,
             Err(NoMemory) => println!(rt; "no memory")?,
         }
     }
     Ok(())
+}
+
+fn main(rt: HostRuntime) -> io::Result<()> {
+    let mut catalog = Catalog::new(rt.alloc());
+    let done = tell_all(&rt, &mut catalog);
+    drop(catalog);
+    done
 }

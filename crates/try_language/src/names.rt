@@ -1,7 +1,6 @@
 //! Statements, resolved against the catalog that those before them made, and what they create added to it.
 ghost use Rattle.rv_catalog.specs.Fits.{IsNewIndex, IsNewTable};
 
-use crate::leave;
 use crate::resolved::{told_index, told_refusal, told_resolved};
 use rv_catalog::{BindFault, Catalog, IndexDef, Resolved, TableDef};
 use rv_lang::Statement;
@@ -18,7 +17,7 @@ pub fn told(alloc: Global, catalog: &mut Catalog, text: &str) -> Result<String, 
         None => Ok(String::from_str(alloc, "syntax")?),
         Some(statement) => {
             let told = resolve(alloc, catalog, &statement);
-            leave(statement);
+            drop(statement);
             told
         }
     }
@@ -34,14 +33,14 @@ fn resolve(
         Err(BindFault::NoMemory) => Err(NoMemory),
         Err(BindFault::Refused(refusal)) => {
             let told = told_refusal(alloc, &refusal);
-            leave(refusal);
+            drop(refusal);
             told
         }
         Ok(Resolved::CreateTable(def)) => add_table(alloc, catalog, def),
         Ok(Resolved::CreateIndex(def)) => add_index(alloc, catalog, def),
         Ok(resolved) => {
             let told = told_resolved(alloc, &resolved);
-            leave(resolved);
+            drop(resolved);
             told
         }
     }
@@ -51,6 +50,7 @@ fn add_table(alloc: Global, catalog: &mut Catalog, def: TableDef) -> Result<Stri
     requires { IsNewTable catalog.old def }
 {
     if catalog.tables().len() >= 64 {
+        drop(def);
         return Ok(String::from_str(alloc, "limit tables 64")?);
     }
     let columns = def.columns.len();
@@ -62,9 +62,16 @@ fn add_index(alloc: Global, catalog: &mut Catalog, def: IndexDef) -> Result<Stri
     requires { IsNewIndex catalog.old def }
 {
     if catalog.count_indexes(def.table) >= 8 {
+        drop(def);
         return Ok(String::from_str(alloc, "limit indexes 8")?);
     }
-    let told = told_index(alloc, &def)?;
+    let told = match told_index(alloc, &def) {
+        Ok(told) => told,
+        Err(NoMemory) => {
+            drop(def);
+            return Err(NoMemory);
+        }
+    };
     let number = catalog.add_index(def)?;
     Ok(format!(in alloc; "index {number} {told}")?)
 }

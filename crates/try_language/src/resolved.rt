@@ -1,7 +1,7 @@
 //! Answers in words.
 use rv_catalog::{Goal, IndexDef, Resolved, Select};
 use rv_lang::{Refusal, Which};
-use rv_restrict::ColRef;
+use rv_restrict::{ColRef, Restriction};
 use rv_value::{NoMemory, Value};
 use std::alloc::Global;
 
@@ -22,16 +22,19 @@ fn limit_word(which: Which) -> &'static str {
     }
 }
 
+fn told_limit(alloc: Global, which: Which, number: u64) -> Result<String, NoMemory> {
+    Ok(format!(in alloc; "limit {} {number}", limit_word(which))?)
+}
+
 pub fn told_refusal(alloc: Global, refusal: &Refusal) -> Result<String, NoMemory> {
-    match refusal {
-        Refusal::Unknown(name) => Ok(format!(in alloc; "unknown {}", name.as_str())?),
-        Refusal::Exists(name) => Ok(format!(in alloc; "exists {}", name.as_str())?),
-        Refusal::Kind(name) => Ok(format!(in alloc; "kind {}", name.as_str())?),
-        Refusal::Limit { which, number } => {
-            Ok(format!(in alloc; "limit {} {number}", limit_word(*which))?)
-        }
-        _ => Ok(String::from_str(alloc, "another refusal")?),
-    }
+    let (word, name) = match refusal {
+        Refusal::Unknown(name) => ("unknown", name.as_str()),
+        Refusal::Exists(name) => ("exists", name.as_str()),
+        Refusal::Kind(name) => ("kind", name.as_str()),
+        Refusal::Limit { which, number } => return told_limit(alloc, *which, *number),
+        _ => ("another", "refusal"),
+    };
+    Ok(format!(in alloc; "{word} {name}")?)
 }
 
 pub fn told_index(alloc: Global, def: &IndexDef) -> Result<String, NoMemory> {
@@ -86,35 +89,53 @@ fn told_select(alloc: Global, select: &Select) -> Result<String, NoMemory> {
     )?)
 }
 
+fn told_insert(alloc: Global, table: u32, values: &[Value]) -> Result<String, NoMemory> {
+    let count = values.len();
+    Ok(format!(in alloc; "insert {table} values {count}")?)
+}
+
+fn told_update(
+    alloc: Global,
+    table: u32,
+    list: &[(u32, Value)],
+    only: &Restriction,
+) -> Result<String, NoMemory> {
+    let told = sets(alloc, list)?;
+    let groups = only.groups().len();
+    Ok(format!(in alloc; "update {table} sets{told} where {groups}")?)
+}
+
+fn told_delete(alloc: Global, table: u32, only: &Restriction) -> Result<String, NoMemory> {
+    let groups = only.groups().len();
+    Ok(format!(in alloc; "delete {table} where {groups}")?)
+}
+
+fn told_cursor(alloc: Global, word: &str, cursor: &str) -> Result<String, NoMemory> {
+    Ok(format!(in alloc; "{word} {cursor}")?)
+}
+
+fn told_step(alloc: Global, cursor: &str, n: u64) -> Result<String, NoMemory> {
+    Ok(format!(in alloc; "step {cursor} {n}")?)
+}
+
 pub fn told_resolved(alloc: Global, resolved: &Resolved) -> Result<String, NoMemory> {
-    match resolved {
-        Resolved::CreateTable(_) => Ok(String::from_str(alloc, "table")?),
-        Resolved::CreateIndex(_) => Ok(String::from_str(alloc, "index")?),
-        Resolved::Begin { read_only: false } => Ok(String::from_str(alloc, "begin")?),
-        Resolved::Begin { read_only: true } => Ok(String::from_str(alloc, "begin read only")?),
-        Resolved::Insert { table, values } => {
-            let count = values.as_slice().len();
-            Ok(format!(in alloc; "insert {table} values {count}")?)
+    let word = match resolved {
+        Resolved::CreateTable(_) => "table",
+        Resolved::CreateIndex(_) => "index",
+        Resolved::Begin { read_only: false } => "begin",
+        Resolved::Begin { read_only: true } => "begin read only",
+        Resolved::Commit => "commit",
+        Resolved::Rollback => "rollback",
+        Resolved::Insert { table, values } => return told_insert(alloc, *table, values.as_slice()),
+        Resolved::Update { table, sets, only } => {
+            return told_update(alloc, *table, sets.as_slice(), only);
         }
-        Resolved::Update {
-            table,
-            sets: list,
-            only,
-        } => {
-            let told = sets(alloc, list.as_slice())?;
-            let groups = only.groups().len();
-            Ok(format!(in alloc; "update {table} sets{told} where {groups}")?)
-        }
-        Resolved::Delete { table, only } => {
-            let groups = only.groups().len();
-            Ok(format!(in alloc; "delete {table} where {groups}")?)
-        }
-        Resolved::Commit => Ok(String::from_str(alloc, "commit")?),
-        Resolved::Rollback => Ok(String::from_str(alloc, "rollback")?),
-        Resolved::Open { cursor: _, select } => told_select(alloc, select),
-        Resolved::Fetch(cursor) => Ok(format!(in alloc; "fetch {}", cursor.as_str())?),
-        Resolved::Show(cursor) => Ok(format!(in alloc; "show {}", cursor.as_str())?),
-        Resolved::Close(cursor) => Ok(format!(in alloc; "close {}", cursor.as_str())?),
-        Resolved::Step { cursor, n } => Ok(format!(in alloc; "step {} {n}", cursor.as_str())?),
-    }
+        Resolved::Delete { table, only } => return told_delete(alloc, *table, only),
+        Resolved::Open { cursor: _, select } => return told_select(alloc, select),
+        Resolved::Fetch(cursor) => return told_cursor(alloc, "fetch", cursor.as_str()),
+        Resolved::Show(cursor) => return told_cursor(alloc, "show", cursor.as_str()),
+        Resolved::Close(cursor) => return told_cursor(alloc, "close", cursor.as_str()),
+        Resolved::Step { cursor, n } => return told_step(alloc, cursor.as_str(), *n),
+    };
+    Ok(String::from_str(alloc, word)?)
 }

@@ -10,14 +10,27 @@ pub fn told_tokens(alloc: Global, tokens: &[Token]) -> Result<String, NoMemory> 
         if !told.is_empty() {
             told.push(' ')?;
         }
-        match token {
-            Token::Word(name) => told.push_str(name.as_str())?,
-            Token::Int(n) => told.push_str(&format!(in alloc; "#{n}")?)?,
-            Token::Str(text) => told.push_str(&format!(in alloc; "'{}", text.as_str())?)?,
-            Token::Symbol(symbol) => told.push_str(name_of(*symbol))?,
-        }
+        add_token(alloc, &mut told, token)?;
     }
     Ok(told)
+}
+
+fn add_token(alloc: Global, told: &mut String, token: &Token) -> Result<(), NoMemory> {
+    let text = match token {
+        Token::Word(name) => name.as_str(),
+        Token::Int(n) => return add_number(alloc, told, *n),
+        Token::Str(text) => {
+            told.push('\'')?;
+            text.as_str()
+        }
+        Token::Symbol(symbol) => name_of(*symbol),
+    };
+    Ok(told.push_str(text)?)
+}
+
+fn add_number(alloc: Global, told: &mut String, number: i64) -> Result<(), NoMemory> {
+    let word = format!(in alloc; "#{number}")?;
+    Ok(told.push_str(word.as_str())?)
 }
 
 fn name_of(symbol: Symbol) -> &'static str {

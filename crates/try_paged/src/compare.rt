@@ -11,7 +11,7 @@ use rv_value::{Bound, Duplicate, IndexEntry, Items, Key, NoMemory, Range, Value}
 use std::alloc::Global;
 
 /// What differs between the stores.
-#[derive(Clone, Copy, PartialEq, Eq, Debug)]
+#[derive(Clone, Copy)]
 pub enum What {
     Sizes,
     Rows,
@@ -21,7 +21,7 @@ pub enum What {
 }
 
 /// A difference of a table or an index at a snapshot.
-#[derive(Clone, Copy, PartialEq, Eq, Debug)]
+#[derive(Clone, Copy)]
 pub struct Difference {
     pub what: What,
     pub number: u32,
@@ -29,7 +29,7 @@ pub struct Difference {
 }
 
 /// How much was compared, and the first difference.
-#[derive(Clone, Copy, PartialEq, Eq, Debug)]
+#[derive(Clone, Copy)]
 pub struct Tally {
     pub snapshots: u64,
     pub rows: u64,

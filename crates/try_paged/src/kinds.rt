@@ -9,7 +9,7 @@ use rv_value::NoMemory;
 use std::alloc::Global;
 
 /// How many changes put a row in, gave a row other values, took one away, or were of no row.
-#[derive(Clone, Copy, PartialEq, Eq, Debug)]
+#[derive(Clone, Copy)]
 pub struct Kinds {
     pub inserts: u64,
     pub updates: u64,

@@ -5,6 +5,7 @@
 #![tactic(auto)]
 
 ghost use Rattle.std.specs.Prelude.{◌≡◌, ◌+◌, ◌<◌, ◌≤◌, IfOk, OnOk};
+ghost use Rattle.rv_loading.specs.Laid.{IsBatch};
 ghost use Rattle.try_paged.specs.Twins.{AreLaid, AreNew, AreReady};
 
 mod compare;
@@ -13,9 +14,10 @@ mod kinds;
 mod shape;
 mod twins;
 
-use compare::{Tally, What, compare_changed, compare_snapshot, compare_snapshots};
+use compare::{Difference, Tally, What, compare_changed, compare_snapshot, compare_snapshots};
 use generate::changes_of;
 use kinds::{Kinds, count_kinds};
+use rv_reader::Change;
 use rv_value::NoMemory;
 use shape::{leaves_line, range_line};
 use std::alloc::Global;
@@ -60,9 +62,26 @@ fn commit_next(alloc: Global, run: &mut Run, commit: u64) -> Result<(), NoMemory
     ensures { OnOk result (AreReady (commit + 1) run.new.twins) }
 {
     let changes = changes_of(alloc, commit)?;
-    count_kinds(alloc, &run.twins, changes.as_slice(), &mut run.kinds)?;
-    run.twins.commit(changes.as_slice())?;
-    compare_changed(alloc, &run.twins, changes.as_slice(), &mut run.tally)?;
+    let done = commit_all(alloc, run, commit, changes.as_slice());
+    drop(changes);
+    done
+}
+
+/// A commit of changes, and the newest snapshot compared.
+fn commit_all(
+    alloc: Global,
+    run: &mut Run,
+    _commit: u64,
+    changes: &[Change],
+) -> Result<(), NoMemory>
+    requires ready { AreReady _commit run.old.twins }
+    requires low { _commit < 100 }
+    requires batch { IsBatch 2 0 changes.now }
+    ensures { OnOk result (AreReady (_commit + 1) run.new.twins) }
+{
+    count_kinds(alloc, &run.twins, changes, &mut run.kinds)?;
+    run.twins.commit(changes)?;
+    compare_changed(alloc, &run.twins, changes, &mut run.tally)?;
     let newest = run.twins.layout.newest;
     compare_snapshot(alloc, &run.twins, newest, &mut run.tally)
 }
@@ -134,16 +153,19 @@ fn name(what: What) -> &'static str {
 }
 
 fn first_line(alloc: Global, tally: &Tally) -> Result<String, NoMemory> {
-    let line = match tally.first {
-        None => format!(in alloc; "same")?,
-        Some(first) => format!(in alloc;
-            "first difference: {} {} at {}",
-            name(first.what),
-            first.number,
-            first.snap
-        )?,
-    };
-    Ok(line)
+    match tally.first {
+        None => Ok(String::from_str(alloc, "same")?),
+        Some(first) => difference_line(alloc, first),
+    }
+}
+
+fn difference_line(alloc: Global, first: Difference) -> Result<String, NoMemory> {
+    Ok(format!(in alloc;
+        "first difference: {} {} at {}",
+        name(first.what),
+        first.number,
+        first.snap
+    )?)
 }
 
 fn add_index(
@@ -181,17 +203,29 @@ fn commits_line(alloc: Global, newest: u64, kinds: Kinds) -> Result<String, NoMe
 }
 
 fn add_tally(alloc: Global, tally: &Tally, lines: &mut Vec<String>) -> Result<(), NoMemory> {
-    lines.push(format!(in alloc;
-        "{} snapshots: {} rows, {} fetches",
-        tally.snapshots, tally.rows, tally.fetches
-    )?)?;
-    lines.push(format!(in alloc;
-        "{} entries in {} leaves, in the plain store in {}",
-        tally.entries, tally.paged_leaves, tally.plain_leaves
-    )?)?;
-    lines.push(format!(in alloc; "{} exact estimates", tally.exact)?)?;
+    lines.push(rows_line(alloc, tally)?)?;
+    lines.push(entries_line(alloc, tally)?)?;
+    lines.push(estimates_line(alloc, tally)?)?;
     lines.push(first_line(alloc, tally)?)?;
     Ok(())
+}
+
+fn rows_line(alloc: Global, tally: &Tally) -> Result<String, NoMemory> {
+    Ok(format!(in alloc;
+        "{} snapshots: {} rows, {} fetches",
+        tally.snapshots, tally.rows, tally.fetches
+    )?)
+}
+
+fn entries_line(alloc: Global, tally: &Tally) -> Result<String, NoMemory> {
+    Ok(format!(in alloc;
+        "{} entries in {} leaves, in the plain store in {}",
+        tally.entries, tally.paged_leaves, tally.plain_leaves
+    )?)
+}
+
+fn estimates_line(alloc: Global, tally: &Tally) -> Result<String, NoMemory> {
+    Ok(format!(in alloc; "{} exact estimates", tally.exact)?)
 }
 
 /// Does all, and tells of it.
@@ -206,14 +240,10 @@ fn lines_of(alloc: Global, run: &mut Run) -> Result<Vec<String>, NoMemory>
     Ok(lines)
 }
 
-/// What is left goes, with all that it holds. A function of any type calls its drop, and sees none of its parts, which are so
-/// many of two stores that what their cases cost is much of the prover's time.
-fn leave<T: Drop>(_left: T) {}
-
 fn all_lines(alloc: Global) -> Result<Vec<String>, NoMemory> {
     let mut run = begin(alloc)?;
     let lines = lines_of(alloc, &mut run);
-    leave(run);
+    drop(run);
     lines
 }
 

@@ -25,9 +25,17 @@ impl Twins {
     pub fn new(alloc: Global) -> Result<Twins, NoMemory>
         ensures { IfOk result AreNew }
     {
+        let paged = Paged::new(alloc)?;
+        let plain = match Plain::new(alloc) {
+            Ok(plain) => plain,
+            Err(fault) => {
+                drop(paged);
+                return Err(fault);
+            }
+        };
         Ok(Twins {
-            paged: Paged::new(alloc)?,
-            plain: Plain::new(alloc)?,
+            paged,
+            plain,
             layout: Layout {
                 tables: 0,
                 indexes: 0,

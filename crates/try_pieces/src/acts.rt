@@ -4,7 +4,7 @@ ghost use Rattle.rv_reader.specs.Shown.{Shown};
 ghost use Rattle.try_pieces.specs.Drawing.{Drawn, Lists};
 
 use crate::joint::{Name, Query, abandon, give, joint, take};
-use rv_jscan::{Given, Jscan, Piece, PieceId, sieve};
+use rv_jscan::{Given, Jscan, Piece, PieceId, Sieved, sieve};
 use rv_judge::{Steps, Uncounted};
 use rv_reader::Reader;
 use rv_value::{Duplicate, NoMemory};
@@ -30,13 +30,19 @@ fn id_text(alloc: Global, id: PieceId) -> Result<String, NoMemory> {
 fn awaited_text(alloc: Global, id: Option<PieceId>) -> Result<String, NoMemory> {
     match id {
         Some(id) => id_text(alloc, id),
-        None => Ok(format!(in alloc; "none")?),
+        None => Ok(String::from_str(alloc, "none")?),
     }
 }
 
-/// How many entries a sieved piece has, and how many of them are marked.
-fn sieved_text(alloc: Global, piece: Piece) -> Result<String, NoMemory> {
-    let sieved = sieve(piece);
+/// How many entries the sieved copy of a piece has, and how many of them are marked.
+fn sieved_text(alloc: Global, piece: &Piece) -> Result<String, NoMemory> {
+    let sieved = sieve(piece.copy(alloc)?);
+    let text = marks_text(alloc, &sieved);
+    drop(sieved);
+    text
+}
+
+fn marks_text(alloc: Global, sieved: &Sieved) -> Result<String, NoMemory> {
     let id = id_text(alloc, sieved.id())?;
     let count = sieved.entries().len() as u32;
     let mut marked = 0u32;
@@ -50,7 +56,13 @@ fn sieved_text(alloc: Global, piece: Piece) -> Result<String, NoMemory> {
 
 /// Puts a taken piece aside.
 fn put_aside(alloc: Global, piece: Piece, pieces: &mut Vec<Piece>) -> Result<String, NoMemory> {
-    let text = sieved_text(alloc, piece.copy(alloc)?)?;
+    let text = match sieved_text(alloc, &piece) {
+        Ok(text) => text,
+        Err(NoMemory) => {
+            drop(piece);
+            return Err(NoMemory);
+        }
+    };
     pieces.push(piece)?;
     Ok(format!(in alloc; "take {}", text.as_str())?)
 }
@@ -62,7 +74,7 @@ fn put_aside_some(
 ) -> Result<String, NoMemory> {
     match piece {
         Some(piece) => put_aside(alloc, piece, pieces),
-        None => Ok(format!(in alloc; "take: nothing")?),
+        None => Ok(String::from_str(alloc, "take: nothing")?),
     }
 }
 
@@ -77,21 +89,36 @@ fn take_other<R: Reader<Ledger = Uncounted>>(
     requires { Lists (R.shown reader.now) snap }
 {
     let mut other = joint(alloc, reader, snap, query, name)?;
+    let text = take_of(alloc, reader, &mut other, pieces);
+    drop(other);
+    Ok(format!(in alloc; "other {}", text?.as_str())?)
+}
+
+/// Takes the awaited piece of another joint scan.
+fn take_of<R: Reader<Ledger = Uncounted>>(
+    alloc: Global,
+    reader: &R,
+    other: &mut Jscan,
+    pieces: &mut Vec<Piece>,
+) -> Result<String, NoMemory>
+    requires { Drawn (R.shown reader.now) other.old }
+{
     let mut steps = Steps::new(Uncounted);
-    let piece = take(reader, &mut other, &mut steps)?;
-    let text = put_aside_some(alloc, piece, pieces)?;
-    Ok(format!(in alloc; "other {}", text.as_str())?)
+    let piece = take(reader, other, &mut steps)?;
+    put_aside_some(alloc, piece, pieces)
 }
 
 fn given_text(alloc: Global, given: Given) -> Result<String, NoMemory> {
     match given {
-        Given::Accepted => Ok(format!(in alloc; "accepted")?),
-        Given::Stale { asked, now } => {
-            let asked = id_text(alloc, asked)?;
-            let now = awaited_text(alloc, now)?;
-            Ok(format!(in alloc; "stale, asked {}, now {}", asked.as_str(), now.as_str())?)
-        }
+        Given::Accepted => Ok(String::from_str(alloc, "accepted")?),
+        Given::Stale { asked, now } => stale_text(alloc, asked, now),
     }
+}
+
+fn stale_text(alloc: Global, asked: PieceId, now: Option<PieceId>) -> Result<String, NoMemory> {
+    let asked = id_text(alloc, asked)?;
+    let now = awaited_text(alloc, now)?;
+    Ok(format!(in alloc; "stale, asked {}, now {}", asked.as_str(), now.as_str())?)
 }
 
 fn give_copy(alloc: Global, jscan: &mut Jscan, piece: &Piece) -> Result<String, NoMemory>
@@ -114,7 +141,7 @@ fn give_at(
 {
     match pieces.get(at) {
         Some(piece) => give_copy(alloc, jscan, piece),
-        None => Ok(format!(in alloc; "give: no such piece")?),
+        None => Ok(String::from_str(alloc, "give: no such piece")?),
     }
 }
 
@@ -142,7 +169,7 @@ pub fn carry_out<R: Reader<Ledger = Uncounted>>(
         Act::Give(at) => give_at(alloc, jscan, pieces.as_slice(), at),
         Act::Abandon => {
             abandon(jscan);
-            Ok(format!(in alloc; "abandon")?)
+            Ok(String::from_str(alloc, "abandon")?)
         }
     }
 }

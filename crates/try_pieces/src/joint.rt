@@ -59,13 +59,18 @@ fn plan(alloc: Global, only: &Restriction, index: u32) -> Result<ScanPlan, NoMem
 {
     let columns = [index];
     let range = only.range_for(alloc, &columns)?;
-    let part = only.index_part(alloc, &columns)?;
-    Ok(ScanPlan {
-        index,
-        range,
-        part,
-        estimate: 41,
-    })
+    match only.index_part(alloc, &columns) {
+        Ok(part) => Ok(ScanPlan {
+            index,
+            range,
+            part,
+            estimate: 41,
+        }),
+        Err(fault) => {
+            drop(range);
+            Err(fault)
+        }
+    }
 }
 
 /// One index and then the other.
@@ -74,11 +79,9 @@ fn plans(alloc: Global, only: &Restriction, first: u32) -> Result<Vec<ScanPlan>,
     ensures count { IfOk result (λ plans. length plans.items ≡ 2) }
     ensures each { IfOk result (λ plans. AllByRecursion IsPlan plans.items) }
 {
-    let one = plan(alloc, only, first)?;
-    let other = plan(alloc, only, 1 - first)?;
     let mut plans = Vec::with_capacity(alloc, 2)?;
-    plans.push(one)?;
-    plans.push(other)?;
+    plans.push(plan(alloc, only, first)?)?;
+    plans.push(plan(alloc, only, 1 - first)?)?;
     Ok(plans)
 }
 
@@ -95,8 +98,9 @@ pub fn joint<R: Reader>(
 {
     let only = wanted(alloc, query)?;
     let first = if name.turned { 1 } else { 0 };
-    let plans = plans(alloc, &only, first)?;
-    Ok(Jscan::new(alloc, 0, snap, plans, name.cursor, name.opening))
+    let plans = plans(alloc, &only, first);
+    drop(only);
+    Ok(Jscan::new(alloc, 0, snap, plans?, name.cursor, name.opening))
 }
 
 /// A copy of the awaited piece, None where there is none.

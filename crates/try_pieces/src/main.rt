@@ -2,7 +2,7 @@
 //! given to another scan and never given. The file `stdout` has what tools/try_pieces.py finds by the rules in words.
 #![tactic(auto)]
 
-ghost use Rattle.try_pieces.specs.Drawing.{Drawn, Lists};
+ghost use Rattle.try_pieces.specs.Laying.{Empty};
 
 mod acts;
 mod joint;
@@ -11,18 +11,32 @@ mod load;
 mod table;
 
 use load::load;
+use rv_judge::Uncounted;
 use rv_plain::Plain;
+use rv_reader::{Reader, Store};
 use rv_value::NoMemory;
 use std::alloc::Global;
 use std::io;
 use table::add_table;
 
-fn all_lines(alloc: Global) -> Result<Vec<String>, NoMemory> {
+/// The lines of the table over an empty store.
+fn lines_over<S: Store + Reader<Ledger = Uncounted>>(
+    alloc: Global,
+    store: &mut S,
+) -> Result<Vec<String>, NoMemory>
+    requires { Empty (S.shown store.old) }
+{
     let mut lines = Vec::new(alloc);
-    let mut store = Plain::new(alloc)?;
-    let snap = load(alloc, &mut store, 80)?;
-    add_table(alloc, &store, snap, &mut lines)?;
+    let snap = load(alloc, store, 80)?;
+    add_table(alloc, store, snap, &mut lines)?;
     Ok(lines)
+}
+
+fn all_lines(alloc: Global) -> Result<Vec<String>, NoMemory> {
+    let mut store = Plain::new(alloc)?;
+    let lines = lines_over(alloc, &mut store);
+    drop(store);
+    lines
 }
 
 fn main(rt: HostRuntime) -> io::Result<()> {

@@ -79,9 +79,18 @@ fn do_all<R: Reader<Ledger = Uncounted>>(
     let mut pieces = Vec::new(alloc);
     'acts: for one in acts {
         let did = carry_out(alloc, reader, snap, query, *one, jscan, &mut pieces, steps)?;
-        lines.push(state(alloc, did.as_str(), jscan)?)?;
+        add_state(alloc, did.as_str(), jscan, lines)?;
     }
     Ok(())
+}
+
+fn add_state(
+    alloc: Global,
+    did: &str,
+    jscan: &Jscan,
+    lines: &mut Vec<String>,
+) -> Result<(), NoMemory> {
+    Ok(lines.push(state(alloc, did, jscan)?)?)
 }
 
 /// A row of the table.
@@ -96,13 +105,29 @@ fn row<R: Reader<Ledger = Uncounted>>(
 ) -> Result<(), NoMemory>
     requires { Lists (R.shown reader.now) snap }
 {
-    lines.push(format!(in alloc; "{name}")?)?;
+    lines.push(String::from_str(alloc, name)?)?;
     let mut jscan = joint(alloc, reader, snap, query, OWN)?;
+    let done = add_acts(alloc, reader, snap, query, acts, &mut jscan, lines);
+    drop(jscan);
+    done
+}
+
+/// What the acts do, and the keys of the list then.
+fn add_acts<R: Reader<Ledger = Uncounted>>(
+    alloc: Global,
+    reader: &R,
+    snap: u64,
+    query: Query,
+    acts: &[Act],
+    jscan: &mut Jscan,
+    lines: &mut Vec<String>,
+) -> Result<(), NoMemory>
+    requires lists { Lists (R.shown reader.now) snap }
+    requires drawn { Drawn (R.shown reader.now) jscan.old }
+{
     let mut steps = Steps::new(Uncounted);
-    do_all(
-        alloc, reader, snap, query, acts, &mut jscan, &mut steps, lines,
-    )?;
-    lines.push(total(alloc, &jscan, steps.counts().leaves)?)?;
+    do_all(alloc, reader, snap, query, acts, jscan, &mut steps, lines)?;
+    lines.push(total(alloc, jscan, steps.counts().leaves)?)?;
     Ok(())
 }
 

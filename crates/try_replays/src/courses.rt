@@ -62,12 +62,16 @@ fn judged(alloc: Global, indexes: &[u32], shown: &Shown) -> Result<&'static str,
 /// Whether the course allows a trace over some indexes: their numbers or `-`, then the trace behind a semicolon.
 pub fn told(alloc: Global, text: &str) -> Result<String, NoMemory> {
     let Some((indexes, shown)) = text.split_once(';') else {
-        return Ok(format!(in alloc; "no trace")?);
+        return Ok(String::from_str(alloc, "no trace")?);
     };
     let indexes = numbers(alloc, indexes)?;
     let word = match trace(alloc, shown.as_bytes())? {
-        Some(shown) => judged(alloc, indexes.as_slice(), &shown)?,
+        Some(shown) => {
+            let word = judged(alloc, indexes.as_slice(), &shown);
+            drop(shown);
+            word?
+        }
         None => "no trace",
     };
-    Ok(format!(in alloc; "{word}")?)
+    Ok(String::from_str(alloc, word)?)
 }

@@ -49,10 +49,10 @@ fn changed(entries: Vec<Entry>, words: &str) -> Vec<Entry> {
 
 fn replayed(alloc: Global, entries: &[Entry]) -> Result<String, NoMemory> {
     if !are_short(entries) {
-        return Ok(format!(in alloc; "too long")?);
+        return Ok(String::from_str(alloc, "too long")?);
     }
     match replay(alloc, entries)? {
-        Replayed::Legal => Ok(format!(in alloc; "legal")?),
+        Replayed::Legal => Ok(String::from_str(alloc, "legal")?),
         Replayed::Broken { entry } => Ok(format!(in alloc; "broken {entry}")?),
     }
 }
@@ -61,10 +61,15 @@ fn replayed(alloc: Global, entries: &[Entry]) -> Result<String, NoMemory> {
 pub fn told(alloc: Global, text: &str, words: &str) -> Result<String, NoMemory> {
     let bytes = text.as_bytes();
     if bytes.len() > 268_435_456 {
-        return Ok(format!(in alloc; "too long")?);
+        return Ok(String::from_str(alloc, "too long")?);
     }
     match read_text(alloc, bytes)? {
-        TextRead::Entries(entries) => replayed(alloc, changed(entries, words).as_slice()),
+        TextRead::Entries(entries) => {
+            let entries = changed(entries, words);
+            let told = replayed(alloc, entries.as_slice());
+            drop(entries);
+            told
+        }
         TextRead::Bad { line } => Ok(format!(in alloc; "no transcript, line {line}")?),
     }
 }

@@ -13,14 +13,27 @@ use std::io;
 
 /// The transcript of one call with this reply.
 fn told(alloc: Global, reply: Reply) -> Result<Vec<u8>, NoMemory> {
-    let mut sink = MemSink::new(alloc, 1000, Vec::new(alloc))?;
+    let text = match Text::read(alloc, "?") {
+        Ok(text) => text,
+        Err(fault) => {
+            drop(reply);
+            return Err(fault.into());
+        }
+    };
     let entries = [Entry {
         session: 3,
         phase: 1,
-        text: Text::read(alloc, "?")?,
+        text,
         reply,
     }];
-    match write_text(&mut sink, &entries) {
+    let told = written(alloc, &entries);
+    drop(entries);
+    told
+}
+
+fn written(alloc: Global, entries: &[Entry]) -> Result<Vec<u8>, NoMemory> {
+    let mut sink = MemSink::new(alloc, 1000, Vec::new(alloc))?;
+    match write_text(&mut sink, entries) {
         Ok(()) => Ok(Vec::from_slice(alloc, sink.written())?),
         Err(_failed) => Ok(Vec::new(alloc)),
     }

@@ -16,14 +16,14 @@ use rv_value::{Items, NoMemory, Value};
 use std::alloc::Global;
 
 /// The numbers from one to another.
-#[derive(Clone, Copy, PartialEq, Eq, Debug)]
+#[derive(Clone, Copy)]
 pub struct Span {
     pub low: i64,
     pub high: i64,
 }
 
 /// Spans of which one is enough, of the columns and again of the first.
-#[derive(Clone, Copy, PartialEq, Eq, Debug)]
+#[derive(Clone, Copy)]
 pub struct Either {
     pub first: Option<Span>,
     pub second: Option<Span>,
@@ -33,7 +33,7 @@ pub struct Either {
 
 /// What is asked of the table: the spans in which its columns are, those of which one is enough, by which of the indexes, with which columns, in the
 /// order of the third column or in any order.
-#[derive(Clone, Copy, PartialEq, Eq, Debug)]
+#[derive(Clone, Copy)]
 pub struct Asked {
     pub first: Option<Span>,
     pub second: Option<Span>,

@@ -44,10 +44,6 @@ fn told(
     Ok(format!(in alloc; "{word}, {}; {}", rows.as_str(), trace.as_str())?)
 }
 
-/// What is left goes, with all that it holds. A function of any type calls its drop, and sees none of its parts: an access has
-/// so many that what its cases cost is minutes of the prover.
-fn leave<T: Drop>(_left: T) {}
-
 /// Opens an access for what is asked, and drives it to its end. The rows of one that ended are those of the snapshot
 /// that qualify, each once.
 fn retrieve<R: Reader<Ledger = Uncounted>>(
@@ -61,7 +57,6 @@ fn retrieve<R: Reader<Ledger = Uncounted>>(
     requires { Stands (R.shown reader.now) loaded }
     ensures { IfOk result (λ found. found.0.ended ≡ true → IsPermutation (numbers_of (qualifying (spans_of asked.now) ((R.shown reader.now).rows 0 loaded.snap))) (numbers_of found.0.rows.items)) }
 {
-    let query = query(alloc, loaded.snap, asked)?;
     let mut judge: Box<dyn Judge> = match ruling {
         Ruling::Threshold => Box::new(alloc, Threshold::new())?,
         Ruling::Patient => Box::new(alloc, Patient::new())?,
@@ -73,12 +68,13 @@ fn retrieve<R: Reader<Ledger = Uncounted>>(
         | Ruling::DropsThird
         | Ruling::DropsSecond => Box::new(alloc, Listed::new(verdicts(alloc, ruling)?))?,
     };
+    let query = query(alloc, loaded.snap, asked)?;
     let mut steps = Steps::new(Uncounted);
     let mut access = Access::open(alloc, reader, query, asked.race, 1, 1, &mut steps)?;
     match drive(alloc, reader, &mut access, &mut judge, way, &mut steps) {
         Ok(driven) => Ok((driven, access)),
         Err(NoMemory) => {
-            leave(access);
+            drop(access);
             Err(NoMemory)
         }
     }
@@ -97,6 +93,6 @@ pub fn outcome<R: Reader<Ledger = Uncounted>>(
 {
     let (driven, access) = retrieve(alloc, reader, loaded, asked, ruling, way)?;
     let line = told(alloc, loaded, asked, &driven, &access);
-    leave(access);
+    drop(access);
     line
 }

@@ -14,7 +14,7 @@ use std::alloc::Global;
 
 /// What is done of the background between two foreground steps. So many times the awaited piece is taken and put behind
 /// those in hand; where none is awaited, or more than `late` are in hand, the oldest in hand is sieved and given.
-#[derive(Clone, Copy, PartialEq, Eq, Debug)]
+#[derive(Clone, Copy)]
 pub struct Way {
     pub steps: u32,
     pub late: usize,
@@ -25,7 +25,7 @@ pub struct Way {
 }
 
 /// The rows in the order in which they came, and whether the end came and stayed.
-#[derive(Drop, Debug)]
+#[derive(Drop)]
 pub struct Driven {
     pub rows: Vec<Record>,
     pub ended: bool,

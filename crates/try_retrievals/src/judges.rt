@@ -5,7 +5,7 @@ use rv_value::NoMemory;
 use std::alloc::Global;
 
 /// A judge, new for each retrieval.
-#[derive(Clone, Copy, PartialEq, Eq, Debug)]
+#[derive(Clone, Copy)]
 pub enum Ruling {
     Threshold,
     Patient,

@@ -15,7 +15,7 @@ use rv_value::NoMemory;
 use std::alloc::Global;
 
 /// A way of the background, by its name.
-#[derive(Clone, Copy, PartialEq, Eq, Debug)]
+#[derive(Clone, Copy)]
 enum Pace {
     NoStep,
     OneStep,
@@ -196,7 +196,7 @@ fn add_ways<R: Reader<Ledger = Uncounted>>(
 ) -> Result<(), NoMemory>
     requires { Stands (R.shown reader.now) loaded }
 {
-    let mut before = format!(in alloc; "")?;
+    let mut before = String::new(alloc);
     'paces: for pace in PACES {
         let found = outcome(alloc, reader, loaded, asked, ruling, pace.way())?;
         let told = if found.as_str() == before.as_str() {
@@ -204,10 +204,21 @@ fn add_ways<R: Reader<Ledger = Uncounted>>(
         } else {
             found.as_str()
         };
-        lines.push(format!(in alloc; "  {}, {}: {told}", ruling.name(), pace.name())?)?;
+        add_line(alloc, ruling, pace, told, lines)?;
         before = found;
     }
     Ok(())
+}
+
+fn add_line(
+    alloc: Global,
+    ruling: Ruling,
+    pace: Pace,
+    told: &str,
+    lines: &mut Vec<String>,
+) -> Result<(), NoMemory> {
+    let line = format!(in alloc; "  {}, {}: {told}", ruling.name(), pace.name())?;
+    Ok(lines.push(line)?)
 }
 
 pub(crate) fn add_kind<R: Reader<Ledger = Uncounted>>(
@@ -220,7 +231,7 @@ pub(crate) fn add_kind<R: Reader<Ledger = Uncounted>>(
 ) -> Result<(), NoMemory>
     requires { Stands (R.shown reader.now) loaded }
 {
-    lines.push(format!(in alloc; "{name}")?)?;
+    lines.push(String::from_str(alloc, name)?)?;
     'rulings: for ruling in RULINGS {
         add_ways(alloc, reader, loaded, &asked, ruling, lines)?;
     }
@@ -491,16 +502,35 @@ fn add_no_races(
     add_kind(alloc, store, loaded, "no race of one", raced(one), lines)
 }
 
+fn add_plain(
+    alloc: Global,
+    store: &Plain,
+    loaded: Loaded,
+    lines: &mut Vec<String>,
+) -> Result<(), NoMemory>
+    requires { Stands (shown_of store.now) loaded }
+{
+    add_tables(alloc, store, loaded, lines)?;
+    add_backgrounds(alloc, store, loaded, lines)?;
+    add_sorted(alloc, store, loaded, lines)?;
+    add_index_only(alloc, store, loaded, lines)?;
+    add_short(alloc, store, loaded, lines)?;
+    add_races(alloc, store, loaded, "", lines)?;
+    add_no_races(alloc, store, loaded, lines)
+}
+
+fn add_paged(alloc: Global, lines: &mut Vec<String>) -> Result<(), NoMemory> {
+    let (store, loaded) = load_paged(alloc, 400, Filling::Same)?;
+    let done = add_races(alloc, &store, loaded, "paged, ", lines);
+    drop(store);
+    done
+}
+
 /// The lines of the whole table.
 pub fn add_kinds(alloc: Global, lines: &mut Vec<String>) -> Result<(), NoMemory> {
     let (store, loaded) = load_plain(alloc, 400, Filling::Same)?;
-    add_tables(alloc, &store, loaded, lines)?;
-    add_backgrounds(alloc, &store, loaded, lines)?;
-    add_sorted(alloc, &store, loaded, lines)?;
-    add_index_only(alloc, &store, loaded, lines)?;
-    add_short(alloc, &store, loaded, lines)?;
-    add_races(alloc, &store, loaded, "", lines)?;
-    add_no_races(alloc, &store, loaded, lines)?;
-    let (pages, laid) = load_paged(alloc, 400, Filling::Same)?;
-    add_races(alloc, &pages, laid, "paged, ", lines)
+    let done = add_plain(alloc, &store, loaded, lines);
+    drop(store);
+    done?;
+    add_paged(alloc, lines)
 }

@@ -4,7 +4,7 @@ use rv_value::{NoMemory, Record, RowNo};
 use std::alloc::Global;
 
 /// Row numbers that came one after another, each by one higher than the one before.
-#[derive(Clone, Copy, PartialEq, Eq, Debug)]
+#[derive(Clone, Copy)]
 struct Run {
     first: u64,
     last: u64,

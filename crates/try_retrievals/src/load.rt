@@ -14,7 +14,7 @@ use rv_value::{Items, NoMemory, RowNo, Value, Values};
 use std::alloc::Global;
 
 /// What the second and the third column have.
-#[derive(Clone, Copy, PartialEq, Eq, Debug)]
+#[derive(Clone, Copy)]
 pub enum Filling {
     /// The row's number, and a number below 50 or NULL.
     Same,
@@ -143,7 +143,7 @@ fn settle<S: Store>(store: &S) -> u64
 }
 
 /// What was loaded into a store: at a snapshot the table of so many rows.
-#[derive(Clone, Copy, PartialEq, Eq, Debug)]
+#[derive(Clone, Copy)]
 pub struct Loaded {
     pub snap: u64,
     pub rows: u64,
@@ -178,8 +178,13 @@ pub fn load_plain(alloc: Global, rows: u64, filling: Filling) -> Result<(Plain, 
     ensures { IfOk result (λ made. Stands (plain.shown_of made.0) made.1) }
 {
     let mut store = Plain::new(alloc)?;
-    let loaded = load(alloc, &mut store, rows, filling)?;
-    Ok((store, loaded))
+    match load(alloc, &mut store, rows, filling) {
+        Ok(loaded) => Ok((store, loaded)),
+        Err(NoMemory) => {
+            drop(store);
+            Err(NoMemory)
+        }
+    }
 }
 
 /// A paged store that was loaded.
@@ -188,6 +193,11 @@ pub fn load_paged(alloc: Global, rows: u64, filling: Filling) -> Result<(Paged, 
     ensures { IfOk result (λ made. Stands (paged.shown_of made.0) made.1) }
 {
     let mut store = Paged::new(alloc)?;
-    let loaded = load(alloc, &mut store, rows, filling)?;
-    Ok((store, loaded))
+    match load(alloc, &mut store, rows, filling) {
+        Ok(loaded) => Ok((store, loaded)),
+        Err(NoMemory) => {
+            drop(store);
+            Err(NoMemory)
+        }
+    }
 }

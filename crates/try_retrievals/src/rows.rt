@@ -1,4 +1,5 @@
 //! Single retrievals whose reads are known from hand.
+ghost use Rattle.std.specs.Prelude.{◌≤◌};
 ghost use Rattle.try_retrievals.specs.Standing.{Stands};
 
 use crate::asked::{Asked, Span};
@@ -135,6 +136,15 @@ const AFTER_THREE: Way = Way {
     after: Some(3),
 };
 
+/// A retrieval by its name, with what is asked, its judge and its way.
+#[derive(Clone, Copy)]
+struct Single {
+    name: &'static str,
+    asked: Asked,
+    ruling: Ruling,
+    way: Way,
+}
+
 pub(crate) fn add<R: Reader<Ledger = Uncounted>>(
     alloc: Global,
     reader: &R,
@@ -152,208 +162,201 @@ pub(crate) fn add<R: Reader<Ledger = Uncounted>>(
     Ok(())
 }
 
-/// Eighty rows whose second value is the first.
-fn add_two_lists(alloc: Global, lines: &mut Vec<String>) -> Result<(), NoMemory> {
-    let (store, eighty) = load_plain(alloc, 80, Filling::Same)?;
+/// Of eighty rows whose second value is the first.
+const TWO_LISTS: [Single; 2] = [
+    Single {
+        name: "two lists",
+        asked: BOTH,
+        ruling: Ruling::Patient,
+        way: NO_STEP,
+    },
+    Single {
+        name: "two scans dropped",
+        asked: BOTH,
+        ruling: Ruling::Threshold,
+        way: NO_STEP,
+    },
+];
+
+/// Of eighty rows whose second value is 0.
+const FIRST_ROWS: [Single; 3] = [
+    Single {
+        name: "fast first borrows",
+        asked: SOON,
+        ruling: Ruling::Patient,
+        way: AFTER_FOUR,
+    },
+    Single {
+        name: "threshold drops",
+        asked: SOON,
+        ruling: Ruling::Threshold,
+        way: AFTER_FOUR,
+    },
+    Single {
+        name: "contrary stops",
+        asked: SOON,
+        ruling: Ruling::Contrary,
+        way: AFTER_FOUR,
+    },
+];
+
+/// Of 1,100 rows, more than the buffer of delivered rows has places.
+const FULL: [Single; 2] = [
+    Single {
+        name: "full buffer",
+        asked: ALL_SOON,
+        ruling: Ruling::Patient,
+        way: NO_STEP,
+    },
+    Single {
+        name: "full buffer, by index alone",
+        asked: ALL_BY_INDEX,
+        ruling: Ruling::Patient,
+        way: NO_STEP,
+    },
+];
+
+/// Of forty rows in a paged store. The index over the first column has leaves of 16 and 24 entries.
+const PAGED_FORTY: [Single; 4] = [
+    Single {
+        name: "paged, fast first borrows",
+        asked: TWENTY_SOON,
+        ruling: Ruling::Patient,
+        way: AFTER_FOUR,
+    },
+    Single {
+        name: "paged, threshold drops",
+        asked: TWENTY_SOON,
+        ruling: Ruling::Threshold,
+        way: AFTER_FOUR,
+    },
+    Single {
+        name: "paged, contrary stops",
+        asked: TWENTY_SOON,
+        ruling: Ruling::Contrary,
+        way: AFTER_FOUR,
+    },
+    Single {
+        name: "paged, short range",
+        asked: THREE,
+        ruling: Ruling::Threshold,
+        way: NO_STEP,
+    },
+];
+
+/// Of forty rows in a paged store, with third values from 0 to 3.
+const PAGED_SORTED: [Single; 1] = [Single {
+    name: "paged, list into sorted",
+    asked: TWENTY_SORTED,
+    ruling: Ruling::Patient,
+    way: AFTER_THREE,
+}];
+
+/// Of 1,100 rows in a paged store. The index over the first column has 67 leaves of 16 entries and one of 28.
+const PAGED_FULL: [Single; 1] = [Single {
+    name: "paged, full buffer",
+    asked: ALL_SOON,
+    ruling: Ruling::Patient,
+    way: NO_STEP,
+}];
+
+/// Of forty rows in a paged store, of which thirty have a third value of at least 1.
+const PAGED_RACES: [Single; 3] = [
+    Single {
+        name: "paged, race",
+        asked: TWO,
+        ruling: Ruling::Patient,
+        way: NO_STEP,
+    },
+    Single {
+        name: "paged, race drops",
+        asked: TWO,
+        ruling: Ruling::DropsSecond,
+        way: NO_STEP,
+    },
+    Single {
+        name: "paged, race loses",
+        asked: TWO,
+        ruling: Ruling::Threshold,
+        way: NO_STEP,
+    },
+];
+
+fn add_each<R: Reader<Ledger = Uncounted>>(
+    alloc: Global,
+    reader: &R,
+    loaded: Loaded,
+    singles: &[Single],
+    lines: &mut Vec<String>,
+) -> Result<(), NoMemory>
+    requires { Stands (R.shown reader.now) loaded }
+{
+    'singles: for single in singles {
+        add_single(alloc, reader, loaded, single, lines)?;
+    }
+    Ok(())
+}
+
+fn add_single<R: Reader<Ledger = Uncounted>>(
+    alloc: Global,
+    reader: &R,
+    loaded: Loaded,
+    single: &Single,
+    lines: &mut Vec<String>,
+) -> Result<(), NoMemory>
+    requires { Stands (R.shown reader.now) loaded }
+{
     add(
         alloc,
-        &store,
-        eighty,
-        "two lists",
-        BOTH,
-        Ruling::Patient,
-        NO_STEP,
-        lines,
-    )?;
-    add(
-        alloc,
-        &store,
-        eighty,
-        "two scans dropped",
-        BOTH,
-        Ruling::Threshold,
-        NO_STEP,
+        reader,
+        loaded,
+        single.name,
+        single.asked,
+        single.ruling,
+        single.way,
         lines,
     )
 }
 
-/// Eighty rows whose second value is 0.
-fn add_fast_first(alloc: Global, lines: &mut Vec<String>) -> Result<(), NoMemory> {
-    let (store, eighty) = load_plain(alloc, 80, Filling::Zero)?;
-    add(
-        alloc,
-        &store,
-        eighty,
-        "fast first borrows",
-        SOON,
-        Ruling::Patient,
-        AFTER_FOUR,
-        lines,
-    )?;
-    add(
-        alloc,
-        &store,
-        eighty,
-        "threshold drops",
-        SOON,
-        Ruling::Threshold,
-        AFTER_FOUR,
-        lines,
-    )?;
-    add(
-        alloc,
-        &store,
-        eighty,
-        "contrary stops",
-        SOON,
-        Ruling::Contrary,
-        AFTER_FOUR,
-        lines,
-    )
+/// Over a plain store of so many rows.
+fn add_plain(
+    alloc: Global,
+    rows: u64,
+    filling: Filling,
+    singles: &[Single],
+    lines: &mut Vec<String>,
+) -> Result<(), NoMemory>
+    requires { rows ≤ 1000000 }
+{
+    let (store, loaded) = load_plain(alloc, rows, filling)?;
+    let done = add_each(alloc, &store, loaded, singles, lines);
+    drop(store);
+    done
 }
 
-/// 1,100 rows, more than the buffer of delivered rows has places.
-fn add_full_buffer(alloc: Global, lines: &mut Vec<String>) -> Result<(), NoMemory> {
-    let (store, many) = load_plain(alloc, 1100, Filling::Zero)?;
-    add(
-        alloc,
-        &store,
-        many,
-        "full buffer",
-        ALL_SOON,
-        Ruling::Patient,
-        NO_STEP,
-        lines,
-    )?;
-    add(
-        alloc,
-        &store,
-        many,
-        "full buffer, by index alone",
-        ALL_BY_INDEX,
-        Ruling::Patient,
-        NO_STEP,
-        lines,
-    )
-}
-
-/// Forty rows in a paged store. The index over the first column has leaves of 16 and 24 entries.
-fn add_paged_forty(alloc: Global, lines: &mut Vec<String>) -> Result<(), NoMemory> {
-    let (store, forty) = load_paged(alloc, 40, Filling::Zero)?;
-    add(
-        alloc,
-        &store,
-        forty,
-        "paged, fast first borrows",
-        TWENTY_SOON,
-        Ruling::Patient,
-        AFTER_FOUR,
-        lines,
-    )?;
-    add(
-        alloc,
-        &store,
-        forty,
-        "paged, threshold drops",
-        TWENTY_SOON,
-        Ruling::Threshold,
-        AFTER_FOUR,
-        lines,
-    )?;
-    add(
-        alloc,
-        &store,
-        forty,
-        "paged, contrary stops",
-        TWENTY_SOON,
-        Ruling::Contrary,
-        AFTER_FOUR,
-        lines,
-    )?;
-    add(
-        alloc,
-        &store,
-        forty,
-        "paged, short range",
-        THREE,
-        Ruling::Threshold,
-        NO_STEP,
-        lines,
-    )
-}
-
-/// Forty rows in a paged store, with third values from 0 to 3.
-fn add_paged_sorted(alloc: Global, lines: &mut Vec<String>) -> Result<(), NoMemory> {
-    let (store, forty) = load_paged(alloc, 40, Filling::Fourths)?;
-    add(
-        alloc,
-        &store,
-        forty,
-        "paged, list into sorted",
-        TWENTY_SORTED,
-        Ruling::Patient,
-        AFTER_THREE,
-        lines,
-    )
-}
-
-/// 1,100 rows in a paged store. The index over the first column has 67 leaves of 16 entries and one of 28.
-fn add_paged_full(alloc: Global, lines: &mut Vec<String>) -> Result<(), NoMemory> {
-    let (store, many) = load_paged(alloc, 1100, Filling::Zero)?;
-    add(
-        alloc,
-        &store,
-        many,
-        "paged, full buffer",
-        ALL_SOON,
-        Ruling::Patient,
-        NO_STEP,
-        lines,
-    )
-}
-
-/// Forty rows in a paged store, of which thirty have a third value of at least 1.
-fn add_paged_races(alloc: Global, lines: &mut Vec<String>) -> Result<(), NoMemory> {
-    let (store, forty) = load_paged(alloc, 40, Filling::Fourths)?;
-    add(
-        alloc,
-        &store,
-        forty,
-        "paged, race",
-        TWO,
-        Ruling::Patient,
-        NO_STEP,
-        lines,
-    )?;
-    add(
-        alloc,
-        &store,
-        forty,
-        "paged, race drops",
-        TWO,
-        Ruling::DropsSecond,
-        NO_STEP,
-        lines,
-    )?;
-    add(
-        alloc,
-        &store,
-        forty,
-        "paged, race loses",
-        TWO,
-        Ruling::Threshold,
-        NO_STEP,
-        lines,
-    )
+/// Over a paged store of so many rows.
+fn add_paged(
+    alloc: Global,
+    rows: u64,
+    filling: Filling,
+    singles: &[Single],
+    lines: &mut Vec<String>,
+) -> Result<(), NoMemory>
+    requires { rows ≤ 1000000 }
+{
+    let (store, loaded) = load_paged(alloc, rows, filling)?;
+    let done = add_each(alloc, &store, loaded, singles, lines);
+    drop(store);
+    done
 }
 
 /// The lines of the single retrievals.
 pub fn add_rows(alloc: Global, lines: &mut Vec<String>) -> Result<(), NoMemory> {
-    add_two_lists(alloc, lines)?;
-    add_fast_first(alloc, lines)?;
-    add_full_buffer(alloc, lines)?;
-    add_paged_forty(alloc, lines)?;
-    add_paged_sorted(alloc, lines)?;
-    add_paged_full(alloc, lines)?;
-    add_paged_races(alloc, lines)
+    add_plain(alloc, 80, Filling::Same, &TWO_LISTS, lines)?;
+    add_plain(alloc, 80, Filling::Zero, &FIRST_ROWS, lines)?;
+    add_plain(alloc, 1100, Filling::Zero, &FULL, lines)?;
+    add_paged(alloc, 40, Filling::Zero, &PAGED_FORTY, lines)?;
+    add_paged(alloc, 40, Filling::Fourths, &PAGED_SORTED, lines)?;
+    add_paged(alloc, 1100, Filling::Zero, &PAGED_FULL, lines)?;
+    add_paged(alloc, 40, Filling::Fourths, &PAGED_RACES, lines)
 }

@@ -106,9 +106,9 @@ fn add<R: Reader<Ledger = Uncounted>>(
 
 /// Forty rows in a paged store.
 fn add_paged_forty(alloc: Global, lines: &mut Vec<String>) -> Result<(), NoMemory> {
-    let (store, forty) = load_paged(alloc, 40, Filling::Zero)?;
     let mut judge: Box<dyn Judge> = Box::new(alloc, Threshold::new())?;
-    add(
+    let (store, forty) = load_paged(alloc, 40, Filling::Zero)?;
+    let done = add(
         alloc,
         &store,
         forty,
@@ -116,50 +116,51 @@ fn add_paged_forty(alloc: Global, lines: &mut Vec<String>) -> Result<(), NoMemor
         &THREE,
         &mut judge,
         lines,
-    )
+    );
+    drop(store);
+    done
+}
+
+fn add_under_both<R: Reader<Ledger = Uncounted>>(
+    alloc: Global,
+    reader: &R,
+    eighty: Loaded,
+    patient: &mut Box<dyn Judge>,
+    threshold: &mut Box<dyn Judge>,
+    lines: &mut Vec<String>,
+) -> Result<(), NoMemory>
+    requires { Stands (R.shown reader.now) eighty }
+{
+    add(alloc, reader, eighty, "two lists", &BOTH, patient, lines)?;
+    add(
+        alloc,
+        reader,
+        eighty,
+        "two scans dropped",
+        &BOTH,
+        threshold,
+        lines,
+    )?;
+    add(
+        alloc,
+        reader,
+        eighty,
+        "by index alone",
+        &MANY,
+        patient,
+        lines,
+    )?;
+    add(alloc, reader, eighty, "by pages", &BY_PAGES, patient, lines)
 }
 
 /// Eighty rows whose second value is the first.
 fn add_eighty(alloc: Global, lines: &mut Vec<String>) -> Result<(), NoMemory> {
-    let (store, eighty) = load_plain(alloc, 80, Filling::Same)?;
     let mut patient: Box<dyn Judge> = Box::new(alloc, Patient::new())?;
     let mut threshold: Box<dyn Judge> = Box::new(alloc, Threshold::new())?;
-    add(
-        alloc,
-        &store,
-        eighty,
-        "two lists",
-        &BOTH,
-        &mut patient,
-        lines,
-    )?;
-    add(
-        alloc,
-        &store,
-        eighty,
-        "two scans dropped",
-        &BOTH,
-        &mut threshold,
-        lines,
-    )?;
-    add(
-        alloc,
-        &store,
-        eighty,
-        "by index alone",
-        &MANY,
-        &mut patient,
-        lines,
-    )?;
-    add(
-        alloc,
-        &store,
-        eighty,
-        "by pages",
-        &BY_PAGES,
-        &mut patient,
-        lines,
-    )
+    let (store, eighty) = load_plain(alloc, 80, Filling::Same)?;
+    let done = add_under_both(alloc, &store, eighty, &mut patient, &mut threshold, lines);
+    drop(store);
+    done
 }
 
 /// The lines of the searches.

@@ -37,28 +37,37 @@ fn index_name(index: u32) -> &'static str {
 }
 
 fn event_text(alloc: Global, event: Event) -> Result<String, NoMemory> {
-    match event {
-        Event::At(control) => Ok(format!(in alloc; "{}", control_word(control))?),
-        Event::Scan(index) => Ok(format!(in alloc; "scan {}", index_name(index))?),
-        Event::List(index, keys) => Ok(format!(in alloc; "list {} {keys}", index_name(index))?),
-        Event::Drop(index) => Ok(format!(in alloc; "drop {}", index_name(index))?),
-        Event::Full => Ok(format!(in alloc; "full")?),
-        Event::Stop => Ok(format!(in alloc; "stop")?),
-    }
+    let (word, index) = match event {
+        Event::At(control) => (control_word(control), ""),
+        Event::Scan(index) => ("scan ", index_name(index)),
+        Event::List(index, keys) => return list_text(alloc, index, keys),
+        Event::Drop(index) => ("drop ", index_name(index)),
+        Event::Full => ("full", ""),
+        Event::Stop => ("stop", ""),
+    };
+    Ok(format!(in alloc; "{word}{index}")?)
+}
+
+fn list_text(alloc: Global, index: u32, keys: u64) -> Result<String, NoMemory> {
+    Ok(format!(in alloc; "list {} {keys}", index_name(index))?)
+}
+
+fn counts_text(alloc: Global, trace: &Trace) -> Result<String, NoMemory> {
+    Ok(format!(in alloc;
+        " pages {} leaves {} fetches {}",
+        trace.pages, trace.leaves, trace.fetches
+    )?)
 }
 
 /// The strategy, the events and the counts of a trace.
 pub fn trace_text(alloc: Global, trace: &Trace) -> Result<String, NoMemory> {
-    let mut text = format!(in alloc; "{}", strategy_word(trace.strategy))?;
+    let mut text = String::from_str(alloc, strategy_word(trace.strategy))?;
     'events: for event in trace.events.as_slice() {
         let word = event_text(alloc, *event)?;
         text.push(' ')?;
         text.push_str(word.as_str())?;
     }
-    let counts = format!(in alloc;
-        " pages {} leaves {} fetches {}",
-        trace.pages, trace.leaves, trace.fetches
-    )?;
+    let counts = counts_text(alloc, trace)?;
     text.push_str(counts.as_str())?;
     Ok(text)
 }

@@ -249,12 +249,18 @@ fn add_narrow(
     )
 }
 
-/// Forty rows in a paged store. The index over the first column has leaves of 16 and 24 entries.
-fn add_paged(alloc: Global, lines: &mut Vec<String>) -> Result<(), NoMemory> {
-    let (store, forty) = load_paged(alloc, 40, Filling::Zero)?;
+/// Of forty rows in a paged store. The index over the first column has leaves of 16 and 24 entries.
+fn add_of_forty<R: Reader<Ledger = Uncounted>>(
+    alloc: Global,
+    reader: &R,
+    forty: Loaded,
+    lines: &mut Vec<String>,
+) -> Result<(), NoMemory>
+    requires { Stands (R.shown reader.now) forty }
+{
     add(
         alloc,
-        &store,
+        reader,
         forty,
         "paged, union",
         one_of(TEN),
@@ -264,7 +270,7 @@ fn add_paged(alloc: Global, lines: &mut Vec<String>) -> Result<(), NoMemory> {
     )?;
     add(
         alloc,
-        &store,
+        reader,
         forty,
         "paged, union stays",
         one_of(NEARLY),
@@ -274,7 +280,7 @@ fn add_paged(alloc: Global, lines: &mut Vec<String>) -> Result<(), NoMemory> {
     )?;
     add(
         alloc,
-        &store,
+        reader,
         forty,
         "paged, union drops",
         one_of(NEARLY),
@@ -284,12 +290,42 @@ fn add_paged(alloc: Global, lines: &mut Vec<String>) -> Result<(), NoMemory> {
     )
 }
 
+fn add_forty(alloc: Global, lines: &mut Vec<String>) -> Result<(), NoMemory> {
+    let (store, forty) = load_paged(alloc, 40, Filling::Zero)?;
+    let done = add_of_forty(alloc, &store, forty, lines);
+    drop(store);
+    done
+}
+
+fn add_plain(alloc: Global, lines: &mut Vec<String>) -> Result<(), NoMemory> {
+    let (store, loaded) = load_plain(alloc, 400, Filling::Same)?;
+    let done = add_over_plain(alloc, &store, loaded, lines);
+    drop(store);
+    done
+}
+
+fn add_over_plain(
+    alloc: Global,
+    store: &Plain,
+    loaded: Loaded,
+    lines: &mut Vec<String>,
+) -> Result<(), NoMemory>
+    requires { Stands (shown_of store.now) loaded }
+{
+    add_wide(alloc, store, loaded, "", lines)?;
+    add_narrow(alloc, store, loaded, lines)
+}
+
+fn add_paged(alloc: Global, lines: &mut Vec<String>) -> Result<(), NoMemory> {
+    let (store, loaded) = load_paged(alloc, 400, Filling::Same)?;
+    let done = add_wide(alloc, &store, loaded, "paged, ", lines);
+    drop(store);
+    done
+}
+
 /// The lines of the unions.
 pub fn add_unions(alloc: Global, lines: &mut Vec<String>) -> Result<(), NoMemory> {
-    add_paged(alloc, lines)?;
-    let (store, loaded) = load_plain(alloc, 400, Filling::Same)?;
-    add_wide(alloc, &store, loaded, "", lines)?;
-    add_narrow(alloc, &store, loaded, lines)?;
-    let (pages, laid) = load_paged(alloc, 400, Filling::Same)?;
-    add_wide(alloc, &pages, laid, "paged, ", lines)
+    add_forty(alloc, lines)?;
+    add_plain(alloc, lines)?;
+    add_paged(alloc, lines)
 }

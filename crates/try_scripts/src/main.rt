@@ -27,14 +27,20 @@ fn answer(alloc: Global, line: &str) -> Result<String, Fault> {
     }
 }
 
+/// The words for what a line gives.
+fn words(told: &Result<String, Fault>) -> &str {
+    match told {
+        Ok(told) => told.as_str(),
+        Err(Fault::Form) => "not read",
+        Err(Fault::NoMemory) => "no memory",
+    }
+}
+
 fn main(rt: HostRuntime) -> io::Result<()> {
     'lines: for line in rt.lines(rt.alloc()) {
         let line = line?;
-        match answer(rt.alloc(), line.as_str()) {
-            Ok(told) => println!(rt; "{}", told.as_str())?,
-            Err(Fault::Form) => println!(rt; "not read")?,
-            Err(Fault::NoMemory) => println!(rt; "no memory")?,
-        }
+        let told = answer(rt.alloc(), line.as_str());
+        println!(rt; "{}", words(&told))?;
     }
     Ok(())
 }

@@ -72,10 +72,14 @@ fn one(alloc: Global, word: &str) -> Result<Values, Fault> {
 /// An offer of an order value and a value returned.
 fn offer(alloc: Global, text: &str) -> Result<Offer, Fault> {
     let (order, returned) = cut(text, ' ')?;
-    Ok(Offer {
-        order: one(alloc, order)?,
-        returned: one(alloc, returned)?,
-    })
+    let order = one(alloc, order)?;
+    match one(alloc, returned) {
+        Ok(returned) => Ok(Offer { order, returned }),
+        Err(fault) => {
+            drop(order);
+            Err(fault)
+        }
+    }
 }
 
 fn order_word(order: Ordering) -> &'static str {
@@ -97,7 +101,13 @@ fn partial_word(order: Option<Ordering>) -> &'static str {
 pub fn told_offers(alloc: Global, text: &str) -> Result<String, Fault> {
     let (first, second) = cut(text, ',')?;
     let first = offer(alloc, first)?;
-    let second = offer(alloc, second)?;
+    let second = match offer(alloc, second) {
+        Ok(second) => second,
+        Err(fault) => {
+            drop(first);
+            return Err(fault);
+        }
+    };
     let by_function = order_word(cmp_offer(&first, &second));
     let whole = order_word(first.cmp(&second));
     let partial = partial_word(first.partial_cmp(&second));
@@ -106,5 +116,7 @@ pub fn told_offers(alloc: Global, text: &str) -> Result<String, Fault> {
     } else {
         "another"
     };
+    drop(first);
+    drop(second);
     Ok(format!(in alloc; "{by_function} {whole} {partial}, {same}")?)
 }

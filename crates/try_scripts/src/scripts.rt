@@ -35,13 +35,14 @@ fn told_phases(alloc: Global, script: &Script) -> Result<String, NoMemory> {
 }
 
 fn told_fault(alloc: Global, fault: ScriptFault) -> Result<String, NoMemory> {
-    match fault {
-        ScriptFault::NoSession { line } => Ok(format!(in alloc; "no session in line {line}")?),
-        ScriptFault::NotText { offset } => Ok(format!(in alloc; "no text at {offset}")?),
-        ScriptFault::TooLong { line } => Ok(format!(in alloc; "line {line} is too long")?),
-        ScriptFault::TooMany { lines } => Ok(format!(in alloc; "more than {lines} lines")?),
-        ScriptFault::NoMemory => Err(NoMemory),
-    }
+    let (before, number, behind) = match fault {
+        ScriptFault::NoSession { line } => ("no session in line", line, ""),
+        ScriptFault::NotText { offset } => ("no text at", offset, ""),
+        ScriptFault::TooLong { line } => ("line", line, " is too long"),
+        ScriptFault::TooMany { lines } => ("more than", lines, " lines"),
+        ScriptFault::NoMemory => return Err(NoMemory),
+    };
+    Ok(format!(in alloc; "{before} {number}{behind}")?)
 }
 
 /// The bytes for which `\n`, `\r` and `\m` stand for a line feed, a carriage return and a byte order mark.
@@ -60,7 +61,11 @@ pub fn told(alloc: Global, text: &str) -> Result<String, Fault> {
         return Err(Fault::Form);
     }
     match read_script(alloc, bytes) {
-        Ok(script) => Ok(told_phases(alloc, &script)?),
+        Ok(script) => {
+            let told = told_phases(alloc, &script);
+            drop(script);
+            Ok(told?)
+        }
         Err(fault) => Ok(told_fault(alloc, fault)?),
     }
 }

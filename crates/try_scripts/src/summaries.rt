@@ -25,12 +25,18 @@ fn reply(alloc: Global, word: &str) -> Result<Reply, Fault> {
 
 fn entry(alloc: Global, word: &str) -> Result<Entry, Fault> {
     let text = Text::read(alloc, "?")?;
-    Ok(Entry {
-        session: 1,
-        phase: 1,
-        text,
-        reply: reply(alloc, word)?,
-    })
+    match reply(alloc, word) {
+        Ok(reply) => Ok(Entry {
+            session: 1,
+            phase: 1,
+            text,
+            reply,
+        }),
+        Err(fault) => {
+            drop(text);
+            Err(fault)
+        }
+    }
 }
 
 /// The entries of replies, which single spaces part.
@@ -52,7 +58,13 @@ fn written(alloc: Global, entries: &[Entry], fails: u32) -> Result<String, Fault
         calls.push(fails)?;
     }
     let mut sink = MemSink::new(alloc, 100, calls)?;
-    let word = match write_summary(&mut sink, &summary_of(entries)) {
+    let told = written_into(alloc, &mut sink, entries);
+    drop(sink);
+    told
+}
+
+fn written_into(alloc: Global, sink: &mut MemSink, entries: &[Entry]) -> Result<String, Fault> {
+    let word = match write_summary(sink, &summary_of(entries)) {
         Ok(()) => "written",
         Err(_fault) => "failed",
     };
@@ -66,5 +78,7 @@ pub fn told(alloc: Global, text: &str) -> Result<String, Fault> {
     let (fails, words) = cut(text, ':')?;
     let fails = small(fails)?;
     let entries = entries(alloc, words)?;
-    written(alloc, entries.as_slice(), fails)
+    let told = written(alloc, entries.as_slice(), fails);
+    drop(entries);
+    told
 }

@@ -10,17 +10,26 @@ use rv_value::{NoMemory, Value, Values};
 use std::alloc::Global;
 
 fn told_refusal(alloc: Global, refusal: &Refusal) -> Result<String, NoMemory> {
-    match refusal {
-        Refusal::Active(number) => Ok(format!(in alloc; " active {number}")?),
-        Refusal::NoTransaction => Ok(format!(in alloc; " no transaction")?),
-        Refusal::ReadOnly => Ok(format!(in alloc; " read only")?),
-        _ => Ok(format!(in alloc; " another refusal")?),
-    }
+    let word = match refusal {
+        Refusal::Active(number) => return told_number(alloc, " active ", *number),
+        Refusal::NoTransaction => " no transaction",
+        Refusal::ReadOnly => " read only",
+        _ => " another refusal",
+    };
+    Ok(String::from_str(alloc, word)?)
 }
 
-fn told_fault(alloc: Global, fault: &TxnFault) -> Result<String, NoMemory> {
+fn told_number(alloc: Global, word: &str, number: u64) -> Result<String, NoMemory> {
+    Ok(format!(in alloc; "{word}{number}")?)
+}
+
+fn told_fault(alloc: Global, fault: TxnFault) -> Result<String, NoMemory> {
     match fault {
-        TxnFault::Refused(refusal) => told_refusal(alloc, refusal),
+        TxnFault::Refused(refusal) => {
+            let told = told_refusal(alloc, &refusal);
+            drop(refusal);
+            told
+        }
         TxnFault::NoMemory => Err(NoMemory),
     }
 }
@@ -46,8 +55,8 @@ fn begin(
     ensures { txns.new.next ≤ txns.old.next + 1 }
 {
     match txns.begin(session, read_only, base) {
-        Ok(number) => Ok(format!(in alloc; " {number}")?),
-        Err(fault) => told_fault(alloc, &fault),
+        Ok(number) => told_number(alloc, " ", number),
+        Err(fault) => told_fault(alloc, fault),
     }
 }
 
@@ -89,7 +98,10 @@ fn insert(alloc: Global, txns: &mut Txns, text: &str) -> Result<String, Fault> {
     let values = one_value(alloc, table)?;
     let row = match txns.inserting(of, table) {
         Ok(row) => row,
-        Err(fault) => return Ok(told_fault(alloc, &fault)?),
+        Err(fault) => {
+            drop(values);
+            return Ok(told_fault(alloc, fault)?);
+        }
     };
     let change = Change {
         table,
@@ -97,7 +109,7 @@ fn insert(alloc: Global, txns: &mut Txns, text: &str) -> Result<String, Fault> {
         values: Some(values),
     };
     txns.put_new(of, change)?;
-    Ok(format!(in alloc; " {}", row.0)?)
+    Ok(told_number(alloc, " ", row.0)?)
 }
 
 /// How many rows a commit of the session changes.
@@ -105,16 +117,21 @@ fn finish(alloc: Global, txns: &Txns, text: &str) -> Result<String, Fault> {
     match txns.finish(session(text)?) {
         Ok(finished) => {
             let count = finished.changes.len();
-            Ok(format!(in alloc; " changes {count}")?)
+            drop(finished);
+            Ok(told_number(alloc, " changes ", count as u64)?)
         }
-        Err(fault) => Ok(told_fault(alloc, &fault)?),
+        Err(fault) => Ok(told_fault(alloc, fault)?),
     }
 }
 
 fn roll_back(alloc: Global, txns: &mut Txns, text: &str) -> Result<String, Fault> {
     match txns.rollback(session(text)?) {
-        Ok(()) => Ok(format!(in alloc; " rolled back")?),
-        Err(refusal) => Ok(told_refusal(alloc, &refusal)?),
+        Ok(()) => Ok(String::from_str(alloc, " rolled back")?),
+        Err(refusal) => {
+            let told = told_refusal(alloc, &refusal);
+            drop(refusal);
+            Ok(told?)
+        }
     }
 }
 
@@ -128,17 +145,18 @@ fn has_changed(txns: &Txns, session: u8, table: u32) -> bool {
 
 fn told_changed(alloc: Global, txns: &Txns, text: &str) -> Result<String, Fault> {
     let (of, table) = cut(text, ' ')?;
-    if has_changed(txns, session(of)?, small(table)?) {
-        Ok(format!(in alloc; " changed")?)
+    let word = if has_changed(txns, session(of)?, small(table)?) {
+        " changed"
     } else {
-        Ok(format!(in alloc; " unchanged")?)
-    }
+        " unchanged"
+    };
+    Ok(String::from_str(alloc, word)?)
 }
 
 fn told_active(alloc: Global, active: Option<u64>) -> Result<String, NoMemory> {
     match active {
-        Some(number) => Ok(format!(in alloc; " lowest {number}")?),
-        None => Ok(format!(in alloc; " none")?),
+        Some(number) => told_number(alloc, " lowest ", number),
+        None => Ok(String::from_str(alloc, " none")?),
     }
 }
 
@@ -154,7 +172,7 @@ fn told_standing(alloc: Global, standing: Option<Standing>) -> Result<String, No
             let word = if read_only { "ro" } else { "rw" };
             Ok(format!(in alloc; " {txn} {word} {base}")?)
         }
-        None => Ok(format!(in alloc; " none")?),
+        None => Ok(String::from_str(alloc, " none")?),
     }
 }
 
@@ -167,7 +185,7 @@ fn act(alloc: Global, txns: &mut Txns, text: &str) -> Result<String, Fault> {
         "finish" => finish(alloc, txns, rest),
         "rollback" => roll_back(alloc, txns, rest),
         "active" => Ok(told_active(alloc, txns.active())?),
-        "horizon" => Ok(format!(in alloc; " {}", txns.horizon(number(rest)?))?),
+        "horizon" => Ok(told_number(alloc, " ", txns.horizon(number(rest)?))?),
         "standing" => Ok(told_standing(alloc, txns.standing(session(rest)?))?),
         _ => Err(Fault::Form),
     }
@@ -184,9 +202,17 @@ fn act_all(alloc: Global, txns: &mut Txns, told: &mut String, text: &str) -> Res
 pub fn told(alloc: Global, text: &str) -> Result<String, Fault> {
     let (begins, acts) = cut(text, ';')?;
     let mut txns = Txns::new(alloc);
+    let told = told_of(alloc, &mut txns, begins, acts.trim_start());
+    drop(txns);
+    told
+}
+
+fn told_of(alloc: Global, txns: &mut Txns, begins: &str, acts: &str) -> Result<String, Fault>
+    requires { txns.old.next ≤ 1 }
+{
     let mut told = String::new(alloc);
-    begin_all(alloc, &mut txns, &mut told, begins)?;
+    begin_all(alloc, txns, &mut told, begins)?;
     told.push_str(";")?;
-    act_all(alloc, &mut txns, &mut told, acts.trim_start())?;
+    act_all(alloc, txns, &mut told, acts)?;
     Ok(told)
 }

@@ -8,7 +8,7 @@ use std::alloc::Global;
 fn told_line(alloc: Global, line: Option<&Line>) -> Result<String, NoMemory> {
     match line {
         Some(line) => Ok(format!(in alloc; " | {} {}", line.session, line.text.as_str())?),
-        None => Ok(format!(in alloc; " | none")?),
+        None => Ok(String::from_str(alloc, " | none")?),
     }
 }
 
@@ -37,5 +37,7 @@ fn told_phases(alloc: Global, script: &Script) -> Result<String, NoMemory> {
 /// The phases of the script of a seed.
 pub fn told(alloc: Global, text: &str) -> Result<String, Fault> {
     let script = generate(alloc, small(text)?)?;
-    Ok(told_phases(alloc, &script)?)
+    let told = told_phases(alloc, &script);
+    drop(script);
+    Ok(told?)
 }

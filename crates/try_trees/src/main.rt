@@ -29,7 +29,9 @@ fn find(alloc: Global, tree: &Tree, count: u32, low: i64, high: i64) -> Result<F
 {
     let range = between(alloc, low, high)?;
     let estimate = estimated(tree, count, &range);
-    let (entries, leaves) = read(tree, count, &range)?;
+    let counts = read(tree, count, &range);
+    drop(range);
+    let (entries, leaves) = counts?;
     Ok(Found {
         value: estimate.value,
         exact: estimate.exact,
@@ -74,7 +76,11 @@ fn write_filled(rt: &HostRuntime, tree: &Tree, count: u32) -> io::Result<()>
 
 fn write_tree(rt: &HostRuntime, count: u32) -> io::Result<()> {
     match filled(rt.alloc(), count) {
-        Ok(tree) => write_filled(rt, &tree, count),
+        Ok(tree) => {
+            let done = write_filled(rt, &tree, count);
+            drop(tree);
+            done
+        }
         Err(NoMemory) => println!(rt; "no memory"),
     }
 }

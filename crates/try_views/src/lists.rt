@@ -130,14 +130,42 @@ fn ranked(alloc: Global, list: &mut Blocks<Ten>, rank: usize) -> Result<String, 
 /// What a list of a thousand items gives, while another holder keeps it as it was.
 pub fn add_lines(alloc: Global, lines: &mut Vec<String>) -> Result<(), NoMemory> {
     let mut list = thousand(alloc)?;
+    let done = add_shared(alloc, &mut list, lines);
+    drop(list);
+    done
+}
+
+fn add_shared(
+    alloc: Global,
+    list: &mut Blocks<Ten>,
+    lines: &mut Vec<String>,
+) -> Result<(), NoMemory> {
     let before = list.share()?;
-    lines.push(change(alloc, &mut list)?)?;
-    lines.push(told(alloc, &before)?)?;
-    lines.push(told(alloc, &list)?)?;
-    lines.push(told(alloc, &Blocks::new(alloc))?)?;
-    lines.push(ranked(alloc, &mut list, 10)?)?;
-    lines.push(run(alloc, &list, 9, 3)?)?;
-    lines.push(run(alloc, &list, 996, 100)?)?;
-    lines.push(run(alloc, &list, 2000, 9)?)?;
+    let done = add_changed(alloc, list, &before, lines);
+    drop(before);
+    done
+}
+
+fn told_empty(alloc: Global) -> Result<String, NoMemory> {
+    let list = Blocks::new(alloc);
+    let told = told(alloc, &list);
+    drop(list);
+    told
+}
+
+fn add_changed(
+    alloc: Global,
+    list: &mut Blocks<Ten>,
+    before: &Blocks<Ten>,
+    lines: &mut Vec<String>,
+) -> Result<(), NoMemory> {
+    lines.push(change(alloc, list)?)?;
+    lines.push(told(alloc, before)?)?;
+    lines.push(told(alloc, list)?)?;
+    lines.push(told_empty(alloc)?)?;
+    lines.push(ranked(alloc, list, 10)?)?;
+    lines.push(run(alloc, list, 9, 3)?)?;
+    lines.push(run(alloc, list, 996, 100)?)?;
+    lines.push(run(alloc, list, 2000, 9)?)?;
     Ok(())
 }

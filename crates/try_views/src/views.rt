@@ -213,43 +213,69 @@ fn add_course<S: Store + Reader<Ledger = Uncounted>>(
     requires { Stands (S.shown store.now) indexes.now }
 {
     let (mut view, mut written) = begin(alloc, store, indexes)?;
-    write(
-        alloc,
-        store,
-        indexes,
-        &mut view,
-        &mut written,
-        0,
-        1,
-        Some(7),
-    )?;
-    write(
-        alloc,
-        store,
-        indexes,
-        &mut view,
-        &mut written,
-        0,
-        1,
-        Some(5),
-    )?;
-    write(
-        alloc,
-        store,
-        indexes,
-        &mut view,
-        &mut written,
-        2,
-        33,
-        Some(2),
-    )?;
-    let earlier = opened(store, indexes, &view, &written)?;
-    write(alloc, store, indexes, &mut view, &mut written, 1, 2, None)?;
-    write(alloc, store, indexes, &mut view, &mut written, 32, 33, None)?;
-    let later = opened(store, indexes, &view, &written)?;
+    let done = add_views(alloc, store, indexes, &mut view, &mut written, lines);
+    drop(view);
+    drop(written);
+    done
+}
+
+fn add_views<S: Store + Reader<Ledger = Uncounted>>(
+    alloc: Global,
+    store: &S,
+    indexes: &[IndexDef],
+    view: &mut View,
+    written: &mut Blocks<Change>,
+    lines: &mut Vec<String>,
+) -> Result<(), NoMemory>
+    requires stands { Stands (S.shown store.now) indexes.now }
+    requires kept { IsKept (S.shown store.now) view.old written.old }
+{
+    write(alloc, store, indexes, view, written, 0, 1, Some(7))?;
+    write(alloc, store, indexes, view, written, 0, 1, Some(5))?;
+    write(alloc, store, indexes, view, written, 2, 33, Some(2))?;
+    let earlier = opened(store, indexes, view, written)?;
+    let done = add_later(alloc, store, indexes, view, written, &earlier, lines);
+    drop(earlier);
+    done
+}
+
+/// The last two changes.
+fn add_later<S: Store + Reader<Ledger = Uncounted>>(
+    alloc: Global,
+    store: &S,
+    indexes: &[IndexDef],
+    view: &mut View,
+    written: &mut Blocks<Change>,
+    earlier: &Option<View>,
+    lines: &mut Vec<String>,
+) -> Result<(), NoMemory>
+    requires stands { Stands (S.shown store.now) indexes.now }
+    requires kept { IsKept (S.shown store.now) view.old written.old }
+    requires lays { LaysSome (S.shown store.now) earlier.now }
+{
+    write(alloc, store, indexes, view, written, 1, 2, None)?;
+    write(alloc, store, indexes, view, written, 32, 33, None)?;
+    let later = opened(store, indexes, view, written)?;
+    let done = add_seen(alloc, store, indexes, earlier, &later, lines);
+    drop(later);
+    done
+}
+
+fn add_seen<S: Store + Reader<Ledger = Uncounted>>(
+    alloc: Global,
+    store: &S,
+    indexes: &[IndexDef],
+    earlier: &Option<View>,
+    later: &Option<View>,
+    lines: &mut Vec<String>,
+) -> Result<(), NoMemory>
+    requires stands { Stands (S.shown store.now) indexes.now }
+    requires earlier { LaysSome (S.shown store.now) earlier.now }
+    requires later { LaysSome (S.shown store.now) later.now }
+{
     lines.push(seen(alloc, store, &None, indexes)?)?;
-    lines.push(seen(alloc, store, &earlier, indexes)?)?;
-    lines.push(seen(alloc, store, &later, indexes)?)?;
+    lines.push(seen(alloc, store, earlier, indexes)?)?;
+    lines.push(seen(alloc, store, later, indexes)?)?;
     Ok(())
 }
 
@@ -265,16 +291,67 @@ fn whole<S: Store + Reader<Ledger = Uncounted>>(
     changes.push(change(alloc, 1, None)?)?;
     changes.push(change(alloc, 40, Some(0))?)?;
     let (frozen, written) = frozen_of(alloc, 1, store, indexes, changes.as_slice())?;
-    let view = View::new(alloc, frozen)?;
-    let at_once = opened(store, indexes, &view, &written)?;
-    seen(alloc, store, &at_once, indexes)
+    drop(changes);
+    let view = match View::new(alloc, frozen) {
+        Ok(view) => view,
+        Err(fault) => {
+            drop(written);
+            return Err(fault);
+        }
+    };
+    let told = seen_at_once(alloc, store, indexes, &view, &written);
+    drop(view);
+    drop(written);
+    told
+}
+
+fn seen_at_once<S: Store + Reader<Ledger = Uncounted>>(
+    alloc: Global,
+    store: &S,
+    indexes: &[IndexDef],
+    view: &View,
+    written: &Blocks<Change>,
+) -> Result<String, NoMemory>
+    requires stands { Stands (S.shown store.now) indexes.now }
+    requires kept { IsKept (S.shown store.now) view.now written.now }
+{
+    let at_once = opened(store, indexes, view, written)?;
+    let told = seen(alloc, store, &at_once, indexes);
+    drop(at_once);
+    told
 }
 
 /// A transaction changes rows 0 to 32 in turn, and another one two rows at once.
 pub fn add_lines(alloc: Global, lines: &mut Vec<String>) -> Result<(), NoMemory> {
     let mut store = Plain::new(alloc)?;
-    let indexes = lay(alloc, &mut store)?;
-    add_course(alloc, &store, indexes.as_slice(), lines)?;
-    lines.push(whole(alloc, &store, indexes.as_slice())?)?;
+    let done = add_over(alloc, &mut store, lines);
+    drop(store);
+    done
+}
+
+/// Over an empty store.
+fn add_over<S: Store + Reader<Ledger = Uncounted>>(
+    alloc: Global,
+    store: &mut S,
+    lines: &mut Vec<String>,
+) -> Result<(), NoMemory>
+    requires { IsEmpty (S.shown store.old) }
+{
+    let indexes = lay(alloc, store)?;
+    let done = add_both(alloc, store, indexes.as_slice(), lines);
+    drop(indexes);
+    done
+}
+
+fn add_both<S: Store + Reader<Ledger = Uncounted>>(
+    alloc: Global,
+    store: &S,
+    indexes: &[IndexDef],
+    lines: &mut Vec<String>,
+) -> Result<(), NoMemory>
+    requires { Stands (S.shown store.now) indexes.now }
+{
+    add_course(alloc, store, indexes, lines)?;
+    lines.push(whole(alloc, store, indexes)?)?;
     Ok(())
 }
