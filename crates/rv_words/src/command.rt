@@ -23,7 +23,9 @@ pub fn asked(alloc: Global, words: &[Text]) -> Result<Asked, NoMemory>
 {
     let texts = texts_of(alloc, words)?;
     let matches = parsed(alloc, texts.as_slice())?;
-    Ok(values_of(&matches))
+    let asked = values_of(&matches);
+    drop(matches);
+    Ok(asked)
 }
 
 /// The words as texts.
@@ -44,7 +46,10 @@ fn parsed<'a>(alloc: Global, words: &'a [&'a str]) -> Result<ArgMatches<'a>, NoM
     let command = command(alloc)?;
     match command.try_get_matches_from(words) {
         Ok(matches) => Ok(matches),
-        Err(_refused) => Err(NoMemory),
+        Err(refused) => {
+            drop(refused);
+            Err(NoMemory)
+        }
     }
 }
 
@@ -52,22 +57,16 @@ fn parsed<'a>(alloc: Global, words: &'a [&'a str]) -> Result<ArgMatches<'a>, NoM
 fn command<'a>(alloc: Global) -> Result<Command<'a>, AllocError>
     ensures { IfOk result (λ command. app_of command ≡ app) }
 {
-    let threads = flag(alloc, "threads");
-    let workers = valued(alloc, "workers");
-    let judge = valued(alloc, "judge");
-    let steps = valued(alloc, "steps");
-    let seed = valued(alloc, "gen");
-    let race = flag(alloc, "race");
     let bare = Command::new(alloc, "rvdyn")
         .no_binary_name(true)
         .disable_help_flag(true)
         .disable_version_flag(true);
-    bare.arg(threads)?
-        .arg(workers)?
-        .arg(judge)?
-        .arg(steps)?
-        .arg(seed)?
-        .arg(race)
+    bare.arg(flag(alloc, "threads"))?
+        .arg(valued(alloc, "workers"))?
+        .arg(valued(alloc, "judge"))?
+        .arg(valued(alloc, "steps"))?
+        .arg(valued(alloc, "gen"))?
+        .arg(flag(alloc, "race"))
 }
 
 /// An option with a value, known by its name.
