@@ -33,7 +33,12 @@ use Rattle.rv_choice.specs.Asked.{CanAsk, IsIndexOf}
 use Rattle.rv_final.specs.Rest.{qualifying}
 use Rattle.rv_search.specs.Named.{columns_named}
 use Rattle.rv_retrieval.specs.Short.{has_short}
-use Rattle.rv_search.specs.Searching.{Ran, search_of}
+use Rattle.rv_search.specs.Searching.{Ran, RanFetched, any_narrows, search_of}
+use Rattle.rv_judge.specs.declared.counting.Counts.{Counts}
+use Rattle.rv_judge.specs.Counting.{no_counts}
+use Rattle.rv_lang.specs.declared.reply.Refusal.{Refusal}
+use Rattle.rv_lang.specs.declared.reply.Reply.{Reply}
+use Rattle.rv_lang.specs.declared.reply.Reply.TheVariants.{Refused, Touched}
 use Rattle.rv_judge.specs.declared.judging.Facts.{Facts}
 use Rattle.rv_judge.specs.Verdicts.{Ruling}
 use Rattle.rv_search.proofs.Columns.{named_home, none_needed}
@@ -42,7 +47,7 @@ use Rattle.rv_join.specs.Asking.{CanPlan, CanRun, CanRunItem, IsAsked, IsIndexAt
 use Rattle.rv_join.proofs.Running.{can_run}
 use Rattle.rv_cursor.specs.Left.{seen_at}
 use Rattle.rv_core.specs.Db.{IsTied, IsViewed}
-use Rattle.rv_core.specs.Obeying.{IsLong}
+use Rattle.rv_core.specs.Obeying.{FindsRows, HasSearched, IsLong}
 use Rattle.rv_core.proofs.Planning.{have_wide}
 use Rattle.rv_core.proofs.Plans.{plans}
 use Rattle.rv_core.proofs.Putting.{frozen_viewed}
@@ -180,3 +185,25 @@ asks_long would shown own table only indexes view before after frozen (inr ran) 
   | inl short ↦ inl (unasked short)
   | inr none ↦ inr (record { view = view; frozen = frozen; ran = ran; none_short = none })
 ]
+
+-- HOW THE ROWS OF AN UPDATE OR DELETE ARE FOUND.
+
+-- where an index narrows they were searched for
+pub finds_searched : (would : ℕ → Facts → Ruling) (before after : ℕ) (shown : Shown) (indexes : List IndexDef) (active : List Transaction) (session table : ℕ) (only : List (List Atom)) (own : Transaction) (asked : List (ℕ × List ℕ)) → writing active session ≡ Ok own
+    → asked ≡ indexes_from table 0 indexes → HasSearched would before after shown own table only asked → FindsRows would before after shown indexes active session table only
+finds_searched would before after shown indexes active session table only own asked writes is searched other also narrows =
+    let same : own ≡ other = cc in
+    subst (λ (o : Transaction). HasSearched would before after shown o table only (indexes_from table 0 indexes)) same (subst (HasSearched would before after shown own table only) is searched)
+
+-- where none narrows nothing is said
+pub finds_none : (would : ℕ → Facts → Ruling) (before after : ℕ) (shown : Shown) (indexes : List IndexDef) (active : List Transaction) (session table : ℕ) (only : List (List Atom)) → any_narrows only (indexes_from table 0 indexes) ≡ false → FindsRows would before after shown indexes active session table only
+finds_none would before after shown indexes active session table only none other also narrows = absurd (cc)
+
+-- the search of rows that was opened over what was frozen
+pub has_searched : (would : ℕ → Facts → Ruling) (before after : ℕ) (shown : Shown) (own : Transaction) (table : ℕ) (only : List (List Atom)) (indexes : List (ℕ × List ℕ)) (view : Option Frozen) (found : ℕ) (begun counts : Counts) → begun ≡ no_counts → Freezes shown own view
+    → RanFetched found would before after (seen_at shown own.base view) begun counts (search_of table own.base only indexes) → HasSearched would before after shown own table only indexes
+has_searched would before after shown own table only indexes view found begun counts none frozen ran = record { view = view; frozen = frozen; found = found; counts = counts; ran = subst (λ (c : Counts). RanFetched found would before after (seen_at shown own.base view) c counts (search_of table own.base only indexes)) none ran }
+
+-- a refusal touches nothing
+pub touches_none : {P : Type 0} (refusal : Refusal) (replies : Reply × Reply) → replies.0 ≡ Refused refusal → (count : ℕ) → replies.0 ≡ Touched count → P
+touches_none refusal replies refused count touched = absurd (cc)

@@ -1,14 +1,15 @@
 -- WHAT A CALL DOES TO THE PLANS OF THE OPEN CURSORS, and what it tells of them.
 use Rattle.std.specs.Prelude.{◌≡◌, ◌⊎◌, ◌<◌, ◌≤◌, ◌+◌, ◌==◌, ℕ, Bool, true, false, List, [], ◌∷◌, ◌++◌, Option, Some, None, Result, Ok, Err, IfSome, IsSome, not, filter, remove, slice_get, slice_set}
 use Rattle.std.specs.List.{AllByRecursion}
+use Rattle.rv_judge.specs.declared.counting.Counts.{Counts}
 use Rattle.rv_judge.specs.declared.judging.Facts.{Facts}
 use Rattle.rv_judge.specs.Verdicts.{Ruling}
-use Rattle.rv_judge.specs.Counting.{reads}
+use Rattle.rv_judge.specs.Counting.{no_counts, reads}
 use Rattle.rv_restrict.specs.declared.atom.Atom.{Atom}
 use Rattle.rv_lang.specs.declared.statement.Statement.{Statement}
 use Rattle.rv_lang.specs.declared.reply.Refusal.{Refusal}
 use Rattle.rv_lang.specs.declared.reply.Reply.{Reply}
-use Rattle.rv_lang.specs.declared.reply.Reply.TheVariants.{Opened, Refused, Stepped, Trace}
+use Rattle.rv_lang.specs.declared.reply.Reply.TheVariants.{Opened, Refused, Stepped, Touched, Trace}
 use Rattle.rv_catalog.specs.declared.def.IndexDef.{IndexDef}
 use Rattle.rv_catalog.specs.declared.def.Resolved.{Resolved}
 use Rattle.rv_catalog.specs.declared.def.Resolved.TheVariants as asks
@@ -24,7 +25,7 @@ use Rattle.rv_overlay.specs.declared.frozen.Frozen.{Frozen}
 use Rattle.rv_own.specs.Views.{Freezes}
 use Rattle.rv_access.specs.Accesses.{Settled, fetches_left, query_of}
 use Rattle.rv_retrieval.specs.Short.{has_short}
-use Rattle.rv_search.specs.Searching.{Ran, any_narrows, search_of}
+use Rattle.rv_search.specs.Searching.{Ran, RanFetched, any_narrows, search_of}
 use Rattle.rv_join.specs.Alone.{plan_effort, plan_life}
 use Rattle.rv_join.specs.Asking.{IsAsked, indexes_from, lives_of}
 use Rattle.rv_join.specs.Pieces.{counted_up, plan_awaited, plan_pieces}
@@ -176,12 +177,36 @@ pub record MayAsk (would : ℕ → Facts → Ruling) (state after : ℕ) (shown 
   pub narrows : any_narrows only (indexes_from table 0 indexes) ≡ true
   pub long : IsLong would state after shown own table only (indexes_from table 0 indexes)
 
+-- a search was opened over a view of the transaction and made to its end: the judge stands where its steps leave it, and
+-- each row found was fetched
+pub record HasSearched (would : ℕ → Facts → Ruling) (state after : ℕ) (shown : Shown) (own : Transaction) (table : ℕ)
+    (only : List (List Atom)) (indexes : List (ℕ × List ℕ)) : Type 0 where
+  pub view : Option Frozen
+  pub frozen : Freezes shown own view
+  pub found : ℕ
+  pub counts : Counts
+  pub ran : RanFetched found would state after (seen_at shown own.base view) no_counts counts (search_of table own.base only indexes)
+
+-- WHERE AN UPDATE OR DELETE HAS SEARCHED: if the session's transaction may write, and WHERE gives an index of the table a
+-- range
+abbrev pub FindsRows : (ℕ → Facts → Ruling) → ℕ → ℕ → Shown → List IndexDef → List Transaction → ℕ → ℕ → List (List Atom) → Type 0
+FindsRows would state after shown indexes active session table only =
+    (own : Transaction) → writing active session ≡ Ok own → any_narrows only (indexes_from table 0 indexes) ≡ true
+    → HasSearched would state after shown own table only (indexes_from table 0 indexes)
+
 -- UPDATE AND DELETE SEARCH: the plans of all cursors stay, and so does the judge, but where it may be asked
 abbrev pub Searches : Under → State → ℕ → ℕ → List (List Atom) → Plans → Plans → Type 0
 Searches u db session table only old new =
     (new ≡ old)
     ⊎ (AsksJudge old new
     × MayAsk u.would old.judge new.judge u.store db.schema.indexes db.transactions.active session table only)
+
+-- one that told how many rows it touched found them so
+abbrev pub Touches : Under → State → ℕ → ℕ → List (List Atom) → Reply → Plans → Plans → Type 0
+Touches u db session table only reply old new =
+    Searches u db session table only old new
+    × ((count : ℕ) → reply ≡ Touched count
+    → FindsRows u.would old.judge new.judge u.store db.schema.indexes db.transactions.active session table only)
 
 -- WHAT AN ANSWERED CALL DOES TO THE PLANS, by what it asks
 abbrev pub Handles : Under → Result Resolved Refusal → State → ℕ → Reply → Plans → Plans → Type 0
@@ -191,8 +216,8 @@ Handles u (Ok (asks.Fetch name)) db session reply old new =
     MovesNamed (FetchOf u.settings.steps u.would) u.store (open_named old.opens session name) old new
 Handles u (Ok (asks.Step name n)) db session reply old new =
     StepsTold u n (open_named old.opens session name) reply old new
-Handles u (Ok (asks.Update table sets only)) db session reply old new = Searches u db session table only old new
-Handles u (Ok (asks.Delete table only)) db session reply old new = Searches u db session table only old new
+Handles u (Ok (asks.Update table sets only)) db session reply old new = Touches u db session table only reply old new
+Handles u (Ok (asks.Delete table only)) db session reply old new = Touches u db session table only reply old new
 Handles u (Ok (asks.Show name)) db session reply old new =
     TellsPlan (open_named old.opens session name) db.schema.indexes old.opens reply × (new ≡ old)
 Handles u (Ok asks.Commit) db session reply old new = new ≡ record old { opens = ended_by reply session old.opens }

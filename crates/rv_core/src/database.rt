@@ -10,10 +10,10 @@ ghost use Rattle.rv_core.specs.declared.settings.Settings.{Settings};
 ghost use Rattle.rv_core.specs.Core.{horizon_of};
 ghost use Rattle.rv_core.specs.Db.{open_named};
 ghost use Rattle.rv_core.specs.Doing.{Does, Fetches, PartIs, Shows, StepsOn};
-ghost use Rattle.rv_core.specs.Obeying.{AnyOf, FetchOf, MayAsk, MovesNamed, OpensPlan, SeesSame, StepsTold, TellsPlan, TurnOf, closed_in, ended_by, plans_of, under};
+ghost use Rattle.rv_core.specs.Obeying.{AnyOf, FetchOf, FindsRows, MayAsk, MovesNamed, OpensPlan, SeesSame, StepsTold, TellsPlan, TurnOf, closed_in, ended_by, plans_of, under};
 ghost use Rattle.rv_core.specs.Pieces.{GivesTo, KeepsSettled, TakesNext, TriesNext, next_waiting, numbered};
 ghost use Rattle.rv_lang.specs.declared.reply.Refusal.{Refusal as TheRefusal};
-ghost use Rattle.rv_lang.specs.declared.reply.Reply.TheVariants.{Opened, Refused};
+ghost use Rattle.rv_lang.specs.declared.reply.Reply.TheVariants.{Opened, Refused, Touched};
 
 use crate::cursors::{
     close_all, close_at, cursor_named, fetch_at, fetch_step_at, opening, plan_cursor, step_at,
@@ -249,6 +249,7 @@ impl<S: Store + Reader<Ledger = Uncounted> + Drop> Database<S> {
         ensures opens { self.new.opens ≡ self.old.opens }
         ensures rules { would judge.new ≡ would judge.old }
         ensures asks { (state judge.new ≡ state judge.old) ⊎ MayAsk (would judge.old) (state judge.old) (state judge.new) (S.shown self.old.store) self.old.stand.db.schema.indexes self.old.stand.db.transactions.active session table only.now }
+        ensures found { IfOk result (λ replies. (count : ℕ) → replies.0 ≡ Touched count → FindsRows (would judge.old) (state judge.old) (state judge.new) (S.shown self.old.store) self.old.stand.db.schema.indexes self.old.stand.db.transactions.active session table only.now) }
     {
         let count = match change_rows(
             self.alloc,

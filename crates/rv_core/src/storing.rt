@@ -13,7 +13,7 @@ ghost use Rattle.rv_snapshot.specs.Alone.{alone};
 ghost use Rattle.rv_choice.specs.Asked.{CanAsk};
 ghost use Rattle.rv_final.specs.Rest.{qualifying};
 ghost use Rattle.rv_retrieval.specs.Short.{has_short};
-ghost use Rattle.rv_search.specs.Searching.{Ran, search_of};
+ghost use Rattle.rv_search.specs.Searching.{Ran, RanFetched, search_of};
 ghost use Rattle.rv_join.specs.Asking.{indexes_from};
 ghost use Rattle.rv_cursor.specs.Left.{seen_at};
 ghost use Rattle.rv_model.specs.Database.{no_index};
@@ -22,7 +22,7 @@ ghost use Rattle.rv_rows.specs.declared.changes.Change.{Change as OneChange};
 ghost use Rattle.rv_rows.specs.Changes.{Rise};
 ghost use Rattle.rv_own.specs.Views.{AreViews, CanKeep, Freezes};
 ghost use Rattle.rv_core.specs.Db.{IsTied, db_of};
-ghost use Rattle.rv_core.specs.Obeying.{IsLong, MayAsk};
+ghost use Rattle.rv_core.specs.Obeying.{FindsRows, HasSearched, IsLong, MayAsk};
 ghost use Rattle.rv_model.specs.Step.{row_alone, rows_alone};
 ghost use Rattle.rv_core.specs.Storing.{CommitsTo, changed_alone, changed_over, inserted_alone, lone_over};
 
@@ -254,6 +254,7 @@ fn rows_seen<R: Reader>(
     ensures stays { would judge.new ≡ would judge.old }
     ensures ran { (state judge.new ≡ state judge.old) ⊎ Ran (would judge.old) (state judge.old) (state judge.new) (seen_at (R.shown reader.now) snap view.now) (search_of table snap only.now indexes) }
     ensures unasked { has_short (search_of table snap only.now indexes) (seen_at (R.shown reader.now) snap view.now) ≡ true → state judge.new ≡ state judge.old }
+    ensures fetched { IfOk result (λ rows. RanFetched (length rows.items) (would judge.old) (state judge.old) (state judge.new) (seen_at (R.shown reader.now) snap view.now) steps.old steps.new (search_of table snap only.now indexes)) }
 {
     let at = Snapshot { reader, snap };
     found_rows(
@@ -294,6 +295,7 @@ fn searched_rows<S: Store + Reader<Ledger = Uncounted>>(
     ensures views { AreViews (S.shown store.now) txns.now.active views.new }
     ensures stays { would judge.new ≡ would judge.old }
     ensures asks { (state judge.new ≡ state judge.old) ⊎ IsLong (would judge.old) (state judge.old) (state judge.new) (S.shown store.now) own.now table only.now indexes }
+    ensures searched { IfOk result (λ rows. HasSearched (would judge.old) (state judge.old) (state judge.new) (S.shown store.now) own.now table only.now indexes) }
 {
     // What a store tells with its newest commit holds of all its rows.
     let _newest = store.last();
@@ -328,6 +330,7 @@ fn met_by<S: Store + Reader<Ledger = Uncounted>>(
     ensures views { AreViews (S.shown store.now) txns.now.active views.new }
     ensures stays { would judge.new ≡ would judge.old }
     ensures asks { (state judge.new ≡ state judge.old) ⊎ MayAsk (would judge.old) (state judge.old) (state judge.new) (S.shown store.now) catalog.now.indexes txns.now.active session table only.now }
+    ensures found { IfOk result (λ rows. FindsRows (would judge.old) (state judge.old) (state judge.new) (S.shown store.now) catalog.now.indexes txns.now.active session table only.now) }
 {
     // What a store tells with its newest commit holds of its indexes.
     let _newest = store.last();
@@ -365,6 +368,7 @@ fn due_changes<S: Store + Reader<Ledger = Uncounted>>(
     ensures views { AreViews (S.shown store.now) txns.now.active views.new }
     ensures stays { would judge.new ≡ would judge.old }
     ensures asks { (state judge.new ≡ state judge.old) ⊎ MayAsk (would judge.old) (state judge.old) (state judge.new) (S.shown store.now) catalog.now.indexes txns.now.active session table only.now }
+    ensures found { IfOk result (λ new. FindsRows (would judge.old) (state judge.old) (state judge.new) (S.shown store.now) catalog.now.indexes txns.now.active session table only.now) }
 {
     let own = match txns.writing(session) {
         Ok(own) => own,
@@ -405,6 +409,7 @@ pub fn change_rows<S: Store + Reader<Ledger = Uncounted>>(
     ensures views { AreViews (S.shown store.now) txns.new.active views.new }
     ensures stays { would judge.new ≡ would judge.old }
     ensures asks { (state judge.new ≡ state judge.old) ⊎ MayAsk (would judge.old) (state judge.old) (state judge.new) (S.shown store.now) catalog.now.indexes txns.old.active session table only.now }
+    ensures found { IfOk result (λ count. FindsRows (would judge.old) (state judge.old) (state judge.new) (S.shown store.now) catalog.now.indexes txns.old.active session table only.now) }
 {
     // What a store tells with its newest commit holds of all its rows.
     let _newest = store.last();

@@ -51,3 +51,6 @@ returns-in-Ok-put_changes-clause-views g c = put_these (g.S.Reader.shown c.args.
 
 pub returns-in-Err-put_changes-clause-views : goal.returns-in-Err-put_changes-clause-views
 returns-in-Err-put_changes-clause-views g c = put_back (g.S.Reader.shown c.args.store.now) c.args.txns.now c.put_changes.new.self c.args.session c.as_slice-2.result.now c.keep_up.new.views c.let_go.new.self c.in-Err-put_changes.ensures.err c.let_go.ensures c.keep_up.ensures
+
+pub returns-in-Ok-put_changes-clause-found : goal.returns-in-Ok-put_changes-clause-found
+returns-in-Ok-put_changes-clause-found g c = c.in-Ok.ensures.found

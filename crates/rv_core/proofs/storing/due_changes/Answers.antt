@@ -1,7 +1,7 @@
 use Rattle.std.proofs.Common.{inl, refl}
 use Rattle.std.specs.Option.{option_copied}
 use Rattle.rv_txn.proofs.Halving.{changing_unwritten}
-use Rattle.rv_core.proofs.Facts.{if_err, if_ok}
+use Rattle.rv_core.proofs.Facts.{any_ok, if_err, if_ok}
 use Rattle.rv_core.proofs.Putting.{found_due, found_fault}
 use Rattle.rv_core.proofs.storing.due_changes.Goals as goal
 
@@ -28,3 +28,6 @@ returns-clause-fault g c =
 
 pub returns-clause-asks : goal.returns-clause-asks
 returns-clause-asks g c = c.met_by.ensures.asks
+
+pub returns-clause-found : goal.returns-clause-found
+returns-clause-found g c = any_ok c.changing_found.result _ (λ new. c.in-Ok-met_by.ensures.found)

@@ -2,7 +2,7 @@ use Rattle.std.proofs.Common.{ℕ, ◌∙◌, List, inl, refl, subst, sym}
 use Rattle.rv_choice.specs.Asked.{CanAsk}
 use Rattle.rv_search.specs.Searching.{search_of}
 use Rattle.rv_cursor.specs.Left.{seen_at}
-use Rattle.rv_core.proofs.Searching.{asks_long, can_met, can_search, search_freezes, search_viewed, view_met}
+use Rattle.rv_core.proofs.Searching.{asks_long, has_searched, can_met, can_search, search_freezes, search_viewed, view_met}
 use Rattle.rv_core.proofs.Viewing.{lays_some}
 use Rattle.rv_core.proofs.storing.searched_rows.Goals as goal
 
@@ -43,3 +43,9 @@ returns-clause-asks g c =
     let shown = g.S.Reader.shown c.args.store.now in
     let own = c.args.own.now in
     asks_long _ shown own c.args.table c.args.only.now c.args.indexes c.in_ok-view.view _ _ (search_freezes shown c.args.txns.now c.args.session own c.in_ok-view.view c.requires.writes c.in_ok-view.ensures.freezes) c.rows_seen.ensures.ran c.rows_seen.ensures.unasked
+
+pub returns-clause-searched : goal.returns-clause-searched
+returns-clause-searched g c =
+    let shown = g.S.Reader.shown c.args.store.now in
+    let own = c.args.own.now in
+    has_searched _ _ _ shown own c.args.table c.args.only.now c.args.indexes c.in_ok-view.view _ _ _ c.new-steps.ensures (search_freezes shown c.args.txns.now c.args.session own c.in_ok-view.view c.requires.writes c.in_ok-view.ensures.freezes) c.in_ok-rows.ensures.fetched

@@ -5,6 +5,7 @@ use Rattle.rv_core.proofs.Standing.{db_changed}
 use Rattle.rv_core.proofs.Facts.{if_ok}
 use Rattle.rv_core.proofs.Indexing.{refused_does}
 use Rattle.rv_core.proofs.Putting.{change_refused}
+use Rattle.rv_core.proofs.Searching.{touches_none}
 use Rattle.rv_core.specs.Db.{seen, stand_of}
 use Rattle.rv_core.specs.Storing.{changed_alone}
 use Rattle.rv_core.proofs.database.Database.change.Goals as goal
@@ -38,3 +39,9 @@ returns-in-Err-NoMemory-clause-asks g c = rw (← c.self.view_is) c.change_rows.
 
 pub returns-clause-asks : goal.returns-clause-asks
 returns-clause-asks g c = rw (← c.self.view_is) c.change_rows.ensures.asks
+
+pub returns-clause-found : goal.returns-clause-found
+returns-clause-found g c = rw (← c.self.view_is) (λ count touched. c.in-Ok.ensures.found)
+
+pub returns-in-Err-Refused-clause-found : goal.returns-in-Err-Refused-clause-found
+returns-in-Err-Refused-clause-found g c = if_ok c.refused.result _ _ (λ replies k. touches_none c.in-Err-Refused.refusal replies k.0) c.refused.ensures
