@@ -49,27 +49,31 @@ fn left<S: Store + Reader<Ledger = Uncounted> + Drop>(core: &mut Core<S>) -> Res
     Ok(100)
 }
 
-/// The piece that the core hands out.
-fn taken<S: Store + Reader<Ledger = Uncounted> + Drop>(
+/// Puts the piece that the core hands out behind those that are out; whether there is one.
+fn take<S: Store + Reader<Ledger = Uncounted> + Drop>(
     core: &mut Core<S>,
-) -> Result<Option<Piece>, NoMemory> {
+    out: &mut Vec<Piece>,
+) -> Result<bool, NoMemory> {
     let mut steps = Steps::new(Uncounted);
     match core.take_piece(0, &mut steps)? {
-        Taken::Piece(piece) => Ok(Some(piece)),
-        Taken::Nothing => Ok(None),
+        Taken::Piece(piece) => {
+            out.push(piece)?;
+            Ok(true)
+        }
+        Taken::Nothing => Ok(false),
     }
 }
 
-/// What is answered to a piece, sieved.
-fn given<S: Store + Reader<Ledger = Uncounted> + Drop>(
+/// What is answered to the piece that has been out longest, sieved.
+fn give<S: Store + Reader<Ledger = Uncounted> + Drop>(
     core: &mut Core<S>,
-    piece: Option<Piece>,
+    out: &mut Vec<Piece>,
 ) -> Result<Option<Given>, NoMemory> {
-    let Some(piece) = piece else {
+    if out.is_empty() {
         return Ok(None);
-    };
+    }
     let mut steps = Steps::new(Uncounted);
-    let answer = core.give_piece(sieve(piece), &mut steps)?;
+    let answer = core.give_piece(sieve(out.remove(0)), &mut steps)?;
     Ok(Some(answer))
 }
 
@@ -94,18 +98,17 @@ fn late<S: Store + Reader<Ledger = Uncounted> + Drop>(
     alloc: Global,
     core: &mut Core<S>,
 ) -> Result<bool, NoMemory> {
+    let mut out = Vec::new(alloc);
     open(alloc, core)?;
-    let first = taken(core)?;
-    let second = taken(core)?;
-    let third = taken(core)?;
-    let accepted = given(core, first)? == Some(Given::Accepted);
-    let again = given(core, second)? == stale(Some(id(1, 1, 2)));
+    let all = take(core, &mut out)? && take(core, &mut out)? && take(core, &mut out)?;
+    let accepted = give(core, &mut out)? == Some(Given::Accepted);
+    let again = give(core, &mut out)? == stale(Some(id(1, 1, 2)));
     let rows = left(core)? == 20;
     make(core, "CLOSE C")?;
     reopen(core)?;
-    let gone = given(core, third)? == stale(None);
-    let next = taken(core)?.is_some_and(|piece| piece.id() == id(2, 1, 1));
-    Ok(accepted && again && rows && gone && next)
+    let gone = give(core, &mut out)? == stale(None);
+    let next = take(core, &mut out)? && out.first().is_some_and(|piece| piece.id() == id(2, 1, 1));
+    Ok(all && accepted && again && rows && gone && next)
 }
 
 #[test]
@@ -123,10 +126,11 @@ fn ended<S: Store + Reader<Ledger = Uncounted> + Drop>(
     core: &mut Core<S>,
     text: &str,
 ) -> Result<bool, NoMemory> {
+    let mut out = Vec::new(alloc);
     open(alloc, core)?;
-    let piece = taken(core)?;
+    let taken = take(core, &mut out)?;
     make(core, text)?;
-    Ok(given(core, piece)? == stale(None))
+    Ok(taken && give(core, &mut out)? == stale(None))
 }
 
 /// Whether it is stale then.
@@ -150,14 +154,15 @@ fn dropped<S: Store + Reader<Ledger = Uncounted> + Drop>(
     alloc: Global,
     core: &mut Core<S>,
 ) -> Result<bool, NoMemory> {
+    let mut out = Vec::new(alloc);
     open(alloc, core)?;
-    let piece = taken(core)?;
+    let taken = take(core, &mut out)?;
     make(core, "FETCH C")?;
     let first = ends_with(alloc, core.history(), 1, "2 FETCH C\n= row 10, 0\n")?;
-    let late = given(core, piece)? == stale(None);
-    let none = taken(core)?.is_none();
+    let late = give(core, &mut out)? == stale(None);
+    let none = !take(core, &mut out)?;
     let rows = left(core)? == 19;
-    Ok(first && late && none && rows)
+    Ok(taken && first && late && none && rows)
 }
 
 #[test]
@@ -176,15 +181,16 @@ fn elsewhere<S: Store + Reader<Ledger = Uncounted> + Drop>(
     here: &mut Core<S>,
     there: &mut Core<S>,
 ) -> Result<bool, NoMemory> {
+    let mut out = Vec::new(alloc);
+    let mut own = Vec::new(alloc);
     open(alloc, here)?;
     open(alloc, there)?;
-    let first = taken(here)?;
-    let second = taken(here)?;
-    let early = given(there, first)? == stale(Some(id(1, 1, 1)));
-    let own = taken(there)?.is_some();
-    let accepted = given(there, second)? == Some(Given::Accepted);
+    let two = take(here, &mut out)? && take(here, &mut out)?;
+    let early = give(there, &mut out)? == stale(Some(id(1, 1, 1)));
+    let taken = take(there, &mut own)?;
+    let accepted = give(there, &mut out)? == Some(Given::Accepted);
     let rows = left(there)? == 20;
-    Ok(early && own && accepted && rows)
+    Ok(two && early && taken && accepted && rows)
 }
 
 /// Whether they are taken so.
