@@ -1,5 +1,7 @@
 -- What the calls of an access leave, by its kinds.
-use Rattle.std.proofs.Common.{◌≤◌, arith, ap, ◌≡◌, ℕ, Some, None, Result, Ok, Err, IfOk, OnErr, refl, sym, ◌∙◌, subst}
+use Rattle.std.proofs.Common.{◌≤◌, arith, ap, ◌≡◌, ℕ, Some, None, Result, Ok, Err, IfOk, OnErr, Box, refl, sym, ◌∙◌, subst}
+use Rattle.std.specs.Box.{with_value}
+use Rattle.std.specs.declared.alloc.Global.{Global}
 use Rattle.rv_judge.specs.declared.counting.Counts.{Counts}
 use Rattle.rv_judge.specs.declared.judging.Facts.{Facts}
 use Rattle.rv_judge.specs.Runs.{Allowed}
@@ -33,9 +35,10 @@ use Rattle.rv_access.specs.declared.access.Access.TheVariants.{Competing, Racing
 use Rattle.rv_access.specs.declared.racing.RacedQuery.{RacedQuery}
 use Rattle.rv_access.specs.declared.uniting.UnitedQuery.{UnitedQuery}
 use Rattle.rv_access.specs.Accesses.{Keeps, SamePlans, Tells, query_of, trace_of}
-use Rattle.rv_access.specs.Given.{Answers, AwaitsPiece, CountsPiece, IsOfUndropped, RacedGives, TakesPiece, UnitedGives, awaited, piece_read}
+use Rattle.rv_access.specs.Given.{Answers, AwaitsPiece, CountsPiece, IsOfUndropped, RacedGives, SamePieces, TakesPiece, UnitedGives, awaited, piece_read}
 use Rattle.rv_access.specs.Stepping.{GivesStep, RacedGivesStep, SameCourse, SettledTake, StepsAs, UnitedGivesStep}
-use Rattle.rv_access.proofs.Shapes.{ShapePlans, course_plans as shape_course, given_number as shape_number, given_plans as shape_given, none_read as shape_none, piece_awaited as shape_awaited, settled_back, settled_fetches, settled_joint, steps_plans as shape_steps}
+use Rattle.rv_access.proofs.Boxes.{with_race, with_retrieval, with_union}
+use Rattle.rv_access.proofs.Shapes.{ShapePlans, course_plans as shape_course, given_number as shape_number, given_plans as shape_given, none_read as shape_none, piece_awaited as shape_awaited, plans_stay as shape_stays, settled_back, settled_fetches, settled_joint, steps_plans as shape_steps, take_plans, take_same}
 use Rattle.rv_access.proofs.OfRaces.{given_number as race_number, given_plans as race_given, none_awaited, none_read as race_none, piece_awaited as race_awaited, steps_plans as race_steps, wider}
 use Rattle.rv_access.proofs.OfUnions.{given_number as union_number, given_plans as union_given, none_awaited as union_none, none_read as union_unread, piece_awaited as union_awaited, steps_plans as union_steps}
 
@@ -47,8 +50,11 @@ plans_then u v w first then = record { query = then.query ∙ first.query; strat
 pub plans_stay : (a : Access) → SamePlans a a
 plans_stay a = record { query = refl; strategy = refl; plans = refl }
 
+boxed_plans : (v w : Box Shape Global) → ShapePlans v.value w.value → SamePlans (Competing v) (Competing w)
+boxed_plans v w same = record { query = same.query; strategy = same.strategy; plans = same.plans }
+
 pub steps_plans : (would : ℕ → Facts → Ruling) (state after : ℕ) (shown : Shown) (c d : Counts) (fg : Fg) (old new : Access) → StepsAs would state after shown c d fg old new → SamePlans old new
-steps_plans would state after shown c d fg (Competing v) (Competing w) steps = shape_steps would state after shown c d fg v w steps
+steps_plans would state after shown c d fg (Competing v) (Competing w) steps = boxed_plans v w (shape_steps would state after shown c d fg v.value w.value steps)
 steps_plans would state after shown c d fg (Competing v) (Racing s) steps = absurd steps
 steps_plans would state after shown c d fg (Racing r) (Competing w) steps = absurd steps
 steps_plans would state after shown c d fg (Racing r) (Racing s) steps = race_steps would state after shown c d fg r s steps
@@ -59,7 +65,7 @@ steps_plans would state after shown c d fg (Uniting u) (Racing s) steps = absurd
 steps_plans would state after shown c d fg (Uniting u) (Uniting s) steps = union_steps would state after shown c d fg u s steps
 
 pub course_plans : (old new : Access) → SameCourse old new → SamePlans old new
-course_plans (Competing v) (Competing w) same = shape_course v w same
+course_plans (Competing v) (Competing w) same = boxed_plans v w (shape_course v.value w.value same)
 course_plans (Competing v) (Racing s) same = absurd same
 course_plans (Racing r) (Competing w) same = absurd same
 course_plans (Racing r) (Racing s) same = record { query = same.query; strategy = refl; plans = same.plans }
@@ -75,112 +81,122 @@ pub retrieval_number : {E : Type 0} (r : Result Given E) (would : ℕ → Facts 
 retrieval_number (Ok g) would state after piece old new gives = shape_number would state after piece g old new gives
 retrieval_number (Err x) would state after piece old new gives = tt
 
-pub retrieval_plans : {E : Type 0} (r : Result Given E) (would : ℕ → Facts → Ruling) (state after : ℕ) (piece : Pieced) (old new : Shape) → IfOk r (λ g. RetrievalGives would state after piece g old new) → OnErr r (new ≡ old) → ShapePlans old new
-retrieval_plans (Ok g) would state after piece old new gives e = shape_given would state after piece g old new gives
-retrieval_plans (Err x) would state after piece old new gives e = subst (ShapePlans old) (sym e) (plans_stay (Competing old))
+pub retrieval_plans : {E : Type 0} (r : Result Given E) (would : ℕ → Facts → Ruling) (state after : ℕ) (piece : Pieced) (b : Box Shape Global) (old new : Shape) → IfOk r (λ g. RetrievalGives would state after piece g old new) → OnErr r (new ≡ old) → SamePlans (with_retrieval b old) (with_retrieval b new)
+retrieval_plans (Ok g) would state after piece b old new gives e = boxed_plans (with_value b old) (with_value b new) (shape_given would state after piece g old new gives)
+retrieval_plans (Err x) would state after piece b old new gives e = boxed_plans (with_value b old) (with_value b new) (subst (ShapePlans old) (sym e) (shape_stays old))
 
 pub raced_number : {E : Type 0} (r : Result Given E) (would : ℕ → Facts → Ruling) (state after : ℕ) (piece : Pieced) (old new : RacedQuery) → IfOk r (λ g. RacedGives would state after piece g old new) → IfOk r (λ g. CountsPiece g old.race.number new.race.number)
 raced_number (Ok g) would state after piece old new gives = race_number would state after piece g old new gives
 raced_number (Err x) would state after piece old new gives = tt
 
-pub raced_plans : {E : Type 0} (r : Result Given E) (would : ℕ → Facts → Ruling) (state after : ℕ) (piece : Pieced) (old new : RacedQuery) → IfOk r (λ g. RacedGives would state after piece g old new) → OnErr r (new ≡ old) → SamePlans (Racing old) (Racing new)
-raced_plans (Ok g) would state after piece old new gives e = race_given would state after piece g old new gives
-raced_plans (Err x) would state after piece old new gives e = subst (λ (r : RacedQuery). SamePlans (Racing old) (Racing r)) (sym e) (plans_stay (Racing old))
+pub raced_plans : {E : Type 0} (r : Result Given E) (would : ℕ → Facts → Ruling) (state after : ℕ) (piece : Pieced) (b : Box RacedQuery Global) (old new : RacedQuery) → IfOk r (λ g. RacedGives would state after piece g old new) → OnErr r (new ≡ old) → SamePlans (with_race b old) (with_race b new)
+raced_plans (Ok g) would state after piece b old new gives e = race_given would state after piece g (with_value b old) (with_value b new) gives
+raced_plans (Err x) would state after piece b old new gives e = subst (λ (r : RacedQuery). SamePlans (with_race b old) (with_race b r)) (sym e) (plans_stay (with_race b old))
 
 pub united_number : {E : Type 0} (r : Result Given E) (would : ℕ → Facts → Ruling) (state after : ℕ) (piece : Pieced) (old new : UnitedQuery) → IfOk r (λ g. UnitedGives would state after piece g old new) → IfOk r (λ g. CountsPiece g old.union.number new.union.number)
 united_number (Ok g) would state after piece old new gives = union_number would state after piece g old new gives
 united_number (Err x) would state after piece old new gives = tt
 
-pub united_plans : {E : Type 0} (r : Result Given E) (would : ℕ → Facts → Ruling) (state after : ℕ) (piece : Pieced) (old new : UnitedQuery) → IfOk r (λ g. UnitedGives would state after piece g old new) → OnErr r (new ≡ old) → SamePlans (Uniting old) (Uniting new)
-united_plans (Ok g) would state after piece old new gives e = union_given would state after piece g old new gives
-united_plans (Err x) would state after piece old new gives e = subst (λ (u : UnitedQuery). SamePlans (Uniting old) (Uniting u)) (sym e) (plans_stay (Uniting old))
+pub united_plans : {E : Type 0} (r : Result Given E) (would : ℕ → Facts → Ruling) (state after : ℕ) (piece : Pieced) (b : Box UnitedQuery Global) (old new : UnitedQuery) → IfOk r (λ g. UnitedGives would state after piece g old new) → OnErr r (new ≡ old) → SamePlans (with_union b old) (with_union b new)
+united_plans (Ok g) would state after piece b old new gives e = union_given would state after piece g (with_value b old) (with_value b new) gives
+united_plans (Err x) would state after piece b old new gives e = subst (λ (u : UnitedQuery). SamePlans (with_union b old) (with_union b u)) (sym e) (plans_stay (with_union b old))
 
 -- WHAT THE CALLS ANSWER, in the words of accesses
 
-pub retrieval_gives : {E : Type 0} (r : Result Fg E) (v w : Shape) (shown : Shown) → IfOk r (RetrievalGivesStep v w shown) → IfOk r (GivesStep (Competing v) (Competing w) shown)
-retrieval_gives (Ok (Row x)) v w shown gives = gives
-retrieval_gives (Ok Working) v w shown gives = gives
-retrieval_gives (Ok End) v w shown gives = gives
-retrieval_gives (Err x) v w shown gives = tt
+pub retrieval_gives : {E : Type 0} (r : Result Fg E) (b : Box Shape Global) (v w : Shape) (shown : Shown) → IfOk r (RetrievalGivesStep v w shown) → IfOk r (GivesStep (with_retrieval b v) (with_retrieval b w) shown)
+retrieval_gives (Ok (Row x)) b v w shown gives = gives
+retrieval_gives (Ok Working) b v w shown gives = gives
+retrieval_gives (Ok End) b v w shown gives = gives
+retrieval_gives (Err x) b v w shown gives = tt
 
-pub race_gives : {E : Type 0} (r : Result Fg E) (old new : RacedQuery) (shown : Shown) → IfOk r (RacedGivesStep old new shown) → IfOk r (GivesStep (Racing old) (Racing new) shown)
-race_gives (Ok (Row x)) old new shown gives = gives
-race_gives (Ok Working) old new shown gives = gives
-race_gives (Ok End) old new shown gives = gives
-race_gives (Err x) old new shown gives = tt
+pub race_gives : {E : Type 0} (r : Result Fg E) (b : Box RacedQuery Global) (old new : RacedQuery) (shown : Shown) → IfOk r (RacedGivesStep old new shown) → IfOk r (GivesStep (with_race b old) (with_race b new) shown)
+race_gives (Ok (Row x)) b old new shown gives = gives
+race_gives (Ok Working) b old new shown gives = gives
+race_gives (Ok End) b old new shown gives = gives
+race_gives (Err x) b old new shown gives = tt
 
-pub union_gives : {E : Type 0} (r : Result Fg E) (old new : UnitedQuery) (shown : Shown) → IfOk r (UnitedGivesStep old new shown) → IfOk r (GivesStep (Uniting old) (Uniting new) shown)
-union_gives (Ok (Row x)) old new shown gives = gives
-union_gives (Ok Working) old new shown gives = gives
-union_gives (Ok End) old new shown gives = gives
-union_gives (Err x) old new shown gives = tt
+pub union_gives : {E : Type 0} (r : Result Fg E) (b : Box UnitedQuery Global) (old new : UnitedQuery) (shown : Shown) → IfOk r (UnitedGivesStep old new shown) → IfOk r (GivesStep (with_union b old) (with_union b new) shown)
+union_gives (Ok (Row x)) b old new shown gives = gives
+union_gives (Ok Working) b old new shown gives = gives
+union_gives (Ok End) b old new shown gives = gives
+union_gives (Err x) b old new shown gives = tt
 
-pub retrieval_takes : {E : Type 0} (r : Result Taken E) (v : Shape) → IfOk r (RetrievalTakesPiece v) → IfOk r (TakesPiece (Competing v))
-retrieval_takes (Ok (Piece piece)) v takes = takes
-retrieval_takes (Ok Nothing) v takes = takes
-retrieval_takes (Err x) v takes = tt
+pub retrieval_takes : {E : Type 0} (r : Result Taken E) (b : Box Shape Global) (v : Shape) → IfOk r (RetrievalTakesPiece v) → IfOk r (TakesPiece (with_retrieval b v))
+retrieval_takes (Ok (Piece piece)) b v takes = takes
+retrieval_takes (Ok Nothing) b v takes = takes
+retrieval_takes (Err x) b v takes = tt
 
-pub race_takes : {E : Type 0} (r : Result Taken E) (q : RacedQuery) → IfOk r (RaceTakesPiece q.race) → IfOk r (TakesPiece (Racing q))
-race_takes (Ok (Piece piece)) q takes = takes
-race_takes (Ok Nothing) q takes = none_awaited q.race takes
-race_takes (Err x) q takes = tt
+pub race_takes : {E : Type 0} (r : Result Taken E) (b : Box RacedQuery Global) (q : RacedQuery) → IfOk r (RaceTakesPiece q.race) → IfOk r (TakesPiece (with_race b q))
+race_takes (Ok (Piece piece)) b q takes = takes
+race_takes (Ok Nothing) b q takes = none_awaited q.race takes
+race_takes (Err x) b q takes = tt
 
-pub union_takes : {E : Type 0} (r : Result Taken E) (q : UnitedQuery) → IfOk r (UnionTakesPiece q.union) → IfOk r (TakesPiece (Uniting q))
-union_takes (Ok (Piece piece)) q takes = takes
-union_takes (Ok Nothing) q takes = union_none q.union takes
-union_takes (Err x) q takes = tt
+pub union_takes : {E : Type 0} (r : Result Taken E) (b : Box UnitedQuery Global) (q : UnitedQuery) → IfOk r (UnionTakesPiece q.union) → IfOk r (TakesPiece (with_union b q))
+union_takes (Ok (Piece piece)) b q takes = takes
+union_takes (Ok Nothing) b q takes = union_none q.union takes
+union_takes (Err x) b q takes = tt
 
-pub retrieval_undropped : {E : Type 0} (r : Result Taken E) (v : Shape) → IfOk r (RetrievalUndropped v) → IfOk r (IsOfUndropped (Competing v))
-retrieval_undropped (Ok taken) v undropped = undropped
-retrieval_undropped (Err x) v undropped = tt
+pub retrieval_undropped : {E : Type 0} (r : Result Taken E) (b : Box Shape Global) (v : Shape) → IfOk r (RetrievalUndropped v) → IfOk r (IsOfUndropped (with_retrieval b v))
+retrieval_undropped (Ok taken) b v undropped = undropped
+retrieval_undropped (Err x) b v undropped = tt
 
-pub race_undropped : {E : Type 0} (r : Result Taken E) (q : RacedQuery) → IfOk r (RaceUndropped q.race) → IfOk r (IsOfUndropped (Racing q))
-race_undropped (Ok taken) q undropped = undropped
-race_undropped (Err x) q undropped = tt
+pub race_undropped : {E : Type 0} (r : Result Taken E) (b : Box RacedQuery Global) (q : RacedQuery) → IfOk r (RaceUndropped q.race) → IfOk r (IsOfUndropped (with_race b q))
+race_undropped (Ok taken) b q undropped = undropped
+race_undropped (Err x) b q undropped = tt
 
-pub union_undropped : {E : Type 0} (r : Result Taken E) (q : UnitedQuery) → IfOk r (UnionUndropped q.union) → IfOk r (IsOfUndropped (Uniting q))
-union_undropped (Ok taken) q undropped = undropped
-union_undropped (Err x) q undropped = tt
+pub union_undropped : {E : Type 0} (r : Result Taken E) (b : Box UnitedQuery Global) (q : UnitedQuery) → IfOk r (UnionUndropped q.union) → IfOk r (IsOfUndropped (with_union b q))
+union_undropped (Ok taken) b q undropped = undropped
+union_undropped (Err x) b q undropped = tt
 
-pub retrieval_answers : {E : Type 0} (r : Result Given E) (v w : Shape) (piece : Pieced) → IfOk r (λ g. RetrievalAnswers v piece g w) → IfOk r (λ g. Answers (Competing v) piece g (Competing w))
-retrieval_answers (Ok Accepted) v w piece answers = answers
-retrieval_answers (Ok (Stale asked now)) v w piece answers = (answers.0, answers.1, answers.2, ap Competing answers.3)
-retrieval_answers (Err x) v w piece answers = tt
+pub retrieval_answers : {E : Type 0} (r : Result Given E) (b : Box Shape Global) (v w : Shape) (piece : Pieced) → IfOk r (λ g. RetrievalAnswers v piece g w) → IfOk r (λ g. Answers (with_retrieval b v) piece g (with_retrieval b w))
+retrieval_answers (Ok Accepted) b v w piece answers = answers
+retrieval_answers (Ok (Stale asked now)) b v w piece answers = (answers.0, answers.1, answers.2, ap (with_retrieval b) answers.3)
+retrieval_answers (Err x) b v w piece answers = tt
 
-pub race_answers : {E : Type 0} (r : Result Given E) (old new : RacedQuery) (piece : Pieced) → new ≡ record old { race = new.race } → IfOk r (λ g. RaceAnswers old.race piece g new.race) → IfOk r (λ g. Answers (Racing old) piece g (Racing new))
-race_answers (Ok Accepted) old new piece same answers = answers
-race_answers (Ok (Stale asked now)) old new piece same answers = (answers.0, answers.1, answers.2, ap Racing (same ∙ ap (λ (race : Raced). record old { race = race }) answers.3))
-race_answers (Err x) old new piece same answers = tt
+pub race_answers : {E : Type 0} (r : Result Given E) (b : Box RacedQuery Global) (old new : RacedQuery) (piece : Pieced) → new ≡ record old { race = new.race } → IfOk r (λ g. RaceAnswers old.race piece g new.race) → IfOk r (λ g. Answers (with_race b old) piece g (with_race b new))
+race_answers (Ok Accepted) b old new piece same answers = answers
+race_answers (Ok (Stale asked now)) b old new piece same answers = (answers.0, answers.1, answers.2, ap (with_race b) (same ∙ ap (λ (race : Raced). record old { race = race }) answers.3))
+race_answers (Err x) b old new piece same answers = tt
 
-pub union_answers : {E : Type 0} (r : Result Given E) (old new : UnitedQuery) (piece : Pieced) → new ≡ record old { union = new.union } → IfOk r (λ g. UnionAnswers old.union piece g new.union) → IfOk r (λ g. Answers (Uniting old) piece g (Uniting new))
-union_answers (Ok Accepted) old new piece same answers = answers
-union_answers (Ok (Stale asked now)) old new piece same answers = (answers.0, answers.1, answers.2, ap Uniting (same ∙ ap (λ (union : Unioned). record old { union = union }) answers.3))
-union_answers (Err x) old new piece same answers = tt
+pub union_answers : {E : Type 0} (r : Result Given E) (b : Box UnitedQuery Global) (old new : UnitedQuery) (piece : Pieced) → new ≡ record old { union = new.union } → IfOk r (λ g. UnionAnswers old.union piece g new.union) → IfOk r (λ g. Answers (with_union b old) piece g (with_union b new))
+union_answers (Ok Accepted) b old new piece same answers = answers
+union_answers (Ok (Stale asked now)) b old new piece same answers = (answers.0, answers.1, answers.2, ap (with_union b) (same ∙ ap (λ (union : Unioned). record old { union = union }) answers.3))
+union_answers (Err x) b old new piece same answers = tt
 
-pub same_retrieval : {X E : Type 0} (r : Result X E) (v w : Shape) → OnErr r (w ≡ v) → OnErr r (Competing w ≡ Competing v)
-same_retrieval (Ok x) v w e = tt
-same_retrieval (Err x) v w e = ap Competing e
+pub same_retrieval : {X E : Type 0} (r : Result X E) (b : Box Shape Global) (v w : Shape) → OnErr r (w ≡ v) → OnErr r (with_retrieval b w ≡ with_retrieval b v)
+same_retrieval (Ok x) b v w e = tt
+same_retrieval (Err x) b v w e = ap (with_retrieval b) e
 
-pub same_race : {X E : Type 0} (r : Result X E) (old new : RacedQuery) → OnErr r (new ≡ old) → OnErr r (Racing new ≡ Racing old)
-same_race (Ok x) old new e = tt
-same_race (Err x) old new e = ap Racing e
+pub same_race : {X E : Type 0} (r : Result X E) (b : Box RacedQuery Global) (old new : RacedQuery) → OnErr r (new ≡ old) → OnErr r (with_race b new ≡ with_race b old)
+same_race (Ok x) b old new e = tt
+same_race (Err x) b old new e = ap (with_race b) e
 
-pub same_union : {X E : Type 0} (r : Result X E) (old new : UnitedQuery) → OnErr r (new ≡ old) → OnErr r (Uniting new ≡ Uniting old)
-same_union (Ok x) old new e = tt
-same_union (Err x) old new e = ap Uniting e
+pub same_union : {X E : Type 0} (r : Result X E) (b : Box UnitedQuery Global) (old new : UnitedQuery) → OnErr r (new ≡ old) → OnErr r (with_union b new ≡ with_union b old)
+same_union (Ok x) b old new e = tt
+same_union (Err x) b old new e = ap (with_union b) e
 
-pub retrieval_keeps : (v w : Shape) → ShapeKeeps v w → Keeps (Competing v) (Competing w)
-retrieval_keeps v w keeps = record { query = keeps.query; fits = keeps.fits; rest = keeps.rest }
+pub retrieval_keeps : (b : Box Shape Global) (v w : Shape) → ShapeKeeps v w → Keeps (with_retrieval b v) (with_retrieval b w)
+retrieval_keeps b v w keeps = record { query = keeps.query; fits = keeps.fits; rest = keeps.rest }
 
 -- a race and a union have nothing that a short index leaves
 pub none_fewer : {X E : Type 0} (r : Result X E) → OnErr r (0 ≤ 0)
 none_fewer (Ok x) = tt
 none_fewer (Err x) = omega arith
 
+-- A TAKE of a retrieval leaves the plans and the awaited piece
+
+pub take_keeps_plans : (b : Box Shape Global) (old new : Shape) → new ≡ record old { joint = new.joint; trace = new.trace } → RetrievalTakes old new.joint → SamePlans (with_retrieval b old) (with_retrieval b new)
+take_keeps_plans b old new same leaves = boxed_plans (with_value b old) (with_value b new) (take_plans old new same leaves)
+
+pub take_keeps_piece : (b : Box Shape Global) (old new : Shape) → new ≡ record old { joint = new.joint; trace = new.trace } → RetrievalTakes old new.joint → SamePieces (with_retrieval b old) (with_retrieval b new)
+take_keeps_piece b old new same leaves =
+    let kept = take_same old new same leaves in
+    record { awaited = kept.awaited; number = kept.number }
+
 -- A TAKE where a short index was scanned at opening
 
-pub settled_take : (shown : Shown) (c d : Counts) (old new : Shape) → new ≡ record old { joint = new.joint; trace = new.trace } → RetrievalTakes old new.joint → RetrievalSettled old → RetrievalSettled new × (d ≡ c) → SettledTake shown c d (Competing old) (Competing new)
-settled_take shown c d old new same leaves settled after = record {
+pub settled_take : (shown : Shown) (c d : Counts) (b : Box Shape Global) (old new : Shape) → new ≡ record old { joint = new.joint; trace = new.trace } → RetrievalTakes old new.joint → RetrievalSettled old → RetrievalSettled new × (d ≡ c) → SettledTake shown c d (with_retrieval b old) (with_retrieval b new)
+settled_take shown c d b old new same leaves settled after = record {
   settled = after.0;
   unread = after.1;
   same = settled_fetches shown old new same (settled_joint (is_background old.control) old.joint new.joint (settled_back old.control settled.over) leaves);
@@ -190,18 +206,18 @@ settled_take shown c d old new same leaves settled after = record {
 
 -- the awaited piece has the awaited id
 pub piece_awaited : (a : Access) (piece : Pieced) → AwaitsPiece a piece → awaited a ≡ Some piece.id
-piece_awaited (Competing v) piece awaits = shape_awaited v piece awaits
-piece_awaited (Racing r) piece awaits = race_awaited r.race piece awaits
-piece_awaited (Uniting u) piece awaits = union_awaited u.union piece awaits
+piece_awaited (Competing v) piece awaits = shape_awaited v.value piece awaits
+piece_awaited (Racing r) piece awaits = race_awaited r.value.race piece awaits
+piece_awaited (Uniting u) piece awaits = union_awaited u.value.union piece awaits
 
 -- nothing is read where no piece is awaited
 pub none_read : (a : Access) (c : Counts) → awaited a ≡ None → c ≡ piece_read a c
-none_read (Competing v) c none = shape_none v c none
-none_read (Racing r) c none = race_none r.race c none
-none_read (Uniting u) c none = union_unread u.union c none
+none_read (Competing v) c none = shape_none v.value c none
+none_read (Racing r) c none = race_none r.value.race c none
+none_read (Uniting u) c none = union_unread u.value.union c none
 
 -- A TRACE THAT TELLS A RUN IS ALLOWED
 pub allowed : (a : Access) → Tells a → Allowed (trace_of a) (indexes_asked (query_of a))
-allowed (Competing v) t = retrieval_allowed v t
-allowed (Racing r) t = wider r.race.trace (indexes_of r.race.plans) (indexes_asked r.query) t.known (race_allowed r.race t.tells)
-allowed (Uniting u) t = wider u.union.trace (united_indexes u.union.plans) (indexes_asked u.query) t.known (union_allowed u.union t.tells)
+allowed (Competing v) t = retrieval_allowed v.value t
+allowed (Racing r) t = wider r.value.race.trace (indexes_of r.value.race.plans) (indexes_asked r.value.query) t.known (race_allowed r.value.race t.tells)
+allowed (Uniting u) t = wider u.value.union.trace (united_indexes u.value.union.plans) (indexes_asked u.value.query) t.known (union_allowed u.value.union t.tells)

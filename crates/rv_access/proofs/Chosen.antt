@@ -1,5 +1,6 @@
 -- What was chosen can race, and what a race and a retrieval are where they begin.
-use Rattle.std.proofs.Common.{◌∷◌, cond, suc, ◌≡◌, ℕ, ◌+◌, ◌*◌, ◌-◌, ◌<◌, ◌≤◌, List, [], length, filter, map, Bool, true, false, ◌&&◌, nat_le, Option, Some, None, is_some, refl, ap, sym, ◌∙◌, arith, subst, Result, Ok, Err, IfOk}
+use Rattle.std.proofs.Common.{◌∷◌, cond, suc, ◌≡◌, ℕ, ◌+◌, ◌*◌, ◌-◌, ◌<◌, ◌≤◌, List, [], length, filter, map, Bool, true, false, ◌&&◌, nat_le, Option, Some, None, is_some, refl, ap, sym, ◌∙◌, arith, subst, Box, Result, Ok, Err, IfOk}
+use Rattle.std.specs.declared.alloc.Global.{Global}
 use Rattle.std.specs.List.{list_all}
 use Rattle.std.specs.Prelude.{◌||◌, if◌then◌else◌}
 use Rattle.std.proofs.lemmas.Bool.Decides.{nat_tests}
@@ -46,10 +47,10 @@ use Rattle.rv_race.specs.Raced.{RaceFits, Raced, rest as race_rest}
 use Rattle.rv_jscan.specs.Planned.{indexes_of}
 use Rattle.rv_race.specs.Runs.{Tells as RaceTells}
 use Rattle.rv_access.specs.declared.access.Access.{Access}
-use Rattle.rv_access.specs.declared.access.Access.TheVariants.{Racing}
 use Rattle.rv_access.specs.declared.racing.RacedQuery.{RacedQuery}
 use Rattle.rv_access.specs.Accesses.{RacedFits, RacedTells}
 use Rattle.rv_access.specs.Opened.{Begins, BeginsRace, Competes, Opened, OpenedBy, Races, Unites, is_background_only, is_each, is_table, races, restricted, unites}
+use Rattle.rv_access.proofs.Boxes.{with_race}
 use Rattle.rv_access.proofs.Lives.{raced_life}
 
 -- WHERE INDEXES RACE, only a background is chosen, and it scans each restricted index
@@ -198,8 +199,8 @@ opened_counts table snap only scans cursor opening pages r c d opened same = rec
     none : (a b : ℕ) → b ≡ a → 0 ≡ raised 0 (b - a)
     none a b e = omega (arith, e)
 
-pub begun_race : (query : Query) (shown : Shown) (c d : Counts) (r : RacedQuery) → r.query ≡ query → RacedFits r shown → race_rest r.race shown ≡ qualifying query.only (shown.rows query.table query.snap) → RacedTells r → race_effort r.race shown < retrieval_life query shown → CountsAll r.race.trace c d → d ≡ c → Begins query shown c d (Racing r)
-begun_race query shown c d r asked fits owes tells life counts unread =
+pub begun_race : (query : Query) (shown : Shown) (c d : Counts) (b : Box RacedQuery Global) (r : RacedQuery) → r.query ≡ query → RacedFits r shown → race_rest r.race shown ≡ qualifying query.only (shown.rows query.table query.snap) → RacedTells r → race_effort r.race shown < retrieval_life query shown → CountsAll r.race.trace c d → d ≡ c → Begins query shown c d (with_race b r)
+begun_race query shown c d b r asked fits owes tells life counts unread =
     record {
       asked = asked;
       fits = fits;

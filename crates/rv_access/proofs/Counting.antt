@@ -100,6 +100,6 @@ union_up Done u c d within read = same_up c d (ap (λ (k : Counts). k.records) r
 -- All.
 
 pub may_up : (a : Access) (c d : Counts) → c.records < 2 ^ 64 → MayReadIts a c d → OneUp c d
-may_up (Competing v) c d within read = kind_up (kind_of v.control v.strategy (fresh_of v)) v c d within read
-may_up (Racing r) c d within read = race_up r.race.control r.race c d within read
-may_up (Uniting u) c d within read = union_up u.union.control u.union c d within read
+may_up (Competing v) c d within read = kind_up (kind_of v.value.control v.value.strategy (fresh_of v.value)) v.value c d within read
+may_up (Racing r) c d within read = race_up r.value.race.control r.value.race c d within read
+may_up (Uniting u) c d within read = union_up u.value.union.control u.value.union c d within read

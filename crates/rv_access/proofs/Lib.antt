@@ -7,3 +7,4 @@ pub mod Accesses
 pub mod OfUnions
 pub mod Unites
 pub mod Nearing
+pub mod Boxes

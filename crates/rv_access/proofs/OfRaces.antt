@@ -1,7 +1,8 @@
 -- What the calls of a race leave, in the words of accesses.
-use Rattle.std.proofs.Common.{is_some, Result, Ok, Err, IfOk, OnErr, ◌≡◌, ℕ, ◌≤◌, Bool, true, false, ◌||◌, nat_eq, ◌∷◌, List, [], Option, Some, None, refl, ap, sym, ◌∙◌, subst}
+use Rattle.std.proofs.Common.{is_some, Result, Ok, Err, IfOk, OnErr, ◌≡◌, ℕ, ◌≤◌, Bool, true, false, ◌||◌, nat_eq, Box, ◌∷◌, List, [], Option, Some, None, refl, ap, sym, ◌∙◌, subst}
 use Rattle.std.specs.List.{list_all}
 use Rattle.std.specs.Cmp.{first_so, second_so}
+use Rattle.std.specs.declared.alloc.Global.{Global}
 use Rattle.std.proofs.lemmas.Bool.{and_from, eqb-true}
 use Rattle.rv_value.specs.declared.record.IndexEntry.{IndexEntry}
 use Rattle.rv_judge.specs.declared.counting.Counts.{Counts}
@@ -47,6 +48,7 @@ use Rattle.rv_access.specs.declared.racing.RacedQuery.{RacedQuery}
 use Rattle.rv_access.specs.Accesses.{IsOver, Keeps, RacedFits, RacedTells, SamePlans}
 use Rattle.rv_access.specs.Given.{CountsPiece, RacedGives, RacedLeaf, SamePieces}
 use Rattle.rv_access.specs.Stepping.{RacedCourse, RacedGivesStep, RacedSteps}
+use Rattle.rv_access.proofs.Boxes.{with_race}
 
 -- WHAT IT IS OVER STAYS
 
@@ -162,11 +164,11 @@ does_plans FinalList would state after shown c d s old new does = ap (λ (r : Ra
 does_plans FinalTable would state after shown c d s old new does = ap (λ (r : Raced). r.plans) does.2 ∙ ended_plans s old (record old { last = new.last }) refl
 does_plans Done would state after shown c d s old new does = ap (λ (r : Raced). r.plans) does.3
 
-pub steps_plans : (would : ℕ → Facts → Ruling) (state after : ℕ) (shown : Shown) (c d : Counts) (fg : Fg) (old new : RacedQuery) → RacedSteps would state after shown c d fg old new → SamePlans (Racing old) (Racing new)
+pub steps_plans : (would : ℕ → Facts → Ruling) (state after : ℕ) (shown : Shown) (c d : Counts) (fg : Fg) (old new : Box RacedQuery Global) → RacedSteps would state after shown c d fg old.value new.value → SamePlans (Racing old) (Racing new)
 steps_plans would state after shown c d fg old new steps = record {
   query = ap (λ (r : RacedQuery). r.query) steps.same;
   strategy = refl;
-  plans = ap (λ (r : Raced). r.plans) steps.steps.counts ∙ does_plans old.race.control would state after shown c d steps.scanned old.race steps.steps.stepped steps.steps.does;
+  plans = ap (λ (r : Raced). r.plans) steps.steps.counts ∙ does_plans old.value.race.control would state after shown c d steps.scanned old.value.race steps.steps.stepped steps.steps.does;
 }
 
 -- where it only took, the control, the scans and the events stay
@@ -184,8 +186,8 @@ only_course old new only = record {
 
 -- A TAKE
 
-pub leaf_plans : (old new : RacedQuery) → RacedLeaf old new → SamePlans (Racing old) (Racing new)
-leaf_plans old new leaf = record {
+pub leaf_plans : (b : Box RacedQuery Global) (old new : RacedQuery) → RacedLeaf old new → SamePlans (with_race b old) (with_race b new)
+leaf_plans b old new leaf = record {
   query = ap (λ (r : RacedQuery). r.query) leaf.same;
   strategy = refl;
   plans = ap (λ (r : Raced). r.plans) leaf.leaves.same;
@@ -194,8 +196,8 @@ leaf_plans old new leaf = record {
 pub leaf_query : (old new : RacedQuery) → RacedLeaf old new → new.query ≡ old.query
 leaf_query old new leaf = ap (λ (r : RacedQuery). r.query) leaf.same
 
-pub leaf_pieces : (old new : RacedQuery) → RacedLeaf old new → awaited new.race ≡ awaited old.race → SamePieces (Racing old) (Racing new)
-leaf_pieces old new leaf same = record { awaited = same; number = ap (λ (r : Raced). r.number) leaf.leaves.same }
+pub leaf_pieces : (b : Box RacedQuery Global) (old new : RacedQuery) → RacedLeaf old new → awaited new.race ≡ awaited old.race → SamePieces (with_race b old) (with_race b new)
+leaf_pieces b old new leaf same = record { awaited = same; number = ap (λ (r : Raced). r.number) leaf.leaves.same }
 
 -- A GIVE
 
@@ -203,11 +205,11 @@ pub given_number : (would : ℕ → Facts → Ruling) (state after : ℕ) (piece
 given_number would state after piece Accepted old new gives = (obeyed_turns would state after piece (held_next (turn_lane old.race).held) old.race new.race gives.gives).1
 given_number would state after piece (Stale asked now) old new gives = ap (λ (r : Raced). r.number) gives.gives.0
 
-pub given_plans : (would : ℕ → Facts → Ruling) (state after : ℕ) (piece : Pieced) (g : Given) (old new : RacedQuery) → RacedGives would state after piece g old new → SamePlans (Racing old) (Racing new)
+pub given_plans : (would : ℕ → Facts → Ruling) (state after : ℕ) (piece : Pieced) (g : Given) (old new : Box RacedQuery Global) → RacedGives would state after piece g old.value new.value → SamePlans (Racing old) (Racing new)
 given_plans would state after piece Accepted old new gives = record {
   query = ap (λ (r : RacedQuery). r.query) gives.same;
   strategy = refl;
-  plans = (obeyed_turns would state after piece (held_next (turn_lane old.race).held) old.race new.race gives.gives).0;
+  plans = (obeyed_turns would state after piece (held_next (turn_lane old.value.race).held) old.value.race new.value.race gives.gives).0;
 }
 given_plans would state after piece (Stale asked now) old new gives = record {
   query = ap (λ (r : RacedQuery). r.query) gives.same;
@@ -239,5 +241,5 @@ pub same_if : {X E : Type 0} (r : Result X E) (old : RacedQuery) (new : Raced) �
 same_if (Ok x) old new e = tt
 same_if (Err x) old new e = ap (λ (race : Raced). record old { race = race }) e
 
-pub raced_keeps : (old new : RacedQuery) → new ≡ record old { race = new.race } → ((shown : Shown) → RacedFits old shown → RacedFits new shown) → ((shown : Shown) → RacedFits old shown → rest new.race shown ≡ rest old.race shown) → Keeps (Racing old) (Racing new)
-raced_keeps old new same fits left = record { query = ap (λ (r : RacedQuery). r.query) same; fits = fits; rest = left }
+pub raced_keeps : (b : Box RacedQuery Global) (old new : RacedQuery) → new ≡ record old { race = new.race } → ((shown : Shown) → RacedFits old shown → RacedFits new shown) → ((shown : Shown) → RacedFits old shown → rest new.race shown ≡ rest old.race shown) → Keeps (with_race b old) (with_race b new)
+raced_keeps b old new same fits left = record { query = ap (λ (r : RacedQuery). r.query) same; fits = fits; rest = left }

@@ -1,6 +1,7 @@
 -- What the calls of a union leave, in the words of accesses.
-use Rattle.std.proofs.Common.{Result, Ok, Err, IfOk, OnErr, ◌≡◌, ℕ, ◌≤◌, Bool, true, false, [], Option, Some, None, refl, ap, sym, ◌∙◌, subst}
+use Rattle.std.proofs.Common.{Result, Ok, Err, IfOk, OnErr, ◌≡◌, ℕ, ◌≤◌, Bool, true, false, Box, [], Option, Some, None, refl, ap, sym, ◌∙◌, subst}
 use Rattle.std.specs.List.{list_all}
+use Rattle.std.specs.declared.alloc.Global.{Global}
 use Rattle.rv_value.specs.declared.record.IndexEntry.{IndexEntry}
 use Rattle.rv_judge.specs.declared.counting.Counts.{Counts}
 use Rattle.rv_judge.specs.declared.events.Control.{Control}
@@ -38,6 +39,7 @@ use Rattle.rv_access.specs.declared.uniting.UnitedQuery.{UnitedQuery}
 use Rattle.rv_access.specs.Accesses.{Keeps, SamePlans, UnitedFits, UnitedTells, UnitesOver}
 use Rattle.rv_access.specs.Given.{CountsPiece, SamePieces, UnitedGives, UnitedLeaf}
 use Rattle.rv_access.specs.Stepping.{UnitedCourse, UnitedGivesStep, UnitedSteps}
+use Rattle.rv_access.proofs.Boxes.{with_union}
 
 -- WHAT IT IS OVER STAYS
 
@@ -111,11 +113,11 @@ does_plans FinalList would state after shown c d s old new does = ap (λ (u : Un
 does_plans FinalTable would state after shown c d s old new does = ap (λ (u : Unioned). u.plans) does.2 ∙ ended_plans s old (record old { last = new.last }) refl
 does_plans Done would state after shown c d s old new does = ap (λ (u : Unioned). u.plans) does.3
 
-pub steps_plans : (would : ℕ → Facts → Ruling) (state after : ℕ) (shown : Shown) (c d : Counts) (fg : Fg) (old new : UnitedQuery) → UnitedSteps would state after shown c d fg old new → SamePlans (Uniting old) (Uniting new)
+pub steps_plans : (would : ℕ → Facts → Ruling) (state after : ℕ) (shown : Shown) (c d : Counts) (fg : Fg) (old new : Box UnitedQuery Global) → UnitedSteps would state after shown c d fg old.value new.value → SamePlans (Uniting old) (Uniting new)
 steps_plans would state after shown c d fg old new steps = record {
   query = ap (λ (u : UnitedQuery). u.query) steps.same;
   strategy = refl;
-  plans = ap (λ (u : Unioned). u.plans) steps.steps.counts ∙ does_plans old.union.control would state after shown c d steps.scanned old.union steps.steps.stepped steps.steps.does;
+  plans = ap (λ (u : Unioned). u.plans) steps.steps.counts ∙ does_plans old.value.union.control would state after shown c d steps.scanned old.value.union steps.steps.stepped steps.steps.does;
 }
 
 -- where it only took, the control, the members, the keys and the events stay
@@ -133,8 +135,8 @@ only_course old new only = record {
 
 -- A TAKE
 
-pub leaf_plans : (old new : UnitedQuery) → UnitedLeaf old new → SamePlans (Uniting old) (Uniting new)
-leaf_plans old new leaf = record {
+pub leaf_plans : (b : Box UnitedQuery Global) (old new : UnitedQuery) → UnitedLeaf old new → SamePlans (with_union b old) (with_union b new)
+leaf_plans b old new leaf = record {
   query = ap (λ (u : UnitedQuery). u.query) leaf.same;
   strategy = refl;
   plans = ap (λ (u : Unioned). u.plans) leaf.leaves.same;
@@ -143,8 +145,8 @@ leaf_plans old new leaf = record {
 pub leaf_query : (old new : UnitedQuery) → UnitedLeaf old new → new.query ≡ old.query
 leaf_query old new leaf = ap (λ (u : UnitedQuery). u.query) leaf.same
 
-pub leaf_pieces : (old new : UnitedQuery) → UnitedLeaf old new → awaited new.union ≡ awaited old.union → SamePieces (Uniting old) (Uniting new)
-leaf_pieces old new leaf same = record { awaited = same; number = ap (λ (u : Unioned). u.number) leaf.leaves.same }
+pub leaf_pieces : (b : Box UnitedQuery Global) (old new : UnitedQuery) → UnitedLeaf old new → awaited new.union ≡ awaited old.union → SamePieces (with_union b old) (with_union b new)
+leaf_pieces b old new leaf same = record { awaited = same; number = ap (λ (u : Unioned). u.number) leaf.leaves.same }
 
 -- A GIVE
 
@@ -152,11 +154,11 @@ pub given_number : (would : ℕ → Facts → Ruling) (state after : ℕ) (piece
 given_number would state after piece Accepted old new gives = (obeyed_turns would state after piece (held_next old.union.lane.held) old.union new.union gives.gives).1
 given_number would state after piece (Stale asked now) old new gives = ap (λ (u : Unioned). u.number) gives.gives.0
 
-pub given_plans : (would : ℕ → Facts → Ruling) (state after : ℕ) (piece : Pieced) (g : Given) (old new : UnitedQuery) → UnitedGives would state after piece g old new → SamePlans (Uniting old) (Uniting new)
+pub given_plans : (would : ℕ → Facts → Ruling) (state after : ℕ) (piece : Pieced) (g : Given) (old new : Box UnitedQuery Global) → UnitedGives would state after piece g old.value new.value → SamePlans (Uniting old) (Uniting new)
 given_plans would state after piece Accepted old new gives = record {
   query = ap (λ (u : UnitedQuery). u.query) gives.same;
   strategy = refl;
-  plans = (obeyed_turns would state after piece (held_next old.union.lane.held) old.union new.union gives.gives).0;
+  plans = (obeyed_turns would state after piece (held_next old.value.union.lane.held) old.value.union new.value.union gives.gives).0;
 }
 given_plans would state after piece (Stale asked now) old new gives = record {
   query = ap (λ (u : UnitedQuery). u.query) gives.same;
@@ -188,5 +190,5 @@ pub same_if : {X E : Type 0} (r : Result X E) (old : UnitedQuery) (new : Unioned
 same_if (Ok x) old new e = tt
 same_if (Err x) old new e = ap (λ (union : Unioned). record old { union = union }) e
 
-pub united_keeps : (old new : UnitedQuery) → new ≡ record old { union = new.union } → ((shown : Shown) → UnitedFits old shown → UnitedFits new shown) → ((shown : Shown) → UnitedFits old shown → rest new.union shown ≡ rest old.union shown) → Keeps (Uniting old) (Uniting new)
-united_keeps old new same fits left = record { query = ap (λ (u : UnitedQuery). u.query) same; fits = fits; rest = left }
+pub united_keeps : (b : Box UnitedQuery Global) (old new : UnitedQuery) → new ≡ record old { union = new.union } → ((shown : Shown) → UnitedFits old shown → UnitedFits new shown) → ((shown : Shown) → UnitedFits old shown → rest new.union shown ≡ rest old.union shown) → Keeps (with_union b old) (with_union b new)
+united_keeps b old new same fits left = record { query = ap (λ (u : UnitedQuery). u.query) same; fits = fits; rest = left }

@@ -31,15 +31,18 @@ use Rattle.rv_retrieval.specs.Short.{fetches_left, is_settled}
 use Rattle.rv_retrieval.specs.Stepping.{DoesAs, Kind, RemembersBy, StepsAs, StepsBehind, ended_by, filled, is_awaiting, kind_of, piece_read}
 use Rattle.rv_retrieval.specs.Stepping.Kind.{Borrow, Piece, Walk, WalkBoth, NextKey, NextPage, Over}
 use Rattle.rv_retrieval.specs.Telling.{can_stop}
-use Rattle.rv_access.specs.declared.access.Access.TheVariants.{Competing}
-use Rattle.rv_access.specs.Accesses.{SamePlans}
-use Rattle.rv_access.specs.Given.{CountsPiece, SamePieces}
+use Rattle.rv_access.specs.Given.{CountsPiece}
 
-abbrev pub ShapePlans : Shape → Shape → Type 0
-ShapePlans old new = SamePlans (Competing old) (Competing new)
+-- what is asked, the strategy and the planned scans stay
+pub record ShapePlans (old new : Shape) : Type 0 where
+  pub query : new.query ≡ old.query
+  pub strategy : new.strategy ≡ old.strategy
+  pub plans : new.joint.plans ≡ old.joint.plans
 
-abbrev pub ShapePieces : Shape → Shape → Type 0
-ShapePieces old new = SamePieces (Competing old) (Competing new)
+-- the same piece is awaited, and none was counted
+pub record ShapePieces (old new : Shape) : Type 0 where
+  pub awaited : awaited new ≡ awaited old
+  pub number : new.joint.number ≡ old.joint.number
 
 -- A take.
 
@@ -112,7 +115,7 @@ piece_awaited v piece awaits = rw (awaits.back, awaits.awaits.way) (ap (λ (id :
 plans_then : (u v w : Shape) → ShapePlans u v → ShapePlans v w → ShapePlans u w
 plans_then u v w first after = record { query = after.query ∙ first.query; strategy = after.strategy ∙ first.strategy; plans = after.plans ∙ first.plans }
 
-plans_stay : (v : Shape) → ShapePlans v v
+pub plans_stay : (v : Shape) → ShapePlans v v
 plans_stay v = record { query = refl; strategy = refl; plans = refl }
 
 turned_plans : (u v : Shape) → Turns u v → ShapePlans u v

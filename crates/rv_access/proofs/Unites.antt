@@ -1,5 +1,6 @@
 -- The members that were chosen can be put together: each row that qualifies meets one of them.
-use Rattle.std.proofs.Common.{◌≡◌, ℕ, zero, suc, ◌+◌, ◌*◌, ◌-◌, ◌<◌, ◌≤◌, List, [], ◌∷◌, length, map, Bool, true, false, ◌&&◌, ◌||◌, nat_eq, nat_le, refl, ap, sym, ◌∙◌, arith, subst, inl, inr}
+use Rattle.std.proofs.Common.{◌≡◌, ℕ, zero, suc, ◌+◌, ◌*◌, ◌-◌, ◌<◌, ◌≤◌, List, [], ◌∷◌, length, map, Bool, true, false, ◌&&◌, ◌||◌, nat_eq, nat_le, refl, ap, sym, ◌∙◌, arith, subst, Box, inl, inr}
+use Rattle.std.specs.declared.alloc.Global.{Global}
 use Rattle.std.specs.List.{AllByRecursion, list_all, list_any}
 use Rattle.std.proofs.lemmas.Bool.{cases_Bool, and_from, or_left, or_right}
 use Rattle.std.proofs.lemmas.Bool.Decides.{nat_tests}
@@ -40,9 +41,9 @@ use Rattle.rv_union.specs.Opened.{CanUnite, Opened as UnionOpened}
 use Rattle.rv_jscan.specs.Planned.{indexes_of}
 use Rattle.rv_union.specs.Runs.{OfFewIndexes, Tells as UnionTells}
 use Rattle.rv_union.specs.Unioned.{MembersFit, UnionFits, Unioned, meets_any, rest as union_rest}
-use Rattle.rv_access.specs.declared.access.Access.TheVariants.{Uniting}
 use Rattle.rv_access.specs.declared.uniting.UnitedQuery.{UnitedQuery}
-use Rattle.rv_access.specs.Opened.{Begins, BeginsUnion, life_of}
+use Rattle.rv_access.specs.Opened.{Begins, BeginsUnion}
+use Rattle.rv_access.proofs.Boxes.{with_union}
 
 later : (a b : Bool) → a ≡ false → (a || b) ≡ true → b ≡ true
 later true b e h = absurd (cc)
@@ -257,16 +258,16 @@ opened_counts table snap only plans cursor opening pages u c d opened same = rec
     none : (a b : ℕ) → b ≡ a → 0 ≡ raised 0 (b - a)
     none a b e = omega (arith, e)
 
-pub begun_union : (query : Query) (shown : Shown) (cursor opening : ℕ) (c d : Counts) (u : UnitedQuery) → BeginsUnion query shown cursor opening u → CountsAll u.union.trace c d → d ≡ c → Begins query shown c d (Uniting u)
-begun_union query shown cursor opening c d u begins counts unread = record {
+pub begun_union : (query : Query) (shown : Shown) (cursor opening : ℕ) (c d : Counts) (b : Box UnitedQuery Global) (u : UnitedQuery) → BeginsUnion query shown cursor opening u → CountsAll u.union.trace c d → d ≡ c → Begins query shown c d (with_union b u)
+begun_union query shown cursor opening c d b u begins counts unread = record {
   asked = begins.united.asked;
   fits = begins.fits;
   owes = begins.owes;
   tells = begins.tells;
   awaiting = tt;
   counts = counts;
-  life = within (reads c) (reads d) (union_effort u.union shown) (life_of (Uniting u) query shown) (ap reads unread) begins.life;
-  most = at_most (union_effort u.union shown) (life_of (Uniting u) query shown) begins.life;
+  life = within (reads c) (reads d) (union_effort u.union shown) (widths query.only * retrieval_life query shown) (ap reads unread) begins.life;
+  most = at_most (union_effort u.union shown) (widths query.only * retrieval_life query shown) begins.life;
 }
   where
     within : (n m k l : ℕ) → m ≡ n → k < l → m + k ≤ n + l

@@ -31,50 +31,50 @@ use Rattle.rv_access.specs.declared.uniting.UnitedQuery.{UnitedQuery}
 
 -- what it is asked
 abbrev pub query_of : Access → Query
-query_of (Competing v) = v.query
-query_of (Racing r) = r.query
-query_of (Uniting u) = u.query
+query_of (Competing v) = v.value.query
+query_of (Racing r) = r.value.query
+query_of (Uniting u) = u.value.query
 
 -- which sides run
 abbrev pub control_of : Access → Control
-control_of (Competing v) = v.control
-control_of (Racing r) = r.race.control
-control_of (Uniting u) = u.union.control
+control_of (Competing v) = v.value.control
+control_of (Racing r) = r.value.race.control
+control_of (Uniting u) = u.value.union.control
 
 abbrev pub strategy_of : Access → Strategy
-strategy_of (Competing v) = v.strategy
+strategy_of (Competing v) = v.value.strategy
 strategy_of (Racing r) = BackgroundOnly
 strategy_of (Uniting u) = Union
 
 -- the planned scans
 abbrev pub planned_of : Access → List ScanPlan
-planned_of (Competing v) = v.joint.plans
-planned_of (Racing r) = r.race.plans
-planned_of (Uniting u) = u.union.plans
+planned_of (Competing v) = v.value.joint.plans
+planned_of (Racing r) = r.value.race.plans
+planned_of (Uniting u) = u.value.union.plans
 
 -- the number of the next piece
 abbrev pub number_of : Access → ℕ
-number_of (Competing v) = v.joint.number
-number_of (Racing r) = r.race.number
-number_of (Uniting u) = u.union.number
+number_of (Competing v) = v.value.joint.number
+number_of (Racing r) = r.value.race.number
+number_of (Uniting u) = u.value.union.number
 
 -- the leaf that is held for the awaited piece
 abbrev pub held_of : Access → Option Chunk
-held_of (Competing v) = v.joint.held
-held_of (Racing r) = (turn_lane r.race).held
-held_of (Uniting u) = u.union.lane.held
+held_of (Competing v) = v.value.joint.held
+held_of (Racing r) = (turn_lane r.value.race).held
+held_of (Uniting u) = u.value.union.lane.held
 
 -- what it did so far
 abbrev pub trace_of : Access → Trace
-trace_of (Competing v) = v.trace
-trace_of (Racing r) = r.race.trace
-trace_of (Uniting u) = u.union.trace
+trace_of (Competing v) = v.value.trace
+trace_of (Racing r) = r.value.race.trace
+trace_of (Uniting u) = u.value.union.trace
 
 -- THE REST: the records that qualify and are still to be given, in ascending row number
 abbrev pub rest : Access → Shown → List Record
-rest (Competing v) shown = retrieval_rest v shown
-rest (Racing r) shown = race_rest r.race shown
-rest (Uniting u) shown = union_rest u.union shown
+rest (Competing v) shown = retrieval_rest v.value shown
+rest (Racing r) shown = race_rest r.value.race shown
+rest (Uniting u) shown = union_rest u.value.union shown
 
 -- a race is over the table, the snapshot and the restriction that were asked; no order was
 pub record IsOver (query : Query) (r : Raced) : Type 0 where
@@ -100,9 +100,9 @@ pub record UnitedFits (u : UnitedQuery) (shown : Shown) : Type 0 where
 
 -- WHAT IT HOLDS WAS DRAWN FROM WHAT A READER SHOWS, and the reader can be read as it will be.
 abbrev pub AccessFits : Access → Shown → Type 0
-AccessFits (Competing v) shown = RetrievalFits v shown
-AccessFits (Racing r) shown = RacedFits r shown
-AccessFits (Uniting u) shown = UnitedFits u shown
+AccessFits (Competing v) shown = RetrievalFits v.value shown
+AccessFits (Racing r) shown = RacedFits r.value shown
+AccessFits (Uniting u) shown = UnitedFits u.value shown
 
 -- what a race's trace tells, of scans of the table's indexes
 pub record RacedTells (r : RacedQuery) : Type 0 where
@@ -116,32 +116,32 @@ pub record UnitedTells (u : UnitedQuery) : Type 0 where
 
 -- WHAT THE TRACE TELLS IS ONE RUN OF THE COURSE
 abbrev pub Tells : Access → Type 0
-Tells (Competing v) = RetrievalTells v
-Tells (Racing r) = RacedTells r
-Tells (Uniting u) = UnitedTells u
+Tells (Competing v) = RetrievalTells v.value
+Tells (Racing r) = RacedTells r.value
+Tells (Uniting u) = UnitedTells u.value
 
 -- where pieces are awaited a scan is under way; of a race and of a union there is nothing to say
 abbrev pub Awaiting : Access → Type 0
-Awaiting (Competing v) = RetrievalAwaiting v
+Awaiting (Competing v) = RetrievalAwaiting v.value
 Awaiting (Racing r) = Unit {0}
 Awaiting (Uniting u) = Unit {0}
 
 -- THE EFFORT: how much work it still has
 abbrev pub effort : Access → Shown → ℕ
-effort (Competing v) shown = retrieval_effort v shown
-effort (Racing r) shown = race_effort r.race shown
-effort (Uniting u) shown = union_effort u.union shown
+effort (Competing v) shown = retrieval_effort v.value shown
+effort (Racing r) shown = race_effort r.value.race shown
+effort (Uniting u) shown = union_effort u.value.union shown
 
 -- a short index was scanned at opening: no piece is awaited, and the table is not scanned. A race and a union have
 -- none.
 abbrev pub Settled : Access → Type 0
-Settled (Competing v) = RetrievalSettled v
+Settled (Competing v) = RetrievalSettled v.value
 Settled (Racing r) = ⊥
 Settled (Uniting u) = ⊥
 
 -- how many records may then still be fetched
 abbrev pub fetches_left : Access → Shown → ℕ
-fetches_left (Competing v) shown = retrieval_fetches v shown
+fetches_left (Competing v) shown = retrieval_fetches v.value shown
 fetches_left (Racing r) shown = 0
 fetches_left (Uniting u) shown = 0
 
@@ -160,12 +160,12 @@ pub record Keeps (old new : Access) : Type 0 where
 -- said of two accesses of one kind
 abbrev pub Alike : (Shape → Shape → Type 0) → (RacedQuery → RacedQuery → Type 0) → (UnitedQuery → UnitedQuery → Type 0)
     → Access → Access → Type 0
-Alike P Q S (Competing v) (Competing w) = P v w
+Alike P Q S (Competing v) (Competing w) = P v.value w.value
 Alike P Q S (Competing v) (Racing s) = ⊥
 Alike P Q S (Competing v) (Uniting s) = ⊥
 Alike P Q S (Racing r) (Competing w) = ⊥
-Alike P Q S (Racing r) (Racing s) = Q r s
+Alike P Q S (Racing r) (Racing s) = Q r.value s.value
 Alike P Q S (Racing r) (Uniting s) = ⊥
 Alike P Q S (Uniting u) (Competing w) = ⊥
 Alike P Q S (Uniting u) (Racing s) = ⊥
-Alike P Q S (Uniting u) (Uniting s) = S u s
+Alike P Q S (Uniting u) (Uniting s) = S u.value s.value

@@ -17,7 +17,7 @@ is_union (Uniting u) = true
 abbrev pub leaves_ahead : Access → Shown → ℕ
 leaves_ahead (Competing v) shown = 0
 leaves_ahead (Racing r) shown = 0
-leaves_ahead (Uniting u) shown = leaves_left u.union shown
+leaves_ahead (Uniting u) shown = leaves_left u.value.union shown
 
 -- WHERE IT BEGINS they are the leaves that may hold the members' ranges
 abbrev pub AllAhead : Shown → Access → Type 0

@@ -29,15 +29,15 @@ use Rattle.rv_access.specs.Accesses.{Alike, number_of}
 
 -- the id of the awaited piece, none where no scan is under way
 abbrev pub awaited : Access → Option PieceId
-awaited (Competing v) = retrieval_awaited v
-awaited (Racing r) = race_awaited r.race
-awaited (Uniting u) = union_awaited u.union
+awaited (Competing v) = retrieval_awaited v.value
+awaited (Racing r) = race_awaited r.value.race
+awaited (Uniting u) = union_awaited u.value.union
 
 -- the piece is the awaited one, once taken
 abbrev pub AwaitsPiece : Access → Pieced → Type 0
-AwaitsPiece (Competing v) piece = RetrievalAwaits v piece
-AwaitsPiece (Racing r) piece = RaceAwaits r.race piece
-AwaitsPiece (Uniting u) piece = UnionAwaits u.union piece
+AwaitsPiece (Competing v) piece = RetrievalAwaits v.value piece
+AwaitsPiece (Racing r) piece = RaceAwaits r.value.race piece
+AwaitsPiece (Uniting u) piece = UnionAwaits u.value.union piece
 
 -- what a give answers, and that a stale piece changes nothing
 abbrev pub Answers : Access → Pieced → Given → Access → Type 0
@@ -52,9 +52,9 @@ TakesPiece a Nothing = awaited a ≡ None
 
 -- what a take has read, where it has to read a leaf
 abbrev pub piece_read : Access → Counts → Counts
-piece_read (Competing v) c = retrieval_read v c
-piece_read (Racing r) c = race_read r.race c
-piece_read (Uniting u) c = union_read u.union c
+piece_read (Competing v) c = retrieval_read v.value c
+piece_read (Racing r) c = race_read r.value.race c
+piece_read (Uniting u) c = union_read u.value.union c
 
 -- what a take leaves: the leaf that it read may be held, and the events stay
 pub record RetrievalLeaf (old new : Shape) : Type 0 where
@@ -75,9 +75,9 @@ TakesLeaf old new = Alike RetrievalLeaf RacedLeaf UnitedLeaf old new
 
 -- a piece that is handed out is of a scan that was not dropped
 abbrev pub IsOfUndropped : Access → Taken → Type 0
-IsOfUndropped (Competing v) taken = RetrievalUndropped v taken
-IsOfUndropped (Racing r) taken = RaceUndropped r.race taken
-IsOfUndropped (Uniting u) taken = UnionUndropped u.union taken
+IsOfUndropped (Competing v) taken = RetrievalUndropped v.value taken
+IsOfUndropped (Racing r) taken = RaceUndropped r.value.race taken
+IsOfUndropped (Uniting u) taken = UnionUndropped u.value.union taken
 
 -- what a give leaves of a race
 pub record RacedGives (would : ℕ → Facts → Ruling) (state after : ℕ) (piece : Pieced) (given : Given)

@@ -106,23 +106,23 @@ pub record BeginsUnion (query : Query) (shown : Shown) (cursor opening : ℕ) (u
   pub fits : UnitedFits u shown
   pub owes : union_rest u.union shown ≡ qualifying query.only (shown.rows query.table query.snap)
   pub tells : UnitedTells u
-  pub life : union_effort u.union shown < life_of (Uniting u) query shown
+  pub life : union_effort u.union shown < widths query.only * retrieval_life query shown
 
 -- a retrieval was opened; a race of what was chosen was; a union was
 abbrev pub Competes : Query → Shown → ℕ → ℕ → Access → Type 0
-Competes query shown cursor opening (Competing v) = RetrievalOpened query shown cursor opening v
+Competes query shown cursor opening (Competing v) = RetrievalOpened query shown cursor opening v.value
 Competes query shown cursor opening (Racing r) = ⊥
 Competes query shown cursor opening (Uniting u) = ⊥
 
 abbrev pub Races : Query → Shown → ℕ → ℕ → Choice → Access → Type 0
 Races query shown cursor opening choice (Competing v) = ⊥
-Races query shown cursor opening choice (Racing r) = IsRaced query shown cursor opening choice r
+Races query shown cursor opening choice (Racing r) = IsRaced query shown cursor opening choice r.value
 Races query shown cursor opening choice (Uniting u) = ⊥
 
 abbrev pub Unites : Query → Shown → ℕ → ℕ → Access → Type 0
 Unites query shown cursor opening (Competing v) = ⊥
 Unites query shown cursor opening (Racing r) = ⊥
-Unites query shown cursor opening (Uniting u) = IsUnited query shown cursor opening u
+Unites query shown cursor opening (Uniting u) = IsUnited query shown cursor opening u.value
 
 -- by whether indexes race and whether members are put together
 abbrev pub OpenedBy : Bool → Bool → Query → Shown → ℕ → ℕ → Choice → Access → Type 0

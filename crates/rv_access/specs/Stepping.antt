@@ -70,9 +70,9 @@ StepsAs would state after shown c d fg old new =
 
 -- what a step may read, whatever it answers
 abbrev pub MayReadIts : Access → Counts → Counts → Type 0
-MayReadIts (Competing v) c d = RetrievalReads v c d
-MayReadIts (Racing r) c d = RaceReads r.race.control r.race c d
-MayReadIts (Uniting u) c d = UnionReads u.union.control u.union c d
+MayReadIts (Competing v) c d = RetrievalReads v.value c d
+MayReadIts (Racing r) c d = RaceReads r.value.race.control r.value.race c d
+MayReadIts (Uniting u) c d = UnionReads u.value.union.control u.value.union c d
 
 -- a race that only took
 pub record RacedOnly (old new : RacedQuery) : Type 0 where

@@ -28,15 +28,15 @@ use rv_retrieval::{Fg, Retrieval};
 use rv_value::NoMemory;
 use std::alloc::Global;
 
-/// An open access to one table at a snapshot.
+/// An open access to one table at a snapshot. What it holds is behind a box, so that an access is cheap to move.
 #[derive(Drop)]
 pub enum Access {
     /// A foreground and a background that compete.
-    Competing(Retrieval),
+    Competing(Box<Retrieval>),
     /// Two indexes that race.
-    Racing(RacedQuery),
+    Racing(Box<RacedQuery>),
     /// Members whose keys are put together.
-    Uniting(UnitedQuery),
+    Uniting(Box<UnitedQuery>),
 }
 
 fn is_background_only(strategy: Strategy) -> bool
@@ -143,7 +143,8 @@ impl Access {
         let retrieval = Retrieval::open_chosen(
             alloc, reader, query, candidates, choice, cursor, opening, steps,
         )?;
-        Ok(Access::Competing(retrieval))
+        let boxed = Box::new(alloc, retrieval)?;
+        Ok(Access::Competing(boxed))
     }
 
     /// Opens a race of what was chosen. It reads nothing.
@@ -170,7 +171,8 @@ impl Access {
         let raced = RacedQuery::open(
             alloc, reader, query, candidates, choice, cursor, opening, steps,
         )?;
-        Ok(Access::Racing(raced))
+        let boxed = Box::new(alloc, raced)?;
+        Ok(Access::Racing(boxed))
     }
 
     /// Opens a union of members where the table would be read. It reads nothing.
@@ -197,7 +199,8 @@ impl Access {
         ensures unread { steps.new ≡ steps.old }
     {
         let united = UnitedQuery::open(alloc, reader, query, members, cursor, opening, steps)?;
-        Ok(Access::Uniting(united))
+        let boxed = Box::new(alloc, united)?;
+        Ok(Access::Uniting(boxed))
     }
 
     /// Opens what was chosen where indexes do not race: a union where the table would be read and a group of the restriction

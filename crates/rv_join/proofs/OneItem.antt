@@ -355,7 +355,7 @@ raced_alone : (choice : Choice) (shown : Shown) (query : Query) → BackgroundOn
 raced_alone choice shown query e = no_union query shown choice (ap is_table (sym e))
 
 opened_by : (race unite : Bool) (shown : Shown) (cursor opening : ℕ) (choice : Choice) (v : Access) → IsChosen (query_of v).order (query_of v).goal (candidates_of (query_of v) shown) choice → (race ≡ true → BackgroundOnly ≡ choice.strategy) → unites (query_of v) shown choice ≡ unite → OpenedBy race unite (query_of v) shown cursor opening choice v → IsByRules shown v
-opened_by false false shown cursor opening choice (Competing v) chosen alone none is = record { choice = is.choice; chosen = is.chosen; stands = subst (λ (b : Bool). StandsBy b shown is.choice (Competing v)) (sym (chosen_apart v.query shown choice is.choice chosen is.chosen none)) (is.made.strategy, is.made.scans) }
+opened_by false false shown cursor opening choice (Competing v) chosen alone none is = record { choice = is.choice; chosen = is.chosen; stands = subst (λ (b : Bool). StandsBy b shown is.choice (Competing v)) (sym (chosen_apart v.value.query shown choice is.choice chosen is.chosen none)) (is.made.strategy, is.made.scans) }
 opened_by false false shown cursor opening choice (Racing r) chosen alone none is = absurd is
 opened_by false false shown cursor opening choice (Uniting u) chosen alone none is = absurd is
 opened_by false true shown cursor opening choice (Competing v) chosen alone some is = absurd is
