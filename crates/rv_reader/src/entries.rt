@@ -37,6 +37,9 @@ pub fn key_of(alloc: Global, values: &[Value], columns: &[u32]) -> Result<Key, N
     requires few { length columns.now ≤ 4 }
     ensures { IfOk result (λ key. key ≡ map (column_of values.now) columns.now) }
 {
+    if let [column] = columns {
+        return Ok(Key::one(column_value(alloc, values, *column)?));
+    }
     let key = key_values(alloc, values, columns)?;
     Ok(Key::from_vec(key))
 }
