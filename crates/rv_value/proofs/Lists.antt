@@ -1,5 +1,5 @@
 -- What holds of each item of a list, filters and places: lemmas that the crates above share.
-use Rattle.std.proofs.Common.{◌≡◌, ℕ, ◌<◌, ◌≤◌, zero, suc, List, [], ◌∷◌, ◌++◌, Bool, true, false, cond, refl, arith, length, filter, take, drop, slice_get, Some, None, Result, Ok, Err, OnErr, subst}
+use Rattle.std.proofs.Common.{◌≡◌, ℕ, ◌<◌, ◌≤◌, zero, suc, List, [], ◌∷◌, ◌++◌, Bool, true, false, cond, refl, arith, length, filter, take, drop, slice_get, Some, Result, Ok, Err, OnErr, subst}
 use Rattle.std.proofs.lemmas.Bool.{and_parts}
 use Rattle.std.proofs.lemmas.Option.{same_Some}
 use Rattle.std.specs.List.{AllByRecursion, list_all, slice_index_or}
