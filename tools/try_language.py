@@ -33,7 +33,7 @@ def string(of):
 
 
 def values(*of):
-    return written("Values", values="[" + ", ".join(of) + "]")
+    return written("Values", values="Some([" + ", ".join(of) + "])")
 
 
 def column(name, table=None):

@@ -281,9 +281,10 @@ fn resolve_insert(
 {
     let number = number_of(alloc, catalog, table)?;
     check_row(alloc, "", catalog.columns(number), values)?;
+    let row = copy_slice(alloc, values)?;
     Ok(Resolved::Insert {
         table: number,
-        values: Values::from_vec(copy_slice(alloc, values)?),
+        values: Values::of(alloc, row)?,
     })
 }
 

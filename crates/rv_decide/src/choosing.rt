@@ -80,7 +80,7 @@ fn picked(
     columns: &[ColRef],
     rows: &[Values],
     null: &Value,
-) -> Result<Values, NoMemory>
+) -> Result<Items<Value>, NoMemory>
     requires { null.now ≡ Null }
     ensures { IfOk result (λ values. values ≡ picked_over columns.now rows.now) }
 {
@@ -88,5 +88,5 @@ fn picked(
     'columns: for column in columns {
         values.push(value_at(rows, null, *column).copy(alloc)?)?;
     }
-    Ok(Values::from_vec(values))
+    Ok(Items::from_vec(values))
 }

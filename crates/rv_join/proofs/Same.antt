@@ -1,7 +1,7 @@
 -- Rows that agree in what a plan uses have the same offers under them.
-use Rattle.std.proofs.Common.{◌≡◌, ℕ, ◌+◌, ◌-◌, List, [], ◌∷◌, ◌++◌, filter, length, map, Bool, true, false, cond, refl, ap, sym, ◌∙◌, arith, subst, zero, suc, slice_index_or, replicate}
+use Rattle.std.proofs.Common.{◌≡◌, ℕ, ◌+◌, ◌-◌, ◌≤◌, List, [], ◌∷◌, ◌++◌, filter, length, map, Bool, true, false, cond, refl, ap, sym, ◌∙◌, arith, subst, zero, suc, slice_index_or, replicate}
 use Rattle.std.specs.List.{list_any, flat_map}
-use Rattle.std.proofs.lemmas.List.{append_assoc, replicate_more}
+use Rattle.std.proofs.lemmas.List.{append_assoc, append-nil, replicate_more}
 use Rattle.std.proofs.lemmas.Grind.{common_steps}
 use Rattle.rv_value.specs.declared.value.Value.{Value}
 use Rattle.rv_value.specs.declared.value.Value.TheVariants.{Null}
@@ -88,6 +88,12 @@ under_same a shown [] x y h =
 under_same a shown (t ∷ ts) x y h = rw h.long (flat_filter_same (shown.rows t a.snap) _ _ _ _
     (λ r. holds_same a (length y) _ _ (alike_more a x y r.values h))
     (λ r. under_same a shown ts _ _ (alike_more a x y r.values h)))
+
+-- a row that is wide enough has no NULL behind it
+pub wide_itself : (width : ℕ) (row : List Value) → width ≤ length row → widened width row ≡ row
+wide_itself width row wide =
+    let none : width - length row ≡ 0 = omega (arith, wide) in
+    ap (λ n. row ++ replicate n Null) none ∙ append-nil row
 
 -- one more NULL behind a row
 pub padded_more : (row values : List Value) (n : ℕ) → values ≡ row ++ replicate n Null → values ++ Null ∷ [] ≡ row ++ replicate (n + 1) Null

@@ -10,7 +10,7 @@ ghost use Rattle.rv_join.specs.Plans.{Taken};
 
 use crate::places::Asked;
 use rv_model::Offer;
-use rv_value::{NoMemory, Value, Values, cmp_values, copy_slice};
+use rv_value::{Items, NoMemory, Value, cmp_values, copy_slice};
 use std::alloc::Global;
 use std::cmp::Ordering;
 
@@ -108,8 +108,8 @@ fn copy_at(alloc: Global, widths: Widths, values: &[Value], start: usize) -> Res
 {
     let returned = start + widths.order;
     Ok(Offer {
-        order: Values::from_vec(copy_slice(alloc, run(values, start, widths.order))?),
-        returned: Values::from_vec(copy_slice(alloc, run(values, returned, widths.returned))?),
+        order: Items::from_vec(copy_slice(alloc, run(values, start, widths.order))?),
+        returned: Items::from_vec(copy_slice(alloc, run(values, returned, widths.returned))?),
     })
 }
 

@@ -66,14 +66,19 @@ fn widen(values: &mut Vec<Value>, width: usize) -> Result<(), NoMemory>
     Ok(())
 }
 
-/// A copy of a row with a value in each column needed. A row told by an index alone has the index's columns and those
-/// before them; a restriction that is bound over it may ask for a value in each column needed.
+/// A row with a value in each column needed. A row told by an index alone has the index's columns and those before them;
+/// a restriction that is bound over it may ask for a value in each column needed.
+#[tactic(auto, using(crate::proofs::Same::wide_itself))]
 fn copy_wide(alloc: Global, row: &Values, need: &[u32]) -> Result<Values, NoMemory>
     ensures { IfOk result (λ copy. copy ≡ widened (width need.now) row.now) }
 {
+    let width = width(need);
+    if width <= row.as_slice().len() {
+        return row.copy(alloc);
+    }
     let mut values = copy_slice(alloc, row.as_slice())?;
-    widen(&mut values, width(need))?;
-    Ok(Values::from_vec(values))
+    widen(&mut values, width)?;
+    Values::of(alloc, values)
 }
 
 /// The values in a place: those of a row chosen so far, or of the row behind them; none in a later place.
@@ -129,12 +134,12 @@ fn pick(
     columns: &[ColRef],
     outer: &[Values],
     row: &Values,
-) -> Result<Values, NoMemory>
+) -> Result<Items<Value>, NoMemory>
     ensures { IfOk result (λ values. values ≡ picked_over columns.now (outer.now ++ row.now ∷ [])) }
 {
     let mut values = Vec::with_capacity(alloc, columns.len())?;
     pick_into(alloc, columns, outer, row, &mut values)?;
-    Ok(Values::from_vec(values))
+    Ok(Items::from_vec(values))
 }
 
 impl Level {

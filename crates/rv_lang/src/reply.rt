@@ -1,6 +1,6 @@
 //! What is answered to a call.
 use rv_judge::{Control, Strategy};
-use rv_value::{Duplicate, Items, NoMemory, RowNo, Text, Values};
+use rv_value::{Duplicate, Items, NoMemory, RowNo, Text, Value};
 use std::alloc::Global;
 
 /// The limits, in the order in which those of the statement and then those of the state are tested.
@@ -130,7 +130,7 @@ pub enum Reply {
     Committed(u64),
     RolledBack,
     Opened,
-    Row(Values),
+    Row(Items<Value>),
     End,
     Closed,
     /// How many background steps were done.

@@ -42,13 +42,8 @@ fn among<'a>(
     let rest = need(open(tokens))?;
     let (list, rest) = list::<Value>(alloc, Separator::Comma, rest)?;
     let rest = need(close(rest))?;
-    Ok((
-        RawAtom::Among {
-            column,
-            list: Values::from_vec(list.into_vec()),
-        },
-        rest,
-    ))
+    let list = Values::of(alloc, list.into_vec())?;
+    Ok((RawAtom::Among { column, list }, rest))
 }
 
 #[tactic(auto, unfolding(crate::specs::Reading::is_null_at))]

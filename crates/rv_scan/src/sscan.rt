@@ -89,7 +89,7 @@ fn tell(alloc: Global, entry: &IndexEntry, columns: &[u32]) -> Result<Record, No
     let values = copy_values(alloc, columns, entry.key.as_slice())?;
     Ok(Record {
         row: entry.row,
-        values: Values::from_vec(values),
+        values: Values::of(alloc, values)?,
     })
 }
 

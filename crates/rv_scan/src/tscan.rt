@@ -76,7 +76,7 @@ impl Tscan {
         let place = self.at + passed;
         let blank = Record {
             row: RowNo(0),
-            values: Values::from_vec(Vec::new(self.alloc)),
+            values: Values::empty(),
         };
         self.at = place + 1;
         std::mem::replace(&mut self.held[place], blank)

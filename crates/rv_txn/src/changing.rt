@@ -258,7 +258,7 @@ fn with_sets(alloc: Global, sets: &[(u32, Value)], values: &Values) -> Result<Va
     'sets: for (column, value) in sets {
         set_column(&mut new, *column, value.copy(alloc)?);
     }
-    Ok(Values::from_vec(new))
+    Values::of(alloc, new)
 }
 
 /// What UPDATE leaves of a row, or DELETE.

@@ -90,7 +90,7 @@ fn three(alloc: Global, first: Value, second: Value, third: Value) -> Result<Val
     values.push(first)?;
     values.push(second)?;
     values.push(third)?;
-    Ok(Values::from_vec(values))
+    Values::of(alloc, values)
 }
 
 /// The values of a row of a table.

@@ -157,7 +157,7 @@ fn integers(alloc: Global, text: &str) -> Result<Values, Fault> {
     'words: for word in text.split(' ') {
         found.push(Value::Int(integer(word)?))?;
     }
-    Ok(Values::from_vec(found))
+    Ok(Values::of(alloc, found)?)
 }
 
 fn atom(alloc: Global, text: &str) -> Result<Atom, Fault> {

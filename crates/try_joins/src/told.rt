@@ -1,7 +1,7 @@
 //! What came of a plan, in words.
 use crate::drive::Driven;
 use rv_model::Offer;
-use rv_value::{NoMemory, Value, Values, cmp_values};
+use rv_value::{NoMemory, Value, cmp_values};
 use std::alloc::Global;
 use std::cmp::Ordering;
 
@@ -9,9 +9,9 @@ fn mixed(mix: u64, more: u64) -> u64 {
     (mix % 1000003 * 31 + more % 1000003 + 1) % 1000003
 }
 
-fn mix_values(mix: u64, values: &Values) -> u64 {
+fn mix_values(mix: u64, values: &[Value]) -> u64 {
     let mut mix = mix;
-    'values: for value in values.as_slice() {
+    'values: for value in values {
         mix = match value {
             Value::Int(n) => mixed(mix, (*n).unsigned_abs() % 1000003 + 2),
             Value::Null => mixed(mix, 1),
@@ -25,8 +25,8 @@ fn mix_values(mix: u64, values: &Values) -> u64 {
 fn mix(offers: &[Offer]) -> u64 {
     let mut mix = 0;
     'offers: for offer in offers {
-        mix = mix_values(mix, &offer.order);
-        mix = mix_values(mix, &offer.returned);
+        mix = mix_values(mix, offer.order.as_slice());
+        mix = mix_values(mix, offer.returned.as_slice());
     }
     mix
 }

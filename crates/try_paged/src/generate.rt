@@ -27,7 +27,7 @@ fn values_of(alloc: Global, mix: u64) -> Result<Values, NoMemory>
     let mut values = Vec::with_capacity(alloc, 2)?;
     values.push(first)?;
     values.push(Value::Int((mix / 3300 % 1000) as i64))?;
-    Ok(Values::from_vec(values))
+    Values::of(alloc, values)
 }
 
 /// Two of five changes take a row away.

@@ -16,7 +16,7 @@ fn values_of(alloc: Global, row: u64) -> Result<Values, NoMemory>
     let mut values = Vec::with_capacity(alloc, 2)?;
     values.push(Value::Int(row as i64))?;
     values.push(Value::Int(row as i64))?;
-    Ok(Values::from_vec(values))
+    Values::of(alloc, values)
 }
 
 fn inserted(alloc: Global, row: u64) -> Result<Change, NoMemory>

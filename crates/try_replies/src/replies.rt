@@ -1,7 +1,7 @@
 //! A reply of each kind, by its number.
 use rv_judge::{Control, Strategy};
 use rv_model::{Refusal, Reply, Rival, Shown, ShownEvent, Which};
-use rv_value::{Items, NoMemory, RowNo, Text, Value, Values};
+use rv_value::{Items, NoMemory, RowNo, Text, Value};
 use std::alloc::Global;
 
 fn row(alloc: Global) -> Result<Reply, NoMemory> {
@@ -9,7 +9,7 @@ fn row(alloc: Global) -> Result<Reply, NoMemory> {
     values.push(Value::Int(-7))?;
     values.push(Value::Null)?;
     values.push(Value::Str(Text::read(alloc, "it's")?))?;
-    Ok(Reply::Row(Values::from_vec(values)))
+    Ok(Reply::Row(Items::from_vec(values)))
 }
 
 fn trace(alloc: Global) -> Result<Reply, NoMemory> {

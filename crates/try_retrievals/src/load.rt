@@ -53,7 +53,7 @@ pub fn values_of(alloc: Global, row: u64, filling: Filling) -> Result<Values, No
     values.push(Value::Int(row as i64))?;
     values.push(second)?;
     values.push(third(row, filling))?;
-    Ok(Values::from_vec(values))
+    Values::of(alloc, values)
 }
 
 fn inserted(alloc: Global, row: u64, filling: Filling) -> Result<Change, NoMemory>

@@ -21,7 +21,7 @@ fn values_of(alloc: Global, row: u64) -> Result<Values, NoMemory>
     let mut values = Vec::with_capacity(alloc, 2)?;
     values.push(first)?;
     values.push(Value::Int((row % 5) as i64))?;
-    Ok(Values::from_vec(values))
+    Values::of(alloc, values)
 }
 
 /// The change by which a row has the values of a row, which may be another one.

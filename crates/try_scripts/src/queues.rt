@@ -2,7 +2,7 @@
 use crate::read::{Fault, cut, number, place};
 use rv_model::offers::cmp_offer;
 use rv_model::{Offer, Queue};
-use rv_value::{NoMemory, Value, Values};
+use rv_value::{Items, NoMemory, Value};
 use std::alloc::Global;
 use std::cmp::Ordering;
 
@@ -64,9 +64,9 @@ fn value(word: &str) -> Result<Value, Fault> {
     Ok(Value::Int(word.parse().ok().ok_or(Fault::Form)?))
 }
 
-fn one(alloc: Global, word: &str) -> Result<Values, Fault> {
+fn one(alloc: Global, word: &str) -> Result<Items<Value>, Fault> {
     let value = value(word)?;
-    Ok(Values::from_vec(vec![in alloc; value]?))
+    Ok(Items::from_vec(vec![in alloc; value]?))
 }
 
 /// An offer of an order value and a value returned.

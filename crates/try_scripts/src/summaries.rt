@@ -3,11 +3,11 @@ use crate::read::{Fault, cut, small};
 use rv_gen::{summary_of, write_summary};
 use rv_io::MemSink;
 use rv_model::{Entry, Refusal, Reply};
-use rv_value::{NoMemory, RowNo, Text, Value, Values};
+use rv_value::{Items, NoMemory, RowNo, Text, Value};
 use std::alloc::Global;
 
 fn row(alloc: Global) -> Result<Reply, NoMemory> {
-    Ok(Reply::Row(Values::from_vec(vec![in alloc; Value::Int(5)]?)))
+    Ok(Reply::Row(Items::from_vec(vec![in alloc; Value::Int(5)]?)))
 }
 
 /// A reply, by its first word.

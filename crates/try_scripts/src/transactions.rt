@@ -88,7 +88,7 @@ fn begin_all(alloc: Global, txns: &mut Txns, told: &mut String, text: &str) -> R
 }
 
 fn one_value(alloc: Global, n: u32) -> Result<Values, NoMemory> {
-    Ok(Values::from_vec(vec![in alloc; Value::Int(i64::from(n))]?))
+    Values::of(alloc, vec![in alloc; Value::Int(i64::from(n))]?)
 }
 
 /// Inserts a row into a table; its number.

@@ -57,7 +57,7 @@ fn bound_behind(alloc: Global, number: i64) -> Result<Restriction, NoMemory> {
     };
     let group = vec![in alloc; less]?;
     let only = Restriction::from_groups(vec![in alloc; group]?);
-    let row = Values::from_vec(vec![in alloc; Value::Int(number)]?);
+    let row = Values::of(alloc, vec![in alloc; Value::Int(number)]?)?;
     only.bind(alloc, 1, std::slice::from_ref(&row))
 }
 

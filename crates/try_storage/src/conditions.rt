@@ -78,7 +78,7 @@ fn atom(alloc: Global, text: &str) -> Result<Atom, Fault> {
         "between" => between(alloc, column, rest),
         "in" => Ok(Atom::Among {
             column,
-            list: Values::from_vec(values(alloc, rest)?),
+            list: Values::of(alloc, values(alloc, rest)?)?,
         }),
         "starts" => starts(alloc, column, rest),
         _ => Ok(Atom::Compare {

@@ -21,7 +21,7 @@ fn find(alloc: Global, line: &str) -> Result<Found, Fault> {
     let (only, row) = rest.split_once(';').ok_or(Fault::Form)?;
     let columns = columns(alloc, index)?;
     let only = restriction(alloc, only)?;
-    let row = Values::from_vec(values(alloc, row)?);
+    let row = Values::of(alloc, values(alloc, row)?)?;
     compare(alloc, columns.as_slice(), &only, &row)
 }
 

@@ -23,7 +23,8 @@ fn values(alloc: Global, word: &str) -> Result<Option<Values>, Fault> {
         return Ok(None);
     }
     let number = integer(word)?;
-    Ok(Some(Values::from_vec(vec![in alloc; Value::Int(number)]?)))
+    let values = vec![in alloc; Value::Int(number)]?;
+    Ok(Some(Values::of(alloc, values)?))
 }
 
 /// Gives a row a value at a commit, or takes it away.

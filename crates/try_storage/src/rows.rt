@@ -7,7 +7,7 @@ use std::alloc::Global;
 fn record(alloc: Global, row: u64) -> Result<Record, NoMemory> {
     Ok(Record {
         row: RowNo(row),
-        values: Values::from_vec(vec![in alloc; Value::Int(1)]?),
+        values: Values::of(alloc, vec![in alloc; Value::Int(1)]?)?,
     })
 }
 

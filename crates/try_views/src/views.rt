@@ -21,7 +21,7 @@ fn change(alloc: Global, row: u64, value: Option<i64>) -> Result<Change, NoMemor
     ensures { IfOk result (IsOf row) }
 {
     let values = match value {
-        Some(value) => Some(Values::from_vec(vec![in alloc; Value::Int(value)]?)),
+        Some(value) => Some(Values::of(alloc, vec![in alloc; Value::Int(value)]?)?),
         None => None,
     };
     Ok(Change {
