@@ -13,7 +13,9 @@ ghost use Rattle.rv_restrict.specs.Limits.{end_of, end_option, given_option, lim
 
 use crate::atom::{Atom, Op, Operand};
 use crate::truth::{Restriction, null};
-use rv_value::{Bound, Duplicate, Key, NoMemory, Range, Text, Value, cmp_value, copy_slice};
+use rv_value::{
+    Bound, Duplicate, Key, NoMemory, Range, SharedText, Text, Value, cmp_value, copy_slice,
+};
 use std::alloc::Global;
 use std::cmp::Ordering;
 
@@ -367,7 +369,7 @@ fn starting_range(alloc: Global, prefix: Vec<Value>, text: &Text) -> Result<Rang
     ensures { IfOk result (λ r. r ≡ Rattle.rv_restrict.specs.Ranges.starting_range prefix.items text.now) }
 {
     let mut prefix = prefix;
-    prefix.push(Value::Str(text.copy(alloc)?))?;
+    prefix.push(Value::Str(SharedText::read(alloc, text.as_str())?))?;
     Ok(Range {
         low: Some(Bound {
             key: Key::from_vec(prefix),
