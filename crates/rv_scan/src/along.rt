@@ -118,7 +118,7 @@ impl Walk {
         };
         let chunk = reader.chunk(self.alloc, self.index, self.snap, from, &self.range, steps)?;
         let _before = std::mem::replace(&mut self.held, chunk.entries.into_vec());
-        let _passed = std::mem::replace(&mut self.ahead, behind(chunk.next));
+        drop(std::mem::replace(&mut self.ahead, behind(chunk.next)));
         self.at = 0;
         Ok(true)
     }
