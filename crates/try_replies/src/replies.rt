@@ -1,7 +1,7 @@
 //! A reply of each kind, by its number.
 use rv_judge::{Control, Strategy};
 use rv_model::{Refusal, Reply, Rival, Shown, ShownEvent, Which};
-use rv_value::{Items, NoMemory, RowNo, SharedText, Text, Value};
+use rv_value::{Items, NoMemory, RowNo, Shared, SharedText, Text, Value};
 use std::alloc::Global;
 
 fn row(alloc: Global) -> Result<Reply, NoMemory> {
@@ -21,13 +21,14 @@ fn trace(alloc: Global) -> Result<Reply, NoMemory> {
     events.push(ShownEvent::Full)?;
     events.push(ShownEvent::Stop)?;
     events.push(ShownEvent::At(Control::FinalList))?;
-    Ok(Reply::Trace(Shown {
+    let shown = Shown {
         strategy: Strategy::FastFirst,
         events,
         pages: 1,
         leaves: 2,
         fetches: 3,
-    }))
+    };
+    Ok(Reply::Trace(Shared::new(alloc, shown)?))
 }
 
 /// What was answered.
