@@ -29,7 +29,7 @@ def number(n):
 
 
 def string(of):
-    return f"Str({text(of)})"
+    return f"Str({written('SharedText', text=text(of))})"
 
 
 def values(*of):

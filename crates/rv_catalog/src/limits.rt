@@ -203,10 +203,16 @@ fn any_long_name(statement: &Statement) -> bool
 
 // Texts.
 
+fn wide_str(text: &str) -> bool
+    ensures { result ≡ is_wide_text text.now }
+{
+    text.len() > 255
+}
+
 fn wide_text(text: &Text) -> bool
     ensures { result ≡ is_wide_text text.now }
 {
-    text.as_str().len() > 255
+    wide_str(text.as_str())
 }
 
 fn wide(value: &Value) -> bool
@@ -215,7 +221,7 @@ fn wide(value: &Value) -> bool
     match value {
         Value::Null => false,
         Value::Int(_) => false,
-        Value::Str(text) => wide_text(text),
+        Value::Str(text) => wide_str(text.as_str()),
     }
 }
 

@@ -109,6 +109,10 @@ views_begun shown txns new views session k read_only did h =
     let active : new.active ≡ txns.active ++ t ∷ [] = ap (λ (x : Transactions). x.active) b.1 in
     subst (λ (a : List Transaction). AreViews shown a views) (sym active) (views_over shown txns.active (txns.active ++ t ∷ []) views (begun_owns shown txns.active t views h) h)
 
+-- a session's view is let go
+pub views_gone : (shown : Shown) (active : List Transaction) (views kept : List OwnView) (session : ℕ) → kept ≡ other_views session views → AreViews shown active views → AreViews shown active kept
+views_gone shown active views kept session same h = subst (AreViews shown active) (sym same) (all_filter _ (λ (v : OwnView). not (v.session == session)) views h)
+
 pub views_committed : (old new : Shown) (schema : Schema) (txns left : Transactions) (views kept : List OwnView) (session k base c : ℕ) (changes : List Change) → IsStored old → finished txns session ≡ Ok (k, base, changes) → CommitsTo old new base changes c → IfSome (transaction_of txns.active session) (λ own. left ≡ done txns own c)
     → kept ≡ other_views session views → IsTied old schema txns → AreViews old txns.active views → AreViews new left.active kept
 views_committed old new schema txns left views kept session k base c changes stored did told is same tied h =

@@ -288,6 +288,8 @@ impl<S: Store + Reader<Ledger = Uncounted> + Drop> Database<S> {
             Err(TxnFault::Refused(refusal)) => return refused(self.alloc, refusal),
             Err(TxnFault::NoMemory) => return Err(NoMemory),
         };
+        // What the view takes serves for what the commit writes; where that finds no memory all the same, the view is made anew.
+        self.views.let_go(session);
         let number = match commit_some(&mut self.store, &finished) {
             Ok(number) => number,
             Err(NoMemory) => {
@@ -297,7 +299,6 @@ impl<S: Store + Reader<Ledger = Uncounted> + Drop> Database<S> {
         };
         drop(finished);
         self.txns.commit_done(session, number);
-        self.views.let_go(session);
         close_all(&mut self.cursors, session);
         Ok((Reply::Committed(number), Reply::Committed(number)))
     }

@@ -10,7 +10,7 @@ use rv_catalog::IndexDef;
 use rv_cursor::twice;
 use rv_judge::{Event, Trace};
 use rv_lang::{Refusal, Reply, Shown, ShownEvent, Which};
-use rv_value::{Duplicate, Items, NoMemory, Text};
+use rv_value::{Duplicate, Items, NoMemory, Shared, Text};
 use std::alloc::Global;
 
 /// A refusal, twice.
@@ -64,18 +64,24 @@ fn named(alloc: Global, indexes: &[IndexDef], event: Event) -> Result<ShownEvent
 }
 
 /// A trace with the names of indexes in place of their numbers.
-pub fn named_trace(alloc: Global, indexes: &[IndexDef], trace: &Trace) -> Result<Shown, NoMemory>
+pub fn named_trace(
+    alloc: Global,
+    indexes: &[IndexDef],
+    trace: &Trace,
+) -> Result<Shared<Shown>, NoMemory>
     ensures { IfOk result (λ shown. shown ≡ shown_trace indexes.now trace.now) }
 {
     let mut events = Vec::new(alloc);
     'events: for event in trace.events.as_slice() {
         events.push(named(alloc, indexes, *event)?)?;
     }
-    Ok(Shown {
+    let shown = Shown {
         strategy: trace.strategy,
         events: Items::from_vec(events),
         pages: trace.pages,
         leaves: trace.leaves,
         fetches: trace.fetches,
-    })
+    };
+    let shared = Shared::new(alloc, shown)?;
+    Ok(shared)
 }

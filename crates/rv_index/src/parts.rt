@@ -158,10 +158,13 @@ pub fn child_for(node: &Node, entry: &IndexEntry) -> (u32, usize)
     (node.children()[at - 1], at)
 }
 
-/// Cuts a list after its first 16 items, and gives the rest.
+/// Cuts a list after its first 16 items, and gives the rest. The first ones keep no more room than they need: where keys rise
+/// they are never added to.
 pub fn cut_off<X>(items: &mut Vec<X>) -> Result<Vec<X>, NoMemory>
     ensures rest { IfOk result (λ rest. rest.items ≡ drop 16 items.old.items) }
     ensures first { OnOk result (items.new.items ≡ take 16 items.old.items) }
 {
-    Ok(items.split_off(items.len().min(16))?)
+    let rest = items.split_off(items.len().min(16))?;
+    items.shrink_to_fit();
+    Ok(rest)
 }

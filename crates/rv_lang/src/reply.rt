@@ -1,6 +1,6 @@
 //! What is answered to a call.
 use rv_judge::{Control, Strategy};
-use rv_value::{Duplicate, Items, NoMemory, RowNo, Text, Value};
+use rv_value::{Duplicate, Items, NoMemory, RowNo, Shared, Text, Value};
 use std::alloc::Global;
 
 /// The limits, in the order in which those of the statement and then those of the state are tested.
@@ -92,31 +92,6 @@ pub struct Shown {
     pub fetches: u64,
 }
 
-impl Duplicate for ShownEvent {
-    fn copy(&self, alloc: Global) -> Result<ShownEvent, NoMemory> {
-        Ok(match self {
-            ShownEvent::At(control) => ShownEvent::At(*control),
-            ShownEvent::Scan(name) => ShownEvent::Scan(name.copy(alloc)?),
-            ShownEvent::List(name, keys) => ShownEvent::List(name.copy(alloc)?, *keys),
-            ShownEvent::Drop(name) => ShownEvent::Drop(name.copy(alloc)?),
-            ShownEvent::Full => ShownEvent::Full,
-            ShownEvent::Stop => ShownEvent::Stop,
-        })
-    }
-}
-
-impl Duplicate for Shown {
-    fn copy(&self, alloc: Global) -> Result<Shown, NoMemory> {
-        Ok(Shown {
-            strategy: self.strategy,
-            events: self.events.copy(alloc)?,
-            pages: self.pages,
-            leaves: self.leaves,
-            fetches: self.fetches,
-        })
-    }
-}
-
 /// The reply to a call.
 #[derive(Drop, Debug, PartialEq, Eq)]
 pub enum Reply {
@@ -135,8 +110,8 @@ pub enum Reply {
     Closed,
     /// How many background steps were done.
     Stepped(u64),
-    /// What the cursor's plan did so far.
-    Trace(Shown),
+    /// What the cursor's plan did so far. It is shared, so that every reply is small.
+    Trace(Shared<Shown>),
     Refused(Refusal),
 }
 

@@ -8,7 +8,6 @@ use Rattle.std.proofs.lemmas.Grind.{common_steps}
 use Rattle.std.proofs.lemmas.List.Folds.{find_at}
 use Rattle.std.proofs.lemmas.List.Quantifiers.{position-Some}
 use Rattle.std.proofs.lemmas.Option.{same_Some, slice_get_past}
-use Rattle.std.proofs.lemmas.List.{nil_from_length}
 use Rattle.rv_value.proofs.Lists.{all_at}
 use Rattle.rv_rows.specs.declared.changes.Change.{Change}
 use Rattle.rv_rows.specs.Changes.{with_change, with_changes}
@@ -109,9 +108,6 @@ made_is shown session base changes written frozen view is keeps its at = record 
   changes = ap (λ (f : Frozen). f.changes) is ∙ its;
   keeps = subst (λ (f : Frozen). Keeps shown f written) (sym is) keeps;
 }
-
-pub made_of_none : (shown : Shown) (session base : ℕ) (changes : List Change) (v : OwnView) → length changes ≡ 0 → IsMadeOf shown session base [] v → IsMadeOf shown session base changes v
-made_of_none shown session base changes v none made = subst (λ cs. IsMadeOf shown session base cs v) (sym (nil_from_length changes none)) made
 
 -- one change more
 pub changes_next : (cs : List Change) (k : ℕ) (c : Change) (changes : List Change) → slice_get cs k ≡ Some c → with_change c (with_changes (take k cs) changes) ≡ with_changes (take (suc k) cs) changes

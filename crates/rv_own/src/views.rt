@@ -1,4 +1,5 @@
-//! The views of transactions, kept up to date with their changes: a cursor reads the view as it stands when it is opened.
+//! The views of transactions, kept up to date with their changes from the first cursor on: a cursor reads the view as it stands
+//! when it is opened.
 ghost use Rattle.std.specs.Prelude.{◌≡◌, ◌<◌, ◌==◌, ◌⊎◌, ◌∷◌, ◌++◌, [], Some, IfOk, IfSome, List, ℕ, length, position, slice_index_or};
 ghost use Rattle.std.specs.List.{AllByRecursion};
 ghost use Rattle.rv_rows.specs.Changes.{Rise, with_changes};
@@ -27,8 +28,9 @@ pub struct OwnView {
     pub written: Blocks<Change>,
 }
 
-/// The views of the transactions that have changes. Of one whose view found no memory none is kept: it is made anew when
-/// a cursor is opened.
+/// The views of transactions that have changes. One is made when it is first asked for, of all changes that the transaction has
+/// by then, and kept up to date from then on; of a transaction that opens no cursor none is made. Of one whose view found no
+/// memory none is kept: it is made anew when it is asked for again.
 #[derive(Drop)]
 pub struct Views {
     alloc: Global,
@@ -63,8 +65,8 @@ impl Views {
         let_go_of(&mut self.views, session);
     }
 
-    /// Brings the view of a transaction up to date with changes that are about to be put. Where no memory is found, or
-    /// where none was kept of earlier changes, none is kept.
+    /// Brings the view of a transaction, where one is kept, up to date with changes that are about to be put. Where no memory
+    /// is found none is kept any more. Without a view it does nothing.
     pub fn keep<S: Store + Reader<Ledger = Uncounted>>(
         &mut self,
         store: &S,
@@ -80,7 +82,8 @@ impl Views {
     }
 
     /// The view of a transaction as it stands, for a cursor that is opened: None where it has no changes. It copies no
-    /// list where the view is kept, and else makes it of all changes.
+    /// list where the view is kept, and else makes it of all changes, in time that grows with their number: once for each
+    /// transaction, unless memory is wanting.
     pub fn freeze<S: Store + Reader<Ledger = Uncounted>>(
         &mut self,
         store: &S,
@@ -152,44 +155,6 @@ fn made_of<S: Store + Reader<Ledger = Uncounted>>(
     })
 }
 
-/// The view of a transaction that has no changes yet.
-fn begun<S: Store + Reader<Ledger = Uncounted>>(
-    alloc: Global,
-    store: &S,
-    indexes: &[IndexDef],
-    own: &Transaction,
-) -> Option<OwnView>
-    requires { AreIndexes (S.shown store.now) indexes.now }
-    ensures { IfSome result (IsMadeOf (S.shown store.now) own.now.session own.now.base own.now.changes) }
-{
-    if own.changes.len() != 0 {
-        return None;
-    }
-    match made_of(alloc, store, indexes, own, &[]) {
-        Ok(view) => Some(view),
-        Err(NoMemory) => None,
-    }
-}
-
-/// The view to go on with: the one that is kept for the transaction, or a new one where it has no changes yet.
-fn resumed<S: Store + Reader<Ledger = Uncounted>>(
-    alloc: Global,
-    views: &mut Items<OwnView>,
-    store: &S,
-    indexes: &[IndexDef],
-    own: &Transaction,
-) -> Option<OwnView>
-    requires indexes { AreIndexes (S.shown store.now) indexes.now }
-    requires kept { AreOwn (S.shown store.now) own.now views.old }
-    ensures left { views.new ≡ others own.now.session views.old }
-    ensures own { IfSome result (IsMadeOf (S.shown store.now) own.now.session own.now.base own.now.changes) }
-{
-    match take(views, own.session) {
-        Some(view) => Some(view),
-        None => begun(alloc, store, indexes, own),
-    }
-}
-
 /// A view, brought up to date with further changes.
 fn kept_on<S: Store + Reader<Ledger = Uncounted>>(
     alloc: Global,
@@ -218,8 +183,8 @@ fn kept_on<S: Store + Reader<Ledger = Uncounted>>(
     })
 }
 
-/// The view of a transaction, brought up to date with changes that are about to be put, and taken out of those that are
-/// kept. None where there is no memory for it, or where none was kept of earlier changes.
+/// The view that is kept for a transaction, brought up to date with changes that are about to be put, and taken out of those that
+/// are kept. None where there is no memory for it, or where none was kept.
 fn updated<S: Store + Reader<Ledger = Uncounted>>(
     alloc: Global,
     views: &mut Items<OwnView>,
@@ -233,7 +198,7 @@ fn updated<S: Store + Reader<Ledger = Uncounted>>(
     ensures left { views.new ≡ others own.now.session views.old }
     ensures own { IfSome result (IsMadeOf (S.shown store.now) own.now.session own.now.base (with_changes new.now own.now.changes)) }
 {
-    let Some(view) = resumed(alloc, views, store, indexes, own) else {
+    let Some(view) = take(views, own.session) else {
         return None;
     };
     match kept_on(alloc, view, store, indexes, new) {

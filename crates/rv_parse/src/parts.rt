@@ -8,7 +8,7 @@ ghost use Rattle.rv_parse.specs.Reading.{Gives, word_at, name_at, integer_at, te
 
 use crate::fault::ParseFault;
 use rv_lang::{RawCol, RawOp, RawOperand, Symbol, Token};
-use rv_value::{Duplicate, Text, Value};
+use rv_value::{Duplicate, SharedText, Text, Value};
 use std::alloc::Global;
 
 /// The words that are no names, by their lengths: those of two letters, and so on up to eight.
@@ -100,7 +100,10 @@ pub fn literal<'a>(alloc: Global, tokens: &'a [Token]) -> Result<(Value, &'a [To
 {
     match tokens {
         [Token::Int(n), rest @ ..] => Ok((Value::Int(*n), rest)),
-        [Token::Str(text), rest @ ..] => Ok((Value::Str(text.copy(alloc)?), rest)),
+        [Token::Str(text), rest @ ..] => {
+            let text = SharedText::read(alloc, text.as_str())?;
+            Ok((Value::Str(text), rest))
+        }
         [Token::Word(text), rest @ ..] => {
             if same(text.as_str(), "NULL") {
                 Ok((Value::Null, rest))

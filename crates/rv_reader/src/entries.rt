@@ -41,7 +41,7 @@ pub fn key_of(alloc: Global, values: &[Value], columns: &[u32]) -> Result<Key, N
         return Ok(Key::one(column_value(alloc, values, *column)?));
     }
     let key = key_values(alloc, values, columns)?;
-    Ok(Key::from_vec(key))
+    Key::of(alloc, key)
 }
 
 /// The entry of a row of these values in an index of these columns, one to four.

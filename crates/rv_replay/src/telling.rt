@@ -31,7 +31,7 @@ pub fn may_tell(
     ensures { IfOk result (λ allowed. IsTrue allowed ↔ Showing indexes.now table given.now) }
 {
     match given {
-        Reply::Trace(shown) => may_show(alloc, indexes, table, shown),
+        Reply::Trace(shown) => may_show(alloc, indexes, table, shown.get()),
         _ => Ok(false),
     }
 }

@@ -13,7 +13,9 @@ ghost use Rattle.rv_restrict.specs.Limits.{end_of, end_option, given_option, lim
 
 use crate::atom::{Atom, Op, Operand};
 use crate::truth::{Restriction, null};
-use rv_value::{Bound, Duplicate, Key, NoMemory, Range, Text, Value, cmp_value, copy_slice};
+use rv_value::{
+    Bound, Duplicate, Key, NoMemory, Range, SharedText, Text, Value, cmp_value, copy_slice,
+};
 use std::alloc::Global;
 use std::cmp::Ordering;
 
@@ -342,7 +344,7 @@ impl<'a> Edge<'a> {
         let mut prefix = prefix;
         prefix.push(self.value.copy(alloc)?)?;
         Ok(Bound {
-            key: Key::from_vec(prefix),
+            key: Key::of(alloc, prefix)?,
             closed: self.closed,
         })
     }
@@ -367,10 +369,10 @@ fn starting_range(alloc: Global, prefix: Vec<Value>, text: &Text) -> Result<Rang
     ensures { IfOk result (λ r. r ≡ Rattle.rv_restrict.specs.Ranges.starting_range prefix.items text.now) }
 {
     let mut prefix = prefix;
-    prefix.push(Value::Str(text.copy(alloc)?))?;
+    prefix.push(Value::Str(SharedText::read(alloc, text.as_str())?))?;
     Ok(Range {
         low: Some(Bound {
-            key: Key::from_vec(prefix),
+            key: Key::of(alloc, prefix)?,
             closed: true,
         }),
         high: None,
@@ -404,7 +406,7 @@ fn high_end<'a>(
     ensures { IfOk result (λ b. b ≡ high_bound prefix.items (end_option high.entry)) }
 {
     match high {
-        None => Ok(prefix_end(prefix)),
+        None => prefix_end(alloc, prefix),
         Some(high) => Ok(Some(high.bound(alloc, prefix)?)),
     }
 }
@@ -415,23 +417,31 @@ fn equal_range(alloc: Global, prefix: Vec<Value>) -> Result<Range, NoMemory>
     ensures { IfOk result (λ r. r ≡ Rattle.rv_restrict.specs.Ranges.equal_range prefix.items) }
 {
     let copy = copy_slice(alloc, prefix.as_slice())?;
+    let low = prefix_end(alloc, prefix)?;
+    let high = match prefix_end(alloc, copy) {
+        Ok(high) => high,
+        Err(fault) => {
+            drop(low);
+            return Err(fault);
+        }
+    };
     Ok(Range {
-        low: prefix_end(prefix),
-        high: prefix_end(copy),
+        low,
+        high,
         starts: false,
     })
 }
 
 /// The closed bound of a prefix; none where it is empty.
-fn prefix_end(prefix: Vec<Value>) -> Option<Bound>
+fn prefix_end(alloc: Global, prefix: Vec<Value>) -> Result<Option<Bound>, NoMemory>
     requires { length prefix.items ≤ 4 }
-    ensures { result ≡ closed_bound prefix.items }
+    ensures { IfOk result (λ bound. bound ≡ closed_bound prefix.items) }
 {
     if prefix.is_empty() {
-        return None;
+        return Ok(None);
     }
-    Some(Bound {
-        key: Key::from_vec(prefix),
+    Ok(Some(Bound {
+        key: Key::of(alloc, prefix)?,
         closed: true,
-    })
+    }))
 }

@@ -84,7 +84,7 @@ fn write_reply<K: Sink>(
         Reply::End => write_next(sink, sofar, b"end"),
         Reply::Closed => write_next(sink, sofar, b"closed"),
         Reply::Stepped(count) => write_number(sink, sofar, b"stepped ", *count),
-        Reply::Trace(shown) => write_trace(sink, sofar, shown),
+        Reply::Trace(shown) => write_trace(sink, sofar, shown.get()),
         Reply::Refused(refusal) => write_refusal(sink, sofar, refusal),
     }
 }

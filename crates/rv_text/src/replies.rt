@@ -10,7 +10,7 @@ use crate::traces::{name, trace};
 use crate::values::{number, values};
 use crate::words::limit_word;
 use rv_model::{Refusal, Reply, Rival, Which};
-use rv_value::{NoMemory, RowNo, Text};
+use rv_value::{NoMemory, RowNo, Shared, Text};
 use std::alloc::Global;
 
 const LIMITS: [Which; 16] = [
@@ -301,7 +301,10 @@ fn shown(alloc: Global, text: &[u8]) -> Result<Option<Reply>, NoMemory>
 {
     match after(b"trace ", text) {
         Some(rest) => match trace(alloc, rest)? {
-            Some(shown) => Ok(Some(Reply::Trace(shown))),
+            Some(shown) => {
+                let shared = Shared::new(alloc, shown)?;
+                Ok(Some(Reply::Trace(shared)))
+            }
             None => Ok(None),
         },
         None => Ok(None),

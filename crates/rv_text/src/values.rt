@@ -5,7 +5,7 @@ ghost use Rattle.std.specs.Option.{option_copied};
 ghost use Rattle.rv_text.specs.Values.{integer_at, integer_of, number_at, pieces_of, spaced_value, text_of, unquoted, value_at, value_before, value_cut, values_at, more_values};
 
 use itoa::Buffer;
-use rv_value::{Items, NoMemory, Text, Value};
+use rv_value::{Items, NoMemory, SharedText, Value};
 use std::alloc::Global;
 
 /// A number, where a text is what is written of it.
@@ -101,7 +101,7 @@ fn text_value(alloc: Global, bytes: &[u8]) -> Result<Option<Value>, NoMemory>
 {
     match str::from_utf8(bytes) {
         Ok(text) => {
-            let text = Text::read(alloc, text)?;
+            let text = SharedText::read(alloc, text)?;
             Ok(Some(Value::Str(text)))
         }
         Err(_) => Ok(None),

@@ -6,4 +6,4 @@ use Rattle.rv_value.specs.declared.key.Kept.TheVariants.{One, More}
 
 abbrev pub kept_values : Kept → List Value
 kept_values (One value) = value ∷ []
-kept_values (More values) = values.items
+kept_values (More values) = values

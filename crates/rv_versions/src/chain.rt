@@ -1,8 +1,8 @@
-ghost use Rattle.std.specs.Prelude.{◌≡◌, ℕ, ◌+◌, ◌<◌, ◌≤◌, [], Some, drop, length, IfErr, IfSome, IfNone, OnOk};
+ghost use Rattle.std.specs.Prelude.{◌≡◌, ℕ, ◌+◌, ◌<◌, ◌≤◌, [], Some, drop, length, IfErr, IfOk, IfSome, IfNone, OnOk};
 ghost use Rattle.std.specs.Option.{option_copied};
 ghost use Rattle.rv_versions.specs.Chains.{value_at, AscendFrom, AllBelow, IsWritten, versions_to};
 
-use std::alloc::Global;
+use std::alloc::{AllocError, Global};
 use std::marker::Model;
 
 /// A value, and the commit that gave it.
@@ -38,6 +38,15 @@ impl<T: Drop> Chain<T> {
         Chain {
             versions: Vec::new(alloc),
         }
+    }
+
+    /// No version, with room for one and no more, since most values have one.
+    pub fn with_room(alloc: Global) -> Result<Chain<T>, AllocError>
+        ensures { IfOk result (λ chain. chain ≡ []) }
+    {
+        Ok(Chain {
+            versions: Vec::with_capacity(alloc, 1)?,
+        })
     }
 
     /// The value at a snapshot; None exactly where no version is at or below it.

@@ -104,7 +104,9 @@ impl<T: Drop> Versions<T> {
         if self.chains.reserve(id - self.chains.len() + 1).is_err() {
             return Err(value);
         }
-        let mut chain = Chain::new(self.alloc);
+        let Ok(mut chain) = Chain::with_room(self.alloc) else {
+            return Err(value);
+        };
         chain.write(commit, value)?;
         fill(self.alloc, &mut self.chains, id);
         match self.chains.push(chain) {

@@ -84,7 +84,7 @@ pub fn whole() -> Range
 fn bound(alloc: Global, value: i64) -> Result<Option<Bound>, NoMemory>
     ensures { IfOk result (λ bound. IsNarrow (record { low = bound; high = bound; starts = false })) }
 {
-    let key = Key::from_vec(vec![in alloc; Value::Int(value)]?);
+    let key = Key::of(alloc, vec![in alloc; Value::Int(value)]?)?;
     Ok(Some(Bound { key, closed: true }))
 }
 

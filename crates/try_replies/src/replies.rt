@@ -1,14 +1,14 @@
 //! A reply of each kind, by its number.
 use rv_judge::{Control, Strategy};
 use rv_model::{Refusal, Reply, Rival, Shown, ShownEvent, Which};
-use rv_value::{Items, NoMemory, RowNo, Text, Value};
+use rv_value::{Items, NoMemory, RowNo, Shared, SharedText, Text, Value};
 use std::alloc::Global;
 
 fn row(alloc: Global) -> Result<Reply, NoMemory> {
     let mut values = Vec::new(alloc);
     values.push(Value::Int(-7))?;
     values.push(Value::Null)?;
-    values.push(Value::Str(Text::read(alloc, "it's")?))?;
+    values.push(Value::Str(SharedText::read(alloc, "it's")?))?;
     Ok(Reply::Row(Items::from_vec(values)))
 }
 
@@ -21,13 +21,14 @@ fn trace(alloc: Global) -> Result<Reply, NoMemory> {
     events.push(ShownEvent::Full)?;
     events.push(ShownEvent::Stop)?;
     events.push(ShownEvent::At(Control::FinalList))?;
-    Ok(Reply::Trace(Shown {
+    let shown = Shown {
         strategy: Strategy::FastFirst,
         events,
         pages: 1,
         leaves: 2,
         fetches: 3,
-    }))
+    };
+    Ok(Reply::Trace(Shared::new(alloc, shown)?))
 }
 
 /// What was answered.

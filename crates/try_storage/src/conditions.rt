@@ -1,7 +1,7 @@
 //! Restrictions and values, from their text.
 use crate::read::{Fault, integer};
 use rv_restrict::{Atom, ColRef, Op, Operand, Restriction, Tri};
-use rv_value::{Text, Value, Values};
+use rv_value::{SharedText, Text, Value, Values};
 use std::alloc::Global;
 
 /// The value of a word: N for NULL, a text behind a quote, else a number.
@@ -10,7 +10,7 @@ pub fn value(alloc: Global, word: &str) -> Result<Value, Fault> {
         return Ok(Value::Null);
     }
     match word.strip_prefix("'") {
-        Some(text) => Ok(Value::Str(Text::read(alloc, text)?)),
+        Some(text) => Ok(Value::Str(SharedText::read(alloc, text)?)),
         None => Ok(Value::Int(integer(word)?)),
     }
 }

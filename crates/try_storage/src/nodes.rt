@@ -8,7 +8,7 @@ use rv_value::{Bound, Duplicate, IndexEntry, Key, NoMemory, Range, RowNo, Value}
 use std::alloc::Global;
 
 fn key(alloc: Global, first: i64) -> Result<Key, NoMemory> {
-    Ok(Key::from_vec(vec![in alloc; Value::Int(first)]?))
+    Key::of(alloc, vec![in alloc; Value::Int(first)]?)
 }
 
 fn entry(alloc: Global, first: i64) -> Result<IndexEntry, NoMemory> {

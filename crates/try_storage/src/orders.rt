@@ -29,15 +29,15 @@ pub fn told_values(alloc: Global, text: &str) -> Result<String, Fault> {
 }
 
 /// A key of one to four values.
-fn keyed(values: Vec<Value>) -> Result<Key, Fault> {
+fn keyed(alloc: Global, values: Vec<Value>) -> Result<Key, Fault> {
     if values.is_empty() || values.len() > 4 {
         return Err(Fault::Form);
     }
-    Ok(Key::from_vec(values))
+    Ok(Key::of(alloc, values)?)
 }
 
 pub fn key(alloc: Global, text: &str) -> Result<Key, Fault> {
-    keyed(values(alloc, text)?)
+    keyed(alloc, values(alloc, text)?)
 }
 
 /// The two orders of two keys: by as many values as both have, and by all.

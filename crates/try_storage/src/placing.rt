@@ -57,7 +57,7 @@ fn key_of(alloc: Global, columns: &[u32], row: &Values) -> Result<Key, Fault> {
     if key.is_empty() || key.len() > 4 {
         return Err(Fault::Form);
     }
-    Ok(Key::from_vec(key))
+    Ok(Key::of(alloc, key)?)
 }
 
 fn truth_word(truth: Tri) -> &'static str {

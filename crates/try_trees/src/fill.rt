@@ -8,7 +8,7 @@ use std::alloc::Global;
 fn key(alloc: Global, value: i64) -> Result<Key, NoMemory>
     ensures { IfOk result (λ key. length key ≡ 1) }
 {
-    Ok(Key::from_vec(vec![in alloc; Value::Int(value)]?))
+    Key::of(alloc, vec![in alloc; Value::Int(value)]?)
 }
 
 fn entry(alloc: Global, row: u32) -> Result<IndexEntry, NoMemory>

@@ -1,12 +1,12 @@
 use Rattle.rv_core.proofs.Databases.{commits_all, commits_sees, commits_standing, sees_again, stand_again, standing_same}
 use Rattle.std.proofs.Common.{refl}
-use Rattle.rv_core.proofs.Owning.{views_committed, views_same}
+use Rattle.rv_core.proofs.Owning.{views_committed, views_gone, views_same}
 use Rattle.rv_core.proofs.database.Database.commit.Goals as goal
 
 pub invariant_of-self : goal.invariant_of-self
 invariant_of-self g c =
     let standing = standing_same (g.S.Reader.shown c.self.inside.store) (g.S.Reader.shown c.commit_some.new.store) c.self.inside.catalog c.self.inside.catalog c.self.inside.txns c.self.inside.cursors c.self.inside.opened refl c.in-Err.ensures.err c.self.invariant.standing in
-    record { standing = standing; views_kept = views_same (g.S.Reader.shown c.self.inside.store) (g.S.Reader.shown c.commit_some.new.store) c.self.inside.catalog c.self.inside.catalog c.self.inside.txns c.self.inside.views c.last-last.ensures.stored c.in-Err.ensures.err c.self.invariant.standing.tied standing.tied c.self.invariant.views_kept }
+    record { standing = standing; views_kept = views_same (g.S.Reader.shown c.self.inside.store) (g.S.Reader.shown c.commit_some.new.store) c.self.inside.catalog c.self.inside.catalog c.self.inside.txns c.let_go.new.self c.last-last.ensures.stored c.in-Err.ensures.err c.self.invariant.standing.tied standing.tied (views_gone (g.S.Reader.shown c.self.inside.store) c.self.inside.txns.active c.self.inside.views c.let_go.new.self c.args.session c.let_go.ensures c.self.invariant.views_kept) }
 
 pub returns-in-Err-clause-err : goal.returns-in-Err-clause-err
 returns-in-Err-clause-err g c = rw (← c.self.view_is) (stand_again (g.S.Reader.shown c.self.inside.store) (g.S.Reader.shown c.commit_some.new.store) c.self.inside.catalog c.self.inside.catalog c.self.inside.txns c.self.inside.cursors c.self.inside.opened refl c.in-Err.ensures.err c.self.invariant.standing)
