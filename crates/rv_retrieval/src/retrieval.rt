@@ -466,7 +466,8 @@ impl Retrieval {
 
 impl Retrieval {
     /// A retrieval under a strategy, with these background scans and this scan of an index as the foreground, which is
-    /// used where the strategy is sorted or index-only. It has read nothing, and nothing stands in its trace.
+    /// used where the strategy is sorted or index-only. It has read nothing, and nothing stands in its trace. It is put into a
+    /// box at once, since it is large and goes through many hands.
     pub(crate) fn make(
         alloc: Global,
         query: Query,
@@ -476,14 +477,14 @@ impl Retrieval {
         guaranteed: u64,
         cursor: u64,
         opening: u64,
-    ) -> Result<Retrieval, NoMemory>
+    ) -> Result<Box<Retrieval>, NoMemory>
         requires { length scans.items ≤ 8 }
-        ensures begun { IfOk result (Begun query strategy scans.items front guaranteed cursor opening) }
-        ensures told { IfOk result (λ r. r.trace ≡ new_trace strategy) }
-        ensures fits { (shown : Shown) → Opens query strategy scans.items front shown → IfOk result (λ r. RetrievalFits r shown) }
-        ensures rest { (shown : Shown) → Opens query strategy scans.items front shown → IfOk result (λ r. rest r shown ≡ qualifying query.only (shown.rows query.table query.snap)) }
-        ensures unborrowed { IfOk result (λ r. r.borrowed ≡ 0) }
-        ensures last { (rows : List OneRecord) (pages : ℕ) → IfOk result (λ r. pages_work r.last rows pages ≡ length rows + pages) }
+        ensures begun { IfOk result (λ r. Begun query strategy scans.items front guaranteed cursor opening r.value) }
+        ensures told { IfOk result (λ r. r.value.trace ≡ new_trace strategy) }
+        ensures fits { (shown : Shown) → Opens query strategy scans.items front shown → IfOk result (λ r. RetrievalFits r.value shown) }
+        ensures rest { (shown : Shown) → Opens query strategy scans.items front shown → IfOk result (λ r. rest r.value shown ≡ qualifying query.only (shown.rows query.table query.snap)) }
+        ensures unborrowed { IfOk result (λ r. r.value.borrowed ≡ 0) }
+        ensures last { (rows : List OneRecord) (pages : ℕ) → IfOk result (λ r. pages_work r.value.last rows pages ≡ length rows + pages) }
     {
         let delivered = match room(alloc, strategy) {
             Ok(delivered) => delivered,
@@ -497,7 +498,8 @@ impl Retrieval {
         let control = first_control(strategy, has_scans(scans.as_slice()));
         let ending = Final::new(alloc, query.table, query.snap);
         let joint = Jscan::new(alloc, query.table, query.snap, scans, cursor, opening);
-        Ok(Retrieval {
+        let trace = Trace::new(strategy);
+        let retrieval = Retrieval {
             alloc,
             query,
             strategy,
@@ -508,8 +510,10 @@ impl Retrieval {
             borrowed: 0,
             ending,
             guaranteed,
-            trace: Trace::new(strategy),
-        })
+            trace,
+        };
+        let boxed = Box::new(alloc, retrieval)?;
+        Ok(boxed)
     }
 
     /// Writes an event into the trace.

@@ -180,7 +180,7 @@ fn gathered<R: Reader>(
     ensures stays { would judge.new ≡ would judge.old }
 {
     let mut retrieval = Retrieval::open(alloc, reader, query, 0, 0, steps)?;
-    let found = gathered_of(alloc, reader, &mut retrieval, judge, steps);
+    let found = gathered_of(alloc, reader, &mut *retrieval, judge, steps);
     leave(retrieval);
     found
 }
