@@ -92,7 +92,7 @@ STATEMENTS = [
     (["ROLLBACK", "rollBack;"], "Rollback"),
     (
         ["INSERT INTO T VALUES (-5, 'it''s', NULL)", "insert into t values(-05,'it''s',null);"],
-        written("Insert", table=text("T"), values=items(number(-5), string("it's"), "Null")),
+        written("Insert", table=text("T"), values=values(number(-5), string("it's"), "Null")),
     ),
     (
         ["UPDATE T SET A = 1, B = NULL WHERE A < 3", "update t set a=1,b=null where(a<3);"],

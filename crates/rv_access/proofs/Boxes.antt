@@ -29,9 +29,6 @@ pub has_union : {a : Access} {b : Box UnitedQuery Global} {u : UnitedQuery} → 
 has_union {a} {b} {u} is e = is ∙ ap (with_union b) (sym e)
 
 -- what is said of a box with this value is said of the box that was made of it
-pub boxed_retrieval : (P : Access → Type 0) (b : Box Shape Global) (v : Shape) → b.value ≡ v → P (with_retrieval b v) → P (Competing b)
-boxed_retrieval P b v e p = subst (λ (x : Shape). P (with_retrieval b x)) (sym e) p
-
 pub boxed_race : (P : Access → Type 0) (b : Box RacedQuery Global) (r : RacedQuery) → b.value ≡ r → P (with_race b r) → P (Racing b)
 boxed_race P b r e p = subst (λ (x : RacedQuery). P (with_race b x)) (sym e) p
 

@@ -143,8 +143,7 @@ impl Access {
         let retrieval = Retrieval::open_chosen(
             alloc, reader, query, candidates, choice, cursor, opening, steps,
         )?;
-        let boxed = Box::new(alloc, retrieval)?;
-        Ok(Access::Competing(boxed))
+        Ok(Access::Competing(retrieval))
     }
 
     /// Opens a race of what was chosen. It reads nothing.

@@ -323,7 +323,7 @@ fn count_columns(statement: &Statement) -> usize
 {
     match statement {
         Statement::CreateTable { name: _, columns } => columns.len(),
-        Statement::Insert { table: _, values } => values.len(),
+        Statement::Insert { table: _, values } => values.as_slice().len(),
         Statement::Update { sets, .. } => sets.len(),
         _ => 0,
     }

@@ -15,7 +15,7 @@ use crate::limits::test_limits;
 use crate::names::Catalog;
 use rv_lang::{RawAtom, RawCol, RawGoal, RawKind, Statement};
 use rv_restrict::{ColRef, Restriction};
-use rv_value::{Duplicate, Items, Kind, NoMemory, Text, Value, Values, copy_slice};
+use rv_value::{Duplicate, Items, Kind, NoMemory, Text, Value, Values};
 use std::alloc::Global;
 
 impl Catalog {
@@ -56,9 +56,7 @@ fn resolve_form(
         Statement::Begin { read_only } => Ok(Resolved::Begin {
             read_only: *read_only,
         }),
-        Statement::Insert { table, values } => {
-            resolve_insert(alloc, catalog, table, values.as_slice())
-        }
+        Statement::Insert { table, values } => resolve_insert(alloc, catalog, table, values),
         Statement::Update { table, sets, only } => {
             resolve_update(alloc, catalog, table, sets.as_slice(), only.as_slice())
         }
@@ -275,16 +273,15 @@ fn resolve_insert(
     alloc: Global,
     catalog: &Catalog,
     table: &Text,
-    values: &[Value],
+    values: &Values,
 ) -> Result<Resolved, BindFault>
     ensures { Gives result (inserted catalog.now table.now values.now) }
 {
     let number = number_of(alloc, catalog, table)?;
-    check_row(alloc, "", catalog.columns(number), values)?;
-    let row = copy_slice(alloc, values)?;
+    check_row(alloc, "", catalog.columns(number), values.as_slice())?;
     Ok(Resolved::Insert {
         table: number,
-        values: Values::of(alloc, row)?,
+        values: values.copy(alloc)?,
     })
 }
 

@@ -13,7 +13,7 @@ ghost use Rattle.rv_join.specs.Asking.{Adds, AreWide, Asks, CanPlan, CanRun, IsA
 
 use rv_access::Access;
 use rv_catalog::{Goal, IndexDef, Select};
-use rv_choice::{Goal2, Query, ordered};
+use rv_choice::{Goal2, Query, Shared, ordered};
 use rv_judge::Steps;
 use rv_reader::Reader;
 use rv_restrict::{Atom, ColRef, Operand, Restriction};
@@ -21,12 +21,12 @@ use rv_value::{Duplicate, Items, NoMemory, Values};
 use std::alloc::Global;
 
 /// A FROM item: its table, the table's indexes in order of creation, each with its number and its columns, the columns
-/// needed of the item, and those by which its rows are to come in order.
+/// needed of the item, and those by which its rows are to come in order. What each of its openings is asked alike is shared.
 #[derive(Drop, Debug)]
 pub struct Item {
     pub table: u32,
-    pub indexes: Items<(u32, Items<u32>)>,
-    pub need: Items<u32>,
+    pub indexes: Shared<(u32, Items<u32>)>,
+    pub need: Shared<u32>,
     pub order: Items<u32>,
 }
 
@@ -270,6 +270,29 @@ fn order_at(
     }
 }
 
+/// The indexes over a table, of which each opening of an item has the same.
+fn indexes_shared(
+    alloc: Global,
+    table: u32,
+    indexes: &[IndexDef],
+) -> Result<Shared<(u32, Items<u32>)>, NoMemory>
+    requires { length indexes.now < 2 ^ 32 }
+    ensures { IfOk result (λ found. found ≡ indexes_from table 0 indexes.now) }
+{
+    let over = indexes_over(alloc, table, indexes)?;
+    let shared = Shared::of(alloc, over.into_vec())?;
+    Ok(shared)
+}
+
+/// The columns needed of one FROM item, of which each opening of it has the same.
+fn need_shared(alloc: Global, select: &Select, place: u32) -> Result<Shared<u32>, NoMemory>
+    ensures { IfOk result (λ need. (c : ℕ) → stands_among need c ≡ select_uses select.now (col_at place c)) }
+{
+    let named = needed(alloc, select, place)?;
+    let shared = Shared::of(alloc, named.into_vec())?;
+    Ok(shared)
+}
+
 fn item_of(
     alloc: Global,
     select: &Select,
@@ -283,8 +306,8 @@ fn item_of(
     let table = select.tables.as_slice()[place as usize];
     Ok(Item {
         table,
-        indexes: indexes_over(alloc, table, indexes)?,
-        need: needed(alloc, select, place)?,
+        indexes: indexes_shared(alloc, table, indexes)?,
+        need: need_shared(alloc, select, place)?,
         order: order_at(alloc, select, indexes, place)?,
     })
 }

@@ -19,7 +19,7 @@ pub enum Statement {
     },
     Insert {
         table: Text,
-        values: Items<Value>,
+        values: Values,
     },
     /// Without WHERE `only` has no group.
     Update {

@@ -1,6 +1,8 @@
 -- Searches by halves among entries that ascend.
-use Rattle.std.proofs.Common.{◌≡◌, ℕ, zero, suc, ◌+◌, ◌≤◌, List, [], ◌∷◌, Bool, true, not, refl, ap, sym, ◌∙◌, subst, arith, length, filter, take, drop}
+use Rattle.std.proofs.Common.{◌≡◌, ℕ, zero, suc, ◌+◌, ◌-◌, ◌≤◌, Some, List, [], ◌∷◌, Bool, true, not, refl, ap, sym, ◌∙◌, subst, arith, length, filter, take, drop}
 use Rattle.std.proofs.lemmas.Bool.{and_parts, not-true}
+use Rattle.std.proofs.lemmas.Option.{same_Some}
+use Rattle.std.specs.Prelude.{slice_get}
 use Rattle.std.specs.List.{list_all}
 use Rattle.std.specs.List.Sorted.{IsPartitionedBy}
 use Rattle.rv_value.proofs.Lists.{passes_take}
@@ -57,11 +59,28 @@ passed_parts p (x ∷ xs) (suc k) h l = let rest = passed_parts p xs k h.1 (omeg
 pub found_last : (range : Range) (lows behind : List IndexEntry) (k : ℕ) → behind ≡ drop 1 lows → PassesTo (is_not_after range) k behind → k ≤ length behind → k ≡ last_child range lows
 found_last range lows behind k is passes bound = let same : k ≡ 0 + k = omega arith in same ∙ sym (last_passed (is_not_after range) behind k 1 0 passes bound refl) ∙ ap (last_place (is_not_after range) 1 0) is
 
-pub found_first : (range : Range) (lows behind front : List IndexEntry) (k last : ℕ) → behind ≡ drop 1 lows → front ≡ take last behind → last ≡ last_child range lows → PassesTo (is_before range) k front → k ≤ length front → k ≡ first_child range lows
-found_first range lows behind front k last is cut at passes bound =
+pub found_first : (range : Range) (lows behind front : List IndexEntry) (k last : ℕ) → behind ≡ drop 1 lows → front ≡ take last behind → last ≡ last_child range lows → k ≡ last_place (is_before range) 1 0 front → k ≡ first_child range lows
+found_first range lows behind front k last is cut at first =
     let front_is : front ≡ take (last_child range lows) (drop 1 lows) = cut ∙ ap (λ (n : ℕ). take n behind) at ∙ ap (take (last_child range lows)) is in
-    let same : k ≡ 0 + k = omega arith in
-    same ∙ sym (last_passed (is_before range) front k 1 0 passes bound refl) ∙ ap (last_place (is_before range) 1 0) front_is
+    first ∙ ap (last_place (is_before range) 1 0) front_is
+
+pub counted_place : {X : Type 0} (p : X → Bool) (xs : List X) (k : ℕ) → PassesTo p k xs → k ≤ length xs → k ≡ last_place p 1 0 xs
+counted_place p xs k passes bound = let same : k ≡ 0 + k = omega arith in same ∙ sym (last_passed p xs k 1 0 passes bound refl)
+
+-- Where the last item passes, its place is the last that passes.
+
+last_is : {X : Type 0} (p : X → Bool) (xs : List X) (i n b : ℕ) (y : X) → i + 1 ≡ length xs → slice_get xs i ≡ Some y → p y ≡ true → last_place p n b xs ≡ n + i
+last_is p [] i n b y long got yes = absurd (omega (arith, long))
+last_is p (x ∷ []) zero n b y long got yes = let same : n ≡ n + 0 = omega arith in rw (ap p (same_Some x y got) ∙ yes) same
+last_is p (x ∷ z ∷ zs) zero n b y long got yes = absurd (omega (arith, long))
+last_is p (x ∷ xs) (suc i) n b y long got yes = let same : n + 1 + i ≡ n + suc i = omega arith in last_is p xs i (n + 1) _ y (omega (arith, long)) got yes ∙ same
+
+pub last_found : {X : Type 0} (p : X → Bool) (xs : List X) (y : X) → slice_get xs (length xs - 1) ≡ Some y → p y ≡ true → last_place p 1 0 xs ≡ length xs
+last_found p [] y got yes = refl
+last_found p (x ∷ xs) y got yes =
+    let long : length (x ∷ xs) - 1 + 1 ≡ length (x ∷ xs) = omega arith in
+    let same : 1 + (length (x ∷ xs) - 1) ≡ length (x ∷ xs) = omega arith in
+    last_is p (x ∷ xs) (length (x ∷ xs) - 1) 1 0 y long got yes ∙ same
 
 -- A part in front.
 

@@ -8,7 +8,7 @@ use crate::list::{Part, Separator, list};
 use crate::parts::{close, equal, integer, literal, name, need, open, word};
 use crate::selects::open_cursor;
 use rv_lang::{RawKind, Statement, Token};
-use rv_value::{Text, Value};
+use rv_value::{Text, Value, Values};
 use std::alloc::Global;
 
 #[tactic(auto, unfolding(crate::specs::Reading::kind_at))]
@@ -129,6 +129,7 @@ fn insert<'a>(alloc: Global, tokens: &'a [Token]) -> Result<(Statement, &'a [Tok
     let rest = need(open(rest))?;
     let (values, rest) = list::<Value>(alloc, Separator::Comma, rest)?;
     let rest = need(close(rest))?;
+    let values = Values::of(alloc, values.into_vec())?;
     Ok((Statement::Insert { table, values }, rest))
 }
 

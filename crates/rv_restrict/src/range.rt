@@ -68,8 +68,7 @@ impl Restriction {
         ensures short { IfOk result (λ r. AreShort (length columns.now) r) }
         ensures covers { (row : List OneValue) → truth self.now row ≡ Tri.True → IfOk result (λ r. place r (key_of row columns.now) ≡ Side.In) }
     {
-        let prefix = Vec::with_capacity(alloc, columns.len())?;
-        range_from(alloc, self.groups(), columns, prefix)
+        range_from(alloc, self.groups(), columns, Vec::new(alloc))
     }
 }
 
@@ -416,20 +415,18 @@ fn equal_range(alloc: Global, prefix: Vec<Value>) -> Result<Range, NoMemory>
     requires { length prefix.items ≤ 4 }
     ensures { IfOk result (λ r. r ≡ Rattle.rv_restrict.specs.Ranges.equal_range prefix.items) }
 {
-    let copy = copy_slice(alloc, prefix.as_slice())?;
     let low = prefix_end(alloc, prefix)?;
-    let high = match prefix_end(alloc, copy) {
-        Ok(high) => high,
+    match low.copy(alloc) {
+        Ok(high) => Ok(Range {
+            low,
+            high,
+            starts: false,
+        }),
         Err(fault) => {
             drop(low);
-            return Err(fault);
+            Err(fault)
         }
-    };
-    Ok(Range {
-        low,
-        high,
-        starts: false,
-    })
+    }
 }
 
 /// The closed bound of a prefix; none where it is empty.

@@ -1,5 +1,6 @@
 -- What is chosen among a query's indexes can be opened.
-use Rattle.std.proofs.Common.{◌≡◌, ℕ, zero, suc, ◌<◌, ◌≤◌, ◌⊎◌, List, [], ◌∷◌, length, Bool, true, false, not, ◌&&◌, ◌||◌, refl, ap, sym, ◌∙◌, arith, subst, Some, None, Option, nat_eq, nat_lt, inl, inr, map, filter, cond, Result, Ok, Err, IfOk}
+use Rattle.std.proofs.Common.{Box, ◌≡◌, ℕ, zero, suc, ◌<◌, ◌≤◌, ◌⊎◌, List, [], ◌∷◌, length, Bool, true, false, not, ◌&&◌, ◌||◌, refl, ap, sym, ◌∙◌, arith, subst, Some, None, Option, nat_eq, nat_lt, inl, inr, map, filter, cond, Result, Ok, Err, IfOk}
+use Rattle.std.specs.declared.alloc.Global.{Global}
 use Rattle.std.proofs.lemmas.Bool.{cases_Bool}
 use Rattle.std.proofs.lemmas.Bool.Decides.{nat_tests}
 use Rattle.std.proofs.lemmas.List.Quantifiers.{position-Some}
@@ -309,10 +310,10 @@ one_found (One i) h = (i, refl)
 one_found Each h = absurd (cc)
 one_found (EachBut i) h = absurd (cc)
 
-pub begun_back : {E : Type 0} (r : Result Shape E) (query : Query) (strategy : Strategy) (plans : List ScanPlan) (front : Front) (guaranteed cursor opening : ℕ) → is_background (first_of strategy (has_scans plans)) ≡ true → IfOk r (Begun query strategy plans front guaranteed cursor opening) → IfOk r (λ v. is_background v.control ≡ true)
+pub begun_back : {E : Type 0} (r : Result (Box Shape Global) E) (query : Query) (strategy : Strategy) (plans : List ScanPlan) (front : Front) (guaranteed cursor opening : ℕ) → is_background (first_of strategy (has_scans plans)) ≡ true → IfOk r (λ v. Begun query strategy plans front guaranteed cursor opening v.value) → IfOk r (λ v. is_background v.value.control ≡ true)
 begun_back (Ok v) query strategy plans front guaranteed cursor opening h b = ap is_background b.started ∙ h
 begun_back (Err x) query strategy plans front guaranteed cursor opening h b = tt
 
-pub begun_way : {E : Type 0} (r : Result Shape E) (query : Query) (strategy : Strategy) (plans : List ScanPlan) (front : Front) (guaranteed cursor opening : ℕ) → has_scans plans ≡ true → IfOk r (Begun query strategy plans front guaranteed cursor opening) → IfOk r (λ v. under_way v.joint ≡ true)
+pub begun_way : {E : Type 0} (r : Result (Box Shape Global) E) (query : Query) (strategy : Strategy) (plans : List ScanPlan) (front : Front) (guaranteed cursor opening : ℕ) → has_scans plans ≡ true → IfOk r (λ v. Begun query strategy plans front guaranteed cursor opening v.value) → IfOk r (λ v. under_way v.value.joint ≡ true)
 begun_way (Ok v) query strategy plans front guaranteed cursor opening h b = ap under_way b.joint ∙ ap (λ (x : Bool). x && true) h
 begun_way (Err x) query strategy plans front guaranteed cursor opening h b = tt

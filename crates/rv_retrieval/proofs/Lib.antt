@@ -7,6 +7,7 @@ pub mod Least
 pub mod Beginning
 pub mod Planning
 pub mod Chosen
+pub mod Made
 pub mod AtOnce
 pub mod Accounting
 pub mod Turns

@@ -1,5 +1,6 @@
 -- What was chosen begins a run of the course.
-use Rattle.std.proofs.Common.{◌≡◌, ◌∙◌, ℕ, ◌<◌, ◌≤◌, List, [], ◌∷◌, ◌++◌, Bool, true, false, cond, ◌&&◌, ◌||◌, Option, Some, None, Result, Ok, Err, IfOk, IsSome, filter, map, length, nat_lt, nat_eq, refl, ap, sym, subst, arith, inl, inr}
+use Rattle.std.proofs.Common.{Box, ◌≡◌, ◌∙◌, ℕ, ◌<◌, ◌≤◌, List, [], ◌∷◌, ◌++◌, Bool, true, false, cond, ◌&&◌, ◌||◌, Option, Some, None, Result, Ok, Err, IfOk, IsSome, filter, map, length, nat_lt, nat_eq, refl, ap, sym, subst, arith, inl, inr}
+use Rattle.std.specs.declared.alloc.Global.{Global}
 use Rattle.std.specs.List.{AllByRecursion, list_all}
 use Rattle.std.specs.Prelude.{if◌then◌else◌}
 use Rattle.std.proofs.lemmas.Bool.{cases_Bool, or_parts, lt-ltb, or_from}
@@ -287,11 +288,11 @@ begun_tells v query st plans front guaranteed cursor opening b told few has once
     let j : Joint = begun query.table query.snap plans cursor opening in
     rw (told, b.asked, b.chosen, b.joint, b.started) (tells_first st plans (indexes_asked query) j refl refl few has once known)
 
-pub begun_tells_if : {E : Type 0} (r : Result Shape E) (query : Query) (st : Strategy) (plans : List ScanPlan) (front : Front) (guaranteed cursor opening : ℕ) → length plans ≤ 8 → HasScans st (indexes_of plans) → EachOnce (indexes_of plans) → list_all (λ i. has_index i (indexes_asked query)) (indexes_of plans) ≡ true → IfOk r (Begun query st plans front guaranteed cursor opening) → IfOk r (λ v. v.trace ≡ start_told (record v { trace = new_trace st })) → IfOk r Tells
-begun_tells_if (Ok v) query st plans front guaranteed cursor opening few has once known b told = begun_tells v query st plans front guaranteed cursor opening b told few has once known
+pub begun_tells_if : {E : Type 0} (r : Result (Box Shape Global) E) (query : Query) (st : Strategy) (plans : List ScanPlan) (front : Front) (guaranteed cursor opening : ℕ) → length plans ≤ 8 → HasScans st (indexes_of plans) → EachOnce (indexes_of plans) → list_all (λ i. has_index i (indexes_asked query)) (indexes_of plans) ≡ true → IfOk r (λ v. Begun query st plans front guaranteed cursor opening v.value) → IfOk r (λ v. v.value.trace ≡ start_told (record v.value { trace = new_trace st })) → IfOk r (λ v. Tells v.value)
+begun_tells_if (Ok v) query st plans front guaranteed cursor opening few has once known b told = begun_tells v.value query st plans front guaranteed cursor opening b told few has once known
 begun_tells_if (Err x) query st plans front guaranteed cursor opening few has once known b told = tt
 
-pub short_if : {E : Type 0} (r : Result Shape E) (query : Query) (st : Strategy) (plans : List ScanPlan) (front : Front) (guaranteed cursor opening : ℕ) → length plans ≤ 1 → IfOk r (Begun query st plans front guaranteed cursor opening) → IfOk r (λ v. length v.joint.plans ≤ 1)
+pub short_if : {E : Type 0} (r : Result (Box Shape Global) E) (query : Query) (st : Strategy) (plans : List ScanPlan) (front : Front) (guaranteed cursor opening : ℕ) → length plans ≤ 1 → IfOk r (λ v. Begun query st plans front guaranteed cursor opening v.value) → IfOk r (λ v. length v.value.joint.plans ≤ 1)
 short_if (Ok v) query st plans front guaranteed cursor opening short b = subst (λ (j : Joint). length j.plans ≤ 1) (sym b.joint) short
 short_if (Err x) query st plans front guaranteed cursor opening short b = tt
 

@@ -46,18 +46,18 @@ impl Retrieval {
         query: Query,
         strategy: Strategy,
         scans: Vec<ScanPlan>,
-        front: Front,
+        front: Box<Front>,
         guaranteed: u64,
         cursor: u64,
         opening: u64,
-    ) -> Result<Retrieval, NoMemory>
+    ) -> Result<Box<Retrieval>, NoMemory>
         requires { length scans.items ≤ 8 }
-        ensures begun { IfOk result (Begun query strategy scans.items front guaranteed cursor opening) }
-        ensures told { IfOk result (λ r. r.trace ≡ start_told (record r { trace = new_trace strategy })) }
-        ensures fits { (shown : Shown) → Opens query strategy scans.items front shown → IfOk result (λ r. RetrievalFits r shown) }
-        ensures rest { (shown : Shown) → Opens query strategy scans.items front shown → IfOk result (λ r. rest r shown ≡ qualifying query.only (shown.rows query.table query.snap)) }
-        ensures unborrowed { IfOk result (λ r. r.borrowed ≡ 0) }
-        ensures last { (rows : List OneRecord) (pages : ℕ) → IfOk result (λ r. pages_work r.last rows pages ≡ length rows + pages) }
+        ensures begun { IfOk result (λ r. Begun query strategy scans.items front.value guaranteed cursor opening r.value) }
+        ensures told { IfOk result (λ r. r.value.trace ≡ start_told (record r.value { trace = new_trace strategy })) }
+        ensures fits { (shown : Shown) → Opens query strategy scans.items front.value shown → IfOk result (λ r. RetrievalFits r.value shown) }
+        ensures rest { (shown : Shown) → Opens query strategy scans.items front.value shown → IfOk result (λ r. rest r.value shown ≡ qualifying query.only (shown.rows query.table query.snap)) }
+        ensures unborrowed { IfOk result (λ r. r.value.borrowed ≡ 0) }
+        ensures last { (rows : List OneRecord) (pages : ℕ) → IfOk result (λ r. pages_work r.value.last rows pages ≡ length rows + pages) }
     {
         let mut retrieval = Retrieval::make(
             alloc, query, strategy, scans, front, guaranteed, cursor, opening,
@@ -177,26 +177,26 @@ impl Retrieval {
         choice: Choice,
         cursor: u64,
         opening: u64,
-    ) -> Result<Retrieval, NoMemory>
+    ) -> Result<Box<Retrieval>, NoMemory>
         requires can { CanAsk query (R.shown reader.now) }
         requires candidates { candidates.now ≡ candidates_of query (R.shown reader.now) }
         requires choice { IsChosen query.order query.goal candidates.now choice }
         requires right { AllByRecursion (IsRight (R.shown reader.now) query.snap) candidates.now }
-        ensures made { IfOk result (IsMade query (R.shown reader.now) choice cursor opening) }
-        ensures started { IfOk result (Starts cursor opening) }
-        ensures bound { IfOk result (λ r. r.guaranteed ≡ guarantee_of query (R.shown reader.now) candidates.now choice) }
-        ensures counts { IfOk result (λ r. NothingCounted r.trace) }
-        ensures back { is_one choice.background ≡ true → IfOk result (λ r. is_background r.control ≡ true) }
-        ensures way { is_one choice.background ≡ true → IfOk result (λ r. under_way r.joint ≡ true) }
-        ensures tells { IfOk result Tells }
-        ensures short { is_one choice.background ≡ true → IfOk result (λ r. length r.joint.plans ≤ 1) }
-        ensures fits { IfOk result (λ r. RetrievalFits r (R.shown reader.now)) }
-        ensures rest { IfOk result (λ r. rest r (R.shown reader.now) ≡ qualifying query.only ((R.shown reader.now).rows query.table query.snap)) }
-        ensures unborrowed { IfOk result (λ r. r.borrowed ≡ 0) }
-        ensures life { IfOk result (λ r. effort r (R.shown reader.now) < life_of query (R.shown reader.now)) }
-        ensures awaiting { IfOk result (λ r. Awaiting r) }
-        ensures unlisted { IfOk result (λ r. r.joint.list ≡ None) }
-        ensures few { has_short query (R.shown reader.now) ≡ true → IfOk result (λ r. keys_most r.joint (R.shown reader.now) ≤ 20) }
+        ensures made { IfOk result (λ r. IsMade query (R.shown reader.now) choice cursor opening r.value) }
+        ensures started { IfOk result (λ r. Starts cursor opening r.value) }
+        ensures bound { IfOk result (λ r. r.value.guaranteed ≡ guarantee_of query (R.shown reader.now) candidates.now choice) }
+        ensures counts { IfOk result (λ r. NothingCounted r.value.trace) }
+        ensures back { is_one choice.background ≡ true → IfOk result (λ r. is_background r.value.control ≡ true) }
+        ensures way { is_one choice.background ≡ true → IfOk result (λ r. under_way r.value.joint ≡ true) }
+        ensures tells { IfOk result (λ r. Tells r.value) }
+        ensures short { is_one choice.background ≡ true → IfOk result (λ r. length r.value.joint.plans ≤ 1) }
+        ensures fits { IfOk result (λ r. RetrievalFits r.value (R.shown reader.now)) }
+        ensures rest { IfOk result (λ r. rest r.value (R.shown reader.now) ≡ qualifying query.only ((R.shown reader.now).rows query.table query.snap)) }
+        ensures unborrowed { IfOk result (λ r. r.value.borrowed ≡ 0) }
+        ensures life { IfOk result (λ r. effort r.value (R.shown reader.now) < life_of query (R.shown reader.now)) }
+        ensures awaiting { IfOk result (λ r. Awaiting r.value) }
+        ensures unlisted { IfOk result (λ r. r.value.joint.list ≡ None) }
+        ensures few { has_short query (R.shown reader.now) ≡ true → IfOk result (λ r. keys_most r.value.joint (R.shown reader.now) ≤ 20) }
     {
         let scans = match scans(alloc, &query.only, candidates, choice.background) {
             Ok(scans) => scans,
@@ -236,21 +236,21 @@ impl Retrieval {
         cursor: u64,
         opening: u64,
         steps: &mut Steps<R::Ledger>,
-    ) -> Result<Retrieval, NoMemory>
+    ) -> Result<Box<Retrieval>, NoMemory>
         requires can { CanAsk query (R.shown reader.now) }
         requires candidates { candidates.now ≡ candidates_of query (R.shown reader.now) }
         requires choice { IsChosen query.order query.goal candidates.now choice }
         requires right { AllByRecursion (IsRight (R.shown reader.now) query.snap) candidates.now }
-        ensures opened { IfOk result (λ r. Opened query (R.shown reader.now) cursor opening r) }
-        ensures counts { IfOk result (λ r. CountsAll r.trace steps.old steps.new) }
-        ensures tells { IfOk result Tells }
-        ensures fits { IfOk result (λ r. RetrievalFits r (R.shown reader.now)) }
-        ensures rest { IfOk result (λ r. rest r (R.shown reader.now) ≡ qualifying query.only ((R.shown reader.now).rows query.table query.snap)) }
-        ensures life { IfOk result (λ r. reads steps.new + effort r (R.shown reader.now) ≤ reads steps.old + life_of query (R.shown reader.now)) }
-        ensures effort { IfOk result (λ r. effort r (R.shown reader.now) ≤ life_of query (R.shown reader.now)) }
+        ensures opened { IfOk result (λ r. Opened query (R.shown reader.now) cursor opening r.value) }
+        ensures counts { IfOk result (λ r. CountsAll r.value.trace steps.old steps.new) }
+        ensures tells { IfOk result (λ r. Tells r.value) }
+        ensures fits { IfOk result (λ r. RetrievalFits r.value (R.shown reader.now)) }
+        ensures rest { IfOk result (λ r. rest r.value (R.shown reader.now) ≡ qualifying query.only ((R.shown reader.now).rows query.table query.snap)) }
+        ensures life { IfOk result (λ r. reads steps.new + effort r.value (R.shown reader.now) ≤ reads steps.old + life_of query (R.shown reader.now)) }
+        ensures effort { IfOk result (λ r. effort r.value (R.shown reader.now) ≤ life_of query (R.shown reader.now)) }
         ensures reads { reads steps.new ≤ reads steps.old + life_of query (R.shown reader.now) }
-        ensures awaiting { IfOk result (λ r. Awaiting r) }
-        ensures short { has_short query (R.shown reader.now) ≡ true → IfOk result (λ r. Settled r × (fetches_left r (R.shown reader.now) ≤ 20)) }
+        ensures awaiting { IfOk result (λ r. Awaiting r.value) }
+        ensures short { has_short query (R.shown reader.now) ≡ true → IfOk result (λ r. Settled r.value × (fetches_left r.value (R.shown reader.now) ≤ 20)) }
         ensures only { OnlyLeaves steps.old steps.new }
         ensures unread { has_short query (R.shown reader.now) ≡ false → steps.new ≡ steps.old }
     {
@@ -258,9 +258,10 @@ impl Retrieval {
         let mut retrieval = Retrieval::chosen(
             alloc, reader, query, candidates, choice, cursor, opening,
         )?;
-        match retrieval.settle(choice.background, reader, steps) {
+        let made = &mut *retrieval;
+        match made.settle(choice.background, reader, steps) {
             Ok(()) => {
-                retrieval.count(before, steps.counts());
+                made.count(before, steps.counts());
                 Ok(retrieval)
             }
             Err(fault) => {
@@ -282,18 +283,18 @@ impl Retrieval {
         cursor: u64,
         opening: u64,
         steps: &mut Steps<R::Ledger>,
-    ) -> Result<Retrieval, NoMemory>
+    ) -> Result<Box<Retrieval>, NoMemory>
         requires { CanAsk query (R.shown reader.now) }
-        ensures opened { IfOk result (λ r. Opened query (R.shown reader.now) cursor opening r) }
-        ensures counts { IfOk result (λ r. CountsAll r.trace steps.old steps.new) }
-        ensures tells { IfOk result Tells }
-        ensures fits { IfOk result (λ r. RetrievalFits r (R.shown reader.now)) }
-        ensures rest { IfOk result (λ r. rest r (R.shown reader.now) ≡ qualifying query.only ((R.shown reader.now).rows query.table query.snap)) }
-        ensures life { IfOk result (λ r. reads steps.new + effort r (R.shown reader.now) ≤ reads steps.old + life_of query (R.shown reader.now)) }
-        ensures effort { IfOk result (λ r. effort r (R.shown reader.now) ≤ life_of query (R.shown reader.now)) }
+        ensures opened { IfOk result (λ r. Opened query (R.shown reader.now) cursor opening r.value) }
+        ensures counts { IfOk result (λ r. CountsAll r.value.trace steps.old steps.new) }
+        ensures tells { IfOk result (λ r. Tells r.value) }
+        ensures fits { IfOk result (λ r. RetrievalFits r.value (R.shown reader.now)) }
+        ensures rest { IfOk result (λ r. rest r.value (R.shown reader.now) ≡ qualifying query.only ((R.shown reader.now).rows query.table query.snap)) }
+        ensures life { IfOk result (λ r. reads steps.new + effort r.value (R.shown reader.now) ≤ reads steps.old + life_of query (R.shown reader.now)) }
+        ensures effort { IfOk result (λ r. effort r.value (R.shown reader.now) ≤ life_of query (R.shown reader.now)) }
         ensures reads { reads steps.new ≤ reads steps.old + life_of query (R.shown reader.now) }
-        ensures awaiting { IfOk result (λ r. Awaiting r) }
-        ensures short { has_short query (R.shown reader.now) ≡ true → IfOk result (λ r. Settled r × (fetches_left r (R.shown reader.now) ≤ 20)) }
+        ensures awaiting { IfOk result (λ r. Awaiting r.value) }
+        ensures short { has_short query (R.shown reader.now) ≡ true → IfOk result (λ r. Settled r.value × (fetches_left r.value (R.shown reader.now) ≤ 20)) }
         ensures only { OnlyLeaves steps.old steps.new }
         ensures unread { has_short query (R.shown reader.now) ≡ false → steps.new ≡ steps.old }
     {

@@ -14,7 +14,7 @@ ghost use Rattle.rv_retrieval.specs.Short.{Settled, fetches_left, has_short};
 ghost use Rattle.rv_search.specs.Searching.{Gathers, GoesOut, GoesSome, OnlyRecords, Ran, RanFetched, RanOut, StepsOn, any_narrows, numbers, rows_of, search_of};
 
 use crate::named::columns_named;
-use rv_choice::{Goal2, Query};
+use rv_choice::{Goal2, Query, Shared};
 use rv_judge::{Judge, Steps};
 use rv_reader::Reader;
 use rv_restrict::Restriction;
@@ -63,12 +63,15 @@ fn search_of(
 ) -> Result<Query, NoMemory>
     ensures { IfOk result (λ query. query ≡ search_of table snap only.now indexes) }
 {
+    let over = Shared::of(alloc, indexes.into_vec())?;
+    let named = columns_named(alloc, only)?;
+    let need = Shared::of(alloc, named.into_vec())?;
     Ok(Query {
         table,
         snap,
         only: only.copy(alloc)?,
-        indexes,
-        need: columns_named(alloc, only)?,
+        indexes: over,
+        need,
         order: Items::new(alloc),
         goal: Goal2::TotalTime,
     })
@@ -180,7 +183,7 @@ fn gathered<R: Reader>(
     ensures stays { would judge.new ≡ would judge.old }
 {
     let mut retrieval = Retrieval::open(alloc, reader, query, 0, 0, steps)?;
-    let found = gathered_of(alloc, reader, &mut retrieval, judge, steps);
+    let found = gathered_of(alloc, reader, &mut *retrieval, judge, steps);
     leave(retrieval);
     found
 }

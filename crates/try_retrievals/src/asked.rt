@@ -10,7 +10,7 @@ ghost use Rattle.try_retrievals.specs.Asking.{Chosen, IsOrder, IsQuery, either_a
 ghost use Rattle.try_retrievals.specs.Laying.{Offers};
 
 use crate::load::columns_of;
-use rv_choice::{Goal2, Query, ordered};
+use rv_choice::{Goal2, Query, Shared, ordered};
 use rv_restrict::{Atom, ColRef, Restriction};
 use rv_value::{Items, NoMemory, Value};
 use std::alloc::Global;
@@ -191,13 +191,15 @@ pub fn query(alloc: Global, snap: u64, asked: &Asked) -> Result<Query, NoMemory>
     let indexes = indexes(alloc, asked.uses)?;
     let order = order(alloc, asked, indexes.as_slice())?;
     let need = need(alloc, asked)?;
+    let over = Shared::of(alloc, indexes)?;
+    let needs = Shared::of(alloc, need)?;
     let only = wanted(alloc, asked)?;
     Ok(Query {
         table: 0,
         snap,
         only,
-        indexes: Items::from_vec(indexes),
-        need: Items::from_vec(need),
+        indexes: over,
+        need: needs,
         order: Items::from_vec(order),
         goal: asked.goal,
     })

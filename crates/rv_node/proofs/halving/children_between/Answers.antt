@@ -9,11 +9,11 @@ count_not_after-last-requires-clause-ascend c = subst Ascend (sym c.split_at.ens
 pub count_not_after-last-requires-clause-long : goal.count_not_after-last-requires-clause-long
 count_not_after-last-requires-clause-long c = subst (AreLong c.args.range.now) (sym c.split_at.ensures.back) c.requires.long
 
-pub count_before-requires-clause-ascend : goal.count_before-requires-clause-ascend
-count_before-requires-clause-ascend c = ascend_front c.count_not_after-last.result c.args.lows.now c.split_at.result.1.now c.split_at-2.result.0.now c.split_at.ensures.back c.split_at-2.ensures.front c.requires.ascend
+pub first_place-requires-clause-ascend : goal.first_place-requires-clause-ascend
+first_place-requires-clause-ascend c = ascend_front c.count_not_after-last.result c.args.lows.now c.split_at.result.1.now c.split_at-2.result.0.now c.split_at.ensures.back c.split_at-2.ensures.front c.requires.ascend
 
-pub count_before-requires-clause-long : goal.count_before-requires-clause-long
-count_before-requires-clause-long c = long_front c.args.range.now c.count_not_after-last.result c.args.lows.now c.split_at.result.1.now c.split_at-2.result.0.now c.split_at.ensures.back c.split_at-2.ensures.front c.requires.long
+pub first_place-requires-clause-long : goal.first_place-requires-clause-long
+first_place-requires-clause-long c = long_front c.args.range.now c.count_not_after-last.result c.args.lows.now c.split_at.result.1.now c.split_at-2.result.0.now c.split_at.ensures.back c.split_at-2.ensures.front c.requires.long
 
 pub returns-clause-last : goal.returns-clause-last
 returns-clause-last c = found_last c.args.range.now c.args.lows.now c.split_at.result.1.now c.count_not_after-last.result c.split_at.ensures.back c.count_not_after-last.ensures.passes c.count_not_after-last.ensures.bound
@@ -21,10 +21,10 @@ returns-clause-last c = found_last c.args.range.now c.args.lows.now c.split_at.r
 pub returns-clause-first : goal.returns-clause-first
 returns-clause-first c =
     let last = found_last c.args.range.now c.args.lows.now c.split_at.result.1.now c.count_not_after-last.result c.split_at.ensures.back c.count_not_after-last.ensures.passes c.count_not_after-last.ensures.bound in
-    found_first c.args.range.now c.args.lows.now c.split_at.result.1.now c.split_at-2.result.0.now c.count_before.result c.count_not_after-last.result c.split_at.ensures.back c.split_at-2.ensures.front last c.count_before.ensures.passes c.count_before.ensures.bound
+    found_first c.args.range.now c.args.lows.now c.split_at.result.1.now c.split_at-2.result.0.now c.first_place.result c.count_not_after-last.result c.split_at.ensures.back c.split_at-2.ensures.front last c.first_place.ensures.first
 
 pub returns-clause-order : goal.returns-clause-order
-returns-clause-order c = let cut = ap length c.split_at-2.ensures.front ∙ length-take c.count_not_after-last.result c.split_at.result.1.now in omega (arith, cut, c.count_before.ensures.bound)
+returns-clause-order c = let cut = ap length c.split_at-2.ensures.front ∙ length-take c.count_not_after-last.result c.split_at.result.1.now in omega (arith, cut, c.first_place.ensures.bound)
 
 pub returns-clause-within : goal.returns-clause-within
 returns-clause-within c = let long = ap length c.split_at.ensures.back ∙ length-drop 1 c.args.lows.now in omega (arith, long, c.count_not_after-last.ensures.bound, c.requires.some)

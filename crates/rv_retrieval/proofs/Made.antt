@@ -1,0 +1,42 @@
+-- What is said of a retrieval that was begun, in the box in which it stands.
+use Rattle.std.proofs.Common.{Box, ◌≡◌, ℕ, List, Result, Ok, Err, IfOk, ap, sym, ◌∙◌, subst}
+use Rattle.std.specs.declared.alloc.Global.{Global}
+use Rattle.rv_judge.specs.declared.events.Strategy.{Strategy}
+use Rattle.rv_reader.specs.Shown.{Shown}
+use Rattle.rv_scan.specs.Fronts.{Front}
+use Rattle.rv_jscan.specs.declared.jscan.ScanPlan.{ScanPlan}
+use Rattle.rv_jscan.specs.Joint.{Joint}
+use Rattle.rv_jscan.specs.Steps.{begun}
+use Rattle.rv_choice.specs.declared.query.Query.{Query}
+use Rattle.rv_choice.specs.declared.choosing.Candidate.{Candidate}
+use Rattle.rv_choice.specs.declared.choosing.Choice.{Choice}
+use Rattle.rv_choice.specs.Choice.{AreScans, candidates_of}
+use Rattle.rv_choice.specs.Leading.{front_begun, front_candidate}
+use Rattle.rv_retrieval.specs.Opened.{Begun, IsMade, Starts, has_scans}
+use Rattle.rv_retrieval.specs.Opens.{first_of}
+use Rattle.rv_retrieval.specs.Shape.{Shape}
+
+-- what follows of each retrieval follows of the one in a box
+pub boxed_if : {E : Type 0} (r : Result (Box Shape Global) E) (P Q : Shape → Type 0) → ((v : Shape) → P v → Q v) → IfOk r (λ b. P b.value) → IfOk r (λ b. Q b.value)
+boxed_if (Ok b) P Q f p = f b.value p
+boxed_if (Err x) P Q f p = tt
+
+-- it is made of what was chosen
+pub begun_made : (query : Query) (shown : Shown) (choice : Choice) (cs : List Candidate) (scans : List ScanPlan) (front : Front) (guaranteed cursor opening : ℕ) (v : Shape) → cs ≡ candidates_of query shown → AreScans query.only cs choice.background scans → front ≡ front_begun query (front_candidate cs choice.front) → Begun query choice.strategy scans front guaranteed cursor opening v → IsMade query shown choice cursor opening v
+begun_made query shown choice cs scans front guaranteed cursor opening v e s is b = record {
+  asked = b.asked;
+  strategy = b.chosen;
+  scans = subst (λ (j : Joint). AreScans query.only (candidates_of query shown) choice.background j.plans) (sym b.joint) (subst (λ (xs : List Candidate). AreScans query.only xs choice.background scans) e s);
+  front = b.front ∙ is ∙ ap (λ (xs : List Candidate). front_begun query (front_candidate xs choice.front)) e;
+  fresh = b.fresh;
+  cursor_number = ap (λ (j : Joint). j.cursor) b.joint;
+  opening_number = ap (λ (j : Joint). j.opening) b.joint;
+}
+
+-- it stands before its first step
+pub begun_starts : (query : Query) (strategy : Strategy) (plans : List ScanPlan) (front : Front) (guaranteed cursor opening : ℕ) (v : Shape) → Begun query strategy plans front guaranteed cursor opening v → Starts cursor opening v
+begun_starts query strategy plans front guaranteed cursor opening v b = record {
+  control = b.started ∙ sym (ap (λ (s : Strategy). first_of s (has_scans v.joint.plans)) b.chosen ∙ ap (λ (j : Joint). first_of strategy (has_scans j.plans)) b.joint);
+  joint = b.joint ∙ sym (ap (λ (q : Query). begun q.table q.snap v.joint.plans cursor opening) b.asked ∙ ap (λ (j : Joint). begun query.table query.snap j.plans cursor opening) b.joint);
+  borrowed = b.borrowed;
+}
