@@ -116,7 +116,7 @@ fn view<R: Reader>(
     let range = only.range_for(alloc, columns.as_slice())?;
     let estimate = reader.estimate(index, query.snap, &range);
     let restricted = !range.is_whole();
-    let sufficient = has_all(columns.as_slice(), query.need.as_slice());
+    let sufficient = has_all(columns.as_slice(), query.need.get().as_slice());
     let columns = match columns.copy(alloc) {
         Ok(columns) => columns,
         Err(fault) => {
@@ -146,7 +146,7 @@ pub(crate) fn candidates_for<R: Reader>(
     ensures right { IfOk result (λ cs. AllByRecursion (IsRight (R.shown reader.now) query.now.snap) cs.items) }
 {
     let mut found = Vec::new(alloc);
-    'indexes: for index in query.indexes.as_slice() {
+    'indexes: for index in query.indexes.get().as_slice() {
         found.push(view(alloc, reader, query, only, index.0, &index.1)?)?;
     }
     Ok(found)

@@ -5,11 +5,9 @@
 mod choosing;
 mod leading;
 mod query;
-mod shared;
 mod uniting;
 
 pub use choosing::{Background, Candidate, Choice, Role, candidates, choose, scans};
 pub use leading::{foreground, guarantee};
 pub use query::{Goal2, Query, ordered};
-pub use shared::Shared;
 pub use uniting::members;

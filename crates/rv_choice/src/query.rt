@@ -1,9 +1,8 @@
 ghost use Rattle.std.specs.Prelude.{◌≡◌};
 ghost use Rattle.rv_choice.specs.Asked.{begins_any};
 
-use crate::shared::Shared;
 use rv_restrict::Restriction;
-use rv_value::Items;
+use rv_value::{Items, Shared};
 
 /// Whether the first rows or all rows are wanted soon.
 #[derive(Clone, Copy, PartialEq, Eq, Debug)]
@@ -20,9 +19,9 @@ pub struct Query {
     /// The restriction, over place 0 alone.
     pub only: Restriction,
     /// The table's indexes in order of creation, each with its number and its columns.
-    pub indexes: Shared<(u32, Items<u32>)>,
+    pub indexes: Shared<Items<(u32, Items<u32>)>>,
     /// The columns needed, those of the restriction and of the order among them.
-    pub need: Shared<u32>,
+    pub need: Shared<Items<u32>>,
     /// The columns by which rows are to come in order; none where any order will do.
     pub order: Items<u32>,
     pub goal: Goal2,

@@ -232,7 +232,7 @@ impl Level {
     {
         let item = asked.item(self.outer.len());
         let mut rows = self.outer.copy(alloc)?;
-        rows.push(copy_wide(alloc, row, item.need.as_slice())?)?;
+        rows.push(copy_wide(alloc, row, item.need.get().as_slice())?)?;
         Ok(rows)
     }
 

@@ -13,11 +13,11 @@ ghost use Rattle.rv_join.specs.Asking.{Adds, AreWide, Asks, CanPlan, CanRun, IsA
 
 use rv_access::Access;
 use rv_catalog::{Goal, IndexDef, Select};
-use rv_choice::{Goal2, Query, Shared, ordered};
+use rv_choice::{Goal2, Query, ordered};
 use rv_judge::Steps;
 use rv_reader::Reader;
 use rv_restrict::{Atom, ColRef, Operand, Restriction};
-use rv_value::{Duplicate, Items, NoMemory, Values};
+use rv_value::{Duplicate, Items, NoMemory, Shared, Values};
 use std::alloc::Global;
 
 /// A FROM item: its table, the table's indexes in order of creation, each with its number and its columns, the columns
@@ -25,8 +25,8 @@ use std::alloc::Global;
 #[derive(Drop, Debug)]
 pub struct Item {
     pub table: u32,
-    pub indexes: Shared<(u32, Items<u32>)>,
-    pub need: Shared<u32>,
+    pub indexes: Shared<Items<(u32, Items<u32>)>>,
+    pub need: Shared<Items<u32>>,
     pub order: Items<u32>,
 }
 
@@ -275,21 +275,21 @@ fn indexes_shared(
     alloc: Global,
     table: u32,
     indexes: &[IndexDef],
-) -> Result<Shared<(u32, Items<u32>)>, NoMemory>
+) -> Result<Shared<Items<(u32, Items<u32>)>>, NoMemory>
     requires { length indexes.now < 2 ^ 32 }
     ensures { IfOk result (λ found. found ≡ indexes_from table 0 indexes.now) }
 {
     let over = indexes_over(alloc, table, indexes)?;
-    let shared = Shared::of(alloc, over.into_vec())?;
+    let shared = Shared::new(alloc, over)?;
     Ok(shared)
 }
 
 /// The columns needed of one FROM item, of which each opening of it has the same.
-fn need_shared(alloc: Global, select: &Select, place: u32) -> Result<Shared<u32>, NoMemory>
+fn need_shared(alloc: Global, select: &Select, place: u32) -> Result<Shared<Items<u32>>, NoMemory>
     ensures { IfOk result (λ need. (c : ℕ) → stands_among need c ≡ select_uses select.now (col_at place c)) }
 {
     let named = needed(alloc, select, place)?;
-    let shared = Shared::of(alloc, named.into_vec())?;
+    let shared = Shared::new(alloc, named)?;
     Ok(shared)
 }
 

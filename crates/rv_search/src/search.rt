@@ -14,12 +14,12 @@ ghost use Rattle.rv_retrieval.specs.Short.{Settled, fetches_left, has_short};
 ghost use Rattle.rv_search.specs.Searching.{Gathers, GoesOut, GoesSome, OnlyRecords, Ran, RanFetched, RanOut, StepsOn, any_narrows, numbers, rows_of, search_of};
 
 use crate::named::columns_named;
-use rv_choice::{Goal2, Query, Shared};
+use rv_choice::{Goal2, Query};
 use rv_judge::{Judge, Steps};
 use rv_reader::Reader;
 use rv_restrict::Restriction;
 use rv_retrieval::{Fg, Retrieval};
-use rv_value::{Duplicate, Items, NoMemory, Record, RowNo};
+use rv_value::{Duplicate, Items, NoMemory, Record, RowNo, Shared};
 use std::alloc::Global;
 
 /// Whether a restriction gives a range of an index of these columns.
@@ -63,9 +63,9 @@ fn search_of(
 ) -> Result<Query, NoMemory>
     ensures { IfOk result (λ query. query ≡ search_of table snap only.now indexes) }
 {
-    let over = Shared::of(alloc, indexes.into_vec())?;
+    let over = Shared::new(alloc, indexes)?;
     let named = columns_named(alloc, only)?;
-    let need = Shared::of(alloc, named.into_vec())?;
+    let need = Shared::new(alloc, named)?;
     Ok(Query {
         table,
         snap,

@@ -10,9 +10,9 @@ ghost use Rattle.try_retrievals.specs.Asking.{Chosen, IsOrder, IsQuery, either_a
 ghost use Rattle.try_retrievals.specs.Laying.{Offers};
 
 use crate::load::columns_of;
-use rv_choice::{Goal2, Query, Shared, ordered};
+use rv_choice::{Goal2, Query, ordered};
 use rv_restrict::{Atom, ColRef, Restriction};
-use rv_value::{Items, NoMemory, Value};
+use rv_value::{Items, NoMemory, Shared, Value};
 use std::alloc::Global;
 
 /// The numbers from one to another.
@@ -191,8 +191,8 @@ pub fn query(alloc: Global, snap: u64, asked: &Asked) -> Result<Query, NoMemory>
     let indexes = indexes(alloc, asked.uses)?;
     let order = order(alloc, asked, indexes.as_slice())?;
     let need = need(alloc, asked)?;
-    let over = Shared::of(alloc, indexes)?;
-    let needs = Shared::of(alloc, need)?;
+    let over = Shared::new(alloc, Items::from_vec(indexes))?;
+    let needs = Shared::new(alloc, Items::from_vec(need))?;
     let only = wanted(alloc, asked)?;
     Ok(Query {
         table: 0,

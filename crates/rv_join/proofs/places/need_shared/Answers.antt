@@ -3,4 +3,4 @@ use Rattle.rv_restrict.specs.Parts.{stands_among}
 use Rattle.rv_join.proofs.places.need_shared.Goals as goal
 
 pub returns : goal.returns
-returns c = λ k. ap (λ (xs : List ℕ). stands_among xs k) (c.in_ok-shared.ensures ∙ c.into_vec.ensures) ∙ c.in_ok-named.ensures k
+returns c = λ k. ap (λ (xs : List ℕ). stands_among xs k) c.in_ok-shared.ensures ∙ c.in_ok-named.ensures k
