@@ -13,9 +13,9 @@ use rv_scan::{Front, Fscan, Sscan};
 use rv_value::{Duplicate, Items, NoMemory, Range};
 use std::alloc::Global;
 
-/// The scan of an index as the foreground. It is in a box, since it is large and goes through many hands.
-fn front(alloc: Global, query: &Query, candidate: &Candidate) -> Result<Box<Front>, NoMemory>
-    ensures { IfOk result (λ front. front.value ≡ front_begun query.now candidate.now) }
+/// The scan of an index as the foreground.
+fn front(alloc: Global, query: &Query, candidate: &Candidate) -> Result<Front, NoMemory>
+    ensures { IfOk result (λ front. front ≡ front_begun query.now candidate.now) }
 {
     let fetched = candidate.range.copy(alloc)?;
     let told = match candidate.range.copy(alloc) {
@@ -35,9 +35,7 @@ fn front(alloc: Global, query: &Query, candidate: &Candidate) -> Result<Box<Fron
     };
     let fetching = Fscan::new(alloc, query.table, candidate.index, query.snap, fetched);
     let telling = Sscan::new(alloc, candidate.index, query.snap, told);
-    let front = Front::new(candidate.sufficient, columns, fetching, telling);
-    let boxed = Box::new(alloc, front)?;
-    Ok(boxed)
+    Ok(Front::new(candidate.sufficient, columns, fetching, telling))
 }
 
 /// What stands for the foreground's index where no index is scanned by the foreground. It is never read.
@@ -68,9 +66,9 @@ pub fn foreground(
     query: &Query,
     candidates: &[Candidate],
     place: Option<usize>,
-) -> Result<Box<Front>, NoMemory>
+) -> Result<Front, NoMemory>
     requires { IfSome place (λ at. at < length candidates.now) }
-    ensures { IfOk result (λ front. front.value ≡ front_begun query.now (front_candidate candidates.now place)) }
+    ensures { IfOk result (λ front. front ≡ front_begun query.now (front_candidate candidates.now place)) }
 {
     match place {
         Some(at) => front(alloc, query, &candidates[at]),

@@ -46,16 +46,16 @@ impl Retrieval {
         query: Query,
         strategy: Strategy,
         scans: Vec<ScanPlan>,
-        front: Box<Front>,
+        front: Front,
         guaranteed: u64,
         cursor: u64,
         opening: u64,
     ) -> Result<Box<Retrieval>, NoMemory>
         requires { length scans.items ≤ 8 }
-        ensures begun { IfOk result (λ r. Begun query strategy scans.items front.value guaranteed cursor opening r.value) }
+        ensures begun { IfOk result (λ r. Begun query strategy scans.items front guaranteed cursor opening r.value) }
         ensures told { IfOk result (λ r. r.value.trace ≡ start_told (record r.value { trace = new_trace strategy })) }
-        ensures fits { (shown : Shown) → Opens query strategy scans.items front.value shown → IfOk result (λ r. RetrievalFits r.value shown) }
-        ensures rest { (shown : Shown) → Opens query strategy scans.items front.value shown → IfOk result (λ r. rest r.value shown ≡ qualifying query.only (shown.rows query.table query.snap)) }
+        ensures fits { (shown : Shown) → Opens query strategy scans.items front shown → IfOk result (λ r. RetrievalFits r.value shown) }
+        ensures rest { (shown : Shown) → Opens query strategy scans.items front shown → IfOk result (λ r. rest r.value shown ≡ qualifying query.only (shown.rows query.table query.snap)) }
         ensures unborrowed { IfOk result (λ r. r.value.borrowed ≡ 0) }
         ensures last { (rows : List OneRecord) (pages : ℕ) → IfOk result (λ r. pages_work r.value.last rows pages ≡ length rows + pages) }
     {

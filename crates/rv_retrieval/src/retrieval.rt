@@ -3,16 +3,16 @@ ghost use Rattle.std.specs.Option.{option_copied};
 ghost use Rattle.rv_keys.specs.Keys.{has_key};
 ghost use Rattle.rv_reader.specs.Shown.{Shown, CanRead};
 ghost use Rattle.rv_reader.specs.Tables.{row_at};
-ghost use Rattle.rv_scan.specs.Alongs.{FetchesDue, Follows, leaf_work, looked};
+ghost use Rattle.rv_scan.specs.Alongs.{Follows, looked};
 ghost use Rattle.rv_scan.specs.Places.{Fits as PlaceFits, PageReads, unseen, work as pages_work};
-ghost use Rattle.rv_scan.specs.Due.{HaveColumns, IsReady, StepsTo, skipped};
+ghost use Rattle.rv_scan.specs.Due.{HaveColumns};
 ghost use Rattle.rv_jscan.specs.Joint.{CanTake, JointFits, keys_of, leaves_ahead, under_way};
 ghost use Rattle.rv_jscan.specs.Steps.{Gives, Nearer, TakeLeaves, Takes, Works, abandoned, awaited_id, begun, counts_read, steps_read};
 ghost use Rattle.rv_judge.specs.Account.{facts_of, guarantee_with};
-ghost use Rattle.rv_judge.specs.Counting.{page_read, reads};
+ghost use Rattle.rv_judge.specs.Counting.{page_read};
 ghost use Rattle.rv_retrieval.specs.Accounts.{NextBorrowed, account_of};
 ghost use Rattle.rv_retrieval.specs.Fronts.{front_left};
-ghost use Rattle.rv_scan.specs.Fronts.{CanFront, SameFront, front_fetches, front_rest, walk_of, FrontMayRead, FrontReads};
+ghost use Rattle.rv_scan.specs.Fronts.{SameFront, walk_of, FrontMayRead, FrontReads};
 ghost use Rattle.rv_retrieval.specs.Given.{awaited, more_behind};
 ghost use Rattle.rv_retrieval.specs.Opened.{Begun, has_scans};
 ghost use Rattle.rv_retrieval.specs.Opens.{Opens, first_of};
@@ -28,7 +28,7 @@ ghost use Rattle.rv_retrieval.specs.Telling.{index_of, list_len};
 ghost use Rattle.rv_judge.specs.Tracing.{counted, new_trace, noted};
 ghost use Rattle.rv_retrieval.specs.Effort.{front_work, keys_work, table_work};
 ghost use Rattle.rv_final.specs.Work.{Falls, Tries};
-ghost use Rattle.rv_scan.specs.Reads.{OneAtMost, ReadsNone};
+ghost use Rattle.rv_scan.specs.Reads.{OneAtMost};
 ghost use Rattle.rv_judge.specs.Counting.{record_read};
 ghost use Rattle.rv_value.specs.declared.record.Record.{Record as OneRecord};
 ghost use Rattle.rv_retrieval.specs.Short.{OnlyLeaves, scan_fetches};
@@ -40,7 +40,6 @@ use rv_jscan::{Given, Jscan, PieceId, ScanPlan, Sieved, Taken};
 use rv_judge::{Control, Counts, Event, Facts, Steps, Strategy, Trace, project};
 use rv_keylist::KeyList;
 use rv_reader::Reader;
-use rv_restrict::Restriction;
 use rv_scan::{Front, Scanned, Skip};
 use rv_value::{NoMemory, Record, RowNo};
 use std::alloc::Global;
@@ -110,31 +109,6 @@ fn put(delivered: &mut Option<Delivered>, row: RowNo)
     }
 }
 
-/// A step of a foreground's scan in its box.
-fn step_front<R: Reader>(
-    front: &mut Box<Front>,
-    reader: &R,
-    only: &Restriction,
-    skip: &Skip<'_>,
-    steps: &mut Steps<R::Ledger>,
-) -> Result<Scanned, NoMemory>
-    requires can { CanFront front.old.value only.now front.old.value.fetching.table (R.shown reader.now) (walk_of front.old.value).snap }
-    requires ready { IsReady (skipped skip.now) }
-    ensures same { SameFront front.old.value front.new.value }
-    ensures follows { Follows (walk_of front.old.value) ((R.shown reader.now).entries (walk_of front.old.value).index (walk_of front.old.value).snap) → Follows (walk_of front.new.value) ((R.shown reader.now).entries (walk_of front.old.value).index (walk_of front.old.value).snap) }
-    ensures step { let shown = R.shown reader.now in let entries = shown.entries (walk_of front.old.value).index (walk_of front.old.value).snap in let cuts = shown.cuts (walk_of front.old.value).index (walk_of front.old.value).snap in let rows = shown.rows front.old.value.fetching.table (walk_of front.old.value).snap in IfOk result (λ scanned. StepsTo scanned (front_rest front.old.value entries rows only.now (skipped skip.now)) (leaf_work (walk_of front.old.value) entries cuts) (front_rest front.new.value entries rows only.now (skipped skip.now)) (leaf_work (walk_of front.new.value) entries cuts)) }
-    ensures fetches { IfOk result (λ scanned. FetchesDue (skipped skip.now) only.now ((R.shown reader.now).rows front.old.value.fetching.table (walk_of front.old.value).snap) scanned steps.old steps.new) }
-    ensures err { OnErr result (front.new.value ≡ front.old.value) }
-    ensures once { reads steps.new ≤ reads steps.old + 1 }
-    ensures none { IfOk result (λ scanned. ReadsNone scanned steps.old steps.new) }
-    ensures records { let entries = (R.shown reader.now).entries (walk_of front.old.value).index (walk_of front.old.value).snap in IfOk result (λ scanned. steps.new.records + front_fetches front.new.value entries (skipped skip.now) ≤ steps.old.records + front_fetches front.old.value entries (skipped skip.now)) }
-    ensures pages { steps.new.pages ≡ steps.old.pages }
-    ensures may_read { FrontMayRead front.old.value.alone steps.old steps.new }
-    ensures reads { IfOk result (λ s. FrontReads front.old.value.alone s steps.old steps.new) }
-{
-    front.step(reader, only, skip, steps)
-}
-
 /// A retrieval from one table at a snapshot.
 #[derive(Drop)]
 pub struct Retrieval {
@@ -143,7 +117,7 @@ pub struct Retrieval {
     strategy: Strategy,
     control: Control,
     joint: Jscan,
-    front: Box<Front>,
+    front: Front,
     delivered: Option<Delivered>,
     borrowed: u64,
     ending: Final,
@@ -157,7 +131,7 @@ impl Model for Retrieval {
 
     ghost Value = { Shape };
 
-    ghost view = { λ r. record { query = r.query; strategy = r.strategy; control = r.control; joint = r.joint; front = r.front.value; delivered = rows_given r.delivered; borrowed = r.borrowed; at = r.ending.at; last = r.ending.last; guaranteed = r.guaranteed; trace = r.trace } };
+    ghost view = { λ r. record { query = r.query; strategy = r.strategy; control = r.control; joint = r.joint; front = r.front; delivered = rows_given r.delivered; borrowed = r.borrowed; at = r.ending.at; last = r.ending.last; guaranteed = r.guaranteed; trace = r.trace } };
 
     ghost invariant = { λ r. HasRoom r.strategy r.delivered };
 }
@@ -360,7 +334,7 @@ impl Retrieval {
             delivered: None,
             list: hiding(self.strategy, self.joint.list()),
         };
-        step_front(&mut self.front, reader, &self.query.only, &skip, steps)
+        self.front.step(reader, &self.query.only, &skip, steps)
     }
 
     /// A step through the complete list.
@@ -499,16 +473,16 @@ impl Retrieval {
         query: Query,
         strategy: Strategy,
         scans: Vec<ScanPlan>,
-        front: Box<Front>,
+        front: Front,
         guaranteed: u64,
         cursor: u64,
         opening: u64,
     ) -> Result<Box<Retrieval>, NoMemory>
         requires { length scans.items ≤ 8 }
-        ensures begun { IfOk result (λ r. Begun query strategy scans.items front.value guaranteed cursor opening r.value) }
+        ensures begun { IfOk result (λ r. Begun query strategy scans.items front guaranteed cursor opening r.value) }
         ensures told { IfOk result (λ r. r.value.trace ≡ new_trace strategy) }
-        ensures fits { (shown : Shown) → Opens query strategy scans.items front.value shown → IfOk result (λ r. RetrievalFits r.value shown) }
-        ensures rest { (shown : Shown) → Opens query strategy scans.items front.value shown → IfOk result (λ r. rest r.value shown ≡ qualifying query.only (shown.rows query.table query.snap)) }
+        ensures fits { (shown : Shown) → Opens query strategy scans.items front shown → IfOk result (λ r. RetrievalFits r.value shown) }
+        ensures rest { (shown : Shown) → Opens query strategy scans.items front shown → IfOk result (λ r. rest r.value shown ≡ qualifying query.only (shown.rows query.table query.snap)) }
         ensures unborrowed { IfOk result (λ r. r.value.borrowed ≡ 0) }
         ensures last { (rows : List OneRecord) (pages : ℕ) → IfOk result (λ r. pages_work r.value.last rows pages ≡ length rows + pages) }
     {

@@ -35,7 +35,7 @@ returns-clause-last c rows pages = ap (λ (x : Shape). pages_work x.last rows pa
 
 pub returns-clause-fits : goal.returns-clause-fits
 returns-clause-fits c shown o =
-    let v : Shape = record { query = c.args.query; strategy = c.args.strategy; control = c.first_control-control.result; joint = c.new-joint.result; front = c.args.front.value; delivered = rows_given c.in-Ok.delivered; borrowed = 0; at = c.new-ending.result.at; last = c.new-ending.result.last; guaranteed = c.args.guaranteed; trace = c.new-trace.result } in
+    let v : Shape = record { query = c.args.query; strategy = c.args.strategy; control = c.first_control-control.result; joint = c.new-joint.result; front = c.args.front; delivered = rows_given c.in-Ok.delivered; borrowed = 0; at = c.new-ending.result.at; last = c.new-ending.result.last; guaranteed = c.args.guaranteed; trace = c.new-trace.result } in
     subst (λ (x : Shape). RetrievalFits x shown) (sym c.in_ok-boxed.ensures.ok) (opened_fits v c.args.scans.items c.args.cursor c.args.opening _ shown (record {
       joint = c.new-joint.ensures.begun;
       control = c.first_control-control.ensures;
@@ -49,7 +49,7 @@ returns-clause-fits c shown o =
 
 pub returns-clause-rest : goal.returns-clause-rest
 returns-clause-rest c shown o =
-    let v : Shape = record { query = c.args.query; strategy = c.args.strategy; control = c.first_control-control.result; joint = c.new-joint.result; front = c.args.front.value; delivered = rows_given c.in-Ok.delivered; borrowed = 0; at = c.new-ending.result.at; last = c.new-ending.result.last; guaranteed = c.args.guaranteed; trace = c.new-trace.result } in
+    let v : Shape = record { query = c.args.query; strategy = c.args.strategy; control = c.first_control-control.result; joint = c.new-joint.result; front = c.args.front; delivered = rows_given c.in-Ok.delivered; borrowed = 0; at = c.new-ending.result.at; last = c.new-ending.result.last; guaranteed = c.args.guaranteed; trace = c.new-trace.result } in
     subst (λ (x : Shape). rest x shown ≡ qualifying c.args.query.only (shown.rows c.args.query.table c.args.query.snap)) (sym c.in_ok-boxed.ensures.ok) (opened_rest v c.args.scans.items c.args.cursor c.args.opening _ shown (record {
       joint = c.new-joint.ensures.begun;
       control = c.first_control-control.ensures;

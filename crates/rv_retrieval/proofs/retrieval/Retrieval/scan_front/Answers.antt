@@ -17,23 +17,23 @@ pub returns-clause-marks : goal.returns-clause-marks
 returns-clause-marks g c =
     let shown = g.R.Reader.shown c.args.reader.now in
     let v = c.args.self.now in
-    let new = c.step_front.new.front.value in
+    let new = c.step.new.self in
     let hides = subst (λ (x : Shape). option_copied c.hiding.result ≡ (if is_sorted x.strategy then option_copied c.list.result else None)) c.self.view_is c.hiding.ensures in
     let keys = subst (λ (x : Shape). keys_of (option_copied c.list.result) ≡ x.joint.list) c.self.view_is c.list.ensures.keys in
-    let same = subst (λ (x : Shape). SameFront x.front new) c.self.view_is c.step_front.ensures.same in
-    let follows = subst (λ (x : Shape). Follows (walk_of x.front) (own_entries x shown) → Follows (walk_of new) (own_entries x shown)) c.self.view_is c.step_front.ensures.follows in
-    let step = subst (λ (x : Shape). IfOk c.step_front.result (FrontStep x new shown (record { delivered = None; list = option_copied c.hiding.result }))) c.self.view_is c.step_front.ensures.step in
-    front_marks c.step_front.result v new shown (record { delivered = None; list = option_copied c.hiding.result }) c.requires.fits c.requires.led (skips_by v (option_copied c.hiding.result) (option_copied c.list.result) hides keys) same (own_follows v new shown c.requires.fits c.requires.led follows) step
+    let same = subst (λ (x : Shape). SameFront x.front new) c.self.view_is c.step.ensures.same in
+    let follows = subst (λ (x : Shape). Follows (walk_of x.front) (own_entries x shown) → Follows (walk_of new) (own_entries x shown)) c.self.view_is c.step.ensures.follows in
+    let step = subst (λ (x : Shape). IfOk c.step.result (FrontStep x new shown (record { delivered = None; list = option_copied c.hiding.result }))) c.self.view_is c.step.ensures.step in
+    front_marks c.step.result v new shown (record { delivered = None; list = option_copied c.hiding.result }) c.requires.fits c.requires.led (skips_by v (option_copied c.hiding.result) (option_copied c.list.result) hides keys) same (own_follows v new shown c.requires.fits c.requires.led follows) step
 
 pub returns-clause-least : goal.returns-clause-least
 returns-clause-least g c sorted =
     let shown = g.R.Reader.shown c.args.reader.now in
     let v = c.args.self.now in
-    let new = c.step_front.new.front.value in
+    let new = c.step.new.self in
     let hides = subst (λ (x : Shape). option_copied c.hiding.result ≡ (if is_sorted x.strategy then option_copied c.list.result else None)) c.self.view_is c.hiding.ensures in
     let keys = subst (λ (x : Shape). keys_of (option_copied c.list.result) ≡ x.joint.list) c.self.view_is c.list.ensures.keys in
-    let step = subst (λ (x : Shape). IfOk c.step_front.result (FrontStep x new shown (record { delivered = None; list = option_copied c.hiding.result }))) c.self.view_is c.step_front.ensures.step in
-    front_least c.step_front.result v new shown (record { delivered = None; list = option_copied c.hiding.result }) c.requires.fits sorted (skips_by v (option_copied c.hiding.result) (option_copied c.list.result) hides keys) step
+    let step = subst (λ (x : Shape). IfOk c.step.result (FrontStep x new shown (record { delivered = None; list = option_copied c.hiding.result }))) c.self.view_is c.step.ensures.step in
+    front_least c.step.result v new shown (record { delivered = None; list = option_copied c.hiding.result }) c.requires.fits sorted (skips_by v (option_copied c.hiding.result) (option_copied c.list.result) hides keys) step
 
 pub returns-clause-fetches : goal.returns-clause-fetches
 returns-clause-fetches g c =
@@ -41,18 +41,18 @@ returns-clause-fetches g c =
     let v = c.args.self.now in
     let hides = subst (λ (x : Shape). option_copied c.hiding.result ≡ (if is_sorted x.strategy then option_copied c.list.result else None)) c.self.view_is c.hiding.ensures in
     let keys = subst (λ (x : Shape). keys_of (option_copied c.list.result) ≡ x.joint.list) c.self.view_is c.list.ensures.keys in
-    let fetches = subst (λ (x : Shape). IfOk c.step_front.result (λ (s : Scanned). FetchesDue (record { delivered = None; list = option_copied c.hiding.result }) x.query.only (shown.rows x.front.fetching.table (walk_of x.front).snap) s c.args.steps.now c.step_front.new.steps)) c.self.view_is c.step_front.ensures.fetches in
-    walk_reads c.step_front.result v shown (option_copied c.hiding.result) (option_copied c.list.result) c.args.steps.now c.step_front.new.steps c.requires.fits c.requires.led hides keys fetches
+    let fetches = subst (λ (x : Shape). IfOk c.step.result (λ (s : Scanned). FetchesDue (record { delivered = None; list = option_copied c.hiding.result }) x.query.only (shown.rows x.front.fetching.table (walk_of x.front).snap) s c.args.steps.now c.step.new.steps)) c.self.view_is c.step.ensures.fetches in
+    walk_reads c.step.result v shown (option_copied c.hiding.result) (option_copied c.list.result) c.args.steps.now c.step.new.steps c.requires.fits c.requires.led hides keys fetches
 
 pub returns-clause-records : goal.returns-clause-records
 returns-clause-records g c sorted =
     let shown = g.R.Reader.shown c.args.reader.now in
     let v = c.args.self.now in
-    let new = c.step_front.new.front.value in
+    let new = c.step.new.self in
     let skip : Skipped = record { delivered = None; list = option_copied c.hiding.result } in
     let hides = subst (λ (x : Shape). option_copied c.hiding.result ≡ (if is_sorted x.strategy then option_copied c.list.result else None)) c.self.view_is c.hiding.ensures in
     let whole : option_copied c.hiding.result ≡ option_copied c.list.result = hides ∙ ap (λ (b : Bool). if b then option_copied c.list.result else None) sorted in
     let keys = subst (λ (x : Shape). keys_of (option_copied c.list.result) ≡ x.joint.list) c.self.view_is c.list.ensures.keys in
-    let same = subst (λ (x : Shape). SameFront x.front new) c.self.view_is c.step_front.ensures.same in
-    let step = subst (λ (x : Shape). IfOk c.step_front.result (λ s. c.step_front.new.steps.records + front_fetches new (own_entries x shown) skip ≤ c.args.steps.now.records + front_fetches x.front (own_entries x shown) skip)) c.self.view_is c.step_front.ensures.records in
-    subst (λ (x : Shape). IfOk c.step_front.result (λ s. c.step_front.new.steps.records + scan_fetches (record x { front = new }) shown ≤ c.args.steps.now.records + scan_fetches v shown)) (sym c.self.view_is) (scan_fewer c.step_front.result v new shown skip c.args.steps.now c.step_front.new.steps c.requires.fits c.requires.led refl (ap keys_of whole ∙ keys) same step)
+    let same = subst (λ (x : Shape). SameFront x.front new) c.self.view_is c.step.ensures.same in
+    let step = subst (λ (x : Shape). IfOk c.step.result (λ s. c.step.new.steps.records + front_fetches new (own_entries x shown) skip ≤ c.args.steps.now.records + front_fetches x.front (own_entries x shown) skip)) c.self.view_is c.step.ensures.records in
+    subst (λ (x : Shape). IfOk c.step.result (λ s. c.step.new.steps.records + scan_fetches (record x { front = new }) shown ≤ c.args.steps.now.records + scan_fetches v shown)) (sym c.self.view_is) (scan_fewer c.step.result v new shown skip c.args.steps.now c.step.new.steps c.requires.fits c.requires.led refl (ap keys_of whole ∙ keys) same step)
