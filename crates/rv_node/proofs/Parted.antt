@@ -70,17 +70,17 @@ counted_place p xs k passes bound = let same : k ≡ 0 + k = omega arith in same
 -- Where the last item passes, its place is the last that passes.
 
 last_is : {X : Type 0} (p : X → Bool) (xs : List X) (i n b : ℕ) (y : X) → i + 1 ≡ length xs → slice_get xs i ≡ Some y → p y ≡ true → last_place p n b xs ≡ n + i
-last_is p [] i n b y long got yes = absurd (omega (arith, long))
-last_is p (x ∷ []) zero n b y long got yes = let same : n ≡ n + 0 = omega arith in rw (ap p (same_Some x y got) ∙ yes) same
-last_is p (x ∷ z ∷ zs) zero n b y long got yes = absurd (omega (arith, long))
-last_is p (x ∷ xs) (suc i) n b y long got yes = let same : n + 1 + i ≡ n + suc i = omega arith in last_is p xs i (n + 1) _ y (omega (arith, long)) got yes ∙ same
+last_is p [] i n b y long got so = absurd (omega (arith, long))
+last_is p (x ∷ []) zero n b y long got so = let same : n ≡ n + 0 = omega arith in rw (ap p (same_Some x y got) ∙ so) same
+last_is p (x ∷ z ∷ zs) zero n b y long got so = absurd (omega (arith, long))
+last_is p (x ∷ xs) (suc i) n b y long got so = let same : n + 1 + i ≡ n + suc i = omega arith in last_is p xs i (n + 1) _ y (omega (arith, long)) got so ∙ same
 
 pub last_found : {X : Type 0} (p : X → Bool) (xs : List X) (y : X) → slice_get xs (length xs - 1) ≡ Some y → p y ≡ true → last_place p 1 0 xs ≡ length xs
-last_found p [] y got yes = refl
-last_found p (x ∷ xs) y got yes =
+last_found p [] y got so = refl
+last_found p (x ∷ xs) y got so =
     let long : length (x ∷ xs) - 1 + 1 ≡ length (x ∷ xs) = omega arith in
     let same : 1 + (length (x ∷ xs) - 1) ≡ length (x ∷ xs) = omega arith in
-    last_is p (x ∷ xs) (length (x ∷ xs) - 1) 1 0 y long got yes ∙ same
+    last_is p (x ∷ xs) (length (x ∷ xs) - 1) 1 0 y long got so ∙ same
 
 -- A part in front.
 

@@ -6,7 +6,7 @@ use Rattle.rv_node.proofs.Parted.{last_found}
 use Rattle.rv_node.proofs.halving.ends_before.Goals as goal
 
 pub returns-in-Some : goal.returns-in-Some
-returns-in-Some c = λ yes. last_found (is_before c.args.range.now) c.args.entries.now c.in-Some.last.now (sym c.last.ensures.value ∙ ap option_copied c.in-Some.is) (sym (c.lies_before.ensures ∙ ap before_side c.place.ensures) ∙ yes)
+returns-in-Some c = λ so. last_found (is_before c.args.range.now) c.args.entries.now c.in-Some.last.now (sym c.last.ensures.value ∙ ap option_copied c.in-Some.is) (sym (c.lies_before.ensures ∙ ap before_side c.place.ensures) ∙ so)
 
 pub returns-in-None : goal.returns-in-None
-returns-in-None c = λ yes. absurd (let bad : false ≡ true = yes in cc)
+returns-in-None c = λ so. absurd (let bad : false ≡ true = so in cc)
