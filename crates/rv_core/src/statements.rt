@@ -49,8 +49,12 @@ pub fn answer<S: Store + Reader<Ledger = Uncounted> + Drop>(
     ensures unopened { OnErr result (database.new.opened ≡ database.old.opened) }
 {
     let place = readings.keep(text)?;
-    let said = readings.at(place);
-    execute(alloc, database, session, said, judge, settings)
+    let statement = readings.at(place);
+    match understand(database.catalog(), statement) {
+        Ok(asked) => perform(database, session, asked, judge, settings),
+        Err(BindFault::Refused(refusal)) => refused(alloc, refusal),
+        Err(BindFault::NoMemory) => Err(NoMemory),
+    }
 }
 
 /// One turn's part of a call: the reply to a text, twice, with the step that it makes, or none where it is a FETCH whose
@@ -127,36 +131,6 @@ fn turn<S: Store + Reader<Ledger = Uncounted> + Drop>(
     match fetch_name(asked) {
         Ok(name) => database.fetch_step(session, name, judge, settings.steps),
         Err(other) => answered(perform(database, session, other, judge, settings)),
-    }
-}
-
-/// The reply to a statement, or to a text that is none.
-#[tactic(auto, using(crate::proofs::Keeping::sees_same))]
-fn execute<S: Store + Reader<Ledger = Uncounted> + Drop>(
-    alloc: Global,
-    database: &mut Database<S>,
-    session: u8,
-    statement: &Option<Statement>,
-    judge: &mut Box<dyn Judge>,
-    settings: Settings,
-) -> Result<(Reply, Reply), NoMemory>
-    requires parts { IfSome statement.now HasParts }
-    requires room { HasRoom database.old.stand.db }
-    requires numbers { database.old.opened < 2 ^ 64 - 1 }
-    requires swept { database.old.stand.horizon ≡ horizon_of database.old.stand.db }
-    ensures sees { SeesSame (S.shown database.old.store) (S.shown database.new.store) database.new.opens }
-    ensures ok { IfOk result (λ replies. Executes database.old.stand session statement.now replies database.new.stand) }
-    ensures handles { IfOk result (λ replies. HandlesText (under (S.shown database.old.store) (would judge.old) settings) (statement.now) database.old.stand.db session replies.0 (plans_of database.old (state judge.old)) (plans_of database.new (state judge.new))) }
-    ensures lost { OnErr result (LeavesText (under (S.shown database.old.store) (would judge.old) settings) (statement.now) database.old.stand.db session (plans_of database.old (state judge.old)) (plans_of database.new (state judge.new))) }
-    ensures rules { would judge.new ≡ would judge.old }
-    ensures err { OnErr result (database.new.stand ≡ database.old.stand) }
-    ensures opened { database.new.opened ≤ database.old.opened + 1 }
-    ensures unopened { OnErr result (database.new.opened ≡ database.old.opened) }
-{
-    match understand(database.catalog(), statement) {
-        Ok(asked) => perform(database, session, asked, judge, settings),
-        Err(BindFault::Refused(refusal)) => refused(alloc, refusal),
-        Err(BindFault::NoMemory) => Err(NoMemory),
     }
 }
 
