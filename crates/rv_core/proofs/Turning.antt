@@ -1,21 +1,30 @@
--- One turn of a FETCH, as a part of it.
-use Rattle.std.proofs.Common.{◌≡◌, ℕ, zero, List, Option, Some, None, IsSome, refl, slice_get, slice_set}
+-- A FETCH of the cursor of a name, and one turn of it, as a part of it.
+use Rattle.std.proofs.Common.{◌≡◌, ℕ, zero, List, Option, Some, None, IsSome, ap, refl, slice_get, slice_set}
 use Rattle.rv_judge.specs.declared.judging.Facts.{Facts}
 use Rattle.rv_judge.specs.Verdicts.{Ruling}
 use Rattle.rv_lang.specs.declared.reply.Reply.{Reply}
 use Rattle.rv_lang.specs.declared.reply.Refusal.{Refusal}
 use Rattle.rv_lang.specs.declared.reply.Reply.TheVariants.{Refused}
 use Rattle.rv_model.specs.declared.state.Offer.{Offer}
+use Rattle.rv_catalog.specs.Schema.{Schema}
 use Rattle.rv_reader.specs.Shown.{Shown}
+use Rattle.rv_model.specs.declared.transactions.Transactions.{Transactions}
+use Rattle.rv_model.specs.Database.{cursor_named}
 use Rattle.rv_join.specs.declared.plan.PlanStep.{PlanStep}
 use Rattle.rv_join.specs.declared.plan.PlanStep.TheVariants.{Row, End, Working}
 use Rattle.rv_cursor.specs.declared.cursor.Open.{Open}
-use Rattle.rv_cursor.specs.Left.{SameCursor, TakesPart, left, seen_by}
+use Rattle.rv_cursor.specs.Left.{SameCursor, TakesOffer, TakesPart, left, seen_by}
 use Rattle.rv_cursor.specs.Moves.{FetchMoves, RepliesTo, Ruled, TurnMoves, ruled}
-use Rattle.rv_core.specs.Db.{seen}
-use Rattle.rv_core.specs.Doing.{PartIs, TakesAt}
+use Rattle.rv_core.specs.Db.{seen, stand_of}
+use Rattle.rv_core.specs.Doing.{Fetches, PartIs, TakesAt}
 use Rattle.rv_core.specs.Obeying.{FetchOf, MovesAt, TurnOf}
 use Rattle.rv_core.proofs.Opens.{fetches_at, offers_no_refusal, same_at}
+
+-- the cursor of the name stands in this place
+pub fetches_named : (shown : Shown) (schema : Schema) (txns : Transactions) (cs : List Open) (session place : ℕ) (name : List ℕ) (c new : Open) (replies : Reply × Reply) → cursor_named (seen shown cs) session name ≡ Some place → slice_get cs place ≡ Some c → SameCursor c new → TakesOffer (left shown c) replies (left shown new) → Fetches (stand_of shown schema txns (seen shown cs)) session name replies (stand_of shown schema txns (seen shown (slice_set cs place new)))
+fetches_named shown schema txns cs session place name c new replies named at same takes =
+    let did = fetches_at shown cs place c new replies at same takes in
+    rw named (did.0, did.1, ap (stand_of shown schema txns) did.2)
 
 -- a turn that makes a reply is a FETCH
 pub turn_fetches : (hand : Option Offer) (replies : Reply × Reply) (most : ℕ) (would : ℕ → Facts → Ruling) (shown : Shown) (old new : Ruled) → TurnMoves hand (Some replies) most would shown old new → FetchMoves hand most would shown old new

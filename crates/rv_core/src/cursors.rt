@@ -24,7 +24,7 @@ ghost use Rattle.rv_core.specs.Doing.{PartIs, TakesAt, opening_base};
 
 use crate::replies::limit;
 use rv_catalog::{Catalog, Select};
-use rv_cursor::{Open, fetch, fetch_step, open_cursor, step};
+use rv_cursor::{Open, fetch_step, open_cursor, step};
 use rv_judge::{Judge, Steps, Trace, Uncounted};
 use rv_lang::{Refusal, Reply, Which};
 use rv_reader::{Reader, Store};
@@ -178,38 +178,6 @@ pub fn trace_at(cursors: &Items<Open>, place: usize) -> Trace
     ensures allowed { (shown : Shown) → AllByRecursion (CursorFits shown) cursors.now → IfSome (slice_get cursors.now place) (λ c. Allowed result (numbers_of (item_at c.plan.asked 0).indexes)) }
 {
     cursors.as_slice()[place].plan.trace()
-}
-
-/// FETCH of the cursor in a place.
-#[tactic(auto, using(crate::proofs::Opens::same_at, crate::proofs::Opens::all_get))]
-pub fn fetch_at<S: Store + Reader<Ledger = Uncounted>>(
-    alloc: Global,
-    store: &S,
-    cursors: &mut Items<Open>,
-    place: usize,
-    judge: &mut Box<dyn Judge>,
-    beside: u8,
-) -> Result<(Reply, Reply), NoMemory>
-    requires place { place < length cursors.old }
-    requires fits { AllByRecursion (CursorFits (S.shown store.now)) cursors.old }
-    ensures ok { IfOk result (λ replies. TakesAt place (seen (S.shown store.now) cursors.old) replies (seen (S.shown store.now) cursors.new)) }
-    ensures err { OnErr result (seen (S.shown store.now) cursors.new ≡ seen (S.shown store.now) cursors.old) }
-    ensures moves { IfOk result (λ replies. MovesAt (FetchOf beside (would judge.old)) (S.shown store.now) place (state judge.old) (state judge.new) cursors.old cursors.new) }
-    ensures lost { OnErr result (MovesAt (AnyOf (would judge.old)) (S.shown store.now) place (state judge.old) (state judge.new) cursors.old cursors.new) }
-    ensures given { IfOk result (λ replies. (refusal : TheRefusal) → ¬ (replies.0 ≡ Refused refusal)) }
-    ensures rules { would judge.new ≡ would judge.old }
-    ensures opens { (schema : Schema) (active : List Transaction) → AllByRecursion (IsOpen (S.shown store.now) schema active) cursors.old → AllByRecursion (IsOpen (S.shown store.now) schema active) cursors.new }
-    ensures listed { (next : ℕ) → AreListed next cursors.old → AreListed next cursors.new }
-{
-    let mut steps = Steps::new(Uncounted);
-    fetch(
-        alloc,
-        cursors.at_mut(place),
-        store,
-        judge,
-        beside,
-        &mut steps,
-    )
 }
 
 /// One turn's part of a FETCH of the cursor in a place.

@@ -16,14 +16,13 @@ ghost use Rattle.rv_lang.specs.declared.reply.Refusal.{Refusal as TheRefusal};
 ghost use Rattle.rv_lang.specs.declared.reply.Reply.TheVariants.{Opened, Refused, Touched};
 
 use crate::cursors::{
-    close_all, close_at, cursor_named, fetch_at, fetch_step_at, opening, plan_cursor, step_at,
-    trace_at,
+    close_all, close_at, cursor_named, fetch_step_at, opening, plan_cursor, step_at, trace_at,
 };
 use crate::pieces::{give_at, next_waiting, numbered, take_at};
 use crate::replies::{answered, limit, named_trace, refused};
 use crate::storing::{add_index, add_table, change_rows, commit_some, freeze, insert_row};
 use rv_catalog::{Catalog, IndexDef, Select, TableDef};
-use rv_cursor::{Open, twice};
+use rv_cursor::{Open, fetch, twice};
 use rv_jscan::{Given, Sieved, Taken};
 use rv_judge::{Judge, Steps, Uncounted};
 use rv_lang::{Refusal, Reply, Rival, Which};
@@ -410,18 +409,15 @@ impl<S: Store + Reader<Ledger = Uncounted> + Drop> Database<S> {
             return refused(self.alloc, Refusal::NoCursor(name));
         };
         drop(name);
-        let replies = match fetch_at(
+        let mut steps = Steps::new(Uncounted);
+        fetch(
             self.alloc,
+            self.cursors.at_mut(place),
             &self.store,
-            &mut self.cursors,
-            place,
             judge,
             beside,
-        ) {
-            Ok(replies) => replies,
-            Err(NoMemory) => return Err(NoMemory),
-        };
-        Ok(replies)
+            &mut steps,
+        )
     }
 
     /// One turn's part of a FETCH: one step of the cursor's plan at most, with the background steps behind it.
