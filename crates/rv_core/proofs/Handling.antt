@@ -1,5 +1,5 @@
 -- What calls do to the plans of open cursors, by what they ask.
-use Rattle.std.proofs.Common.{◌≡◌, ◌⊎◌, inl, inr, ℕ, zero, suc, ◌==◌, ◌&&◌, ◌<◌, [], ◌∷◌, List, Bool, false, Option, Some, None, Result, Ok, Err, IfOk, OnErr, refl, ap, sym, ◌∙◌, subst, length, position, bytes_eq, slice_get, slice_set}
+use Rattle.std.proofs.Common.{◌≡◌, ◌⊎◌, inl, inr, ℕ, zero, suc, ◌==◌, ◌&&◌, ◌<◌, [], ◌∷◌, List, Bool, true, false, Option, Some, None, Result, Ok, Err, IfOk, OnErr, refl, ap, sym, ◌∙◌, subst, length, position, bytes_eq, slice_get, slice_set}
 use Rattle.std.proofs.lemmas.List.Quantifiers.{position-Some}
 use Rattle.rv_judge.specs.declared.judging.Facts.{Facts}
 use Rattle.rv_judge.specs.Verdicts.{Ruling}
@@ -168,3 +168,7 @@ part_executes statement asked old new W session None is works = works
 -- no cursor of that name is open
 pub refused_fetch : (s : Stand) (session : ℕ) (name : List ℕ) (replies : Reply × Reply) → cursor_named s.db.cursors session name ≡ None → (replies.0 ≡ Refused (NoCursor name)) × (replies.1 ≡ Refused (NoCursor name)) → Fetches s session name replies s
 refused_fetch s session name replies none made = rw none (made.1 ∙ sym made.0, made.0, refl)
+
+-- what is no FETCH is none
+pub never : true ≡ false → ⊥
+never e = cc

@@ -51,7 +51,10 @@ pub fn answer<S: Store + Reader<Ledger = Uncounted> + Drop>(
     let place = readings.keep(text)?;
     let statement = readings.at(place);
     match understand(database.catalog(), statement) {
-        Ok(asked) => perform(database, session, asked, judge, settings),
+        Ok(asked) => match fetch_name(asked) {
+            Ok(name) => database.fetch(session, name, judge, settings.steps),
+            Err(other) => perform(database, session, other, judge, settings),
+        },
         Err(BindFault::Refused(refusal)) => refused(alloc, refusal),
         Err(BindFault::NoMemory) => Err(NoMemory),
     }
@@ -147,7 +150,7 @@ pub fn understand(catalog: &Catalog, statement: &Option<Statement>) -> Result<Re
     catalog.resolve(derived)
 }
 
-/// Does what is asked.
+/// Does what is asked, where that is no FETCH.
 #[tactic(auto, using(crate::proofs::Keeping::sees_same))]
 fn perform<S: Store + Reader<Ledger = Uncounted> + Drop>(
     database: &mut Database<S>,
@@ -161,6 +164,7 @@ fn perform<S: Store + Reader<Ledger = Uncounted> + Drop>(
     requires swept { database.old.stand.horizon ≡ horizon_of database.old.stand.db }
     requires fits { FitsSchema database.old.stand.db.schema asked }
     requires whole { IsWhole asked }
+    requires other { is_fetch asked ≡ false }
     ensures sees { SeesSame (S.shown database.old.store) (S.shown database.new.store) database.new.opens }
     ensures ok { IfOk result (λ replies. DoesAsked (Ok asked) database.old.stand session replies database.new.stand) }
     ensures handles { IfOk result (λ replies. Handles (under (S.shown database.old.store) (would judge.old) settings) (Ok asked) database.old.stand.db session replies.0 (plans_of database.old (state judge.old)) (plans_of database.new (state judge.new))) }
@@ -194,7 +198,7 @@ fn perform<S: Store + Reader<Ledger = Uncounted> + Drop>(
             drop(select);
             replies
         }
-        Resolved::Fetch(name) => database.fetch(session, name, judge, settings.steps),
+        Resolved::Fetch(_) => unreachable!(),
         Resolved::Step { cursor, n } => database.step(session, cursor, n, judge),
         Resolved::Show(name) => database.show(session, name),
         Resolved::Close(name) => database.close(session, name),
