@@ -4,6 +4,7 @@ use Rattle.rv_core.specs.Db.{stand_of}
 use Rattle.rv_core.proofs.Facts.{any_ok, if_ok, on_err}
 use Rattle.rv_core.proofs.Handling.{err_more, parted_err, parted_ok, refused_fetch}
 use Rattle.rv_core.proofs.Databases.{opens_fit, standing_set}
+use Rattle.rv_core.proofs.Keeping.{sees_itself}
 use Rattle.rv_core.proofs.Opens.{all_get, same_at}
 use Rattle.rv_core.proofs.Turning.{part_given, part_more, part_moves, part_named, part_turns}
 use Rattle.rv_core.proofs.database.Database.fetch_step.Goals as goal
@@ -19,6 +20,9 @@ invariant_of-self g c =
       standing = standing_set (g.S.Reader.shown c.self.inside.store) c.self.inside.catalog c.self.inside.txns c.self.inside.cursors c.self.inside.opened c.in-Some.place c.at_mut.result.now c.fetch_step.new.cursor c.at_mut.ensures.value c.fetch_step.ensures.fits c.fetch_step.ensures.same c.self.invariant.standing;
       views_kept = c.self.invariant.views_kept;
     }
+
+pub returns-clause-sees : goal.returns-clause-sees
+returns-clause-sees g c = rw (← c.self.view_is) (sees_itself _ _)
 
 pub returns-clause-ok : goal.returns-clause-ok
 returns-clause-ok g c =
