@@ -1,5 +1,5 @@
 -- What the calls below a database's methods leave of all that it keeps.
-use Rattle.std.proofs.Common.{◌≡◌, ℕ, ◌+◌, ◌<◌, List, [], ◌∷◌, ◌++◌, ◌==◌, refl, ap, sym, ◌∙◌, subst, Bool, true, false, not, filter, length, remove, Ok, IfSome, Option, Some, None, nat_lt, slice_get}
+use Rattle.std.proofs.Common.{◌≡◌, ℕ, ◌+◌, ◌<◌, List, [], ◌∷◌, ◌++◌, ◌==◌, refl, ap, sym, ◌∙◌, subst, Bool, true, false, not, filter, length, remove, Ok, IfSome, Option, Some, None, nat_lt, slice_get, slice_set}
 use Rattle.std.specs.List.{AllByRecursion}
 use Rattle.std.proofs.lemmas.List.Quantifiers.{position-Some}
 use Rattle.rv_value.specs.declared.value.Value.{Value}
@@ -16,7 +16,7 @@ use Rattle.rv_model.specs.Showing.{ShowsTrace, shown_trace}
 use Rattle.rv_catalog.specs.declared.def.Select.{Select}
 use Rattle.rv_join.specs.Asking.{IsAsked, indexes_from, item_at}
 use Rattle.rv_join.specs.Plans.{PlanFits, PlanStays, Planned, numbers_of, plan_trace}
-use Rattle.rv_cursor.specs.Left.{CursorFits, Stays as CursorStays, seen_by}
+use Rattle.rv_cursor.specs.Left.{CursorFits, SameCursor, Stays as CursorStays, seen_by}
 use Rattle.rv_cursor.proofs.Holding.{piece_stays}
 use Rattle.rv_core.proofs.Showing.{shows_trace}
 use Rattle.rv_catalog.specs.declared.def.IndexDef.{IndexDef}
@@ -43,8 +43,8 @@ use Rattle.rv_core.proofs.Calling.{at_own, commits_does, commits_tied, creates, 
 use Rattle.rv_core.proofs.Facts.{all_append, all_filter, all_more, all_remove, get_there}
 use Rattle.rv_core.proofs.Indexing.{indexes_does, indexes_tied}
 use Rattle.rv_core.proofs.Keeping.{Kept, SameBases, all_seen, begun_bases, kept_committed, kept_same, kept_swept, none_open, opens_over, opens_stay, others_bases, same_bases, sees_kept, sees_none, with_bases}
-use Rattle.rv_core.proofs.Numbering.{listed_filter, listed_push, listed_remove, none_listed}
-use Rattle.rv_core.proofs.Opens.{all_get, at_seen, others_seen}
+use Rattle.rv_core.proofs.Numbering.{listed_filter, listed_push, listed_remove, listed_set, none_listed}
+use Rattle.rv_core.proofs.Opens.{all_get, at_seen, opens_at, others_seen}
 use Rattle.rv_core.proofs.Standing.{begun_is, finished_is, inserted_is, rolled_is, stand_swept, tied_began, tied_inserted, calls_made, changed_is, fresh_tied}
 use Rattle.rv_core.proofs.Tied.{none_lowest, tied_same, tied_swept}
 
@@ -259,6 +259,14 @@ opens_fit shown schema active cs h = all_more (IsOpen shown schema active) (Curs
 
 pub standing_at : (shown : Shown) (schema : Schema) (txns : Transactions) (cs more : List Open) (n : ℕ) → ((s : Schema) (active : List Transaction) → AllByRecursion (IsOpen shown s active) cs → AllByRecursion (IsOpen shown s active) more) → ((next : ℕ) → AreListed next cs → AreListed next more) → IsStanding shown schema txns cs n → IsStanding shown schema txns more n
 standing_at shown schema txns cs more n opens listed h = record { tied = h.tied; opens = opens schema txns.active h.opens; listed = listed n h.listed }
+
+-- the cursor in a place, which stays open with what it was opened with
+pub standing_set : (shown : Shown) (schema : Schema) (txns : Transactions) (cs : List Open) (n place : ℕ) (c new : Open) → slice_get cs place ≡ Some c → CursorFits shown new → SameCursor c new → IsStanding shown schema txns cs n → IsStanding shown schema txns (slice_set cs place new) n
+standing_set shown schema txns cs n place c new at fits same h = record {
+  tied = h.tied;
+  opens = opens_at shown schema txns.active cs place c new at fits same h.opens;
+  listed = listed_set n cs place c new at same.number same.session h.listed;
+}
 
 -- a piece was given to the plan of the cursor in a place
 

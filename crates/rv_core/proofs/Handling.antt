@@ -1,5 +1,5 @@
 -- What calls do to the plans of open cursors, by what they ask.
-use Rattle.std.proofs.Common.{◌≡◌, ◌⊎◌, inl, inr, ℕ, zero, suc, ◌==◌, ◌&&◌, ◌<◌, [], ◌∷◌, List, Bool, false, Option, Some, None, Result, Ok, Err, IfOk, OnErr, refl, ap, sym, ◌∙◌, subst, length, position, bytes_eq, slice_get, slice_set}
+use Rattle.std.proofs.Common.{◌≡◌, ◌⊎◌, inl, inr, ℕ, zero, suc, ◌==◌, ◌&&◌, ◌<◌, [], ◌∷◌, List, Bool, true, false, Option, Some, None, Result, Ok, Err, IfOk, OnErr, refl, ap, sym, ◌∙◌, subst, length, position, bytes_eq, slice_get, slice_set}
 use Rattle.std.proofs.lemmas.List.Quantifiers.{position-Some}
 use Rattle.rv_judge.specs.declared.judging.Facts.{Facts}
 use Rattle.rv_judge.specs.Verdicts.{Ruling}
@@ -111,6 +111,10 @@ leaves_same u (Err refusal) db session p = refl
 pub leaves_text : (u : Under) (statement : Option Statement) (db : State) (session : ℕ) (p : Plans) → LeavesText u statement db session p p
 leaves_text u statement db session p = record { left = leaves_same u (understood db.schema statement) db session p }
 
+-- the text asks this, and so the call does as this asks
+pub executes : (statement : Option Statement) (asked : Resolved) (old new : Stand) (session : ℕ) (replies : Reply × Reply) → understood old.db.schema statement ≡ Ok asked → DoesAsked (Ok asked) old session replies new → Executes old session statement replies new
+executes statement asked old new session replies is does = subst (λ (a : Result Resolved Refusal). DoesAsked a old session replies new) (sym is) does
+
 -- the text asks this, and so the call handles the plans as this asks
 pub handles_text : (u : Under) (statement : Option Statement) (asked : Result Resolved Refusal) (db : State) (session : ℕ) (reply : Reply) (old new : Plans) → understood db.schema statement ≡ asked → Handles u asked db session reply old new → ((refusal : Refusal) → reply ≡ Refused refusal → Refuses asked old new) → HandlesText u statement db session reply old new
 handles_text u statement asked db session reply old new is handles refused = record { asked = subst (λ (a : Result Resolved Refusal). Handles u a db session reply old new) (sym is) handles; refused = λ refusal e. subst (λ (a : Result Resolved Refusal). Refuses a old new) (sym is) (refused refusal e) }
@@ -158,9 +162,13 @@ part_turns_text u statement asked db session None old new is turn = tt
 pub part_executes : (statement : Option Statement) (asked : Resolved) (old new : Stand) (W : Type 0) (session : ℕ) (part : Option (Reply × Reply)) → understood old.db.schema statement ≡ Ok asked
     → PartIs (λ (replies : Reply × Reply). DoesAsked (Ok asked) old session replies new) W part
     → PartIs (λ (replies : Reply × Reply). Executes old session statement replies new) W part
-part_executes statement asked old new W session (Some replies) is does = subst (λ (a : Result Resolved Refusal). DoesAsked a old session replies new) (sym is) does
+part_executes statement asked old new W session (Some replies) is does = executes statement asked old new session replies is does
 part_executes statement asked old new W session None is works = works
 
 -- no cursor of that name is open
 pub refused_fetch : (s : Stand) (session : ℕ) (name : List ℕ) (replies : Reply × Reply) → cursor_named s.db.cursors session name ≡ None → (replies.0 ≡ Refused (NoCursor name)) × (replies.1 ≡ Refused (NoCursor name)) → Fetches s session name replies s
 refused_fetch s session name replies none made = rw none (made.1 ∙ sym made.0, made.0, refl)
+
+-- what is no FETCH is none
+pub never : true ≡ false → ⊥
+never e = cc

@@ -1,5 +1,5 @@
 //! Open cursors of sessions: how they are found, opened, read and closed.
-ghost use Rattle.std.specs.Prelude.{◌≡◌, ◌<◌, ◌≤◌, ◌==◌, ℕ, List, true, not, Ok, IfErr, IfOk, IfSome, None, OnErr, Some, length, filter, remove, slice_get};
+ghost use Rattle.std.specs.Prelude.{◌≡◌, ◌<◌, ◌≤◌, ◌==◌, ℕ, List, true, not, Ok, IfErr, IfOk, IfSome, OnErr, length, filter, remove, slice_get};
 ghost use Rattle.std.specs.List.{AllByRecursion};
 ghost use Rattle.rv_rows.specs.Rows.{Ascend};
 ghost use Rattle.rv_reader.specs.Shown.{CanRead, IsSnapshot, Shown};
@@ -8,9 +8,7 @@ ghost use Rattle.rv_catalog.specs.Schema.{Schema};
 ghost use Rattle.rv_judge.specs.Runs.{Allowed};
 ghost use Rattle.rv_join.specs.Asking.{IsAsked, indexes_from, item_at};
 ghost use Rattle.rv_join.specs.Plans.{LeadsWith, numbers_of, plan_trace, stage_of};
-ghost use Rattle.rv_core.specs.Obeying.{AnyOf, FetchOf, IsBounded, MovesAt, StepOf, TurnOf};
-ghost use Rattle.rv_lang.specs.declared.reply.Refusal.{Refusal as TheRefusal};
-ghost use Rattle.rv_lang.specs.declared.reply.Reply.TheVariants.{Refused};
+ghost use Rattle.rv_core.specs.Obeying.{AnyOf, IsBounded, MovesAt, StepOf};
 ghost use Rattle.rv_model.specs.declared.transactions.Transaction.{Transaction};
 ghost use Rattle.rv_model.specs.declared.transactions.Transactions.{Transactions};
 ghost use Rattle.rv_model.specs.Database.{cursor_at, cursor_named};
@@ -20,13 +18,13 @@ ghost use Rattle.rv_model.specs.Step.{Showing, Stepping, own_cursors, table_of};
 ghost use Rattle.rv_cursor.specs.Left.{CursorFits, seen_at};
 ghost use Rattle.rv_txn.specs.Calls.{IsFault};
 ghost use Rattle.rv_core.specs.Db.{AreListed, IsOpen, IsTied, IsViewed, open_named, own_opens, seen, seen_of, view_at};
-ghost use Rattle.rv_core.specs.Doing.{PartIs, TakesAt, opening_base};
+ghost use Rattle.rv_core.specs.Doing.{opening_base};
 
 use crate::replies::limit;
 use rv_catalog::{Catalog, Select};
-use rv_cursor::{Open, fetch, fetch_step, open_cursor, step};
+use rv_cursor::{Open, open_cursor, step};
 use rv_judge::{Judge, Steps, Trace, Uncounted};
-use rv_lang::{Refusal, Reply, Which};
+use rv_lang::{Refusal, Which};
 use rv_reader::{Reader, Store};
 use rv_txn::{TxnFault, Txns};
 use rv_value::{Duplicate, Items, NoMemory, Text};
@@ -178,71 +176,6 @@ pub fn trace_at(cursors: &Items<Open>, place: usize) -> Trace
     ensures allowed { (shown : Shown) → AllByRecursion (CursorFits shown) cursors.now → IfSome (slice_get cursors.now place) (λ c. Allowed result (numbers_of (item_at c.plan.asked 0).indexes)) }
 {
     cursors.as_slice()[place].plan.trace()
-}
-
-/// FETCH of the cursor in a place.
-#[tactic(auto, using(crate::proofs::Opens::same_at, crate::proofs::Opens::all_get))]
-pub fn fetch_at<S: Store + Reader<Ledger = Uncounted>>(
-    alloc: Global,
-    store: &S,
-    cursors: &mut Items<Open>,
-    place: usize,
-    judge: &mut Box<dyn Judge>,
-    beside: u8,
-) -> Result<(Reply, Reply), NoMemory>
-    requires place { place < length cursors.old }
-    requires fits { AllByRecursion (CursorFits (S.shown store.now)) cursors.old }
-    ensures ok { IfOk result (λ replies. TakesAt place (seen (S.shown store.now) cursors.old) replies (seen (S.shown store.now) cursors.new)) }
-    ensures err { OnErr result (seen (S.shown store.now) cursors.new ≡ seen (S.shown store.now) cursors.old) }
-    ensures moves { IfOk result (λ replies. MovesAt (FetchOf beside (would judge.old)) (S.shown store.now) place (state judge.old) (state judge.new) cursors.old cursors.new) }
-    ensures lost { OnErr result (MovesAt (AnyOf (would judge.old)) (S.shown store.now) place (state judge.old) (state judge.new) cursors.old cursors.new) }
-    ensures given { IfOk result (λ replies. (refusal : TheRefusal) → ¬ (replies.0 ≡ Refused refusal)) }
-    ensures rules { would judge.new ≡ would judge.old }
-    ensures opens { (schema : Schema) (active : List Transaction) → AllByRecursion (IsOpen (S.shown store.now) schema active) cursors.old → AllByRecursion (IsOpen (S.shown store.now) schema active) cursors.new }
-    ensures listed { (next : ℕ) → AreListed next cursors.old → AreListed next cursors.new }
-{
-    let mut steps = Steps::new(Uncounted);
-    fetch(
-        alloc,
-        cursors.at_mut(place),
-        store,
-        judge,
-        beside,
-        &mut steps,
-    )
-}
-
-/// One turn's part of a FETCH of the cursor in a place.
-#[tactic(auto, using(crate::proofs::Opens::same_at, crate::proofs::Opens::all_get))]
-pub fn fetch_step_at<S: Store + Reader<Ledger = Uncounted>>(
-    alloc: Global,
-    store: &S,
-    cursors: &mut Items<Open>,
-    place: usize,
-    judge: &mut Box<dyn Judge>,
-    beside: u8,
-) -> Result<Option<(Reply, Reply)>, NoMemory>
-    requires place { place < length cursors.old }
-    requires fits { AllByRecursion (CursorFits (S.shown store.now)) cursors.old }
-    ensures ok { IfOk result (PartIs (λ replies. TakesAt place (seen (S.shown store.now) cursors.old) replies (seen (S.shown store.now) cursors.new)) (seen (S.shown store.now) cursors.new ≡ seen (S.shown store.now) cursors.old)) }
-    ensures err { OnErr result (seen (S.shown store.now) cursors.new ≡ seen (S.shown store.now) cursors.old) }
-    ensures moves { IfOk result (PartIs (λ replies. MovesAt (FetchOf beside (would judge.old)) (S.shown store.now) place (state judge.old) (state judge.new) cursors.old cursors.new) (MovesAt (TurnOf None beside (would judge.old)) (S.shown store.now) place (state judge.old) (state judge.new) cursors.old cursors.new)) }
-    ensures turn { IfOk result (PartIs (λ replies. MovesAt (TurnOf (Some (replies.0, replies.0)) beside (would judge.old)) (S.shown store.now) place (state judge.old) (state judge.new) cursors.old cursors.new) (Unit {0})) }
-    ensures lost { OnErr result (MovesAt (AnyOf (would judge.old)) (S.shown store.now) place (state judge.old) (state judge.new) cursors.old cursors.new) }
-    ensures given { IfOk result (PartIs (λ replies. (refusal : TheRefusal) → ¬ (replies.0 ≡ Refused refusal)) (Unit {0})) }
-    ensures rules { would judge.new ≡ would judge.old }
-    ensures opens { (schema : Schema) (active : List Transaction) → AllByRecursion (IsOpen (S.shown store.now) schema active) cursors.old → AllByRecursion (IsOpen (S.shown store.now) schema active) cursors.new }
-    ensures listed { (next : ℕ) → AreListed next cursors.old → AreListed next cursors.new }
-{
-    let mut steps = Steps::new(Uncounted);
-    fetch_step(
-        alloc,
-        cursors.at_mut(place),
-        store,
-        judge,
-        beside,
-        &mut steps,
-    )
 }
 
 /// STEP of the cursor in a place: how many background steps there were.

@@ -15,15 +15,12 @@ ghost use Rattle.rv_core.specs.Pieces.{GivesTo, KeepsSettled, TakesNext, TriesNe
 ghost use Rattle.rv_lang.specs.declared.reply.Refusal.{Refusal as TheRefusal};
 ghost use Rattle.rv_lang.specs.declared.reply.Reply.TheVariants.{Opened, Refused, Touched};
 
-use crate::cursors::{
-    close_all, close_at, cursor_named, fetch_at, fetch_step_at, opening, plan_cursor, step_at,
-    trace_at,
-};
+use crate::cursors::{close_all, close_at, cursor_named, opening, plan_cursor, step_at, trace_at};
 use crate::pieces::{give_at, next_waiting, numbered, take_at};
 use crate::replies::{answered, limit, named_trace, refused};
 use crate::storing::{add_index, add_table, change_rows, commit_some, freeze, insert_row};
 use rv_catalog::{Catalog, IndexDef, Select, TableDef};
-use rv_cursor::{Open, twice};
+use rv_cursor::{Open, fetch, fetch_step, twice};
 use rv_jscan::{Given, Sieved, Taken};
 use rv_judge::{Judge, Steps, Uncounted};
 use rv_lang::{Refusal, Reply, Rival, Which};
@@ -411,18 +408,15 @@ impl<S: Store + Reader<Ledger = Uncounted> + Drop> Database<S> {
             return refused(self.alloc, Refusal::NoCursor(name));
         };
         drop(name);
-        let replies = match fetch_at(
+        let mut steps = Steps::new(Uncounted);
+        fetch(
             self.alloc,
+            self.cursors.at_mut(place),
             &self.store,
-            &mut self.cursors,
-            place,
             judge,
             beside,
-        ) {
-            Ok(replies) => replies,
-            Err(NoMemory) => return Err(NoMemory),
-        };
-        Ok(replies)
+            &mut steps,
+        )
     }
 
     /// One turn's part of a FETCH: one step of the cursor's plan at most, with the background steps behind it.
@@ -448,18 +442,15 @@ impl<S: Store + Reader<Ledger = Uncounted> + Drop> Database<S> {
             return answered(refused(self.alloc, Refusal::NoCursor(name)));
         };
         drop(name);
-        let part = match fetch_step_at(
+        let mut steps = Steps::new(Uncounted);
+        fetch_step(
             self.alloc,
+            self.cursors.at_mut(place),
             &self.store,
-            &mut self.cursors,
-            place,
             judge,
             beside,
-        ) {
-            Ok(part) => part,
-            Err(NoMemory) => return Err(NoMemory),
-        };
-        Ok(part)
+            &mut steps,
+        )
     }
 
     /// STEP: so many background steps at most.

@@ -49,8 +49,15 @@ pub fn answer<S: Store + Reader<Ledger = Uncounted> + Drop>(
     ensures unopened { OnErr result (database.new.opened ≡ database.old.opened) }
 {
     let place = readings.keep(text)?;
-    let said = readings.at(place);
-    execute(alloc, database, session, said, judge, settings)
+    let statement = readings.at(place);
+    match understand(database.catalog(), statement) {
+        Ok(asked) => match fetch_name(asked) {
+            Ok(name) => database.fetch(session, name, judge, settings.steps),
+            Err(other) => perform(database, session, other, judge, settings),
+        },
+        Err(BindFault::Refused(refusal)) => refused(alloc, refusal),
+        Err(BindFault::NoMemory) => Err(NoMemory),
+    }
 }
 
 /// One turn's part of a call: the reply to a text, twice, with the step that it makes, or none where it is a FETCH whose
@@ -130,36 +137,6 @@ fn turn<S: Store + Reader<Ledger = Uncounted> + Drop>(
     }
 }
 
-/// The reply to a statement, or to a text that is none.
-#[tactic(auto, using(crate::proofs::Keeping::sees_same))]
-fn execute<S: Store + Reader<Ledger = Uncounted> + Drop>(
-    alloc: Global,
-    database: &mut Database<S>,
-    session: u8,
-    statement: &Option<Statement>,
-    judge: &mut Box<dyn Judge>,
-    settings: Settings,
-) -> Result<(Reply, Reply), NoMemory>
-    requires parts { IfSome statement.now HasParts }
-    requires room { HasRoom database.old.stand.db }
-    requires numbers { database.old.opened < 2 ^ 64 - 1 }
-    requires swept { database.old.stand.horizon ≡ horizon_of database.old.stand.db }
-    ensures sees { SeesSame (S.shown database.old.store) (S.shown database.new.store) database.new.opens }
-    ensures ok { IfOk result (λ replies. Executes database.old.stand session statement.now replies database.new.stand) }
-    ensures handles { IfOk result (λ replies. HandlesText (under (S.shown database.old.store) (would judge.old) settings) (statement.now) database.old.stand.db session replies.0 (plans_of database.old (state judge.old)) (plans_of database.new (state judge.new))) }
-    ensures lost { OnErr result (LeavesText (under (S.shown database.old.store) (would judge.old) settings) (statement.now) database.old.stand.db session (plans_of database.old (state judge.old)) (plans_of database.new (state judge.new))) }
-    ensures rules { would judge.new ≡ would judge.old }
-    ensures err { OnErr result (database.new.stand ≡ database.old.stand) }
-    ensures opened { database.new.opened ≤ database.old.opened + 1 }
-    ensures unopened { OnErr result (database.new.opened ≡ database.old.opened) }
-{
-    match understand(database.catalog(), statement) {
-        Ok(asked) => perform(database, session, asked, judge, settings),
-        Err(BindFault::Refused(refusal)) => refused(alloc, refusal),
-        Err(BindFault::NoMemory) => Err(NoMemory),
-    }
-}
-
 /// What a statement asks, its names looked up, or the first refusal up to there.
 pub fn understand(catalog: &Catalog, statement: &Option<Statement>) -> Result<Resolved, BindFault>
     requires parts { IfSome statement.now HasParts }
@@ -173,7 +150,7 @@ pub fn understand(catalog: &Catalog, statement: &Option<Statement>) -> Result<Re
     catalog.resolve(derived)
 }
 
-/// Does what is asked.
+/// Does what is asked, where that is no FETCH.
 #[tactic(auto, using(crate::proofs::Keeping::sees_same))]
 fn perform<S: Store + Reader<Ledger = Uncounted> + Drop>(
     database: &mut Database<S>,
@@ -187,6 +164,7 @@ fn perform<S: Store + Reader<Ledger = Uncounted> + Drop>(
     requires swept { database.old.stand.horizon ≡ horizon_of database.old.stand.db }
     requires fits { FitsSchema database.old.stand.db.schema asked }
     requires whole { IsWhole asked }
+    requires other { is_fetch asked ≡ false }
     ensures sees { SeesSame (S.shown database.old.store) (S.shown database.new.store) database.new.opens }
     ensures ok { IfOk result (λ replies. DoesAsked (Ok asked) database.old.stand session replies database.new.stand) }
     ensures handles { IfOk result (λ replies. Handles (under (S.shown database.old.store) (would judge.old) settings) (Ok asked) database.old.stand.db session replies.0 (plans_of database.old (state judge.old)) (plans_of database.new (state judge.new))) }
@@ -220,7 +198,7 @@ fn perform<S: Store + Reader<Ledger = Uncounted> + Drop>(
             drop(select);
             replies
         }
-        Resolved::Fetch(name) => database.fetch(session, name, judge, settings.steps),
+        Resolved::Fetch(_) => unreachable!(),
         Resolved::Step { cursor, n } => database.step(session, cursor, n, judge),
         Resolved::Show(name) => database.show(session, name),
         Resolved::Close(name) => database.close(session, name),

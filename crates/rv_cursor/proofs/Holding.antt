@@ -1,21 +1,19 @@
 -- What becomes of a cursor's offers when its plan is called.
-use Rattle.std.proofs.Common.{◌≡◌, ◌<◌, ◌≤◌, List, [], ◌∷◌, ◌++◌, refl, ap, sym, ◌∙◌, subst, arith, Option, Some, None, IfSome, Result, Ok, Err}
+use Rattle.std.proofs.Common.{◌≡◌, ◌<◌, ◌≤◌, List, [], ◌∷◌, ◌++◌, refl, ap, sym, ◌∙◌, subst, arith, Option, Some, None, IfSome, false, is_some, Result, Ok, Err, OnErr}
 use Rattle.std.specs.List.Sorted.{IsPermutation}
 use Rattle.std.proofs.lemmas.List.Sorted.{IsPermutation-refl}
 use Rattle.rv_value.specs.declared.value.Value.{Value}
 use Rattle.rv_lang.specs.declared.reply.Reply.{Reply}
-use Rattle.rv_lang.specs.declared.reply.Reply.TheVariants.{Row}
+use Rattle.rv_lang.specs.declared.reply.Reply.TheVariants.{Row, End}
 use Rattle.rv_reader.specs.Shown.{Shown}
 use Rattle.rv_model.specs.declared.state.Offer.{Offer}
 use Rattle.rv_model.specs.Offers.{offers_in_order}
 use Rattle.rv_model.proofs.Sorting.{sorted_moved}
 use Rattle.rv_join.specs.Order.{IsLeastOf}
 use Rattle.rv_join.specs.Plans.{PlanFits, PlanMoves, PlanStays, Planned, plan_rest, plan_work}
-use Rattle.rv_join.specs.declared.plan.PlanStep.TheVariants.{Row as PlanRow}
+use Rattle.rv_join.specs.declared.plan.PlanStep.TheVariants.{Row as PlanRow, End as PlanEnd, Working}
 use Rattle.rv_cursor.specs.declared.cursor.Open.{Open}
-use Rattle.rv_cursor.specs.declared.cursor.Filled.{Filled}
-use Rattle.rv_cursor.specs.declared.cursor.Filled.TheVariants.{Brought, Nearer, Ended}
-use Rattle.rv_cursor.specs.Left.{CursorFits, Fills, SameCursor, Stays, TakesOffer, in_hand, left, seen_at, seen_by, to_come, to_do, work}
+use Rattle.rv_cursor.specs.Left.{CursorFits, SameCursor, Stays, TakesOffer, in_hand, left, seen_at, seen_by, to_come, to_do, work}
 use Rattle.rv_cursor.proofs.Giving.{gives_least}
 
 same_itself : (c : Open) → SameCursor c c
@@ -57,6 +55,16 @@ piece_stays shown c p fits new stays = record {
 -- two calls on the plan, one after the other
 pub pieces_stay : (shown : Shown) (c : Open) (p q : Planned) → CursorFits shown c → PlanFits (seen_by shown c) q → PlanStays (seen_by shown c) c.plan p → PlanStays (seen_by shown c) p q → Stays shown c (record c { plan = q })
 pieces_stay shown c p q fits new first then = piece_stays shown c q fits new (record { asked = then.asked ∙ first.asked; rest_same = then.rest_same ∙ first.rest_same; work = omega (arith, first.work, then.work) })
+
+-- no row is in hand
+pub not_some : (hand : Option Offer) → is_some hand ≡ false → hand ≡ None
+not_some None e = refl
+not_some (Some o) e = absurd (cc)
+
+-- what holds whatever is answered
+pub on_err : {A E : Type 0} (r : Result A E) (P : Type 0) → P → OnErr r P
+on_err (Ok a) P h = tt
+on_err (Err e) P h = h
 
 no_hand : (hand : Option Offer) (rest : List Offer) → hand ≡ None → offers_in_order (in_hand hand ++ rest) ≡ offers_in_order rest
 no_hand hand rest empty = rw empty refl
@@ -104,23 +112,18 @@ hand_moves shown c o copy given hand replies held took empty copied made fits =
 pub seen_stays : (shown : Shown) (old new : Open) → SameCursor old new → seen_by shown new ≡ seen_by shown old
 seen_stays shown old new same = λ i. seen_at shown (same.snap i) (same.frozen i)
 
--- what is done beside changes no row in hand, and adds no work
-pub nearer_beside : (shown : Shown) (old mid new : Open) → old.hand ≡ None → SameCursor old mid → Fills shown Nearer old mid → new.hand ≡ mid.hand → work shown new ≤ work shown mid → to_do shown new < to_do shown old
-nearer_beside shown old mid new empty same fills hand less =
-    let at : work shown mid < work shown old = subst (λ (s : Shown). plan_work s mid.plan < work shown old) (sym (seen_stays shown old mid same)) fills.moves.work in
-    rw (hand ∙ fills.held, empty) (omega (arith, at, less))
+-- the plan works on, and what is done beside brings no row and adds no work
+pub nearer_beside : (shown : Shown) (c : Open) (p : Planned) (new : Open) → c.hand ≡ None → PlanMoves (seen_by shown c) Working c.plan p → new.hand ≡ c.hand → work shown new ≤ work shown (record c { plan = p }) → to_do shown new < to_do shown c
+nearer_beside shown c p new empty moves hand less =
+    let at : work shown (record c { plan = p }) < work shown c = moves.work in
+    rw (hand ∙ empty, empty) (omega (arith, at, less))
 
-pub nearer_if : {E : Type 0} (f : Filled) (shown : Shown) (old mid new : Open) → old.hand ≡ None → SameCursor old mid → Fills shown f old mid → new.hand ≡ mid.hand → work shown new ≤ work shown mid → ◌≡◌ {A = Result Filled E} (Ok f) (Ok Nearer) → to_do shown new < to_do shown old
-nearer_if Brought shown old mid new empty same fills hand less is = absurd (cc)
-nearer_if Nearer shown old mid new empty same fills hand less is = nearer_beside shown old mid new empty same fills hand less
-nearer_if Ended shown old mid new empty same fills hand less is = absurd (cc)
+-- the end was found, and told twice
+end_told : (old new : List Offer) (replies : Reply × Reply) → old ≡ [] → new ≡ [] → (replies.0 ≡ End) × (replies.1 ≡ End) → TakesOffer old replies new
+end_told old new replies before after made = rw (before, after, made.0, made.1) (refl, refl, refl)
 
-pub nearer_none : {E X : Type 0} {e : E} → ◌≡◌ {A = Result Filled E} (Err e) (Ok Nearer) → X
-nearer_none is = absurd (cc)
-
--- the end was found
-pub ended_left : (shown : Shown) (old new : Open) → old.hand ≡ None → Fills shown Ended old new → left shown old ≡ []
-ended_left shown old new empty fills = none_left shown old empty fills.moves.step.0
+pub end_takes : (shown : Shown) (c : Open) (p : Planned) (replies : Reply × Reply) → c.hand ≡ None → PlanMoves (seen_by shown c) PlanEnd c.plan p → (replies.0 ≡ End) × (replies.1 ≡ End) → TakesOffer (left shown c) replies (left shown (record c { plan = p }))
+end_takes shown c p replies empty moves made = end_told (left shown c) (left shown (record c { plan = p })) replies (none_left shown c empty moves.step.0) (none_left shown (record c { plan = p }) empty moves.step.1) made
 
 -- what was left at first is given
 pub takes_then : (old mid new : List Offer) (replies : Reply × Reply) → mid ≡ old → TakesOffer mid replies new → TakesOffer old replies new

@@ -21,9 +21,7 @@ use Rattle.rv_join.specs.Pieces.{GivesPiece, counted_up, plan_awaited, plan_piec
 use Rattle.rv_join.specs.Plans.{PlanKept, PlanMoves, PlanStays, Planned, WorkTo, plan_trace, plan_work}
 use Rattle.rv_join.specs.declared.plan.PlanStep.{PlanStep}
 use Rattle.rv_join.specs.declared.plan.PlanStep.TheVariants.{Row, End, Working}
-use Rattle.rv_cursor.specs.declared.cursor.Filled.{Filled}
-use Rattle.rv_cursor.specs.declared.cursor.Filled.TheVariants.{Brought, Nearer, Ended}
-use Rattle.rv_cursor.specs.Moves.{Beside, BesideBy, FetchMoves, FrontTo, GivesBack, Move, Moves, MovesBy, MovesByAll, RepliesTo, Ruled, StepsBack, StepsBacks, StepsBeside, StepsFront, TakesOut, Turn, TurnMoves, TurnTo, TurnsOn, WorksPiece}
+use Rattle.rv_cursor.specs.Moves.{Beside, BesideBy, FetchMoves, GivesBack, Move, Moves, MovesBy, MovesByAll, RepliesTo, Ruled, StepsBack, StepsBacks, StepsBeside, StepsFront, TakesOut, Turn, TurnMoves, TurnsOn, WorksPiece}
 use Rattle.rv_cursor.specs.Moves.Move.{Front, Take, Give}
 
 -- Moves.
@@ -65,17 +63,19 @@ front_ok m would shown state after c d old new counts asks once moves spends few
 pub front_err : (would : ℕ → Facts → Ruling) (shown : Shown) (state after : ℕ) (c d : Counts) (old new : Planned) → CountsRise (plan_trace old) (plan_trace new) c d → PlanAsks would state after shown c d old new → (IsAlone old → StepsOnce would state after shown c d old.stack.at new.stack.at) → PlanKept shown old new → (IsAlone old → FewFetches 1 shown old new) → StepsFront None would shown (record { plan = old; judge = state }) (record { plan = new; judge = after })
 front_err would shown state after c d old new counts asks once kept few = record { asked = kept.asked; before = c; after = d; counts = counts; asks = asks; once = once; work = kept.work; answers = tt; spends = λ alone. tt; few = few }
 
-pub front_moves : (f : Filled) (hand : Option Offer) (would : ℕ → Facts → Ruling) (shown : Shown) (old new : Ruled) → FrontTo f hand would shown old new → Moves would shown old new
-front_moves Brought hand would shown old new front = moves_by Front would shown old new (Row front.0, front.2)
-front_moves Nearer hand would shown old new front = moves_by Front would shown old new (Working, front.1)
-front_moves Ended hand would shown old new front = moves_by Front would shown old new (End, front.1)
+pub front_moves : (step : PlanStep) (would : ℕ → Facts → Ruling) (shown : Shown) (old new : Ruled) → StepsFront (Some step) would shown old new → Moves would shown old new
+front_moves step would shown old new front = moves_by Front would shown old new (step, front)
+
+-- the row in hand is given, which leaves the plan
+pub moves_given : (would : ℕ → Facts → Ruling) (shown : Shown) (after : ℕ) (old : Ruled) (new given : Planned) → given ≡ new → Moves would shown old (record { plan = new; judge = after }) → Moves would shown old (record { plan = given; judge = after })
+moves_given would shown after old new given same moves = rw same moves
 
 -- A background step.
 
 pub takes_out : (shown : Shown) (state : ℕ) (c d : Counts) (old new : Planned) → d ≡ piece_read (waiting old) c → CountsRise (plan_trace old) (plan_trace new) c d → (IsAlone old → TakesOnce shown c d old.stack.at new.stack.at) → plan_awaited new ≡ plan_awaited old → plan_pieces new ≡ plan_pieces old → SameCourse (first_of old.stack).here (first_of new.stack).here → PlanStays shown old new → TakesOut shown (record { plan = old; judge = state }) (record { plan = new; judge = state })
 takes_out shown state c d old new reads counts once awaited pieces course stays = record { judge = refl; before = c; after = d; reads = reads; counts = counts; once = once; awaited = awaited; pieces = pieces; course = course; stays = stays }
 
-ruled_same : (old new : Planned) (state after : ℕ) → (new ≡ old) × (after ≡ state) → ◌≡◌ {A = Ruled} (record { plan = new; judge = after }) (record { plan = old; judge = state })
+pub ruled_same : (old new : Planned) (state after : ℕ) → (new ≡ old) × (after ≡ state) → ◌≡◌ {A = Ruled} (record { plan = new; judge = after }) (record { plan = old; judge = state })
 ruled_same old new state after same = rw (same.0, same.1) refl
 
 -- the awaited piece, given as it was taken, is accepted
@@ -143,23 +143,17 @@ beside_full most done w shown a b full within first = record { done = done; with
 pub turn_made : (step : PlanStep) (most : ℕ) (v w : ℕ → Facts → Ruling) (s t : Shown) (a b c : Ruled) → v ≡ w → s ≡ t → StepsFront (Some step) w t a b → (Beside most w t b c → BesideBy step most w t b c) → Beside most v s b c → Turn step most w t a c
 turn_made step most v w s t a b c rule seen front is beside = record { stepped = b; front = front; beside = is (turned (λ u x. Beside most u x b c) v w s t rule seen beside) }
 
-pub turn_on : (f : Filled) (most : ℕ) (v w : ℕ → Facts → Ruling) (s t : Shown) (hand later : Option Offer) (a b c : Ruled) → (f ≡ Ended → ⊥) → v ≡ w → s ≡ t → later ≡ hand → FrontTo f hand w t a b → Beside most v s b c → TurnTo f later most w t a c
-turn_on Brought most v w s t hand later a b c more rule seen same front beside = (front.0, same ∙ front.1, turn_made (Row front.0) most v w s t a b c rule seen front.2 (λ x. x) beside)
-turn_on Nearer most v w s t hand later a b c more rule seen same front beside = (same ∙ front.0, turn_made Working most v w s t a b c rule seen front.1 (λ x. x) beside)
-turn_on Ended most v w s t hand later a b c more rule seen same front beside = absurd (more refl)
+-- one that brought a row, which is given
+pub turn_gives : (o : Offer) (hand : Option Offer) (replies : Reply × Reply) (most : ℕ) (v w : ℕ → Facts → Ruling) (s t : Shown) (after : ℕ) (a b : Ruled) (new given : Planned) → hand ≡ None → given ≡ new → v ≡ w → s ≡ t → StepsFront (Some (Row o)) w t a b → Beside most v s b (record { plan = new; judge = after }) → TurnMoves hand (Some replies) most w t a (record { plan = given; judge = after })
+turn_gives o hand replies most v w s t after a b new given empty same rule seen front beside = rw (empty, same) (Row o, refl, turn_made (Row o) most v w s t a b (record { plan = new; judge = after }) rule seen front (λ x. x) beside)
 
-pub turn_ends : (most : ℕ) (would : ℕ → Facts → Ruling) (shown : Shown) (hand : Option Offer) (a b : Ruled) → FrontTo Ended hand would shown a b → TurnTo Ended hand most would shown a b
-turn_ends most would shown hand a b front = (front.0, record { stepped = b; front = front.1; beside = refl })
+-- one that works on
+pub turn_works : (hand : Option Offer) (most : ℕ) (v w : ℕ → Facts → Ruling) (s t : Shown) (a b c : Ruled) → hand ≡ None → v ≡ w → s ≡ t → StepsFront (Some Working) w t a b → Beside most v s b c → TurnMoves hand None most w t a c
+turn_works hand most v w s t a b c empty rule seen front beside = rw empty (Working, refl, turn_made Working most v w s t a b c rule seen front (λ x. x) beside)
 
--- a turn that brought a row, which is given
-pub turn_gives : (most : ℕ) (would : ℕ → Facts → Ruling) (shown : Shown) (hand : Option Offer) (replies : Reply × Reply) (state after : ℕ) (old mid new : Planned) → new ≡ mid → TurnTo Brought hand most would shown (record { plan = old; judge = state }) (record { plan = mid; judge = after }) → TurnMoves None (Some replies) most would shown (record { plan = old; judge = state }) (record { plan = new; judge = after })
-turn_gives most would shown hand replies state after old mid new same turn = rw same (Row turn.0, refl, turn.2)
-
-pub turn_nearer : (most : ℕ) (would : ℕ → Facts → Ruling) (shown : Shown) (hand : Option Offer) (a b : Ruled) → TurnTo Nearer hand most would shown a b → TurnMoves None None most would shown a b
-turn_nearer most would shown hand a b turn = (Working, refl, turn.1)
-
-pub turn_last : (most : ℕ) (would : ℕ → Facts → Ruling) (shown : Shown) (hand : Option Offer) (replies : Reply × Reply) (a b : Ruled) → TurnTo Ended hand most would shown a b → TurnMoves None (Some replies) most would shown a b
-turn_last most would shown hand replies a b turn = (End, refl, turn.1)
+-- one that finds the end
+pub turn_ends : (hand : Option Offer) (replies : Reply × Reply) (most : ℕ) (would : ℕ → Facts → Ruling) (shown : Shown) (a b : Ruled) → hand ≡ None → StepsFront (Some End) would shown a b → TurnMoves hand (Some replies) most would shown a b
+turn_ends hand replies most would shown a b empty front = rw empty (End, refl, record { stepped = b; front = front; beside = refl })
 
 -- a row that was in hand is given, and nothing else is done
 pub held_turn : (hand : Option Offer) (replies : Reply × Reply) (most : ℕ) (would : ℕ → Facts → Ruling) (shown : Shown) (state : ℕ) (old new : Planned) → IsSome hand → new ≡ old → TurnMoves hand (Some replies) most would shown (record { plan = old; judge = state }) (record { plan = new; judge = state })

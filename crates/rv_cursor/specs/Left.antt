@@ -9,12 +9,8 @@ use Rattle.rv_snapshot.specs.Alone.{alone}
 use Rattle.rv_overlay.specs.declared.frozen.Frozen.{Frozen}
 use Rattle.rv_view.specs.Sights.{LaysSome, laid_over}
 use Rattle.rv_join.specs.Order.{IsLeastOf}
-use Rattle.rv_join.specs.Plans.{PlanFits, PlanMoves, plan_rest, plan_work}
-use Rattle.rv_join.specs.declared.plan.PlanStep.{PlanStep}
-use Rattle.rv_join.specs.declared.plan.PlanStep.TheVariants.{Row, End, Working}
+use Rattle.rv_join.specs.Plans.{PlanFits, plan_rest, plan_work}
 use Rattle.rv_cursor.specs.declared.cursor.Open.{Open}
-use Rattle.rv_cursor.specs.declared.cursor.Filled.{Filled}
-use Rattle.rv_cursor.specs.declared.cursor.Filled.TheVariants.{Brought, Nearer, Ended}
 
 -- the reader at one snapshot alone, with what a transaction froze laid over it where it had changes
 abbrev pub seen_at : Shown → ℕ → Option Frozen → Shown
@@ -70,17 +66,6 @@ missing (Some o) = 0
 
 abbrev pub to_do : Shown → Open → ℕ
 to_do shown c = work shown c + missing c.hand
-
--- a plan's step answered this, and this is then in hand
-pub record FillsWith (shown : Shown) (step : PlanStep) (row : Option Offer) (old new : Open) : Type 0 where
-  pub moves : PlanMoves (seen_by shown old) step old.plan new.plan
-  pub held : new.hand ≡ row
-
--- a row was brought, or came nearer, or none is left
-abbrev pub Fills : Shown → Filled → Open → Open → Type 0
-Fills shown Brought old new = (o : Offer) × FillsWith shown (Row o) (Some o) old new
-Fills shown Nearer old new = FillsWith shown Working None old new
-Fills shown Ended old new = FillsWith shown End None old new
 
 -- Two equal replies may be given by a cursor of these offers, and these are left.
 abbrev pub TakesOffer : List Offer → Reply × Reply → List Offer → Type 0

@@ -21,8 +21,6 @@ use Rattle.rv_join.specs.Plans.{PlanMoves, PlanStays, Planned, plan_trace, plan_
 use Rattle.rv_join.specs.declared.plan.PlanStep.{PlanStep}
 use Rattle.rv_join.specs.declared.plan.PlanStep.TheVariants.{Row, End, Working}
 use Rattle.rv_cursor.specs.declared.cursor.Open.{Open}
-use Rattle.rv_cursor.specs.declared.cursor.Filled.{Filled}
-use Rattle.rv_cursor.specs.declared.cursor.Filled.TheVariants.{Brought, Nearer, Ended}
 
 -- a plan, and where the judge stands that rules on its scans
 pub record Ruled : Type 0 where
@@ -150,24 +148,12 @@ BesideBy (Row o) most would shown old new = Beside most would shown old new
 BesideBy End most would shown old new = new ≡ old
 BesideBy Working most would shown old new = Beside most would shown old new
 
--- a foreground step that came to this, with what is then in hand
-abbrev pub FrontTo : Filled → Option Offer → (ℕ → Facts → Ruling) → Shown → Ruled → Ruled → Type 0
-FrontTo Brought hand would shown old new = (o : Offer) × (hand ≡ Some o) × StepsFront (Some (Row o)) would shown old new
-FrontTo Nearer hand would shown old new = (hand ≡ None) × StepsFront (Some Working) would shown old new
-FrontTo Ended hand would shown old new = (hand ≡ None) × StepsFront (Some End) would shown old new
-
 -- a foreground step that answers this, and the background steps beside it
 pub record Turn (step : PlanStep) (most : ℕ) (would : ℕ → Facts → Ruling) (shown : Shown)
     (old new : Ruled) : Type 0 where
   pub stepped : Ruled
   pub front : StepsFront (Some step) would shown old stepped
   pub beside : BesideBy step most would shown stepped new
-
--- the same of a step that came to this
-abbrev pub TurnTo : Filled → Option Offer → ℕ → (ℕ → Facts → Ruling) → Shown → Ruled → Ruled → Type 0
-TurnTo Brought hand most would shown old new = (o : Offer) × (hand ≡ Some o) × Turn (Row o) most would shown old new
-TurnTo Nearer hand most would shown old new = (hand ≡ None) × Turn Working most would shown old new
-TurnTo Ended hand most would shown old new = (hand ≡ None) × Turn End most would shown old new
 
 -- a reply is made where a row was brought or the end was found, and none exactly where the step answered Working
 abbrev pub RepliesTo : PlanStep → Option (Reply × Reply) → Type 0

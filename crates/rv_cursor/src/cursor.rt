@@ -14,11 +14,11 @@ ghost use Rattle.rv_model.specs.Offers.{offers_in_order};
 ghost use Rattle.rv_snapshot.specs.Alone.{alone};
 ghost use Rattle.rv_view.specs.Sights.{LaysSome};
 ghost use Rattle.rv_join.specs.Pieces.{plan_awaited, plan_pieces};
-ghost use Rattle.rv_cursor.specs.Left.{CursorFits, Fills, Stays, left, seen_at, seen_by, work};
-ghost use Rattle.rv_cursor.specs.Moves.{FrontTo, Moves, StepsFront, WorksPiece, ruled};
+ghost use Rattle.rv_cursor.specs.Left.{CursorFits, Stays, left, seen_at, seen_by, work};
+ghost use Rattle.rv_cursor.specs.Moves.{Moves, WorksPiece, ruled};
 
 use rv_catalog::{IndexDef, Select};
-use rv_join::{Plan, PlanStep};
+use rv_join::Plan;
 use rv_jscan::{Taken, sieve};
 use rv_judge::{Judge, Steps};
 use rv_model::Offer;
@@ -40,17 +40,6 @@ pub struct Open {
     pub frozen: Option<View>,
     pub plan: Plan,
     pub hand: Option<Offer>,
-}
-
-/// What a step of a cursor's plan came to.
-#[derive(Clone, Copy, Debug, PartialEq, Eq)]
-pub enum Filled {
-    /// A row is in hand.
-    Brought,
-    /// A row has come nearer by some work.
-    Nearer,
-    /// Nothing is left.
-    Ended,
 }
 
 /// Opens a cursor over what a select offers at a snapshot. A transaction's view is laid over it where one is given.
@@ -116,41 +105,6 @@ pub fn open_cursor<R: Reader>(
         plan,
         hand: None,
     })
-}
-
-/// A step of the plan of a cursor that has no row in hand.
-pub fn fill<R: Reader>(
-    cursor: &mut Open,
-    reader: &R,
-    judge: &mut Box<dyn Judge>,
-    steps: &mut Steps<R::Ledger>,
-) -> Result<Filled, NoMemory>
-    requires fits { CursorFits (R.shown reader.now) cursor.old }
-    requires empty { cursor.old.hand ≡ None }
-    ensures stays { Stays (R.shown reader.now) cursor.old cursor.new }
-    ensures fills { IfOk result (λ f. Fills (R.shown reader.now) f cursor.old cursor.new) }
-    ensures held { OnErr result (cursor.new.hand ≡ None) }
-    ensures front { IfOk result (λ f. FrontTo f cursor.new.hand (would judge.old) (seen_by (R.shown reader.now) cursor.old) (ruled cursor.old (state judge.old)) (ruled cursor.new (state judge.new))) }
-    ensures lost { OnErr result (StepsFront None (would judge.old) (seen_by (R.shown reader.now) cursor.old) (ruled cursor.old (state judge.old)) (ruled cursor.new (state judge.new))) }
-    ensures stays_rule { would judge.new ≡ would judge.old }
-{
-    let at = Snapshot {
-        reader,
-        snap: cursor.snap,
-    };
-    let seen = Seen {
-        reader: &at,
-        view: &cursor.frozen,
-    };
-    match cursor.plan.step(&seen, judge, steps) {
-        Ok(PlanStep::Row(offer)) => {
-            drop(cursor.hand.replace(offer));
-            Ok(Filled::Brought)
-        }
-        Ok(PlanStep::End) => Ok(Filled::Ended),
-        Ok(PlanStep::Working) => Ok(Filled::Nearer),
-        Err(NoMemory) => Err(NoMemory),
-    }
 }
 
 /// Takes, sieves and gives the piece that the plan awaits; whether there was one. Nothing comes between, so that it is

@@ -1,18 +1,21 @@
 //! FETCH and STEP of a cursor.
-ghost use Rattle.std.specs.Prelude.{◌≡◌, ◌<◌, ◌≤◌, None, Ok, IfNone, IfOk, IfSome, IsSome, OnErr, OnOk};
+ghost use Rattle.std.specs.Prelude.{◌≡◌, ◌<◌, ◌≤◌, None, IfNone, IfOk, IfSome, IsSome, OnErr, OnOk};
 ghost use Rattle.rv_lang.specs.declared.reply.Reply.TheVariants.{Row};
 ghost use Rattle.rv_reader.specs.Shown.{Shown};
 ghost use Rattle.rv_join.specs.Pieces.{counted_up, plan_awaited, plan_pieces};
 ghost use Rattle.rv_cursor.specs.Left.{CursorFits, SameCursor, Stays, TakesOffer, TakesPart, left, seen_by, to_do, work};
-ghost use Rattle.rv_cursor.specs.Moves.{Beside, FetchMoves, Moves, StepsBacks, TurnMoves, TurnTo, ruled};
+ghost use Rattle.rv_cursor.specs.Moves.{Beside, FetchMoves, Moves, StepsBacks, TurnMoves, ruled};
 
-use crate::cursor::{Filled, Open, fill, work_piece};
+use crate::cursor::{Open, work_piece};
 use crate::replies::twice;
+use rv_join::PlanStep;
 use rv_judge::{Judge, Steps};
 use rv_lang::Reply;
 use rv_model::Offer;
 use rv_reader::Reader;
+use rv_snapshot::Snapshot;
 use rv_value::{Duplicate, Items, NoMemory, Value};
+use rv_view::Seen;
 use std::alloc::Global;
 
 /// The replies of the offer that was in hand: its row, which moves into the first, and a copy of it.
@@ -80,65 +83,6 @@ fn work_beside<R: Reader>(
     Ok(())
 }
 
-/// A step of the plan of a cursor that has no row in hand, and up to so many background steps beside it; none where the
-/// step finds the end.
-fn turn<R: Reader>(
-    cursor: &mut Open,
-    reader: &R,
-    judge: &mut Box<dyn Judge>,
-    beside: u8,
-    steps: &mut Steps<R::Ledger>,
-) -> Result<Filled, NoMemory>
-    requires fits { CursorFits (R.shown reader.now) cursor.old }
-    requires empty { cursor.old.hand ≡ None }
-    ensures stays { Stays (R.shown reader.now) cursor.old cursor.new }
-    ensures nearer { result ≡ Ok Filled.Nearer → to_do (R.shown reader.now) cursor.new < to_do (R.shown reader.now) cursor.old }
-    ensures turn { IfOk result (λ f. TurnTo f cursor.new.hand beside (would judge.old) (seen_by (R.shown reader.now) cursor.old) (ruled cursor.old (state judge.old)) (ruled cursor.new (state judge.new))) }
-    ensures moves { Moves (would judge.old) (seen_by (R.shown reader.now) cursor.old) (ruled cursor.old (state judge.old)) (ruled cursor.new (state judge.new)) }
-    ensures stays_rule { would judge.new ≡ would judge.old }
-{
-    let filled = match fill(cursor, reader, judge, steps) {
-        Ok(filled) => filled,
-        Err(NoMemory) => return Err(NoMemory),
-    };
-    match filled {
-        Filled::Ended => Ok(Filled::Ended),
-        _ => match work_beside(cursor, reader, judge, beside, steps) {
-            Ok(()) => Ok(filled),
-            Err(NoMemory) => Err(NoMemory),
-        },
-    }
-}
-
-/// A turn of a FETCH that has no row in hand.
-fn bring<R: Reader>(
-    alloc: Global,
-    cursor: &mut Open,
-    reader: &R,
-    judge: &mut Box<dyn Judge>,
-    beside: u8,
-    steps: &mut Steps<R::Ledger>,
-) -> Result<Option<(Reply, Reply)>, NoMemory>
-    requires fits { CursorFits (R.shown reader.now) cursor.old }
-    requires empty { cursor.old.hand ≡ None }
-    ensures fits { CursorFits (R.shown reader.now) cursor.new }
-    ensures same { SameCursor cursor.old cursor.new }
-    ensures ok { IfOk result (λ part. TakesPart (left (R.shown reader.now) cursor.old) part (left (R.shown reader.now) cursor.new)) }
-    ensures err { OnErr result (left (R.shown reader.now) cursor.new ≡ left (R.shown reader.now) cursor.old) }
-    ensures given { OnOk result (cursor.new.hand ≡ None) }
-    ensures nearer { IfOk result (λ part. IfNone part (to_do (R.shown reader.now) cursor.new < to_do (R.shown reader.now) cursor.old)) }
-    ensures turn { IfOk result (λ part. TurnMoves None part beside (would judge.old) (seen_by (R.shown reader.now) cursor.old) (ruled cursor.old (state judge.old)) (ruled cursor.new (state judge.new))) }
-    ensures moves { Moves (would judge.old) (seen_by (R.shown reader.now) cursor.old) (ruled cursor.old (state judge.old)) (ruled cursor.new (state judge.new)) }
-    ensures stays_rule { would judge.new ≡ would judge.old }
-{
-    match turn(cursor, reader, judge, beside, steps) {
-        Ok(Filled::Brought) => Ok(Some(give(alloc, cursor)?)),
-        Ok(Filled::Nearer) => Ok(None),
-        Ok(Filled::Ended) => Ok(Some(twice(alloc, Reply::End)?)),
-        Err(NoMemory) => Err(NoMemory),
-    }
-}
-
 /// One turn of a FETCH, behind which another call may come: a row of those left, none of which comes before it, or End
 /// where none is left; None exactly where the plan's step answered that it works on.
 pub fn fetch_step<R: Reader>(
@@ -161,11 +105,30 @@ pub fn fetch_step<R: Reader>(
     ensures moves { Moves (would judge.old) (seen_by (R.shown reader.now) cursor.old) (ruled cursor.old (state judge.old)) (ruled cursor.new (state judge.new)) }
     ensures stays_rule { would judge.new ≡ would judge.old }
 {
-    if cursor.hand.is_none() {
-        return bring(alloc, cursor, reader, judge, beside, steps);
+    if cursor.hand.is_some() {
+        let replies = give(alloc, cursor)?;
+        return Ok(Some(replies));
     }
-    let replies = give(alloc, cursor)?;
-    Ok(Some(replies))
+    let at = Snapshot {
+        reader,
+        snap: cursor.snap,
+    };
+    let seen = Seen {
+        reader: &at,
+        view: &cursor.frozen,
+    };
+    match cursor.plan.step(&seen, judge, steps)? {
+        PlanStep::Row(offer) => {
+            drop(cursor.hand.replace(offer));
+            work_beside(cursor, reader, judge, beside, steps)?;
+            Ok(Some(give(alloc, cursor)?))
+        }
+        PlanStep::Working => match work_beside(cursor, reader, judge, beside, steps) {
+            Ok(()) => Ok(None),
+            Err(NoMemory) => Err(NoMemory),
+        },
+        PlanStep::End => Ok(Some(twice(alloc, Reply::End)?)),
+    }
 }
 
 /// FETCH: a row of those left, none of which comes before it, or End where none is left. Each step of the plan is

@@ -102,6 +102,11 @@ less_held e f k h = omega (arith, h)
 pub held_tries : (c d : Counts) (e f : ℕ) (row now : Option (List Value)) → now ≡ row → Tries c d f e → Tries c d (f + held_rows row) (e + held_rows now)
 held_tries c d e f row now same tries = let less = tries.less in rw same (record { once = tries.once; less = omega (arith, less) })
 
+-- no row is held
+pub no_row : (row : Option (List Value)) → is_some row ≡ false → row ≡ None
+no_row None e = refl
+no_row (Some values) e = absurd (cc)
+
 -- a row was found, and is held
 pub row_tries : (c d : Counts) (e f : ℕ) (row : Option (List Value)) → row ≡ None → Tries c d f e → e < f → Tries c d (f + held_rows row) (e + 1)
 row_tries c d e f row none tries less = rw none (record { once = tries.once; less = omega (arith, less) })

@@ -150,6 +150,11 @@ pub kept_then_if : {E : Type 0} (a : Asked) (shown : Shown) (r : Result Moved E)
 kept_then_if a shown (Ok m) old mid new kept moves = kept_then a shown m old mid new kept moves
 kept_then_if a shown (Err e) old mid new kept moves = moves
 
+-- the innermost level was called, and nothing more was done where memory was wanting
+pub kept_or : {X E : Type 0} (r : Result X E) (a : Asked) (shown : Shown) (old mid new : Stacked) → Kept a shown old mid → OnErr r (new ≡ mid) → OnErr r (Kept a shown old new)
+kept_or (Ok x) a shown old mid new kept same = tt
+kept_or (Err e) a shown old mid new kept same = subst (Kept a shown old) (sym same) kept
+
 pub kept_if : {X E : Type 0} (r : Result X E) (P : Type 0) → P → OnOk r P
 kept_if (Ok x) P p = p
 kept_if (Err e) P p = tt

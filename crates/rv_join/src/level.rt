@@ -164,9 +164,9 @@ impl Level {
         }
     }
 
-    /// Takes the next row of the access, and holds it.
+    /// Holds a row, or tells why there is none. A row that is held already, since its use found no memory, stays.
     #[tactic(auto, using(crate::proofs::Catching::found_moves, crate::proofs::Catching::stays_moves, crate::proofs::Catching::ended_moves, crate::proofs::Catching::worked_moves, crate::proofs::Opening::level_stays))]
-    fn catch<R: Reader>(
+    pub fn ready<R: Reader>(
         &mut self,
         _asked: &Asked,
         reader: &R,
@@ -175,7 +175,6 @@ impl Level {
     ) -> Result<Caught, NoMemory>
         requires can { CanRun _asked.now (R.shown reader.now) }
         requires fits { LevelFits _asked.now (R.shown reader.now) self.old }
-        requires none { self.old.row ≡ None }
         ensures caught { IfOk result (λ c. Catches _asked.now (R.shown reader.now) c self.old self.new) }
         ensures counts { Rises self.old.here self.new.here steps.old steps.new }
         ensures stays { would judge.new ≡ would judge.old }
@@ -184,6 +183,9 @@ impl Level {
         ensures fetches { OnOk result (Fetches (R.shown reader.now) steps.old steps.new self.old.here self.new.here) }
         ensures err { OnErr result (LevelStays _asked.now (R.shown reader.now) self.old self.new) }
     {
+        if self.row.is_some() {
+            return Ok(Caught::Ready);
+        }
         match self.here.fg_step(reader, judge, steps)? {
             Fg::Row(record) => {
                 let Record { row: _, values } = record;
@@ -193,31 +195,6 @@ impl Level {
             Fg::End => Ok(Caught::Ended),
             Fg::Working => Ok(Caught::Worked),
         }
-    }
-
-    /// Holds a row, or tells why there is none. A row that is held already, since its use found no memory, stays.
-    #[tactic(auto, using(crate::proofs::Catching::same_moves, crate::proofs::Opening::level_same, crate::proofs::OneItem::no_call, crate::proofs::OneItem::no_fetch, crate::proofs::OneItem::held_spends))]
-    pub fn ready<R: Reader>(
-        &mut self,
-        asked: &Asked,
-        reader: &R,
-        judge: &mut Box<dyn Judge>,
-        steps: &mut Steps<R::Ledger>,
-    ) -> Result<Caught, NoMemory>
-        requires can { CanRun asked.now (R.shown reader.now) }
-        requires fits { LevelFits asked.now (R.shown reader.now) self.old }
-        ensures caught { IfOk result (λ c. Catches asked.now (R.shown reader.now) c self.old self.new) }
-        ensures counts { Rises self.old.here self.new.here steps.old steps.new }
-        ensures stays { would judge.new ≡ would judge.old }
-        ensures once { StepsOnce (would judge.old) (state judge.old) (state judge.new) (R.shown reader.now) steps.old steps.new self.old self.new }
-        ensures spends { IfOk result (λ c. LevelSpends (R.shown reader.now) c steps.old steps.new self.old self.new) }
-        ensures fetches { OnOk result (Fetches (R.shown reader.now) steps.old steps.new self.old.here self.new.here) }
-        ensures err { OnErr result (LevelStays asked.now (R.shown reader.now) self.old self.new) }
-    {
-        if self.row.is_some() {
-            return Ok(Caught::Ready);
-        }
-        self.catch(asked, reader, judge, steps)
     }
 
     /// The rows chosen so far and this one, wide enough for restrictions that are bound over them.

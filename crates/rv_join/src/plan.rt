@@ -13,14 +13,14 @@ ghost use Rattle.rv_jscan.specs.declared.jscan.Given.{Given as TheGiven};
 ghost use Rattle.rv_judge.specs.Counting.{reads};
 ghost use Rattle.rv_retrieval.specs.Effort.{GiveSpends};
 ghost use Rattle.rv_retrieval.specs.Short.{OnlyLeaves, has_short};
-ghost use Rattle.rv_join.specs.Alone.{Fetches, GatherSpends, MovedSpends, PlanAsks, Spends, StepsOnce, TakesOnce, level_effort, plan_effort, plan_life};
+ghost use Rattle.rv_join.specs.Alone.{Fetches, GatherSpends, IsAlone, PlanAsks, PlanSpends, Spends, StepsOnce, TakesOnce, level_effort, plan_effort, plan_life};
 ghost use Rattle.rv_join.specs.Asking.{Asks, CanPlan, CanRun, IsAsked, item_at, lives_of};
 ghost use Rattle.rv_join.specs.Levels.{StackFits, first_of, table_rows};
-ghost use Rattle.rv_join.specs.Moves.{Kept, Moves, Rises, StackStays, Starts};
+ghost use Rattle.rv_join.specs.Moves.{Kept, Rises, StackStays, Starts};
 ghost use Rattle.rv_model.specs.Offering.{offers_over};
 ghost use Rattle.rv_join.specs.Work.{row_cost};
 ghost use Rattle.rv_join.specs.Pieces.{StackAwaits, level_at, plan_awaited, plan_pieces, stack_builds, waits};
-ghost use Rattle.rv_join.specs.Plans.{AreReads, Gathers, Gives, LeadsWith, PlanFits, Sorts, numbers_of, plan_rest, plan_trace, plan_work, reads_with, stage_of};
+ghost use Rattle.rv_join.specs.Plans.{AreReads, Gathers, Gives, HoldsGood, LeadsWith, PlanFits, PlanKept, PlanMoves, RisesAlone, Sorts, numbers_of, plan_rest, plan_trace, plan_work, reads_with, stage_of, step_of};
 
 use crate::gather::{Gathered, Stage};
 use crate::places::{Asked, ask, by_index};
@@ -93,6 +93,16 @@ fn first_stage(alloc: Global, select: &Select, indexes: &[IndexDef]) -> Result<S
         Ok(Stage::AsFound)
     } else {
         Ok(Stage::Gathering)
+    }
+}
+
+fn answer(moved: Moved) -> PlanStep
+    ensures { result ≡ step_of moved }
+{
+    match moved {
+        Moved::Gave(offer) => PlanStep::Row(offer),
+        Moved::Done => PlanStep::End,
+        Moved::Moving => PlanStep::Working,
     }
 }
 
@@ -207,28 +217,37 @@ impl Plan {
         self.reads.records = self.reads.records.saturating_add(records);
     }
 
-    /// A step of the nested loops.
-    pub(crate) fn advance<R: Reader>(
+    /// A step of the stage in which the plan is. Offers are given as they are found by a step of the nested loops.
+    pub(crate) fn stage_step<R: Reader>(
         &mut self,
         reader: &R,
         judge: &mut Box<dyn Judge>,
         steps: &mut Steps<R::Ledger>,
-    ) -> Result<Moved, NoMemory>
-        requires can { CanRun self.old.asked (R.shown reader.now) }
-        requires fits { StackFits self.old.asked (R.shown reader.now) self.old.stack }
-        ensures moves { IfOk result (λ m. Moves self.old.asked (R.shown reader.now) m self.old.stack self.new.stack) }
-        ensures alone { length self.old.asked.items ≡ 1 → Rises (first_of self.old.stack).here (first_of self.new.stack).here steps.old steps.new }
+    ) -> Result<PlanStep, NoMemory>
+        requires fits { HoldsGood (R.shown reader.now) self.old }
+        ensures step { IfOk result (λ m. PlanMoves (R.shown reader.now) m self.old self.new) }
+        ensures holds { HoldsGood (R.shown reader.now) self.new }
+        ensures alone { RisesAlone self.old self.new steps.old steps.new }
         ensures stays { would judge.new ≡ would judge.old }
         ensures asks { PlanAsks (would judge.old) (state judge.old) (state judge.new) (R.shown reader.now) steps.old steps.new self.old self.new }
-        ensures once { length self.old.asked.items ≡ 1 → StepsOnce (would judge.old) (state judge.old) (state judge.new) (R.shown reader.now) steps.old steps.new self.old.stack.at self.new.stack.at }
-        ensures spends { length self.old.asked.items ≡ 1 → IfOk result (λ m. MovedSpends m steps.old steps.new (level_effort (R.shown reader.now) self.old.stack.at) (level_effort (R.shown reader.now) self.new.stack.at)) }
-        ensures fetches { length self.old.asked.items ≡ 1 → OnOk result (Fetches (R.shown reader.now) steps.old steps.new self.old.stack.at.here self.new.stack.at.here) }
+        ensures once { IsAlone self.old → StepsOnce (would judge.old) (state judge.old) (state judge.new) (R.shown reader.now) steps.old steps.new self.old.stack.at self.new.stack.at }
+        ensures spends { IsAlone self.old → IfOk result (λ m. PlanSpends m steps.old steps.new (plan_effort (R.shown reader.now) self.old) (plan_effort (R.shown reader.now) self.new)) }
+        ensures fetches { IsAlone self.old → OnOk result (Fetches (R.shown reader.now) steps.old steps.new self.old.stack.at.here self.new.stack.at.here) }
         ensures plans { SamePlans (first_of self.old.stack).here (first_of self.new.stack).here }
-        ensures same { self.new ≡ record self.old { stack = self.new.stack } }
-        ensures err { OnErr result (Kept self.old.asked (R.shown reader.now) self.old.stack self.new.stack) }
+        ensures reads { self.new.reads ≡ self.old.reads }
+        ensures err { OnErr result (PlanKept (R.shown reader.now) self.old self.new) }
     {
-        self.stack
-            .advance(self.alloc, &self.asked, reader, judge, steps)
+        match self.stage() {
+            Stage::AsFound => match self
+                .stack
+                .advance(self.alloc, &self.asked, reader, judge, steps)
+            {
+                Ok(moved) => Ok(answer(moved)),
+                Err(NoMemory) => Err(NoMemory),
+            },
+            Stage::Gathering => self.gather_step(reader, judge, steps),
+            Stage::Giving => self.give_step(),
+        }
     }
 
     /// A step of the nested loops, whose combination is put to those gathered.

@@ -4,11 +4,11 @@ ghost use Rattle.std.specs.List.{list_any, slice_index_or};
 ghost use Rattle.rv_value.specs.declared.value.Value.{Value as OneValue};
 ghost use Rattle.rv_reader.specs.Shown.{Shown};
 ghost use Rattle.rv_join.specs.declared.places.Asked.{Asked as TheAsked};
-ghost use Rattle.rv_join.specs.Alone.{Fetches, GoesOn, LevelSpends, MovedSpends, Spends, StackAsks, StepsOnce, TakesOnce, level_effort};
+ghost use Rattle.rv_join.specs.Alone.{Fetches, GoesOn, MovedSpends, Spends, StackAsks, StepsOnce, TakesOnce, level_effort};
 ghost use Rattle.rv_join.specs.Asking.{Asks, CanRun};
 ghost use Rattle.rv_join.specs.Collected.{HasWidths, widths_of};
 ghost use Rattle.rv_join.specs.Levels.{AllFit, LevelFits, StackFits, Stacked, bag, down, first_in, first_of, is_last, offered, still, used};
-ghost use Rattle.rv_join.specs.Moves.{Catches, Descends, GivesWide, Kept, LevelStays, LevelsStay, Moves, OpensInner, Rises, SameFirst, StackStays, Starts};
+ghost use Rattle.rv_join.specs.Moves.{Descends, GivesWide, Kept, LevelStays, LevelsStay, Moves, OpensInner, Rises, SameFirst, StackStays, Starts};
 ghost use Rattle.rv_join.specs.Pieces.{LevelsAwait, StackAwaits, is_waiting, level_at, pieces_in, stack_builds, waits};
 ghost use Rattle.rv_join.specs.Work.{levels_work, loops_work};
 ghost use Rattle.rv_join.specs.declared.level.Level.{Level as TheLevel};
@@ -107,27 +107,6 @@ pub fn open<R: Reader>(
 
 /// The open levels: changes of fields, and looks.
 impl Stack {
-    fn ready<R: Reader>(
-        &mut self,
-        asked: &Asked,
-        reader: &R,
-        judge: &mut Box<dyn Judge>,
-        steps: &mut Steps<R::Ledger>,
-    ) -> Result<Caught, NoMemory>
-        requires can { CanRun asked.now (R.shown reader.now) }
-        requires fits { LevelFits asked.now (R.shown reader.now) self.old.at }
-        ensures same { self.new ≡ record self.old { at = self.new.at } }
-        ensures caught { IfOk result (λ c. Catches asked.now (R.shown reader.now) c self.old.at self.new.at) }
-        ensures counts { Rises self.old.at.here self.new.at.here steps.old steps.new }
-        ensures stays { would judge.new ≡ would judge.old }
-        ensures once { StepsOnce (would judge.old) (state judge.old) (state judge.new) (R.shown reader.now) steps.old steps.new self.old.at self.new.at }
-        ensures spends { IfOk result (λ c. LevelSpends (R.shown reader.now) c steps.old steps.new self.old.at self.new.at) }
-        ensures fetches { OnOk result (Fetches (R.shown reader.now) steps.old steps.new self.old.at.here self.new.at.here) }
-        ensures err { OnErr result (LevelStays asked.now (R.shown reader.now) self.old.at self.new.at) }
-    {
-        self.at.ready(asked, reader, judge, steps)
-    }
-
     /// Leaves the innermost level, where there is one above.
     fn climb(&mut self) -> bool
         ensures up { result ≡ true → self.old.above ≡ self.new.above ++ self.new.at ∷ [] }
@@ -373,7 +352,7 @@ impl Stack {
         ensures plans { SamePlans (first_of self.old).here (first_of self.new).here }
         ensures err { OnErr result (Kept asked.now (R.shown reader.now) self.old self.new) }
     {
-        match self.ready(asked, reader, judge, steps)? {
+        match self.at.ready(asked, reader, judge, steps)? {
             Caught::Worked => Ok(Moved::Moving),
             Caught::Ended => Ok(self.end()),
             Caught::Ready => self.use_row(alloc, reader, asked, steps),

@@ -10,56 +10,19 @@ ghost use Rattle.rv_retrieval.specs.Effort.{GiveSpends};
 ghost use Rattle.rv_join.specs.Alone.{Fetches, FewFetches, IsAlone, PlanAsks, PlanSpends, Spends, StepsOnce, TakesOnce, plan_effort};
 ghost use Rattle.rv_join.specs.Levels.{first_of};
 ghost use Rattle.rv_join.specs.Pieces.{GivesPiece, TakesAwaited, plan_awaited, plan_pieces, waited, waiting, waits};
-ghost use Rattle.rv_join.specs.Plans.{HoldsGood, PlanFits, PlanKept, PlanMoves, PlanStays, RisesAlone, plan_trace, plan_work, step_of};
+ghost use Rattle.rv_join.specs.Plans.{HoldsGood, PlanFits, PlanKept, PlanMoves, PlanStays, RisesAlone, plan_trace, plan_work};
 
 use crate::gather::Stage;
 use crate::plan::{Plan, PlanStep};
-use crate::stack::Moved;
 use rv_jscan::{Given, Sieved, Taken};
 use rv_judge::{Judge, Steps};
 use rv_reader::Reader;
 use rv_value::NoMemory;
 
-fn answer(moved: Moved) -> PlanStep
-    ensures { result ≡ step_of moved }
-{
-    match moved {
-        Moved::Gave(offer) => PlanStep::Row(offer),
-        Moved::Done => PlanStep::End,
-        Moved::Moving => PlanStep::Working,
-    }
-}
-
 impl Plan {
-    /// A step where offers are given as they are found.
-    #[tactic(auto, using(crate::proofs::Planning::found_moves, crate::proofs::Planning::found_good, crate::proofs::Planning::found_kept, crate::proofs::Planning::found_holds, crate::proofs::OneItem::moved_spends))]
-    fn found_step<R: Reader>(
-        &mut self,
-        reader: &R,
-        judge: &mut Box<dyn Judge>,
-        steps: &mut Steps<R::Ledger>,
-    ) -> Result<PlanStep, NoMemory>
-        requires fits { HoldsGood (R.shown reader.now) self.old }
-        requires stage { self.old.stage ≡ Stage.AsFound }
-        ensures step { IfOk result (λ m. PlanMoves (R.shown reader.now) m self.old self.new) }
-        ensures holds { HoldsGood (R.shown reader.now) self.new }
-        ensures alone { RisesAlone self.old self.new steps.old steps.new }
-        ensures stays { would judge.new ≡ would judge.old }
-        ensures asks { PlanAsks (would judge.old) (state judge.old) (state judge.new) (R.shown reader.now) steps.old steps.new self.old self.new }
-        ensures once { IsAlone self.old → StepsOnce (would judge.old) (state judge.old) (state judge.new) (R.shown reader.now) steps.old steps.new self.old.stack.at self.new.stack.at }
-        ensures spends { IsAlone self.old → IfOk result (λ m. PlanSpends m steps.old steps.new (plan_effort (R.shown reader.now) self.old) (plan_effort (R.shown reader.now) self.new)) }
-        ensures fetches { IsAlone self.old → OnOk result (Fetches (R.shown reader.now) steps.old steps.new self.old.stack.at.here self.new.stack.at.here) }
-        ensures plans { SamePlans (first_of self.old.stack).here (first_of self.new.stack).here }
-        ensures reads { self.new.reads ≡ self.old.reads }
-        ensures err { OnErr result (PlanKept (R.shown reader.now) self.old self.new) }
-    {
-        let moved = self.advance(reader, judge, steps)?;
-        Ok(answer(moved))
-    }
-
     /// A step where all offers are gathered first. At the last one they are sorted, and the first is given.
     #[tactic(auto, using(crate::proofs::Planning::gather_moves, crate::proofs::Planning::gather_good, crate::proofs::Planning::gather_kept, crate::proofs::Planning::all_step, crate::proofs::OneItem::all_spends))]
-    fn gather_step<R: Reader>(
+    pub(crate) fn gather_step<R: Reader>(
         &mut self,
         reader: &R,
         judge: &mut Box<dyn Judge>,
@@ -89,7 +52,7 @@ impl Plan {
 
     /// A step where the offers are sorted.
     #[tactic(auto, using(crate::proofs::Planning::given_step, crate::proofs::OneItem::given_spends))]
-    fn give_step(&mut self) -> Result<PlanStep, NoMemory>
+    pub(crate) fn give_step(&mut self) -> Result<PlanStep, NoMemory>
         requires stage { self.old.stage ≡ Stage.Giving }
         ensures step { (shown : Shown) → HoldsGood shown self.old → IfOk result (λ m. PlanMoves shown m self.old self.new) }
         ensures holds { (shown : Shown) → HoldsGood shown self.old → HoldsGood shown self.new }
@@ -98,32 +61,6 @@ impl Plan {
         ensures err { OnErr result (self.new ≡ self.old) }
     {
         self.give_next()
-    }
-
-    fn stage_step<R: Reader>(
-        &mut self,
-        reader: &R,
-        judge: &mut Box<dyn Judge>,
-        steps: &mut Steps<R::Ledger>,
-    ) -> Result<PlanStep, NoMemory>
-        requires fits { HoldsGood (R.shown reader.now) self.old }
-        ensures step { IfOk result (λ m. PlanMoves (R.shown reader.now) m self.old self.new) }
-        ensures holds { HoldsGood (R.shown reader.now) self.new }
-        ensures alone { RisesAlone self.old self.new steps.old steps.new }
-        ensures stays { would judge.new ≡ would judge.old }
-        ensures asks { PlanAsks (would judge.old) (state judge.old) (state judge.new) (R.shown reader.now) steps.old steps.new self.old self.new }
-        ensures once { IsAlone self.old → StepsOnce (would judge.old) (state judge.old) (state judge.new) (R.shown reader.now) steps.old steps.new self.old.stack.at self.new.stack.at }
-        ensures spends { IsAlone self.old → IfOk result (λ m. PlanSpends m steps.old steps.new (plan_effort (R.shown reader.now) self.old) (plan_effort (R.shown reader.now) self.new)) }
-        ensures fetches { IsAlone self.old → OnOk result (Fetches (R.shown reader.now) steps.old steps.new self.old.stack.at.here self.new.stack.at.here) }
-        ensures plans { SamePlans (first_of self.old.stack).here (first_of self.new.stack).here }
-        ensures reads { self.new.reads ≡ self.old.reads }
-        ensures err { OnErr result (PlanKept (R.shown reader.now) self.old self.new) }
-    {
-        match self.stage() {
-            Stage::AsFound => self.found_step(reader, judge, steps),
-            Stage::Gathering => self.gather_step(reader, judge, steps),
-            Stage::Giving => self.give_step(),
-        }
     }
 
     /// Gives a combination of the rest, works on, or ends.

@@ -1,15 +1,58 @@
-use Rattle.rv_core.proofs.Facts.{on_err}
-use Rattle.rv_core.proofs.Handling.{leaves_text}
+use Rattle.std.proofs.Common.{Ok, ap, sym, ◌∙◌}
+use Rattle.rv_catalog.specs.declared.def.Resolved.{Resolved}
+use Rattle.rv_catalog.specs.declared.def.Resolved.TheVariants.{Fetch}
+use Rattle.rv_parse.specs.Reading.{statement_of}
+use Rattle.rv_core.proofs.Facts.{if_ok, if_ok_two, on_err}
+use Rattle.rv_core.proofs.Handling.{err_more, executes, handles_text, leaves_asked, leaves_text, ok_each}
 use Rattle.rv_core.proofs.statements.answer.Goals as goal
 
 pub returns-in_err-place-clause-lost : goal.returns-in_err-place-clause-lost
 returns-in_err-place-clause-lost g c = on_err _ _ (leaves_text _ _ _ _ _)
 
-pub returns-clause-ok : goal.returns-clause-ok
-returns-clause-ok g c = rw (c.at-said.ensures.is, c.in_ok-place.ensures.is) at c.execute.ensures.ok
+pub perform-requires-clause-fits : goal.perform-requires-clause-fits
+perform-requires-clause-fits g c = rw c.in-Err.ensures.other.0 (rw c.catalog.ensures at c.in-Ok.ensures.fits)
 
-pub returns-clause-handles : goal.returns-clause-handles
-returns-clause-handles g c = rw (c.at-said.ensures.is, c.in_ok-place.ensures.is) at c.execute.ensures.handles
+pub perform-requires-clause-whole : goal.perform-requires-clause-whole
+perform-requires-clause-whole g c = rw c.in-Err.ensures.other.0 c.in-Ok.ensures.whole
 
-pub returns-clause-lost : goal.returns-clause-lost
-returns-clause-lost g c = rw (c.at-said.ensures.is, c.in_ok-place.ensures.is) at c.execute.ensures.lost
+pub perform-requires-clause-other : goal.perform-requires-clause-other
+perform-requires-clause-other g c = rw c.in-Err.ensures.other.0 c.in-Err.ensures.other.1
+
+pub returns-in-Ok-fetch_name-clause-ok : goal.returns-in-Ok-fetch_name-clause-ok
+returns-in-Ok-fetch_name-clause-ok g c =
+    let asks = rw (c.catalog.ensures, c.at-statement.ensures.is, c.in_ok-place.ensures.is) at c.in-Ok.ensures.gives in
+    let fetches = asks ∙ ap (λ (a : Resolved). Ok a) c.in-Ok-fetch_name.ensures.name in
+    if_ok c.fetch.result _ _ (λ replies k. executes (statement_of c.args.text.now) (Fetch c.in-Ok-fetch_name.name) _ _ _ replies fetches k) c.fetch.ensures.ok
+
+pub returns-in-Ok-fetch_name-clause-handles : goal.returns-in-Ok-fetch_name-clause-handles
+returns-in-Ok-fetch_name-clause-handles g c =
+    let asks = rw (c.catalog.ensures, c.at-statement.ensures.is, c.in_ok-place.ensures.is) at c.in-Ok.ensures.gives in
+    let fetches = asks ∙ ap (λ (a : Resolved). Ok a) c.in-Ok-fetch_name.ensures.name in
+    if_ok_two c.fetch.result _ _ _ (λ replies handles refused. handles_text _ (statement_of c.args.text.now) (Ok (Fetch c.in-Ok-fetch_name.name)) _ _ replies.0 _ _ fetches handles refused) c.fetch.ensures.moves (ok_each c.fetch.result _ c.fetch.ensures.refuses)
+
+pub returns-in-Ok-fetch_name-clause-lost : goal.returns-in-Ok-fetch_name-clause-lost
+returns-in-Ok-fetch_name-clause-lost g c =
+    let asks = rw (c.catalog.ensures, c.at-statement.ensures.is, c.in_ok-place.ensures.is) at c.in-Ok.ensures.gives in
+    let fetches = asks ∙ ap (λ (a : Resolved). Ok a) c.in-Ok-fetch_name.ensures.name in
+    err_more c.fetch.result _ _ (λ k. leaves_asked _ _ (Ok (Fetch c.in-Ok-fetch_name.name)) _ _ _ _ fetches k) c.fetch.ensures.lost
+
+pub returns-in-Err-clause-ok : goal.returns-in-Err-clause-ok
+returns-in-Err-clause-ok g c =
+    let asks = rw (c.catalog.ensures, c.at-statement.ensures.is, c.in_ok-place.ensures.is) at c.in-Ok.ensures.gives in
+    let other = asks ∙ ap (λ (a : Resolved). Ok a) (sym c.in-Err.ensures.other.0) in
+    if_ok c.perform.result _ _ (λ replies k. executes (statement_of c.args.text.now) c.in-Err.other _ _ _ replies other k) c.perform.ensures.ok
+
+pub returns-in-Err-clause-handles : goal.returns-in-Err-clause-handles
+returns-in-Err-clause-handles g c =
+    let asks = rw (c.catalog.ensures, c.at-statement.ensures.is, c.in_ok-place.ensures.is) at c.in-Ok.ensures.gives in
+    let other = asks ∙ ap (λ (a : Resolved). Ok a) (sym c.in-Err.ensures.other.0) in
+    if_ok_two c.perform.result _ _ _ (λ replies handles refused. handles_text _ (statement_of c.args.text.now) (Ok c.in-Err.other) _ _ replies.0 _ _ other handles refused) c.perform.ensures.handles (ok_each c.perform.result _ c.perform.ensures.refuses)
+
+pub returns-in-Err-clause-lost : goal.returns-in-Err-clause-lost
+returns-in-Err-clause-lost g c =
+    let asks = rw (c.catalog.ensures, c.at-statement.ensures.is, c.in_ok-place.ensures.is) at c.in-Ok.ensures.gives in
+    let other = asks ∙ ap (λ (a : Resolved). Ok a) (sym c.in-Err.ensures.other.0) in
+    err_more c.perform.result _ _ (λ k. leaves_asked _ _ (Ok c.in-Err.other) _ _ _ _ other k) c.perform.ensures.lost
+
+pub returns-in-Err-NoMemory-clause-lost : goal.returns-in-Err-NoMemory-clause-lost
+returns-in-Err-NoMemory-clause-lost g c = leaves_text _ _ _ _ _

@@ -1,6 +1,9 @@
 use Rattle.rv_core.proofs.Facts.{any_ok, if_ok, on_err}
-use Rattle.rv_core.proofs.Handling.{asked_if, plans_same, searches}
+use Rattle.rv_core.proofs.Handling.{asked_if, never, plans_same, searches}
 use Rattle.rv_core.proofs.statements.perform.Goals as goal
+
+pub unreachable-requires : goal.unreachable-requires
+unreachable-requires g c = never (rw c.in-Fetch.is at c.requires.other)
 
 pub returns-in-Open-clause-handles : goal.returns-in-Open-clause-handles
 returns-in-Open-clause-handles g c = rw c.in-Open.is (c.open-replies.ensures.adds _)
@@ -31,9 +34,6 @@ returns-in-Delete-clause-refuses g c refusal = rw c.in-Delete.is (any_ok c.chang
 
 pub returns-in-Delete-clause-lost : goal.returns-in-Delete-clause-lost
 returns-in-Delete-clause-lost g c = rw c.in-Delete.is (on_err c.change-replies-in-Delete.result _ (searches c.args.database.now c.change-replies-in-Delete.new.self _ _ c.change-replies-in-Delete.ensures.opens c.change-replies-in-Delete.ensures.opened c.change-replies-in-Delete.ensures.asks))
-
-pub returns-in-Fetch-clause-refuses : goal.returns-in-Fetch-clause-refuses
-returns-in-Fetch-clause-refuses g c refusal = rw c.in-Fetch.is (c.fetch.ensures.refuses refusal)
 
 pub returns-in-Step-clause-refuses : goal.returns-in-Step-clause-refuses
 returns-in-Step-clause-refuses g c refusal = rw c.in-Step.is (c.step.ensures.refuses refusal)

@@ -3,6 +3,9 @@ use Rattle.rv_core.proofs.Facts.{any_ok}
 use Rattle.rv_core.proofs.Handling.{parted_err, parted_ok, turns_other}
 use Rattle.rv_core.proofs.statements.turn.Goals as goal
 
+pub perform-requires-clause-other : goal.perform-requires-clause-other
+perform-requires-clause-other g c = rw c.in-Err.ensures.other.0 c.in-Err.ensures.other.1
+
 pub returns-in-Err : goal.returns-in-Err
 returns-in-Err g c =
     let is = c.in-Err.ensures.other.0 in

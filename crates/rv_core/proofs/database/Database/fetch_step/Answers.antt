@@ -1,25 +1,57 @@
-use Rattle.std.proofs.Common.{◌∙◌, refl, sym}
+use Rattle.std.proofs.Common.{◌∙◌, ap, refl, sym}
+use Rattle.rv_cursor.specs.Left.{CursorFits}
+use Rattle.rv_core.specs.Db.{stand_of}
 use Rattle.rv_core.proofs.Facts.{any_ok, if_ok, on_err}
-use Rattle.rv_core.proofs.Handling.{parted_err, parted_ok, refused_fetch}
-use Rattle.rv_core.proofs.Databases.{opens_fit, standing_at}
+use Rattle.rv_core.proofs.Handling.{err_more, parted_err, parted_ok, refused_fetch}
+use Rattle.rv_core.proofs.Databases.{opens_fit, standing_set}
+use Rattle.rv_core.proofs.Keeping.{sees_itself}
+use Rattle.rv_core.proofs.Opens.{all_get, same_at}
+use Rattle.rv_core.proofs.Turning.{part_given, part_more, part_moves, part_named, part_turns}
 use Rattle.rv_core.proofs.database.Database.fetch_step.Goals as goal
 
-pub fetch_step_at-requires-clause-fits : goal.fetch_step_at-requires-clause-fits
-fetch_step_at-requires-clause-fits g c = opens_fit (g.S.Reader.shown c.self.inside.store) c.self.inside.catalog c.self.inside.txns.active c.self.inside.cursors c.self.invariant.standing.opens
+pub fetch_step-requires : goal.fetch_step-requires
+fetch_step-requires g c =
+    let shown = g.S.Reader.shown c.self.inside.store in
+    record { fits = all_get (CursorFits shown) c.self.inside.cursors c.in-Some.place c.at_mut.result.now c.at_mut.ensures.value (opens_fit shown c.self.inside.catalog c.self.inside.txns.active c.self.inside.cursors c.self.invariant.standing.opens) }
 
 pub invariant_of-self : goal.invariant_of-self
 invariant_of-self g c =
     record {
-      standing = standing_at (g.S.Reader.shown c.self.inside.store) c.self.inside.catalog c.self.inside.txns c.self.inside.cursors c.fetch_step_at.new.cursors c.self.inside.opened c.fetch_step_at.ensures.opens c.fetch_step_at.ensures.listed c.self.invariant.standing;
+      standing = standing_set (g.S.Reader.shown c.self.inside.store) c.self.inside.catalog c.self.inside.txns c.self.inside.cursors c.self.inside.opened c.in-Some.place c.at_mut.result.now c.fetch_step.new.cursor c.at_mut.ensures.value c.fetch_step.ensures.fits c.fetch_step.ensures.same c.self.invariant.standing;
       views_kept = c.self.invariant.views_kept;
     }
 
-pub invariant_of-self-2 : goal.invariant_of-self-2
-invariant_of-self-2 g c =
-    record {
-      standing = standing_at (g.S.Reader.shown c.self.inside.store) c.self.inside.catalog c.self.inside.txns c.self.inside.cursors c.fetch_step_at.new.cursors c.self.inside.opened c.fetch_step_at.ensures.opens c.fetch_step_at.ensures.listed c.self.invariant.standing;
-      views_kept = c.self.invariant.views_kept;
-    }
+pub returns-clause-sees : goal.returns-clause-sees
+returns-clause-sees g c = rw (← c.self.view_is) (sees_itself _ _)
+
+pub returns-clause-ok : goal.returns-clause-ok
+returns-clause-ok g c =
+    let shown = g.S.Reader.shown c.self.inside.store in
+    let named = sym (c.cursor_named.ensures.seen shown) ∙ c.in-Some.is in
+    rw (← c.self.view_is) (if_ok c.fetch_step.result _ _ (λ part takes. part_named c.self.inside.store shown c.self.inside.catalog c.self.inside.txns c.self.inside.cursors c.self.inside.opened c.args.session c.in-Some.place c.args.name c.at_mut.result.now c.fetch_step.new.cursor part named c.at_mut.ensures.value c.fetch_step.ensures.same takes) c.fetch_step.ensures.ok)
+
+pub returns-clause-err : goal.returns-clause-err
+returns-clause-err g c =
+    let shown = g.S.Reader.shown c.self.inside.store in
+    rw (← c.self.view_is) (err_more c.fetch_step.result _ _ (λ kept. ap (stand_of shown c.self.inside.catalog c.self.inside.txns) (same_at shown c.self.inside.cursors c.in-Some.place c.at_mut.result.now c.fetch_step.new.cursor c.at_mut.ensures.value c.fetch_step.ensures.same kept)) c.fetch_step.ensures.err)
+
+pub returns-clause-moves : goal.returns-clause-moves
+returns-clause-moves g c =
+    let named = sym c.cursor_named.ensures.named ∙ c.in-Some.is in
+    rw (← c.self.view_is, named) (if_ok c.fetch_step.result _ _ (λ part turn. part_more _ _ _ _ part (λ replies moves. (refl, moves)) (λ moves. (refl, refl, moves)) (part_moves c.args.beside _ (g.S.Reader.shown c.self.inside.store) c.self.inside.cursors c.in-Some.place _ _ c.at_mut.result.now c.fetch_step.new.cursor part c.at_mut.ensures.value c.fetch_step.ensures.same c.fetch_step.ensures.held turn)) c.fetch_step.ensures.turn)
+
+pub returns-clause-turn : goal.returns-clause-turn
+returns-clause-turn g c =
+    let named = sym c.cursor_named.ensures.named ∙ c.in-Some.is in
+    rw (← c.self.view_is, named) (if_ok c.fetch_step.result _ _ (λ part turn. part_more _ _ _ _ part (λ replies moves. (refl, moves)) (λ works. works) (part_turns c.args.beside _ (g.S.Reader.shown c.self.inside.store) c.self.inside.cursors c.in-Some.place _ _ c.at_mut.result.now c.fetch_step.new.cursor part c.at_mut.ensures.value c.fetch_step.ensures.same turn)) c.fetch_step.ensures.turn)
+
+pub returns-clause-refuses : goal.returns-clause-refuses
+returns-clause-refuses g c refusal = if_ok c.fetch_step.result _ _ (λ part takes. part_more _ _ _ _ part (λ replies none e. absurd (none refusal e)) (λ works. works) (part_given (g.S.Reader.shown c.self.inside.store) c.at_mut.result.now c.fetch_step.new.cursor part takes)) c.fetch_step.ensures.ok
+
+pub returns-clause-lost : goal.returns-clause-lost
+returns-clause-lost g c =
+    let named = sym c.cursor_named.ensures.named ∙ c.in-Some.is in
+    rw (← c.self.view_is, named) (on_err c.fetch_step.result _ (refl, record { before = c.at_mut.result.now; after = c.fetch_step.new.cursor; here = c.at_mut.ensures.value; set = refl; same = c.fetch_step.ensures.same; moved = c.fetch_step.ensures.moves }))
 
 pub returns-in_default-clause-ok : goal.returns-in_default-clause-ok
 returns-in_default-clause-ok g c =
