@@ -238,13 +238,12 @@ impl Plan {
         ensures err { OnErr result (PlanKept (R.shown reader.now) self.old self.new) }
     {
         match self.stage() {
-            Stage::AsFound => match self
-                .stack
-                .advance(self.alloc, &self.asked, reader, judge, steps)
-            {
-                Ok(moved) => Ok(answer(moved)),
-                Err(NoMemory) => Err(NoMemory),
-            },
+            Stage::AsFound => {
+                let moved = self
+                    .stack
+                    .advance(self.alloc, &self.asked, reader, judge, steps)?;
+                Ok(answer(moved))
+            }
             Stage::Gathering => self.gather_step(reader, judge, steps),
             Stage::Giving => self.give_step(),
         }
