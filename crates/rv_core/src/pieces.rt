@@ -15,13 +15,12 @@ ghost use Rattle.rv_cursor.specs.Left.{CursorFits, Stays, seen_by};
 ghost use Rattle.rv_core.specs.Db.{AreListed, IsOpen, seen};
 ghost use Rattle.rv_core.specs.Pieces.{GivesTo, KeepsSettled, TakesNext, TriesNext, is_waiting, next_waiting, numbered};
 
-use rv_cursor::Open;
+use rv_cursor::{Open, Sight};
 use rv_jscan::{Given, PieceId, Sieved, Taken};
 use rv_judge::{Judge, Steps, Uncounted};
 use rv_reader::{Reader, Store};
 use rv_snapshot::Snapshot;
 use rv_value::{Items, NoMemory};
-use rv_view::Seen;
 
 fn is_waiting(cursor: &Open) -> bool
     ensures { result ≡ is_waiting cursor.now }
@@ -90,8 +89,8 @@ fn take<R: Reader>(
         reader,
         snap: cursor.snap,
     };
-    let seen = Seen {
-        reader: &at,
+    let seen = Sight {
+        at,
         view: &cursor.frozen,
     };
     cursor.plan.take(&seen, steps)

@@ -27,6 +27,7 @@ ghost use Rattle.rv_model.specs.Step.{row_alone, rows_alone};
 ghost use Rattle.rv_core.specs.Storing.{CommitsTo, changed_alone, changed_over, inserted_alone, lone_over};
 
 use rv_catalog::{Catalog, IndexDef, TableDef};
+use rv_cursor::Sight;
 use rv_join::indexes_over;
 use rv_judge::{Judge, Steps, Uncounted};
 use rv_model::Transaction;
@@ -39,7 +40,7 @@ use rv_search::{any_narrows, found_rows};
 use rv_snapshot::Snapshot;
 use rv_txn::{Finished, TxnFault, Txns, met_rows};
 use rv_value::{Duplicate, Items, NoMemory, Record, RowNo, Value, Values};
-use rv_view::{Seen, View};
+use rv_view::View;
 use std::alloc::Global;
 
 /// A table more in both. Without memory neither has it.
@@ -259,7 +260,7 @@ fn rows_seen<R: Reader>(
     let at = Snapshot { reader, snap };
     found_rows(
         alloc,
-        &Seen { reader: &at, view },
+        &Sight { at, view },
         table,
         snap,
         only,

@@ -17,6 +17,7 @@ ghost use Rattle.rv_join.specs.Pieces.{plan_awaited, plan_pieces};
 ghost use Rattle.rv_cursor.specs.Left.{CursorFits, Stays, left, seen_at, seen_by, work};
 ghost use Rattle.rv_cursor.specs.Moves.{Moves, WorksPiece, ruled};
 
+use crate::sight::Sight;
 use rv_catalog::{IndexDef, Select};
 use rv_join::Plan;
 use rv_jscan::{Taken, sieve};
@@ -25,7 +26,7 @@ use rv_model::Offer;
 use rv_reader::Reader;
 use rv_snapshot::Snapshot;
 use rv_value::{NoMemory, Text};
-use rv_view::{Seen, View};
+use rv_view::View;
 use std::alloc::Global;
 
 /// An open cursor of a session over a snapshot, with the view that its transaction had when it was
@@ -78,10 +79,7 @@ pub fn open_cursor<R: Reader>(
     let at = Snapshot { reader, snap };
     let plan = match Plan::open(
         alloc,
-        &Seen {
-            reader: &at,
-            view: &frozen,
-        },
+        &Sight { at, view: &frozen },
         select,
         indexes,
         snap,
@@ -129,8 +127,8 @@ pub fn work_piece<R: Reader>(
         reader,
         snap: cursor.snap,
     };
-    let seen = Seen {
-        reader: &at,
+    let seen = Sight {
+        at,
         view: &cursor.frozen,
     };
     let piece = match cursor.plan.take(&seen, steps) {

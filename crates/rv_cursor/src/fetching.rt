@@ -8,6 +8,7 @@ ghost use Rattle.rv_cursor.specs.Moves.{Beside, FetchMoves, Moves, StepsBacks, T
 
 use crate::cursor::{Open, work_piece};
 use crate::replies::twice;
+use crate::sight::Sight;
 use rv_join::PlanStep;
 use rv_judge::{Judge, Steps};
 use rv_lang::Reply;
@@ -15,7 +16,6 @@ use rv_model::Offer;
 use rv_reader::Reader;
 use rv_snapshot::Snapshot;
 use rv_value::{Duplicate, Items, NoMemory, Value};
-use rv_view::Seen;
 use std::alloc::Global;
 
 /// The replies of the offer that was in hand: its row, which moves into the first, and a copy of it.
@@ -113,8 +113,8 @@ pub fn fetch_step<R: Reader>(
         reader,
         snap: cursor.snap,
     };
-    let seen = Seen {
-        reader: &at,
+    let seen = Sight {
+        at,
         view: &cursor.frozen,
     };
     match cursor.plan.step(&seen, judge, steps)? {

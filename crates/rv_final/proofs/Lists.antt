@@ -1,5 +1,5 @@
 -- The keys of a complete list in the final stage.
-use Rattle.std.proofs.Common.{◌≡◌, ℕ, ◌+◌, ◌-◌, ◌^◌, ◌<◌, ◌≤◌, List, [], ◌∷◌, drop, find, length, Bool, true, false, not, ◌&&◌, ◌||◌, refl, ap, sym, ◌∙◌, arith, subst, Some, None, Option, nat_eq, inl, inr, zero, suc, slice_get, Result, Ok, Err, IfOk, OnOk, OnErr}
+use Rattle.std.proofs.Common.{◌≡◌, ℕ, ◌+◌, ◌-◌, ◌^◌, ◌<◌, ◌≤◌, List, [], ◌∷◌, drop, find, length, Bool, true, false, not, ◌&&◌, ◌||◌, refl, ap, sym, ◌∙◌, arith, subst, Some, None, Option, nat_eq, inl, inr, zero, suc, slice_get}
 use Rattle.std.specs.Prelude.{if◌then◌else◌}
 use Rattle.std.proofs.lemmas.Bool.{cases_Bool}
 use Rattle.std.proofs.lemmas.Bool.Decides.{nat_tests}
@@ -20,7 +20,7 @@ use Rattle.rv_scan.specs.declared.skip.Scanned.TheVariants.{Found, Working, End}
 use Rattle.rv_scan.specs.Alongs.{looked}
 use Rattle.rv_scan.specs.Due.{was_delivered}
 use Rattle.rv_final.specs.Rest.{StepMarks}
-use Rattle.rv_final.specs.Stage.{FetchesKey, IsFirstKey, NextKey, PassesKeys, Staged, first_key, keys_left, list_left}
+use Rattle.rv_final.specs.Stage.{FetchesKey, IsFirstKey, NextKey, PassesKeys, Staged, first_key, given_as, keys_left, list_left}
 use Rattle.rv_final.specs.Work.{Falls, Tries}
 use Rattle.rv_final.proofs.Dues.{marks_move}
 use Rattle.rv_final.proofs.Marks.{fetched_marks}
@@ -117,17 +117,15 @@ list_fetched need only rows list delivered at mid k s asc p key fresh is =
     both_true : (a b c : Bool) → a ≡ true → c ≡ false → ((a || b) && not c) ≡ true
     both_true a b c h i = grind arith
 
-pub fetched_if : {E : Type 0} (r : Result Scanned E) (need : List ℕ) (only : List (List Atom)) (rows : List Record) (list delivered : Option (List ℕ)) (at k : ℕ) (mid new : Staged) → Ascend rows → PassesKeys list delivered at mid.at → NextKey list mid.at k → was_delivered delivered k ≡ false → OnOk r (new ≡ record mid { at = mid.at + 1 }) → IfOk r (λ s. s ≡ looked only (row_at rows k)) → IfOk r (λ s. StepMarks need only rows s (list_left list delivered at) (list_left list delivered new.at))
-fetched_if (Ok s) need only rows list delivered at k mid new asc p key fresh n is = subst (λ (i : ℕ). StepMarks need only rows s (list_left list delivered at) (list_left list delivered i)) (sym (ap (λ (x : Staged). x.at) n)) (list_fetched need only rows list delivered at mid.at k s asc p key fresh is)
-fetched_if (Err e) need only rows list delivered at k mid new asc p key fresh n is = tt
+pub key_marks : (need : List ℕ) (only : List (List Atom)) (rows : List Record) (list delivered : Option (List ℕ)) (at k : ℕ) (mid new : Staged) (s : Scanned) → Ascend rows → PassesKeys list delivered at mid.at → NextKey list mid.at k → was_delivered delivered k ≡ false → new ≡ record mid { at = mid.at + 1 } → s ≡ looked only (row_at rows k) → StepMarks need only rows s (list_left list delivered at) (list_left list delivered new.at)
+key_marks need only rows list delivered at k mid new s asc p key fresh n is = subst (λ (i : ℕ). StepMarks need only rows s (list_left list delivered at) (list_left list delivered i)) (sym (ap (λ (x : Staged). x.at) n)) (list_fetched need only rows list delivered at mid.at k s asc p key fresh is)
 
-pub fetches_if : {E : Type 0} (r : Result Scanned E) (list delivered : Option (List ℕ)) (at k : ℕ) (only : List (List Atom)) (rows : List Record) (c d : Counts) → first_key list delivered at ≡ Some k → d ≡ record_read c → IfOk r (λ s. s ≡ looked only (row_at rows k)) → IfOk r (FetchesKey (first_key list delivered at) only rows c d)
-fetches_if (Ok s) list delivered at k only rows c d f e is = subst (λ (x : Option ℕ). FetchesKey x only rows c d s) (sym f) (e, is)
-fetches_if (Err x) list delivered at k only rows c d f e is = tt
+pub key_fetches : (list delivered : Option (List ℕ)) (at k : ℕ) (only : List (List Atom)) (rows : List Record) (c d : Counts) (s : Scanned) → first_key list delivered at ≡ Some k → d ≡ record_read c → s ≡ looked only (row_at rows k) → FetchesKey (first_key list delivered at) only rows c d s
+key_fetches list delivered at k only rows c d s f e is = subst (λ (x : Option ℕ). FetchesKey x only rows c d s) (sym f) (e, is)
 
-pub passed_if : {E : Type 0} (r : Result Scanned E) (list delivered : Option (List ℕ)) (at : ℕ) (mid new : Staged) → PassesKeys list delivered at mid.at → OnErr r (new ≡ mid) → OnErr r (PassesKeys list delivered at new.at)
-passed_if (Ok s) list delivered at mid new p e = tt
-passed_if (Err x) list delivered at mid new p e = subst (λ (y : Staged). PassesKeys list delivered at y.at) (sym e) p
+-- the row that was found is looked at, and given
+pub given_is : (only : List (List Atom)) (rows : List Record) (k : ℕ) (found kept : Option Record) (s : Scanned) → found ≡ row_at rows k → given_as kept ≡ looked only found → s ≡ given_as kept → s ≡ looked only (row_at rows k)
+given_is only rows k found kept s row look give = give ∙ look ∙ ap (looked only) row
 
 -- What is read, and what is left.
 
@@ -153,9 +151,12 @@ one_below list at k mid new key fewer n =
 passed_less : (list : Option (List ℕ)) (at k : ℕ) (mid new : Staged) → NextKey list mid.at k → length (keys_left list mid.at) ≤ length (keys_left list at) → new ≡ record mid { at = mid.at + 1 } → length (keys_left list new.at) ≤ length (keys_left list at)
 passed_less list at k mid new key fewer n = let less = one_below list at k mid new key fewer n in omega arith
 
-pub tries_if : {E : Type 0} (r : Result Scanned E) (list : Option (List ℕ)) (at k : ℕ) (mid new : Staged) (c d : Counts) → NextKey list mid.at k → length (keys_left list mid.at) ≤ length (keys_left list at) → OnOk r (new ≡ record mid { at = mid.at + 1 }) → OnErr r (new ≡ mid) → d ≡ record_read c → Tries c d (length (keys_left list at)) (length (keys_left list new.at))
-tries_if (Ok s) list at k mid new c d key fewer n e r = record { once = one_read c d r; less = passed_less list at k mid new key fewer n }
-tries_if (Err x) list at k mid new c d key fewer n e r = record { once = one_read c d r; less = let same : length (keys_left list new.at) ≡ length (keys_left list mid.at) = ap (λ (x : Staged). length (keys_left list x.at)) e in omega arith }
+pub key_tries : (list : Option (List ℕ)) (at k : ℕ) (mid new : Staged) (c d : Counts) → NextKey list mid.at k → length (keys_left list mid.at) ≤ length (keys_left list at) → new ≡ record mid { at = mid.at + 1 } → d ≡ record_read c → Tries c d (length (keys_left list at)) (length (keys_left list new.at))
+key_tries list at k mid new c d key fewer n r = record { once = one_read c d r; less = passed_less list at k mid new key fewer n }
+
+-- memory is wanting: the key stays
+pub wanting_tries : (old new : ℕ) (c d : Counts) → new ≤ old → d ≡ record_read c → Tries c d old new
+wanting_tries old new c d fewer r = record { once = one_read c d r; less = fewer }
 
 falls_as : (s : Scanned) (o : Option Record) (only : List (List Atom)) (c d : Counts) (old new : ℕ) → s ≡ looked only o → new < old → Falls s c d old new
 falls_as (Found r) o only c d old new is less = less
@@ -167,14 +168,12 @@ falls_as End (Some r) only c d old new is less = by (qualifies only r.values) is
     by true is = let bad : End ≡ Found r = is in absurd (cc)
     by false is = let bad : End ≡ Working = is in absurd (cc)
 
-pub falls_if : {E : Type 0} (r : Result Scanned E) (list : Option (List ℕ)) (at k : ℕ) (only : List (List Atom)) (o : Option Record) (mid new : Staged) (c d : Counts) → NextKey list mid.at k → length (keys_left list mid.at) ≤ length (keys_left list at) → OnOk r (new ≡ record mid { at = mid.at + 1 }) → IfOk r (λ s. s ≡ looked only o) → IfOk r (λ s. Falls s c d (length (keys_left list at)) (length (keys_left list new.at)))
-falls_if (Ok s) list at k only o mid new c d key fewer n is = falls_as s o only c d (length (keys_left list at)) (length (keys_left list new.at)) is (let less = one_below list at k mid new key fewer n in omega arith)
-falls_if (Err x) list at k only o mid new c d key fewer n is = tt
+pub key_falls : (list : Option (List ℕ)) (at k : ℕ) (only : List (List Atom)) (o : Option Record) (mid new : Staged) (c d : Counts) (s : Scanned) → NextKey list mid.at k → length (keys_left list mid.at) ≤ length (keys_left list at) → new ≡ record mid { at = mid.at + 1 } → s ≡ looked only o → Falls s c d (length (keys_left list at)) (length (keys_left list new.at))
+key_falls list at k only o mid new c d s key fewer n is = falls_as s o only c d (length (keys_left list at)) (length (keys_left list new.at)) is (let less = one_below list at k mid new key fewer n in omega arith)
 
-pub records_if : {E : Type 0} (r : Result Scanned E) (list : Option (List ℕ)) (at k : ℕ) (mid new : Staged) (c d : Counts) → NextKey list mid.at k → length (keys_left list mid.at) ≤ length (keys_left list at) → OnOk r (new ≡ record mid { at = mid.at + 1 }) → d ≡ record_read c → IfOk r (λ s. d.records + length (keys_left list new.at) ≤ c.records + length (keys_left list at))
-records_if (Ok s) list at k mid new c d key fewer n r =
+pub key_records : (list : Option (List ℕ)) (at k : ℕ) (mid new : Staged) (c d : Counts) → NextKey list mid.at k → length (keys_left list mid.at) ≤ length (keys_left list at) → new ≡ record mid { at = mid.at + 1 } → d ≡ record_read c → d.records + length (keys_left list new.at) ≤ c.records + length (keys_left list at)
+key_records list at k mid new c d key fewer n r =
     let less = one_below list at k mid new key fewer n in
     let is : d.records ≡ one_more c.records = ap (λ (x : Counts). x.records) r in
     let more = at_most c.records in
     omega arith
-records_if (Err x) list at k mid new c d key fewer n r = tt

@@ -1,4 +1,4 @@
-ghost use Rattle.std.specs.Prelude.{◌≡◌, ◌+◌, ◌-◌, ◌^◌, ◌<◌, ◌≤◌, ℕ, List, Some, true, false, length, IfOk, IfSome, OnErr, OnOk};
+ghost use Rattle.std.specs.Prelude.{◌≡◌, ◌+◌, ◌-◌, ◌^◌, ◌<◌, ◌≤◌, ℕ, List, Some, true, false, length, IfOk, IfSome, OnErr};
 ghost use Rattle.std.specs.Option.{option_copied};
 ghost use Rattle.rv_value.specs.declared.record.Record.{Record as OneRecord};
 ghost use Rattle.rv_rows.specs.Rows.{Ascend};
@@ -119,6 +119,10 @@ impl Final {
         Final { alloc, at: 0, last }
     }
 
+    fn alloc(&self) -> Global {
+        self.alloc
+    }
+
     fn key_at(&self, list: Option<&KeyList>) -> Option<RowNo>
         ensures { KeyAt (keys_of (option_copied list.entry)) self.now.at result }
     {
@@ -159,47 +163,6 @@ impl Final {
         }
     }
 
-    fn fetch<R: Reader>(
-        &self,
-        reader: &R,
-        table: u32,
-        snap: u64,
-        only: &Restriction,
-        row: RowNo,
-        steps: &mut Steps<R::Ledger>,
-    ) -> Result<Option<Record>, NoMemory>
-        requires can { CanRead (R.shown reader.now) table snap }
-        requires columns { HaveColumns only.now ((R.shown reader.now).rows table snap) }
-        ensures found { IfOk result (λ found. given_as found ≡ looked only.now (row_at ((R.shown reader.now).rows table snap) row.0)) }
-        ensures reads { steps.new ≡ record_read steps.old }
-    {
-        examine(self.alloc, reader, table, snap, only, row, steps)
-    }
-
-    /// Fetches the row of the key that is next.
-    fn fetch_key<R: Reader>(
-        &mut self,
-        reader: &R,
-        table: u32,
-        snap: u64,
-        only: &Restriction,
-        row: RowNo,
-        steps: &mut Steps<R::Ledger>,
-    ) -> Result<Scanned, NoMemory>
-        requires can { CanRead (R.shown reader.now) table snap }
-        requires columns { HaveColumns only.now ((R.shown reader.now).rows table snap) }
-        requires small { self.old.at < 2 ^ 64 - 1 }
-        ensures same { self.new ≡ record self.old { at = self.new.at } }
-        ensures ok { OnOk result (self.new ≡ record self.old { at = self.old.at + 1 }) }
-        ensures err { OnErr result (self.new ≡ self.old) }
-        ensures looks { IfOk result (λ s. s ≡ looked only.now (row_at ((R.shown reader.now).rows table snap) row.0)) }
-        ensures reads { steps.new ≡ record_read steps.old }
-    {
-        let found = self.fetch(reader, table, snap, only, row, steps)?;
-        self.pass_key();
-        Ok(given(found))
-    }
-
     /// Fetches the next row of the list that was not delivered, and gives it where it qualifies; End where none is left.
     /// `NoMemory` leaves the key that it could not fetch.
     pub fn list_step<R: Reader>(
@@ -227,7 +190,13 @@ impl Final {
     {
         match self.next_left(list, delivered) {
             None => Ok(Scanned::End),
-            Some(row) => self.fetch_key(reader, table, snap, only, row, steps),
+            Some(row) => match reader.fetch(self.alloc(), table, snap, row, steps) {
+                Ok(found) => {
+                    self.pass_key();
+                    Ok(given(look(found, only)))
+                }
+                Err(NoMemory) => Err(NoMemory),
+            },
         }
     }
 

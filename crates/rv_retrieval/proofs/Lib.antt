@@ -4,6 +4,7 @@ pub mod Switching
 pub mod Controls
 pub mod Delivering
 pub mod Least
+pub mod Listed
 pub mod Beginning
 pub mod Planning
 pub mod Chosen

@@ -28,6 +28,9 @@ pub reads_by : {E : Type 0} (r : Result Scanned E) (k : Kind) (v : Shape) (c d :
 reads_by (Ok s) k v c d e h = subst (λ (x : Kind). ReadsAs x v s c d) (sym e) h
 reads_by (Err x) k v c d e h = tt
 
+pub reads_as : (k : Kind) (v : Shape) (s : Scanned) (c d : Counts) → kind_of v.control v.strategy (fresh_of v) ≡ k → ReadsAs k v s c d → ReadsIts v c d s
+reads_as k v s c d e h = subst (λ (x : Kind). ReadsAs x v s c d) (sym e) h
+
 pub reads_always : {E : Type 0} (r : Result Scanned E) (k : Kind) (v : Shape) (c d : Counts) → kind_of v.control v.strategy (fresh_of v) ≡ k → ((s : Scanned) → ReadsAs k v s c d) → IfOk r (ReadsIts v c d)
 reads_always (Ok s) k v c d e h = subst (λ (x : Kind). ReadsAs x v s c d) (sym e) (h s)
 reads_always (Err x) k v c d e h = tt
@@ -50,9 +53,8 @@ both_does (Ok s) would state shown c d old new e does = subst (λ (x : Kind). Do
 both_does (Err x) would state shown c d old new e does = tt
 
 -- the fetch of a key of the complete list
-pub key_does : {E : Type 0} (r : Result Scanned E) (would : ℕ → Facts → Ruling) (state : ℕ) (shown : Shown) (c d : Counts) (old new : Shape) → kind_of old.control old.strategy (fresh_of old) ≡ NextKey → IfOk r (ListReads old shown c d) → IfOk r (λ s. new ≡ ended_by FinalEnded s (record old { at = new.at })) → IfOk r (λ s. DoesIts would state state shown c d s old new)
-key_does (Ok s) would state shown c d old new e reads does = subst (λ (x : Kind). DoesAs x would state state shown c d s old new) (sym e) (refl, reads, does)
-key_does (Err x) would state shown c d old new e reads does = tt
+pub key_does : (would : ℕ → Facts → Ruling) (state : ℕ) (shown : Shown) (c d : Counts) (s : Scanned) (old new : Shape) → kind_of old.control old.strategy (fresh_of old) ≡ NextKey → ListReads old shown c d s → new ≡ ended_by FinalEnded s (record old { at = new.at }) → DoesIts would state state shown c d s old new
+key_does would state shown c d s old new e reads does = subst (λ (x : Kind). DoesAs x would state state shown c d s old new) (sym e) (refl, reads, does)
 
 -- a step through the table
 pub page_does : {E : Type 0} (r : Result Scanned E) (would : ℕ → Facts → Ruling) (state : ℕ) (shown : Shown) (c d : Counts) (old new : Shape) → kind_of old.control old.strategy (fresh_of old) ≡ NextPage → IfOk r (λ s. new ≡ ended_by FinalEnded s (record old { last = new.last })) → IfOk r (λ s. DoesIts would state state shown c d s old new)

@@ -63,9 +63,9 @@ pub after_borrowed : {X E : Type 0} (r : Result X E) (v mid new : Shape) → mid
 after_borrowed (Ok x) v mid new e fresh o = tt
 after_borrowed (Err x) v mid new e fresh o = after_passed v mid new (subst (λ (x : Shape). x ≡ record v { borrowed = x.borrowed; at = x.at }) (sym e) refl) fresh (subst (λ (n : ℕ). n ≤ keys_work v) (sym (ap keys_work e)) (omega arith)) o
 
-pub after_keys : {X E : Type 0} (r : Result X E) (v mid new : Shape) → mid ≡ record v { at = mid.at } → keys_work mid ≤ keys_work v → OnErr r (OnlyTakes mid new) → OnErr r (OnlyTakes v new)
-after_keys (Ok x) v mid new e fewer o = tt
-after_keys (Err x) v mid new e fewer o = after_passed v mid new (subst (λ (x : Shape). x ≡ record v { borrowed = x.borrowed; at = x.at }) (sym e) refl) (λ way. ap fresh_of e) fewer o
+-- keys of the complete list were passed over, and nothing else was done
+pub keys_only : (v mid : Shape) → mid ≡ record v { at = mid.at } → keys_work mid ≤ keys_work v → OnlyTakes v mid
+keys_only v mid e fewer = after_passed v mid mid (subst (λ (x : Shape). x ≡ record v { borrowed = x.borrowed; at = x.at }) (sym e) refl) (λ way. ap fresh_of e) fewer (only_itself mid)
 
 -- what was read is counted
 pub only_counted : (v mid new : Shape) (t : Trace) → new ≡ record mid { trace = t } → OnlyTakes v mid → OnlyTakes v new

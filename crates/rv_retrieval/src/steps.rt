@@ -13,7 +13,7 @@ ghost use Rattle.rv_retrieval.specs.Opens.{GivesStep, fg_of};
 ghost use Rattle.rv_retrieval.specs.Room.{must_remember};
 ghost use Rattle.rv_retrieval.specs.Runs.{SameCourse, Tells};
 ghost use Rattle.rv_retrieval.specs.Shape.{Delivers, DoesStep, EndsIn, RetrievalFits, Source, is_background, is_building, is_index_only, rest, source, lending, rows_of};
-ghost use Rattle.rv_retrieval.specs.Stepping.{Borrows, DoesIts, ListReads, MayReadIts, OnlyTakes, ReadsIts, Remembered, RemembersBy, Steady, StepsAs, WalkReads, ended_by};
+ghost use Rattle.rv_retrieval.specs.Stepping.{Borrows, DoesIts, MayReadIts, OnlyTakes, ReadsIts, Remembered, RemembersBy, Steady, StepsAs, WalkReads, ended_by};
 ghost use Rattle.rv_judge.specs.Tracing.{CountsRise, SameCounts};
 ghost use Rattle.rv_retrieval.specs.Effort.{Awaiting, FgSpends, effort, to_borrow};
 ghost use Rattle.rv_final.specs.Work.{Falls, Tries};
@@ -47,39 +47,16 @@ fn answer(scanned: Scanned) -> Fg
     }
 }
 
-/// The foreground of a retrieval: a function for each control.
+/// The foreground of a retrieval: what a step is under each control.
 impl Retrieval {
-    /// Fetches the next key of the complete list.
-    fn list_step<R: Reader>(
-        &mut self,
-        reader: &R,
-        steps: &mut Steps<R::Ledger>,
-    ) -> Result<Scanned, NoMemory>
-        requires control { self.old.control ≡ Control.FinalList }
-        requires fits { RetrievalFits self.old (R.shown reader.now) }
-        ensures steady { Steady self.old self.new }
-        ensures fits { RetrievalFits self.new (R.shown reader.now) }
-        ensures step { IfOk result (DoesStep self.old self.new (R.shown reader.now)) }
-        ensures ends { IfOk result (EndsIn self.new) }
-        ensures err { OnErr result (rest self.new (R.shown reader.now) ≡ rest self.old (R.shown reader.now)) }
-        ensures does { IfOk result (λ s. self.new ≡ ended_by Happening.FinalEnded s (record self.old { at = self.new.at })) }
-        ensures fetches { IfOk result (ListReads self.old (R.shown reader.now) steps.old steps.new) }
-        ensures course { OnErr result (SameCourse self.old self.new) }
-        ensures may_read { OneAtMost record_read steps.old steps.new }
-        ensures still { OnErr result (OnlyTakes self.old self.new) }
-        ensures tries { Tries steps.old steps.new (effort self.old (R.shown reader.now)) (effort self.new (R.shown reader.now)) }
-        ensures falls { IfOk result (λ s. Falls s steps.old steps.new (effort self.old (R.shown reader.now)) (effort self.new (R.shown reader.now))) }
-        ensures records { IfOk result (λ s. steps.new.records + fetches_left self.new (R.shown reader.now) ≤ steps.old.records + fetches_left self.old (R.shown reader.now)) }
-        ensures pages { steps.new.pages ≡ steps.old.pages }
-        ensures settled { Settled self.old → Settled self.new }
+    /// A step through the complete list that ends there leads to the last control.
+    fn finish(&mut self, scanned: &Scanned)
+        ensures { self.new ≡ ended_by Happening.FinalEnded scanned.now self.old }
     {
-        match self.scan_list(reader, steps)? {
-            Scanned::Found(row) => Ok(Scanned::Found(row)),
-            Scanned::Working => Ok(Scanned::Working),
-            Scanned::End => {
-                self.go(Happening::FinalEnded);
-                Ok(Scanned::End)
-            }
+        match scanned {
+            Scanned::End => self.go(Happening::FinalEnded),
+            Scanned::Found(_) => {}
+            Scanned::Working => {}
         }
     }
 
@@ -347,7 +324,13 @@ impl Retrieval {
             Control::Building => self.building_step(reader, judge, steps),
             Control::ForegroundAlone => self.front_step(reader, steps),
             Control::BackgroundAlone => self.background_step(reader, judge, steps),
-            Control::FinalList => self.list_step(reader, steps),
+            Control::FinalList => match self.scan_list(reader, steps) {
+                Ok(scanned) => {
+                    self.finish(&scanned);
+                    Ok(scanned)
+                }
+                Err(NoMemory) => Err(NoMemory),
+            },
             Control::FinalTable => self.table_step(reader, steps),
             Control::Done => Ok(Scanned::End),
         }

@@ -9,8 +9,7 @@ use rv_reader::{Chunk, Estimate, Reader, Sizes};
 use rv_value::{IndexEntry, NoMemory, Range, Record, RowNo};
 use std::alloc::Global;
 
-/// What a cursor reads: a reader, with the view that its transaction had when it was opened laid over it, where that has
-/// changes. Without, it is the reader itself.
+/// What a transaction sees of a reader: its view laid over it, where it has changes. Without, it is the reader itself.
 #[derive(Drop)]
 pub struct Seen<'a, R: Reader> {
     pub reader: &'a R,

@@ -4,9 +4,10 @@ use Rattle.rv_value.proofs.Lists.{on_err}
 use Rattle.rv_retrieval.specs.Accounts.{fresh_of}
 use Rattle.rv_retrieval.specs.Shape.{is_background}
 use Rattle.rv_retrieval.specs.Stepping.{NextKey, NextPage, Piece, Walk}
-use Rattle.rv_retrieval.proofs.OfKinds.{course_if, does_by, key_does, kind_at, may_read_by, page_does, reads_always, reads_by, rest_if, walk_does}
-use Rattle.rv_retrieval.proofs.Waiting.{only_if}
-use Rattle.rv_retrieval.proofs.Controls.{done_rest}
+use Rattle.rv_retrieval.proofs.OfKinds.{course_if, does_by, key_does, kind_at, may_read_by, page_does, reads_always, reads_as, reads_by, rest_if, walk_does}
+use Rattle.rv_retrieval.proofs.Waiting.{keys_only, only_if, steady_at}
+use Rattle.rv_retrieval.proofs.Controls.{done_rest, passed_rest}
+use Rattle.rv_retrieval.proofs.Listed.{at_course, at_settled, keys_fit, keys_try, list_control, list_does, list_ended_by, list_ends, list_falls, list_fits, list_records, list_settled, list_steady, list_tries, not_done}
 use Rattle.rv_retrieval.proofs.retrieval.Retrieval.step.Goals as goal
 
 pub returns-in-Done-clause-step : goal.returns-in-Done-clause-step
@@ -151,59 +152,142 @@ returns-in-BackgroundAlone-clause-may_read g c way = may_read_by Piece c.args.se
 pub returns-in-BackgroundAlone-clause-reads : goal.returns-in-BackgroundAlone-clause-reads
 returns-in-BackgroundAlone-clause-reads g c way = reads_always c.background_step.result Piece c.args.self.now c.args.steps.now c.background_step.new.steps (kind_at c.args.self.now.control BackgroundAlone c.args.self.now.strategy (fresh_of c.args.self.now) (sym c.control.ensures ∙ c.in-BackgroundAlone.is)) (λ s. c.background_step.ensures.reads)
 
-pub returns-in-FinalList-clause-steady : goal.returns-in-FinalList-clause-steady
-returns-in-FinalList-clause-steady g c = c.list_step.ensures.steady
+pub returns-in-Ok-clause-steady : goal.returns-in-Ok-clause-steady
+returns-in-Ok-clause-steady g c =
+    let was = sym c.control.ensures ∙ c.in-FinalList.is in
+    let is = list_control c.args.self.now c.scan_list.new.self was c.scan_list.ensures.same in
+    list_steady c.args.self.now c.scan_list.new.self c.finish.new.self c.in-Ok.scanned is c.scan_list.ensures.same c.finish.ensures
 
-pub returns-in-FinalList-clause-fits : goal.returns-in-FinalList-clause-fits
-returns-in-FinalList-clause-fits g c = c.list_step.ensures.fits
+pub returns-in-Ok-clause-fits : goal.returns-in-Ok-clause-fits
+returns-in-Ok-clause-fits g c =
+    let was = sym c.control.ensures ∙ c.in-FinalList.is in
+    list_fits c.args.self.now c.scan_list.new.self c.finish.new.self c.in-Ok.scanned (g.R.Reader.shown c.args.reader.now) was c.scan_list.ensures.same c.finish.ensures c.requires.fits
 
-pub returns-in-FinalList-clause-step : goal.returns-in-FinalList-clause-step
-returns-in-FinalList-clause-step g c = c.list_step.ensures.step
+pub returns-in-Ok-clause-step : goal.returns-in-Ok-clause-step
+returns-in-Ok-clause-step g c =
+    let was = sym c.control.ensures ∙ c.in-FinalList.is in
+    list_does c.args.self.now c.scan_list.new.self c.finish.new.self c.in-Ok.scanned (g.R.Reader.shown c.args.reader.now) was c.scan_list.ensures.same c.finish.ensures c.requires.fits c.in-Ok.ensures.marks
 
-pub returns-in-FinalList-clause-ends : goal.returns-in-FinalList-clause-ends
-returns-in-FinalList-clause-ends g c = c.list_step.ensures.ends
+pub returns-in-Ok-clause-ends : goal.returns-in-Ok-clause-ends
+returns-in-Ok-clause-ends g c =
+    let was = sym c.control.ensures ∙ c.in-FinalList.is in
+    let is = list_control c.args.self.now c.scan_list.new.self was c.scan_list.ensures.same in
+    list_ends c.scan_list.new.self c.finish.new.self c.in-Ok.scanned is c.finish.ensures
 
-pub returns-in-FinalList-clause-err : goal.returns-in-FinalList-clause-err
-returns-in-FinalList-clause-err g c = c.list_step.ensures.err
+pub returns-in-Ok-clause-again : goal.returns-in-Ok-clause-again
+returns-in-Ok-clause-again g c done =
+    let was = sym c.control.ensures ∙ c.in-FinalList.is in
+    not_done c.args.self.now.control was done
 
-pub returns-in-FinalList-clause-course : goal.returns-in-FinalList-clause-course
-returns-in-FinalList-clause-course g c = c.list_step.ensures.course
+pub returns-in-Ok-clause-does : goal.returns-in-Ok-clause-does
+returns-in-Ok-clause-does g c way =
+    key_does _ _ (g.R.Reader.shown c.args.reader.now) c.args.steps.now c.scan_list.new.steps c.in-Ok.scanned c.args.self.now c.finish.new.self (kind_at c.args.self.now.control FinalList c.args.self.now.strategy (fresh_of c.args.self.now) (sym c.control.ensures ∙ c.in-FinalList.is)) c.in-Ok.ensures.fetches (list_ended_by c.args.self.now c.scan_list.new.self c.finish.new.self c.in-Ok.scanned c.scan_list.ensures.same c.finish.ensures)
 
-pub returns-in-FinalList-clause-still : goal.returns-in-FinalList-clause-still
-returns-in-FinalList-clause-still g c = c.list_step.ensures.still
+pub returns-in-Ok-clause-may_read : goal.returns-in-Ok-clause-may_read
+returns-in-Ok-clause-may_read g c way =
+    may_read_by NextKey c.args.self.now c.args.steps.now c.scan_list.new.steps (kind_at c.args.self.now.control FinalList c.args.self.now.strategy (fresh_of c.args.self.now) (sym c.control.ensures ∙ c.in-FinalList.is)) c.scan_list.ensures.may_read
 
-pub returns-in-FinalList-clause-tries : goal.returns-in-FinalList-clause-tries
-returns-in-FinalList-clause-tries g c = c.list_step.ensures.tries
+pub returns-in-Ok-clause-reads : goal.returns-in-Ok-clause-reads
+returns-in-Ok-clause-reads g c way =
+    reads_as NextKey c.args.self.now c.in-Ok.scanned c.args.steps.now c.scan_list.new.steps (kind_at c.args.self.now.control FinalList c.args.self.now.strategy (fresh_of c.args.self.now) (sym c.control.ensures ∙ c.in-FinalList.is)) c.scan_list.ensures.may_read
 
-pub returns-in-FinalList-clause-settled : goal.returns-in-FinalList-clause-settled
-returns-in-FinalList-clause-settled g c = c.list_step.ensures.settled
+pub returns-in-Ok-clause-stays : goal.returns-in-Ok-clause-stays
+returns-in-Ok-clause-stays g c = refl
 
-pub returns-in-FinalList-clause-quiet : goal.returns-in-FinalList-clause-quiet
-returns-in-FinalList-clause-quiet g c = on_err _ _ refl
+pub returns-in-Ok-clause-tries : goal.returns-in-Ok-clause-tries
+returns-in-Ok-clause-tries g c =
+    let was = sym c.control.ensures ∙ c.in-FinalList.is in
+    let is = list_control c.args.self.now c.scan_list.new.self was c.scan_list.ensures.same in
+    list_tries c.args.self.now c.scan_list.new.self c.finish.new.self c.in-Ok.scanned (g.R.Reader.shown c.args.reader.now) c.args.steps.now c.scan_list.new.steps was is c.finish.ensures c.scan_list.ensures.tries
 
-pub returns-in-FinalList-clause-stays : goal.returns-in-FinalList-clause-stays
-returns-in-FinalList-clause-stays g c = refl
+pub returns-in-Ok-clause-falls : goal.returns-in-Ok-clause-falls
+returns-in-Ok-clause-falls g c awaiting =
+    let was = sym c.control.ensures ∙ c.in-FinalList.is in
+    let is = list_control c.args.self.now c.scan_list.new.self was c.scan_list.ensures.same in
+    list_falls c.args.self.now c.scan_list.new.self c.finish.new.self c.in-Ok.scanned (g.R.Reader.shown c.args.reader.now) c.args.steps.now c.scan_list.new.steps was is c.finish.ensures c.in-Ok.ensures.falls
 
-pub returns-in-FinalList-clause-falls : goal.returns-in-FinalList-clause-falls
-returns-in-FinalList-clause-falls g c a = c.list_step.ensures.falls
+pub returns-in-Ok-clause-settled : goal.returns-in-Ok-clause-settled
+returns-in-Ok-clause-settled g c settled =
+    let was = sym c.control.ensures ∙ c.in-FinalList.is in
+    let is = list_control c.args.self.now c.scan_list.new.self was c.scan_list.ensures.same in
+    list_settled c.args.self.now c.scan_list.new.self c.finish.new.self c.in-Ok.scanned is c.scan_list.ensures.same c.finish.ensures settled
 
-pub returns-in-FinalList-clause-does : goal.returns-in-FinalList-clause-does
-returns-in-FinalList-clause-does g c way = key_does c.list_step.result _ _ (g.R.Reader.shown c.args.reader.now) c.args.steps.now c.list_step.new.steps c.args.self.now c.list_step.new.self (kind_at c.args.self.now.control FinalList c.args.self.now.strategy (fresh_of c.args.self.now) (sym c.control.ensures ∙ c.in-FinalList.is)) c.list_step.ensures.fetches c.list_step.ensures.does
+pub returns-in-Ok-clause-unasked : goal.returns-in-Ok-clause-unasked
+returns-in-Ok-clause-unasked g c settled = refl
 
-pub returns-in-FinalList-clause-may_read : goal.returns-in-FinalList-clause-may_read
-returns-in-FinalList-clause-may_read g c way = may_read_by NextKey c.args.self.now c.args.steps.now c.list_step.new.steps (kind_at c.args.self.now.control FinalList c.args.self.now.strategy (fresh_of c.args.self.now) (sym c.control.ensures ∙ c.in-FinalList.is)) c.list_step.ensures.may_read
+pub returns-in-Ok-clause-pages : goal.returns-in-Ok-clause-pages
+returns-in-Ok-clause-pages g c settled = c.scan_list.ensures.pages
 
-pub returns-in-FinalList-clause-reads : goal.returns-in-FinalList-clause-reads
-returns-in-FinalList-clause-reads g c way = reads_always c.list_step.result NextKey c.args.self.now c.args.steps.now c.list_step.new.steps (kind_at c.args.self.now.control FinalList c.args.self.now.strategy (fresh_of c.args.self.now) (sym c.control.ensures ∙ c.in-FinalList.is)) (λ s. c.list_step.ensures.may_read)
+pub returns-in-Ok-clause-records : goal.returns-in-Ok-clause-records
+returns-in-Ok-clause-records g c settled =
+    let was = sym c.control.ensures ∙ c.in-FinalList.is in
+    let is = list_control c.args.self.now c.scan_list.new.self was c.scan_list.ensures.same in
+    list_records c.args.self.now c.scan_list.new.self c.finish.new.self c.in-Ok.scanned (g.R.Reader.shown c.args.reader.now) c.args.steps.now c.scan_list.new.steps was is c.finish.ensures c.in-Ok.ensures.records
 
-pub returns-in-FinalList-clause-records : goal.returns-in-FinalList-clause-records
-returns-in-FinalList-clause-records g c settled = c.list_step.ensures.records
+pub returns-in-Err-clause-steady : goal.returns-in-Err-clause-steady
+returns-in-Err-clause-steady g c =
+    steady_at c.args.self.now c.scan_list.new.self c.scan_list.ensures.same
 
-pub returns-in-FinalList-clause-pages : goal.returns-in-FinalList-clause-pages
-returns-in-FinalList-clause-pages g c settled = c.list_step.ensures.pages
+pub returns-in-Err-clause-fits : goal.returns-in-Err-clause-fits
+returns-in-Err-clause-fits g c =
+    let was = sym c.control.ensures ∙ c.in-FinalList.is in
+    keys_fit c.args.self.now c.scan_list.new.self (g.R.Reader.shown c.args.reader.now) was c.scan_list.ensures.same c.requires.fits
 
-pub returns-in-FinalList-clause-unasked : goal.returns-in-FinalList-clause-unasked
-returns-in-FinalList-clause-unasked g c settled = refl
+pub returns-in-Err-clause-again : goal.returns-in-Err-clause-again
+returns-in-Err-clause-again g c done =
+    let was = sym c.control.ensures ∙ c.in-FinalList.is in
+    not_done c.args.self.now.control was done
+
+pub returns-in-Err-clause-err : goal.returns-in-Err-clause-err
+returns-in-Err-clause-err g c =
+    let was = sym c.control.ensures ∙ c.in-FinalList.is in
+    passed_rest c.args.self.now c.scan_list.new.self (g.R.Reader.shown c.args.reader.now) was c.scan_list.ensures.same c.in-Err.ensures.passed
+
+pub returns-in-Err-clause-does : goal.returns-in-Err-clause-does
+returns-in-Err-clause-does g c way = tt
+
+pub returns-in-Err-clause-quiet : goal.returns-in-Err-clause-quiet
+returns-in-Err-clause-quiet g c = refl
+
+pub returns-in-Err-clause-may_read : goal.returns-in-Err-clause-may_read
+returns-in-Err-clause-may_read g c way =
+    may_read_by NextKey c.args.self.now c.args.steps.now c.scan_list.new.steps (kind_at c.args.self.now.control FinalList c.args.self.now.strategy (fresh_of c.args.self.now) (sym c.control.ensures ∙ c.in-FinalList.is)) c.scan_list.ensures.may_read
+
+pub returns-in-Err-clause-reads : goal.returns-in-Err-clause-reads
+returns-in-Err-clause-reads g c way = tt
+
+pub returns-in-Err-clause-still : goal.returns-in-Err-clause-still
+returns-in-Err-clause-still g c =
+    keys_only c.args.self.now c.scan_list.new.self c.scan_list.ensures.same c.scan_list.ensures.tries.less
+
+pub returns-in-Err-clause-stays : goal.returns-in-Err-clause-stays
+returns-in-Err-clause-stays g c = refl
+
+pub returns-in-Err-clause-course : goal.returns-in-Err-clause-course
+returns-in-Err-clause-course g c =
+    at_course c.args.self.now c.scan_list.new.self c.scan_list.ensures.same
+
+pub returns-in-Err-clause-tries : goal.returns-in-Err-clause-tries
+returns-in-Err-clause-tries g c =
+    let was = sym c.control.ensures ∙ c.in-FinalList.is in
+    let is = list_control c.args.self.now c.scan_list.new.self was c.scan_list.ensures.same in
+    keys_try c.args.self.now c.scan_list.new.self (g.R.Reader.shown c.args.reader.now) c.args.steps.now c.scan_list.new.steps was is c.scan_list.ensures.tries
+
+pub returns-in-Err-clause-falls : goal.returns-in-Err-clause-falls
+returns-in-Err-clause-falls g c awaiting = tt
+
+pub returns-in-Err-clause-settled : goal.returns-in-Err-clause-settled
+returns-in-Err-clause-settled g c settled =
+    at_settled c.args.self.now c.scan_list.new.self c.scan_list.ensures.same settled
+
+pub returns-in-Err-clause-unasked : goal.returns-in-Err-clause-unasked
+returns-in-Err-clause-unasked g c settled = refl
+
+pub returns-in-Err-clause-pages : goal.returns-in-Err-clause-pages
+returns-in-Err-clause-pages g c settled = c.scan_list.ensures.pages
+
+pub returns-in-Err-clause-records : goal.returns-in-Err-clause-records
+returns-in-Err-clause-records g c settled = tt
 
 pub returns-in-FinalTable-clause-steady : goal.returns-in-FinalTable-clause-steady
 returns-in-FinalTable-clause-steady g c = c.table_step.ensures.steady
