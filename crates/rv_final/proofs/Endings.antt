@@ -1,7 +1,8 @@
 -- The final stage, over plain tests, numbers, controls and traces: of races and of unions, and in part of retrievals.
-use Rattle.std.proofs.Common.{◌≡◌, ◌⊎◌, ℕ, ◌-◌, ◌<◌, ◌≤◌, List, [], Bool, refl, ap, sym, ◌∙◌, arith, subst, inl, inr, Result, Ok, Err, IfOk}
+use Rattle.std.proofs.Common.{◌≡◌, ◌⊎◌, ℕ, ◌-◌, ◌<◌, ◌≤◌, List, [], Bool, true, false, not, ◌&&◌, Option, None, refl, ap, sym, ◌∙◌, arith, subst, inl, inr, Result, Ok, Err, IfOk}
 use Rattle.rv_value.specs.declared.record.Record.{Record}
 use Rattle.rv_rows.specs.Rows.{Ascend}
+use Rattle.rv_keys.specs.Keys.{has_key}
 use Rattle.rv_judge.specs.declared.counting.Counts.{Counts}
 use Rattle.rv_judge.specs.declared.events.Control.{Control}
 use Rattle.rv_judge.specs.declared.events.Control.TheVariants.{FinalList, FinalTable, Done}
@@ -13,13 +14,15 @@ use Rattle.rv_judge.specs.Course.{next_control}
 use Rattle.rv_judge.specs.Tracing.{CountsRise, SameCounts, counted}
 use Rattle.rv_restrict.specs.declared.atom.Atom.{Atom}
 use Rattle.rv_reader.specs.Shown.{Shown}
-use Rattle.rv_scan.specs.Places.{Place}
+use Rattle.rv_scan.specs.Places.{Place, unseen}
 use Rattle.rv_scan.specs.declared.skip.Scanned.{Scanned}
 use Rattle.rv_scan.specs.declared.skip.Scanned.TheVariants.{Found, Working, End}
-use Rattle.rv_final.specs.Rest.{StepMarks, Steps, rest_by}
-use Rattle.rv_final.specs.Stage.{LastFits, own_pages, own_rows}
+use Rattle.rv_final.specs.Rest.{StepMarks, Steps, has_row, qualifies_at, rest_by}
+use Rattle.rv_final.specs.Stage.{LastFits, Unbegun, keys_left, list_left, own_pages, own_rows, table_left}
 use Rattle.rv_final.specs.Work.{Tries}
 use Rattle.rv_final.proofs.Marks.{marks_steps}
+use Rattle.rv_final.proofs.Owed.{row_there}
+use Rattle.rv_final.proofs.Rests.{same_rest}
 
 -- THE END
 
@@ -58,6 +61,23 @@ rows_same table snap last shown f = ap (λ (t : ℕ). shown.rows t last.snap) f.
 
 pub pages_same : (table snap : ℕ) (last : Place) (shown : Shown) → LastFits table snap last shown → own_pages last shown ≡ shown.pages table snap
 pages_same table snap last shown f = ap (λ (t : ℕ). shown.pages t last.snap) f.of_table ∙ ap (shown.pages table) f.at_snap
+
+-- Where the final stage begins each row that qualifies is left: of a list that has each of them, and of the table.
+
+and_true : (a : Bool) → a ≡ true → (a && not false) ≡ true
+and_true a h = grind arith
+
+pub list_whole : (only : List (List Atom)) (rows : List Record) (list : Option (List ℕ)) (at : ℕ) (last : Place) → Unbegun at last → ((n : ℕ) → qualifies_at only rows n ≡ true → has_key n (keys_left list 0) ≡ true) → rest_by (λ n. list_left list None at n) only rows ≡ rest_by (λ n. true) only rows
+list_whole only rows list at last u has = same_rest only rows (λ n. true) (λ n. list_left list None at n) each
+  where
+    each : (n : ℕ) → qualifies_at only rows n ≡ true → list_left list None at n ≡ true
+    each n q = and_true (has_key n (keys_left list at)) (ap (λ (i : ℕ). has_key n (keys_left list i)) u.keys ∙ has n q)
+
+pub table_whole : (only : List (List Atom)) (rows : List Record) (at : ℕ) (last : Place) → Unbegun at last → rest_by (λ n. table_left last rows None n) only rows ≡ rest_by (λ n. true) only rows
+table_whole only rows at last u = same_rest only rows (λ n. true) (λ n. table_left last rows None n) each
+  where
+    each : (n : ℕ) → qualifies_at only rows n ≡ true → table_left last rows None n ≡ true
+    each n q = and_true (has_row n (unseen last rows)) (ap (has_row n) (u.pages rows) ∙ row_there only rows n q)
 
 -- THE EFFORT
 
