@@ -26,7 +26,6 @@ use Rattle.rv_judge.specs.Runs.{Allowed, EachOnce, MayCome, Standing, begun as b
 use Rattle.rv_judge.specs.Tracing.{counted, with_events}
 use Rattle.rv_judge.specs.Verdicts.{Ruling}
 use Rattle.rv_jscan.specs.declared.jscan.Given.{Given}
-use Rattle.rv_jscan.specs.declared.jscan.Given.TheVariants.{Accepted, Stale}
 use Rattle.rv_jscan.specs.declared.jscan.ScanPlan.{ScanPlan}
 use Rattle.rv_jscan.specs.declared.jscan.Taken.{Taken}
 use Rattle.rv_jscan.specs.declared.jscan.Taken.TheVariants.{Piece, Nothing}
@@ -42,6 +41,7 @@ use Rattle.rv_jscan.specs.Planned.{indexes_of}
 use Rattle.rv_judge.specs.Drops.{was_dropped}
 use Rattle.rv_race.specs.Runs.{Ended, IsOfUndropped, Placed, Tells, TellsBy, TellsOver, TellsRacing, ended_indexes, events_left, is_keyed, keyed, later, left_by, left_of, list_length, listed_by, outcome, told_ends}
 use Rattle.rv_race.specs.Ways.{advanced, followed, followed_by, has_next, joined, lower, lower_of, turned, turned_to}
+use Rattle.rv_final.proofs.Givings.{given_holds}
 use Rattle.rv_race.proofs.Switches.{is_racing, over_as}
 use Rattle.rv_race.proofs.Traces.{OneTurn, chain_went, drop_last, final_of, final_turn, has_scans, last_off, list_last, listed_more, one_more, once_apart, once_front, once_swap, so_far, stop_last, told_length, told_more, turns_of, undropped}
 use Rattle.rv_race.proofs.Ways.{advanced_as, followed_as, some_at}
@@ -518,13 +518,8 @@ obeyed_tells : (would : ℕ → Facts → Ruling) (state after : ℕ) (piece : P
 obeyed_tells would state after piece old new (Some cut) back o t = subst Tells (sym o.0) (ruled_tells _ piece old back t)
 obeyed_tells would state after piece old new None back o t = subst Tells (sym o.0.ends) (ended_tells piece o.0.keys old back t)
 
-given_tells : (would : ℕ → Facts → Ruling) (state after : ℕ) (piece : Pieced) (g : Given) (old new : Raced) → Answers old piece g new → GivesOn would state after piece g old new → Tells old → Tells new
-given_tells would state after piece Accepted old new a o t = obeyed_tells would state after piece old new (held_next (turn_lane old).held) a.under_way o t
-given_tells would state after piece (Stale asked now) old new a o t = subst Tells (sym o.0) t
-
 pub gives_tell : {E : Type 0} (r : Result Given E) (would : ℕ → Facts → Ruling) (state after : ℕ) (piece : Pieced) (old new : Raced) → IfOk r (λ g. Answers old piece g new) → IfOk r (λ g. GivesOn would state after piece g old new) → OnErr r (new ≡ old) → Tells old → Tells new
-gives_tell (Ok g) would state after piece old new a o e t = given_tells would state after piece g old new a o t
-gives_tell (Err x) would state after piece old new a o e t = subst Tells (sym e) t
+gives_tell r would state after piece old new a o e t = given_holds r (λ g. Answers old piece g new) (λ g. GivesOn would state after piece g old new) Tells old new (λ a o. obeyed_tells would state after piece old new (held_next (turn_lane old).held) a.under_way o t) (λ asked now o. o.0) a o e t
 
 -- THE FINAL STAGE
 

@@ -7,7 +7,7 @@ use Rattle.rv_race.proofs.Efforts.{gives_less, leaf_spends, piece_falls}
 use Rattle.rv_race.proofs.Finals.{accepted_piece, one_piece}
 use Rattle.rv_race.proofs.Stepped.{only_took, background_read, below, gave_steady}
 use Rattle.rv_race.proofs.Gives.{gives_stay}
-use Rattle.rv_race.proofs.Lanes.{right_of}
+use Rattle.rv_final.proofs.Givings.{right_of}
 use Rattle.rv_race.proofs.Takes.{took_parts, took_rest, took_steady}
 use Rattle.rv_race.proofs.race.Race.background_step.Goals as goal
 
