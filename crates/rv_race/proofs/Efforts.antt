@@ -7,6 +7,7 @@ use Rattle.rv_value.proofs.Lists.{filter_length}
 use Rattle.rv_value.specs.declared.record.IndexEntry.{IndexEntry}
 use Rattle.rv_judge.specs.declared.counting.Counts.{Counts}
 use Rattle.rv_judge.specs.declared.events.Control.{Control}
+use Rattle.rv_judge.specs.declared.events.Control.TheVariants.{BackgroundAlone}
 use Rattle.rv_judge.specs.declared.events.Event.TheVariants.{Drop}
 use Rattle.rv_judge.specs.declared.events.Happening.{Happening}
 use Rattle.rv_judge.specs.declared.events.Happening.TheVariants.{ScanEnded, Ruled}
@@ -96,8 +97,11 @@ passed_list plan shown snap l admits piece keys has d next perm =
 
 -- WHERE A SCAN ENDS OR A JUDGE RULES
 
+pub effort_at : (r : Raced) (shown : Shown) (c : Control) → r.control ≡ c → effort r shown ≡ effort_by c (racing_work r shown) (keys_work r) (table_work r shown)
+effort_at r shown c e = ap (λ (x : Control). effort_by x (racing_work r shown) (keys_work r) (table_work r shown)) e
+
 effort_racing : (r : Raced) (shown : Shown) → racing r.control ≡ true → effort r shown ≡ racing_work r shown
-effort_racing r shown back = ap (λ (c : Control). effort_by c (racing_work r shown) (keys_work r) (table_work r shown)) (is_racing r.control back)
+effort_racing r shown back = effort_at r shown BackgroundAlone (is_racing r.control back)
 
 list_whole : (list : Option (List ℕ)) → length (keys_left list 0) ≡ list_len list
 list_whole None = refl

@@ -41,6 +41,7 @@ use Rattle.rv_jscan.specs.Planned.{indexes_of}
 use Rattle.rv_judge.specs.Drops.{was_dropped}
 use Rattle.rv_race.specs.Runs.{Ended, IsOfUndropped, Placed, Tells, TellsBy, TellsOver, TellsRacing, ended_indexes, events_left, is_keyed, keyed, later, left_by, left_of, list_length, listed_by, outcome, told_ends}
 use Rattle.rv_race.specs.Ways.{advanced, followed, followed_by, has_next, joined, lower, lower_of, turned, turned_to}
+use Rattle.rv_final.proofs.Endings.{IsFinal, final_done}
 use Rattle.rv_final.proofs.Givings.{given_holds}
 use Rattle.rv_race.proofs.Switches.{is_racing, over_as}
 use Rattle.rv_race.proofs.Traces.{OneTurn, chain_went, drop_last, final_of, final_turn, has_scans, last_off, list_last, listed_more, one_more, once_apart, once_front, once_swap, so_far, stop_last, told_length, told_more, turns_of, undropped}
@@ -351,9 +352,6 @@ left_final true = omega arith
 left_final false = omega arith
 
 -- the control to which a happening leads is one of the final ones
-abbrev pub IsFinal : Control → Type 0
-IsFinal c = (c ≡ FinalList) ⊎ (c ≡ FinalTable)
-
 final_is : (b : Bool) → IsFinal (final_of b)
 final_is true = inl refl
 final_is false = inr refl
@@ -573,11 +571,10 @@ aside_tells r new plans items named list other next turn control t = record { na
 
 -- the source is at its end
 pub done_tells : (r : Raced) → IsFinal r.control → Tells r → Tells (gone FinalEnded r)
-done_tells r f t = record { named = t.named; tells = subst (λ (c : Control). TellsBy c (gone FinalEnded r)) (sym (leads f)) done }
+done_tells r f t = record { named = t.named; tells = subst (λ (c : Control). TellsBy c (gone FinalEnded r)) (sym leads) done }
   where
-    leads : IsFinal r.control → next_control BackgroundOnly r.control FinalEnded ≡ Done
-    leads (inl e) = ap (λ (c : Control). next_control BackgroundOnly c FinalEnded) e
-    leads (inr e) = ap (λ (c : Control). next_control BackgroundOnly c FinalEnded) e
+    leads : next_control BackgroundOnly r.control FinalEnded ≡ Done
+    leads = final_done BackgroundOnly r.control f
 
     final_at : IsFinal r.control → final r.control ≡ true
     final_at (inl e) = ap final e
@@ -599,7 +596,7 @@ done_tells r f t = record { named = t.named; tells = subst (λ (c : Control). Te
         let went = one_more o.planned r.trace.events.items o.turns s (idle Done s.ahead s.listed) FinalEnded 0 (At Done ∷ []) (record { run = o.run; told = o.told; ends = refl }) turn.1 turn.0 in
         let room = o.room in
         let left = one_left f in
-        let all : (gone FinalEnded r).trace.events.items ≡ r.trace.events.items ++ At Done ∷ [] = with_room r.trace.events.items (At (next_control BackgroundOnly r.control FinalEnded) ∷ []) (omega arith) ∙ ap (λ (c : Control). r.trace.events.items ++ At c ∷ []) (leads f) in
+        let all : (gone FinalEnded r).trace.events.items ≡ r.trace.events.items ++ At Done ∷ [] = with_room r.trace.events.items (At (next_control BackgroundOnly r.control FinalEnded) ∷ []) (omega arith) ∙ ap (λ (c : Control). r.trace.events.items ++ At c ∷ []) leads in
         let size = ap length all in
         let sum = length-append r.trace.events.items (At Done ∷ []) in
         record {
@@ -607,11 +604,11 @@ done_tells r f t = record { named = t.named; tells = subst (λ (c : Control). Te
           turns = o.turns ++ record { happening = FinalEnded; keys = 0 } ∷ [];
           run = went.run;
           told = all ∙ went.told;
-          at = ap (λ (x : Standing). x.control) went.ends ∙ sym (leads f);
+          at = ap (λ (x : Standing). x.control) went.ends ∙ sym leads;
           scanned = o.scanned;
           once = o.once;
           known = o.known;
-          room = subst (λ (c : Control). length (gone FinalEnded r).trace.events.items + events_left c ≤ 32) (sym (leads f)) (omega arith);
+          room = subst (λ (c : Control). length (gone FinalEnded r).trace.events.items + events_left c ≤ 32) (sym leads) (omega arith);
         }
 
 -- A TRACE THAT TELLS A RUN IS ALLOWED
