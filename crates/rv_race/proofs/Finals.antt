@@ -7,7 +7,6 @@ use Rattle.rv_judge.specs.declared.events.Control.TheVariants.{BackgroundAlone, 
 use Rattle.rv_judge.specs.declared.events.Happening.TheVariants.{FinalEnded}
 use Rattle.rv_judge.specs.declared.events.Strategy.TheVariants.{BackgroundOnly}
 use Rattle.rv_judge.specs.declared.judging.Facts.{Facts}
-use Rattle.rv_judge.specs.Tracing.{SameCounts}
 use Rattle.rv_judge.specs.Verdicts.{Ruling}
 use Rattle.rv_reader.specs.Shown.{Shown}
 use Rattle.rv_scan.specs.Places.{PageReads}
@@ -24,10 +23,10 @@ use Rattle.rv_final.proofs.Rests.{no_rest, same_rest}
 use Rattle.rv_race.specs.Effort.{effort, keys_work, table_work}
 use Rattle.rv_race.specs.Given.{Answers, Awaits, TakesLeaf, piece_read}
 use Rattle.rv_race.specs.Opened.{Does, DoesAs, DoesStep, Steady, ended_by}
-use Rattle.rv_race.specs.Raced.{RaceFits, Raced, SameRace, left_by, racing, rest, rows_of}
+use Rattle.rv_race.specs.Raced.{RaceFits, Raced, left_by, racing, rest, rows_of}
 use Rattle.rv_race.specs.Rulings.{GivesOn, gone}
-use Rattle.rv_race.specs.Runs.{Tells}
 use Rattle.rv_race.proofs.Efforts.{effort_at}
+use Rattle.rv_race.proofs.Switches.{aside_fits}
 use Rattle.rv_race.proofs.Tellings.{aside_tells, done_tells}
 
 -- THE REST, BY THE CONTROL
@@ -70,65 +69,25 @@ with_stage r s = record r { at = s.at; last = s.last }
 not_racing : (c d : Control) → c ≡ d → racing d ≡ false → racing c ≡ true → true ≡ false
 not_racing c d e off on = sym on ∙ ap racing e ∙ off
 
-pub listed_on : (r new : Raced) (shown : Shown) → r.control ≡ FinalList → new ≡ record r { at = new.at } → RaceFits r shown → RaceFits new shown
-listed_on r new shown c e f = subst (λ (x : Raced). RaceFits x shown) (sym e) record {
-  ascend = f.ascend;
-  read = f.read;
-  columns = f.columns;
-  plans = f.plans;
-  running = f.running;
-  covers = f.covers;
-  last = f.last;
-  unbegun = λ h. no_way (not_racing r.control FinalList c refl h);
-  listed = f.listed;
-  stands = f.stands;
-}
-
-pub paged_on : (r new : Raced) (shown : Shown) → r.control ≡ FinalTable → new ≡ record r { last = new.last } → LastFits r.table r.snap new.last shown → RaceFits r shown → RaceFits new shown
-paged_on r new shown c e l f = subst (λ (x : Raced). RaceFits x shown) (sym e) record {
-  ascend = f.ascend;
-  read = f.read;
-  columns = f.columns;
-  plans = f.plans;
-  running = f.running;
-  covers = f.covers;
-  last = l;
-  unbegun = λ h. no_way (not_racing r.control FinalTable c refl h);
-  listed = f.listed;
-  stands = f.stands;
-}
-
 pub done_fits : (r : Raced) (shown : Shown) → IsFinal r.control → RaceFits r shown → RaceFits (gone FinalEnded r) shown
-done_fits r shown at f = subst (λ (c : Control). RaceFits (record r { control = c; trace = (gone FinalEnded r).trace }) shown) (sym (final_done BackgroundOnly r.control at)) record {
-  ascend = f.ascend;
-  read = f.read;
-  columns = f.columns;
-  plans = f.plans;
-  running = f.running;
-  covers = f.covers;
-  last = f.last;
-  unbegun = λ h. absurd (cc);
-  listed = λ h. absurd (cc);
-  stands = refl;
-}
+done_fits r shown at f = subst (λ (c : Control). RaceFits (record r { control = c; trace = (gone FinalEnded r).trace }) shown) (sym (final_done BackgroundOnly r.control at)) (aside_fits r Done r.at r.last (gone FinalEnded r).trace shown f.last (λ h. no_way (sym h)) (λ h. absurd (cc)) refl f)
 
 -- WHAT EVERY STEP OF IT KEEPS
 
-pub list_steady : (r new : Raced) (shown : Shown) → r.control ≡ FinalList → new ≡ record r { at = new.at } → RaceFits r shown → Steady r new shown
-list_steady r new shown c e f = record {
-  same = subst (SameRace r) (sym e) record { table = refl; snap = refl; cursor = refl; opening = refl; only = refl; plans = refl };
-  counts = subst (λ (x : Raced). SameCounts r.trace x.trace) (sym e) record { pages = refl; leaves = refl; fetches = refl };
-  fits = listed_on r new shown c e f;
-  tells = λ t. subst Tells (sym e) (aside_tells r (record r { at = new.at }) refl refl refl refl refl refl refl refl t);
+-- the final stage's parts are none of what every step keeps
+pub stage_steady : (r : Raced) (s : Staged) (shown : Shown) → RaceFits (with_stage r s) shown → Steady r (with_stage r s) shown
+stage_steady r s shown f = record {
+  same = record { table = refl; snap = refl; cursor = refl; opening = refl; only = refl; plans = refl };
+  counts = record { pages = refl; leaves = refl; fetches = refl };
+  fits = f;
+  tells = λ t. aside_tells r (with_stage r s) refl refl refl refl refl refl refl refl t;
 }
 
+pub list_steady : (r new : Raced) (shown : Shown) → r.control ≡ FinalList → new ≡ record r { at = new.at } → RaceFits r shown → Steady r new shown
+list_steady r new shown c e f = subst (λ (x : Raced). Steady r x shown) (sym e) (stage_steady r (record { at = new.at; last = r.last }) shown (aside_fits r r.control new.at r.last r.trace shown f.last (λ h. no_way (not_racing r.control FinalList c refl h)) f.listed f.stands f))
+
 pub table_steady : (r new : Raced) (shown : Shown) → r.control ≡ FinalTable → new ≡ record r { last = new.last } → LastFits r.table r.snap new.last shown → RaceFits r shown → Steady r new shown
-table_steady r new shown c e l f = record {
-  same = subst (SameRace r) (sym e) record { table = refl; snap = refl; cursor = refl; opening = refl; only = refl; plans = refl };
-  counts = subst (λ (x : Raced). SameCounts r.trace x.trace) (sym e) record { pages = refl; leaves = refl; fetches = refl };
-  fits = paged_on r new shown c e l f;
-  tells = λ t. subst Tells (sym e) (aside_tells r (record r { last = new.last }) refl refl refl refl refl refl refl refl t);
-}
+table_steady r new shown c e l f = subst (λ (x : Raced). Steady r x shown) (sym e) (stage_steady r (record { at = r.at; last = new.last }) shown (aside_fits r r.control r.at new.last r.trace shown l (λ h. no_way (not_racing r.control FinalTable c refl h)) f.listed f.stands f))
 
 pub ended_steady : (r mid new : Raced) (shown : Shown) → IsFinal mid.control → new ≡ gone FinalEnded mid → Steady r mid shown → Steady r new shown
 ended_steady r mid new shown at e s = subst (λ (x : Raced). Steady r x shown) (sym e) record {

@@ -16,7 +16,7 @@ use Rattle.rv_race.specs.Opened.{Steady}
 use Rattle.rv_race.specs.Raced.{RaceFits, Raced, SameRace, racing, rest}
 use Rattle.rv_race.specs.Runs.{Tells}
 use Rattle.rv_final.proofs.Takings.{held_if, none_unread, once_read}
-use Rattle.rv_race.proofs.Switches.{moved_fits}
+use Rattle.rv_race.proofs.Switches.{aside_fits, moved_fits}
 use Rattle.rv_race.proofs.Tellings.{aside_tells}
 
 -- The leaf that is still to be read is counted, and then the scan of the turn takes.
@@ -117,18 +117,7 @@ took_steady old new shown t e f = record {
 -- What was read is counted.
 
 pub counted_fits : (mid new : Raced) (t : Trace) (shown : Shown) → new ≡ record mid { trace = t } → RaceFits mid shown → RaceFits new shown
-counted_fits mid new t shown e f = subst (λ (x : Raced). RaceFits x shown) (sym e) record {
-  ascend = f.ascend;
-  read = f.read;
-  columns = f.columns;
-  plans = f.plans;
-  running = f.running;
-  covers = f.covers;
-  last = f.last;
-  unbegun = f.unbegun;
-  listed = f.listed;
-  stands = f.stands;
-}
+counted_fits mid new t shown e f = subst (λ (x : Raced). RaceFits x shown) (sym e) (aside_fits mid mid.control mid.at mid.last t shown f.last f.unbegun f.listed f.stands f)
 
 pub counted_tells : (mid new : Raced) (c d : Counts) → new ≡ record mid { trace = counted mid.trace c d } → Tells mid → Tells new
 counted_tells mid new c d e t = subst Tells (sym e) (aside_tells mid (record mid { trace = counted mid.trace c d }) refl refl refl refl refl refl refl refl t)
