@@ -30,6 +30,7 @@ use Rattle.rv_union.specs.Given.{Answers, Awaits, TakesLeaf, TakesPiece, count_r
 use Rattle.rv_union.specs.Rulings.{GivesOn, Obeys, accepted, dropped, facts_of, going_on, joined, kept_of, lacks, listed, next_member, over, ruled}
 use Rattle.rv_union.specs.Unioned.{UnionFits, Unioned, present, scanning}
 use Rattle.rv_final.proofs.LaneWork.{passed_work}
+use Rattle.rv_final.proofs.Givings.{spends_no_more, put_if}
 use Rattle.rv_final.proofs.Takings.{built_few, leaf_tries, taken_spends}
 use Rattle.rv_union.proofs.Switches.{dropped_leads, drops, is_scanning, listed_leads, over_as, told_parts}
 use Rattle.rv_union.proofs.Takes.{took_parts}
@@ -110,25 +111,17 @@ obeyed_work would state after piece old new shown None a e o f =
     let sum = length-append old.keys (old.lane.building ++ kept_of old piece) in
     omega arith
 
-given_work : (would : ℕ → Facts → Ruling) (state after : ℕ) (piece : Pieced) (g : Given) (old new : Unioned) (shown : Shown) → Answers old piece g new → GivesOn would state after piece g old new → UnionFits old shown → GiveSpends g (effort old shown) (effort new shown)
-given_work would state after piece Accepted old new shown a o f = obeyed_work would state after piece old new shown (held_next old.lane.held) a refl o f
-given_work would state after piece (Stale asked now) old new shown a o f = ap (λ (x : Unioned). effort x shown) o.0
-
 pub gives_work : {E : Type 0} (r : Result Given E) (would : ℕ → Facts → Ruling) (state after : ℕ) (piece : Pieced) (old new : Unioned) (shown : Shown) → IfOk r (λ g. Answers old piece g new) → IfOk r (λ g. GivesOn would state after piece g old new) → UnionFits old shown → IfOk r (λ g. GiveSpends g (effort old shown) (effort new shown))
-gives_work (Ok g) would state after piece old new shown a o f = given_work would state after piece g old new shown a o f
+gives_work (Ok Accepted) would state after piece old new shown a o f = obeyed_work would state after piece old new shown (held_next old.lane.held) a refl o f
+gives_work (Ok (Stale asked now)) would state after piece old new shown a o f = ap (λ (x : Unioned). effort x shown) o.0
 gives_work (Err x) would state after piece old new shown a o f = tt
 
 pub gives_less : {E : Type 0} (r : Result Given E) (would : ℕ → Facts → Ruling) (state after : ℕ) (piece : Pieced) (old new : Unioned) (shown : Shown) → IfOk r (λ g. Answers old piece g new) → IfOk r (λ g. GivesOn would state after piece g old new) → OnErr r (new ≡ old) → UnionFits old shown → effort new shown ≤ effort old shown
-gives_less (Ok g) would state after piece old new shown a o e f = by g (given_work would state after piece g old new shown a o f)
-  where
-    by : (g : Given) → GiveSpends g (effort old shown) (effort new shown) → effort new shown ≤ effort old shown
-    by Accepted s = omega arith
-    by (Stale asked now) s = omega arith
-gives_less (Err x) would state after piece old new shown a o e f = let same = ap (λ (y : Unioned). effort y shown) e in omega arith
+gives_less r would state after piece old new shown a o e f = spends_no_more r (effort old shown) (effort new shown) (gives_work r would state after piece old new shown a o f) (put_if r (λ (x : Unioned). effort x shown) new old (effort old shown) refl e)
 
 -- an accepted piece, where the awaited one is given
 pub piece_falls : (would : ℕ → Facts → Ruling) (state after : ℕ) (piece : Pieced) (old new : Unioned) (shown : Shown) → Awaits old piece → GivesOn would state after piece Accepted old new → UnionFits old shown → effort new shown < effort old shown
-piece_falls would state after piece old new shown a o f = given_work would state after piece Accepted old new shown a o f
+piece_falls would state after piece old new shown a o f = obeyed_work would state after piece old new shown (held_next old.lane.held) a refl o f
 
 -- WHAT A TAKE SPENDS
 

@@ -15,11 +15,12 @@ use Rattle.rv_scan.specs.Places.{Place, PageReads}
 use Rattle.rv_scan.specs.declared.skip.Scanned.{Scanned}
 use Rattle.rv_scan.specs.declared.skip.Scanned.TheVariants.{Working, End}
 use Rattle.rv_jscan.specs.declared.jscan.Given.{Given}
-use Rattle.rv_jscan.specs.declared.jscan.Given.TheVariants.{Accepted, Stale}
+use Rattle.rv_jscan.specs.declared.jscan.Given.TheVariants.{Accepted}
 use Rattle.rv_jscan.specs.Pieces.{Pieced}
 use Rattle.rv_final.specs.Rest.{StepMarks, Steps, rest_by}
 use Rattle.rv_final.specs.Stage.{FetchesKey, LastFits, PassesKeys, Staged, first_key, list_left, own_pages, own_rows, table_left}
 use Rattle.rv_final.specs.Work.{Falls, Tries}
+use Rattle.rv_final.proofs.Givings.{was_accepted}
 use Rattle.rv_final.proofs.Marks.{marks_steps}
 use Rattle.rv_final.proofs.Rests.{no_rest, same_rest}
 use Rattle.rv_final.specs.LaneWork.{effort_by}
@@ -238,15 +239,12 @@ table_over r mid new m n =
 pub ends_done : (mid new : Unioned) → IsFinal mid.control → new ≡ gone FinalEnded mid → new.control ≡ Done
 ends_done mid new at e = ap (λ (x : Unioned). x.control) e ∙ final_leads mid at
 
--- one piece
-pub one_piece : (would : ℕ → Facts → Ruling) (state after : ℕ) (old mid new : Unioned) (shown : Shown) (piece sieved : Pieced) (g : Given) (c d : Counts) → old.control ≡ BackgroundAlone → TakesLeaf old mid → Awaits mid piece → sieved ≡ piece → Answers mid sieved g new → GivesOn would state after sieved g mid new → d ≡ piece_read old c → Does would state after shown c d Working old new
-one_piece would state after old mid new shown piece sieved g c d e leaves a s answers o reads = subst (λ (x : Control). DoesAs x would state after shown c d Working old new) (sym e) (refl, record { taken = mid; piece = sieved; leaves = leaves; awaits = subst (Awaits mid) (sym s) a; obeys = accepted g answers o }, reads)
-  where
-    accepted : (g : Given) → Answers mid sieved g new → GivesOn would state after sieved g mid new → GivesOn would state after sieved Accepted mid new
-    accepted Accepted answers o = o
-    accepted (Stale asked now) (never, _, _, _) o = absurd (never (subst (Awaits mid) (sym s) a))
-
 -- the awaited piece was accepted
 pub accepted_piece : (would : ℕ → Facts → Ruling) (state after : ℕ) (mid new : Unioned) (piece sieved : Pieced) (g : Given) → Awaits mid piece → sieved ≡ piece → Answers mid sieved g new → GivesOn would state after sieved g mid new → Awaits mid sieved × GivesOn would state after sieved Accepted mid new
-accepted_piece would state after mid new piece sieved Accepted a s answers o = (answers, o)
-accepted_piece would state after mid new piece sieved (Stale asked now) a s (never, _, _, _) o = absurd (never (subst (Awaits mid) (sym s) a))
+accepted_piece would state after mid new piece sieved g a s answers o = was_accepted (λ g. Answers mid sieved g new) (λ g. GivesOn would state after sieved g mid new) g (λ asked now stale. stale.0 (subst (Awaits mid) (sym s) a)) answers o
+
+-- one piece
+pub one_piece : (would : ℕ → Facts → Ruling) (state after : ℕ) (old mid new : Unioned) (shown : Shown) (piece sieved : Pieced) (g : Given) (c d : Counts) → old.control ≡ BackgroundAlone → TakesLeaf old mid → Awaits mid piece → sieved ≡ piece → Answers mid sieved g new → GivesOn would state after sieved g mid new → d ≡ piece_read old c → Does would state after shown c d Working old new
+one_piece would state after old mid new shown piece sieved g c d e leaves a s answers o reads =
+    let was = accepted_piece would state after mid new piece sieved g a s answers o in
+    subst (λ (x : Control). DoesAs x would state after shown c d Working old new) (sym e) (refl, record { taken = mid; piece = sieved; leaves = leaves; awaits = was.0; obeys = was.1 }, reads)

@@ -25,7 +25,6 @@ use Rattle.rv_judge.specs.Runs.UnionTail.{Scanning, Fetching, Fetched, Reading, 
 use Rattle.rv_judge.specs.Tracing.{counted, with_events}
 use Rattle.rv_judge.specs.Verdicts.{Ruling}
 use Rattle.rv_jscan.specs.declared.jscan.Given.{Given}
-use Rattle.rv_jscan.specs.declared.jscan.Given.TheVariants.{Accepted, Stale}
 use Rattle.rv_jscan.specs.declared.jscan.ScanPlan.{ScanPlan}
 use Rattle.rv_jscan.specs.declared.jscan.Taken.{Taken}
 use Rattle.rv_jscan.specs.declared.jscan.Taken.TheVariants.{Piece, Nothing}
@@ -37,6 +36,7 @@ use Rattle.rv_union.specs.Rulings.{GivesOn, Obeys, accepted, dropped, going_on, 
 use Rattle.rv_jscan.specs.Planned.{indexes_of}
 use Rattle.rv_union.specs.Runs.{IsOfUndropped, OfFewIndexes, Tells, is_drop, tail_control}
 use Rattle.rv_union.specs.Unioned.{Unioned, present, scanning}
+use Rattle.rv_final.proofs.Givings.{given_holds}
 use Rattle.rv_union.proofs.Few.{all_among, few, once_push, pushed_there, some_index}
 use Rattle.rv_union.proofs.Switches.{dropped_leads, drops, listed_leads, over_as}
 
@@ -225,13 +225,8 @@ obeyed_tells would state after piece old new None back o t =
     let mid = joined o.0.keys (accepted piece true old) in
     subst Tells (sym o.0.ends) (over_tells mid back (aside_tells old mid refl refl refl refl refl t))
 
-given_tells : (would : ℕ → Facts → Ruling) (state after : ℕ) (piece : Pieced) (g : Given) (old new : Unioned) → Answers old piece g new → GivesOn would state after piece g old new → Tells old → Tells new
-given_tells would state after piece Accepted old new a o t = obeyed_tells would state after piece old new (held_next old.lane.held) a.under_way o t
-given_tells would state after piece (Stale asked now) old new a o t = subst Tells (sym o.0) t
-
 pub gives_tell : {E : Type 0} (r : Result Given E) (would : ℕ → Facts → Ruling) (state after : ℕ) (piece : Pieced) (old new : Unioned) → IfOk r (λ g. Answers old piece g new) → IfOk r (λ g. GivesOn would state after piece g old new) → OnErr r (new ≡ old) → Tells old → Tells new
-gives_tell (Ok g) would state after piece old new a o e t = given_tells would state after piece g old new a o t
-gives_tell (Err x) would state after piece old new a o e t = subst Tells (sym e) t
+gives_tell r would state after piece old new a o e t = given_holds r (λ g. Answers old piece g new) (λ g. GivesOn would state after piece g old new) Tells old new (λ a o. obeyed_tells would state after piece old new (held_next old.lane.held) a.under_way o t) (λ asked now o. o.0) a o e t
 
 -- THE FINAL STAGE
 

@@ -7,7 +7,7 @@ use Rattle.rv_union.proofs.Efforts.{gives_less, leaf_spends, piece_falls}
 use Rattle.rv_union.proofs.Finals.{accepted_piece, one_piece}
 use Rattle.rv_union.proofs.Stepped.{only_took, background_read, below, gave_steady}
 use Rattle.rv_union.proofs.Gives.{gives_stay}
-use Rattle.rv_union.proofs.Lanes.{right_of}
+use Rattle.rv_final.proofs.Givings.{right_of}
 use Rattle.rv_union.proofs.Takes.{took_parts, took_rest, took_steady}
 use Rattle.rv_jscan.specs.declared.jscan.Taken.TheVariants.{Piece}
 use Rattle.rv_union.specs.Leaves.{leaves_left}
