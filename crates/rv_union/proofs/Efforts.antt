@@ -43,7 +43,7 @@ planned_one plans shown snap k l = ap (λ (ps : List ScanPlan). planned_work ps 
 
 -- WHERE A MEMBER ENDS OR A JUDGE RULES
 
-effort_at : (u : Unioned) (shown : Shown) (c : Control) → u.control ≡ c → effort u shown ≡ effort_by c (scanning_work u shown) (keys_work u) (table_work u shown)
+pub effort_at : (u : Unioned) (shown : Shown) (c : Control) → u.control ≡ c → effort u shown ≡ effort_by c (scanning_work u shown) (keys_work u) (table_work u shown)
 effort_at u shown c e = ap (λ (x : Control). effort_by x (scanning_work u shown) (keys_work u) (table_work u shown)) e
 
 effort_scanning : (u : Unioned) (shown : Shown) → scanning u.control ≡ true → effort u shown ≡ scanning_work u shown

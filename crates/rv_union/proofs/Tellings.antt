@@ -1,5 +1,5 @@
 -- A union's trace goes on telling of it, with each piece, each end of a member and each verdict.
-use Rattle.std.proofs.Common.{◌≡◌, ◌⊎◌, ◌∙◌, ℕ, ◌+◌, ◌<◌, ◌≤◌, List, [], ◌∷◌, ◌++◌, Bool, true, false, ◌||◌, Option, Some, None, length, map, nat_eq, refl, ap, sym, subst, arith, append_assoc, append-nil, length-append, suc, inl, inr, Result, Ok, Err, IfOk, OnErr}
+use Rattle.std.proofs.Common.{◌≡◌, ◌∙◌, ℕ, ◌+◌, ◌<◌, ◌≤◌, List, [], ◌∷◌, ◌++◌, Bool, true, false, ◌||◌, Option, Some, None, length, map, nat_eq, refl, ap, sym, subst, arith, append_assoc, append-nil, length-append, suc, inl, inr, Result, Ok, Err, IfOk, OnErr}
 use Rattle.std.specs.Prelude.{if◌then◌else◌}
 use Rattle.std.specs.List.{list_all, list_any}
 use Rattle.std.proofs.lemmas.List.{length-map, map-append}
@@ -36,6 +36,7 @@ use Rattle.rv_union.specs.Rulings.{GivesOn, Obeys, accepted, dropped, going_on, 
 use Rattle.rv_jscan.specs.Planned.{indexes_of}
 use Rattle.rv_union.specs.Runs.{IsOfUndropped, OfFewIndexes, Tells, is_drop, tail_control}
 use Rattle.rv_union.specs.Unioned.{Unioned, present, scanning}
+use Rattle.rv_final.proofs.Endings.{IsFinal, final_done}
 use Rattle.rv_final.proofs.Givings.{given_holds}
 use Rattle.rv_union.proofs.Few.{all_among, few, once_push, pushed_there, some_index}
 use Rattle.rv_union.proofs.Switches.{dropped_leads, drops, listed_leads, over_as}
@@ -230,9 +231,6 @@ gives_tell r would state after piece old new a o e t = given_holds r (λ g. Answ
 
 -- THE FINAL STAGE
 
-abbrev pub IsFinal : Control → Type 0
-IsFinal c = (c ≡ FinalList) ⊎ (c ≡ FinalTable)
-
 -- the source is at its end
 abbrev over_tail : UnionTail → UnionTail
 over_tail Scanning = Scanning
@@ -257,14 +255,10 @@ final_not (Fetched i keys) c e (inr f) begun = absurd (let bad : Done ≡ FinalT
 final_not (Read i) c e (inl f) begun = absurd (let bad : Done ≡ FinalList = e ∙ f in cc)
 final_not (Read i) c e (inr f) begun = absurd (let bad : Done ≡ FinalTable = e ∙ f in cc)
 
-pub final_leads : (u : Unioned) → IsFinal u.control → next_control Union u.control FinalEnded ≡ Done
-final_leads u (inl e) = ap (λ (c : Control). next_control Union c FinalEnded) e
-final_leads u (inr e) = ap (λ (c : Control). next_control Union c FinalEnded) e
-
 pub done_tells : (u : Unioned) → IsFinal u.control → Tells u → Tells (gone FinalEnded u)
 done_tells u f t =
     let ends = final_not t.tail u.control t.at f t.begun in
-    let leads = final_leads u f in
+    let leads = final_done Union u.control f in
     let small = room u t in
     record {
       named = t.named;
