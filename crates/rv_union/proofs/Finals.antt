@@ -7,7 +7,6 @@ use Rattle.rv_judge.specs.declared.events.Control.TheVariants.{BackgroundAlone, 
 use Rattle.rv_judge.specs.declared.events.Happening.TheVariants.{FinalEnded}
 use Rattle.rv_judge.specs.declared.events.Strategy.TheVariants.{Union}
 use Rattle.rv_judge.specs.declared.judging.Facts.{Facts}
-use Rattle.rv_judge.specs.Tracing.{SameCounts}
 use Rattle.rv_judge.specs.Verdicts.{Ruling}
 use Rattle.rv_reader.specs.Shown.{Shown}
 use Rattle.rv_scan.specs.Places.{PageReads}
@@ -24,10 +23,10 @@ use Rattle.rv_final.proofs.Rests.{no_rest, same_rest}
 use Rattle.rv_union.specs.Effort.{effort, keys_work, table_work}
 use Rattle.rv_union.specs.Given.{Answers, Awaits, TakesLeaf, piece_read}
 use Rattle.rv_union.specs.Opened.{Does, DoesAs, DoesStep, Steady, ended_by}
-use Rattle.rv_union.specs.Unioned.{UnionFits, Unioned, SameUnion, left_by, scanning, rest, rows_of}
+use Rattle.rv_union.specs.Unioned.{UnionFits, Unioned, left_by, scanning, rest, rows_of}
 use Rattle.rv_union.specs.Rulings.{GivesOn, gone}
-use Rattle.rv_union.specs.Runs.{Tells}
 use Rattle.rv_union.proofs.Efforts.{effort_at}
+use Rattle.rv_union.proofs.Switches.{aside_fits}
 use Rattle.rv_union.proofs.Tellings.{aside_tells, done_tells}
 
 -- THE REST, BY THE CONTROL
@@ -70,74 +69,25 @@ with_stage r s = record r { at = s.at; last = s.last }
 not_scanning : (c d : Control) → c ≡ d → scanning d ≡ false → scanning c ≡ true → true ≡ false
 not_scanning c d e off on = sym on ∙ ap scanning e ∙ off
 
-pub listed_on : (r new : Unioned) (shown : Shown) → r.control ≡ FinalList → new ≡ record r { at = new.at } → UnionFits r shown → UnionFits new shown
-listed_on r new shown c e f = subst (λ (x : Unioned). UnionFits x shown) (sym e) record {
-  ascend = f.ascend;
-  read = f.read;
-  columns = f.columns;
-  members = f.members;
-  there = f.there;
-  lane = f.lane;
-  finds = f.finds;
-  covers = f.covers;
-  listed = f.listed;
-  building = f.building;
-  last = f.last;
-  unbegun = λ h. no_way (not_scanning r.control FinalList c refl h);
-  stands = f.stands;
-}
-
-pub paged_on : (r new : Unioned) (shown : Shown) → r.control ≡ FinalTable → new ≡ record r { last = new.last } → LastFits r.table r.snap new.last shown → UnionFits r shown → UnionFits new shown
-paged_on r new shown c e l f = subst (λ (x : Unioned). UnionFits x shown) (sym e) record {
-  ascend = f.ascend;
-  read = f.read;
-  columns = f.columns;
-  members = f.members;
-  there = f.there;
-  lane = f.lane;
-  finds = f.finds;
-  covers = f.covers;
-  listed = f.listed;
-  building = f.building;
-  last = l;
-  unbegun = λ h. no_way (not_scanning r.control FinalTable c refl h);
-  stands = f.stands;
-}
-
 pub done_fits : (r : Unioned) (shown : Shown) → IsFinal r.control → UnionFits r shown → UnionFits (gone FinalEnded r) shown
-done_fits r shown at f = subst (λ (c : Control). UnionFits (record r { control = c; trace = (gone FinalEnded r).trace }) shown) (sym (final_done Union r.control at)) record {
-  ascend = f.ascend;
-  read = f.read;
-  columns = f.columns;
-  members = f.members;
-  there = f.there;
-  lane = f.lane;
-  finds = λ h. absurd (cc);
-  covers = λ h. absurd (cc);
-  listed = f.listed;
-  building = f.building;
-  last = f.last;
-  unbegun = λ h. absurd (cc);
-  stands = refl;
-}
+done_fits r shown at f = subst (λ (c : Control). UnionFits (record r { control = c; trace = (gone FinalEnded r).trace }) shown) (sym (final_done Union r.control at)) (aside_fits r Done r.at r.last (gone FinalEnded r).trace shown f.last (λ h. no_way (sym h)) (λ h. no_way (sym h)) (λ h. absurd (cc)) refl f)
 
 -- WHAT EVERY STEP OF IT KEEPS
 
-pub list_steady : (r new : Unioned) (shown : Shown) → r.control ≡ FinalList → new ≡ record r { at = new.at } → UnionFits r shown → Steady r new shown
-list_steady r new shown c e f = record {
-  same = subst (SameUnion r) (sym e) record { table = refl; snap = refl; cursor = refl; opening = refl; only = refl; plans = refl };
-  counts = subst (λ (x : Unioned). SameCounts r.trace x.trace) (sym e) record { pages = refl; leaves = refl; fetches = refl };
-  fits = listed_on r new shown c e f;
-  tells = λ t. subst Tells (sym e) (aside_tells r (record r { at = new.at }) refl refl refl refl refl t);
+-- the final stage's parts are none of what every step keeps
+pub stage_steady : (r : Unioned) (s : Staged) (shown : Shown) → UnionFits (with_stage r s) shown → Steady r (with_stage r s) shown
+stage_steady r s shown f = record {
+  same = record { table = refl; snap = refl; cursor = refl; opening = refl; only = refl; plans = refl };
+  counts = record { pages = refl; leaves = refl; fetches = refl };
+  fits = f;
+  tells = λ t. aside_tells r (with_stage r s) refl refl refl refl refl t;
 }
 
+pub list_steady : (r new : Unioned) (shown : Shown) → r.control ≡ FinalList → new ≡ record r { at = new.at } → UnionFits r shown → Steady r new shown
+list_steady r new shown c e f = subst (λ (x : Unioned). Steady r x shown) (sym e) (stage_steady r (record { at = new.at; last = r.last }) shown (aside_fits r r.control new.at r.last r.trace shown f.last (λ h. no_way (not_scanning r.control FinalList c refl h)) f.finds f.covers f.stands f))
+
 pub table_steady : (r new : Unioned) (shown : Shown) → r.control ≡ FinalTable → new ≡ record r { last = new.last } → LastFits r.table r.snap new.last shown → UnionFits r shown → Steady r new shown
-table_steady r new shown c e l f = record {
-  same = subst (SameUnion r) (sym e) record { table = refl; snap = refl; cursor = refl; opening = refl; only = refl; plans = refl };
-  counts = subst (λ (x : Unioned). SameCounts r.trace x.trace) (sym e) record { pages = refl; leaves = refl; fetches = refl };
-  fits = paged_on r new shown c e l f;
-  tells = λ t. subst Tells (sym e) (aside_tells r (record r { last = new.last }) refl refl refl refl refl t);
-}
+table_steady r new shown c e l f = subst (λ (x : Unioned). Steady r x shown) (sym e) (stage_steady r (record { at = r.at; last = new.last }) shown (aside_fits r r.control r.at new.last r.trace shown l (λ h. no_way (not_scanning r.control FinalTable c refl h)) f.finds f.covers f.stands f))
 
 pub ended_steady : (r mid new : Unioned) (shown : Shown) → IsFinal mid.control → new ≡ gone FinalEnded mid → Steady r mid shown → Steady r new shown
 ended_steady r mid new shown at e s = subst (λ (x : Unioned). Steady r x shown) (sym e) record {

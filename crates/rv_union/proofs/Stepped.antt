@@ -21,7 +21,7 @@ use Rattle.rv_union.specs.Opened.{Does, DoesAs, DoesStep, EndsIn, MayRead, OnlyT
 use Rattle.rv_union.specs.Unioned.{UnionFits, Unioned, rest, scanning}
 use Rattle.rv_union.specs.Rulings.{GivesOn}
 use Rattle.rv_final.proofs.Endings.{counts_raised, ends_by}
-use Rattle.rv_union.proofs.Finals.{done_rest}
+use Rattle.rv_union.proofs.Finals.{done_rest, stage_of, stage_steady}
 use Rattle.rv_union.proofs.Gives.{gives_keep, gives_kin}
 use Rattle.rv_union.proofs.Takes.{none_counted, none_leaves}
 use Rattle.rv_union.proofs.Tellings.{gives_tell}
@@ -52,12 +52,7 @@ pub done_rest_twice : (r : Unioned) (shown : Shown) → r.control ≡ Done → (
 done_rest_twice r shown e = (done_rest r shown e, done_rest r shown e)
 
 pub stays_steady : (r : Unioned) (shown : Shown) → UnionFits r shown → Steady r r shown
-stays_steady r shown f = record {
-  same = record { table = refl; snap = refl; cursor = refl; opening = refl; only = refl; plans = refl };
-  counts = record { pages = refl; leaves = refl; fetches = refl };
-  fits = f;
-  tells = λ t. t;
-}
+stays_steady r shown f = stage_steady r (stage_of r) shown f
 
 -- What was read is counted.
 

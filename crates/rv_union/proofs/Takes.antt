@@ -17,7 +17,7 @@ use Rattle.rv_union.specs.Opened.{Steady}
 use Rattle.rv_union.specs.Unioned.{UnionFits, Unioned, SameUnion, present, scanning, rest}
 use Rattle.rv_union.specs.Runs.{Tells}
 use Rattle.rv_final.proofs.Takings.{held_if, none_unread, once_read}
-use Rattle.rv_union.proofs.Switches.{moved_fits}
+use Rattle.rv_union.proofs.Switches.{aside_fits, moved_fits}
 use Rattle.rv_union.proofs.Tellings.{aside_tells}
 
 -- The leaf that is still to be read is counted, and then the present member takes.
@@ -120,21 +120,7 @@ took_steady old new shown t e f = record {
 -- What was read is counted.
 
 pub counted_fits : (mid new : Unioned) (t : Trace) (shown : Shown) → new ≡ record mid { trace = t } → UnionFits mid shown → UnionFits new shown
-counted_fits mid new t shown e f = subst (λ (x : Unioned). UnionFits x shown) (sym e) record {
-  ascend = f.ascend;
-  read = f.read;
-  columns = f.columns;
-  members = f.members;
-  there = f.there;
-  lane = f.lane;
-  finds = f.finds;
-  covers = f.covers;
-  listed = f.listed;
-  building = f.building;
-  last = f.last;
-  unbegun = f.unbegun;
-  stands = f.stands;
-}
+counted_fits mid new t shown e f = subst (λ (x : Unioned). UnionFits x shown) (sym e) (aside_fits mid mid.control mid.at mid.last t shown f.last f.unbegun f.finds f.covers f.stands f)
 
 pub counted_tells : (mid new : Unioned) (c d : Counts) → new ≡ record mid { trace = counted mid.trace c d } → Tells mid → Tells new
 counted_tells mid new c d e t = subst Tells (sym e) (aside_tells mid (record mid { trace = counted mid.trace c d }) refl refl refl refl refl t)
