@@ -1,5 +1,5 @@
 -- What the calls of a race leave, in the words of accesses.
-use Rattle.std.proofs.Common.{is_some, Result, Ok, Err, IfOk, OnErr, ◌≡◌, ℕ, ◌≤◌, Bool, true, false, ◌||◌, nat_eq, Box, ◌∷◌, List, [], Option, Some, None, refl, ap, sym, ◌∙◌, subst}
+use Rattle.std.proofs.Common.{is_some, Result, Ok, Err, IfOk, OnErr, ◌≡◌, ℕ, Bool, true, false, ◌||◌, nat_eq, Box, ◌∷◌, List, [], Option, Some, None, refl, ap, sym, ◌∙◌, subst}
 use Rattle.std.specs.List.{list_all}
 use Rattle.std.specs.Cmp.{first_so, second_so}
 use Rattle.std.specs.declared.alloc.Global.{Global}
@@ -32,16 +32,15 @@ use Rattle.rv_choice.specs.declared.query.Query.{Query}
 use Rattle.rv_final.proofs.Marks.{unordered}
 use Rattle.rv_retrieval.specs.declared.steps.Fg.{Fg}
 use Rattle.rv_retrieval.specs.declared.steps.Fg.TheVariants.{Row, Working as FgWorking, End as FgEnd}
-use Rattle.rv_retrieval.specs.Effort.{FgSpends}
 use Rattle.rv_retrieval.specs.Opens.{fg_of}
 use Rattle.rv_retrieval.specs.Runs.{indexes_asked}
-use Rattle.rv_final.specs.LaneWork.{Spends}
-use Rattle.rv_race.specs.Given.{Awaits, awaited, piece_read, turn_lane, turn_scan}
+use Rattle.rv_race.specs.Given.{Awaits, awaited, next_id, piece_read, turn_lane, turn_scan}
 use Rattle.rv_race.specs.Opened.{DoesAs, DoesStep, EndsIn, OnlyTakes, ended_by}
 use Rattle.rv_race.specs.Raced.{RaceFits, Raced, SameRace, racing, rest}
 use Rattle.rv_race.specs.Rulings.{GivesOn, HasNextTurn, Obeys, accepted, ended, index_at, listed, more, over, ruled, told_over}
 use Rattle.rv_jscan.specs.Planned.{indexes_of}
 use Rattle.rv_race.specs.Runs.{Tells}
+use Rattle.rv_final.proofs.Takings.{unawaited_read}
 use Rattle.rv_race.proofs.Switches.{over_as}
 use Rattle.rv_access.specs.declared.access.Access.TheVariants.{Racing}
 use Rattle.rv_access.specs.declared.racing.RacedQuery.{RacedQuery}
@@ -134,14 +133,6 @@ gives_as old new shown End o does = does old.query.need
 pub gives_step : (old : RacedQuery) (new : Raced) (shown : Shown) (s : Scanned) (fg : Fg) → old.query.order ≡ [] → DoesStep old.race new shown s → fg ≡ fg_of s → RacedGivesStep old (record old { race = new }) shown fg
 gives_step old new shown s fg o does e = subst (RacedGivesStep old (record old { race = new }) shown) (sym e) (gives_as old new shown s o does)
 
-pub fg_spends : (s : Scanned) (fg : Fg) (c d : Counts) (old new : ℕ) → new ≤ old → Spends s c d old new → fg ≡ fg_of s → FgSpends fg c d old new
-fg_spends s fg c d old new less spends e = subst (λ (x : Fg). FgSpends x c d old new) (sym e) (by s spends)
-  where
-    by : (s : Scanned) → Spends s c d old new → FgSpends (fg_of s) c d old new
-    by (Found r) spends = spends
-    by Working spends = spends
-    by End spends = (spends, less)
-
 -- an end leads to the last control
 pub ends_done : (s : Scanned) (fg : Fg) (r : Raced) → fg ≡ fg_of s → EndsIn r s → fg ≡ FgEnd → r.control ≡ Done
 ends_done (Found x) fg r e ends f = absurd (let bad : Row x ≡ FgEnd = sym e ∙ f in cc)
@@ -226,11 +217,7 @@ pub none_awaited : (r : Raced) → racing r.control ≡ false → awaited r ≡ 
 none_awaited r e = rw e refl
 
 pub none_read : (r : Raced) (c : Counts) → awaited r ≡ None → c ≡ piece_read r c
-none_read r c none = by (racing r.control) refl
-  where
-    by : (b : Bool) → racing r.control ≡ b → c ≡ piece_read r c
-    by true e = absurd (let some = rw e at none in cc)
-    by false e = rw e refl
+none_read r c none = unawaited_read (racing r.control) (next_id r) (turn_lane r).held c none
 
 -- a give, whatever it answers
 pub gives_as_raced : {E : Type 0} (r : Result Given E) (would : ℕ → Facts → Ruling) (state after : ℕ) (piece : Pieced) (old : RacedQuery) (new : Raced) → IfOk r (λ g. GivesOn would state after piece g old.race new) → IfOk r (λ g. HasNextTurn g old.race new) → IfOk r (λ g. RacedGives would state after piece g old (record old { race = new }))

@@ -1,5 +1,5 @@
 -- What the calls of a union leave, in the words of accesses.
-use Rattle.std.proofs.Common.{Result, Ok, Err, IfOk, OnErr, ◌≡◌, ℕ, ◌≤◌, Bool, true, false, Box, [], Option, Some, None, refl, ap, sym, ◌∙◌, subst}
+use Rattle.std.proofs.Common.{Result, Ok, Err, IfOk, OnErr, ◌≡◌, ℕ, true, false, Box, [], Option, Some, None, refl, ap, sym, ◌∙◌, subst}
 use Rattle.std.specs.List.{list_all}
 use Rattle.std.specs.declared.alloc.Global.{Global}
 use Rattle.rv_value.specs.declared.record.IndexEntry.{IndexEntry}
@@ -23,16 +23,15 @@ use Rattle.rv_jscan.specs.Steps.{held_next}
 use Rattle.rv_choice.specs.declared.query.Query.{Query}
 use Rattle.rv_final.proofs.Marks.{unordered}
 use Rattle.rv_retrieval.specs.declared.steps.Fg.{Fg}
-use Rattle.rv_retrieval.specs.Effort.{FgSpends}
 use Rattle.rv_retrieval.specs.Opens.{fg_of}
 use Rattle.rv_retrieval.specs.Runs.{indexes_asked}
-use Rattle.rv_final.specs.LaneWork.{Spends}
-use Rattle.rv_union.specs.Given.{Awaits, awaited, piece_read}
+use Rattle.rv_union.specs.Given.{Awaits, awaited, next_id, piece_read}
 use Rattle.rv_union.specs.Opened.{DoesAs, DoesStep, OnlyTakes, ended_by}
 use Rattle.rv_union.specs.Rulings.{GivesOn, Obeys, accepted, joined, next_member, over, ruled}
 use Rattle.rv_jscan.specs.Planned.{indexes_of}
 use Rattle.rv_union.specs.Runs.{Tells}
 use Rattle.rv_union.specs.Unioned.{SameUnion, UnionFits, Unioned, rest, scanning}
+use Rattle.rv_final.proofs.Takings.{unawaited_read}
 use Rattle.rv_union.proofs.Switches.{over_as, told_parts}
 use Rattle.rv_access.specs.declared.access.Access.TheVariants.{Uniting}
 use Rattle.rv_access.specs.declared.uniting.UnitedQuery.{UnitedQuery}
@@ -88,14 +87,6 @@ gives_as old new shown End o does = does old.query.need
 
 pub gives_step : (old : UnitedQuery) (new : Unioned) (shown : Shown) (s : Scanned) (fg : Fg) → old.query.order ≡ [] → DoesStep old.union new shown s → fg ≡ fg_of s → UnitedGivesStep old (record old { union = new }) shown fg
 gives_step old new shown s fg o does e = subst (UnitedGivesStep old (record old { union = new }) shown) (sym e) (gives_as old new shown s o does)
-
-pub fg_spends : (s : Scanned) (fg : Fg) (c d : Counts) (old new : ℕ) → new ≤ old → Spends s c d old new → fg ≡ fg_of s → FgSpends fg c d old new
-fg_spends s fg c d old new less spends e = subst (λ (x : Fg). FgSpends x c d old new) (sym e) (by s spends)
-  where
-    by : (s : Scanned) → Spends s c d old new → FgSpends (fg_of s) c d old new
-    by (Found r) spends = spends
-    by Working spends = spends
-    by End spends = (spends, less)
 
 -- the plans stay
 ended_plans : (s : Scanned) (old u : Unioned) → u.plans ≡ old.plans → (ended_by s u).plans ≡ old.plans
@@ -175,11 +166,7 @@ pub none_awaited : (u : Unioned) → scanning u.control ≡ false → awaited u 
 none_awaited u e = rw e refl
 
 pub none_read : (u : Unioned) (c : Counts) → awaited u ≡ None → c ≡ piece_read u c
-none_read u c none = by (scanning u.control) refl
-  where
-    by : (b : Bool) → scanning u.control ≡ b → c ≡ piece_read u c
-    by true e = absurd (let some = rw e at none in cc)
-    by false e = rw e refl
+none_read u c none = unawaited_read (scanning u.control) (next_id u) u.lane.held c none
 
 -- a give, whatever it answers
 pub gives_as_united : {E : Type 0} (r : Result Given E) (would : ℕ → Facts → Ruling) (state after : ℕ) (piece : Pieced) (old : UnitedQuery) (new : Unioned) → IfOk r (λ g. GivesOn would state after piece g old.union new) → IfOk r (λ g. UnitedGives would state after piece g old (record old { union = new }))

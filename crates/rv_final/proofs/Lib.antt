@@ -5,3 +5,6 @@ pub mod Lists
 pub mod Tables
 pub mod LaneWork
 pub mod Owed
+pub mod Takings
+pub mod Givings
+pub mod Endings

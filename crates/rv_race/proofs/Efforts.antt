@@ -1,13 +1,13 @@
 -- The effort of a race falls with each leaf read, each piece accepted and each scan that ends.
-use Rattle.std.proofs.Common.{◌≡◌, ℕ, ◌+◌, ◌<◌, ◌≤◌, List, [], ◌++◌, length, drop, Bool, true, false, refl, ap, sym, ◌∙◌, arith, subst, Option, Some, None, is_some, IfSome, IsPermutation, inl, inr, Result, Ok, Err, IfOk, OnErr}
-use Rattle.std.specs.Prelude.{if◌then◌else◌}
-use Rattle.std.proofs.lemmas.List.{drop_more, length-append}
+use Rattle.std.proofs.Common.{◌≡◌, ℕ, ◌+◌, ◌<◌, ◌≤◌, List, ◌++◌, length, drop, Bool, true, false, refl, ap, sym, ◌∙◌, arith, subst, Option, Some, None, is_some, IfSome, IsPermutation, inl, inr, Result, Ok, Err, IfOk, OnErr}
+use Rattle.std.proofs.lemmas.List.{drop_more}
 use Rattle.std.proofs.lemmas.List.Sorted.{length_permutation}
 use Rattle.std.specs.Cmp.{first_so}
 use Rattle.rv_value.proofs.Lists.{filter_length}
 use Rattle.rv_value.specs.declared.record.IndexEntry.{IndexEntry}
 use Rattle.rv_judge.specs.declared.counting.Counts.{Counts}
 use Rattle.rv_judge.specs.declared.events.Control.{Control}
+use Rattle.rv_judge.specs.declared.events.Control.TheVariants.{BackgroundAlone}
 use Rattle.rv_judge.specs.declared.events.Event.TheVariants.{Drop}
 use Rattle.rv_judge.specs.declared.events.Happening.{Happening}
 use Rattle.rv_judge.specs.declared.events.Happening.TheVariants.{ScanEnded, Ruled}
@@ -16,18 +16,16 @@ use Rattle.rv_judge.specs.declared.events.Trace.{Trace}
 use Rattle.rv_judge.specs.declared.judging.Facts.{Facts}
 use Rattle.rv_judge.specs.declared.judging.Verdict.{Verdict}
 use Rattle.rv_judge.specs.declared.judging.Verdict.TheVariants.{Continue, AbandonScan, AbandonForeground, AbandonBackground}
-use Rattle.rv_judge.specs.Counting.{leaf_read, reads}
+use Rattle.rv_judge.specs.Counting.{reads}
 use Rattle.rv_judge.specs.Course.{next_control}
 use Rattle.rv_judge.specs.Verdicts.{Ruling}
 use Rattle.rv_keylist.specs.Keys.{may_key}
 use Rattle.rv_reader.specs.declared.reader.Chunk.{Chunk}
-use Rattle.rv_reader.specs.Leaves.{run_after}
 use Rattle.rv_reader.specs.Shown.{Shown}
 use Rattle.rv_jscan.specs.declared.jscan.Given.{Given}
 use Rattle.rv_jscan.specs.declared.jscan.Given.TheVariants.{Accepted, Stale}
 use Rattle.rv_jscan.specs.declared.jscan.ScanPlan.{ScanPlan}
 use Rattle.rv_jscan.specs.declared.jscan.Taken.{Taken}
-use Rattle.rv_jscan.specs.declared.jscan.Taken.TheVariants.{Piece, Nothing}
 use Rattle.rv_jscan.specs.Joint.{no_plan, plan_at}
 use Rattle.rv_jscan.specs.Lanes.{IsLeafAt, Laned}
 use Rattle.rv_jscan.specs.Pieces.{Pieced, kept_by, may}
@@ -42,8 +40,11 @@ use Rattle.rv_race.specs.Given.{Answers, Awaits, TakesLeaf, TakesPiece, counts_r
 use Rattle.rv_race.specs.Raced.{RaceFits, Raced, racing}
 use Rattle.rv_race.specs.Rulings.{GivesOn, Obeys, accepted, facts_of, going_on, gone, index_at, list_len, listed, more, narrowed_by, over, passed_on, ruled, stopped, told_over}
 use Rattle.rv_race.specs.Ways.{advanced, begun, followed, followed_by, has_next, turned, turned_to}
-use Rattle.rv_final.proofs.LaneWork.{ahead_split, some_leaf, read_once, kept_few, passed_work, leaf_once, none_held}
+use Rattle.rv_final.proofs.LaneWork.{some_leaf, read_once, passed_work}
+use Rattle.rv_final.proofs.Givings.{spends_no_more, put_if}
+use Rattle.rv_final.proofs.Takings.{built_few, leaf_tries, taken_spends}
 use Rattle.rv_race.proofs.Switches.{Leads, dropped_leads, ended_leads, is_racing, over_as, stopped_leads}
+use Rattle.rv_race.proofs.Takes.{took_parts}
 use Rattle.rv_race.proofs.Ways.{advanced_as, followed_as}
 
 -- THE SCANS
@@ -90,18 +91,17 @@ narrowed_work plans shown snap keys (Some other) = let fewer = filter_length (λ
 -- the last one: the list has no more keys than the scan had work, but for two
 passed_list : (plan : ScanPlan) (shown : Shown) (snap : ℕ) (l : Laned) (admits : ℕ → Bool) (piece : Pieced) (keys : List ℕ) → HasEntries l.held piece.entries → IfSome l.held (IsLeafAt plan shown snap l.place) → held_next l.held ≡ None → IsPermutation (l.building ++ kept_by admits piece.part piece.entries) keys → length keys + 2 ≤ lane_work plan shown snap l
 passed_list plan shown snap l admits piece keys has d next perm =
-    let parts = ahead_split plan shown snap l.place l.held piece.entries has d ∙ ap (λ (o : Option IndexEntry). piece.entries ++ run_after (shown.entries plan.index snap) plan.range o) next in
-    let long = ap length parts ∙ length-append piece.entries [] in
-    let built = length-append l.building (kept_by admits piece.part piece.entries) in
+    let few = built_few plan shown snap l admits piece has d next in
     let same = length_permutation (l.building ++ kept_by admits piece.part piece.entries) keys perm in
-    let few = kept_few admits piece in
-    let some = some_leaf (shown.cuts plan.index snap) l.place in
     omega arith
 
 -- WHERE A SCAN ENDS OR A JUDGE RULES
 
+pub effort_at : (r : Raced) (shown : Shown) (c : Control) → r.control ≡ c → effort r shown ≡ effort_by c (racing_work r shown) (keys_work r) (table_work r shown)
+effort_at r shown c e = ap (λ (x : Control). effort_by x (racing_work r shown) (keys_work r) (table_work r shown)) e
+
 effort_racing : (r : Raced) (shown : Shown) → racing r.control ≡ true → effort r shown ≡ racing_work r shown
-effort_racing r shown back = ap (λ (c : Control). effort_by c (racing_work r shown) (keys_work r) (table_work r shown)) (is_racing r.control back)
+effort_racing r shown back = effort_at r shown BackgroundAlone (is_racing r.control back)
 
 list_whole : (list : Option (List ℕ)) → length (keys_left list 0) ≡ list_len list
 list_whole None = refl
@@ -183,31 +183,19 @@ obeyed_work would state after piece old new shown None a e o f =
     let narrow = narrowed_work old.plans shown old.snap o.0.keys old.running.other in
     omega arith
 
-given_work : (would : ℕ → Facts → Ruling) (state after : ℕ) (piece : Pieced) (g : Given) (old new : Raced) (shown : Shown) → Answers old piece g new → GivesOn would state after piece g old new → RaceFits old shown → GiveSpends g (effort old shown) (effort new shown)
-given_work would state after piece Accepted old new shown a o f = obeyed_work would state after piece old new shown (held_next (turn_lane old).held) a refl o f
-given_work would state after piece (Stale asked now) old new shown a o f = ap (λ (x : Raced). effort x shown) o.0
-
 pub gives_work : {E : Type 0} (r : Result Given E) (would : ℕ → Facts → Ruling) (state after : ℕ) (piece : Pieced) (old new : Raced) (shown : Shown) → IfOk r (λ g. Answers old piece g new) → IfOk r (λ g. GivesOn would state after piece g old new) → RaceFits old shown → IfOk r (λ g. GiveSpends g (effort old shown) (effort new shown))
-gives_work (Ok g) would state after piece old new shown a o f = given_work would state after piece g old new shown a o f
+gives_work (Ok Accepted) would state after piece old new shown a o f = obeyed_work would state after piece old new shown (held_next (turn_lane old).held) a refl o f
+gives_work (Ok (Stale asked now)) would state after piece old new shown a o f = ap (λ (x : Raced). effort x shown) o.0
 gives_work (Err x) would state after piece old new shown a o f = tt
 
 pub gives_less : {E : Type 0} (r : Result Given E) (would : ℕ → Facts → Ruling) (state after : ℕ) (piece : Pieced) (old new : Raced) (shown : Shown) → IfOk r (λ g. Answers old piece g new) → IfOk r (λ g. GivesOn would state after piece g old new) → OnErr r (new ≡ old) → RaceFits old shown → effort new shown ≤ effort old shown
-gives_less (Ok g) would state after piece old new shown a o e f = by g (given_work would state after piece g old new shown a o f)
-  where
-    by : (g : Given) → GiveSpends g (effort old shown) (effort new shown) → effort new shown ≤ effort old shown
-    by Accepted s = omega arith
-    by (Stale asked now) s = omega arith
-gives_less (Err x) would state after piece old new shown a o e f = let same = ap (λ (y : Raced). effort y shown) e in omega arith
+gives_less r would state after piece old new shown a o e f = spends_no_more r (effort old shown) (effort new shown) (gives_work r would state after piece old new shown a o f) (put_if r (λ (x : Raced). effort x shown) new old (effort old shown) refl e)
 
 -- an accepted piece, where the awaited one is given
 pub piece_falls : (would : ℕ → Facts → Ruling) (state after : ℕ) (piece : Pieced) (old new : Raced) (shown : Shown) → Awaits old piece → GivesOn would state after piece Accepted old new → RaceFits old shown → effort new shown < effort old shown
-piece_falls would state after piece old new shown a o f = given_work would state after piece Accepted old new shown a o f
+piece_falls would state after piece old new shown a o f = obeyed_work would state after piece old new shown (held_next (turn_lane old).held) a refl o f
 
 -- WHAT A TAKE SPENDS
-
--- what does not depend on the counts and the trace
-with_turn : (old new : Raced) → TakesLeaf old new → new ≡ record old { counts = new.counts; running = new.running; trace = new.trace }
-with_turn old new t = subst (λ (x : Raced). x ≡ record old { counts = x.counts; running = x.running; trace = x.trace }) (sym t.same) refl
 
 held_effort : (old : Raced) (h : Option Chunk) (t : Trace) (shown : Shown) → racing old.control ≡ true → effort (record (holding h old) { counts = counts_read old; trace = t }) shown + to_read (turn_lane old).held ≡ effort old shown + to_read h
 held_effort old h t shown back =
@@ -216,57 +204,18 @@ held_effort old h t shown back =
     let was = effort_racing old shown back in
     omega arith
 
+-- it falls by the leaf that has no longer to be read
+took_effort : (old new : Raced) (shown : Shown) → TakesLeaf old new → racing old.control ≡ true → effort new shown + to_read (turn_lane old).held ≡ effort old shown + to_read (turn_lane new).held
+took_effort old new shown t back = ap (λ (x : Raced). effort x shown + to_read (turn_lane old).held) t.same ∙ held_effort old (turn_lane new).held new.trace shown back
+
+unread_effort : (old new : Raced) (shown : Shown) → TakesLeaf old new → reads_leaf old ≡ false → effort new shown ≡ effort old shown
+unread_effort old new shown t r = ap (λ (x : Raced). effort x shown) (took_parts old new t ∙ ap (λ (w : Running). record old { counts = new.counts; running = w; trace = new.trace }) (t.none r))
+
 pub leaf_spends : (old new : Raced) (shown : Shown) (before after : Counts) → TakesLeaf old new → after ≡ piece_read old before → Tries before after (effort old shown) (effort new shown)
-leaf_spends old new shown before after t e = by (reads_leaf old) refl
-  where
-    by : (b : Bool) → reads_leaf old ≡ b → Tries before after (effort old shown) (effort new shown)
-    by true r =
-        let counted : after ≡ leaf_read before = e ∙ ap (λ (b : Bool). if b then leaf_read before else before) r in
-        let once = leaf_once before in
-        let said = ap reads counted in
-        let none = none_held (turn_lane old).held (racing old.control) r in
-        let was = ap to_read none.0 in
-        let is = ap (λ (x : Raced). effort x shown) t.same in
-        let work = held_effort old (turn_lane new).held new.trace shown none.1 in
-        let read = read_once (turn_lane new).held in
-        record { once = omega arith; less = omega arith }
-    by false r =
-        let counted : after ≡ before = e ∙ ap (λ (b : Bool). if b then leaf_read before else before) r in
-        let said = ap reads counted in
-        let same = ap (λ (x : Raced). effort x shown) (with_turn old new t ∙ ap (λ (w : Running). record old { counts = new.counts; running = w; trace = new.trace }) (t.none r)) in
-        record { once = omega arith; less = omega arith }
+leaf_spends old new shown before after t e = leaf_tries (racing old.control) (turn_lane old).held (turn_lane new).held before after (effort old shown) (effort new shown) (took_effort old new shown t) (unread_effort old new shown t) e
 
 -- a take that answers lowers the effort by its read
 pub take_spends : {E : Type 0} (r : Result Taken E) (old mid new : Raced) (shown : Shown) (before after : Counts) → TakesLeaf old new → effort mid shown ≡ effort new shown → IfOk r (TakesPiece new) → after ≡ piece_read old before → IfOk r (λ taken. reads after + effort mid shown ≤ reads before + effort old shown)
-take_spends (Err x) old mid new shown before after t m k e = tt
-take_spends (Ok taken) old mid new shown before after t m k e = by (reads_leaf old) refl
-  where
-    has : (h : Option Chunk) (entries : List IndexEntry) → HasEntries h entries → to_read h ≡ 0
-    has None entries i = absurd i
-    has (Some c) entries i = refl
-
-    control : new.control ≡ old.control
-    control = ap (λ (x : Raced). x.control) (with_turn old new t)
-
-    held : (taken : Taken) → TakesPiece new taken → racing old.control ≡ true → to_read (turn_lane new).held ≡ 0
-    held (Piece piece) k back = has (turn_lane new).held piece.entries k.own.entries
-    held Nothing k back = absurd (let bad : true ≡ false = sym back ∙ sym (ap racing control) ∙ k in cc)
-
-    by : (b : Bool) → reads_leaf old ≡ b → reads after + effort mid shown ≤ reads before + effort old shown
-    by true r =
-        let counted : after ≡ leaf_read before = e ∙ ap (λ (b : Bool). if b then leaf_read before else before) r in
-        let once = leaf_once before in
-        let said = ap reads counted in
-        let none = none_held (turn_lane old).held (racing old.control) r in
-        let was = ap to_read none.0 in
-        let is = ap (λ (x : Raced). effort x shown) t.same in
-        let work = held_effort old (turn_lane new).held new.trace shown none.1 in
-        let now = held taken k none.1 in
-        omega arith
-    by false r =
-        let counted : after ≡ before = e ∙ ap (λ (b : Bool). if b then leaf_read before else before) r in
-        let said = ap reads counted in
-        let same = ap (λ (x : Raced). effort x shown) (with_turn old new t ∙ ap (λ (w : Running). record old { counts = new.counts; running = w; trace = new.trace }) (t.none r)) in
-        omega arith
-
--- WHAT A STEP SPENDS
+take_spends r old mid new shown before after t m k e =
+    let control : new.control ≡ old.control = ap (λ (x : Raced). x.control) (took_parts old new t) in
+    taken_spends r (TakesPiece new) (racing old.control) (turn_lane old).held (turn_lane new).held before after (effort old shown) (effort mid shown) (effort new shown) (λ piece k. k.own.entries) (λ off. sym (ap racing control) ∙ off) (took_effort old new shown t) (unread_effort old new shown t) m k e

@@ -25,6 +25,7 @@ use Rattle.rv_race.specs.Given.{Answers, Awaits, turn_lane, turn_scan}
 use Rattle.rv_race.specs.Raced.{Keeps, RaceFits, Raced, SameRace, owed, racing}
 use Rattle.rv_race.specs.Rulings.{GivesOn, HasNextTurn, Obeys, accepted, dropped, ended, going_on, index_at, listed, more, narrowed_by, over, passed_on, ruled, stopped, told_over}
 use Rattle.rv_race.specs.Ways.{advanced, lower, turned, turned_to}
+use Rattle.rv_final.proofs.Givings.{given_holds}
 use Rattle.rv_race.proofs.Fits.{advanced_running, begun_fits, covered_may, narrowed_fits, narrowed_unheld, passed_all, passed_fits, turned_running}
 use Rattle.rv_race.proofs.Switches.{Leads, Stays, dropped_leads, ended_leads, gone_stays, moved_fits, moved_rest, over_as, stopped_leads, with_parts}
 use Rattle.rv_race.proofs.Ways.{advanced_turn}
@@ -95,13 +96,8 @@ obeyed_stays would state after piece old new shown None a e o f =
     let went = moved_stays old mid shown refl a.under_way f fits in
     subst (Stays old shown) (sym o.0.ends) (stays_on old mid (ended mid) shown went (ended_stays mid shown a.under_way refl fits))
 
-given_stays : (would : ℕ → Facts → Ruling) (state after : ℕ) (piece : Pieced) (g : Given) (old new : Raced) (shown : Shown) → Answers old piece g new → GivesOn would state after piece g old new → RaceFits old shown → Stays old shown new
-given_stays would state after piece Accepted old new shown a o f = obeyed_stays would state after piece old new shown (held_next (turn_lane old).held) a refl o f
-given_stays would state after piece (Stale asked now) old new shown a o f = subst (Stays old shown) (sym o.0) (f, refl)
-
 pub gives_stay : {E : Type 0} (r : Result Given E) (would : ℕ → Facts → Ruling) (state after : ℕ) (piece : Pieced) (old new : Raced) (shown : Shown) → IfOk r (λ g. Answers old piece g new) → IfOk r (λ g. GivesOn would state after piece g old new) → OnErr r (new ≡ old) → RaceFits old shown → Stays old shown new
-gives_stay (Ok g) would state after piece old new shown a o e f = given_stays would state after piece g old new shown a o f
-gives_stay (Err x) would state after piece old new shown a o e f = subst (Stays old shown) (sym e) (f, refl)
+gives_stay r would state after piece old new shown a o e f = given_holds r (λ g. Answers old piece g new) (λ g. GivesOn would state after piece g old new) (Stays old shown) old new (λ a o. obeyed_stays would state after piece old new shown (held_next (turn_lane old).held) a refl o f) (λ asked now o. o.0) a o e (f, refl)
 
 pub gives_keep : {E : Type 0} (r : Result Given E) (would : ℕ → Facts → Ruling) (state after : ℕ) (piece : Pieced) (old new : Raced) → IfOk r (λ g. Answers old piece g new) → IfOk r (λ g. GivesOn would state after piece g old new) → OnErr r (new ≡ old) → Keeps old new
 gives_keep r would state after piece old new a o e = record {
@@ -139,13 +135,8 @@ obeyed_kin : (would : ℕ → Facts → Ruling) (state after : ℕ) (piece : Pie
 obeyed_kin would state after piece old new (Some cut) o = subst (Kin old) (sym o.0) (ruled_kin _ piece old)
 obeyed_kin would state after piece old new None o = subst (Kin old) (sym o.0.ends) (ended_kin o.0.keys piece old)
 
-given_kin : (would : ℕ → Facts → Ruling) (state after : ℕ) (piece : Pieced) (g : Given) (old new : Raced) → GivesOn would state after piece g old new → Kin old new
-given_kin would state after piece Accepted old new o = obeyed_kin would state after piece old new (held_next (turn_lane old).held) o
-given_kin would state after piece (Stale asked now) old new o = subst (Kin old) (sym o.0) (kin old)
-
 pub gives_kin : {E : Type 0} (r : Result Given E) (would : ℕ → Facts → Ruling) (state after : ℕ) (piece : Pieced) (old new : Raced) → IfOk r (λ g. GivesOn would state after piece g old new) → OnErr r (new ≡ old) → Kin old new
-gives_kin (Ok g) would state after piece old new o e = given_kin would state after piece g old new o
-gives_kin (Err x) would state after piece old new o e = subst (Kin old) (sym e) (kin old)
+gives_kin r would state after piece old new o e = given_holds r (λ g. GivesOn would state after piece g old new) (λ g. GivesOn would state after piece g old new) (Kin old) old new (λ a o. obeyed_kin would state after piece old new (held_next (turn_lane old).held) o) (λ asked now o. o.0) o o e (kin old)
 
 -- WHOSE TURN IT IS
 

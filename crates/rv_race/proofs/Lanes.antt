@@ -1,5 +1,5 @@
 -- What the calls on the scan of the turn do to the race.
-use Rattle.std.proofs.Common.{◌≡◌, ◌↔◌, ℕ, ◌-◌, ◌<◌, ◌++◌, List, length, length-append, Bool, true, false, not, ◌&&◌, refl, ap, sym, ◌∙◌, arith, subst, Option, Some, None, is_some, IsSome, IfSome, IsPermutation, IsTrue, min, slice_set, Result, Ok, Err, OnErr}
+use Rattle.std.proofs.Common.{◌≡◌, ◌↔◌, ℕ, ◌-◌, ◌<◌, ◌++◌, List, length, length-append, Bool, true, false, not, ◌&&◌, refl, ap, sym, ◌∙◌, arith, subst, Option, Some, None, is_some, IsSome, IfSome, IsPermutation, IsTrue, min, slice_set}
 use Rattle.std.specs.List.Sorted.{IsStrictlyIncreasing}
 use Rattle.std.specs.Cmp.{first_so}
 use Rattle.rv_value.specs.declared.record.IndexEntry.{IndexEntry}
@@ -44,10 +44,6 @@ lane_kept r l e = ap (λ (x : Laned). with_lane x r) e
 pub lane_held : (r : Raced) (l : Laned) → l ≡ record (turn_lane r) { held = l.held } → with_lane l r ≡ with_lane (record (turn_lane r) { held = l.held }) r
 lane_held r l e = ap (λ (x : Laned). with_lane x r) e
 
-pub lane_err : {T E : Type 0} (x : Result T E) (r : Raced) (l : Laned) → OnErr x (l ≡ turn_lane r) → OnErr x (with_lane l r ≡ r)
-lane_err (Ok y) r l e = tt
-lane_err (Err y) r l e = lane_kept r l e
-
 -- The awaited piece.
 
 pub own_awaits : (r : Raced) (piece : Pieced) (b : Bool) (id : PieceId) → racing r.control ≡ true → id ≡ next_id r → (IsTrue b ↔ IsOwn (turn_plan r) id (turn_lane r) piece) → (IsTrue b ↔ Awaits r piece)
@@ -83,9 +79,6 @@ completes_by old c n r l t new some made en er el et e = by c.list some made
     }
 
 -- What becomes of the scan of an accepted piece.
--- what stands on the right of an equation
-abbrev pub right_of : {A : Type 0} {x y : A} → x ≡ y → A
-right_of {A} {x} {y} p = y
 
 pub obeys_by : (would : ℕ → Facts → Ruling) (state after : ℕ) (piece : Pieced) (old mid new : Raced) (last : Bool) (next : Option IndexEntry) → is_some next ≡ not last → mid ≡ accepted piece last old → (last ≡ true → Completes mid new × (after ≡ state)) → (last ≡ false → IsRuled (would state (facts_of mid)) after mid new) → Obeys would state after piece next old new
 obeys_by would state after piece old mid new true None n m over rules = let done = over refl in (subst (λ (x : Raced). Completes x new) m done.0, done.1)

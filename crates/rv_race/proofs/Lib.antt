@@ -4,8 +4,8 @@ pub mod Switches
 pub mod Gives
 pub mod Traces
 pub mod Tellings
-pub mod Efforts
 pub mod Takes
+pub mod Efforts
 pub mod Finals
 pub mod Openings
 pub mod Lanes

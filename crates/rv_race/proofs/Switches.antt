@@ -1,6 +1,6 @@
 -- A change of the scans under way, of the list or of the control leaves the fit and the rest.
-use Rattle.std.proofs.Common.{◌≡◌, ℕ, ◌⊎◌, List, Bool, true, false, not, ◌&&◌, refl, ap, sym, ◌∙◌, arith, subst, Option, Some, None, is_some, IsSome, IfSome, inl, inr}
-use Rattle.rv_final.proofs.Owed.{row_there}
+use Rattle.std.proofs.Common.{◌≡◌, ℕ, ◌⊎◌, List, Bool, true, false, refl, ap, sym, ◌∙◌, subst, Option, Some, None, is_some, IsSome, IfSome, inl, inr}
+use Rattle.rv_value.proofs.Tests.{no_way}
 use Rattle.rv_keys.specs.Keys.{has_key}
 use Rattle.rv_judge.specs.declared.events.Control.{Control}
 use Rattle.rv_judge.specs.declared.events.Control.TheVariants.{Building, ForegroundAlone, BackgroundAlone, FinalList, FinalTable, Done}
@@ -11,11 +11,11 @@ use Rattle.rv_judge.specs.declared.events.Trace.{Trace}
 use Rattle.rv_judge.specs.declared.judging.Verdict.TheVariants.{AbandonScan, AbandonBackground}
 use Rattle.rv_judge.specs.Course.{next_control}
 use Rattle.rv_reader.specs.Shown.{Shown}
-use Rattle.rv_scan.specs.Places.{unseen}
-use Rattle.rv_final.specs.Rest.{has_row, qualifies_at, rest_by}
-use Rattle.rv_final.specs.Stage.{keys_left, list_left, table_left}
-use Rattle.rv_final.proofs.Rests.{same_rest}
-use Rattle.rv_race.specs.Raced.{Covers, RaceFits, Raced, RunningFits, left_by, owed, racing, rest, rows_of}
+use Rattle.rv_scan.specs.Places.{Place}
+use Rattle.rv_final.specs.Rest.{rest_by}
+use Rattle.rv_final.specs.Stage.{LastFits, Unbegun, keys_left}
+use Rattle.rv_final.proofs.Endings.{list_whole, table_whole}
+use Rattle.rv_race.specs.Raced.{Covers, RaceFits, Raced, RunningFits, left_by, of_race, owed, racing, rest, rows_of}
 use Rattle.rv_race.specs.Rulings.{going_on, gone, more, over}
 
 pub is_racing : (c : Control) → racing c ≡ true → c ≡ BackgroundAlone
@@ -29,6 +29,21 @@ is_racing Done h = absurd (cc)
 -- each row that qualifies is owed while scans are under way
 pub rest_racing : (r : Raced) (shown : Shown) → racing r.control ≡ true → rest r shown ≡ rest_by (λ n. true) r.only (rows_of r shown)
 rest_racing r shown h = ap (λ (c : Control). rest_by (left_by c r.list r.at r.last (rows_of r shown)) r.only (rows_of r shown)) (is_racing r.control h)
+
+-- the fit, where the control, the final stage's parts and the trace are other ones
+pub aside_fits : (r : Raced) (c : Control) (at : ℕ) (last : Place) (t : Trace) (shown : Shown) → LastFits r.table r.snap last shown → (racing c ≡ true → Unbegun at last) → (c ≡ FinalList → IsSome r.list) → of_race c ≡ true → RaceFits r shown → RaceFits (record r { control = c; at = at; last = last; trace = t }) shown
+aside_fits r c at last t shown l unbegun listed stands f = record {
+  ascend = f.ascend;
+  read = f.read;
+  columns = f.columns;
+  plans = f.plans;
+  running = f.running;
+  covers = f.covers;
+  last = l;
+  unbegun = unbegun;
+  listed = listed;
+  stands = stands;
+}
 
 -- While scans are under way.
 
@@ -64,52 +79,21 @@ moved_back r new e back = ap (λ (x : Raced). racing x.control) e ∙ back
 abbrev pub Leads : Raced → Control → Type 0
 Leads r c = ((c ≡ FinalList) × IsSome r.list) ⊎ (c ≡ FinalTable)
 
-and_true : (a : Bool) → a ≡ true → (a && not false) ≡ true
-and_true a h = grind arith
-
 in_list : (list : Option (List ℕ)) (owed : ℕ → Bool) (n : ℕ) → IsSome list → IfSome list (Covers owed) → owed n ≡ true → has_key n (keys_left list 0) ≡ true
 in_list None owed n s c o = absurd (cc)
 in_list (Some keys) owed n s c o = c n o
 
 to_list : (r : Raced) (t : Trace) (shown : Shown) → racing r.control ≡ true → IsSome r.list → RaceFits r shown → RaceFits (record r { control = FinalList; trace = t }) shown × (rest (record r { control = FinalList; trace = t }) shown ≡ rest r shown)
 to_list r t shown back some f = (
-  record {
-    ascend = f.ascend;
-    read = f.read;
-    columns = f.columns;
-    plans = f.plans;
-    running = f.running;
-    covers = f.covers;
-    last = f.last;
-    unbegun = λ h. absurd (cc);
-    listed = λ h. some;
-    stands = refl;
-  },
-  same_rest r.only (rows_of r shown) (λ n. true) (λ n. list_left r.list None r.at n) each ∙ sym (rest_racing r shown back),
+  aside_fits r FinalList r.at r.last t shown f.last (λ h. no_way (sym h)) (λ h. some) refl f,
+  list_whole r.only (rows_of r shown) r.list r.at r.last (f.unbegun back) (λ n q. in_list r.list (owed r shown) n some f.covers q) ∙ sym (rest_racing r shown back),
 )
-  where
-    each : (n : ℕ) → qualifies_at r.only (rows_of r shown) n ≡ true → list_left r.list None r.at n ≡ true
-    each n q = and_true (has_key n (keys_left r.list r.at)) (ap (λ (i : ℕ). has_key n (keys_left r.list i)) (f.unbegun back).keys ∙ in_list r.list (owed r shown) n some f.covers q)
 
 to_table : (r : Raced) (t : Trace) (shown : Shown) → racing r.control ≡ true → RaceFits r shown → RaceFits (record r { control = FinalTable; trace = t }) shown × (rest (record r { control = FinalTable; trace = t }) shown ≡ rest r shown)
 to_table r t shown back f = (
-  record {
-    ascend = f.ascend;
-    read = f.read;
-    columns = f.columns;
-    plans = f.plans;
-    running = f.running;
-    covers = f.covers;
-    last = f.last;
-    unbegun = λ h. absurd (cc);
-    listed = λ h. absurd (cc);
-    stands = refl;
-  },
-  same_rest r.only (rows_of r shown) (λ n. true) (λ n. table_left r.last (rows_of r shown) None n) each ∙ sym (rest_racing r shown back),
+  aside_fits r FinalTable r.at r.last t shown f.last (λ h. no_way (sym h)) (λ h. absurd (cc)) refl f,
+  table_whole r.only (rows_of r shown) r.at r.last (f.unbegun back) ∙ sym (rest_racing r shown back),
 )
-  where
-    each : (n : ℕ) → qualifies_at r.only (rows_of r shown) n ≡ true → table_left r.last (rows_of r shown) None n ≡ true
-    each n q = and_true (has_row n (unseen r.last (rows_of r shown))) (ap (has_row n) ((f.unbegun back).pages (rows_of r shown)) ∙ row_there r.only (rows_of r shown) n q)
 
 -- the fit and the rest of another race over the same reader
 abbrev pub Stays : Raced → Shown → Raced → Type 0

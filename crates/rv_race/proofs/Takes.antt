@@ -1,9 +1,8 @@
 -- What a take leaves.
-use Rattle.std.proofs.Common.{◌≡◌, Bool, true, false, not, ◌&&◌, List, refl, ap, sym, ◌∙◌, arith, subst, is_some, Result, Ok, Err, IfOk, OnErr}
+use Rattle.std.proofs.Common.{◌≡◌, Bool, true, false, List, refl, ap, sym, ◌∙◌, subst, is_some, Result, Ok, Err, IfOk}
 use Rattle.std.specs.Prelude.{if◌then◌else◌}
 use Rattle.rv_judge.specs.declared.counting.Counts.{Counts}
 use Rattle.rv_judge.specs.declared.events.Trace.{Trace}
-use Rattle.rv_judge.specs.Counting.{leaf_read}
 use Rattle.rv_judge.specs.Tracing.{counted}
 use Rattle.rv_reader.specs.Shown.{Shown}
 use Rattle.rv_jscan.specs.declared.piece.PieceId.{PieceId}
@@ -16,7 +15,8 @@ use Rattle.rv_race.specs.Given.{Awaits, TakesLeaf, awaited, counts_read, holding
 use Rattle.rv_race.specs.Opened.{Steady}
 use Rattle.rv_race.specs.Raced.{RaceFits, Raced, SameRace, racing, rest}
 use Rattle.rv_race.specs.Runs.{Tells}
-use Rattle.rv_race.proofs.Switches.{moved_fits}
+use Rattle.rv_final.proofs.Takings.{held_if, none_unread, once_read}
+use Rattle.rv_race.proofs.Switches.{aside_fits, moved_fits}
 use Rattle.rv_race.proofs.Tellings.{aside_tells}
 
 -- The leaf that is still to be read is counted, and then the scan of the turn takes.
@@ -37,13 +37,10 @@ took_trace old mid new m n = ap (λ (x : Raced). x.trace) (took_same old mid new
 pub took_leaves : (old mid new : Raced) → racing old.control ≡ true → mid ≡ read_mid old → takes mid new → (is_some (turn_lane mid).held ≡ true → new ≡ mid) → TakesLeaf old new
 took_leaves old mid new back m n h = record {
   same = took_same old mid new m n ∙ ap (λ (t : Trace). record (holding (turn_lane new).held old) { counts = counts_read old; trace = t }) (sym (took_trace old mid new m n));
-  none = λ unread. ap (λ (x : Raced). x.running) (h (ap (λ (x : Raced). is_some (turn_lane x).held) m ∙ held_if (racing old.control) (is_some (turn_lane old).held) back unread) ∙ m);
+  none = λ unread. ap (λ (x : Raced). x.running) (h (ap (λ (x : Raced). is_some (turn_lane x).held) m ∙ held_if (racing old.control) (turn_lane old).held back unread) ∙ m);
   named = ap (λ (t : Trace). t.strategy) (took_trace old mid new m n);
   events = ap (λ (t : Trace). t.events) (took_trace old mid new m n);
 }
-  where
-    held_if : (w h : Bool) → w ≡ true → (w && not h) ≡ false → h ≡ true
-    held_if w h way unread = grind arith
 
 pub took_can : (old mid : Raced) (shown : Shown) → mid ≡ read_mid old → RaceFits old shown → CanMake (turn_plan mid) shown mid.snap
 took_can old mid shown m f = subst (λ (x : Raced). CanMake (turn_plan x) shown x.snap) (sym m) (f.plans.each (turn_scan old) f.running.turn.there)
@@ -74,30 +71,13 @@ took_taken (Ok p) old mid new id back m is n own =
     }
 took_taken (Err e) old mid new id back m is n own = tt
 
-pub took_err : {E : Type 0} (r : Result Pieced E) (old mid new : Raced) → mid ≡ read_mid old → OnErr r (new ≡ mid) → OnErr r (new ≡ read_mid old)
-took_err (Ok p) old mid new m e = tt
-took_err (Err x) old mid new m e = e ∙ m
-
 pub took_reads : (old mid : Raced) (c d : Counts) → racing old.control ≡ true → mid ≡ read_mid old → d ≡ leaf_once (turn_lane mid) c → d ≡ piece_read old c
-took_reads old mid c d back m r = r ∙ ap (λ (x : Raced). leaf_once (turn_lane x) c) m ∙ once (racing old.control) (is_some (turn_lane old).held) back
-  where
-    once : (w h : Bool) → w ≡ true → (if h then c else leaf_read c) ≡ (if (w && not h) then leaf_read c else c)
-    once true true way = refl
-    once true false way = refl
-    once false h way = absurd (cc)
-
--- the leaf is not held where memory was wanting
-pub took_untaken : {E : Type 0} (r : Result Pieced E) (old new : Raced) → OnErr r (new ≡ read_mid old) → OnErr r ((turn_lane new).held ≡ (turn_lane old).held)
-took_untaken (Ok p) old new e = tt
-took_untaken (Err x) old new e = ap (λ (y : Raced). (turn_lane y).held) e
+took_reads old mid c d back m r = r ∙ ap (λ (x : Raced). leaf_once (turn_lane x) c) m ∙ once_read (racing old.control) (turn_lane old).held c back
 
 -- No scan is under way.
 
 pub none_counted : (r : Raced) → racing r.control ≡ false → counts_read r ≡ r.counts
-none_counted r off = ap (λ (b : Bool). if b then one_leaf r else r.counts) (no (racing r.control) (is_some (turn_lane r).held) off)
-  where
-    no : (w h : Bool) → w ≡ false → (w && not h) ≡ false
-    no w h o = grind arith
+none_counted r off = ap (λ (b : Bool). if b then one_leaf r else r.counts) (none_unread (racing r.control) (turn_lane r).held off)
 
 pub none_leaves : (r : Raced) → racing r.control ≡ false → TakesLeaf r r
 none_leaves r off = record {
@@ -106,12 +86,6 @@ none_leaves r off = record {
   named = refl;
   events = refl;
 }
-
-pub none_read : (r : Raced) (c : Counts) → racing r.control ≡ false → c ≡ piece_read r c
-none_read r c off = sym (ap (λ (b : Bool). if b then leaf_read c else c) (no (racing r.control) (is_some (turn_lane r).held) off))
-  where
-    no : (w h : Bool) → w ≡ false → (w && not h) ≡ false
-    no w h o = grind arith
 
 -- What a take keeps.
 
@@ -143,18 +117,7 @@ took_steady old new shown t e f = record {
 -- What was read is counted.
 
 pub counted_fits : (mid new : Raced) (t : Trace) (shown : Shown) → new ≡ record mid { trace = t } → RaceFits mid shown → RaceFits new shown
-counted_fits mid new t shown e f = subst (λ (x : Raced). RaceFits x shown) (sym e) record {
-  ascend = f.ascend;
-  read = f.read;
-  columns = f.columns;
-  plans = f.plans;
-  running = f.running;
-  covers = f.covers;
-  last = f.last;
-  unbegun = f.unbegun;
-  listed = f.listed;
-  stands = f.stands;
-}
+counted_fits mid new t shown e f = subst (λ (x : Raced). RaceFits x shown) (sym e) (aside_fits mid mid.control mid.at mid.last t shown f.last f.unbegun f.listed f.stands f)
 
 pub counted_tells : (mid new : Raced) (c d : Counts) → new ≡ record mid { trace = counted mid.trace c d } → Tells mid → Tells new
 counted_tells mid new c d e t = subst Tells (sym e) (aside_tells mid (record mid { trace = counted mid.trace c d }) refl refl refl refl refl refl refl refl t)

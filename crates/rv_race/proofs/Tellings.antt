@@ -26,7 +26,6 @@ use Rattle.rv_judge.specs.Runs.{Allowed, EachOnce, MayCome, Standing, begun as b
 use Rattle.rv_judge.specs.Tracing.{counted, with_events}
 use Rattle.rv_judge.specs.Verdicts.{Ruling}
 use Rattle.rv_jscan.specs.declared.jscan.Given.{Given}
-use Rattle.rv_jscan.specs.declared.jscan.Given.TheVariants.{Accepted, Stale}
 use Rattle.rv_jscan.specs.declared.jscan.ScanPlan.{ScanPlan}
 use Rattle.rv_jscan.specs.declared.jscan.Taken.{Taken}
 use Rattle.rv_jscan.specs.declared.jscan.Taken.TheVariants.{Piece, Nothing}
@@ -42,6 +41,8 @@ use Rattle.rv_jscan.specs.Planned.{indexes_of}
 use Rattle.rv_judge.specs.Drops.{was_dropped}
 use Rattle.rv_race.specs.Runs.{Ended, IsOfUndropped, Placed, Tells, TellsBy, TellsOver, TellsRacing, ended_indexes, events_left, is_keyed, keyed, later, left_by, left_of, list_length, listed_by, outcome, told_ends}
 use Rattle.rv_race.specs.Ways.{advanced, followed, followed_by, has_next, joined, lower, lower_of, turned, turned_to}
+use Rattle.rv_final.proofs.Endings.{IsFinal, final_done}
+use Rattle.rv_final.proofs.Givings.{given_holds}
 use Rattle.rv_race.proofs.Switches.{is_racing, over_as}
 use Rattle.rv_race.proofs.Traces.{OneTurn, chain_went, drop_last, final_of, final_turn, has_scans, last_off, list_last, listed_more, one_more, once_apart, once_front, once_swap, so_far, stop_last, told_length, told_more, turns_of, undropped}
 use Rattle.rv_race.proofs.Ways.{advanced_as, followed_as, some_at}
@@ -351,9 +352,6 @@ left_final true = omega arith
 left_final false = omega arith
 
 -- the control to which a happening leads is one of the final ones
-abbrev pub IsFinal : Control → Type 0
-IsFinal c = (c ≡ FinalList) ⊎ (c ≡ FinalTable)
-
 final_is : (b : Bool) → IsFinal (final_of b)
 final_is true = inl refl
 final_is false = inr refl
@@ -518,13 +516,8 @@ obeyed_tells : (would : ℕ → Facts → Ruling) (state after : ℕ) (piece : P
 obeyed_tells would state after piece old new (Some cut) back o t = subst Tells (sym o.0) (ruled_tells _ piece old back t)
 obeyed_tells would state after piece old new None back o t = subst Tells (sym o.0.ends) (ended_tells piece o.0.keys old back t)
 
-given_tells : (would : ℕ → Facts → Ruling) (state after : ℕ) (piece : Pieced) (g : Given) (old new : Raced) → Answers old piece g new → GivesOn would state after piece g old new → Tells old → Tells new
-given_tells would state after piece Accepted old new a o t = obeyed_tells would state after piece old new (held_next (turn_lane old).held) a.under_way o t
-given_tells would state after piece (Stale asked now) old new a o t = subst Tells (sym o.0) t
-
 pub gives_tell : {E : Type 0} (r : Result Given E) (would : ℕ → Facts → Ruling) (state after : ℕ) (piece : Pieced) (old new : Raced) → IfOk r (λ g. Answers old piece g new) → IfOk r (λ g. GivesOn would state after piece g old new) → OnErr r (new ≡ old) → Tells old → Tells new
-gives_tell (Ok g) would state after piece old new a o e t = given_tells would state after piece g old new a o t
-gives_tell (Err x) would state after piece old new a o e t = subst Tells (sym e) t
+gives_tell r would state after piece old new a o e t = given_holds r (λ g. Answers old piece g new) (λ g. GivesOn would state after piece g old new) Tells old new (λ a o. obeyed_tells would state after piece old new (held_next (turn_lane old).held) a.under_way o t) (λ asked now o. o.0) a o e t
 
 -- THE FINAL STAGE
 
@@ -578,11 +571,10 @@ aside_tells r new plans items named list other next turn control t = record { na
 
 -- the source is at its end
 pub done_tells : (r : Raced) → IsFinal r.control → Tells r → Tells (gone FinalEnded r)
-done_tells r f t = record { named = t.named; tells = subst (λ (c : Control). TellsBy c (gone FinalEnded r)) (sym (leads f)) done }
+done_tells r f t = record { named = t.named; tells = subst (λ (c : Control). TellsBy c (gone FinalEnded r)) (sym leads) done }
   where
-    leads : IsFinal r.control → next_control BackgroundOnly r.control FinalEnded ≡ Done
-    leads (inl e) = ap (λ (c : Control). next_control BackgroundOnly c FinalEnded) e
-    leads (inr e) = ap (λ (c : Control). next_control BackgroundOnly c FinalEnded) e
+    leads : next_control BackgroundOnly r.control FinalEnded ≡ Done
+    leads = final_done BackgroundOnly r.control f
 
     final_at : IsFinal r.control → final r.control ≡ true
     final_at (inl e) = ap final e
@@ -604,7 +596,7 @@ done_tells r f t = record { named = t.named; tells = subst (λ (c : Control). Te
         let went = one_more o.planned r.trace.events.items o.turns s (idle Done s.ahead s.listed) FinalEnded 0 (At Done ∷ []) (record { run = o.run; told = o.told; ends = refl }) turn.1 turn.0 in
         let room = o.room in
         let left = one_left f in
-        let all : (gone FinalEnded r).trace.events.items ≡ r.trace.events.items ++ At Done ∷ [] = with_room r.trace.events.items (At (next_control BackgroundOnly r.control FinalEnded) ∷ []) (omega arith) ∙ ap (λ (c : Control). r.trace.events.items ++ At c ∷ []) (leads f) in
+        let all : (gone FinalEnded r).trace.events.items ≡ r.trace.events.items ++ At Done ∷ [] = with_room r.trace.events.items (At (next_control BackgroundOnly r.control FinalEnded) ∷ []) (omega arith) ∙ ap (λ (c : Control). r.trace.events.items ++ At c ∷ []) leads in
         let size = ap length all in
         let sum = length-append r.trace.events.items (At Done ∷ []) in
         record {
@@ -612,11 +604,11 @@ done_tells r f t = record { named = t.named; tells = subst (λ (c : Control). Te
           turns = o.turns ++ record { happening = FinalEnded; keys = 0 } ∷ [];
           run = went.run;
           told = all ∙ went.told;
-          at = ap (λ (x : Standing). x.control) went.ends ∙ sym (leads f);
+          at = ap (λ (x : Standing). x.control) went.ends ∙ sym leads;
           scanned = o.scanned;
           once = o.once;
           known = o.known;
-          room = subst (λ (c : Control). length (gone FinalEnded r).trace.events.items + events_left c ≤ 32) (sym (leads f)) (omega arith);
+          room = subst (λ (c : Control). length (gone FinalEnded r).trace.events.items + events_left c ≤ 32) (sym leads) (omega arith);
         }
 
 -- A TRACE THAT TELLS A RUN IS ALLOWED

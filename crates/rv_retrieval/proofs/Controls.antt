@@ -1,5 +1,5 @@
 -- What each control's step does to the fit and the rest.
-use Rattle.std.proofs.Common.{◌≡◌, ℕ, ◌⊎◌, [], Bool, true, false, ◌||◌, refl, ap, sym, ◌∙◌, subst, Some, inl, inr, Result, Ok, Err, OnErr}
+use Rattle.std.proofs.Common.{◌≡◌, ◌⊎◌, [], Bool, true, false, ◌||◌, refl, ap, sym, ◌∙◌, subst, Some, inl, inr}
 use Rattle.rv_judge.specs.declared.events.Trace.{Trace}
 use Rattle.rv_judge.specs.declared.events.Strategy.{Strategy}
 use Rattle.rv_judge.specs.declared.events.Control.{Control}
@@ -10,7 +10,8 @@ use Rattle.rv_reader.specs.Shown.{Shown}
 use Rattle.rv_scan.specs.declared.skip.Scanned.{Scanned}
 use Rattle.rv_final.specs.Rest.{StepMarks}
 use Rattle.rv_retrieval.specs.Shape.{Shape, RetrievalFits, DoesStep, Source, Ahead, Keys, Pages, Nowhere, rest, source, source_of, left_at, rows_of, is_index_only, is_sorted, is_led}
-use Rattle.rv_final.specs.Stage.{PassesKeys, Staged, own_pages, own_rows}
+use Rattle.rv_final.specs.Stage.{PassesKeys, Staged}
+use Rattle.rv_final.proofs.Endings.{final_done}
 use Rattle.rv_final.proofs.Rests.{no_rest, same_rest}
 use Rattle.rv_final.proofs.Marks.{marks_steps}
 use Rattle.rv_retrieval.proofs.Switching.{rest_at}
@@ -39,10 +40,6 @@ done_fits v t shown f = record {
   ordered = f.ordered;
   sorted = λ h. inr refl;
 }
-
-final_done : (s : Strategy) (c : Control) → (c ≡ FinalList) ⊎ (c ≡ FinalTable) → next_control s c FinalEnded ≡ Done
-final_done s c (inl e) = ap (λ (x : Control). next_control s x FinalEnded) e
-final_done s c (inr e) = ap (λ (x : Control). next_control s x FinalEnded) e
 
 -- a step that ends over an empty rest
 pub ended : (v mid new : Shape) (shown : Shown) → rest v shown ≡ [] → new ≡ record mid { control = Done; trace = new.trace } → (rest v shown ≡ []) × (rest new shown ≡ [])
@@ -97,13 +94,6 @@ table_scanned v new shown s c e f marks =
     let step = marks_steps v.query.need v.query.order v.query.only (rows_of v shown) s (left_at Pages v shown) (left_at Pages next shown) f.ascend order moved in
     subst (λ (x : Shape). DoesStep v x shown s) (sym e) (rw (rest_at v shown Pages (source_at v FinalTable c), rest_at next shown Pages (source_at v FinalTable c)) step)
 
--- the table that is scanned is the query's
-pub rows_same : (v : Shape) (shown : Shown) → RetrievalFits v shown → own_rows v.last shown ≡ rows_of v shown
-rows_same v shown f = ap (λ (t : ℕ). shown.rows t v.last.snap) f.last.of_table ∙ ap (shown.rows v.query.table) f.last.at_snap
-
-pub pages_same : (v : Shape) (shown : Shown) → RetrievalFits v shown → own_pages v.last shown ≡ shown.pages v.query.table v.query.snap
-pages_same v shown f = ap (λ (t : ℕ). shown.pages t v.last.snap) f.last.of_table ∙ ap (shown.pages v.query.table) f.last.at_snap
-
 -- What the final stage's calls leave of the retrieval.
 
 abbrev pub stage_of : Shape → Staged
@@ -111,13 +101,3 @@ stage_of v = record { at = v.at; last = v.last }
 
 abbrev pub with_stage : Shape → Staged → Shape
 with_stage v s = record v { at = s.at; last = s.last }
-
-pub only_at : (v : Shape) (s : Staged) → s ≡ record (stage_of v) { at = s.at } → with_stage v s ≡ record v { at = s.at }
-only_at v s e = ap (with_stage v) e
-
-pub only_last : (v : Shape) (s : Staged) → s ≡ record (stage_of v) { last = s.last } → with_stage v s ≡ record v { last = s.last }
-only_last v s e = ap (with_stage v) e
-
-pub stage_err : {T E : Type 0} (r : Result T E) (v : Shape) (s : Staged) → OnErr r (s ≡ stage_of v) → OnErr r (with_stage v s ≡ v)
-stage_err (Ok x) v s e = tt
-stage_err (Err x) v s e = ap (with_stage v) e

@@ -30,6 +30,7 @@ use Rattle.rv_retrieval.specs.Rulings.{GivesOn, Obeyed, Obeys, dropped, dropping
 use Rattle.rv_retrieval.specs.Shape.{RetrievalFits, Shape, is_background}
 use Rattle.rv_retrieval.specs.Telling.{can_stop}
 use Rattle.rv_judge.specs.Tracing.{noted}
+use Rattle.rv_final.proofs.Givings.{put_if, spends_no_more}
 use Rattle.rv_retrieval.proofs.BackWork.{abandoned_less, accepted_less, completed_less}
 use Rattle.rv_retrieval.proofs.Courses.{HasFront, back_none, building_back, ended_none, goes_lower, keys_back, lower_back, lower_building, may_lead, scan_none, sum_less, sum_lower, sum_near}
 
@@ -110,12 +111,7 @@ give_if (Ok g) would state after piece old new shown a o f = give_spends would s
 give_if (Err e) would state after piece old new shown a o f = tt
 
 pub give_less : {E : Type 0} (r : Result Given E) (would : ℕ → Facts → Ruling) (state after : ℕ) (piece : Pieced) (old new : Shape) (shown : Shown) → IfOk r (λ g. Answers old piece g new) → IfOk r (λ g. GivesOn would state after piece g old new) → OnErr r (new ≡ old) → RetrievalFits old shown → effort new shown ≤ effort old shown
-give_less (Ok g) would state after piece old new shown a o e f = by g (give_spends would state after piece g old new shown a o f)
-  where
-    by : (g : Given) → GiveSpends g (effort old shown) (effort new shown) → effort new shown ≤ effort old shown
-    by Accepted s = omega arith
-    by (Stale asked now) s = omega arith
-give_less (Err x) would state after piece old new shown a o e f = let is = ap (λ (x : Shape). effort x shown) e in omega arith
+give_less r would state after piece old new shown a o e f = spends_no_more r (effort old shown) (effort new shown) (give_if r would state after piece old new shown a o f) (put_if r (λ (x : Shape). effort x shown) new old (effort old shown) refl e)
 
 -- Pieces are awaited where a scan is under way.
 

@@ -27,7 +27,6 @@ use Rattle.rv_judge.specs.Course.{building, fast_first, final, foreground_alone,
 use Rattle.rv_judge.specs.Runs.{Allowed, AllowedRun}
 use Rattle.rv_judge.proofs.Allowing.{run_allowed}
 use Rattle.rv_jscan.specs.declared.jscan.Given.{Given}
-use Rattle.rv_jscan.specs.declared.jscan.Given.TheVariants.{Accepted, Stale}
 use Rattle.rv_jscan.specs.declared.jscan.ScanPlan.{ScanPlan}
 use Rattle.rv_jscan.specs.declared.jscan.Taken.{Taken}
 use Rattle.rv_jscan.specs.declared.jscan.Taken.TheVariants.{Piece, Nothing}
@@ -46,6 +45,7 @@ use Rattle.rv_retrieval.specs.Shape.{Ahead, Shape, is_background, is_led, rows_o
 use Rattle.rv_retrieval.specs.Stepping.{Borrows, DoesAs, DoesIts, RemembersBy, StepsBackground, StepsBehind, ended_by, filled, is_awaiting, kind_of}
 use Rattle.rv_retrieval.specs.Telling.{can_stop, events_for, index_of, list_len}
 use Rattle.rv_judge.specs.Tracing.{counted, noted, with_events}
+use Rattle.rv_final.proofs.Givings.{given_holds}
 use Rattle.rv_retrieval.proofs.Running.{all_tells, drop_tells_last, drop_tells_on, final_tells, front_tells, full_tells_fast, full_tells_index, list_tells_last, list_tells_on, stop_tells}
 use Rattle.rv_retrieval.proofs.Turns.{final_row, front_row}
 
@@ -194,9 +194,7 @@ accepted_tells would state after v new j entries None back way (keys, _, _, e) o
     ended false b w e o = o.0
 
 pub given_tells : {E : Type 0} (r : Result Given E) (would : ℕ → Facts → Ruling) (state after : ℕ) (piece : Pieced) (v new : Shape) → IfOk r (λ g. Answers v piece g new) → IfOk r (λ g. GivesOn would state after piece g v new) → OnErr r (new ≡ v) → Tells v → Tells new
-given_tells (Ok Accepted) would state after piece v new a (j, accepts, obeys) err t = accepted_tells would state after v new j piece.entries (held_next v.joint.held) a.back a.awaits.way accepts obeys t
-given_tells (Ok (Stale asked now)) would state after piece v new a o err t = subst Tells (sym o.0) t
-given_tells (Err x) would state after piece v new a o err t = subst Tells (sym err) t
+given_tells r would state after piece v new a o err t = given_holds r (λ g. Answers v piece g new) (λ g. GivesOn would state after piece g v new) Tells v new (λ a o. accepted_tells would state after v new o.0 piece.entries (held_next v.joint.held) a.back a.awaits.way o.1 o.2 t) (λ asked now o. o.0) a o err t
 
 -- a background step
 pub behind_tells : (awaiting : Bool) (would : ℕ → Facts → Ruling) (state after : ℕ) (v new : Shape) → (awaiting ≡ true → is_background v.control ≡ true) → StepsBehind awaiting would state after v new → Tells v → Tells new

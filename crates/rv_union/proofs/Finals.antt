@@ -1,35 +1,33 @@
 -- The final stage of a union.
-use Rattle.std.proofs.Common.{◌≡◌, ℕ, List, [], true, false, refl, ap, sym, ◌∙◌, arith, subst, Some, None, Result, Ok, Err, OnErr}
+use Rattle.std.proofs.Common.{◌≡◌, ℕ, List, [], true, false, refl, ap, sym, ◌∙◌, subst, Some, None}
 use Rattle.rv_value.proofs.Tests.{no_way}
-use Rattle.rv_value.specs.declared.record.Record.{Record}
-use Rattle.rv_rows.specs.Rows.{Ascend}
 use Rattle.rv_judge.specs.declared.counting.Counts.{Counts}
 use Rattle.rv_judge.specs.declared.events.Control.{Control}
 use Rattle.rv_judge.specs.declared.events.Control.TheVariants.{BackgroundAlone, FinalList, FinalTable, Done}
 use Rattle.rv_judge.specs.declared.events.Happening.TheVariants.{FinalEnded}
+use Rattle.rv_judge.specs.declared.events.Strategy.TheVariants.{Union}
 use Rattle.rv_judge.specs.declared.judging.Facts.{Facts}
-use Rattle.rv_judge.specs.Tracing.{SameCounts}
 use Rattle.rv_judge.specs.Verdicts.{Ruling}
 use Rattle.rv_reader.specs.Shown.{Shown}
-use Rattle.rv_scan.specs.Places.{Place, PageReads}
+use Rattle.rv_scan.specs.Places.{PageReads}
 use Rattle.rv_scan.specs.declared.skip.Scanned.{Scanned}
 use Rattle.rv_scan.specs.declared.skip.Scanned.TheVariants.{Working, End}
 use Rattle.rv_jscan.specs.declared.jscan.Given.{Given}
-use Rattle.rv_jscan.specs.declared.jscan.Given.TheVariants.{Accepted, Stale}
+use Rattle.rv_jscan.specs.declared.jscan.Given.TheVariants.{Accepted}
 use Rattle.rv_jscan.specs.Pieces.{Pieced}
-use Rattle.rv_final.specs.Rest.{StepMarks, Steps, rest_by}
-use Rattle.rv_final.specs.Stage.{FetchesKey, LastFits, PassesKeys, Staged, first_key, list_left, own_pages, own_rows, table_left}
-use Rattle.rv_final.specs.Work.{Falls, Tries}
-use Rattle.rv_final.proofs.Marks.{marks_steps}
+use Rattle.rv_final.specs.Rest.{StepMarks, rest_by}
+use Rattle.rv_final.specs.Stage.{FetchesKey, LastFits, PassesKeys, Staged, first_key, list_left, table_left}
+use Rattle.rv_final.proofs.Endings.{IsFinal, final_done, steps_by, told_as}
+use Rattle.rv_final.proofs.Givings.{was_accepted}
 use Rattle.rv_final.proofs.Rests.{no_rest, same_rest}
-use Rattle.rv_final.specs.LaneWork.{effort_by}
-use Rattle.rv_union.specs.Effort.{effort, keys_work, scanning_work, table_work}
+use Rattle.rv_union.specs.Effort.{effort, keys_work, table_work}
 use Rattle.rv_union.specs.Given.{Answers, Awaits, TakesLeaf, piece_read}
 use Rattle.rv_union.specs.Opened.{Does, DoesAs, DoesStep, Steady, ended_by}
-use Rattle.rv_union.specs.Unioned.{UnionFits, Unioned, SameUnion, left_by, scanning, rest, rows_of}
+use Rattle.rv_union.specs.Unioned.{UnionFits, Unioned, left_by, scanning, rest, rows_of}
 use Rattle.rv_union.specs.Rulings.{GivesOn, gone}
-use Rattle.rv_union.specs.Runs.{Tells}
-use Rattle.rv_union.proofs.Tellings.{IsFinal, aside_tells, done_tells, final_leads}
+use Rattle.rv_union.proofs.Efforts.{effort_at}
+use Rattle.rv_union.proofs.Switches.{aside_fits}
+use Rattle.rv_union.proofs.Tellings.{aside_tells, done_tells}
 
 -- THE REST, BY THE CONTROL
 
@@ -39,20 +37,12 @@ rest_at r shown c e = ap (λ (x : Control). rest_by (left_by x r.keys r.at r.las
 pub done_rest : (r : Unioned) (shown : Shown) → r.control ≡ Done → rest r shown ≡ []
 done_rest r shown e = rest_at r shown Done e ∙ no_rest r.only (rows_of r shown) (λ n. false) (λ n q. refl)
 
--- a step of the final stage said of each row number is one of the rest
-steps_rest : (need : List ℕ) (r new : Unioned) (shown : Shown) (c : Control) (s : Scanned) → r.control ≡ c → new.control ≡ c → new.only ≡ r.only → rows_of new shown ≡ rows_of r shown → Ascend (rows_of r shown) → StepMarks need r.only (rows_of r shown) s (left_by c r.keys r.at r.last (rows_of r shown)) (left_by c new.keys new.at new.last (rows_of r shown)) → Steps need [] s (rest r shown) (rest new shown)
-steps_rest need r new shown c s e n only rows asc marks =
-    let step = marks_steps need [] r.only (rows_of r shown) s (left_by c r.keys r.at r.last (rows_of r shown)) (left_by c new.keys new.at new.last (rows_of r shown)) asc refl marks in
-    let old_rest = rest_at r shown c e in
-    let new_rest : rest new shown ≡ rest_by (left_by c new.keys new.at new.last (rows_of r shown)) r.only (rows_of r shown) = rest_at new shown c n ∙ ap (λ (rs : List Record). rest_by (left_by c new.keys new.at new.last rs) new.only rs) rows ∙ ap (λ (o : _). rest_by (left_by c new.keys new.at new.last (rows_of r shown)) o (rows_of r shown)) only in
-    subst (λ (x : List Record). Steps need [] s x (rest new shown)) (sym old_rest) (subst (λ (x : List Record). Steps need [] s (rest_by (left_by c r.keys r.at r.last (rows_of r shown)) r.only (rows_of r shown)) x) (sym new_rest) step)
-
 -- The list.
 
 pub list_scanned : (r new : Unioned) (shown : Shown) (s : Scanned) → r.control ≡ FinalList → new ≡ record r { at = new.at } → UnionFits r shown → ((need : List ℕ) → StepMarks need r.only (rows_of r shown) s (list_left (Some r.keys) None r.at) (list_left (Some r.keys) None new.at)) → DoesStep r new shown s
 list_scanned r new shown s c e f marks need =
-    let next = record r { at = new.at } in
-    subst (λ (x : Unioned). Steps need [] s (rest r shown) (rest x shown)) (sym e) (steps_rest need r next shown FinalList s c c refl refl f.ascend (marks need))
+    let now = ap (λ (x : Unioned). rest x shown) e ∙ rest_at (record r { at = new.at }) shown FinalList c in
+    steps_by need r.only (rows_of r shown) s (list_left (Some r.keys) None r.at) (list_left (Some r.keys) None new.at) (rest r shown) (rest new shown) (rest_at r shown FinalList c) now f.ascend (marks need)
 
 pub passed_rest : (r new : Unioned) (shown : Shown) → r.control ≡ FinalList → new ≡ record r { at = new.at } → PassesKeys (Some r.keys) None r.at new.at → rest new shown ≡ rest r shown
 passed_rest r new shown c e p =
@@ -63,15 +53,8 @@ passed_rest r new shown c e p =
 
 pub table_scanned : (r new : Unioned) (shown : Shown) (s : Scanned) → r.control ≡ FinalTable → new ≡ record r { last = new.last } → UnionFits r shown → ((need : List ℕ) → StepMarks need r.only (rows_of r shown) s (table_left r.last (rows_of r shown) None) (table_left new.last (rows_of r shown) None)) → DoesStep r new shown s
 table_scanned r new shown s c e f marks need =
-    let next = record r { last = new.last } in
-    subst (λ (x : Unioned). Steps need [] s (rest r shown) (rest x shown)) (sym e) (steps_rest need r next shown FinalTable s c c refl refl f.ascend (marks need))
-
--- the table that is scanned is the union's
-pub rows_same : (r : Unioned) (shown : Shown) → UnionFits r shown → own_rows r.last shown ≡ rows_of r shown
-rows_same r shown f = ap (λ (t : ℕ). shown.rows t r.last.snap) f.last.of_table ∙ ap (shown.rows r.table) f.last.at_snap
-
-pub pages_same : (r : Unioned) (shown : Shown) → UnionFits r shown → own_pages r.last shown ≡ shown.pages r.table r.snap
-pages_same r shown f = ap (λ (t : ℕ). shown.pages t r.last.snap) f.last.of_table ∙ ap (shown.pages r.table) f.last.at_snap
+    let now = ap (λ (x : Unioned). rest x shown) e ∙ rest_at (record r { last = new.last }) shown FinalTable c in
+    steps_by need r.only (rows_of r shown) s (table_left r.last (rows_of r shown) None) (table_left new.last (rows_of r shown) None) (rest r shown) (rest new shown) (rest_at r shown FinalTable c) now f.ascend (marks need)
 
 -- What the final stage's calls leave of the union.
 
@@ -81,89 +64,30 @@ stage_of r = record { at = r.at; last = r.last }
 abbrev pub with_stage : Unioned → Staged → Unioned
 with_stage r s = record r { at = s.at; last = s.last }
 
-pub only_at : (r : Unioned) (s : Staged) → s ≡ record (stage_of r) { at = s.at } → with_stage r s ≡ record r { at = s.at }
-only_at r s e = ap (with_stage r) e
-
-pub only_last : (r : Unioned) (s : Staged) → s ≡ record (stage_of r) { last = s.last } → with_stage r s ≡ record r { last = s.last }
-only_last r s e = ap (with_stage r) e
-
-pub stage_err : {T E : Type 0} (x : Result T E) (r : Unioned) (s : Staged) → OnErr x (s ≡ stage_of r) → OnErr x (with_stage r s ≡ r)
-stage_err (Ok y) r s e = tt
-stage_err (Err y) r s e = ap (with_stage r) e
-
 -- THE FIT
 
 not_scanning : (c d : Control) → c ≡ d → scanning d ≡ false → scanning c ≡ true → true ≡ false
 not_scanning c d e off on = sym on ∙ ap scanning e ∙ off
 
-pub listed_on : (r new : Unioned) (shown : Shown) → r.control ≡ FinalList → new ≡ record r { at = new.at } → UnionFits r shown → UnionFits new shown
-listed_on r new shown c e f = subst (λ (x : Unioned). UnionFits x shown) (sym e) record {
-  ascend = f.ascend;
-  read = f.read;
-  columns = f.columns;
-  members = f.members;
-  there = f.there;
-  lane = f.lane;
-  finds = f.finds;
-  covers = f.covers;
-  listed = f.listed;
-  building = f.building;
-  last = f.last;
-  unbegun = λ h. no_way (not_scanning r.control FinalList c refl h);
-  stands = f.stands;
-}
-
-pub paged_on : (r new : Unioned) (shown : Shown) → r.control ≡ FinalTable → new ≡ record r { last = new.last } → LastFits r.table r.snap new.last shown → UnionFits r shown → UnionFits new shown
-paged_on r new shown c e l f = subst (λ (x : Unioned). UnionFits x shown) (sym e) record {
-  ascend = f.ascend;
-  read = f.read;
-  columns = f.columns;
-  members = f.members;
-  there = f.there;
-  lane = f.lane;
-  finds = f.finds;
-  covers = f.covers;
-  listed = f.listed;
-  building = f.building;
-  last = l;
-  unbegun = λ h. no_way (not_scanning r.control FinalTable c refl h);
-  stands = f.stands;
-}
-
 pub done_fits : (r : Unioned) (shown : Shown) → IsFinal r.control → UnionFits r shown → UnionFits (gone FinalEnded r) shown
-done_fits r shown at f = subst (λ (c : Control). UnionFits (record r { control = c; trace = (gone FinalEnded r).trace }) shown) (sym (final_leads r at)) record {
-  ascend = f.ascend;
-  read = f.read;
-  columns = f.columns;
-  members = f.members;
-  there = f.there;
-  lane = f.lane;
-  finds = λ h. absurd (cc);
-  covers = λ h. absurd (cc);
-  listed = f.listed;
-  building = f.building;
-  last = f.last;
-  unbegun = λ h. absurd (cc);
-  stands = refl;
-}
+done_fits r shown at f = subst (λ (c : Control). UnionFits (record r { control = c; trace = (gone FinalEnded r).trace }) shown) (sym (final_done Union r.control at)) (aside_fits r Done r.at r.last (gone FinalEnded r).trace shown f.last (λ h. no_way (sym h)) (λ h. no_way (sym h)) (λ h. absurd (cc)) refl f)
 
 -- WHAT EVERY STEP OF IT KEEPS
 
-pub list_steady : (r new : Unioned) (shown : Shown) → r.control ≡ FinalList → new ≡ record r { at = new.at } → UnionFits r shown → Steady r new shown
-list_steady r new shown c e f = record {
-  same = subst (SameUnion r) (sym e) record { table = refl; snap = refl; cursor = refl; opening = refl; only = refl; plans = refl };
-  counts = subst (λ (x : Unioned). SameCounts r.trace x.trace) (sym e) record { pages = refl; leaves = refl; fetches = refl };
-  fits = listed_on r new shown c e f;
-  tells = λ t. subst Tells (sym e) (aside_tells r (record r { at = new.at }) refl refl refl refl refl t);
+-- the final stage's parts are none of what every step keeps
+pub stage_steady : (r : Unioned) (s : Staged) (shown : Shown) → UnionFits (with_stage r s) shown → Steady r (with_stage r s) shown
+stage_steady r s shown f = record {
+  same = record { table = refl; snap = refl; cursor = refl; opening = refl; only = refl; plans = refl };
+  counts = record { pages = refl; leaves = refl; fetches = refl };
+  fits = f;
+  tells = λ t. aside_tells r (with_stage r s) refl refl refl refl refl t;
 }
 
+pub list_steady : (r new : Unioned) (shown : Shown) → r.control ≡ FinalList → new ≡ record r { at = new.at } → UnionFits r shown → Steady r new shown
+list_steady r new shown c e f = subst (λ (x : Unioned). Steady r x shown) (sym e) (stage_steady r (record { at = new.at; last = r.last }) shown (aside_fits r r.control new.at r.last r.trace shown f.last (λ h. no_way (not_scanning r.control FinalList c refl h)) f.finds f.covers f.stands f))
+
 pub table_steady : (r new : Unioned) (shown : Shown) → r.control ≡ FinalTable → new ≡ record r { last = new.last } → LastFits r.table r.snap new.last shown → UnionFits r shown → Steady r new shown
-table_steady r new shown c e l f = record {
-  same = subst (SameUnion r) (sym e) record { table = refl; snap = refl; cursor = refl; opening = refl; only = refl; plans = refl };
-  counts = subst (λ (x : Unioned). SameCounts r.trace x.trace) (sym e) record { pages = refl; leaves = refl; fetches = refl };
-  fits = paged_on r new shown c e l f;
-  tells = λ t. subst Tells (sym e) (aside_tells r (record r { last = new.last }) refl refl refl refl refl t);
-}
+table_steady r new shown c e l f = subst (λ (x : Unioned). Steady r x shown) (sym e) (stage_steady r (record { at = r.at; last = new.last }) shown (aside_fits r r.control r.at new.last r.trace shown l (λ h. no_way (not_scanning r.control FinalTable c refl h)) f.finds f.covers f.stands f))
 
 pub ended_steady : (r mid new : Unioned) (shown : Shown) → IsFinal mid.control → new ≡ gone FinalEnded mid → Steady r mid shown → Steady r new shown
 ended_steady r mid new shown at e s = subst (λ (x : Unioned). Steady r x shown) (sym e) record {
@@ -173,48 +97,23 @@ ended_steady r mid new shown at e s = subst (λ (x : Unioned). Steady r x shown)
   tells = λ t. done_tells mid at (s.tells t);
 }
 
-pub same_control : (r mid : Unioned) (c : Control) → mid.control ≡ r.control → r.control ≡ c → mid.control ≡ c
-same_control r mid c e f = e ∙ f
-
 -- a step that ends over an empty rest
 pub ended_step : (r mid new : Unioned) (shown : Shown) → IsFinal mid.control → new ≡ gone FinalEnded mid → DoesStep r mid shown End → DoesStep r new shown End
 ended_step r mid new shown at e step need =
     let none = step need in
-    (none.0, ap (λ (x : Unioned). rest x shown) e ∙ done_rest (gone FinalEnded mid) shown (final_leads mid at))
+    (none.0, ap (λ (x : Unioned). rest x shown) e ∙ done_rest (gone FinalEnded mid) shown (final_done Union mid.control at))
 
 -- THE EFFORT
 
-pub list_effort : (r : Unioned) (shown : Shown) → r.control ≡ FinalList → effort r shown ≡ keys_work r
-list_effort r shown e = ap (λ (c : Control). effort_by c (scanning_work r shown) (keys_work r) (table_work r shown)) e
+-- over the list it is that of its keys, over the table that of its scan
+pub list_effort : (P : ℕ → ℕ → Type 0) (r new : Unioned) (shown : Shown) → r.control ≡ FinalList → new ≡ record r { at = new.at } → P (keys_work r) (keys_work new) → P (effort r shown) (effort new shown)
+list_effort P r new shown e n h = told_as P (keys_work r) (keys_work new) (effort r shown) (effort new shown) (effort_at r shown FinalList e) (effort_at new shown FinalList (ap (λ (x : Unioned). x.control) n ∙ e)) h
 
-pub table_effort : (r : Unioned) (shown : Shown) → r.control ≡ FinalTable → effort r shown ≡ table_work r shown
-table_effort r shown e = ap (λ (c : Control). effort_by c (scanning_work r shown) (keys_work r) (table_work r shown)) e
+pub table_effort : (P : ℕ → ℕ → Type 0) (r new : Unioned) (shown : Shown) → r.control ≡ FinalTable → new ≡ record r { last = new.last } → P (table_work r shown) (table_work new shown) → P (effort r shown) (effort new shown)
+table_effort P r new shown e n h = told_as P (table_work r shown) (table_work new shown) (effort r shown) (effort new shown) (effort_at r shown FinalTable e) (effort_at new shown FinalTable (ap (λ (x : Unioned). x.control) n ∙ e)) h
 
-done_effort : (r : Unioned) (shown : Shown) → r.control ≡ Done → effort r shown ≡ 0
-done_effort r shown e = ap (λ (c : Control). effort_by c (scanning_work r shown) (keys_work r) (table_work r shown)) e
-
-pub tries_as : (c d : Counts) (a b old new : ℕ) → old ≡ a → new ≡ b → Tries c d a b → Tries c d old new
-tries_as c d a b old new o n t = subst (λ (x : ℕ). Tries c d x new) (sym o) (subst (λ (x : ℕ). Tries c d a x) (sym n) t)
-
-pub falls_as : (s : Scanned) (c d : Counts) (a b old new : ℕ) → old ≡ a → new ≡ b → Falls s c d a b → Falls s c d old new
-falls_as s c d a b old new o n t = subst (λ (x : ℕ). Falls s c d x new) (sym o) (subst (λ (x : ℕ). Falls s c d a x) (sym n) t)
-
-pub list_tries : (r new : Unioned) (shown : Shown) (c d : Counts) → r.control ≡ FinalList → new ≡ record r { at = new.at } → Tries c d (keys_work r) (keys_work new) → Tries c d (effort r shown) (effort new shown)
-list_tries r new shown c d e n t = tries_as c d (keys_work r) (keys_work new) (effort r shown) (effort new shown) (list_effort r shown e) (list_effort new shown (ap (λ (x : Unioned). x.control) n ∙ e)) t
-
-pub list_falls : (r new : Unioned) (shown : Shown) (s : Scanned) (c d : Counts) → r.control ≡ FinalList → new ≡ record r { at = new.at } → Falls s c d (keys_work r) (keys_work new) → Falls s c d (effort r shown) (effort new shown)
-list_falls r new shown s c d e n t = falls_as s c d (keys_work r) (keys_work new) (effort r shown) (effort new shown) (list_effort r shown e) (list_effort new shown (ap (λ (x : Unioned). x.control) n ∙ e)) t
-
-pub table_tries : (r new : Unioned) (shown : Shown) (c d : Counts) → r.control ≡ FinalTable → new ≡ record r { last = new.last } → Tries c d (table_work r shown) (table_work new shown) → Tries c d (effort r shown) (effort new shown)
-table_tries r new shown c d e n t = tries_as c d (table_work r shown) (table_work new shown) (effort r shown) (effort new shown) (table_effort r shown e) (table_effort new shown (ap (λ (x : Unioned). x.control) n ∙ e)) t
-
-pub table_falls : (r new : Unioned) (shown : Shown) (s : Scanned) (c d : Counts) → r.control ≡ FinalTable → new ≡ record r { last = new.last } → Falls s c d (table_work r shown) (table_work new shown) → Falls s c d (effort r shown) (effort new shown)
-table_falls r new shown s c d e n t = falls_as s c d (table_work r shown) (table_work new shown) (effort r shown) (effort new shown) (table_effort r shown e) (table_effort new shown (ap (λ (x : Unioned). x.control) n ∙ e)) t
-
-pub ended_tries : (mid new : Unioned) (shown : Shown) (c d : Counts) (old : ℕ) → IsFinal mid.control → new ≡ gone FinalEnded mid → Tries c d old (effort mid shown) → Tries c d old (effort new shown)
-ended_tries mid new shown c d old at e t =
-    let none = ap (λ (x : Unioned). effort x shown) e ∙ done_effort (gone FinalEnded mid) shown (final_leads mid at) in
-    record { once = t.once; less = omega arith }
+pub ended_effort : (mid new : Unioned) (shown : Shown) → IsFinal mid.control → new ≡ gone FinalEnded mid → effort new shown ≡ 0
+ended_effort mid new shown at e = ap (λ (x : Unioned). effort x shown) e ∙ effort_at (gone FinalEnded mid) shown Done (final_done Union mid.control at)
 
 -- WHAT A STEP DOES
 
@@ -224,29 +123,15 @@ list_does rules stands r new shown c d s e fetches n = subst (λ (x : Control). 
 pub table_does : (rules : ℕ → Facts → Ruling) (stands : ℕ) (r new : Unioned) (shown : Shown) (c d : Counts) (s : Scanned) → r.control ≡ FinalTable → PageReads s c d → new ≡ ended_by s (record r { last = new.last }) → Does rules stands stands shown c d s r new
 table_does rules stands r new shown c d s e reads n = subst (λ (x : Control). DoesAs x rules stands stands shown c d s r new) (sym e) (refl, reads, n)
 
--- the end, behind keys or pages that were passed
-pub list_over : (r mid new : Unioned) → mid ≡ record r { at = mid.at } → new ≡ gone FinalEnded mid → new ≡ gone FinalEnded (record r { at = new.at })
-list_over r mid new m n =
-    let at : mid.at ≡ new.at = sym (ap (λ (x : Unioned). x.at) n) in
-    n ∙ ap (gone FinalEnded) (m ∙ ap (λ (i : ℕ). record r { at = i }) at)
-
-pub table_over : (r mid new : Unioned) → mid ≡ record r { last = mid.last } → new ≡ gone FinalEnded mid → new ≡ gone FinalEnded (record r { last = new.last })
-table_over r mid new m n =
-    let last : mid.last ≡ new.last = sym (ap (λ (x : Unioned). x.last) n) in
-    n ∙ ap (gone FinalEnded) (m ∙ ap (λ (p : Place). record r { last = p }) last)
-
 pub ends_done : (mid new : Unioned) → IsFinal mid.control → new ≡ gone FinalEnded mid → new.control ≡ Done
-ends_done mid new at e = ap (λ (x : Unioned). x.control) e ∙ final_leads mid at
-
--- one piece
-pub one_piece : (would : ℕ → Facts → Ruling) (state after : ℕ) (old mid new : Unioned) (shown : Shown) (piece sieved : Pieced) (g : Given) (c d : Counts) → old.control ≡ BackgroundAlone → TakesLeaf old mid → Awaits mid piece → sieved ≡ piece → Answers mid sieved g new → GivesOn would state after sieved g mid new → d ≡ piece_read old c → Does would state after shown c d Working old new
-one_piece would state after old mid new shown piece sieved g c d e leaves a s answers o reads = subst (λ (x : Control). DoesAs x would state after shown c d Working old new) (sym e) (refl, record { taken = mid; piece = sieved; leaves = leaves; awaits = subst (Awaits mid) (sym s) a; obeys = accepted g answers o }, reads)
-  where
-    accepted : (g : Given) → Answers mid sieved g new → GivesOn would state after sieved g mid new → GivesOn would state after sieved Accepted mid new
-    accepted Accepted answers o = o
-    accepted (Stale asked now) (never, _, _, _) o = absurd (never (subst (Awaits mid) (sym s) a))
+ends_done mid new at e = ap (λ (x : Unioned). x.control) e ∙ final_done Union mid.control at
 
 -- the awaited piece was accepted
 pub accepted_piece : (would : ℕ → Facts → Ruling) (state after : ℕ) (mid new : Unioned) (piece sieved : Pieced) (g : Given) → Awaits mid piece → sieved ≡ piece → Answers mid sieved g new → GivesOn would state after sieved g mid new → Awaits mid sieved × GivesOn would state after sieved Accepted mid new
-accepted_piece would state after mid new piece sieved Accepted a s answers o = (answers, o)
-accepted_piece would state after mid new piece sieved (Stale asked now) a s (never, _, _, _) o = absurd (never (subst (Awaits mid) (sym s) a))
+accepted_piece would state after mid new piece sieved g a s answers o = was_accepted (λ g. Answers mid sieved g new) (λ g. GivesOn would state after sieved g mid new) g (λ asked now stale. stale.0 (subst (Awaits mid) (sym s) a)) answers o
+
+-- one piece
+pub one_piece : (would : ℕ → Facts → Ruling) (state after : ℕ) (old mid new : Unioned) (shown : Shown) (piece sieved : Pieced) (g : Given) (c d : Counts) → old.control ≡ BackgroundAlone → TakesLeaf old mid → Awaits mid piece → sieved ≡ piece → Answers mid sieved g new → GivesOn would state after sieved g mid new → d ≡ piece_read old c → Does would state after shown c d Working old new
+one_piece would state after old mid new shown piece sieved g c d e leaves a s answers o reads =
+    let was = accepted_piece would state after mid new piece sieved g a s answers o in
+    subst (λ (x : Control). DoesAs x would state after shown c d Working old new) (sym e) (refl, record { taken = mid; piece = sieved; leaves = leaves; awaits = was.0; obeys = was.1 }, reads)

@@ -1,5 +1,5 @@
 -- What a give leaves: an accepted piece, and then the end of its member, or the verdict on it.
-use Rattle.std.proofs.Common.{◌≡◌, ℕ, Bool, true, false, ◌||◌, List, refl, sym, ◌∙◌, subst, Option, Some, None, Result, Ok, Err, IfOk, OnErr}
+use Rattle.std.proofs.Common.{◌≡◌, ℕ, Bool, true, false, ◌||◌, List, refl, sym, ◌∙◌, subst, Option, Some, None, Result, IfOk, OnErr}
 use Rattle.std.specs.Prelude.{if◌then◌else◌}
 use Rattle.rv_value.specs.declared.record.IndexEntry.{IndexEntry}
 use Rattle.rv_keys.specs.Keys.{has_key}
@@ -11,12 +11,12 @@ use Rattle.rv_judge.specs.Tracing.{SameCounts}
 use Rattle.rv_judge.specs.Verdicts.{Ruling}
 use Rattle.rv_reader.specs.Shown.{Shown}
 use Rattle.rv_jscan.specs.declared.jscan.Given.{Given}
-use Rattle.rv_jscan.specs.declared.jscan.Given.TheVariants.{Accepted, Stale}
 use Rattle.rv_jscan.specs.Pieces.{Pieced}
 use Rattle.rv_jscan.specs.Steps.{held_next}
 use Rattle.rv_union.specs.Given.{Answers, Awaits}
 use Rattle.rv_union.specs.Rulings.{GivesOn, Obeys, accepted, index_of, joined, lacks, next_member, over, ruled, told, told_scan, was_begun}
 use Rattle.rv_union.specs.Unioned.{Keeps, SameUnion, UnionFits, Unioned, owed, present, rest, scanning}
+use Rattle.rv_final.proofs.Givings.{given_holds}
 use Rattle.rv_union.proofs.Fits.{Gathers, begun_lane, last_gathers, passed_found, passed_lane, passed_met}
 use Rattle.rv_union.proofs.Switches.{Stays, dropped_stays, moved_stays, over_as, over_stays, stays_on, told_parts}
 
@@ -64,13 +64,8 @@ obeyed_stays would state after piece old new shown None a e o f =
     let went = joined_stays old piece o.0.keys shown a f gathers in
     subst (Stays old shown) (sym o.0.ends) (stays_on old mid (over mid) shown went (over_stays mid shown a.under_way refl went.0 (record { each = gathers.each; met = gathers.met })))
 
-given_stays : (would : ℕ → Facts → Ruling) (state after : ℕ) (piece : Pieced) (g : Given) (old new : Unioned) (shown : Shown) → Answers old piece g new → GivesOn would state after piece g old new → UnionFits old shown → Stays old shown new
-given_stays would state after piece Accepted old new shown a o f = obeyed_stays would state after piece old new shown (held_next old.lane.held) a refl o f
-given_stays would state after piece (Stale asked now) old new shown a o f = subst (Stays old shown) (sym o.0) (f, refl)
-
 pub gives_stay : {E : Type 0} (r : Result Given E) (would : ℕ → Facts → Ruling) (state after : ℕ) (piece : Pieced) (old new : Unioned) (shown : Shown) → IfOk r (λ g. Answers old piece g new) → IfOk r (λ g. GivesOn would state after piece g old new) → OnErr r (new ≡ old) → UnionFits old shown → Stays old shown new
-gives_stay (Ok g) would state after piece old new shown a o e f = given_stays would state after piece g old new shown a o f
-gives_stay (Err x) would state after piece old new shown a o e f = subst (Stays old shown) (sym e) (f, refl)
+gives_stay r would state after piece old new shown a o e f = given_holds r (λ g. Answers old piece g new) (λ g. GivesOn would state after piece g old new) (Stays old shown) old new (λ a o. obeyed_stays would state after piece old new shown (held_next old.lane.held) a refl o f) (λ asked now o. o.0) a o e (f, refl)
 
 pub gives_keep : {E : Type 0} (r : Result Given E) (would : ℕ → Facts → Ruling) (state after : ℕ) (piece : Pieced) (old new : Unioned) → IfOk r (λ g. Answers old piece g new) → IfOk r (λ g. GivesOn would state after piece g old new) → OnErr r (new ≡ old) → Keeps old new
 gives_keep r would state after piece old new a o e = record {
@@ -109,10 +104,5 @@ obeyed_kin : (would : ℕ → Facts → Ruling) (state after : ℕ) (piece : Pie
 obeyed_kin would state after piece old new (Some cut) o = subst (Kin old) (sym o.0) (ruled_kin _ piece old)
 obeyed_kin would state after piece old new None o = subst (Kin old) (sym o.0.ends) (over_kin old (joined o.0.keys (accepted piece true old)) (record { same = record { table = refl; snap = refl; cursor = refl; opening = refl; only = refl; plans = refl }; counts = record { pages = refl; leaves = refl; fetches = refl } }))
 
-given_kin : (would : ℕ → Facts → Ruling) (state after : ℕ) (piece : Pieced) (g : Given) (old new : Unioned) → GivesOn would state after piece g old new → Kin old new
-given_kin would state after piece Accepted old new o = obeyed_kin would state after piece old new (held_next old.lane.held) o
-given_kin would state after piece (Stale asked now) old new o = subst (Kin old) (sym o.0) (kin old)
-
 pub gives_kin : {E : Type 0} (r : Result Given E) (would : ℕ → Facts → Ruling) (state after : ℕ) (piece : Pieced) (old new : Unioned) → IfOk r (λ g. GivesOn would state after piece g old new) → OnErr r (new ≡ old) → Kin old new
-gives_kin (Ok g) would state after piece old new o e = given_kin would state after piece g old new o
-gives_kin (Err x) would state after piece old new o e = subst (Kin old) (sym e) (kin old)
+gives_kin r would state after piece old new o e = given_holds r (λ g. GivesOn would state after piece g old new) (λ g. GivesOn would state after piece g old new) (Kin old) old new (λ a o. obeyed_kin would state after piece old new (held_next old.lane.held) o) (λ asked now o. o.0) o o e (kin old)

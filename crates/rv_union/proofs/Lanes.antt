@@ -1,5 +1,5 @@
 -- What the calls on the present member do to the union.
-use Rattle.std.proofs.Common.{◌≡◌, ◌↔◌, ℕ, ◌+◌, ◌-◌, ◌<◌, ◌≤◌, ◌++◌, List, length, length-append, Bool, true, false, not, ◌&&◌, ◌||◌, refl, ap, sym, ◌∙◌, arith, subst, Option, Some, None, is_some, IsTrue, Result, Ok, Err, OnErr}
+use Rattle.std.proofs.Common.{◌≡◌, ◌↔◌, ℕ, ◌+◌, ◌-◌, ◌<◌, ◌≤◌, ◌++◌, List, length, length-append, Bool, true, false, not, ◌&&◌, ◌||◌, refl, ap, sym, ◌∙◌, arith, subst, Option, Some, None, is_some, IsTrue}
 use Rattle.rv_value.specs.declared.record.IndexEntry.{IndexEntry}
 use Rattle.rv_judge.specs.declared.judging.Facts.{Facts}
 use Rattle.rv_judge.specs.Counting.{one_more}
@@ -27,10 +27,6 @@ lane_kept r l e = ap (λ (x : Laned). with_lane x r) e
 
 pub lane_held : (r : Unioned) (l : Laned) → l ≡ record r.lane { held = l.held } → with_lane l r ≡ with_lane (record r.lane { held = l.held }) r
 lane_held r l e = ap (λ (x : Laned). with_lane x r) e
-
-pub lane_err : {T E : Type 0} (x : Result T E) (r : Unioned) (l : Laned) → OnErr x (l ≡ r.lane) → OnErr x (with_lane l r ≡ r)
-lane_err (Ok y) r l e = tt
-lane_err (Err y) r l e = lane_kept r l e
 
 -- what a list lacks stays apart from it
 pub kept_apart : (keys built : List ℕ) (part : Parted) (entries : List IndexEntry) → AreApart keys built → AreApart keys (built ++ kept_by (lacks keys) part entries)
@@ -83,10 +79,6 @@ small_room old mid piece last more most m e room =
     omega arith
 
 -- What becomes of the member of an accepted piece.
-
--- what stands on the right of an equation
-abbrev pub right_of : {A : Type 0} {x y : A} → x ≡ y → A
-right_of {A} {x} {y} p = y
 
 -- where it was the last one its member completed, else the judge is asked
 pub obeys_by : (would : ℕ → Facts → Ruling) (state after : ℕ) (piece : Pieced) (old mid new : Unioned) (last : Bool) (next : Option IndexEntry) → is_some next ≡ not last → (last ≡ true → Completes (accepted piece true old) mid) → (last ≡ false → mid ≡ accepted piece false old) → (last ≡ true → new ≡ mid) → (last ≡ true → after ≡ state) → (last ≡ false → IsRuled (would state (facts_of mid)) after mid new) → Obeys would state after piece next old new

@@ -34,8 +34,8 @@ use Rattle.rv_union.specs.Leaves.{LeavesFall, held_leaves, lane_leaves, leaves_b
 use Rattle.rv_union.specs.Rulings.{GivesOn, Obeys, accepted, dropped, facts_of, going_on, joined, listed, next_member, over, ruled}
 use Rattle.rv_union.specs.Unioned.{UnionFits, Unioned, present, scanning}
 use Rattle.rv_final.proofs.LaneWork.{none_held}
-use Rattle.rv_union.proofs.Efforts.{with_turn}
 use Rattle.rv_union.proofs.Switches.{dropped_leads, drops, is_scanning, listed_leads, over_as, told_parts}
+use Rattle.rv_union.proofs.Takes.{took_parts}
 
 left_at : (u : Unioned) (shown : Shown) (c : Control) → u.control ≡ c → leaves_left u shown ≡ leaves_by c (scanning_leaves u shown)
 left_at u shown c e = ap (λ (x : Control). leaves_by x (scanning_leaves u shown)) e
@@ -71,7 +71,7 @@ pub took_leaves : (taken : Taken) (old new : Unioned) (shown : Shown) (before af
 took_leaves taken old new shown before after t f k e = by (reads_leaf old) refl
   where
     control : new.control ≡ old.control
-    control = ap (λ (x : Unioned). x.control) (with_turn old new t)
+    control = ap (λ (x : Unioned). x.control) (took_parts old new t)
 
     fewer : (taken : Taken) → TakesPiece new taken → scanning old.control ≡ true → held_leaves (shown.cuts (present old).index old.snap) (present old).range old.lane.place new.lane.held + 1 ≤ leaves_for (shown.cuts (present old).index old.snap) (present old).range old.lane.place
     fewer (Piece piece) k back =
@@ -94,7 +94,7 @@ took_leaves taken old new shown before after t f k e = by (reads_leaf old) refl
     by false r =
         let counted : after ≡ before = e ∙ ap (λ (b : Bool). if b then leaf_read before else before) r in
         let said = ap (λ (c : Counts). c.leaves) counted in
-        let same = ap (λ (x : Unioned). leaves_left x shown) (with_turn old new t ∙ ap (λ (w : Laned). record old { count = new.count; lane = w; trace = new.trace }) (t.none r)) in
+        let same = ap (λ (x : Unioned). leaves_left x shown) (took_parts old new t ∙ ap (λ (w : Laned). record old { count = new.count; lane = w; trace = new.trace }) (t.none r)) in
         omega arith
 
 pub takes_leaves : {E : Type 0} (r : Result Taken E) (old mid new : Unioned) (shown : Shown) (before after : Counts) → TakesLeaf old new → UnionFits new shown → leaves_left mid shown ≡ leaves_left new shown → IfOk r (TakesPiece new) → after ≡ piece_read old before → IfOk r (λ taken. LeavesFall before after (leaves_left old shown) (leaves_left mid shown))

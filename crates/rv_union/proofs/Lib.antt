@@ -3,9 +3,9 @@ pub mod Switches
 pub mod Gives
 pub mod Few
 pub mod Tellings
+pub mod Takes
 pub mod Efforts
 pub mod Leaves
-pub mod Takes
 pub mod Finals
 pub mod Openings
 pub mod Lanes

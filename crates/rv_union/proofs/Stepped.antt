@@ -1,34 +1,30 @@
 -- What a step does and keeps, and what it reads is counted.
-use Rattle.std.proofs.Common.{◌≡◌, ℕ, ◌-◌, ◌<◌, ◌≤◌, false, [], refl, ap, sym, ◌∙◌, arith, subst, Result, Ok, Err, IfOk, OnErr}
+use Rattle.std.proofs.Common.{◌≡◌, ℕ, ◌≤◌, false, [], refl, ap, sym, ◌∙◌, arith, subst, Result, Ok, Err, IfOk, OnErr}
 use Rattle.rv_judge.specs.declared.counting.Counts.{Counts}
 use Rattle.rv_judge.specs.declared.events.Control.{Control}
-use Rattle.rv_judge.specs.declared.events.Control.TheVariants.{BackgroundAlone, FinalList, FinalTable, Done}
+use Rattle.rv_judge.specs.declared.events.Control.TheVariants.{Done}
 use Rattle.rv_judge.specs.declared.events.Trace.{Trace}
 use Rattle.rv_judge.specs.declared.judging.Facts.{Facts}
-use Rattle.rv_judge.specs.Counting.{page_read, raised, record_read}
 use Rattle.rv_judge.specs.Tracing.{CountsRise, SameCounts, counted}
 use Rattle.rv_judge.specs.Verdicts.{Ruling}
 use Rattle.rv_reader.specs.Shown.{Shown}
-use Rattle.rv_scan.specs.Reads.{OneAtMost}
 use Rattle.rv_scan.specs.declared.skip.Scanned.{Scanned}
-use Rattle.rv_scan.specs.declared.skip.Scanned.TheVariants.{Found, Working, End}
+use Rattle.rv_scan.specs.declared.skip.Scanned.TheVariants.{End}
 use Rattle.rv_jscan.specs.declared.jscan.Given.{Given}
 use Rattle.rv_jscan.specs.declared.jscan.ScanCounts.{ScanCounts}
 use Rattle.rv_jscan.specs.Pieces.{Pieced}
 use Rattle.rv_final.specs.Rest.{Steps}
 use Rattle.rv_final.specs.Work.{Falls, Tries}
 use Rattle.rv_union.specs.Effort.{effort, keys_work}
-use Rattle.rv_union.specs.Given.{Answers, TakesLeaf, count_read, holding, piece_read}
+use Rattle.rv_union.specs.Given.{Answers, TakesLeaf, count_read, holding}
 use Rattle.rv_union.specs.Opened.{Does, DoesAs, DoesStep, EndsIn, MayRead, OnlyTakes, Steady, StepsAs}
 use Rattle.rv_union.specs.Unioned.{UnionFits, Unioned, rest, scanning}
 use Rattle.rv_union.specs.Rulings.{GivesOn}
-use Rattle.rv_union.proofs.Finals.{done_rest}
+use Rattle.rv_final.proofs.Endings.{counts_raised, ends_by}
+use Rattle.rv_union.proofs.Finals.{done_rest, stage_of, stage_steady}
 use Rattle.rv_union.proofs.Gives.{gives_keep, gives_kin}
 use Rattle.rv_union.proofs.Takes.{none_counted, none_leaves}
 use Rattle.rv_union.proofs.Tellings.{gives_tell}
-
-pub below : (a b c : ℕ) → c < b → b ≤ a → c < a
-below a b c l m = omega arith
 
 -- A step that takes a piece and gives it.
 
@@ -43,19 +39,11 @@ gave_steady r would state after piece old mid new shown s a o e =
       tells = λ t. gives_tell r would state after piece mid new a o e (s.tells t);
     }
 
-pub background_read : (r : Unioned) (c d : Counts) → r.control ≡ BackgroundAlone → d ≡ piece_read r c → MayRead r.control r c d
-background_read r c d e read = subst (λ (x : Control). MayRead x r c d) (sym e) read
-
-pub list_read : (r : Unioned) (c d : Counts) → r.control ≡ FinalList → OneAtMost record_read c d → MayRead r.control r c d
-list_read r c d e read = subst (λ (x : Control). MayRead x r c d) (sym e) read
-
-pub table_read : (r : Unioned) (c d : Counts) → r.control ≡ FinalTable → OneAtMost page_read c d → MayRead r.control r c d
-table_read r c d e read = subst (λ (x : Control). MayRead x r c d) (sym e) read
+-- what a step may read is told by its control
+pub reads_at : (r : Unioned) (x : Control) (c d : Counts) → r.control ≡ x → MayRead x r c d → MayRead r.control r c d
+reads_at r x c d e read = subst (λ (y : Control). MayRead y r c d) (sym e) read
 
 -- Nothing is left.
-
-pub done_read : (r : Unioned) (c : Counts) → r.control ≡ Done → MayRead r.control r c c
-done_read r c e = subst (λ (x : Control). MayRead x r c c) (sym e) refl
 
 pub done_does : (would : ℕ → Facts → Ruling) (state : ℕ) (r : Unioned) (shown : Shown) (c : Counts) → r.control ≡ Done → Does would state state shown c c End r r
 done_does would state r shown c e = subst (λ (x : Control). DoesAs x would state state shown c c End r r) (sym e) (refl, refl, refl, refl)
@@ -63,16 +51,8 @@ done_does would state r shown c e = subst (λ (x : Control). DoesAs x would stat
 pub done_rest_twice : (r : Unioned) (shown : Shown) → r.control ≡ Done → (rest r shown ≡ []) × (rest r shown ≡ [])
 done_rest_twice r shown e = (done_rest r shown e, done_rest r shown e)
 
-pub done_tries : (c : Counts) (n : ℕ) → Tries c c n n
-done_tries c n = record { once = omega arith; less = omega arith }
-
 pub stays_steady : (r : Unioned) (shown : Shown) → UnionFits r shown → Steady r r shown
-stays_steady r shown f = record {
-  same = record { table = refl; snap = refl; cursor = refl; opening = refl; only = refl; plans = refl };
-  counts = record { pages = refl; leaves = refl; fetches = refl };
-  fits = f;
-  tells = λ t. t;
-}
+stays_steady r shown f = stage_steady r (stage_of r) shown f
 
 -- What was read is counted.
 
@@ -85,13 +65,7 @@ step_if (Ok s) old mid new t shown e step = λ need. subst (λ (x : Unioned). St
 step_if (Err x) old mid new t shown e step = tt
 
 pub ends_if : {E : Type 0} (r : Result Scanned E) (mid new : Unioned) (t : Trace) → new ≡ record mid { trace = t } → IfOk r (EndsIn mid) → IfOk r (EndsIn new)
-ends_if (Ok s) mid new t e ends = by s ends
-  where
-    by : (s : Scanned) → EndsIn mid s → EndsIn new s
-    by (Found x) h = tt
-    by Working h = tt
-    by End h = ap (λ (x : Unioned). x.control) e ∙ h
-ends_if (Err x) mid new t e ends = tt
+ends_if r mid new t e ends = ends_by r (EndsIn mid) (EndsIn new) (λ x. tt) tt (λ h. ap (λ (x : Unioned). x.control) e ∙ h) ends
 
 pub rest_if : {E : Type 0} (r : Result Scanned E) (old mid new : Unioned) (t : Trace) (shown : Shown) → new ≡ record mid { trace = t } → OnErr r (rest mid shown ≡ rest old shown) → OnErr r (rest new shown ≡ rest old shown)
 rest_if (Ok s) old mid new t shown e h = tt
@@ -105,11 +79,7 @@ falls_if (Ok s) c d old mid new t shown e falls = subst (λ (x : Unioned). Falls
 falls_if (Err x) c d old mid new t shown e falls = tt
 
 pub counts_rise : (old mid new : Unioned) (c d : Counts) → SameCounts old.trace mid.trace → new ≡ record mid { trace = counted mid.trace c d } → CountsRise old.trace new.trace c d
-counts_rise old mid new c d s e = subst (λ (x : Unioned). CountsRise old.trace x.trace c d) (sym e) record {
-  pages = ap (λ (n : ℕ). raised n (d.pages - c.pages)) s.pages;
-  leaves = ap (λ (n : ℕ). raised n (d.leaves - c.leaves)) s.leaves;
-  fetches = ap (λ (n : ℕ). raised n (d.records - c.records)) s.fetches;
-}
+counts_rise old mid new c d s e = subst (λ (x : Unioned). CountsRise old.trace x.trace c d) (sym e) (counts_raised old.trace mid.trace c d s)
 
 -- What a step leaves that found no memory.
 

@@ -1,8 +1,8 @@
 -- A change of the member, of the keys or of the control leaves the fit and the rest.
-use Rattle.std.proofs.Common.{◌≡◌, ℕ, ◌+◌, ◌<◌, ◌≤◌, length, drop, Bool, true, false, not, ◌&&◌, ◌||◌, refl, ap, sym, ◌∙◌, arith, subst, Some, None, nat_lt}
+use Rattle.std.proofs.Common.{◌≡◌, ℕ, ◌+◌, ◌<◌, ◌≤◌, length, drop, Bool, true, false, ◌||◌, refl, ap, sym, ◌∙◌, arith, subst, Some, nat_lt}
 use Rattle.std.specs.Prelude.{if◌then◌else◌}
 use Rattle.std.proofs.lemmas.Bool.Decides.{nat_tests}
-use Rattle.rv_final.proofs.Owed.{row_there}
+use Rattle.rv_value.proofs.Tests.{no_way}
 use Rattle.rv_keys.specs.Keys.{has_key}
 use Rattle.rv_judge.specs.declared.events.Control.{Control}
 use Rattle.rv_judge.specs.declared.events.Control.TheVariants.{Building, ForegroundAlone, BackgroundAlone, FinalList, FinalTable, Done}
@@ -14,14 +14,14 @@ use Rattle.rv_judge.specs.declared.judging.Verdict.{Verdict}
 use Rattle.rv_judge.specs.declared.judging.Verdict.TheVariants.{Continue, AbandonScan, AbandonForeground, AbandonBackground}
 use Rattle.rv_judge.specs.Course.{next_control}
 use Rattle.rv_reader.specs.Shown.{Shown}
-use Rattle.rv_scan.specs.Places.{unseen}
+use Rattle.rv_scan.specs.Places.{Place}
 use Rattle.rv_jscan.specs.Joint.{plan_at}
 use Rattle.rv_jscan.specs.Lanes.{LaneFits, Laned, no_lane}
-use Rattle.rv_final.specs.Rest.{has_row, qualifies_at, rest_by}
-use Rattle.rv_final.specs.Stage.{keys_left, list_left, table_left}
-use Rattle.rv_final.proofs.Rests.{same_rest}
+use Rattle.rv_final.specs.Rest.{rest_by}
+use Rattle.rv_final.specs.Stage.{LastFits, Unbegun}
+use Rattle.rv_final.proofs.Endings.{list_whole, table_whole}
 use Rattle.rv_union.specs.Rulings.{dropped, forgotten, going_on, has_next, index_of, listed, next_member, over, told, told_scan, was_begun}
-use Rattle.rv_union.specs.Unioned.{AreMet, Covers, UnionFits, Unioned, builds, left_by, meets_any, owed, rest, rows_of, scanning}
+use Rattle.rv_union.specs.Unioned.{AreMet, Covers, UnionFits, Unioned, builds, found, left_by, meets_any, of_union, owed, rest, rows_of, scanning}
 use Rattle.rv_union.proofs.Fits.{Gathers, begun_lane, next_met, none_met}
 
 pub is_scanning : (c : Control) → scanning c ≡ true → c ≡ BackgroundAlone
@@ -35,6 +35,24 @@ is_scanning Done h = absurd (cc)
 -- each row that qualifies is owed while members are scanned
 pub rest_scanning : (u : Unioned) (shown : Shown) → scanning u.control ≡ true → rest u shown ≡ rest_by (λ n. true) u.only (rows_of u shown)
 rest_scanning u shown h = ap (λ (c : Control). rest_by (left_by c u.keys u.at u.last (rows_of u shown)) u.only (rows_of u shown)) (is_scanning u.control h)
+
+-- the fit, where the control, the final stage's parts and the trace are other ones
+pub aside_fits : (u : Unioned) (c : Control) (at : ℕ) (last : Place) (t : Trace) (shown : Shown) → LastFits u.table u.snap last shown → (scanning c ≡ true → Unbegun at last) → (scanning c ≡ true → (n : ℕ) → owed u shown n ≡ true → found u shown n ≡ true) → (c ≡ FinalList → Covers (owed u shown) u.keys) → of_union c ≡ true → UnionFits u shown → UnionFits (record u { control = c; at = at; last = last; trace = t }) shown
+aside_fits u c at last t shown l unbegun finds covers stands f = record {
+  ascend = f.ascend;
+  read = f.read;
+  columns = f.columns;
+  members = f.members;
+  there = f.there;
+  lane = f.lane;
+  finds = finds;
+  covers = covers;
+  listed = f.listed;
+  building = f.building;
+  last = l;
+  unbegun = unbegun;
+  stands = stands;
+}
 
 -- WHILE MEMBERS ARE SCANNED
 
@@ -88,31 +106,11 @@ same_parts u shown back f = record { there = f.there; lane = f.lane; finds = f.f
 
 -- THE LIST, OR THE TABLE
 
-and_true : (a : Bool) → a ≡ true → (a && not false) ≡ true
-and_true a h = grind arith
-
 to_list : (u : Unioned) (t : Trace) (shown : Shown) → scanning u.control ≡ true → Covers (owed u shown) u.keys → UnionFits u shown → Stays u shown (record u { control = FinalList; trace = t })
 to_list u t shown back c f = (
-  record {
-    ascend = f.ascend;
-    read = f.read;
-    columns = f.columns;
-    members = f.members;
-    there = f.there;
-    lane = f.lane;
-    finds = λ h. absurd (cc);
-    covers = λ h. c;
-    listed = f.listed;
-    building = f.building;
-    last = f.last;
-    unbegun = λ h. absurd (cc);
-    stands = refl;
-  },
-  same_rest u.only (rows_of u shown) (λ n. true) (λ n. list_left (Some u.keys) None u.at n) each ∙ sym (rest_scanning u shown back),
+  aside_fits u FinalList u.at u.last t shown f.last (λ h. no_way (sym h)) (λ h. no_way (sym h)) (λ h. c) refl f,
+  list_whole u.only (rows_of u shown) (Some u.keys) u.at u.last (f.unbegun back) (λ n q. c n q) ∙ sym (rest_scanning u shown back),
 )
-  where
-    each : (n : ℕ) → qualifies_at u.only (rows_of u shown) n ≡ true → list_left (Some u.keys) None u.at n ≡ true
-    each n q = and_true (has_key n (keys_left (Some u.keys) u.at)) (ap (λ (i : ℕ). has_key n (keys_left (Some u.keys) i)) (f.unbegun back).keys ∙ c n q)
 
 to_table : (u : Unioned) (t : Trace) (shown : Shown) → scanning u.control ≡ true → UnionFits u shown → Stays u shown (record (forgotten u) { control = FinalTable; trace = t })
 to_table u t shown back f = (
@@ -131,11 +129,8 @@ to_table u t shown back f = (
     unbegun = λ h. absurd (cc);
     stands = refl;
   },
-  same_rest u.only (rows_of u shown) (λ n. true) (λ n. table_left u.last (rows_of u shown) None n) each ∙ sym (rest_scanning u shown back),
+  table_whole u.only (rows_of u shown) u.at u.last (f.unbegun back) ∙ sym (rest_scanning u shown back),
 )
-  where
-    each : (n : ℕ) → qualifies_at u.only (rows_of u shown) n ≡ true → table_left u.last (rows_of u shown) None n ≡ true
-    each n q = and_true (has_row n (unseen u.last (rows_of u shown))) (ap (has_row n) ((f.unbegun back).pages (rows_of u shown)) ∙ row_there u.only (rows_of u shown) n q)
 
 -- where happenings lead
 

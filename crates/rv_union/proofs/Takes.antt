@@ -1,9 +1,8 @@
 -- What a take leaves.
-use Rattle.std.proofs.Common.{◌≡◌, Bool, true, false, not, ◌&&◌, refl, ap, sym, ◌∙◌, arith, subst, is_some, Result, Ok, Err, IfOk, OnErr}
+use Rattle.std.proofs.Common.{◌≡◌, Bool, true, false, refl, ap, sym, ◌∙◌, subst, is_some, Result, Ok, Err, IfOk}
 use Rattle.std.specs.Prelude.{if◌then◌else◌}
 use Rattle.rv_judge.specs.declared.counting.Counts.{Counts}
 use Rattle.rv_judge.specs.declared.events.Trace.{Trace}
-use Rattle.rv_judge.specs.Counting.{leaf_read}
 use Rattle.rv_judge.specs.Tracing.{counted}
 use Rattle.rv_reader.specs.Shown.{Shown}
 use Rattle.rv_jscan.specs.declared.piece.PieceId.{PieceId}
@@ -17,7 +16,8 @@ use Rattle.rv_union.specs.Given.{Awaits, TakesLeaf, awaited, count_read, holding
 use Rattle.rv_union.specs.Opened.{Steady}
 use Rattle.rv_union.specs.Unioned.{UnionFits, Unioned, SameUnion, present, scanning, rest}
 use Rattle.rv_union.specs.Runs.{Tells}
-use Rattle.rv_union.proofs.Switches.{moved_fits}
+use Rattle.rv_final.proofs.Takings.{held_if, none_unread, once_read}
+use Rattle.rv_union.proofs.Switches.{aside_fits, moved_fits}
 use Rattle.rv_union.proofs.Tellings.{aside_tells}
 
 -- The leaf that is still to be read is counted, and then the present member takes.
@@ -38,13 +38,10 @@ took_trace old mid new m n = ap (λ (x : Unioned). x.trace) (took_same old mid n
 pub took_leaves : (old mid new : Unioned) → scanning old.control ≡ true → mid ≡ read_mid old → takes mid new → (is_some mid.lane.held ≡ true → new ≡ mid) → TakesLeaf old new
 took_leaves old mid new back m n h = record {
   same = took_same old mid new m n ∙ ap (λ (t : Trace). record (holding new.lane.held old) { count = count_read old; trace = t }) (sym (took_trace old mid new m n));
-  none = λ unread. ap (λ (x : Unioned). x.lane) (h (ap (λ (x : Unioned). is_some x.lane.held) m ∙ held_if (scanning old.control) (is_some old.lane.held) back unread) ∙ m);
+  none = λ unread. ap (λ (x : Unioned). x.lane) (h (ap (λ (x : Unioned). is_some x.lane.held) m ∙ held_if (scanning old.control) old.lane.held back unread) ∙ m);
   named = ap (λ (t : Trace). t.strategy) (took_trace old mid new m n);
   events = ap (λ (t : Trace). t.events) (took_trace old mid new m n);
 }
-  where
-    held_if : (w h : Bool) → w ≡ true → (w && not h) ≡ false → h ≡ true
-    held_if w h way unread = grind arith
 
 pub took_can : (old mid : Unioned) (shown : Shown) → mid ≡ read_mid old → UnionFits old shown → CanMake (present mid) shown mid.snap
 took_can old mid shown m f = subst (λ (x : Unioned). CanMake (present x) shown x.snap) (sym m) (f.members.each old.member f.there)
@@ -77,30 +74,13 @@ took_taken (Ok p) old mid new id back m is n own =
     }
 took_taken (Err e) old mid new id back m is n own = tt
 
-pub took_err : {E : Type 0} (r : Result Pieced E) (old mid new : Unioned) → mid ≡ read_mid old → OnErr r (new ≡ mid) → OnErr r (new ≡ read_mid old)
-took_err (Ok p) old mid new m e = tt
-took_err (Err x) old mid new m e = e ∙ m
-
 pub took_reads : (old mid : Unioned) (c d : Counts) → scanning old.control ≡ true → mid ≡ read_mid old → d ≡ leaf_once mid.lane c → d ≡ piece_read old c
-took_reads old mid c d back m r = r ∙ ap (λ (x : Unioned). leaf_once x.lane c) m ∙ once (scanning old.control) (is_some old.lane.held) back
-  where
-    once : (w h : Bool) → w ≡ true → (if h then c else leaf_read c) ≡ (if (w && not h) then leaf_read c else c)
-    once true true way = refl
-    once true false way = refl
-    once false h way = absurd (cc)
-
--- the leaf is not held where memory was wanting
-pub took_untaken : {E : Type 0} (r : Result Pieced E) (old new : Unioned) → OnErr r (new ≡ read_mid old) → OnErr r (new.lane.held ≡ old.lane.held)
-took_untaken (Ok p) old new e = tt
-took_untaken (Err x) old new e = ap (λ (y : Unioned). y.lane.held) e
+took_reads old mid c d back m r = r ∙ ap (λ (x : Unioned). leaf_once x.lane c) m ∙ once_read (scanning old.control) old.lane.held c back
 
 -- No member is scanned.
 
 pub none_counted : (r : Unioned) → scanning r.control ≡ false → count_read r ≡ r.count
-none_counted r off = ap (λ (b : Bool). if b then leaf_counted r.count else r.count) (no (scanning r.control) (is_some r.lane.held) off)
-  where
-    no : (w h : Bool) → w ≡ false → (w && not h) ≡ false
-    no w h o = grind arith
+none_counted r off = ap (λ (b : Bool). if b then leaf_counted r.count else r.count) (none_unread (scanning r.control) r.lane.held off)
 
 pub none_leaves : (r : Unioned) → scanning r.control ≡ false → TakesLeaf r r
 none_leaves r off = record {
@@ -109,12 +89,6 @@ none_leaves r off = record {
   named = refl;
   events = refl;
 }
-
-pub none_read : (r : Unioned) (c : Counts) → scanning r.control ≡ false → c ≡ piece_read r c
-none_read r c off = sym (ap (λ (b : Bool). if b then leaf_read c else c) (no (scanning r.control) (is_some r.lane.held) off))
-  where
-    no : (w h : Bool) → w ≡ false → (w && not h) ≡ false
-    no w h o = grind arith
 
 -- What a take keeps.
 
@@ -146,21 +120,7 @@ took_steady old new shown t e f = record {
 -- What was read is counted.
 
 pub counted_fits : (mid new : Unioned) (t : Trace) (shown : Shown) → new ≡ record mid { trace = t } → UnionFits mid shown → UnionFits new shown
-counted_fits mid new t shown e f = subst (λ (x : Unioned). UnionFits x shown) (sym e) record {
-  ascend = f.ascend;
-  read = f.read;
-  columns = f.columns;
-  members = f.members;
-  there = f.there;
-  lane = f.lane;
-  finds = f.finds;
-  covers = f.covers;
-  listed = f.listed;
-  building = f.building;
-  last = f.last;
-  unbegun = f.unbegun;
-  stands = f.stands;
-}
+counted_fits mid new t shown e f = subst (λ (x : Unioned). UnionFits x shown) (sym e) (aside_fits mid mid.control mid.at mid.last t shown f.last f.unbegun f.finds f.covers f.stands f)
 
 pub counted_tells : (mid new : Unioned) (c d : Counts) → new ≡ record mid { trace = counted mid.trace c d } → Tells mid → Tells new
 counted_tells mid new c d e t = subst Tells (sym e) (aside_tells mid (record mid { trace = counted mid.trace c d }) refl refl refl refl refl t)

@@ -1,5 +1,5 @@
 -- A union's trace goes on telling of it, with each piece, each end of a member and each verdict.
-use Rattle.std.proofs.Common.{◌≡◌, ◌⊎◌, ◌∙◌, ℕ, ◌+◌, ◌<◌, ◌≤◌, List, [], ◌∷◌, ◌++◌, Bool, true, false, ◌||◌, Option, Some, None, length, map, nat_eq, refl, ap, sym, subst, arith, append_assoc, append-nil, length-append, suc, inl, inr, Result, Ok, Err, IfOk, OnErr}
+use Rattle.std.proofs.Common.{◌≡◌, ◌∙◌, ℕ, ◌+◌, ◌<◌, ◌≤◌, List, [], ◌∷◌, ◌++◌, Bool, true, false, ◌||◌, Option, Some, None, length, map, nat_eq, refl, ap, sym, subst, arith, append_assoc, append-nil, length-append, suc, inl, inr, Result, Ok, Err, IfOk, OnErr}
 use Rattle.std.specs.Prelude.{if◌then◌else◌}
 use Rattle.std.specs.List.{list_all, list_any}
 use Rattle.std.proofs.lemmas.List.{length-map, map-append}
@@ -25,7 +25,6 @@ use Rattle.rv_judge.specs.Runs.UnionTail.{Scanning, Fetching, Fetched, Reading, 
 use Rattle.rv_judge.specs.Tracing.{counted, with_events}
 use Rattle.rv_judge.specs.Verdicts.{Ruling}
 use Rattle.rv_jscan.specs.declared.jscan.Given.{Given}
-use Rattle.rv_jscan.specs.declared.jscan.Given.TheVariants.{Accepted, Stale}
 use Rattle.rv_jscan.specs.declared.jscan.ScanPlan.{ScanPlan}
 use Rattle.rv_jscan.specs.declared.jscan.Taken.{Taken}
 use Rattle.rv_jscan.specs.declared.jscan.Taken.TheVariants.{Piece, Nothing}
@@ -37,6 +36,8 @@ use Rattle.rv_union.specs.Rulings.{GivesOn, Obeys, accepted, dropped, going_on, 
 use Rattle.rv_jscan.specs.Planned.{indexes_of}
 use Rattle.rv_union.specs.Runs.{IsOfUndropped, OfFewIndexes, Tells, is_drop, tail_control}
 use Rattle.rv_union.specs.Unioned.{Unioned, present, scanning}
+use Rattle.rv_final.proofs.Endings.{IsFinal, final_done}
+use Rattle.rv_final.proofs.Givings.{given_holds}
 use Rattle.rv_union.proofs.Few.{all_among, few, once_push, pushed_there, some_index}
 use Rattle.rv_union.proofs.Switches.{dropped_leads, drops, listed_leads, over_as}
 
@@ -225,18 +226,10 @@ obeyed_tells would state after piece old new None back o t =
     let mid = joined o.0.keys (accepted piece true old) in
     subst Tells (sym o.0.ends) (over_tells mid back (aside_tells old mid refl refl refl refl refl t))
 
-given_tells : (would : ℕ → Facts → Ruling) (state after : ℕ) (piece : Pieced) (g : Given) (old new : Unioned) → Answers old piece g new → GivesOn would state after piece g old new → Tells old → Tells new
-given_tells would state after piece Accepted old new a o t = obeyed_tells would state after piece old new (held_next old.lane.held) a.under_way o t
-given_tells would state after piece (Stale asked now) old new a o t = subst Tells (sym o.0) t
-
 pub gives_tell : {E : Type 0} (r : Result Given E) (would : ℕ → Facts → Ruling) (state after : ℕ) (piece : Pieced) (old new : Unioned) → IfOk r (λ g. Answers old piece g new) → IfOk r (λ g. GivesOn would state after piece g old new) → OnErr r (new ≡ old) → Tells old → Tells new
-gives_tell (Ok g) would state after piece old new a o e t = given_tells would state after piece g old new a o t
-gives_tell (Err x) would state after piece old new a o e t = subst Tells (sym e) t
+gives_tell r would state after piece old new a o e t = given_holds r (λ g. Answers old piece g new) (λ g. GivesOn would state after piece g old new) Tells old new (λ a o. obeyed_tells would state after piece old new (held_next old.lane.held) a.under_way o t) (λ asked now o. o.0) a o e t
 
 -- THE FINAL STAGE
-
-abbrev pub IsFinal : Control → Type 0
-IsFinal c = (c ≡ FinalList) ⊎ (c ≡ FinalTable)
 
 -- the source is at its end
 abbrev over_tail : UnionTail → UnionTail
@@ -262,14 +255,10 @@ final_not (Fetched i keys) c e (inr f) begun = absurd (let bad : Done ≡ FinalT
 final_not (Read i) c e (inl f) begun = absurd (let bad : Done ≡ FinalList = e ∙ f in cc)
 final_not (Read i) c e (inr f) begun = absurd (let bad : Done ≡ FinalTable = e ∙ f in cc)
 
-pub final_leads : (u : Unioned) → IsFinal u.control → next_control Union u.control FinalEnded ≡ Done
-final_leads u (inl e) = ap (λ (c : Control). next_control Union c FinalEnded) e
-final_leads u (inr e) = ap (λ (c : Control). next_control Union c FinalEnded) e
-
 pub done_tells : (u : Unioned) → IsFinal u.control → Tells u → Tells (gone FinalEnded u)
 done_tells u f t =
     let ends = final_not t.tail u.control t.at f t.begun in
-    let leads = final_leads u f in
+    let leads = final_done Union u.control f in
     let small = room u t in
     record {
       named = t.named;

@@ -1,5 +1,6 @@
 use Rattle.std.proofs.Common.{refl}
-use Rattle.rv_access.proofs.OfRaces.{fg_spends, fits_on, gives_step, only_course, tells_on}
+use Rattle.rv_access.proofs.Answering.{fg_spends}
+use Rattle.rv_access.proofs.OfRaces.{fits_on, gives_step, only_course, tells_on}
 use Rattle.rv_access.proofs.racing.RacedQuery.fg_step.Goals as goal
 
 pub returns-in-Ok-clause-fits : goal.returns-in-Ok-clause-fits

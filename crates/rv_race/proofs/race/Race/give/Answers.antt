@@ -1,6 +1,6 @@
 use Rattle.rv_race.proofs.Efforts.{gives_less, gives_work}
 use Rattle.rv_race.proofs.Gives.{gives_keep, gives_kin, gives_turns}
-use Rattle.rv_race.proofs.Lanes.{right_of}
+use Rattle.rv_final.proofs.Givings.{right_of}
 use Rattle.rv_race.proofs.Tellings.{gives_tell}
 use Rattle.rv_race.proofs.race.Race.give.Goals as goal
 

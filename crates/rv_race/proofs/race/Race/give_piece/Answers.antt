@@ -1,6 +1,7 @@
 use Rattle.rv_race.specs.Given.{turn_lane}
 use Rattle.rv_jscan.specs.Steps.{held_next}
-use Rattle.rv_race.proofs.Lanes.{obeys_by, right_of}
+use Rattle.rv_final.proofs.Givings.{right_of}
+use Rattle.rv_race.proofs.Lanes.{obeys_by}
 use Rattle.rv_race.proofs.race.Race.give_piece.Goals as goal
 
 pub returns-clause-obeys : goal.returns-clause-obeys

@@ -2,13 +2,13 @@ use Rattle.std.proofs.Common.{◌≡◌, ◌∙◌, IfOk, None, OnErr, ap, subst
 use Rattle.rv_final.specs.Rest.{StepMarks}
 use Rattle.rv_final.specs.Stage.{FetchesKey, PassesKeys, first_key, list_left}
 use Rattle.rv_race.specs.Raced.{Raced, rows_of}
-use Rattle.rv_race.proofs.Finals.{only_at, stage_of, with_stage}
+use Rattle.rv_race.proofs.Finals.{stage_of, with_stage}
 use Rattle.rv_race.proofs.race.Race.scan_list.Goals as goal
 
 pub returns-clause-same : goal.returns-clause-same
 returns-clause-same g c =
     let s = c.list_step.new.self in
-    subst (λ (r : Raced). with_stage r s ≡ record c.args.self.now { at = s.at }) (sym c.self.view_is) (only_at c.args.self.now s (c.list_step.ensures.same ∙ ap (λ (r : Raced). record (stage_of r) { at = s.at }) c.self.view_is))
+    subst (λ (r : Raced). with_stage r s ≡ record c.args.self.now { at = s.at }) (sym c.self.view_is) (ap (with_stage c.args.self.now) (c.list_step.ensures.same ∙ ap (λ (r : Raced). record (stage_of r) { at = s.at }) c.self.view_is))
 
 pub returns-clause-marks : goal.returns-clause-marks
 returns-clause-marks g c need =

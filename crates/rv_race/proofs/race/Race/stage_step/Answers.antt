@@ -1,6 +1,8 @@
-use Rattle.std.proofs.Common.{◌≡◌, ◌∙◌, ap, false, inl, inr, sym, true}
+use Rattle.std.proofs.Common.{◌≡◌, ◌∙◌, ap, false, inl, inr, refl, sym, true}
+use Rattle.rv_judge.specs.declared.events.Control.TheVariants.{Done}
 use Rattle.rv_race.specs.Raced.{of_race}
-use Rattle.rv_race.proofs.Stepped.{done_does, done_read, done_rest_twice, done_tries, stays_steady}
+use Rattle.rv_final.proofs.Endings.{done_tries}
+use Rattle.rv_race.proofs.Stepped.{done_does, done_rest_twice, reads_at, stays_steady}
 use Rattle.rv_race.proofs.race.Race.stage_step.Goals as goal
 
 pub unreachable-requires : goal.unreachable-requires
@@ -19,7 +21,7 @@ pub returns-in-Done-clause-step : goal.returns-in-Done-clause-step
 returns-in-Done-clause-step g c need = done_rest_twice c.args.self.now (g.R.Reader.shown c.args.reader.now) (sym c.control.ensures ∙ c.in-Done.is)
 
 pub returns-in-Done-clause-may_read : goal.returns-in-Done-clause-may_read
-returns-in-Done-clause-may_read g c = done_read c.args.self.now c.args.steps.now (sym c.control.ensures ∙ c.in-Done.is)
+returns-in-Done-clause-may_read g c = reads_at c.args.self.now Done c.args.steps.now c.args.steps.now (sym c.control.ensures ∙ c.in-Done.is) refl
 
 pub returns-in-Done-clause-tries : goal.returns-in-Done-clause-tries
 returns-in-Done-clause-tries g c = done_tries c.args.steps.now _

@@ -6,14 +6,14 @@ use Rattle.rv_final.specs.Stage.{FetchesKey, PassesKeys, first_key, keys_left, l
 use Rattle.rv_final.specs.Work.{Falls, Tries}
 use Rattle.rv_retrieval.specs.Room.{rows_given}
 use Rattle.rv_retrieval.specs.Shape.{Shape, rows_of}
-use Rattle.rv_retrieval.proofs.Controls.{only_at, stage_of, with_stage}
+use Rattle.rv_retrieval.proofs.Controls.{stage_of, with_stage}
 use Rattle.rv_retrieval.proofs.Remembering.{fetches_of_list, marks_of_list, passes_of_list}
 use Rattle.rv_retrieval.proofs.retrieval.Retrieval.scan_list.Goals as goal
 
 pub returns-clause-same : goal.returns-clause-same
 returns-clause-same g c =
     let s = c.list_step.new.self in
-    subst (λ (v : Shape). with_stage v s ≡ record c.args.self.now { at = s.at }) (sym c.self.view_is) (only_at c.args.self.now s (c.list_step.ensures.same ∙ ap (λ (v : Shape). record (stage_of v) { at = s.at }) c.self.view_is))
+    subst (λ (v : Shape). with_stage v s ≡ record c.args.self.now { at = s.at }) (sym c.self.view_is) (ap (with_stage c.args.self.now) (c.list_step.ensures.same ∙ ap (λ (v : Shape). record (stage_of v) { at = s.at }) c.self.view_is))
 
 pub returns-clause-marks : goal.returns-clause-marks
 returns-clause-marks g c =

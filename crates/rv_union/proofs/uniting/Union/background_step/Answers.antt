@@ -1,13 +1,15 @@
 use Rattle.std.proofs.Common.{◌≡◌, ◌∙◌, ap, false, refl, subst, sym, true}
 use Rattle.rv_value.proofs.Lists.{on_err}
+use Rattle.rv_judge.specs.declared.events.Control.TheVariants.{BackgroundAlone}
 use Rattle.rv_union.specs.Opened.{OnlyTakes}
 use Rattle.rv_union.specs.Unioned.{Unioned, scanning}
+use Rattle.rv_final.proofs.Endings.{below}
 use Rattle.rv_final.proofs.LaneWork.{tries_on}
 use Rattle.rv_union.proofs.Efforts.{gives_less, leaf_spends, piece_falls}
 use Rattle.rv_union.proofs.Finals.{accepted_piece, one_piece}
-use Rattle.rv_union.proofs.Stepped.{only_took, background_read, below, gave_steady}
+use Rattle.rv_union.proofs.Stepped.{only_took, reads_at, gave_steady}
 use Rattle.rv_union.proofs.Gives.{gives_stay}
-use Rattle.rv_union.proofs.Lanes.{right_of}
+use Rattle.rv_final.proofs.Givings.{right_of}
 use Rattle.rv_union.proofs.Takes.{took_parts, took_rest, took_steady}
 use Rattle.rv_jscan.specs.declared.jscan.Taken.TheVariants.{Piece}
 use Rattle.rv_union.specs.Leaves.{leaves_left}
@@ -38,7 +40,7 @@ returns-clause-step g c need =
     (gives_stay c.give_piece.result (right_of c.give_piece.ensures.stays) _ _ c.sieve.result mid c.give_piece.new.self shown c.give_piece.ensures.given c.give_piece.ensures.obeys c.give_piece.ensures.err c.take_piece.ensures.fits).1 ∙ took_rest c.args.self.now mid shown c.take_piece.ensures.leaves
 
 pub returns-clause-may_read : goal.returns-clause-may_read
-returns-clause-may_read g c = background_read c.args.self.now _ _ c.requires.control c.take_piece.ensures.reads
+returns-clause-may_read g c = reads_at c.args.self.now BackgroundAlone c.args.steps.now c.take_piece.new.steps c.requires.control c.take_piece.ensures.reads
 
 pub returns-clause-tries : goal.returns-clause-tries
 returns-clause-tries g c =
@@ -62,7 +64,7 @@ pub returns-in_err-piece-clause-err : goal.returns-in_err-piece-clause-err
 returns-in_err-piece-clause-err g c = on_err _ _ (took_rest c.args.self.now c.take_piece.new.self (g.R.Reader.shown c.args.reader.now) c.take_piece.ensures.leaves)
 
 pub returns-in_err-piece-clause-may_read : goal.returns-in_err-piece-clause-may_read
-returns-in_err-piece-clause-may_read g c = background_read c.args.self.now _ _ c.requires.control c.take_piece.ensures.reads
+returns-in_err-piece-clause-may_read g c = reads_at c.args.self.now BackgroundAlone c.args.steps.now c.take_piece.new.steps c.requires.control c.take_piece.ensures.reads
 
 pub returns-in_err-piece-clause-tries : goal.returns-in_err-piece-clause-tries
 returns-in_err-piece-clause-tries g c = leaf_spends c.args.self.now c.take_piece.new.self (g.R.Reader.shown c.args.reader.now) c.args.steps.now c.take_piece.new.steps c.take_piece.ensures.leaves c.take_piece.ensures.reads
@@ -80,7 +82,7 @@ returns-in_err-_given-in-Piece-clause-err g c =
     on_err _ _ ((gives_stay c.give_piece.result (right_of c.give_piece.ensures.stays) _ _ c.sieve.result mid c.give_piece.new.self shown c.give_piece.ensures.given c.give_piece.ensures.obeys c.give_piece.ensures.err c.take_piece.ensures.fits).1 ∙ took_rest c.args.self.now mid shown c.take_piece.ensures.leaves)
 
 pub returns-in_err-_given-in-Piece-clause-may_read : goal.returns-in_err-_given-in-Piece-clause-may_read
-returns-in_err-_given-in-Piece-clause-may_read g c = background_read c.args.self.now _ _ c.requires.control c.take_piece.ensures.reads
+returns-in_err-_given-in-Piece-clause-may_read g c = reads_at c.args.self.now BackgroundAlone c.args.steps.now c.take_piece.new.steps c.requires.control c.take_piece.ensures.reads
 
 pub returns-in_err-_given-in-Piece-clause-tries : goal.returns-in_err-_given-in-Piece-clause-tries
 returns-in_err-_given-in-Piece-clause-tries g c =

@@ -1,6 +1,6 @@
 use Rattle.rv_union.proofs.Efforts.{gives_less, gives_work}
 use Rattle.rv_union.proofs.Gives.{gives_keep, gives_kin}
-use Rattle.rv_union.proofs.Lanes.{right_of}
+use Rattle.rv_final.proofs.Givings.{right_of}
 use Rattle.rv_union.proofs.Tellings.{gives_tell}
 use Rattle.rv_union.proofs.Leaves.{gives_leaves}
 use Rattle.rv_union.proofs.uniting.Union.give.Goals as goal

@@ -1,24 +1,26 @@
-use Rattle.std.proofs.Common.{◌≡◌, ◌∙◌, ℕ, IfOk, List, None, OnErr, ap, subst, sym}
+use Rattle.std.proofs.Common.{◌≡◌, ◌∙◌, ℕ, IfOk, List, None, OnErr, ap, refl, subst, sym}
 use Rattle.rv_value.specs.declared.record.Record.{Record}
 use Rattle.rv_scan.specs.Places.{Fits as PlaceFits, work}
 use Rattle.rv_final.specs.Rest.{StepMarks}
 use Rattle.rv_final.specs.Stage.{Staged, own_pages, own_rows, table_left}
 use Rattle.rv_final.specs.Work.{Falls, Tries}
+use Rattle.rv_final.proofs.Endings.{pages_same, rows_same}
+use Rattle.rv_final.proofs.Givings.{put_if}
 use Rattle.rv_union.specs.Effort.{table_work}
 use Rattle.rv_union.specs.Unioned.{Unioned, rows_of}
-use Rattle.rv_union.proofs.Finals.{only_last, pages_same, rows_same, stage_err, stage_of, with_stage}
+use Rattle.rv_union.proofs.Finals.{stage_of, with_stage}
 use Rattle.rv_union.proofs.uniting.Union.scan_last.Goals as goal
 
 pub returns-clause-same : goal.returns-clause-same
 returns-clause-same g c =
     let s = c.table_step.new.self in
-    subst (λ (r : Unioned). with_stage r s ≡ record c.args.self.now { last = s.last }) (sym c.self.view_is) (only_last c.args.self.now s (c.table_step.ensures.same ∙ ap (λ (r : Unioned). record (stage_of r) { last = s.last }) c.self.view_is))
+    subst (λ (r : Unioned). with_stage r s ≡ record c.args.self.now { last = s.last }) (sym c.self.view_is) (ap (with_stage c.args.self.now) (c.table_step.ensures.same ∙ ap (λ (r : Unioned). record (stage_of r) { last = s.last }) c.self.view_is))
 
 pub returns-clause-err : goal.returns-clause-err
 returns-clause-err g c =
     let s = c.table_step.new.self in
     let same = subst (λ (x : Staged). OnErr c.table_step.result (s ≡ x)) (ap stage_of c.self.view_is) c.table_step.ensures.err in
-    subst (λ (r : Unioned). OnErr c.table_step.result (with_stage r s ≡ c.args.self.now)) (sym c.self.view_is) (stage_err c.table_step.result c.args.self.now s same)
+    subst (λ (r : Unioned). OnErr c.table_step.result (with_stage r s ≡ c.args.self.now)) (sym c.self.view_is) (put_if c.table_step.result (with_stage c.args.self.now) s (stage_of c.args.self.now) c.args.self.now refl same)
 
 pub returns-clause-last : goal.returns-clause-last
 returns-clause-last g c =
@@ -29,7 +31,7 @@ returns-clause-last g c =
     record {
       of_table = subst (λ (x : Unioned). last.table ≡ x.last.table) c.self.view_is c.table_step.ensures.table ∙ f.last.of_table;
       at_snap = subst (λ (x : Unioned). last.snap ≡ x.last.snap) c.self.view_is c.table_step.ensures.snap ∙ f.last.at_snap;
-      drawn = subst (PlaceFits last) (rows_same r shown f) (subst (λ (x : Unioned). PlaceFits last (own_rows x.last shown)) c.self.view_is c.table_step.ensures.drawn);
+      drawn = subst (PlaceFits last) (rows_same r.table r.snap r.last shown f.last) (subst (λ (x : Unioned). PlaceFits last (own_rows x.last shown)) c.self.view_is c.table_step.ensures.drawn);
     }
 
 pub returns-clause-marks : goal.returns-clause-marks
@@ -38,7 +40,7 @@ returns-clause-marks g c need =
     let r = c.args.self.now in
     let last = c.table_step.new.self.last in
     let own = subst (λ (x : Unioned). IfOk c.table_step.result (λ s. StepMarks need x.only (own_rows x.last shown) s (table_left x.last (own_rows x.last shown) None) (table_left last (own_rows x.last shown) None))) c.self.view_is (c.table_step.ensures.marks need) in
-    subst (λ (rs : List Record). IfOk c.table_step.result (λ s. StepMarks need r.only rs s (table_left r.last rs None) (table_left last rs None))) (rows_same r shown c.requires.fits) own
+    subst (λ (rs : List Record). IfOk c.table_step.result (λ s. StepMarks need r.only rs s (table_left r.last rs None) (table_left last rs None))) (rows_same r.table r.snap r.last shown c.requires.fits.last) own
 
 pub returns-clause-tries : goal.returns-clause-tries
 returns-clause-tries g c =
@@ -48,8 +50,8 @@ returns-clause-tries g c =
     let before = c.args.steps.now in
     let after = c.table_step.new.steps in
     let own = subst (λ (x : Unioned). Tries before after (work x.last (own_rows x.last shown) (own_pages x.last shown)) (work last (own_rows x.last shown) (own_pages x.last shown))) c.self.view_is c.table_step.ensures.tries in
-    let rows = subst (λ (rs : List Record). Tries before after (work r.last rs (own_pages r.last shown)) (work last rs (own_pages r.last shown))) (rows_same r shown c.requires.fits) own in
-    let pages = subst (λ (n : ℕ). Tries before after (work r.last (rows_of r shown) n) (work last (rows_of r shown) n)) (pages_same r shown c.requires.fits) rows in
+    let rows = subst (λ (rs : List Record). Tries before after (work r.last rs (own_pages r.last shown)) (work last rs (own_pages r.last shown))) (rows_same r.table r.snap r.last shown c.requires.fits.last) own in
+    let pages = subst (λ (n : ℕ). Tries before after (work r.last (rows_of r shown) n) (work last (rows_of r shown) n)) (pages_same r.table r.snap r.last shown c.requires.fits.last) rows in
     subst (λ (x : Unioned). Tries before after (table_work r shown) (table_work (record x { last = last }) shown)) (sym c.self.view_is) pages
 
 pub returns-clause-falls : goal.returns-clause-falls
@@ -60,6 +62,6 @@ returns-clause-falls g c =
     let before = c.args.steps.now in
     let after = c.table_step.new.steps in
     let own = subst (λ (x : Unioned). IfOk c.table_step.result (λ s. Falls s before after (work x.last (own_rows x.last shown) (own_pages x.last shown)) (work last (own_rows x.last shown) (own_pages x.last shown)))) c.self.view_is c.table_step.ensures.falls in
-    let rows = subst (λ (rs : List Record). IfOk c.table_step.result (λ s. Falls s before after (work r.last rs (own_pages r.last shown)) (work last rs (own_pages r.last shown)))) (rows_same r shown c.requires.fits) own in
-    let pages = subst (λ (n : ℕ). IfOk c.table_step.result (λ s. Falls s before after (work r.last (rows_of r shown) n) (work last (rows_of r shown) n))) (pages_same r shown c.requires.fits) rows in
+    let rows = subst (λ (rs : List Record). IfOk c.table_step.result (λ s. Falls s before after (work r.last rs (own_pages r.last shown)) (work last rs (own_pages r.last shown)))) (rows_same r.table r.snap r.last shown c.requires.fits.last) own in
+    let pages = subst (λ (n : ℕ). IfOk c.table_step.result (λ s. Falls s before after (work r.last (rows_of r shown) n) (work last (rows_of r shown) n))) (pages_same r.table r.snap r.last shown c.requires.fits.last) rows in
     subst (λ (x : Unioned). IfOk c.table_step.result (λ s. Falls s before after (table_work r shown) (table_work (record x { last = last }) shown))) (sym c.self.view_is) pages

@@ -3,7 +3,7 @@ use Rattle.rv_keyset.specs.Sets.{Keyed}
 use Rattle.rv_final.specs.Rest.{StepMarks}
 use Rattle.rv_final.specs.Stage.{FetchesKey, PassesKeys, first_key, list_left}
 use Rattle.rv_union.specs.Unioned.{Unioned, rows_of}
-use Rattle.rv_union.proofs.Finals.{only_at, stage_of, with_stage}
+use Rattle.rv_union.proofs.Finals.{stage_of, with_stage}
 use Rattle.rv_union.proofs.uniting.Union.scan_list.Goals as goal
 
 pub returns-clause-same : goal.returns-clause-same
@@ -11,7 +11,8 @@ returns-clause-same g c =
     let s = c.list_step.new.self in
     let now = c.args.self.now in
     let keys = ap (λ (k : Keyed). k.keys) c.in_ok-gather.ensures.ok ∙ ap (λ (u : Unioned). u.keys) c.self.view_is in
-    subst (λ (r : Unioned). record (with_stage r s) { keys = c.gather.new.self.keys } ≡ record now { at = s.at }) (sym c.self.view_is) (ap (λ (k : List ℕ). record (with_stage now s) { keys = k }) keys ∙ only_at now s (c.list_step.ensures.same ∙ ap (λ (r : Unioned). record (stage_of r) { at = s.at }) c.self.view_is))
+    let own : with_stage now s ≡ record now { at = s.at } = ap (with_stage now) (c.list_step.ensures.same ∙ ap (λ (r : Unioned). record (stage_of r) { at = s.at }) c.self.view_is) in
+    subst (λ (r : Unioned). record (with_stage r s) { keys = c.gather.new.self.keys } ≡ record now { at = s.at }) (sym c.self.view_is) (ap (λ (k : List ℕ). record (with_stage now s) { keys = k }) keys ∙ own)
 
 pub returns-clause-marks : goal.returns-clause-marks
 returns-clause-marks g c need =

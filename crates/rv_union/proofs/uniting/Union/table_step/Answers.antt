@@ -1,11 +1,16 @@
-use Rattle.std.proofs.Common.{◌≡◌, ◌∙◌, ap, inr, subst, sym}
+use Rattle.std.proofs.Common.{◌≡◌, ◌∙◌, ap, inr, refl, subst, sym}
 use Rattle.rv_judge.specs.declared.events.Control.TheVariants.{FinalTable}
+use Rattle.rv_judge.specs.declared.events.Happening.TheVariants.{FinalEnded}
+use Rattle.rv_scan.specs.Places.{Place}
 use Rattle.rv_scan.specs.declared.skip.Scanned.TheVariants.{Found, Working, End}
+use Rattle.rv_final.specs.Work.{Falls, Tries}
+use Rattle.rv_final.proofs.Endings.{ended_tries, put_then}
+use Rattle.rv_union.specs.Effort.{effort}
 use Rattle.rv_union.specs.Opened.{OnlyTakes}
 use Rattle.rv_union.specs.Unioned.{Unioned, scanning}
-use Rattle.rv_union.proofs.Finals.{ended_steady, ended_step, ended_tries, ends_done, table_does, table_falls, table_over, table_scanned, table_steady, table_tries}
-use Rattle.rv_union.proofs.Stepped.{only_itself, table_read}
-use Rattle.std.proofs.Common.{refl}
+use Rattle.rv_union.specs.Rulings.{gone}
+use Rattle.rv_union.proofs.Finals.{ended_effort, ended_steady, ended_step, ends_done, table_does, table_effort, table_scanned, table_steady}
+use Rattle.rv_union.proofs.Stepped.{only_itself, reads_at}
 use Rattle.rv_value.proofs.Lists.{on_err}
 use Rattle.rv_judge.specs.declared.events.Control.TheVariants.{Done}
 use Rattle.rv_judge.specs.Counting.{page_read}
@@ -22,13 +27,13 @@ pub returns-in-Found-clause-step : goal.returns-in-Found-clause-step
 returns-in-Found-clause-step g c = table_scanned c.args.self.now c.scan_last.new.self (g.R.Reader.shown c.args.reader.now) (Found c.in-Found.found) c.requires.control c.scan_last.ensures.same c.requires.fits (λ need. rw c.in-Found.is at (c.in_ok-found.ensures.marks need))
 
 pub returns-in-Found-clause-tries : goal.returns-in-Found-clause-tries
-returns-in-Found-clause-tries g c = table_tries c.args.self.now c.scan_last.new.self (g.R.Reader.shown c.args.reader.now) c.args.steps.now c.scan_last.new.steps c.requires.control c.scan_last.ensures.same c.scan_last.ensures.tries
+returns-in-Found-clause-tries g c = table_effort (Tries c.args.steps.now c.scan_last.new.steps) c.args.self.now c.scan_last.new.self (g.R.Reader.shown c.args.reader.now) c.requires.control c.scan_last.ensures.same c.scan_last.ensures.tries
 
 pub returns-in-Found-clause-falls : goal.returns-in-Found-clause-falls
-returns-in-Found-clause-falls g c = table_falls c.args.self.now c.scan_last.new.self (g.R.Reader.shown c.args.reader.now) (Found c.in-Found.found) c.args.steps.now c.scan_last.new.steps c.requires.control c.scan_last.ensures.same (rw c.in-Found.is at c.in_ok-found.ensures.falls)
+returns-in-Found-clause-falls g c = table_effort (Falls (Found c.in-Found.found) c.args.steps.now c.scan_last.new.steps) c.args.self.now c.scan_last.new.self (g.R.Reader.shown c.args.reader.now) c.requires.control c.scan_last.ensures.same (rw c.in-Found.is at c.in_ok-found.ensures.falls)
 
 pub returns-in-Found-clause-may_read : goal.returns-in-Found-clause-may_read
-returns-in-Found-clause-may_read g c = table_read c.args.self.now _ _ c.requires.control c.scan_last.ensures.may_read
+returns-in-Found-clause-may_read g c = reads_at c.args.self.now FinalTable c.args.steps.now c.scan_last.new.steps c.requires.control c.scan_last.ensures.may_read
 
 pub returns-in-Working-clause-does : goal.returns-in-Working-clause-does
 returns-in-Working-clause-does g c rules stands = table_does rules stands c.args.self.now c.scan_last.new.self (g.R.Reader.shown c.args.reader.now) c.args.steps.now c.scan_last.new.steps Working c.requires.control (rw c.in-Working.is at c.in_ok-found.ensures.reads) c.scan_last.ensures.same
@@ -40,16 +45,16 @@ pub returns-in-Working-clause-step : goal.returns-in-Working-clause-step
 returns-in-Working-clause-step g c = table_scanned c.args.self.now c.scan_last.new.self (g.R.Reader.shown c.args.reader.now) Working c.requires.control c.scan_last.ensures.same c.requires.fits (λ need. rw c.in-Working.is at (c.in_ok-found.ensures.marks need))
 
 pub returns-in-Working-clause-tries : goal.returns-in-Working-clause-tries
-returns-in-Working-clause-tries g c = table_tries c.args.self.now c.scan_last.new.self (g.R.Reader.shown c.args.reader.now) c.args.steps.now c.scan_last.new.steps c.requires.control c.scan_last.ensures.same c.scan_last.ensures.tries
+returns-in-Working-clause-tries g c = table_effort (Tries c.args.steps.now c.scan_last.new.steps) c.args.self.now c.scan_last.new.self (g.R.Reader.shown c.args.reader.now) c.requires.control c.scan_last.ensures.same c.scan_last.ensures.tries
 
 pub returns-in-Working-clause-falls : goal.returns-in-Working-clause-falls
-returns-in-Working-clause-falls g c = table_falls c.args.self.now c.scan_last.new.self (g.R.Reader.shown c.args.reader.now) Working c.args.steps.now c.scan_last.new.steps c.requires.control c.scan_last.ensures.same (rw c.in-Working.is at c.in_ok-found.ensures.falls)
+returns-in-Working-clause-falls g c = table_effort (Falls Working c.args.steps.now c.scan_last.new.steps) c.args.self.now c.scan_last.new.self (g.R.Reader.shown c.args.reader.now) c.requires.control c.scan_last.ensures.same (rw c.in-Working.is at c.in_ok-found.ensures.falls)
 
 pub returns-in-Working-clause-may_read : goal.returns-in-Working-clause-may_read
-returns-in-Working-clause-may_read g c = table_read c.args.self.now _ _ c.requires.control c.scan_last.ensures.may_read
+returns-in-Working-clause-may_read g c = reads_at c.args.self.now FinalTable c.args.steps.now c.scan_last.new.steps c.requires.control c.scan_last.ensures.may_read
 
 pub returns-in-End-clause-does : goal.returns-in-End-clause-does
-returns-in-End-clause-does g c rules stands = table_does rules stands c.args.self.now c.go.new.self (g.R.Reader.shown c.args.reader.now) c.args.steps.now c.scan_last.new.steps End c.requires.control (rw c.in-End.is at c.in_ok-found.ensures.reads) (table_over c.args.self.now c.scan_last.new.self c.go.new.self c.scan_last.ensures.same c.go.ensures)
+returns-in-End-clause-does g c rules stands = table_does rules stands c.args.self.now c.go.new.self (g.R.Reader.shown c.args.reader.now) c.args.steps.now c.scan_last.new.steps End c.requires.control (rw c.in-End.is at c.in_ok-found.ensures.reads) (put_then (λ (x : Unioned). x.last) (λ (p : Place). record c.args.self.now { last = p }) (gone FinalEnded) c.scan_last.new.self c.go.new.self refl c.scan_last.ensures.same c.go.ensures)
 
 pub returns-in-End-clause-steady : goal.returns-in-End-clause-steady
 returns-in-End-clause-steady g c =
@@ -76,19 +81,19 @@ returns-in-End-clause-tries g c =
     let shown = g.R.Reader.shown c.args.reader.now in
     let mid = c.scan_last.new.self in
     let control : mid.control ≡ FinalTable = ap (λ (x : Unioned). x.control) c.scan_last.ensures.same ∙ c.requires.control in
-    ended_tries mid c.go.new.self shown c.args.steps.now c.scan_last.new.steps _ (inr control) c.go.ensures (table_tries c.args.self.now mid shown c.args.steps.now c.scan_last.new.steps c.requires.control c.scan_last.ensures.same c.scan_last.ensures.tries)
+    ended_tries c.args.steps.now c.scan_last.new.steps (effort c.args.self.now shown) (effort mid shown) (effort c.go.new.self shown) (ended_effort mid c.go.new.self shown (inr control) c.go.ensures) (table_effort (Tries c.args.steps.now c.scan_last.new.steps) c.args.self.now mid shown c.requires.control c.scan_last.ensures.same c.scan_last.ensures.tries)
 
 pub returns-in-End-clause-may_read : goal.returns-in-End-clause-may_read
-returns-in-End-clause-may_read g c = table_read c.args.self.now _ _ c.requires.control c.scan_last.ensures.may_read
+returns-in-End-clause-may_read g c = reads_at c.args.self.now FinalTable c.args.steps.now c.scan_last.new.steps c.requires.control c.scan_last.ensures.may_read
 
 pub returns-in_err-found-clause-steady : goal.returns-in_err-found-clause-steady
 returns-in_err-found-clause-steady g c = table_steady c.args.self.now c.scan_last.new.self (g.R.Reader.shown c.args.reader.now) c.requires.control c.scan_last.ensures.same c.scan_last.ensures.last c.requires.fits
 
 pub returns-in_err-found-clause-tries : goal.returns-in_err-found-clause-tries
-returns-in_err-found-clause-tries g c = table_tries c.args.self.now c.scan_last.new.self (g.R.Reader.shown c.args.reader.now) c.args.steps.now c.scan_last.new.steps c.requires.control c.scan_last.ensures.same c.scan_last.ensures.tries
+returns-in_err-found-clause-tries g c = table_effort (Tries c.args.steps.now c.scan_last.new.steps) c.args.self.now c.scan_last.new.self (g.R.Reader.shown c.args.reader.now) c.requires.control c.scan_last.ensures.same c.scan_last.ensures.tries
 
 pub returns-in_err-found-clause-may_read : goal.returns-in_err-found-clause-may_read
-returns-in_err-found-clause-may_read g c = table_read c.args.self.now _ _ c.requires.control c.scan_last.ensures.may_read
+returns-in_err-found-clause-may_read g c = reads_at c.args.self.now FinalTable c.args.steps.now c.scan_last.new.steps c.requires.control c.scan_last.ensures.may_read
 
 pub returns-in_err-found-clause-still : goal.returns-in_err-found-clause-still
 returns-in_err-found-clause-still g c = on_err _ _ (subst (OnlyTakes c.args.self.now) (sym c.in_err-found.ensures.err) (only_itself c.args.self.now (ap scanning c.requires.control)))

@@ -1,4 +1,6 @@
-use Rattle.rv_union.proofs.Takes.{took_can, took_err, took_fits, took_lane, took_leaves, took_reads, took_taken, took_trace}
+use Rattle.std.proofs.Common.{◌≡◌, OnErr, subst}
+use Rattle.rv_union.specs.Unioned.{Unioned}
+use Rattle.rv_union.proofs.Takes.{took_can, took_fits, took_lane, took_leaves, took_reads, took_taken, took_trace}
 use Rattle.rv_union.proofs.uniting.Union.take_awaited.Goals as goal
 
 pub take_lane-requires-clause-can : goal.take_lane-requires-clause-can
@@ -17,7 +19,7 @@ pub returns-clause-taken : goal.returns-clause-taken
 returns-clause-taken g c = took_taken c.take_lane.result c.args.self.now c.count_read.new.self c.take_lane.new.self c.next_id-id.result c.requires.under_way c.count_read.ensures c.next_id-id.ensures c.take_lane.ensures.same c.take_lane.ensures.taken
 
 pub returns-clause-err : goal.returns-clause-err
-returns-clause-err g c = took_err c.take_lane.result c.args.self.now c.count_read.new.self c.take_lane.new.self c.count_read.ensures c.take_lane.ensures.err
+returns-clause-err g c = subst (λ (x : Unioned). OnErr c.take_lane.result (c.take_lane.new.self ≡ x)) c.count_read.ensures c.take_lane.ensures.err
 
 pub returns-clause-fits : goal.returns-clause-fits
 returns-clause-fits g c = took_fits c.args.self.now c.count_read.new.self c.take_lane.new.self (g.R.Reader.shown c.args.reader.now) c.requires.under_way c.count_read.ensures c.take_lane.ensures.same c.take_lane.ensures.fits c.requires.fits

@@ -1,10 +1,11 @@
-use Rattle.std.proofs.Common.{◌≡◌, ◌∙◌, IfOk, OnErr, ap, is_some, subst, sym}
+use Rattle.std.proofs.Common.{◌≡◌, ◌∙◌, IfOk, OnErr, ap, is_some, refl, subst, sym}
 use Rattle.rv_jscan.specs.declared.jscan.ScanPlan.{ScanPlan}
 use Rattle.rv_jscan.specs.Joint.{CanMake}
 use Rattle.rv_jscan.specs.Lanes.{IsOwn, LaneFits, Laned, leaf_once}
+use Rattle.rv_final.proofs.Givings.{put_if}
 use Rattle.rv_union.specs.Given.{with_lane}
 use Rattle.rv_union.specs.Unioned.{Unioned, present}
-use Rattle.rv_union.proofs.Lanes.{lane_err, lane_held, lane_kept}
+use Rattle.rv_union.proofs.Lanes.{lane_held, lane_kept}
 use Rattle.rv_union.proofs.uniting.Union.take_lane.Goals as goal
 
 pub take-requires-clause-can : goal.take-requires-clause-can
@@ -34,7 +35,7 @@ pub returns-clause-err : goal.returns-clause-err
 returns-clause-err g c =
     let l = c.take.new.self in
     let same = subst (λ (x : Laned). OnErr c.take.result (l ≡ x)) (ap (λ (x : Unioned). x.lane) c.self.view_is) c.take.ensures.err in
-    subst (λ (r : Unioned). OnErr c.take.result (with_lane l r ≡ c.args.self.now)) (sym c.self.view_is) (lane_err c.take.result c.args.self.now l same)
+    subst (λ (r : Unioned). OnErr c.take.result (with_lane l r ≡ c.args.self.now)) (sym c.self.view_is) (put_if c.take.result (λ (x : Laned). with_lane x c.args.self.now) l c.args.self.now.lane c.args.self.now refl same)
 
 pub returns-clause-fits : goal.returns-clause-fits
 returns-clause-fits g c =

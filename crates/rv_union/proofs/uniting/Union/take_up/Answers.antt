@@ -1,5 +1,6 @@
 use Rattle.rv_jscan.specs.Steps.{held_next}
-use Rattle.rv_union.proofs.Lanes.{obeys_by, right_of}
+use Rattle.rv_final.proofs.Givings.{right_of}
+use Rattle.rv_union.proofs.Lanes.{obeys_by}
 use Rattle.rv_union.proofs.uniting.Union.take_up.Goals as goal
 
 pub returns-clause-obeys : goal.returns-clause-obeys
