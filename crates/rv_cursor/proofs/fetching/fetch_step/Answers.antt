@@ -28,8 +28,8 @@ work_beside-requires-in-Working g c =
     let kept = kept_stays shown c.args.cursor.now c.step.new.self empty c.requires.fits c.step.ensures.fits moves.asked moves.step in
     record { fits = kept.fits }
 
-pub returns-in_ok-replies : goal.returns-in_ok-replies
-returns-in_ok-replies g c =
+pub returns-then-is_some : goal.returns-then-is_some
+returns-then-is_some g c =
     let shown = g.R.Reader.shown c.args.reader.now in
     record {
       fits = c.give.ensures.fits shown c.requires.fits;
