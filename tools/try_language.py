@@ -33,7 +33,8 @@ def string(of):
 
 
 def values(*of):
-    return written("Values", values="Some([" + ", ".join(of) + "])")
+    held = {2: "Two", 3: "Three", 4: "Four"}.get(len(of), "Listed")
+    return written("Values", held=f"{held}([" + ", ".join(of) + "])")
 
 
 def column(name, table=None):
