@@ -38,7 +38,7 @@ returns-clause-err g c =
 pub returns-clause-moves : goal.returns-clause-moves
 returns-clause-moves g c =
     let named = sym c.cursor_named.ensures.named ∙ c.in-Some.is in
-    rw (← c.self.view_is, named) (if_ok c.fetch_step.result _ _ (λ part turn. part_more _ _ _ _ part (λ replies moves. (refl, moves)) (λ moves. (refl, refl, moves)) (part_moves c.args.beside _ (g.S.Reader.shown c.self.inside.store) c.self.inside.cursors c.in-Some.place _ _ c.at_mut.result.now c.fetch_step.new.cursor part c.at_mut.ensures.value c.fetch_step.ensures.same c.fetch_step.ensures.held turn)) c.fetch_step.ensures.turn)
+    rw (← c.self.view_is, named) (if_ok c.fetch_step.result _ _ (λ part turn. part_more _ _ _ _ part (λ replies moves. (refl, moves)) (λ moves. (refl, (refl, moves))) (part_moves c.args.beside _ (g.S.Reader.shown c.self.inside.store) c.self.inside.cursors c.in-Some.place _ _ c.at_mut.result.now c.fetch_step.new.cursor part c.at_mut.ensures.value c.fetch_step.ensures.same c.fetch_step.ensures.held turn)) c.fetch_step.ensures.turn)
 
 pub returns-clause-turn : goal.returns-clause-turn
 returns-clause-turn g c =
