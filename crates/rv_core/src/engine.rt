@@ -97,6 +97,13 @@ impl<S: Store + Reader<Ledger = Uncounted> + Drop> Engine<S> {
         self.phase += 1;
     }
 
+    /// Takes room for the entries of so many calls more at once, where it is found; else each call takes its own.
+    pub fn make_room(&mut self, calls: usize)
+        ensures { self.new ≡ self.old }
+    {
+        let _found = self.history.reserve(calls);
+    }
+
     /// Makes a session's call under a judge, with so many background steps and such races as are set: the reply is given
     /// and written to the history with the text. On `NoMemory` nothing is changed but how far the plans of cursors have
     /// come.

@@ -104,6 +104,15 @@ impl<S: Store + Reader<Ledger = Uncounted> + Drop> Core<S> {
         self.engine.next_phase();
     }
 
+    /// Takes room for the entries of so many calls more at once, where it is found; else each call takes its own.
+    pub fn make_room(&mut self, calls: usize)
+        ensures engine { self.new.engine ≡ self.old.engine }
+        ensures judge { self.new.judge ≡ self.old.judge }
+        ensures settings { self.new.settings ≡ self.old.settings }
+    {
+        self.engine.make_room(calls);
+    }
+
     /// Swaps the judge, and hands the one before back with its state.
     pub fn set_judge(&mut self, judge: Box<dyn Judge>) -> Box<dyn Judge>
         ensures before { result ≡ self.old.judge }

@@ -331,7 +331,7 @@ fn perform<P: Store + Reader<Ledger = Uncounted> + Drop, K: Sink>(
     ensures kinds { IsPerformed result.status }
     ensures core { IsSomeAnd result.core (λ core. core.settings ≡ settings_of asked) }
 {
-    let (mut core, mut judges) = judged_core(alloc, store, asked, judges);
+    let (mut core, mut judges) = judged_core(alloc, store, asked, judges, calls_of(&script));
     let Script { phases } = script;
     let called = make_calls(&mut core, &mut judges, phases.into_vec()).is_ok();
     drop(judges);
@@ -407,7 +407,7 @@ fn perform_by_threads<
     ensures kinds { IsPerformed result.status }
     ensures core { IsSomeAnd result.core (λ core. core.settings ≡ settings_of asked) }
 {
-    let (core, mut judges) = judged_core(alloc, store, asked, judges);
+    let (core, mut judges) = judged_core(alloc, store, asked, judges, calls_of(&script));
     let Phased { core, short } = make_calls_by_threads(
         rt,
         alloc,
@@ -422,12 +422,23 @@ fn perform_by_threads<
     written(sink, asked.seed, core, !short)
 }
 
-/// A core over the store under the judge that the words ask, and the judges beside it.
+/// How many calls a script has.
+fn calls_of(script: &Script) -> usize {
+    let mut calls = 0usize;
+    for phase in script.phases.as_slice() {
+        calls = calls.saturating_add(phase.lines.len());
+    }
+    calls
+}
+
+/// A core over the store under the judge that the words ask, with room for the history of so many calls where it is found,
+/// and the judges beside it.
 fn judged_core<P: Store + Reader<Ledger = Uncounted> + Drop>(
     alloc: Global,
     store: P,
     asked: Asked,
     judges: Vec<Box<dyn Judge>>,
+    calls: usize,
 ) -> (Core<P>, Judges)
     requires tables { (P.shown store).tables ≡ 0 }
     requires newest { (P.shown store).newest ≡ 0 }
@@ -439,7 +450,8 @@ fn judged_core<P: Store + Reader<Ledger = Uncounted> + Drop>(
     ensures settings { result.0.settings ≡ settings_of asked }
 {
     let (judges, first) = Judges::new(judges, asked.judge);
-    let core = Core::new(alloc, store, first, asked.race, asked.steps);
+    let mut core = Core::new(alloc, store, first, asked.race, asked.steps);
+    core.make_room(calls);
     (core, judges)
 }
 
