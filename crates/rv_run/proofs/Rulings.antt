@@ -1,7 +1,7 @@
 -- Runs under judges: one more call, one run behind another, and places.
-use Rattle.std.proofs.Common.{◌≡◌, ◌∙◌, ◌+◌, ◌<◌, ◌++◌, ◌∷◌, ℕ, List, [], refl, sym, ap, subst, map, Option, Some, None, slice_get, slice_set, append_assoc, append-nil, arith, unwrap_or, suc, zero, length, length-append, take, drop, Result, Ok, Err, OnOk, OnErr}
+use Rattle.std.proofs.Common.{◌≡◌, ◌∙◌, ◌+◌, ◌<◌, ◌++◌, ◌∷◌, ℕ, List, [], refl, sym, ap, subst, map, Option, Some, None, slice_get, slice_set, append_assoc, append-nil, arith, unwrap_or, reverse, suc, zero, length, length-append, take, drop, Result, Ok, Err, OnOk, OnErr, option_to_list}
 use Rattle.std.specs.List.{slice_index_or}
-use Rattle.std.proofs.lemmas.List.{map-append}
+use Rattle.std.proofs.lemmas.List.{map-append, reverse-append}
 use Rattle.std.proofs.Math.Seq.{drop-cons, take-append_seam}
 use Rattle.rv_value.proofs.Places.{put_back}
 use Rattle.rv_judge.specs.declared.judging.Facts.{Facts}
@@ -124,6 +124,13 @@ pub record MadeTo {S : Type 0} (shows : S → StoreShown) (settings : Settings) 
   pub whole : made ++ left ≡ all
   pub told : calls_made new.history ≡ calls_made old.history ++ calls_in phase made
   pub answers : Anywhere stood stands (λ number js ks. AnswersAll shows settings (map (ruled_by number) (calls_in phase made)) (between old js) (between new ks))
+
+-- lines turned round, of which the last one is taken
+pub next_turned : (rest taken left : List Line) (last : Option Line) (line : Line) → rest ≡ taken ++ option_to_list last → last ≡ Some line → left ≡ taken → reverse rest ≡ line ∷ reverse left
+next_turned rest taken left last line popped is same =
+    ap reverse (popped ∙ ap (λ (l : Option Line). taken ++ option_to_list l) is)
+    ∙ reverse-append taken (line ∷ [])
+    ∙ ap (λ (ls : List Line). line ∷ reverse ls) (sym same)
 
 pub none_made : {S : Type 0} (shows : S → StoreShown) (settings : Settings) (phase : ℕ) (all left : List Line) (core : Shown S) (j : Judging) → left ≡ all → MadeTo shows settings phase all left core core j j
 none_made shows settings phase all left core j whole = record { made = []; whole = whole; told = sym (append-nil (calls_made core.history)); answers = none_ruled shows settings core j }

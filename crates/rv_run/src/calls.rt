@@ -64,7 +64,7 @@ pub(crate) fn enter_phase<S: Store + Reader<Ledger = Uncounted> + Drop>(
     }
 }
 
-/// Makes the calls of a phase.
+/// Makes the calls of a phase, from the end of its lines turned round, so that these can give up their room.
 fn make_phase<S: Store + Reader<Ledger = Uncounted> + Drop>(
     core: &mut Core<S>,
     _beside: &Judges,
@@ -81,10 +81,23 @@ fn make_phase<S: Store + Reader<Ledger = Uncounted> + Drop>(
     ensures phase { core.new.engine.phase ≡ core.old.engine.phase }
     ensures settings { core.new.settings ≡ core.old.settings }
 {
-    'lines: for line in lines {
+    let mut left = lines;
+    left.reverse();
+    'lines: while let Some(line) = left.pop() {
+        give_room_back(&mut left);
         make_call(core, _beside, line)?;
     }
     Ok(())
+}
+
+/// Lines that fill less than half of their room keep no more than they need: so a phase's lines take ever less room as its
+/// calls are made, and all of them together move once at most.
+fn give_room_back(left: &mut Vec<Line>)
+    ensures { left.new.items ≡ left.old.items }
+{
+    if left.len() < left.capacity() / 2 {
+        left.shrink_to_fit();
+    }
 }
 
 /// Makes the call of a line.

@@ -1,14 +1,14 @@
-use Rattle.std.proofs.Common.{◌≡◌, ◌∙◌, [], refl, subst, sym, All}
-use Rattle.std.proofs.lemmas.List.{nil_from_length}
+use Rattle.std.proofs.Common.{◌≡◌, ◌∙◌, [], ap, refl, reverse, rules, subst, sym, All}
+use Rattle.std.proofs.lemmas.List.{reverse-reverse}
 use Rattle.rv_value.proofs.Lists.{on_err}
 use Rattle.rv_gen.specs.Workload.{IsCall}
 use Rattle.rv_phases.proofs.Calls.{all_first, all_others}
-use Rattle.rv_run.proofs.Rulings.{made_answers, made_more, made_part, made_stops, made_told, none_made}
+use Rattle.rv_run.proofs.Rulings.{made_answers, made_more, made_part, made_stops, made_told, next_turned, none_made}
 use Rattle.rv_run.proofs.calls.make_phase.Goals as goal
 
 pub lines-init : goal.lines-init
 lines-init g c =
-    let all = c.into_iter-line-iterator.ensures.into_iter_gives.0 in
+    let all = ap reverse c.reverse.ensures.items ∙ reverse-reverse c.args.lines.items in
     record {
       fits = subst (All IsCall) (sym all) c.requires;
       phase = refl;
@@ -18,7 +18,7 @@ lines-init g c =
     }
 
 pub make_call-requires : goal.make_call-requires
-make_call-requires g c = all_first IsCall _ _ _ c.lines.invariant.fits c.in-Some.ensures.steps.0
+make_call-requires g c = all_first IsCall _ _ _ c.lines.invariant.fits (next_turned c.lines.left.items c.pop.new.self.items c.give_room_back.new.left.items c.pop.result c.in-Some.line c.pop.ensures.items c.in-Some.is c.give_room_back.ensures)
 
 pub returns-in_err-make_call-clause-part : goal.returns-in_err-make_call-clause-part
 returns-in_err-make_call-clause-part g c = made_part _ _ _ _ _ _ _ _ _ c.make_call.new.core.engine.history c.in_err-make_call.ensures.err c.lines.invariant.made
@@ -27,23 +27,25 @@ pub returns-in_err-make_call-clause-stopped : goal.returns-in_err-make_call-clau
 returns-in_err-make_call-clause-stopped g c = on_err c.from_residual.result _ (made_stops _ _ _ _ _ _ _ _ _ c.make_call.new.core.engine _ c.in_err-make_call.ensures.err c.lines.invariant.made)
 
 pub lines-preserved : goal.lines-preserved
-lines-preserved g c = record {
-  fits = all_others IsCall _ _ _ c.lines.invariant.fits c.in-Some.ensures.steps.0;
-  phase = c.make_call.ensures.phase ∙ c.lines.invariant.phase;
-  made = made_more _ _ _ _ _ _ _ _ c.in-Some.line _ c.lines.core.engine c.make_call.new.core.engine _ _ _ _ _ c.lines.invariant.settings c.lines.invariant.phase c.lines.invariant.rules c.in-Some.ensures.steps.0 c.lines.invariant.made c.in_ok-make_call.ensures.ok c.in_ok-make_call.ensures.ruled;
-  rules = c.make_call.ensures.rules ∙ c.lines.invariant.rules;
-  settings = c.make_call.ensures.settings ∙ c.lines.invariant.settings;
-}
+lines-preserved g c =
+    let next = next_turned c.lines.left.items c.pop.new.self.items c.give_room_back.new.left.items c.pop.result c.in-Some.line c.pop.ensures.items c.in-Some.is c.give_room_back.ensures in
+    record {
+      fits = all_others IsCall _ _ _ c.lines.invariant.fits next;
+      phase = c.make_call.ensures.phase ∙ c.lines.invariant.phase;
+      made = made_more _ _ _ _ _ _ _ _ c.in-Some.line _ c.lines.core.engine c.make_call.new.core.engine _ _ _ _ _ c.lines.invariant.settings c.lines.invariant.phase c.lines.invariant.rules next c.lines.invariant.made c.in_ok-make_call.ensures.ok c.in_ok-make_call.ensures.ruled;
+      rules = c.make_call.ensures.rules ∙ c.lines.invariant.rules;
+      settings = c.make_call.ensures.settings ∙ c.lines.invariant.settings;
+    }
 
 pub returns-clause-ok : goal.returns-clause-ok
 returns-clause-ok g c =
-    let none : c.lines.line-iterator.rest.items ≡ [] = nil_from_length c.lines.line-iterator.rest.items (sym c.lines.line-iterator.rest.ok.0 ∙ c.in-None.ensures.steps.0) in
-    made_told _ _ _ _ _ _ _ _ _ none c.lines.invariant.made
+    let none : c.lines.left.items ≡ [] = search rules in
+    made_told _ _ _ _ _ _ _ _ _ (ap reverse none) c.lines.invariant.made
 
 pub returns-clause-part : goal.returns-clause-part
 returns-clause-part g c = made_part _ _ _ _ _ _ _ _ _ c.lines.core.engine.history refl c.lines.invariant.made
 
 pub returns-clause-ruled : goal.returns-clause-ruled
 returns-clause-ruled g c =
-    let none : c.lines.line-iterator.rest.items ≡ [] = nil_from_length c.lines.line-iterator.rest.items (sym c.lines.line-iterator.rest.ok.0 ∙ c.in-None.ensures.steps.0) in
-    made_answers _ _ _ _ _ _ _ _ _ none c.lines.invariant.made
+    let none : c.lines.left.items ≡ [] = search rules in
+    made_answers _ _ _ _ _ _ _ _ _ (ap reverse none) c.lines.invariant.made
