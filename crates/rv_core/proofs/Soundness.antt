@@ -61,6 +61,10 @@ IsSound-Unanswered u judge ruled old new session text sound a = rw a.kept record
 pub unanswered_same : {S : Type 0} (u : Under) (judge : ℕ) (shown : Shown S) (session : ℕ) (text : List ℕ) → Unanswered u judge judge shown shown session text
 unanswered_same u judge shown session text = record { kept = refl; plans = leaves_text u (statement_of text) shown.db session (plans_in shown judge) }
 
+-- as the database tells it of the same text, where the history has room for an entry more
+pub unanswered_at : {S : Type 0} (u : Under) (judge ruled : ℕ) (w d : Whole S) (history more : List Entry) (phase session : ℕ) (text told : List ℕ) → more ≡ history → told ≡ text → d.stand ≡ w.stand → d.opened ≡ w.opened → LeavesText u (statement_of told) w.stand.db session (plans_of w judge) (plans_of d ruled) → Unanswered u judge ruled (shown_of history phase w) (shown_of more phase d) session text
+unanswered_at u judge ruled w d history more phase session text told is same stand opened leaves = rw is (unanswered u judge ruled w d history phase session text stand opened (rw same at leaves))
+
 -- no entry was added
 pub unanswered_kept : {S : Type 0} (u : Under) (judge : ℕ) (w : Whole S) (history more : List Entry) (phase session : ℕ) (text : List ℕ) → more ≡ history → Unanswered u judge judge (shown_of history phase w) (shown_of more phase w) session text
 unanswered_kept u judge w history more phase session text is = rw is (unanswered_same u judge (shown_of history phase w) session text)

@@ -97,10 +97,16 @@ impl<S: Store + Reader<Ledger = Uncounted> + Drop> Engine<S> {
         self.phase += 1;
     }
 
+    /// Takes room for the entries of so many calls more at once, where it is found; else each call takes its own.
+    pub fn make_room(&mut self, calls: usize)
+        ensures { self.new ≡ self.old }
+    {
+        let _found = self.history.reserve(calls);
+    }
+
     /// Makes a session's call under a judge, with so many background steps and such races as are set: the reply is given
     /// and written to the history with the text. On `NoMemory` nothing is changed but how far the plans of cursors have
     /// come.
-    #[tactic(auto, using(crate::proofs::Keeping::sees_same))]
     pub fn call(
         &mut self,
         session: u8,
@@ -117,14 +123,43 @@ impl<S: Store + Reader<Ledger = Uncounted> + Drop> Engine<S> {
         ensures sees { SeesSame (S.shown self.old.store) (S.shown self.new.store) self.new.opens }
         ensures sound { IsSound self.new }
     {
-        let copy = Text::read(self.alloc, text)?;
+        let copy = self.copied(text)?;
+        self.call_text(session, copy, judge, settings)
+    }
+
+    /// A copy of a text.
+    fn copied(&self, text: &str) -> Result<Text, NoMemory>
+        ensures copy { IfOk result (λ copy. copy ≡ text.now) }
+        ensures sound { IsSound self.now }
+    {
+        Text::read(self.alloc, text)
+    }
+
+    /// As `call`, of a text that goes into the history itself and not a copy of it. On `NoMemory` it is dropped.
+    #[tactic(auto, using(crate::proofs::Keeping::sees_same))]
+    pub fn call_text(
+        &mut self,
+        session: u8,
+        text: Text,
+        judge: &mut Box<dyn Judge>,
+        settings: Settings,
+    ) -> Result<Reply, NoMemory>
+        requires from { 1 ≤ session }
+        requires to { session ≤ 8 }
+        requires short { length text ≤ 4096 }
+        ensures ok { IfOk result (λ reply. Answers (under (S.shown self.old.store) (would judge.old) settings) (state judge.old) (state judge.new) self.old self.new session text reply) }
+        ensures err { OnErr result (Unanswered (under (S.shown self.old.store) (would judge.old) settings) (state judge.old) (state judge.new) self.old self.new session text) }
+        ensures rules { would judge.new ≡ would judge.old }
+        ensures sees { SeesSame (S.shown self.old.store) (S.shown self.new.store) self.new.opens }
+        ensures sound { IsSound self.new }
+    {
         self.history.reserve(1)?;
         let (reply, kept) = answer(
             self.alloc,
             &mut self.database,
             &mut self.readings,
             session,
-            text,
+            text.as_str(),
             judge,
             settings,
         )?;
@@ -133,7 +168,7 @@ impl<S: Store + Reader<Ledger = Uncounted> + Drop> Engine<S> {
             .push(Entry {
                 session,
                 phase: self.phase,
-                text: copy,
+                text,
                 reply: kept,
             })
             .unwrap();

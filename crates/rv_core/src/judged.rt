@@ -13,7 +13,7 @@ use rv_judge::{Judge, Steps, Uncounted};
 use rv_lang::Reply;
 use rv_model::Entry;
 use rv_reader::{Reader, Store};
-use rv_value::NoMemory;
+use rv_value::{NoMemory, Text};
 use std::alloc::Global;
 use std::mem;
 
@@ -104,6 +104,15 @@ impl<S: Store + Reader<Ledger = Uncounted> + Drop> Core<S> {
         self.engine.next_phase();
     }
 
+    /// Takes room for the entries of so many calls more at once, where it is found; else each call takes its own.
+    pub fn make_room(&mut self, calls: usize)
+        ensures engine { self.new.engine ≡ self.old.engine }
+        ensures judge { self.new.judge ≡ self.old.judge }
+        ensures settings { self.new.settings ≡ self.old.settings }
+    {
+        self.engine.make_room(calls);
+    }
+
     /// Swaps the judge, and hands the one before back with its state.
     pub fn set_judge(&mut self, judge: Box<dyn Judge>) -> Box<dyn Judge>
         ensures before { result ≡ self.old.judge }
@@ -129,6 +138,22 @@ impl<S: Store + Reader<Ledger = Uncounted> + Drop> Core<S> {
     {
         self.engine
             .call(session, text, &mut self.judge, self.settings)
+    }
+
+    /// As `call`, of a text that goes into the history itself and not a copy of it. On `NoMemory` it is dropped.
+    pub fn call_text(&mut self, session: u8, text: Text) -> Result<Reply, NoMemory>
+        requires from { 1 ≤ session }
+        requires to { session ≤ 8 }
+        requires short { length text ≤ 4096 }
+        ensures ok { IfOk result (λ reply. Answers (under (S.shown self.old.engine.store) (would self.old.judge) self.old.settings) (state self.old.judge) (state self.new.judge) self.old.engine self.new.engine session text reply) }
+        ensures err { OnErr result (Unanswered (under (S.shown self.old.engine.store) (would self.old.judge) self.old.settings) (state self.old.judge) (state self.new.judge) self.old.engine self.new.engine session text) }
+        ensures rules { would self.new.judge ≡ would self.old.judge }
+        ensures sees { SeesSame (S.shown self.old.engine.store) (S.shown self.new.engine.store) self.new.engine.opens }
+        ensures sound { IsSound self.new.engine }
+        ensures settings { self.new.settings ≡ self.old.settings }
+    {
+        self.engine
+            .call_text(session, text, &mut self.judge, self.settings)
     }
 
     /// One turn's part of a call: as `call`, but that a FETCH makes one foreground step at most, with the background steps

@@ -1,5 +1,5 @@
 -- The calls of a history and of a script, in order, and those of each session.
-use Rattle.std.proofs.Common.{◌≡◌, ℕ, ◌+◌, ◌<◌, List, [], ◌∷◌, ◌++◌, refl, sym, ap, ◌∙◌, arith, suc, zero, inl, inr, ◌⊎◌, append_assoc, append-nil, take, drop, drop-cons, length}
+use Rattle.std.proofs.Common.{◌≡◌, ℕ, ◌+◌, ◌<◌, List, [], ◌∷◌, ◌++◌, refl, sym, ap, ◌∙◌, arith, suc, zero, inl, inr, ◌⊎◌, append_assoc, append-nil, take, drop, length}
 use Rattle.std.specs.List.{slice_index_or}
 use Rattle.rv_script.specs.declared.scripts.Line.{Line}
 use Rattle.rv_script.specs.declared.scripts.Phase.{Phase}
@@ -115,11 +115,10 @@ pub whole_calls : (h : List Entry) (all : List Call) → calls_made h ≡ all �
 whole_calls h all e = record { rest = []; whole = sym e ∙ sym (append-nil (calls_made h)) }
 
 -- the same, as the code goes over the phases
-pub first_calls_at : {S : Type 0} (core entered after : Shown S) (number i : ℕ) (phases : List Phase) (p : Phase) (lines : List Line) → number ≡ i → i < length phases → p ≡ slice_index_or phases i p → lines ≡ p.lines → entered ≡ record core { phase = number + 1 }
-    → calls_made core.history ++ calls_from (number + 1) (drop i phases) ≡ calls_from 1 phases → MakesCalls entered.history after.history entered.phase lines → MakesFirst after.history (calls_from 1 phases)
-first_calls_at {S = S} core entered after number i phases p lines n within is same gone whole made =
-    let split : drop i phases ≡ p ∷ drop (suc i) phases = drop-cons phases i p within ∙ ap (λ (q : Phase). q ∷ drop (suc i) phases) (sym is) in
+pub first_calls_at : {S : Type 0} (core entered after : Shown S) (number : ℕ) (rest left phases : List Phase) (p : Phase) (lines : List Line) → rest ≡ p ∷ left → lines ≡ p.lines → entered ≡ record core { phase = number + 1 }
+    → calls_made core.history ++ calls_from (number + 1) rest ≡ calls_from 1 phases → MakesCalls entered.history after.history entered.phase lines → MakesFirst after.history (calls_from 1 phases)
+first_calls_at {S = S} core entered after number rest left phases p lines split same gone whole made =
     let history : entered.history ≡ core.history = ap (λ (s : Shown S). s.history) gone in
     let phase : entered.phase ≡ number + 1 = ap (λ (s : Shown S). s.phase) gone in
     let mine : MakesCalls core.history after.history (number + 1) p.lines = rw (← history, ← phase, ← same) made in
-    first_calls core.history after.history (number + 1) p (drop (suc i) phases) (calls_from 1 phases) (ap (λ (ps : List Phase). calls_made core.history ++ calls_from (number + 1) ps) (sym split) ∙ whole) mine
+    first_calls core.history after.history (number + 1) p left (calls_from 1 phases) (ap (λ (ps : List Phase). calls_made core.history ++ calls_from (number + 1) ps) (sym split) ∙ whole) mine

@@ -1,8 +1,8 @@
 -- Runs under judges: one more call, one run behind another, and places.
-use Rattle.std.proofs.Common.{◌≡◌, ◌∙◌, ◌+◌, ◌<◌, ◌++◌, ◌∷◌, ℕ, List, [], refl, sym, ap, subst, map, Option, Some, None, slice_get, slice_set, append_assoc, append-nil, arith, unwrap_or, suc, zero, length, take, drop, Result, Ok, Err, OnOk, OnErr}
+use Rattle.std.proofs.Common.{◌≡◌, ◌∙◌, ◌+◌, ◌<◌, ◌++◌, ◌∷◌, ℕ, List, [], refl, sym, ap, subst, map, Option, Some, None, slice_get, slice_set, append_assoc, append-nil, arith, unwrap_or, reverse, suc, zero, length, length-append, take, drop, Result, Ok, Err, OnOk, OnErr, option_to_list}
 use Rattle.std.specs.List.{slice_index_or}
-use Rattle.std.proofs.lemmas.List.{map-append, take_more, take-append-drop}
-use Rattle.std.proofs.Math.Seq.{drop-cons}
+use Rattle.std.proofs.lemmas.List.{map-append, reverse-append}
+use Rattle.std.proofs.Math.Seq.{drop-cons, take-append_seam}
 use Rattle.rv_value.proofs.Places.{put_back}
 use Rattle.rv_judge.specs.declared.judging.Facts.{Facts}
 use Rattle.rv_judge.specs.Verdicts.{Ruling}
@@ -18,8 +18,9 @@ use Rattle.rv_core.specs.Core.{Answers, Shown}
 use Rattle.rv_core.specs.Obeying.{SeesSame, under}
 use Rattle.rv_run.specs.Judges.{all_but, by_number, filled, ruling_after}
 use Rattle.rv_run.specs.Ruling.{AnswersAll, AnswersFirst, AnswersUnder, Between, CallsUnder, FirstCallsUnder, Judging, RuledCall, between, fresh, in_phase, judging, ruled_by, ruled_from}
-use Rattle.rv_run.specs.Making.{Anywhere}
+use Rattle.rv_run.specs.Making.{Anywhere, MakesCalls}
 use Rattle.rv_run.specs.Script.{Call, call, calls_from, calls_in, calls_made}
+use Rattle.rv_run.proofs.CallLists.{calls_in-append}
 
 -- places
 
@@ -116,30 +117,73 @@ one_ruled_more shows settings xs x old mid new a b c p q = λ number js at.
     let next : AnswersUnder shows settings (ruled_by number x) (between mid ks) (between new (slice_set js number c)) = subst (λ ls. AnswersUnder shows settings (ruled_by number x) (between mid ks) (between new ls)) last (q number ks (get_set js number a b at)) in
     rw (map-append (ruled_by number) xs (x ∷ [])) (all_append shows settings (map (ruled_by number) xs) (ruled_by number x ∷ []) (between old js) (between mid ks) (between new (slice_set js number c)) (p number js at) (between new (slice_set js number c), next, refl))
 
--- the lines of a phase up to one, and with that one
-pub calls_more : (phase : ℕ) (lines : List Line) (i : ℕ) (line : Line) → i < length lines → line ≡ slice_index_or lines i line → calls_in phase (take (i + 1) lines) ≡ calls_in phase (take i lines) ++ call line.session phase line.text ∷ []
-calls_more phase lines i line within is =
-    let more : take (i + 1) lines ≡ take i lines ++ line ∷ [] = take_more lines i line within ∙ ap (λ (l : Line). take i lines ++ l ∷ []) (sym is) in
-    ap (calls_in phase) more ∙ map-append (λ (l : Line). call l.session phase l.text) (take i lines) (line ∷ [])
+-- Of a phase's lines these are left. The calls of the others were made, as the history tells, by one judge from where it
+-- stood to where it stands.
+pub record MadeTo {S : Type 0} (shows : S → StoreShown) (settings : Settings) (phase : ℕ) (all left : List Line) (old new : Shown S) (stood stands : Judging) : Type 0 where
+  pub made : List Line
+  pub whole : made ++ left ≡ all
+  pub told : calls_made new.history ≡ calls_made old.history ++ calls_in phase made
+  pub answers : Anywhere stood stands (λ number js ks. AnswersAll shows settings (map (ruled_by number) (calls_in phase made)) (between old js) (between new ks))
 
--- a phase's calls up to a line, and with the call of that line
-pub phase_more : {S : Type 0} (shows : S → StoreShown) (b0 b : Settings) (p0 p : ℕ) (lines : List Line) (i : ℕ) (line : Line) (old mid new : Shown S) (w0 w : ℕ → Facts → Ruling) (s0 s t : ℕ) → b ≡ b0 → p ≡ p0 → w ≡ w0 → i < length lines → line ≡ slice_index_or lines i line
-    → Anywhere (judging w0 s0) (judging w0 s) (λ number js ks. AnswersAll shows b0 (map (ruled_by number) (calls_in p0 (take i lines))) (between old js) (between mid ks))
+-- lines turned round, of which the last one is taken
+pub next_turned : (rest taken left : List Line) (last : Option Line) (line : Line) → rest ≡ taken ++ option_to_list last → last ≡ Some line → left ≡ taken → reverse rest ≡ line ∷ reverse left
+next_turned rest taken left last line popped is same =
+    ap reverse (popped ∙ ap (λ (l : Option Line). taken ++ option_to_list l) is)
+    ∙ reverse-append taken (line ∷ [])
+    ∙ ap (λ (ls : List Line). line ∷ reverse ls) (sym same)
+
+pub none_made : {S : Type 0} (shows : S → StoreShown) (settings : Settings) (phase : ℕ) (all left : List Line) (core : Shown S) (j : Judging) → left ≡ all → MadeTo shows settings phase all left core core j j
+none_made shows settings phase all left core j whole = record { made = []; whole = whole; told = sym (append-nil (calls_made core.history)); answers = none_ruled shows settings core j }
+
+-- and the call of the next line
+pub made_more : {S : Type 0} (shows : S → StoreShown) (b0 b : Settings) (p0 p : ℕ) (all rest left : List Line) (line : Line) (old mid new : Shown S) (w0 w : ℕ → Facts → Ruling) (s0 s t : ℕ) → b ≡ b0 → p ≡ p0 → w ≡ w0 → rest ≡ line ∷ left → MadeTo shows b0 p0 all rest old mid (judging w0 s0) (judging w0 s)
+    → calls_made new.history ≡ calls_made mid.history ++ calls_in p (line ∷ [])
     → Anywhere (judging w s) (judging w t) (λ number js ks. AnswersUnder shows b (ruled_by number (call line.session p line.text)) (between mid js) (between new ks))
-    → Anywhere (judging w0 s0) (judging w0 t) (λ number js ks. AnswersAll shows b0 (map (ruled_by number) (calls_in p0 (take (i + 1) lines))) (between old js) (between new ks))
-phase_more shows b0 b p0 p lines i line old mid new w0 w s0 s t be pe we within is before next =
-    rw (calls_more p0 lines i line within is) (one_ruled_more shows b0 (calls_in p0 (take i lines)) (call line.session p0 line.text) old mid new (judging w0 s0) (judging w0 s) (judging w0 t) before (rw (be, pe, we) at next))
+    → MadeTo shows b0 p0 all left old new (judging w0 s0) (judging w0 t)
+made_more shows b0 b p0 p all rest left line old mid new w0 w s0 s t be pe we next m told ruled =
+    let grown : calls_in p0 (m.made ++ line ∷ []) ≡ calls_in p0 m.made ++ call line.session p0 line.text ∷ [] = calls_in-append p0 m.made (line ∷ []) in
+    record {
+      made = m.made ++ line ∷ [];
+      whole = append_assoc m.made (line ∷ []) left ∙ ap (λ (ls : List Line). m.made ++ ls) (sym next) ∙ m.whole;
+      told =
+          told
+          ∙ ap (λ (k : ℕ). calls_made mid.history ++ calls_in k (line ∷ [])) pe
+          ∙ ap (λ (cs : List Call). cs ++ calls_in p0 (line ∷ [])) m.told
+          ∙ append_assoc (calls_made old.history) (calls_in p0 m.made) (calls_in p0 (line ∷ []))
+          ∙ ap (λ (cs : List Call). calls_made old.history ++ cs) (sym grown);
+      answers = subst (λ (cs : List Call). Anywhere (judging w0 s0) (judging w0 t) (λ number js ks. AnswersAll shows b0 (map (ruled_by number) cs) (between old js) (between new ks))) (sym grown) (one_ruled_more shows b0 (calls_in p0 m.made) (call line.session p0 line.text) old mid new (judging w0 s0) (judging w0 s) (judging w0 t) m.answers (rw (be, pe, we) at ruled));
+    }
 
--- a phase that ends before the line of a number
-pub stopped_at : {S : Type 0} (shows : S → StoreShown) (settings : Settings) (phase i : ℕ) (lines : List Line) (old mid : Shown S) (a b : Judging) (new : Shown S) (after : Judging) → new.history ≡ mid.history → Anywhere a b (λ number js ks. AnswersAll shows settings (map (ruled_by number) (calls_in phase (take i lines))) (between old js) (between mid ks)) → Anywhere a after (λ number js ks. AnswersFirst shows settings (map (ruled_by number) (calls_in phase lines)) (between old js) new.history)
-stopped_at shows settings phase i lines old mid a b new after same p = λ number js at. record {
-  made = map (ruled_by number) (calls_in phase (take i lines));
-  rest = map (ruled_by number) (calls_in phase (drop i lines));
-  whole = ap (λ (ls : List Line). map (ruled_by number) (calls_in phase ls)) (sym (take-append-drop i lines)) ∙ ap (map (ruled_by number)) (map-append (λ (l : Line). call l.session phase l.text) (take i lines) (drop i lines)) ∙ map-append (ruled_by number) (calls_in phase (take i lines)) (calls_in phase (drop i lines));
+-- a phase that ends before the lines left
+pub made_stops : {S : Type 0} (shows : S → StoreShown) (settings : Settings) (phase : ℕ) (all left : List Line) (old mid : Shown S) (a b : Judging) (new : Shown S) (after : Judging) → new.history ≡ mid.history → MadeTo shows settings phase all left old mid a b → Anywhere a after (λ number js ks. AnswersFirst shows settings (map (ruled_by number) (calls_in phase all)) (between old js) new.history)
+made_stops shows settings phase all left old mid a b new after same m = λ number js at. record {
+  made = map (ruled_by number) (calls_in phase m.made);
+  rest = map (ruled_by number) (calls_in phase left);
+  whole = ap (λ (ls : List Line). map (ruled_by number) (calls_in phase ls)) (sym m.whole) ∙ ap (map (ruled_by number)) (calls_in-append phase m.made left) ∙ map-append (ruled_by number) (calls_in phase m.made) (calls_in phase left);
   end = between mid (slice_set js number b);
-  answers = p number js at;
+  answers = m.answers number js at;
   told = same;
 }
+
+-- what the history tells of a phase, wherever it ended
+pub made_part : {S : Type 0} (shows : S → StoreShown) (settings : Settings) (phase : ℕ) (all left : List Line) (old mid : Shown S) (a b : Judging) (history : List Entry) → history ≡ mid.history → MadeTo shows settings phase all left old mid a b → MakesCalls old.history history phase all
+made_part shows settings phase all left old mid a b history same m =
+    let first : take (length m.made) all ≡ m.made = ap (take (length m.made)) (sym m.whole) ∙ take-append_seam m.made left in
+    record {
+      count = length m.made;
+      within = let size = length-append m.made left in let sum = ap (λ (ls : List Line). length ls) m.whole in omega (arith, size, sum);
+      gained = ap calls_made same ∙ m.told ∙ ap (λ (ls : List Line). calls_made old.history ++ calls_in phase ls) (sym first);
+    }
+
+-- a phase to its end
+all_made : {S : Type 0} (shows : S → StoreShown) (settings : Settings) (phase : ℕ) (all left : List Line) (old new : Shown S) (a b : Judging) → left ≡ [] → (m : MadeTo shows settings phase all left old new a b) → m.made ≡ all
+all_made shows settings phase all left old new a b none m = sym (append-nil m.made) ∙ ap (λ (ls : List Line). m.made ++ ls) (sym none) ∙ m.whole
+
+pub made_told : {S : Type 0} (shows : S → StoreShown) (settings : Settings) (phase : ℕ) (all left : List Line) (old new : Shown S) (a b : Judging) → left ≡ [] → MadeTo shows settings phase all left old new a b → calls_made new.history ≡ calls_made old.history ++ calls_in phase all
+made_told shows settings phase all left old new a b none m = m.told ∙ ap (λ (ls : List Line). calls_made old.history ++ calls_in phase ls) (all_made shows settings phase all left old new a b none m)
+
+pub made_answers : {S : Type 0} (shows : S → StoreShown) (settings : Settings) (phase : ℕ) (all left : List Line) (old new : Shown S) (a b : Judging) → left ≡ [] → MadeTo shows settings phase all left old new a b → Anywhere a b (λ number js ks. AnswersAll shows settings (map (ruled_by number) (calls_in phase all)) (between old js) (between new ks))
+made_answers shows settings phase all left old new a b none m = subst (λ (ls : List Line). Anywhere a b (λ number js ks. AnswersAll shows settings (map (ruled_by number) (calls_in phase ls)) (between old js) (between new ks))) (all_made shows settings phase all left old new a b none m) m.answers
 
 -- phases
 
@@ -149,8 +193,8 @@ pub record AnswersTo {S : Type 0} (shows : S → StoreShown) (settings : Setting
   pub whole : made ++ left ≡ all
   pub answers : AnswersAll shows settings made old new
 
-pub begins : {S : Type 0} (shows : S → StoreShown) (settings : Settings) (all : List RuledCall) (b : Between S) → AnswersTo shows settings all all b b
-begins shows settings all b = record { made = []; whole = refl; answers = refl }
+pub begins : {S : Type 0} (shows : S → StoreShown) (settings : Settings) (all left : List RuledCall) (b : Between S) → left ≡ all → AnswersTo shows settings all left b b
+begins shows settings all left b whole = record { made = []; whole = whole; answers = refl }
 
 pub ends : {S : Type 0} (shows : S → StoreShown) (settings : Settings) (all left : List RuledCall) (old new : Between S) → left ≡ [] → AnswersTo shows settings all left old new → AnswersAll shows settings all old new
 ends shows settings all left old new none t =
@@ -180,67 +224,65 @@ pub seat_moved : {J : Type 0} (w : J → ℕ → Facts → Ruling) (s : J → �
 seat_moved w s a b c old new number h e same = subst (λ v. slice_set (map (λ j. judging (w j) (s j)) (by_number a b c old)) number (judging v (s new)) ≡ map (λ j. judging (w j) (s j)) (by_number a b c new)) same (seat_set (λ j. judging (w j) (s j)) a b c old new number h e)
 
 -- the calls left before a phase
-pub left_from : (ruling n i : ℕ) (phases : List Phase) (p : Phase) (lines : List Line) (next : ℕ) → i < length phases → p ≡ slice_index_or phases i p → lines ≡ p.lines → next ≡ unwrap_or p.judge ruling → ruled_from ruling n (drop i phases) ≡ map (ruled_by next) (calls_in n lines) ++ ruled_from next (n + 1) (drop (i + 1) phases)
-left_from ruling n i phases p lines next within is same named =
-    let at : suc i ≡ i + 1 = omega arith in
-    let split : drop i phases ≡ p ∷ drop (i + 1) phases = drop-cons phases i p within ∙ ap (λ (q : Phase). q ∷ drop (suc i) phases) (sym is) ∙ ap (λ (k : ℕ). p ∷ drop k phases) at in
-    rw (same, named) (ap (ruled_from ruling n) split)
+pub left_from : (ruling n : ℕ) (rest left : List Phase) (p : Phase) (lines : List Line) (next : ℕ) → rest ≡ p ∷ left → lines ≡ p.lines → next ≡ unwrap_or p.judge ruling → ruled_from ruling n rest ≡ map (ruled_by next) (calls_in n lines) ++ ruled_from next (n + 1) left
+left_from ruling n rest left p lines next split same named = rw (same, named) (ap (ruled_from ruling n) split)
 
 -- a phase more
-pub phases_more : {S J : Type 0} (shows : S → StoreShown) (b0 b : Settings) (w : J → ℕ → Facts → Ruling) (s : J → ℕ) (all : List RuledCall) (ruling n i : ℕ) (phases : List Phase) (p : Phase) (lines : List Line) (next : ℕ) (start : Between S) (core entered new : Shown S) (js : List Judging) (j0 j1 j2 : Option J) (before after : J)
-    → AnswersTo shows b0 all (ruled_from ruling n (drop i phases)) start (between core js) → i < length phases → p ≡ slice_index_or phases i p → lines ≡ p.lines → next ≡ unwrap_or p.judge ruling → entered ≡ record core { phase = n } → map (λ j. judging (w j) (s j)) (by_number j0 j1 j2 before) ≡ js → next < 3 → filled j0 j1 j2 ≡ all_but next → b ≡ b0 → w after ≡ w before
+pub phases_more : {S J : Type 0} (shows : S → StoreShown) (b0 b : Settings) (w : J → ℕ → Facts → Ruling) (s : J → ℕ) (all : List RuledCall) (ruling n : ℕ) (rest left : List Phase) (p : Phase) (lines : List Line) (next : ℕ) (start : Between S) (core entered new : Shown S) (js : List Judging) (j0 j1 j2 : Option J) (before after : J)
+    → AnswersTo shows b0 all (ruled_from ruling n rest) start (between core js) → rest ≡ p ∷ left → lines ≡ p.lines → next ≡ unwrap_or p.judge ruling → entered ≡ record core { phase = n } → map (λ j. judging (w j) (s j)) (by_number j0 j1 j2 before) ≡ js → next < 3 → filled j0 j1 j2 ≡ all_but next → b ≡ b0 → w after ≡ w before
     → Anywhere (judging (w before) (s before)) (judging (w before) (s after)) (λ number old later. AnswersAll shows b (map (ruled_by number) (calls_in entered.phase lines)) (between entered old) (between new later))
-    → AnswersTo shows b0 all (ruled_from next (n + 1) (drop (i + 1) phases)) start (between new (map (λ j. judging (w j) (s j)) (by_number j0 j1 j2 after)))
-phases_more {S = S} shows b0 b w s all ruling n i phases p lines next start core entered new js j0 j1 j2 before after t within is same named gone seats known apart be rules made =
+    → AnswersTo shows b0 all (ruled_from next (n + 1) left) start (between new (map (λ j. judging (w j) (s j)) (by_number j0 j1 j2 after)))
+phases_more {S = S} shows b0 b w s all ruling n rest left p lines next start core entered new js j0 j1 j2 before after t split same named gone seats known apart be rules made =
     let mine = map (ruled_by next) (calls_in n lines) in
-    let more = ruled_from next (n + 1) (drop (i + 1) phases) in
-    let left : AnswersTo shows b0 all (mine ++ more) start (between core js) = subst (λ xs. AnswersTo shows b0 all xs start (between core js)) (left_from ruling n i phases p lines next within is same named) t in
+    let more = ruled_from next (n + 1) left in
+    let due : AnswersTo shows b0 all (mine ++ more) start (between core js) = subst (λ xs. AnswersTo shows b0 all xs start (between core js)) (left_from ruling n rest left p lines next split same named) t in
     let at : slice_get js next ≡ Some (judging (w before) (s before)) = subst (λ ks. slice_get ks next ≡ Some (judging (w before) (s before))) seats (seated (λ j. judging (w j) (s j)) j0 j1 j2 before next known apart) in
     let phase : entered.phase ≡ n = ap (λ (c : Shown S). c.phase) gone in
     let set : slice_set js next (judging (w before) (s after)) ≡ map (λ j. judging (w j) (s j)) (by_number j0 j1 j2 after) = subst (λ ks. slice_set ks next (judging (w before) (s after)) ≡ map (λ j. judging (w j) (s j)) (by_number j0 j1 j2 after)) seats (seat_moved w s j0 j1 j2 before after next known apart rules) in
     let mine_made : AnswersAll shows b0 mine (between entered js) (between new (map (λ j. judging (w j) (s j)) (by_number j0 j1 j2 after))) = subst (λ k. AnswersAll shows b0 (map (ruled_by next) (calls_in k lines)) (between entered js) (between new (map (λ j. judging (w j) (s j)) (by_number j0 j1 j2 after)))) phase (rw (set, be) at (made next js at)) in
     let begun : between entered js ≡ in_phase entered.phase (between core js) = ap (λ (c : Shown S). between c js) gone ∙ ap (λ k. in_phase k (between core js)) (sym phase) in
-    goes_on shows b0 all mine more start (between core js) (between entered js) (between new (map (λ j. judging (w j) (s j)) (by_number j0 j1 j2 after))) left begun mine_made
+    goes_on shows b0 all mine more start (between core js) (between entered js) (between new (map (λ j. judging (w j) (s j)) (by_number j0 j1 j2 after))) due begun mine_made
 
 -- a phase that stops
-pub phases_stop : {S J : Type 0} (shows : S → StoreShown) (b0 b : Settings) (w : J → ℕ → Facts → Ruling) (s : J → ℕ) (all : List RuledCall) (ruling n i : ℕ) (phases : List Phase) (p : Phase) (lines : List Line) (next : ℕ) (start : Between S) (core entered new : Shown S) (js : List Judging) (j0 j1 j2 : Option J) (before after : J)
-    → AnswersTo shows b0 all (ruled_from ruling n (drop i phases)) start (between core js) → i < length phases → p ≡ slice_index_or phases i p → lines ≡ p.lines → next ≡ unwrap_or p.judge ruling → entered ≡ record core { phase = n } → map (λ j. judging (w j) (s j)) (by_number j0 j1 j2 before) ≡ js → next < 3 → filled j0 j1 j2 ≡ all_but next → b ≡ b0
+pub phases_stop : {S J : Type 0} (shows : S → StoreShown) (b0 b : Settings) (w : J → ℕ → Facts → Ruling) (s : J → ℕ) (all : List RuledCall) (ruling n : ℕ) (rest left : List Phase) (p : Phase) (lines : List Line) (next : ℕ) (start : Between S) (core entered new : Shown S) (js : List Judging) (j0 j1 j2 : Option J) (before after : J)
+    → AnswersTo shows b0 all (ruled_from ruling n rest) start (between core js) → rest ≡ p ∷ left → lines ≡ p.lines → next ≡ unwrap_or p.judge ruling → entered ≡ record core { phase = n } → map (λ j. judging (w j) (s j)) (by_number j0 j1 j2 before) ≡ js → next < 3 → filled j0 j1 j2 ≡ all_but next → b ≡ b0
     → Anywhere (judging (w before) (s before)) (judging (w before) (s after)) (λ number old later. AnswersFirst shows b (map (ruled_by number) (calls_in entered.phase lines)) (between entered old) new.history)
     → AnswersFirst shows b0 all start new.history
-phases_stop {S = S} shows b0 b w s all ruling n i phases p lines next start core entered new js j0 j1 j2 before after t within is same named gone seats known apart be made =
+phases_stop {S = S} shows b0 b w s all ruling n rest left p lines next start core entered new js j0 j1 j2 before after t split same named gone seats known apart be made =
     let mine = map (ruled_by next) (calls_in n lines) in
-    let more = ruled_from next (n + 1) (drop (i + 1) phases) in
-    let left : AnswersTo shows b0 all (mine ++ more) start (between core js) = subst (λ xs. AnswersTo shows b0 all xs start (between core js)) (left_from ruling n i phases p lines next within is same named) t in
+    let more = ruled_from next (n + 1) left in
+    let due : AnswersTo shows b0 all (mine ++ more) start (between core js) = subst (λ xs. AnswersTo shows b0 all xs start (between core js)) (left_from ruling n rest left p lines next split same named) t in
     let at : slice_get js next ≡ Some (judging (w before) (s before)) = subst (λ ks. slice_get ks next ≡ Some (judging (w before) (s before))) seats (seated (λ j. judging (w j) (s j)) j0 j1 j2 before next known apart) in
     let phase : entered.phase ≡ n = ap (λ (c : Shown S). c.phase) gone in
     let mine_made : AnswersFirst shows b0 mine (between entered js) new.history = subst (λ k. AnswersFirst shows b0 (map (ruled_by next) (calls_in k lines)) (between entered js) new.history) phase (rw be at (made next js at)) in
     let begun : between entered js ≡ in_phase entered.phase (between core js) = ap (λ (c : Shown S). between c js) gone ∙ ap (λ k. in_phase k (between core js)) (sym phase) in
-    stops shows b0 all mine more start (between core js) (between entered js) new.history left begun mine_made
+    stops shows b0 all mine more start (between core js) (between entered js) new.history due begun mine_made
 
--- the calls that the history tells, up to a line, and up to a phase
+-- the calls that the history tells, up to a phase
+pub told_none : (h : List Entry) (rest phases : List Phase) → h ≡ [] → rest ≡ phases → calls_made h ++ calls_from 1 rest ≡ calls_from 1 phases
+told_none h rest phases none whole = ap (λ (es : List Entry). calls_made es ++ calls_from 1 rest) none ∙ ap (calls_from 1) whole
 
-pub told_more : (h0 h m : List Entry) (p0 p : ℕ) (lines : List Line) (i : ℕ) (line : Line) → p ≡ p0 → i < length lines → line ≡ slice_index_or lines i line → calls_made h ≡ calls_made h0 ++ calls_in p0 (take i lines) → calls_made m ≡ calls_made h ++ calls_in p (line ∷ []) → calls_made m ≡ calls_made h0 ++ calls_in p0 (take (i + 1) lines)
-told_more h0 h m p0 p lines i line same within is before next =
-    next ∙ ap (λ k. calls_made h ++ calls_in k (line ∷ [])) same ∙ ap (λ cs. cs ++ calls_in p0 (line ∷ [])) before ∙ append_assoc (calls_made h0) (calls_in p0 (take i lines)) (calls_in p0 (line ∷ [])) ∙ ap (λ cs. calls_made h0 ++ cs) (sym (calls_more p0 lines i line within is))
-
-phase_here : (phases : List Phase) (i : ℕ) (p : Phase) → i < length phases → p ≡ slice_index_or phases i p → drop i phases ≡ p ∷ drop (i + 1) phases
-phase_here phases i p within is =
-    let at : suc i ≡ i + 1 = omega arith in
-    drop-cons phases i p within ∙ ap (λ (q : Phase). q ∷ drop (suc i) phases) (sym is) ∙ ap (λ (k : ℕ). p ∷ drop k phases) at
-
-pub told_phase : {S : Type 0} (core entered : Shown S) (m : List Entry) (n i : ℕ) (phases : List Phase) (p : Phase) (lines : List Line) (all : List Call) → i < length phases → p ≡ slice_index_or phases i p → lines ≡ p.lines → entered ≡ record core { phase = n } → calls_made core.history ++ calls_from n (drop i phases) ≡ all → calls_made m ≡ calls_made entered.history ++ calls_in entered.phase lines → calls_made m ++ calls_from (n + 1) (drop (i + 1) phases) ≡ all
-told_phase {S = S} core entered m n i phases p lines all within is same gone before next =
+pub told_phase : {S : Type 0} (core entered : Shown S) (m : List Entry) (n : ℕ) (rest left : List Phase) (p : Phase) (lines : List Line) (all : List Call) → rest ≡ p ∷ left → lines ≡ p.lines → entered ≡ record core { phase = n } → calls_made core.history ++ calls_from n rest ≡ all → calls_made m ≡ calls_made entered.history ++ calls_in entered.phase lines → calls_made m ++ calls_from (n + 1) left ≡ all
+told_phase {S = S} core entered m n rest left p lines all split same gone before next =
     let history : entered.history ≡ core.history = ap (λ (c : Shown S). c.history) gone in
     let phase : entered.phase ≡ n = ap (λ (c : Shown S). c.phase) gone in
     let mine : calls_made m ≡ calls_made core.history ++ calls_in n p.lines = next ∙ ap (λ h. calls_made h ++ calls_in entered.phase lines) history ∙ ap (λ k. calls_made core.history ++ calls_in k lines) phase ∙ ap (λ ls. calls_made core.history ++ calls_in n ls) same in
-    ap (λ cs. cs ++ calls_from (n + 1) (drop (i + 1) phases)) mine
-    ∙ append_assoc (calls_made core.history) (calls_in n p.lines) (calls_from (n + 1) (drop (i + 1) phases))
-    ∙ ap (λ ps. calls_made core.history ++ calls_from n ps) (sym (phase_here phases i p within is))
+    ap (λ cs. cs ++ calls_from (n + 1) left) mine
+    ∙ append_assoc (calls_made core.history) (calls_in n p.lines) (calls_from (n + 1) left)
+    ∙ ap (λ ps. calls_made core.history ++ calls_from n ps) (sym split)
     ∙ before
 
-pub ruling_more : (ruling next i last : ℕ) (phases : List Phase) (p : Phase) → i < length phases → p ≡ slice_index_or phases i p → next ≡ unwrap_or p.judge ruling → ruling_after ruling (drop i phases) ≡ last → ruling_after next (drop (i + 1) phases) ≡ last
-ruling_more ruling next i last phases p within is named before =
-    ap (λ n. ruling_after n (drop (i + 1) phases)) named ∙ ap (ruling_after ruling) (sym (phase_here phases i p within is)) ∙ before
+pub told_all : (h : List Entry) (n : ℕ) (left : List Phase) (all : List Call) → left ≡ [] → calls_made h ++ calls_from n left ≡ all → calls_made h ≡ all
+told_all h n left all none before = sym (append-nil (calls_made h)) ∙ ap (λ ps. calls_made h ++ calls_from n ps) (sym none) ∙ before
+
+pub ruling_more : (ruling next last : ℕ) (rest left : List Phase) (p : Phase) → rest ≡ p ∷ left → next ≡ unwrap_or p.judge ruling → ruling_after ruling rest ≡ last → ruling_after next left ≡ last
+ruling_more ruling next last rest left p split named before = ap (λ n. ruling_after n left) named ∙ ap (ruling_after ruling) (sym split) ∙ before
+
+-- the phases from a place on
+pub phase_here : (phases : List Phase) (i : ℕ) (p : Phase) → i < length phases → p ≡ slice_index_or phases i p → drop i phases ≡ p ∷ drop (i + 1) phases
+phase_here phases i p within is =
+    let at : suc i ≡ i + 1 = omega arith in
+    drop-cons phases i p within ∙ ap (λ (q : Phase). q ∷ drop (suc i) phases) (sym is) ∙ ap (λ (k : ℕ). p ∷ drop k phases) at
 
 -- whole runs
 

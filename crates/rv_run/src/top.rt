@@ -111,18 +111,8 @@ pub fn run<
 {
     match begin(alloc, words, source) {
         Ok(begun) => {
-            let ran = perform_asked(
-                rt,
-                alloc,
-                store,
-                begun.asked,
-                &begun.script,
-                sink,
-                judges,
-                gate,
-            );
-            drop(begun);
-            ran
+            let Begun { asked, script } = begun;
+            perform_asked(rt, alloc, store, asked, script, sink, judges, gate)
         }
         Err(status) => {
             drop(store);
@@ -188,9 +178,8 @@ pub fn run_plain<P: Store + Reader<Ledger = Uncounted> + Drop, S: Source, K: Sin
 {
     match begin(alloc, words, source) {
         Ok(begun) => {
-            let ran = perform(alloc, store, begun.asked, &begun.script, sink, judges);
-            drop(begun);
-            ran
+            let Begun { asked, script } = begun;
+            perform(alloc, store, asked, script, sink, judges)
         }
         Err(status) => {
             drop(store);
@@ -322,7 +311,7 @@ fn perform<P: Store + Reader<Ledger = Uncounted> + Drop, K: Sink>(
     alloc: Global,
     store: P,
     asked: Asked,
-    script: &Script,
+    script: Script,
     sink: &mut K,
     judges: Vec<Box<dyn Judge>>,
 ) -> Ran<P>
@@ -330,20 +319,21 @@ fn perform<P: Store + Reader<Ledger = Uncounted> + Drop, K: Sink>(
     requires newest { (P.shown store).newest ≡ 0 }
     requires judges { length judges.items ≡ 3 }
     requires known { asked.judge < 3 }
-    requires fits { FitsScript script.now }
-    ensures done { result.status ≡ Status.Done → IsSomeAnd result.core (λ core. Performs asked.seed (Appends (K.written sink.old) (K.written sink.new)) HasAllCalls script.now core.engine.history) }
-    ensures order { result.status ≡ Status.Done → IsSomeAnd result.core (λ core. IsInOrder core.engine.history script.now) }
-    ensures memory { result.status ≡ Status.Memory → IsSomeAnd result.core (λ core. Performs asked.seed (Appends (K.written sink.old) (K.written sink.new)) HasFirstCalls script.now core.engine.history) }
-    ensures order_first { IsSomeAnd result.core (λ core. IsFrontInOrder core.engine.history script.now) }
-    ensures front { result.status ≡ Status.WriteFault → IsSomeAnd result.core (λ core. Performs asked.seed (AppendsFront (K.written sink.old) (K.written sink.new)) HasFirstCalls script.now core.engine.history) }
+    requires fits { FitsScript script }
+    ensures done { result.status ≡ Status.Done → IsSomeAnd result.core (λ core. Performs asked.seed (Appends (K.written sink.old) (K.written sink.new)) HasAllCalls script core.engine.history) }
+    ensures order { result.status ≡ Status.Done → IsSomeAnd result.core (λ core. IsInOrder core.engine.history script) }
+    ensures memory { result.status ≡ Status.Memory → IsSomeAnd result.core (λ core. Performs asked.seed (Appends (K.written sink.old) (K.written sink.new)) HasFirstCalls script core.engine.history) }
+    ensures order_first { IsSomeAnd result.core (λ core. IsFrontInOrder core.engine.history script) }
+    ensures front { result.status ≡ Status.WriteFault → IsSomeAnd result.core (λ core. Performs asked.seed (AppendsFront (K.written sink.old) (K.written sink.new)) HasFirstCalls script core.engine.history) }
     ensures write { result.status ≡ Status.WriteFault → Rose (K.faults sink.old) (K.faults sink.new) }
-    ensures ruled { result.status ≡ Status.Done → IsSomeAnd result.core (λ core. CallsUnder (λ s. P.shown s) (settings_of asked) store (map (λ j. judging (would j) (state j)) judges.items) asked.judge core.engine script.now) }
-    ensures ruled_first { IsSomeAnd result.core (λ core. FirstCallsUnder (λ s. P.shown s) (settings_of asked) store (map (λ j. judging (would j) (state j)) judges.items) asked.judge core.engine script.now) }
+    ensures ruled { result.status ≡ Status.Done → IsSomeAnd result.core (λ core. CallsUnder (λ s. P.shown s) (settings_of asked) store (map (λ j. judging (would j) (state j)) judges.items) asked.judge core.engine script) }
+    ensures ruled_first { IsSomeAnd result.core (λ core. FirstCallsUnder (λ s. P.shown s) (settings_of asked) store (map (λ j. judging (would j) (state j)) judges.items) asked.judge core.engine script) }
     ensures kinds { IsPerformed result.status }
     ensures core { IsSomeAnd result.core (λ core. core.settings ≡ settings_of asked) }
 {
-    let (mut core, mut judges) = judged_core(alloc, store, asked, judges);
-    let called = make_calls(&mut core, &mut judges, script.phases.as_slice()).is_ok();
+    let (mut core, mut judges) = judged_core(alloc, store, asked, judges, calls_of(&script));
+    let Script { phases } = script;
+    let called = make_calls(&mut core, &mut judges, phases.into_vec()).is_ok();
     drop(judges);
     written(sink, asked.seed, core, called)
 }
@@ -359,7 +349,7 @@ fn perform_asked<
     alloc: Global,
     store: P,
     asked: Asked,
-    script: &Script,
+    script: Script,
     sink: &mut K,
     judges: Vec<Box<dyn Judge>>,
     gate: &G,
@@ -369,15 +359,15 @@ fn perform_asked<
     requires judges { length judges.items ≡ 3 }
     requires known { asked.judge < 3 }
     requires workers { asked.workers ≤ 8 }
-    requires fits { FitsScript script.now }
-    ensures done { result.status ≡ Status.Done → IsSomeAnd result.core (λ core. Performs asked.seed (Appends (K.written sink.old) (K.written sink.new)) HasAllCalls script.now core.engine.history) }
-    ensures memory { result.status ≡ Status.Memory → IsSomeAnd result.core (λ core. Performs asked.seed (Appends (K.written sink.old) (K.written sink.new)) HasFirstCalls script.now core.engine.history) }
-    ensures front { result.status ≡ Status.WriteFault → IsSomeAnd result.core (λ core. Performs asked.seed (AppendsFront (K.written sink.old) (K.written sink.new)) HasFirstCalls script.now core.engine.history) }
+    requires fits { FitsScript script }
+    ensures done { result.status ≡ Status.Done → IsSomeAnd result.core (λ core. Performs asked.seed (Appends (K.written sink.old) (K.written sink.new)) HasAllCalls script core.engine.history) }
+    ensures memory { result.status ≡ Status.Memory → IsSomeAnd result.core (λ core. Performs asked.seed (Appends (K.written sink.old) (K.written sink.new)) HasFirstCalls script core.engine.history) }
+    ensures front { result.status ≡ Status.WriteFault → IsSomeAnd result.core (λ core. Performs asked.seed (AppendsFront (K.written sink.old) (K.written sink.new)) HasFirstCalls script core.engine.history) }
     ensures write { result.status ≡ Status.WriteFault → Rose (K.faults sink.old) (K.faults sink.new) }
-    ensures order { asked.threads ≡ false → result.status ≡ Status.Done → IsSomeAnd result.core (λ core. IsInOrder core.engine.history script.now) }
-    ensures order_first { asked.threads ≡ false → IsSomeAnd result.core (λ core. IsFrontInOrder core.engine.history script.now) }
-    ensures ruled { asked.threads ≡ false → result.status ≡ Status.Done → IsSomeAnd result.core (λ core. CallsUnder (λ s. P.shown s) (settings_of asked) store (map (λ j. judging (would j) (state j)) judges.items) asked.judge core.engine script.now) }
-    ensures ruled_first { asked.threads ≡ false → IsSomeAnd result.core (λ core. FirstCallsUnder (λ s. P.shown s) (settings_of asked) store (map (λ j. judging (would j) (state j)) judges.items) asked.judge core.engine script.now) }
+    ensures order { asked.threads ≡ false → result.status ≡ Status.Done → IsSomeAnd result.core (λ core. IsInOrder core.engine.history script) }
+    ensures order_first { asked.threads ≡ false → IsSomeAnd result.core (λ core. IsFrontInOrder core.engine.history script) }
+    ensures ruled { asked.threads ≡ false → result.status ≡ Status.Done → IsSomeAnd result.core (λ core. CallsUnder (λ s. P.shown s) (settings_of asked) store (map (λ j. judging (would j) (state j)) judges.items) asked.judge core.engine script) }
+    ensures ruled_first { asked.threads ≡ false → IsSomeAnd result.core (λ core. FirstCallsUnder (λ s. P.shown s) (settings_of asked) store (map (λ j. judging (would j) (state j)) judges.items) asked.judge core.engine script) }
     ensures kinds { IsPerformed result.status }
     ensures core { IsSomeAnd result.core (λ core. core.settings ≡ settings_of asked) }
 {
@@ -399,7 +389,7 @@ fn perform_by_threads<
     alloc: Global,
     store: P,
     asked: Asked,
-    script: &Script,
+    script: Script,
     sink: &mut K,
     judges: Vec<Box<dyn Judge>>,
     gate: &G,
@@ -409,15 +399,15 @@ fn perform_by_threads<
     requires judges { length judges.items ≡ 3 }
     requires known { asked.judge < 3 }
     requires workers { asked.workers ≤ 8 }
-    requires fits { FitsScript script.now }
-    ensures done { result.status ≡ Status.Done → IsSomeAnd result.core (λ core. Performs asked.seed (Appends (K.written sink.old) (K.written sink.new)) HasAllCalls script.now core.engine.history) }
-    ensures memory { result.status ≡ Status.Memory → IsSomeAnd result.core (λ core. Performs asked.seed (Appends (K.written sink.old) (K.written sink.new)) HasFirstCalls script.now core.engine.history) }
-    ensures front { result.status ≡ Status.WriteFault → IsSomeAnd result.core (λ core. Performs asked.seed (AppendsFront (K.written sink.old) (K.written sink.new)) HasFirstCalls script.now core.engine.history) }
+    requires fits { FitsScript script }
+    ensures done { result.status ≡ Status.Done → IsSomeAnd result.core (λ core. Performs asked.seed (Appends (K.written sink.old) (K.written sink.new)) HasAllCalls script core.engine.history) }
+    ensures memory { result.status ≡ Status.Memory → IsSomeAnd result.core (λ core. Performs asked.seed (Appends (K.written sink.old) (K.written sink.new)) HasFirstCalls script core.engine.history) }
+    ensures front { result.status ≡ Status.WriteFault → IsSomeAnd result.core (λ core. Performs asked.seed (AppendsFront (K.written sink.old) (K.written sink.new)) HasFirstCalls script core.engine.history) }
     ensures write { result.status ≡ Status.WriteFault → Rose (K.faults sink.old) (K.faults sink.new) }
     ensures kinds { IsPerformed result.status }
     ensures core { IsSomeAnd result.core (λ core. core.settings ≡ settings_of asked) }
 {
-    let (core, mut judges) = judged_core(alloc, store, asked, judges);
+    let (core, mut judges) = judged_core(alloc, store, asked, judges, calls_of(&script));
     let Phased { core, short } = make_calls_by_threads(
         rt,
         alloc,
@@ -427,16 +417,28 @@ fn perform_by_threads<
         u32::from(asked.workers),
         gate,
     );
+    drop(script);
     drop(judges);
     written(sink, asked.seed, core, !short)
 }
 
-/// A core over the store under the judge that the words ask, and the judges beside it.
+/// How many calls a script has.
+fn calls_of(script: &Script) -> usize {
+    let mut calls = 0usize;
+    for phase in script.phases.as_slice() {
+        calls = calls.saturating_add(phase.lines.len());
+    }
+    calls
+}
+
+/// A core over the store under the judge that the words ask, with room for the history of so many calls where it is found,
+/// and the judges beside it.
 fn judged_core<P: Store + Reader<Ledger = Uncounted> + Drop>(
     alloc: Global,
     store: P,
     asked: Asked,
     judges: Vec<Box<dyn Judge>>,
+    calls: usize,
 ) -> (Core<P>, Judges)
     requires tables { (P.shown store).tables ≡ 0 }
     requires newest { (P.shown store).newest ≡ 0 }
@@ -448,7 +450,8 @@ fn judged_core<P: Store + Reader<Ledger = Uncounted> + Drop>(
     ensures settings { result.0.settings ≡ settings_of asked }
 {
     let (judges, first) = Judges::new(judges, asked.judge);
-    let core = Core::new(alloc, store, first, asked.race, asked.steps);
+    let mut core = Core::new(alloc, store, first, asked.race, asked.steps);
+    core.make_room(calls);
     (core, judges)
 }
 

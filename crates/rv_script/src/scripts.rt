@@ -173,9 +173,18 @@ fn closed(draft: Draft) -> Result<Items<Phase>, NoMemory>
     } = draft;
     over.push(Phase {
         judge,
-        lines: calls,
+        lines: fitted(calls),
     })?;
     Ok(over)
+}
+
+/// The calls of a phase that is over, in no more room than they need, since a script lives as long as its run.
+fn fitted(calls: Items<Line>) -> Items<Line>
+    ensures { result ≡ calls }
+{
+    let mut lines = calls.into_vec();
+    lines.shrink_to_fit();
+    Items::from_vec(lines)
 }
 
 /// What was read, with the line of this number.

@@ -10,7 +10,7 @@ returns-clause-done g c = λ e.
     let made = rw c.as_slice.ensures at c.make_calls_by_threads-core.ensures.whole (not-true c.make_calls_by_threads-core.result.short (c.written.ensures.done e)) in
     rw c.written.ensures.core (record {
       legal = c.written.ensures.legal;
-      calls = whole_all history c.args.script.now c.written.ensures.legal (calls_fit c.args.script.now c.requires.fits) made;
+      calls = whole_all history c.args.script c.written.ensures.legal (calls_fit c.args.script c.requires.fits) made;
       written = c.written.ensures.whole (not_write c.written.result.status (inl e));
     })
 
@@ -19,7 +19,7 @@ returns-clause-memory g c = λ e.
     let first = rw c.as_slice.ensures at c.make_calls_by_threads-core.ensures.first in
     rw c.written.ensures.core (record {
       legal = c.written.ensures.legal;
-      calls = first_all c.make_calls_by_threads-core.result.core.engine.history c.args.script.now c.written.ensures.legal (calls_fit c.args.script.now c.requires.fits) first;
+      calls = first_all c.make_calls_by_threads-core.result.core.engine.history c.args.script c.written.ensures.legal (calls_fit c.args.script c.requires.fits) first;
       written = c.written.ensures.whole (not_write c.written.result.status (inr e));
     })
 
@@ -28,6 +28,6 @@ returns-clause-front g c = λ e.
     let first = rw c.as_slice.ensures at c.make_calls_by_threads-core.ensures.first in
     rw c.written.ensures.core (record {
       legal = c.written.ensures.legal;
-      calls = first_all c.make_calls_by_threads-core.result.core.engine.history c.args.script.now c.written.ensures.legal (calls_fit c.args.script.now c.requires.fits) first;
+      calls = first_all c.make_calls_by_threads-core.result.core.engine.history c.args.script c.written.ensures.legal (calls_fit c.args.script c.requires.fits) first;
       written = c.written.ensures.front e;
     })

@@ -9,22 +9,22 @@ use Rattle.rv_run.proofs.Ends.{performs_writes, runs_so, some_if}
 use Rattle.rv_run.proofs.top.run_plain.Goals as goal
 
 pub returns-in-Ok-clause-done : goal.returns-in-Ok-clause-done
-returns-in-Ok-clause-done g c = λ asked ask done. rw (c.in-Ok.ensures.only asked ask) (performs_writes c.perform-ran.result.core (λ core. core.engine.history) _ _ _ _ c.in-Ok.begun.script c.in-Ok.ensures.script (c.perform-ran.ensures.done done))
+returns-in-Ok-clause-done g c = λ asked ask done. rw (c.in-Ok.ensures.only asked ask) (performs_writes c.perform.result.core (λ core. core.engine.history) _ _ _ _ c.in-Ok.begun.script c.in-Ok.ensures.script (c.perform.ensures.done done))
 
 pub returns-in-Ok-clause-all_read : goal.returns-in-Ok-clause-all_read
 returns-in-Ok-clause-all_read g c = λ asked ask none some. c.in-Ok.ensures.all_read (ap (λ (a : Asked). a.seed) (sym (c.in-Ok.ensures.only asked ask)) ∙ none)
 
 pub returns-in-Ok-clause-memory : goal.returns-in-Ok-clause-memory
-returns-in-Ok-clause-memory g c = λ asked ask memory. rw (c.in-Ok.ensures.only asked ask) (some_if c.perform-ran.result.core _ (performs_writes c.perform-ran.result.core (λ core. core.engine.history) _ _ _ _ c.in-Ok.begun.script c.in-Ok.ensures.script (c.perform-ran.ensures.memory memory)))
+returns-in-Ok-clause-memory g c = λ asked ask memory. rw (c.in-Ok.ensures.only asked ask) (some_if c.perform.result.core _ (performs_writes c.perform.result.core (λ core. core.engine.history) _ _ _ _ c.in-Ok.begun.script c.in-Ok.ensures.script (c.perform.ensures.memory memory)))
 
 pub returns-in-Ok-clause-front : goal.returns-in-Ok-clause-front
-returns-in-Ok-clause-front g c = λ asked ask fault. rw (c.in-Ok.ensures.only asked ask) (performs_writes c.perform-ran.result.core (λ core. core.engine.history) _ _ _ _ c.in-Ok.begun.script c.in-Ok.ensures.script (c.perform-ran.ensures.front fault))
+returns-in-Ok-clause-front g c = λ asked ask fault. rw (c.in-Ok.ensures.only asked ask) (performs_writes c.perform.result.core (λ core. core.engine.history) _ _ _ _ c.in-Ok.begun.script c.in-Ok.ensures.script (c.perform.ensures.front fault))
 
 pub returns-in-Ok-clause-unread : goal.returns-in-Ok-clause-unread
 returns-in-Ok-clause-unread g c = c.begin.ensures.unread
 
 pub returns-in-Ok-clause-settings : goal.returns-in-Ok-clause-settings
-returns-in-Ok-clause-settings g c = λ asked ask. rw (c.in-Ok.ensures.only asked ask) (some_if c.perform-ran.result.core (λ core. core.settings ≡ settings_of c.in-Ok.begun.asked) c.perform-ran.ensures.core)
+returns-in-Ok-clause-settings g c = λ asked ask. rw (c.in-Ok.ensures.only asked ask) (some_if c.perform.result.core (λ core. core.settings ≡ settings_of c.in-Ok.begun.asked) c.perform.ensures.core)
 
 pub returns-in-Err-clause-generated : goal.returns-in-Err-clause-generated
 returns-in-Err-clause-generated g c = λ asked ask some. rw (c.ended.ensures.status, c.in-Err.ensures.generated asked ask some) tt
@@ -33,19 +33,19 @@ pub returns-in-Err-clause-unread : goal.returns-in-Err-clause-unread
 returns-in-Err-clause-unread g c = c.begin.ensures.unread
 
 pub returns-in-Ok-clause-ruled : goal.returns-in-Ok-clause-ruled
-returns-in-Ok-clause-ruled g c = λ asked ask done. rw (c.in-Ok.ensures.only asked ask) (runs_so c.perform-ran.result.core (λ core. core.engine) (CallsUnder g.P.Reader.shown (settings_of c.in-Ok.begun.asked) c.args.store (map (λ j. judging ((goal.Judge-dyn g (j.vtable, j.value)).would j.value) ((goal.Judge-dyn g (j.vtable, j.value)).state j.value)) c.args.judges.items) c.in-Ok.begun.asked.judge) _ _ c.in-Ok.begun.script c.in-Ok.ensures.script (c.perform-ran.ensures.ruled done))
+returns-in-Ok-clause-ruled g c = λ asked ask done. rw (c.in-Ok.ensures.only asked ask) (runs_so c.perform.result.core (λ core. core.engine) (CallsUnder g.P.Reader.shown (settings_of c.in-Ok.begun.asked) c.args.store (map (λ j. judging ((goal.Judge-dyn g (j.vtable, j.value)).would j.value) ((goal.Judge-dyn g (j.vtable, j.value)).state j.value)) c.args.judges.items) c.in-Ok.begun.asked.judge) _ _ c.in-Ok.begun.script c.in-Ok.ensures.script (c.perform.ensures.ruled done))
 
 pub returns-in-Ok-clause-ruled_first : goal.returns-in-Ok-clause-ruled_first
-returns-in-Ok-clause-ruled_first g c = λ asked ask. rw (c.in-Ok.ensures.only asked ask) (some_if c.perform-ran.result.core _ (runs_so c.perform-ran.result.core (λ core. core.engine) (FirstCallsUnder g.P.Reader.shown (settings_of c.in-Ok.begun.asked) c.args.store (map (λ j. judging ((goal.Judge-dyn g (j.vtable, j.value)).would j.value) ((goal.Judge-dyn g (j.vtable, j.value)).state j.value)) c.args.judges.items) c.in-Ok.begun.asked.judge) _ _ c.in-Ok.begun.script c.in-Ok.ensures.script c.perform-ran.ensures.ruled_first))
+returns-in-Ok-clause-ruled_first g c = λ asked ask. rw (c.in-Ok.ensures.only asked ask) (some_if c.perform.result.core _ (runs_so c.perform.result.core (λ core. core.engine) (FirstCallsUnder g.P.Reader.shown (settings_of c.in-Ok.begun.asked) c.args.store (map (λ j. judging ((goal.Judge-dyn g (j.vtable, j.value)).would j.value) ((goal.Judge-dyn g (j.vtable, j.value)).state j.value)) c.args.judges.items) c.in-Ok.begun.asked.judge) _ _ c.in-Ok.begun.script c.in-Ok.ensures.script c.perform.ensures.ruled_first))
 
 pub returns-in-Ok-clause-order : goal.returns-in-Ok-clause-order
-returns-in-Ok-clause-order g c = λ asked ask done. rw (c.in-Ok.ensures.only asked ask) (runs_so c.perform-ran.result.core (λ core. core.engine) (λ core script. IsInOrder core.history script) _ _ c.in-Ok.begun.script c.in-Ok.ensures.script (c.perform-ran.ensures.order done))
+returns-in-Ok-clause-order g c = λ asked ask done. rw (c.in-Ok.ensures.only asked ask) (runs_so c.perform.result.core (λ core. core.engine) (λ core script. IsInOrder core.history script) _ _ c.in-Ok.begun.script c.in-Ok.ensures.script (c.perform.ensures.order done))
 
 pub returns-in-Ok-clause-order_first : goal.returns-in-Ok-clause-order_first
-returns-in-Ok-clause-order_first g c = λ asked ask. rw (c.in-Ok.ensures.only asked ask) (some_if c.perform-ran.result.core _ (runs_so c.perform-ran.result.core (λ core. core.engine) (λ core script. IsFrontInOrder core.history script) _ _ c.in-Ok.begun.script c.in-Ok.ensures.script c.perform-ran.ensures.order_first))
+returns-in-Ok-clause-order_first g c = λ asked ask. rw (c.in-Ok.ensures.only asked ask) (some_if c.perform.result.core _ (runs_so c.perform.result.core (λ core. core.engine) (λ core script. IsFrontInOrder core.history script) _ _ c.in-Ok.begun.script c.in-Ok.ensures.script c.perform.ensures.order_first))
 
 pub returns-in-Ok-clause-usage : goal.returns-in-Ok-clause-usage
-returns-in-Ok-clause-usage g c = (λ e. absurd (subst IsPerformed e c.perform-ran.ensures.kinds), λ refused. absurd (refused (c.in-Ok.ensures.accepted refl)))
+returns-in-Ok-clause-usage g c = (λ e. absurd (subst IsPerformed e c.perform.ensures.kinds), λ refused. absurd (refused (c.in-Ok.ensures.accepted refl)))
 
 pub returns-in-Err-clause-usage : goal.returns-in-Err-clause-usage
 returns-in-Err-clause-usage g c = (λ e. subst (Stops _ _ _ _ _) (sym c.ended.ensures.status ∙ e) c.in-Err.ensures.fault, λ refused. let said = c.in-Err.ensures.usage refused in let is : c.in-Err.status ≡ statuses.Usage = cc in c.ended.ensures.status ∙ is)
