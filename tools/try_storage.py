@@ -167,7 +167,7 @@ LOAD = "commit 0=1 31=2 32=3 70=4, commit 0=- 31=5 130=6 131=-, commit 33=7 70=-
 
 LINES = [
     ("rows", rows, ["put 5, put 9, put 2, put 7, put 5, copy, remove 7, remove 8"]),
-    ("changes", changes, ["1.0 1.4 0.9 1.0 then 0.3", "1.0 1.4 0.9 then 1.4", "3.0 then 0.0"]),
+    ("changes", changes, ["1.0 1.4 0.9 1.0 then 0.3", "1.0 1.4 0.9 then 1.4", "3.0 then 0.0", "0.5 1.0 1.4 then 2.7", "0.5 1.4 then 1.0"]),
     ("versions", versions, [
         "write 0 1 71, write 0 4 72, read 0 0, read 0 3, read 0 4, purge 0 3, read 0 3, read 0 4, abandon 4, read 0 9",
         "write 3 7 74, read 2 9, write 3 7 75, read 3 6, read 3 7, purge 9 7, read 4 9",

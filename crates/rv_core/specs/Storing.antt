@@ -12,12 +12,21 @@ use Rattle.rv_reader.specs.Storing.{Committed}
 use Rattle.rv_model.specs.declared.transactions.Transactions.{Transactions}
 use Rattle.rv_model.specs.Transactions.{changed, inserted, transaction_of}
 use Rattle.rv_model.specs.Step.{no_rivals_of, row_alone, rows_alone, rows_seen}
+use Rattle.rv_txn.specs.Calls.{finished}
 use Rattle.rv_core.specs.Db.{db_of}
 
 -- what a commit of these changes, or of none, comes to
 abbrev pub CommitsTo : Shown → Shown → ℕ → List Change → ℕ → Type 0
 CommitsTo old new base [] c = (new ≡ old) × (c ≡ base)
 CommitsTo old new base (x ∷ xs) c = Committed old new (x ∷ xs) × (c ≡ new.newest)
+
+-- what a commit of the session's transaction comes to
+pub record Commits (txns : Transactions) (session : ℕ) (old new : Shown) (c : ℕ) : Type 0 where
+  pub txn : ℕ
+  pub base : ℕ
+  pub changes : List Change
+  pub did : finished txns session ≡ Ok (txn, base, changes)
+  pub told : CommitsTo old new base changes c
 
 -- UPDATE and DELETE over the rows that the database has at the base of the session's transaction
 abbrev pub changed_over : Shown → Schema → Transactions → ℕ → ℕ → Option (List (ℕ × Value)) → List (List Atom)

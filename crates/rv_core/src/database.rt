@@ -18,7 +18,7 @@ ghost use Rattle.rv_lang.specs.declared.reply.Reply.TheVariants.{Opened, Refused
 use crate::cursors::{close_all, close_at, cursor_named, opening, plan_cursor, step_at, trace_at};
 use crate::pieces::{give_at, next_waiting, numbered, take_at};
 use crate::replies::{answered, limit, named_trace, refused};
-use crate::storing::{add_index, add_table, change_rows, commit_some, freeze, insert_row};
+use crate::storing::{add_index, add_table, change_rows, commit_own, freeze, insert_row};
 use rv_catalog::{Catalog, IndexDef, Select, TableDef};
 use rv_cursor::{Open, fetch, fetch_step, twice};
 use rv_jscan::{Given, Sieved, Taken};
@@ -280,21 +280,13 @@ impl<S: Store + Reader<Ledger = Uncounted> + Drop> Database<S> {
     {
         // What a store tells with its newest commit holds of all that is kept of views.
         let _last = self.store.last();
-        let finished = match self.txns.finish(session) {
-            Ok(finished) => finished,
-            Err(TxnFault::Refused(refusal)) => return refused(self.alloc, refusal),
-            Err(TxnFault::NoMemory) => return Err(NoMemory),
-        };
-        // What the view takes serves for what the commit writes; where that finds no memory all the same, the view is made anew.
-        self.views.let_go(session);
-        let number = match commit_some(&mut self.store, &finished) {
+        if let Err(refusal) = self.txns.finishes(session) {
+            return refused(self.alloc, refusal);
+        }
+        let number = match commit_own(&mut self.store, &self.txns, &mut self.views, session) {
             Ok(number) => number,
-            Err(NoMemory) => {
-                drop(finished);
-                return Err(NoMemory);
-            }
+            Err(NoMemory) => return Err(NoMemory),
         };
-        drop(finished);
         self.txns.commit_done(session, number);
         close_all(&mut self.cursors, session);
         Ok((Reply::Committed(number), Reply::Committed(number)))

@@ -1,12 +1,12 @@
 //! Calls on the catalog and the store that go together.
-ghost use Rattle.std.specs.Prelude.{◌≡◌, ◌⊎◌, ◌+◌, ◌<◌, ◌≤◌, ◌-◌, ◌^◌, ◌++◌, ◌∷◌, [], None, Ok, Err, true, IfOk, IfErr, OnOk, OnErr, IfSome, length};
+ghost use Rattle.std.specs.Prelude.{◌≡◌, ℕ, List, ◌⊎◌, ◌+◌, ◌<◌, ◌≤◌, ◌-◌, ◌^◌, ◌++◌, ◌∷◌, [], None, Ok, Err, true, IfOk, IfErr, OnOk, OnErr, IfSome, length};
 ghost use Rattle.std.specs.List.{AllByRecursion, slice_index_or};
 ghost use Rattle.std.specs.Option.{option_copied};
 ghost use Rattle.rv_catalog.specs.Fits.{IsRowOf, is_over_table};
 ghost use Rattle.rv_catalog.specs.Kept.{indexes_over};
 ghost use Rattle.rv_catalog.specs.Schema.{index_named, table_named};
 ghost use Rattle.rv_reader.specs.Storing.{AreColumns, CanCommit, Created, Indexed, IsSame, IsStored};
-ghost use Rattle.rv_txn.specs.Calls.{IsFault, writing};
+ghost use Rattle.rv_txn.specs.Calls.{IsFault, finished, writing};
 ghost use Rattle.rv_txn.specs.Halves.{changing, with_these};
 ghost use Rattle.rv_view.specs.Sights.{LaysSome};
 ghost use Rattle.rv_snapshot.specs.Alone.{alone};
@@ -20,11 +20,12 @@ ghost use Rattle.rv_model.specs.Database.{no_index};
 ghost use Rattle.rv_model.specs.Transactions.{inserted, met, transaction_at, transaction_of};
 ghost use Rattle.rv_rows.specs.declared.changes.Change.{Change as OneChange};
 ghost use Rattle.rv_rows.specs.Changes.{Rise};
-ghost use Rattle.rv_own.specs.Views.{AreViews, CanKeep, Freezes};
+ghost use Rattle.rv_rows.specs.Kept.{lent_changes};
+ghost use Rattle.rv_own.specs.Views.{AreViews, CanKeep, Freezes, others};
 ghost use Rattle.rv_core.specs.Db.{IsTied, db_of};
 ghost use Rattle.rv_core.specs.Obeying.{FindsRows, HasSearched, IsLong, MayAsk};
 ghost use Rattle.rv_model.specs.Step.{row_alone, rows_alone};
-ghost use Rattle.rv_core.specs.Storing.{CommitsTo, changed_alone, changed_over, inserted_alone, lone_over};
+ghost use Rattle.rv_core.specs.Storing.{Commits, CommitsTo, changed_alone, changed_over, inserted_alone, lone_over};
 
 use rv_catalog::{Catalog, IndexDef, TableDef};
 use rv_cursor::Sight;
@@ -116,19 +117,48 @@ fn columns_of(catalog: &Catalog, index: u32) -> &[u32]
 }
 
 /// Commits the changes, where there are some, and gives the number of the commit, or the base where there are none.
-pub fn commit_some<S: Store + Reader<Ledger = Uncounted>>(
+fn commit_some<S: Store + Reader<Ledger = Uncounted>>(
     store: &mut S,
-    finished: &Finished,
+    finished: &Finished<'_>,
 ) -> Result<u64, NoMemory>
-    requires changes { CanCommit (S.shown store.old) finished.now.changes.items }
+    requires changes { CanCommit (S.shown store.old) (lent_changes finished.now.changes) }
     requires room { (S.shown store.old).newest < 2 ^ 64 - 1 }
-    ensures ok { IfOk result (λ c. CommitsTo (S.shown store.old) (S.shown store.new) finished.now.base finished.now.changes.items c) }
+    ensures ok { IfOk result (λ c. CommitsTo (S.shown store.old) (S.shown store.new) finished.now.base (lent_changes finished.now.changes) c) }
     ensures err { OnErr result (IsSame (S.shown store.old) (S.shown store.new)) }
 {
-    match finished.changes.as_slice() {
+    let changes = finished.changes.as_slice();
+    match changes {
         [] => Ok(finished.base),
-        [_first, _more @ ..] => store.commit(&finished.changes),
+        [_first, _more @ ..] => store.commit(changes),
     }
+}
+
+/// Commits the changes of the session's transaction, where there are some, and gives the number of the commit, or the base
+/// where there are none. The transaction stays active, and its view goes: what that takes serves for what the commit writes,
+/// and where this finds no memory all the same, the view is made anew. `NoMemory` too where there is no transaction.
+pub fn commit_own<S: Store + Reader<Ledger = Uncounted>>(
+    store: &mut S,
+    txns: &Txns,
+    views: &mut Views,
+    session: u8,
+) -> Result<u64, NoMemory>
+    requires changes { (txn base : ℕ) → (changes : List OneChange) → finished txns.now session ≡ Ok (txn, base, changes) → Rise changes → CanCommit (S.shown store.old) changes }
+    requires room { (S.shown store.old).newest < 2 ^ 64 - 1 }
+    ensures ok { IfOk result (Commits txns.now session (S.shown store.old) (S.shown store.new)) }
+    ensures err { OnErr result (IsSame (S.shown store.old) (S.shown store.new)) }
+    ensures views { views.new ≡ others session views.old }
+{
+    views.let_go(session);
+    let finished = match txns.finish(session) {
+        Ok(finished) => finished,
+        Err(fault) => {
+            drop(fault);
+            return Err(NoMemory);
+        }
+    };
+    let committed = commit_some(store, &finished);
+    drop(finished);
+    committed
 }
 
 /// The view of the session's transaction is kept up with changes that are about to be put.

@@ -6,7 +6,7 @@ use Rattle.rv_rows.specs.Rows.{Ascend, with_record}
 use Rattle.rv_rows.specs.Merging.{above, below, begins, past}
 use Rattle.rv_rows.proofs.Merges.{past_is}
 
-set_is : {X : Type 0} (xs : List X) (i : ℕ) (x : X) → i < length xs → slice_set xs i x ≡ take i xs ++ x ∷ drop 1 (drop i xs)
+pub set_is : {X : Type 0} (xs : List X) (i : ℕ) (x : X) → i < length xs → slice_set xs i x ≡ take i xs ++ x ∷ drop 1 (drop i xs)
 set_is [] i x h = absurd (omega arith)
 set_is (y ∷ ys) zero x h = refl
 set_is (y ∷ ys) (suc i) x h = ap (λ zs. y ∷ zs) (set_is ys i x (omega arith))

@@ -1,6 +1,7 @@
 -- The changes of a table stand together, from its first one on.
-use Rattle.std.proofs.Common.{◌≡◌, ℕ, List, [], ◌∷◌, ◌++◌, true, false, ◌==◌, nat_lt, refl, ap, sym, ◌∙◌, inl, inr, filter, map, cond, arith}
-use Rattle.std.specs.List.{AllByRecursion, list_all}
+use Rattle.std.proofs.Common.{◌≡◌, ◌<◌, ◌+◌, ℕ, suc, List, [], ◌∷◌, ◌++◌, true, false, ◌==◌, nat_lt, refl, ap, sym, ◌∙◌, inl, inr, filter, map, cond, arith, drop, length}
+use Rattle.std.specs.List.{AllByRecursion, list_all, slice_index_or}
+use Rattle.std.proofs.Math.Seq.{drop-cons}
 use Rattle.std.proofs.lemmas.Bool.{cases_Bool, and_parts}
 use Rattle.std.proofs.lemmas.Bool.Decides.{nat_tests}
 use Rattle.rv_value.specs.declared.record.Record.{Record}
@@ -62,3 +63,9 @@ laid_at_last only table c cs left rest all rows changes is rise from other put s
     let begins = and_parts (is_from table c) (list_all (is_from table) cs) (rw is at from) in
     let nothing : laid only table changes rest ≡ rest = rw is (others_lay_nothing only table c cs rest rises begins.0 other) in
     put ∙ ap (λ (rs : List Record). left ++ rs) (sym nothing) ∙ same
+
+-- the changes of a list from a place on, and those behind them
+pub next_listed : (listed : List Change) (i : ℕ) (c : Change) (behind : List Change) → i < length listed → c ≡ slice_index_or listed i c → drop i listed ++ behind ≡ c ∷ (drop (i + 1) listed ++ behind)
+next_listed listed i c behind within is =
+    let at : suc i ≡ i + 1 = omega arith in
+    ap (λ (cs : List Change). cs ++ behind) (drop-cons listed i c within ∙ ap (λ (d : Change). d ∷ drop (suc i) listed) (sym is) ∙ ap (λ (k : ℕ). c ∷ drop k listed) at)

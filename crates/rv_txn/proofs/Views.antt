@@ -7,8 +7,7 @@ use Rattle.rv_reader.proofs.Rows.{ascend_with}
 use Rattle.rv_value.specs.declared.value.Value.{Value}
 use Rattle.rv_value.specs.declared.record.Record.{Record}
 use Rattle.rv_rows.specs.declared.changes.Change.{Change}
-use Rattle.rv_rows.specs.declared.changes.RowKey.{RowKey}
-use Rattle.rv_rows.specs.Changes.{Rise, change_at, is_before, rows_with_changes}
+use Rattle.rv_rows.specs.Changes.{Rise, is_before, rows_with_changes}
 use Rattle.rv_rows.specs.Merging.{Passes}
 use Rattle.rv_rows.specs.Rows.{Ascend, comes_below, with_values}
 use Rattle.rv_rows.proofs.Merges.{without_cut}
@@ -104,12 +103,12 @@ kept_rise only [] rise = tt
 kept_rise only (c ∷ cs) rise = (kept_behind only c cs rise.0, kept_rise only cs rise.1)
 
 -- One change is laid over the rows that are left.
-pub one_laid : (only : List (List Atom)) (table : ℕ) (old rest new left all : List Record) (s t : List (RowKey × Option (List Value))) (e : RowKey × Option (List Value)) → s ≡ e ∷ t → Rise (map change_at s)
-    → Passes table (kept_change only (change_at e)) old rest new left → old ++ rows_with_changes table (map (kept_change only) (map change_at s)) rest ≡ all → new ++ rows_with_changes table (map (kept_change only) (map change_at t)) left ≡ all
-one_laid only table old rest new left all s t e next rise passes told =
-    let rise' : Rise (map change_at (e ∷ t)) = rw next at rise in
-    let told' : old ++ rows_with_changes table (map (kept_change only) (map change_at (e ∷ t))) rest ≡ all = rw next at told in
-    passes.same (map (kept_change only) (map change_at t)) (kept_rise only (map change_at (e ∷ t)) rise') ∙ told'
+pub one_laid : (only : List (List Atom)) (table : ℕ) (old rest new left all : List Record) (s t : List Change) (c : Change) → s ≡ c ∷ t → Rise s
+    → Passes table (kept_change only c) old rest new left → old ++ rows_with_changes table (map (kept_change only) s) rest ≡ all → new ++ rows_with_changes table (map (kept_change only) t) left ≡ all
+one_laid only table old rest new left all s t c next rise passes told =
+    let rise' : Rise (c ∷ t) = subst Rise next rise in
+    let told' : old ++ rows_with_changes table (map (kept_change only) (c ∷ t)) rest ≡ all = subst (λ (cs : List Change). old ++ rows_with_changes table (map (kept_change only) cs) rest ≡ all) next told in
+    passes.same (map (kept_change only) t) (kept_rise only (c ∷ t) rise') ∙ told'
 
 -- Without a restriction each row is kept, and each change as it is.
 

@@ -179,7 +179,19 @@ fn lay_over(
 {
     let mut all = Vec::new(alloc);
     let mut rest = rows;
-    'changes: for (key, values) in changes.from_table(table) {
+    let (listed, mapped) = changes.parts_from(table);
+    'list: for change in listed {
+        if change.table != table {
+            add_rows(alloc, &mut all, rest)?;
+            return Ok(all);
+        }
+        let key = RowKey {
+            table: change.table,
+            row: change.row,
+        };
+        rest = lay_one(alloc, &mut all, rest, table, &key, &change.values, only)?;
+    }
+    'changes: for (key, values) in mapped {
         if key.table != table {
             add_rows(alloc, &mut all, rest)?;
             return Ok(all);

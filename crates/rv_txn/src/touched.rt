@@ -109,7 +109,11 @@ pub fn put_and_take(
 pub fn touch_all(touched: &mut Items<Items<u64>>, changes: &Changes, commit: u64)
     ensures { touched.new ≡ touch_all commit changes.now touched.old }
 {
-    'changes: for (key, _values) in changes.iter() {
+    let (listed, mapped) = changes.parts();
+    'list: for change in listed {
+        touch(touched, change.table, change.row, commit);
+    }
+    'changes: for (key, _values) in mapped {
         touch(touched, key.table, key.row, commit);
     }
 }

@@ -1,5 +1,6 @@
 ghost use Rattle.std.specs.Prelude.{◌≡◌, ◌<◌, ◌-◌, ◌^◌, true, Ok, Err, IfOk, IfErr, OnOk, OnErr, IfSome, IsSome, length};
 ghost use Rattle.rv_rows.specs.Changes.{Rise};
+ghost use Rattle.rv_rows.specs.Kept.{lent_changes};
 ghost use Rattle.rv_model.specs.Transactions.{began, done, horizon, lowest, no_transactions, touched_by, transaction_at, transaction_of};
 ghost use Rattle.std.specs.Option.{option_copied, option_map};
 ghost use Rattle.rv_txn.specs.Apart.{are_apart};
@@ -13,7 +14,7 @@ use crate::changing::{changes_of, is_full};
 use crate::conflicts::unharmed;
 use crate::touched::{next_row, put_and_take, touch_all, touched_by};
 use rv_model::{Refusal, Transaction, Transactions, Which};
-use rv_rows::{Change, Changes};
+use rv_rows::{Change, Changes, Lent};
 use rv_value::{Items, NoMemory, Record, RowNo, Value};
 use std::alloc::Global;
 use std::marker::Model;
@@ -45,11 +46,11 @@ pub struct Standing {
 }
 
 /// What a commit needs of a transaction.
-#[derive(Drop, Debug)]
-pub struct Finished {
+#[derive(Drop)]
+pub struct Finished<'a> {
     pub txn: u64,
     pub base: u64,
-    pub changes: Vec<Change>,
+    pub changes: Lent<'a>,
 }
 
 /// The active transactions, the number of the next one, and each table's row numbers that were taken, with the commits
@@ -230,17 +231,28 @@ impl Txns {
         self.transactions.active.at_mut(own).changes.put_all(new)
     }
 
-    /// What a commit needs of the session's transaction, which stays active.
-    pub fn finish(&self, session: u8) -> Result<Finished, TxnFault>
-        ensures ok { IfOk result (λ f. finished self.now session ≡ Ok (f.txn, f.base, f.changes.items)) }
-        ensures rise { IfOk result (λ f. Rise f.changes.items) }
+    /// Whether the session has a transaction that a commit can finish; else the refusal. It takes no memory.
+    pub fn finishes(&self, session: u8) -> Result<(), Refusal>
+        ensures ok { OnOk result (IsSome (transaction_of self.now.active session)) }
+        ensures fault { IfErr result (λ refusal. finished self.now session ≡ Err refusal) }
+    {
+        match transaction_of(&self.transactions.active, session) {
+            Some(_own) => Ok(()),
+            None => Err(Refusal::NoTransaction),
+        }
+    }
+
+    /// What a commit needs of the session's transaction, which stays active. Its changes are lent where they lie in one list.
+    pub fn finish(&self, session: u8) -> Result<Finished<'_>, TxnFault>
+        ensures ok { IfOk result (λ f. finished self.now session ≡ Ok (f.txn, f.base, lent_changes f.changes)) }
+        ensures rise { IfOk result (λ f. Rise (lent_changes f.changes)) }
         ensures fault { IfErr result (λ fault. IsFault (finished self.now session) fault) }
     {
         let Some(own) = transaction_of(&self.transactions.active, session) else {
             return Err(TxnFault::Refused(Refusal::NoTransaction));
         };
         let transaction = transaction_at(&self.transactions.active, own);
-        let changes = transaction.changes.to_vec()?;
+        let changes = transaction.changes.lent()?;
         Ok(Finished {
             txn: transaction.number,
             base: transaction.base,

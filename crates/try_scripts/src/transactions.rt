@@ -116,7 +116,7 @@ fn insert(alloc: Global, txns: &mut Txns, text: &str) -> Result<String, Fault> {
 fn finish(alloc: Global, txns: &Txns, text: &str) -> Result<String, Fault> {
     match txns.finish(session(text)?) {
         Ok(finished) => {
-            let count = finished.changes.len();
+            let count = finished.changes.as_slice().len();
             drop(finished);
             Ok(told_number(alloc, " changes ", count as u64)?)
         }

@@ -2,7 +2,7 @@
 //! taken back.
 use crate::read::{Fault, cut, number, small};
 use rv_rows::{Change, Changes};
-use rv_value::{Duplicate, NoMemory, RowNo};
+use rv_value::{Duplicate, NoMemory, RowNo, Values};
 use std::alloc::Global;
 
 fn deletion(word: &str) -> Result<Change, Fault> {
@@ -42,12 +42,27 @@ fn told_copies(alloc: Global, changes: &[Change]) -> Result<String, NoMemory> {
     Ok(told)
 }
 
-/// The changes as `iter` gives them, marked where they have values.
+/// A change as its table and row, marked where it has values.
+fn told_entry(
+    alloc: Global,
+    table: u32,
+    row: RowNo,
+    values: &Option<Values>,
+) -> Result<String, NoMemory> {
+    let mark = if values.is_none() { "" } else { "!" };
+    Ok(format!(in alloc; " {table}.{}{mark}", row.0)?)
+}
+
+/// The changes as `parts` gives them, marked where they have values.
 fn told_entries(alloc: Global, changes: &Changes) -> Result<String, NoMemory> {
     let mut told = String::new(alloc);
-    'changes: for (key, values) in changes.iter() {
-        let mark = if values.is_none() { "" } else { "!" };
-        let word = format!(in alloc; " {}.{}{mark}", key.table, key.row.0)?;
+    let (listed, mapped) = changes.parts();
+    'listed: for change in listed {
+        let word = told_entry(alloc, change.table, change.row, &change.values)?;
+        told.push_str(word.as_str())?;
+    }
+    'mapped: for (key, values) in mapped {
+        let word = told_entry(alloc, key.table, key.row, values)?;
         told.push_str(word.as_str())?;
     }
     Ok(told)
