@@ -30,7 +30,7 @@ returns-in_err-old-clause-kept c =
 pub returns-in_err-old-clause-err : goal.returns-in_err-old-clause-err
 returns-in_err-old-clause-err c =
     let stays : c.insert.new.self.entries ≡ c.gather.new.mapped.entries = search rules in
-    on_err _ _ (rw stays (gathered_same c.args.listed.now c.args.mapped.now.entries c.gather.new.listed c.gather.new.mapped.entries c.in_ok-gather.ensures.ok))
+    on_err _ _ (rw (sym stays) at (gathered_same c.args.listed.now c.args.mapped.now.entries c.gather.new.listed c.gather.new.mapped.entries c.in_ok-gather.ensures.ok))
 
 pub returns-clause-kept : goal.returns-clause-kept
 returns-clause-kept c = mapped_kept c.args.listed.now c.gather.new.listed c.args.mapped.now.entries c.gather.new.mapped.entries c.insert.new.self.entries (record { table = c.args.change.table; row = c.args.change.row }) c.args.change.values c.requires c.in_ok-gather.ensures.ok c.in_ok-old.ensures.entries

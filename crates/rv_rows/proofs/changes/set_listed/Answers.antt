@@ -17,8 +17,8 @@ returns-then-stands_at c =
     let here : begins_at c.args.key.table c.args.key.row.0 (drop c.changes_ahead-place.result c.args.listed.now) ≡ true = rw c.as_slice-2.ensures at (sym c.stands_at.ensures ∙ c.if-stands_at.true) in
     c.put.ensures ∙ set_place c.args.key.table c.args.key.row.0 c.args.values c.args.listed.now c.changes_ahead-place.result c.requires here
 
-pub returns : goal.returns
-returns c =
+pub returns-else-stands_at : goal.returns-else-stands_at
+returns-else-stands_at c =
     let other : begins_at c.args.key.table c.args.key.row.0 (drop c.changes_ahead-place.result c.args.listed.now) ≡ false = rw c.as_slice-2.ensures at (sym c.stands_at.ensures ∙ c.if-stands_at.false) in
     let ahead : drop c.changes_ahead-place.result c.args.listed.now ≡ from_row c.args.key.table c.args.key.row.0 c.args.listed.now = rw c.as_slice.ensures at c.changes_ahead-place.ensures.back in
     sym (same_with c.args.key.table c.args.key.row.0 c.args.values c.args.listed.now (first_others c.args.key.table c.args.key.row.0 c.args.listed.now c.requires (rw ahead at other)))

@@ -8,12 +8,12 @@ use Rattle.rv_rows.proofs.changes.Changes.len.Goals as goal
 pub returns-then-is_empty-clause-same : goal.returns-then-is_empty-clause-same
 returns-then-is_empty-clause-same c =
     let count : c.len.result ≡ length c.self.inside.mapped.entries = search rules in
-    count ∙ sym (length-map change_at c.self.inside.mapped.entries) ∙ ap (λ (cs : List Change). length cs) (all_mapped c.self.inside.listed c.self.inside.mapped.entries (sym c.is_empty.ensures ∙ c.if-is_empty.true) ∙ c.self.view_is)
+    count ∙ sym (length-map c.self.inside.mapped.entries change_at) ∙ ap (λ (cs : List Change). length cs) (all_mapped c.self.inside.listed c.self.inside.mapped.entries (sym c.is_empty.ensures ∙ c.if-is_empty.true) ∙ c.self.view_is)
 
 pub returns-then-is_empty-clause-small : goal.returns-then-is_empty-clause-small
 returns-then-is_empty-clause-small c =
     let count : c.len.result ≡ length c.self.inside.mapped.entries = search rules in
-    subst (λ n. n < 2 ^ 63) (count ∙ sym (length-map change_at c.self.inside.mapped.entries) ∙ ap (λ (cs : List Change). length cs) (all_mapped c.self.inside.listed c.self.inside.mapped.entries (sym c.is_empty.ensures ∙ c.if-is_empty.true) ∙ c.self.view_is)) c.len.ensures.small
+    subst (λ n. n < 2 ^ 63) (count ∙ sym (length-map c.self.inside.mapped.entries change_at) ∙ ap (λ (cs : List Change). length cs) (all_mapped c.self.inside.listed c.self.inside.mapped.entries (sym c.is_empty.ensures ∙ c.if-is_empty.true) ∙ c.self.view_is)) c.len.ensures.small
 
 pub returns-clause-same : goal.returns-clause-same
 returns-clause-same c = c.len-2.ensures.same ∙ ap (λ (cs : List Change). length cs) (all_listed c.self.inside.listed c.self.inside.mapped.entries c.self.invariant (sym c.is_empty.ensures ∙ c.if-is_empty.false) ∙ c.self.view_is)
