@@ -2,6 +2,7 @@
 use Rattle.std.proofs.Common.{◌≡◌, ℕ, ◌+◌, ◌<◌, List, [], ◌∷◌, ◌++◌, ◌==◌, refl, ap, sym, ◌∙◌, subst, Bool, true, false, not, filter, length, remove, Ok, IfSome, Option, Some, None, nat_lt, slice_get, slice_set}
 use Rattle.std.specs.List.{AllByRecursion}
 use Rattle.std.proofs.lemmas.List.Quantifiers.{position-Some}
+use Rattle.rv_value.proofs.Lists.{all_append, all_filter, all_got, all_more}
 use Rattle.rv_value.specs.declared.value.Value.{Value}
 use Rattle.rv_value.specs.declared.record.RowNo.{RowNo}
 use Rattle.rv_rows.specs.declared.changes.Change.{Change}
@@ -40,11 +41,11 @@ use Rattle.rv_own.proofs.Bases.{base_found}
 use Rattle.rv_core.specs.Storing.{CommitsTo, changed_over}
 use Rattle.rv_restrict.specs.declared.atom.Atom.{Atom}
 use Rattle.rv_core.proofs.Calling.{at_own, commits_does, commits_tied, creates, creates_tied, opening_is, rolls_does, rolls_tied, same_stand}
-use Rattle.rv_core.proofs.Facts.{all_append, all_filter, all_more, all_remove, get_there}
+use Rattle.rv_core.proofs.Facts.{all_remove, get_there}
 use Rattle.rv_core.proofs.Indexing.{indexes_does, indexes_tied}
 use Rattle.rv_core.proofs.Keeping.{Kept, SameBases, all_seen, begun_bases, kept_committed, kept_same, kept_swept, none_open, opens_over, opens_stay, others_bases, same_bases, sees_kept, sees_none, with_bases}
 use Rattle.rv_core.proofs.Numbering.{listed_filter, listed_push, listed_remove, listed_set, none_listed}
-use Rattle.rv_core.proofs.Opens.{all_get, at_seen, opens_at, others_seen}
+use Rattle.rv_core.proofs.Opens.{at_seen, opens_at, others_seen}
 use Rattle.rv_core.proofs.Standing.{begun_is, finished_is, inserted_is, rolled_is, stand_swept, tied_began, tied_inserted, calls_made, changed_is, fresh_tied}
 use Rattle.rv_core.proofs.Tied.{none_lowest, tied_same, tied_swept}
 
@@ -277,7 +278,7 @@ given_stays shown c p fits stays h = piece_stays shown c p h (fits (seen_by show
 pub shows_plan : (shown : Shown) (schema : Schema) (txns : Transactions) (cs : List Open) (n session : ℕ) (name : List ℕ) (place : ℕ) (t : RanTrace) (told : Told) (replies : Reply × Reply) → IsStanding shown schema txns cs n → place < length cs → cursor_named (seen shown cs) session name ≡ Some place → IfSome (slice_get cs place) (λ c. Allowed t (numbers_of (item_at c.plan.asked 0).indexes)) → told ≡ shown_trace schema.indexes t → (replies.0 ≡ Trace told) × (replies.1 ≡ Trace told) → Shows (stand_of shown schema txns (seen shown cs)) session name replies
 shows_plan shown schema txns cs n session name place t told replies h within named allowed is made =
     let there = get_there cs place within in
-    let o = all_get (IsOpen shown schema txns.active) cs place there.0 there.1 h.opens in
+    let o = all_got (IsOpen shown schema txns.active) cs place there.0 h.opens there.1 in
     let k : Allowed t (numbers_of (item_at there.0.plan.asked 0).indexes) = subst (λ (x : Option Open). IfSome x (λ c. Allowed t (numbers_of (item_at c.plan.asked 0).indexes))) there.1 allowed in
     let here = at_seen shown cs place there.0 there.1 in
     let shows : ShowsTrace schema.indexes (item_at there.0.plan.asked 0).table told = rw is (shows_trace schema.indexes (item_at there.0.plan.asked 0).table t (item_at there.0.plan.asked 0).indexes o.over k) in

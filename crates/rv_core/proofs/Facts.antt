@@ -1,17 +1,8 @@
 -- Facts of all items of a list.
-use Rattle.std.proofs.Common.{ℕ, zero, suc, List, [], ◌∷◌, ◌++◌, Bool, true, false, cond, filter, map, take, drop, remove, slice_get, slice_set, length, ◌<◌, ◌≡◌, refl, arith, Result, Ok, Err, IfOk, IfErr, OnOk, OnErr, Some, subst}
+use Rattle.std.proofs.Common.{ℕ, zero, suc, List, [], ◌∷◌, Bool, filter, map, take, drop, remove, slice_get, slice_set, length, ◌<◌, ◌≡◌, refl, arith, Result, Ok, Err, IfOk, IfErr, OnOk, Some}
 use Rattle.std.specs.List.{AllByRecursion, slice_index_or}
+use Rattle.rv_value.proofs.Lists.{all_append, all_drop, all_filter, all_take}
 use Rattle.rv_rows.specs.Rising.{put_in}
-
-pub all_append : {X : Type 0} (P : X → Type 0) (xs ys : List X) → AllByRecursion P xs → AllByRecursion P ys → AllByRecursion P (xs ++ ys)
-all_append P [] ys a b = b
-all_append P (x ∷ xs) ys a b = (a.0, all_append P xs ys a.1 b)
-
-pub all_filter : {X : Type 0} (P : X → Type 0) (p : X → Bool) (xs : List X) → AllByRecursion P xs → AllByRecursion P (filter p xs)
-all_filter P p [] a = tt
-all_filter P p (x ∷ xs) a =
-    let rest = all_filter P p xs a.1 in
-    elim (p x) as (λ b. AllByRecursion P (cond b (x ∷ filter p xs) (filter p xs))) [ true ↦ (a.0, rest) | false ↦ rest ]
 
 pub all_put : {X : Type 0} (P : X → Type 0) (before : X → X → Bool) (x : X) (xs : List X) → P x → AllByRecursion P xs → AllByRecursion P (put_in before x xs)
 all_put P before x xs here a = all_append P (filter (λ y. before y x) xs) (x ∷ filter (λ y. before x y) xs) (all_filter P (λ y. before y x) xs a) (here, all_filter P (λ y. before x y) xs a)
@@ -26,24 +17,8 @@ all_at P [] i d other a = other
 all_at P (x ∷ xs) zero d other a = a.0
 all_at P (x ∷ xs) (suc i) d other a = all_at P xs i d other a.1
 
-pub all_take : {X : Type 0} (P : X → Type 0) (i : ℕ) (xs : List X) → AllByRecursion P xs → AllByRecursion P (take i xs)
-all_take P zero [] a = tt
-all_take P zero (x ∷ xs) a = tt
-all_take P (suc i) [] a = tt
-all_take P (suc i) (x ∷ xs) a = (a.0, all_take P i xs a.1)
-
-pub all_drop : {X : Type 0} (P : X → Type 0) (i : ℕ) (xs : List X) → AllByRecursion P xs → AllByRecursion P (drop i xs)
-all_drop P zero [] a = tt
-all_drop P zero (x ∷ xs) a = a
-all_drop P (suc i) [] a = tt
-all_drop P (suc i) (x ∷ xs) a = all_drop P i xs a.1
-
 pub all_remove : {X : Type 0} (P : X → Type 0) (xs : List X) (i : ℕ) → AllByRecursion P xs → AllByRecursion P (remove xs i)
 all_remove P xs i a = all_append P (take i xs) (drop (suc i) xs) (all_take P i xs a) (all_drop P (suc i) xs a)
-
-pub all_more : {X : Type 0} (P Q : X → Type 0) → ((x : X) → P x → Q x) → (xs : List X) → AllByRecursion P xs → AllByRecursion Q xs
-all_more P Q more [] a = tt
-all_more P Q more (x ∷ xs) a = (more x a.0, all_more P Q more xs a.1)
 
 pub all_map : {X Y : Type 0} (P : Y → Type 0) (f : X → Y) (xs : List X) → AllByRecursion (λ x. P (f x)) xs → AllByRecursion P (map f xs)
 all_map P f [] a = tt
@@ -68,12 +43,6 @@ get_there [] i h = absurd (omega arith)
 get_there (x ∷ xs) zero h = (x, refl)
 get_there (x ∷ xs) (suc i) h = get_there xs i (omega arith)
 
--- the item in a place has what all have
-pub all_get_at : {X : Type 0} (P : X → Type 0) (xs : List X) (i : ℕ) (x : X) → slice_get xs i ≡ Some x → AllByRecursion P xs → P x
-all_get_at P [] i x h all = cc
-all_get_at P (y ∷ ys) zero x h all = let e : y ≡ x = cc in subst P e all.0
-all_get_at P (y ∷ ys) (suc i) x h all = all_get_at P ys i x h all.1
-
 pub if_ok_three : {A E : Type 0} (r : Result A E) (P Q R S : A → Type 0) → ((a : A) → P a → Q a → R a → S a) → IfOk r P → IfOk r Q → IfOk r R → IfOk r S
 if_ok_three (Ok a) P Q R S more h k l = more a h k l
 if_ok_three (Err e) P Q R S more h k l = tt
@@ -82,10 +51,6 @@ if_ok_three (Err e) P Q R S more h k l = tt
 pub on_ok : {A E : Type 0} (r : Result A E) (P : Type 0) (Q : A → Type 0) → ((a : A) → P → Q a) → OnOk r P → IfOk r Q
 on_ok (Ok a) P Q more h = more a h
 on_ok (Err e) P Q more h = tt
-
-pub on_err : {A E : Type 0} (r : Result A E) (P : Type 0) → P → OnErr r P
-on_err (Ok a) P h = tt
-on_err (Err e) P h = h
 
 pub ok_more : {A E : Type 0} (r : Result A E) (P Q : Type 0) → (P → Q) → OnOk r P → OnOk r Q
 ok_more (Ok a) P Q more h = more h

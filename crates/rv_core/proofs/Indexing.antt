@@ -1,5 +1,5 @@
 -- CREATE INDEX: what it asks of the store, and what it makes of the database.
-use Rattle.std.proofs.Common.{◌≡◌, ℕ, ◌<◌, ◌≤◌, List, [], ◌∷◌, ◌++◌, refl, ap, sym, ◌∙◌, arith, length, Option, Some, None, Ok, Err, Bool, true, false, not, ◌==◌, ◌||◌, ◌&&◌, nat_eq, nat_lt}
+use Rattle.std.proofs.Common.{◌≡◌, ℕ, ◌<◌, ◌≤◌, List, [], ◌∷◌, ◌++◌, refl, ap, sym, ◌∙◌, arith, length, Option, Some, None, Ok, Err, Bool, true, false, not, ◌==◌, ◌&&◌, nat_eq, nat_lt}
 use Rattle.std.specs.List.{AllByRecursion, IsDistinct, list_any, list_all, slice_index_or}
 use Rattle.std.proofs.Math.Seq.{get_or-append_seam}
 use Rattle.std.proofs.lemmas.Bool.Decides.{nat_tests}
@@ -14,6 +14,7 @@ use Rattle.rv_catalog.specs.Schema.{Schema, width}
 use Rattle.rv_reader.specs.Shown.{Shown, CanRead}
 use Rattle.rv_reader.specs.Storing.{AreColumns, Indexed}
 use Rattle.std.specs.Option.{option_map}
+use Rattle.rv_value.proofs.Tests.{left_false, right_false}
 use Rattle.rv_value.specs.declared.record.Record.{Record}
 use Rattle.rv_value.specs.declared.record.RowNo.{RowNo}
 use Rattle.rv_lang.specs.declared.reply.Refusal.TheVariants.{Duplicate}
@@ -32,14 +33,6 @@ use Rattle.rv_core.specs.Doing.{Does}
 use Rattle.rv_core.proofs.Tied.{none_lowest, tied_indexed}
 use Rattle.rv_core.proofs.Standing.{stand_indexed}
 use Rattle.rv_core.proofs.Images.{image_at}
-
-either_left : (a b : Bool) → (a || b) ≡ false → a ≡ false
-either_left false b h = refl
-either_left true b h = h
-
-either_right : (a b : Bool) → (a || b) ≡ false → b ≡ false
-either_right false b h = h
-either_right true b h = cc
 
 both_left : (a b : Bool) → (a && b) ≡ true → a ≡ true
 both_left true b h = refl
@@ -62,7 +55,7 @@ none_distinct = tt
 
 apart : (c : ℕ) (ds : List ℕ) → list_any (λ d. d == c) ds ≡ false → AllByRecursion (λ (d : ℕ). nat_eq c d ≡ false) ds
 apart c [] h = tt
-apart c (d ∷ ds) h = (turned c d (either_left (d == c) (list_any (λ e. e == c) ds) h), apart c ds (either_right (d == c) (list_any (λ e. e == c) ds) h))
+apart c (d ∷ ds) h = (turned c d (left_false (d == c) (list_any (λ e. e == c) ds) h), apart c ds (right_false (d == c) (list_any (λ e. e == c) ds) h))
 
 distinct : (cs : List ℕ) → all_different cs ≡ true → IsDistinct nat_eq cs
 distinct [] h = none_distinct

@@ -2,6 +2,7 @@
 use Rattle.std.proofs.Common.{◌≡◌, ◌<◌, ℕ, List, [], ◌∷◌, refl, arith, Bool, true, false, ◌&&◌, nat_lt, nat_eq, length}
 use Rattle.std.specs.List.{list_all, slice_index_or}
 use Rattle.std.proofs.lemmas.Bool.Decides.{nat_tests}
+use Rattle.rv_value.proofs.Lists.{passes_more}
 use Rattle.rv_restrict.specs.declared.atom.ColRef.{ColRef}
 use Rattle.rv_restrict.specs.declared.atom.Atom.{Atom}
 use Rattle.rv_restrict.specs.declared.atom.Atom.TheVariants.{Compare, Between, Among, IsNull, Starts, Const}
@@ -28,12 +29,6 @@ both : (a b : Bool) → a ≡ true → b ≡ true → (a && b) ≡ true
 both true b p q = q
 both false b p q = cc
 
-all_more : {X : Type 0} (p q : X → Bool) → ((x : X) → p x ≡ true → q x ≡ true) → (xs : List X) → list_all p xs ≡ true → list_all q xs ≡ true
-all_more p q more [] h = refl
-all_more p q more (x ∷ xs) h =
-    let parts = and_parts (p x) (list_all p xs) h in
-    both (q x) (list_all q xs) (more x parts.0) (all_more p q more xs parts.1)
-
 operand_more : (p q : ColRef → Bool) → ((c : ColRef) → p c ≡ true → q c ≡ true) → (o : Operand) → operand_names_only p o ≡ true → operand_names_only q o ≡ true
 operand_more p q more (Literal v) h = refl
 operand_more p q more (Column c) h = more c h
@@ -49,7 +44,7 @@ atom_more p q more (Starts c text) h = more c h
 atom_more p q more (Const t) h = refl
 
 names_more : (p q : ColRef → Bool) → ((c : ColRef) → p c ≡ true → q c ≡ true) → (only : List (List Atom)) → names_only p only ≡ true → names_only q only ≡ true
-names_more p q more only h = all_more (group_names_only p) (group_names_only q) (λ g k. all_more (atom_names_only p) (atom_names_only q) (atom_more p q more) g k) only h
+names_more p q more only h = passes_more (group_names_only p) (group_names_only q) (λ g k. passes_more (atom_names_only p) (atom_names_only q) (atom_more p q more) g k) only h
 
 -- a column of the one FROM item
 column_home : (defs : List TableDef) (tables : List ℕ) (c : ColRef) → length tables ≡ 1 → is_there defs tables c ≡ true → passes_home (is_column (width defs (slice_index_or tables 0 0))) c ≡ true

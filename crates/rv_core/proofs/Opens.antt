@@ -1,6 +1,7 @@
 -- Open cursors as the definitions have them.
 use Rattle.std.proofs.Common.{◌≡◌, ℕ, ◌+◌, List, [], ◌∷◌, ◌++◌, ◌==◌, ◌&&◌, refl, ap, sym, subst, ◌∙◌, Bool, true, false, not, cond, filter, length, suc, zero, slice_get, slice_set, remove, bytes_eq, Some}
 use Rattle.std.specs.List.{AllByRecursion, prefix_len, slice_index_or}
+use Rattle.rv_value.proofs.Lists.{all_got}
 use Rattle.rv_lang.specs.declared.reply.Refusal.{Refusal}
 use Rattle.rv_lang.specs.declared.reply.Reply.{Reply}
 use Rattle.rv_lang.specs.declared.reply.Reply.TheVariants.{Refused}
@@ -16,7 +17,7 @@ use Rattle.rv_model.specs.declared.transactions.Transaction.{Transaction}
 use Rattle.rv_join.specs.declared.places.Asked.{Asked}
 use Rattle.rv_join.specs.Asking.{indexes_from, item_at}
 use Rattle.rv_core.specs.Db.{IsOpen, base_of, open_named, own_opens, seen, seen_of}
-use Rattle.rv_core.proofs.Facts.{all_get_at, all_set}
+use Rattle.rv_core.proofs.Facts.{all_set}
 use Rattle.rv_core.proofs.Images.{map_remove}
 use Rattle.rv_core.specs.Doing.{TakesAt}
 
@@ -83,14 +84,10 @@ pushed_seen shown cs more c e = ap (λ (xs : List Open). seen shown xs) e ∙ pu
 pub removed_seen : (shown : Shown) (cs : List Open) (i : ℕ) → seen shown (remove cs i) ≡ remove (seen shown cs) i
 removed_seen shown cs i = map_remove (seen_of shown) cs i
 
--- the cursor in a place has what all have
-pub all_get : (P : Open → Type 0) (cs : List Open) (i : ℕ) (c : Open) → slice_get cs i ≡ Some c → AllByRecursion P cs → P c
-all_get P cs i c h all = all_get_at P cs i c h all
-
 -- a cursor that stays open, with what it was opened with
 pub opens_at : (shown : Shown) (schema : Schema) (active : List Transaction) (cs : List Open) (place : ℕ) (c new : Open) → slice_get cs place ≡ Some c → CursorFits shown new → SameCursor c new → AllByRecursion (IsOpen shown schema active) cs → AllByRecursion (IsOpen shown schema active) (slice_set cs place new)
 opens_at shown schema active cs place c new at fits same all =
-    let was = all_get (IsOpen shown schema active) cs place c at all in
+    let was = all_got (IsOpen shown schema active) cs place c all at in
     all_set (IsOpen shown schema active) cs place new (record {
       base = ap (λ (s : ℕ). base_of active s) same.session ∙ was.base ∙ ap (λ (n : ℕ). Some n) (sym same.snap);
       fits = fits;

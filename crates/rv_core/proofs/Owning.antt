@@ -3,6 +3,7 @@ use Rattle.std.proofs.Common.{◌≡◌, ℕ, ◌<◌, List, [], ◌∷◌, ◌+
 use Rattle.std.specs.List.{AllByRecursion}
 use Rattle.std.proofs.lemmas.Bool.{cases_Bool}
 use Rattle.std.proofs.lemmas.Bool.Decides.{nat_tests}
+use Rattle.rv_value.proofs.Lists.{all_filter}
 use Rattle.rv_rows.specs.declared.changes.Change.{Change}
 use Rattle.rv_catalog.specs.Schema.{Schema}
 use Rattle.rv_reader.specs.Shown.{Shown, CanRead, IsSnapshot}
@@ -22,7 +23,6 @@ use Rattle.rv_core.specs.Storing.{CommitsTo}
 use Rattle.rv_core.proofs.Bases.{base_known, base_pushed, base_without, changes_pushed, changes_without}
 use Rattle.rv_core.proofs.Calling.{commits_tied}
 use Rattle.rv_core.proofs.Databases.{commit_own, commits_kept, own_is}
-use Rattle.rv_core.proofs.Facts.{all_filter}
 use Rattle.rv_core.proofs.Keeping.{Kept, kept_same, kept_swept}
 use Rattle.rv_core.proofs.Standing.{begun_is, rolled_is}
 use Rattle.rv_core.proofs.Tied.{none_lowest, tied_swept}

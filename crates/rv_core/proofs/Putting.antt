@@ -4,6 +4,7 @@ use Rattle.std.specs.Prelude.{slice_get}
 use Rattle.std.specs.List.{AllByRecursion}
 use Rattle.std.proofs.lemmas.Bool.Decides.{nat_tests}
 use Rattle.std.proofs.lemmas.Option.{slice_get_within}
+use Rattle.rv_value.proofs.Lists.{all_filter, all_more}
 use Rattle.rv_value.proofs.Places.{read_as}
 use Rattle.rv_value.specs.declared.value.Value.{Value}
 use Rattle.rv_value.specs.declared.record.Record.{Record}
@@ -42,7 +43,7 @@ use Rattle.rv_core.specs.Doing.{opening_base}
 use Rattle.rv_core.specs.Storing.{changed_alone, changed_over, inserted_alone, lone_over}
 use Rattle.rv_core.proofs.Calling.{opening_is, view_read}
 use Rattle.rv_core.proofs.Databases.{own_is}
-use Rattle.rv_core.proofs.Facts.{all_filter, all_map, all_more}
+use Rattle.rv_core.proofs.Facts.{all_map}
 use Rattle.rv_core.proofs.Standing.{IsRow, base_known, inserted_is, own_within, row_change, rows_same, seen_rows, writer_within}
 use Rattle.rv_core.proofs.Tied.{own_changes}
 use Rattle.rv_core.proofs.Images.{base_at}

@@ -3,6 +3,7 @@ use Rattle.std.proofs.Common.{◌≡◌, ℕ, ◌<◌, ◌≤◌, List, [], ◌�
 use Rattle.std.specs.List.{AllByRecursion, list_all}
 use Rattle.std.proofs.lemmas.Bool.Decides.{nat_tests}
 use Rattle.std.proofs.lemmas.Bool.{and_parts}
+use Rattle.rv_value.proofs.Lists.{all_more}
 use Rattle.rv_reader.proofs.Rows.{applied_ascends}
 use Rattle.rv_value.specs.declared.value.Value.{Value}
 use Rattle.rv_value.specs.declared.record.Record.{Record}
@@ -29,7 +30,6 @@ use Rattle.rv_txn.proofs.Halving.{changing_is}
 use Rattle.rv_rivals.specs.Lookups.{CanLook, neighbours_in}
 use Rattle.rv_core.specs.Db.{IsActive, IsTied, db_of}
 use Rattle.rv_core.specs.Storing.{lone_over}
-use Rattle.rv_core.proofs.Facts.{all_more}
 use Rattle.rv_core.proofs.Images.{base_at, image_at}
 use Rattle.rv_core.proofs.Putting.{Owns, are_indexes, can_keep, own_at, own_read}
 use Rattle.rv_core.proofs.Standing.{base_known, own_within, writer_within}

@@ -1,5 +1,6 @@
 -- Of how many records a short range makes a cursor fetch.
 use Rattle.std.proofs.Common.{◌≡◌, ℕ, ◌+◌, ◌≤◌, true, List, [], ◌∷◌, length, Option, Some, None, zero, suc, slice_get, slice_set, refl, ap, sym, ◌∙◌, subst, arith}
+use Rattle.rv_value.proofs.Lists.{all_got}
 use Rattle.rv_judge.specs.declared.counting.Counts.{Counts}
 use Rattle.rv_judge.specs.declared.judging.Facts.{Facts}
 use Rattle.rv_judge.specs.Verdicts.{Ruling}
@@ -20,7 +21,6 @@ use Rattle.rv_cursor.specs.Moves.{Move, MovesByAll, Ruled, TakesOut, TurnMoves, 
 use Rattle.rv_core.specs.Obeying.{AnyOf, FetchOf, IsBounded, MovesAt, SeesSame, StepOf, TurnOf}
 use Rattle.rv_core.specs.Pieces.{KeepsSettled, TriesAt}
 use Rattle.rv_core.specs.Short.{AnsweredMoves, CallMoves, CallsMove, Held, held, lost_by}
-use Rattle.rv_core.proofs.Opens.{all_get}
 
 -- what a cursor sees
 abbrev sight : Held → Shown
@@ -141,7 +141,7 @@ get_set (o ∷ os) (suc place) c d here = get_set os place c d here
 place_sees : (store later : Shown) (place : ℕ) (old new : List Open) (before after : Open) → slice_get old place ≡ Some before → new ≡ slice_set old place after → SeesSame store later new → seen_by later after ≡ seen_by store after
 place_sees store later place old new before after here set sees =
     let got : slice_get new place ≡ Some after = rw set (get_set old place before after here) in
-    all_get (λ (c : Open). seen_by later c ≡ seen_by store c) new place after got sees.each
+    all_got (λ (c : Open). seen_by later c ≡ seen_by store c) new place after sees.each got
 
 moved_so : (would : ℕ → Facts → Ruling) (store later : Shown) (place judge ruled_to : ℕ) (old new : List Open) (before after : Open) → slice_get old place ≡ Some before → new ≡ slice_set old place after → SameCursor before after → SeesSame store later new → (moves : List Move) → MovesByAll moves would (seen_by store before) (ruled before judge) (ruled after ruled_to) → CallMoves moves (held store before) (held later after)
 moved_so would store later place judge ruled_to old new before after here set same sees moves made = record {
@@ -184,5 +184,5 @@ still_moves would store later judge place cs c here sees = record {
   after = judge;
   same = record { session = refl; name = refl; number = refl; snap = refl; frozen = refl; asked = refl };
   made = refl;
-  sees = all_get (λ (d : Open). seen_by later d ≡ seen_by store d) cs place c here sees.each;
+  sees = all_got (λ (d : Open). seen_by later d ≡ seen_by store d) cs place c sees.each here;
 }

@@ -5,6 +5,7 @@ use Rattle.std.proofs.Math.Seq.{get_or-append_seam}
 use Rattle.std.proofs.lemmas.List.{get_or_append_left}
 use Rattle.std.proofs.lemmas.Bool.{cases_lt}
 use Rattle.std.proofs.lemmas.Bool.Decides.{eqb_tells}
+use Rattle.rv_value.proofs.Lists.{all_filter, all_more}
 use Rattle.rv_value.specs.declared.value.Value.{Value}
 use Rattle.rv_value.specs.declared.record.Record.{Record}
 use Rattle.rv_rows.specs.declared.changes.Change.{Change}
@@ -21,7 +22,7 @@ use Rattle.rv_model.specs.declared.transactions.Transactions.{Transactions}
 use Rattle.rv_model.specs.Transactions.{no_transaction, transaction_at, next_row, touched_in, touch, touch_all, done, without, lowest, horizon}
 use Rattle.rv_model.specs.Database.{no_index}
 use Rattle.rv_core.specs.Db.{IsOwn, IsActive, AreTaken, HasIndex, IsTied}
-use Rattle.rv_core.proofs.Facts.{all_filter, all_put, all_at, all_remove, all_more}
+use Rattle.rv_core.proofs.Facts.{all_put, all_at, all_remove}
 
 own_stays : (old new : Shown) (touched : List (List ℕ)) (c : Change) → old.tables ≤ new.tables → Stays old new → IsOwn old touched c → IsOwn new touched c
 own_stays old new touched c more stays h = record {

@@ -179,7 +179,7 @@ pub fn trace_at(cursors: &Items<Open>, place: usize) -> Trace
 }
 
 /// STEP of the cursor in a place: how many background steps there were.
-#[tactic(auto, using(crate::proofs::Opens::same_at, crate::proofs::Opens::all_get))]
+#[tactic(auto, using(crate::proofs::Opens::same_at, rv_value::proofs::Lists::all_got))]
 pub fn step_at<S: Store + Reader<Ledger = Uncounted>>(
     store: &S,
     cursors: &mut Items<Open>,

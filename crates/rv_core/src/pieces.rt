@@ -97,7 +97,7 @@ fn take<R: Reader>(
 }
 
 /// Takes the awaited piece of the cursor in a place.
-#[tactic(auto, using(crate::proofs::Opens::same_at, crate::proofs::Opens::all_get))]
+#[tactic(auto, using(crate::proofs::Opens::same_at, rv_value::proofs::Lists::all_got))]
 pub fn take_at<S: Store + Reader<Ledger = Uncounted>>(
     store: &S,
     cursors: &mut Items<Open>,

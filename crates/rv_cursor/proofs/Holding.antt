@@ -1,5 +1,5 @@
 -- What becomes of a cursor's offers when its plan is called.
-use Rattle.std.proofs.Common.{◌≡◌, ◌<◌, ◌≤◌, List, [], ◌∷◌, ◌++◌, refl, ap, sym, ◌∙◌, subst, arith, Option, Some, None, IfSome, false, is_some, Result, Ok, Err, OnErr}
+use Rattle.std.proofs.Common.{◌≡◌, ◌<◌, ◌≤◌, List, [], ◌∷◌, ◌++◌, refl, ap, sym, ◌∙◌, subst, arith, Option, Some, None, IfSome, false, is_some}
 use Rattle.std.specs.List.Sorted.{IsPermutation}
 use Rattle.std.proofs.lemmas.List.Sorted.{IsPermutation-refl}
 use Rattle.rv_value.specs.declared.value.Value.{Value}
@@ -10,7 +10,7 @@ use Rattle.rv_model.specs.declared.state.Offer.{Offer}
 use Rattle.rv_model.specs.Offers.{offers_in_order}
 use Rattle.rv_model.proofs.Sorting.{sorted_moved}
 use Rattle.rv_join.specs.Order.{IsLeastOf}
-use Rattle.rv_join.specs.Plans.{PlanFits, PlanMoves, PlanStays, Planned, plan_rest, plan_work}
+use Rattle.rv_join.specs.Plans.{PlanFits, PlanMoves, PlanStays, Planned, plan_rest}
 use Rattle.rv_join.specs.declared.plan.PlanStep.TheVariants.{Row as PlanRow, End as PlanEnd, Working}
 use Rattle.rv_cursor.specs.declared.cursor.Open.{Open}
 use Rattle.rv_cursor.specs.Left.{CursorFits, SameCursor, Stays, TakesOffer, in_hand, left, seen_at, seen_by, to_come, to_do, work}
@@ -60,11 +60,6 @@ pieces_stay shown c p q fits new first then = piece_stays shown c q fits new (re
 pub not_some : (hand : Option Offer) → is_some hand ≡ false → hand ≡ None
 not_some None e = refl
 not_some (Some o) e = absurd (cc)
-
--- what holds whatever is answered
-pub on_err : {A E : Type 0} (r : Result A E) (P : Type 0) → P → OnErr r P
-on_err (Ok a) P h = tt
-on_err (Err e) P h = h
 
 no_hand : (hand : Option Offer) (rest : List Offer) → hand ≡ None → offers_in_order (in_hand hand ++ rest) ≡ offers_in_order rest
 no_hand hand rest empty = rw empty refl

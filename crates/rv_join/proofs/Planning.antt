@@ -1,8 +1,9 @@
 -- Plans: each step keeps what it keeps, and does to the rest what it answers.
-use Rattle.std.proofs.Common.{◌≡◌, ◌+◌, ◌<◌, ◌≤◌, List, ◌∷◌, true, false, reverse, Result, Ok, Err, IfOk, OnErr, refl, ap, sym, ◌∙◌, arith, subst, suc, slice_index_or}
+use Rattle.std.proofs.Common.{◌≡◌, ◌+◌, ◌<◌, ◌≤◌, List, ◌∷◌, false, reverse, Result, Ok, Err, IfOk, OnErr, refl, ap, sym, ◌∙◌, arith, subst, suc, slice_index_or}
 use Rattle.std.specs.Cmp.{IsStrictWeakOrder}
 use Rattle.std.specs.List.Sorted.{IsPermutation, IsSortedBy}
 use Rattle.std.proofs.lemmas.List.Sorted.{IsPermutation-refl, IsPermutation-append, IsPermutation-append_right, IsPermutation-middle, IsPermutation-trans, IsPermutation-sym, IsPermutation-reverse, ranks_by, sorted_far}
+use Rattle.rv_value.proofs.Tests.{no_way}
 use Rattle.rv_value.specs.Orders.{values_cmp_total}
 use Rattle.rv_model.specs.declared.state.Offer.{Offer}
 use Rattle.rv_reader.specs.Shown.{Shown}
@@ -23,10 +24,6 @@ use Rattle.rv_join.proofs.Working.{less_le, same_le}
 
 pub offers_weak : IsStrictWeakOrder before
 offers_weak = ranks_by values_cmp_total (λ (o : Offer). o.order)
-
--- no stage is another
-no_way : {X : Type 0} → true ≡ false → X
-no_way h = absurd (cc)
 
 -- the loops' bag stays, where offers are given as they are found
 pub found_holds : (shown : Shown) (old new : Planned) → HoldsGood shown old → old.stage ≡ AsFound → Kept old.asked shown old.stack new.stack → new ≡ record old { stack = new.stack } → HoldsGood shown new

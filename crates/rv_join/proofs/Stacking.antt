@@ -158,7 +158,3 @@ kept_or (Err e) a shown old mid new kept same = subst (Kept a shown old) (sym sa
 pub kept_if : {X E : Type 0} (r : Result X E) (P : Type 0) → P → OnOk r P
 kept_if (Ok x) P p = p
 kept_if (Err e) P p = tt
-
-pub kept_if_not : {X E : Type 0} (r : Result X E) (P : Type 0) → P → OnErr r P
-kept_if_not (Ok x) P p = tt
-kept_if_not (Err e) P p = p

@@ -1,6 +1,7 @@
 -- The work left: what each change of the open levels does to it.
-use Rattle.std.proofs.Common.{◌≡◌, ℕ, ◌+◌, ◌*◌, ◌<◌, ◌≤◌, List, [], ◌∷◌, ◌++◌, length, filter, drop, Bool, true, false, cond, Some, None, refl, ap, sym, ◌∙◌, arith, subst, slice_index_or, zero, suc}
+use Rattle.std.proofs.Common.{◌≡◌, ℕ, ◌+◌, ◌*◌, ◌<◌, ◌≤◌, List, [], ◌∷◌, ◌++◌, length, drop, Some, None, refl, ap, sym, ◌∙◌, arith, subst, slice_index_or, zero, suc}
 use Rattle.std.proofs.lemmas.Grind.{common_steps}
+use Rattle.rv_value.proofs.Lists.{filter_length}
 use Rattle.rv_value.specs.declared.value.Value.{Value}
 use Rattle.rv_value.specs.declared.record.Record.{Record}
 use Rattle.rv_reader.specs.Shown.{Shown}
@@ -77,13 +78,6 @@ length_middle front x behind = grind (arith, common_steps)
 pub found_work : (a : Asked) (shown : Shown) (old : Level) (new : Access) (r : Record) → old.row ≡ None → effort new shown ≤ effort old.here shown → TakesOut (query_of old.here).need r (rest old.here shown) (rest new shown) → level_work a shown (record { outer = old.outer; row = Some r.values; here = new }) ≤ level_work a shown old
 found_work a shown old new r none less out = taken_out (effort new shown) (effort old.here shown) (length (rest new shown)) (length (rest old.here shown)) (held_rows old.row) (row_cost (lives_of a.only) shown a.snap (items_below a old)) less (ap length out.before ∙ length_middle out.front out.taken out.behind ∙ ap (λ (l : List Record). length l + 1) (sym out.after)) (ap held_rows none)
 
-filter_less : {A : Type 0} (p : A → Bool) (xs : List A) → length (filter p xs) ≤ length xs
-filter_less p [] = omega arith
-filter_less p (x ∷ xs) = let tail = filter_less p xs in elim (p x) as (λ b. length (cond b (x ∷ filter p xs) (filter p xs)) ≤ length (x ∷ xs)) [
-  | true ↦ omega (arith, tail)
-  | false ↦ omega (arith, tail)
-]
-
 -- the items from a place on
 items_at : (items : List Item) (p : ℕ) → p < length items → drop p items ≡ slice_index_or items p no_item ∷ drop (p + 1) items
 items_at [] p le = absurd (omega (arith, le))
@@ -95,7 +89,7 @@ pub fresh_work : (a : Asked) (shown : Shown) (outer : List (List Value)) (v : Ac
 fresh_work a shown outer v inside opens = subst (λ is. level_work a shown (record { outer = outer; row = None; here = v }) < row_cost (lives_of a.only) shown a.snap is) (sym (items_at a.items (length outer) inside)) (fresh_sum (effort v shown) (item_life (lives_of a.only) shown a.snap (item_at a (length outer))) (length (rest v shown)) (length (rows_at a shown (length outer))) (row_cost (lives_of a.only) shown a.snap (drop (length outer + 1) a.items)) opens.life fewer)
   where
     fewer : length (rest v shown) ≤ length (rows_at a shown (length outer))
-    fewer = subst (λ (l : List Record). length l ≤ length (rows_at a shown (length outer))) (sym opens.rest_is) (filter_less (λ (r : Record). holds a.only (length outer) (outer ++ r.values ∷ [])) (rows_at a shown (length outer)))
+    fewer = subst (λ (l : List Record). length l ≤ length (rows_at a shown (length outer))) (sym opens.rest_is) (filter_length (λ (r : Record). holds a.only (length outer) (outer ++ r.values ∷ [])) (rows_at a shown (length outer)))
 
 -- the row that is held is used for less than it may cost
 pub used_work : (a : Asked) (shown : Shown) (l : Level) (row : List Value) (w : ℕ) → l.row ≡ Some row → w < row_cost (lives_of a.only) shown a.snap (items_below a l) → level_work a shown (record l { row = None }) + w < level_work a shown l

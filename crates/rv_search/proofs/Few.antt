@@ -6,6 +6,7 @@ use Rattle.std.proofs.lemmas.Bool.Decides.{nat_tests}
 use Rattle.std.proofs.lemmas.List.{length-map}
 use Rattle.std.proofs.lemmas.List.Quantifiers.{position-Some}
 use Rattle.std.proofs.lemmas.List.Sorted.{length_permutation}
+use Rattle.rv_value.proofs.Tests.{no_way}
 use Rattle.rv_value.specs.declared.record.Record.{Record}
 use Rattle.rv_value.specs.declared.record.RowNo.{RowNo}
 use Rattle.rv_judge.specs.declared.events.Control.{Control}
@@ -27,9 +28,6 @@ use Rattle.rv_retrieval.specs.Opened.{Opened}
 use Rattle.rv_retrieval.specs.Shape.{RetrievalFits, Shape, is_sorted, left_at, rest, rows_of, source_of}
 use Rattle.rv_retrieval.specs.Short.{Settled, fetches_by, fetches_left, is_settled, scan_fetches}
 use Rattle.rv_search.specs.Searching.{numbers}
-
-no_way : {X : Type 0} → true ≡ false → X
-no_way bad = absurd (cc)
 
 le_trans : (a b c : ℕ) → a ≤ b → b ≤ c → a ≤ c
 le_trans a b c h k = omega (arith, h, k)

@@ -1,5 +1,5 @@
 -- Steps of a search one after another, from its opening to its end.
-use Rattle.std.proofs.Common.{◌≡◌, ◌⊎◌, ℕ, List, [], ◌∷◌, ◌++◌, refl, sym, subst, inl, inr, Result, Ok, Err, IfOk, OnOk, OnErr}
+use Rattle.std.proofs.Common.{◌≡◌, ◌⊎◌, ℕ, List, [], ◌∷◌, ◌++◌, refl, sym, subst, inr, Result, Ok, Err, IfOk, OnOk, OnErr}
 use Rattle.rv_judge.specs.declared.counting.Counts.{Counts}
 use Rattle.rv_judge.specs.declared.judging.Facts.{Facts}
 use Rattle.rv_judge.specs.Verdicts.{Ruling}
@@ -54,11 +54,6 @@ some_on v w s t u shown c d old mid rule before more = by (subst (λ (x : ℕ �
     }
 
 -- From the opening on.
-
--- what holds is left where the call wanted memory
-pub if_lost : {X E : Type 0} (r : Result X E) (P : Type 0) → P → OnErr r P
-if_lost (Ok x) P p = tt
-if_lost (Err e) P p = p
 
 pub ran_out : {X E : Type 0} (r : Result X E) (would : ℕ → Facts → Ruling) (state after : ℕ) (shown : Shown) (c d e : Counts) (query : Query) (v : Shape) → Opened query shown 0 0 v → OnlyLeaves c d → OnOk r (GoesOut would state after shown d e v) → OnOk r (RanOut would state after shown c e query)
 ran_out (Ok x) would state after shown c d e query v opened only goes = record { begun = v; counts = d; only = only; opened = opened; goes = goes }

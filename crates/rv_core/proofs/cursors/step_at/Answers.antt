@@ -1,5 +1,6 @@
 use Rattle.std.proofs.Common.{refl}
-use Rattle.rv_core.proofs.Facts.{if_ok_three, on_err}
+use Rattle.rv_value.proofs.Lists.{on_err}
+use Rattle.rv_core.proofs.Facts.{if_ok_three}
 use Rattle.rv_core.proofs.Numbering.{listed_set}
 use Rattle.rv_core.proofs.Opens.{opens_at}
 use Rattle.rv_core.proofs.cursors.step_at.Goals as goal

@@ -1,8 +1,9 @@
 use Rattle.std.proofs.Common.{Ok, ap, sym, ◌∙◌}
+use Rattle.rv_value.proofs.Lists.{on_err}
 use Rattle.rv_catalog.specs.declared.def.Resolved.{Resolved}
 use Rattle.rv_catalog.specs.declared.def.Resolved.TheVariants.{Fetch}
 use Rattle.rv_parse.specs.Reading.{statement_of}
-use Rattle.rv_core.proofs.Facts.{if_ok, if_ok_two, on_err}
+use Rattle.rv_core.proofs.Facts.{if_ok, if_ok_two}
 use Rattle.rv_core.proofs.Handling.{err_more, executes, handles_text, leaves_asked, leaves_text, ok_each}
 use Rattle.rv_core.proofs.statements.answer.Goals as goal
 

@@ -1,5 +1,6 @@
 use Rattle.std.proofs.Common.{Ok}
-use Rattle.rv_core.proofs.Facts.{if_ok, if_ok_two, on_err}
+use Rattle.rv_value.proofs.Lists.{on_err}
+use Rattle.rv_core.proofs.Facts.{if_ok, if_ok_two}
 use Rattle.rv_parse.specs.Reading.{statement_of}
 use Rattle.rv_core.proofs.Handling.{err_more, leaves_asked, leaves_text, ok_each, part_executes, part_handles, part_turns_text}
 use Rattle.rv_core.proofs.statements.answer_step.Goals as goal

@@ -1,6 +1,7 @@
-use Rattle.rv_core.proofs.Facts.{any_ok, if_ok, on_err}
+use Rattle.rv_core.proofs.Facts.{any_ok, if_ok}
 use Rattle.rv_core.proofs.Handling.{asked_if, never, plans_same, searches}
 use Rattle.rv_core.proofs.statements.perform.Goals as goal
+use Rattle.rv_value.proofs.Lists.{on_err}
 
 pub unreachable-requires : goal.unreachable-requires
 unreachable-requires g c = never (rw c.in-Fetch.is at c.requires.other)

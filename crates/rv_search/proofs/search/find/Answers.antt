@@ -1,6 +1,7 @@
 use Rattle.std.proofs.Common.{◌≡◌, ◌+◌, ◌≤◌, ap, arith, inl, inr, refl, rules, subst, sym, true}
 use Rattle.std.specs.Prelude.{IsPermutation}
 use Rattle.std.proofs.lemmas.List.Sorted.{IsNonDecreasingBy-from_sort_by_key, IsPermutation-trans, length_permutation}
+use Rattle.rv_value.proofs.Lists.{on_err}
 use Rattle.rv_value.specs.declared.record.Record.{Record}
 use Rattle.rv_value.specs.declared.record.RowNo.{RowNo}
 use Rattle.rv_judge.specs.Counting.{reads}
@@ -13,7 +14,7 @@ use Rattle.rv_final.specs.Rest.{qualifying}
 use Rattle.rv_retrieval.specs.Effort.{life_of}
 use Rattle.rv_retrieval.specs.Short.{has_short}
 use Rattle.rv_search.specs.Searching.{numbers}
-use Rattle.rv_search.proofs.Goings.{if_lost, lost_for, ran_for, ran_of}
+use Rattle.rv_search.proofs.Goings.{lost_for, ran_for, ran_of}
 use Rattle.rv_search.proofs.Sorted.{sorted_numbers}
 use Rattle.rv_search.proofs.search.find.Goals as goal
 
@@ -58,10 +59,10 @@ pub returns-clause-ran : goal.returns-clause-ran
 returns-clause-ran g c = ran_for _ _ _ (g.R.Reader.shown c.args.reader.now) c.args.steps.now c.gathered.new.steps c.in_ok-query.query _ c.in_ok-query.ensures c.in_ok-found.ensures.ran
 
 pub returns-in_err-query-clause-lost : goal.returns-in_err-query-clause-lost
-returns-in_err-query-clause-lost g c = if_lost _ _ (inl refl)
+returns-in_err-query-clause-lost g c = on_err _ _ (inl refl)
 
 pub returns-in_err-found-clause-lost : goal.returns-in_err-found-clause-lost
-returns-in_err-found-clause-lost g c = if_lost _ _ (lost_for _ _ _ (g.R.Reader.shown c.args.reader.now) c.in_ok-query.query _ c.in_ok-query.ensures c.in_err-found.ensures.lost)
+returns-in_err-found-clause-lost g c = on_err _ _ (lost_for _ _ _ (g.R.Reader.shown c.args.reader.now) c.in_ok-query.query _ c.in_ok-query.ensures c.in_err-found.ensures.lost)
 
 pub returns-in_err-sort_by_key-clause-lost : goal.returns-in_err-sort_by_key-clause-lost
-returns-in_err-sort_by_key-clause-lost g c = if_lost _ _ (inr (ran_of _ _ _ (g.R.Reader.shown c.args.reader.now) c.args.steps.now c.gathered.new.steps _ (ran_for _ _ _ (g.R.Reader.shown c.args.reader.now) c.args.steps.now c.gathered.new.steps c.in_ok-query.query _ c.in_ok-query.ensures c.in_ok-found.ensures.ran)))
+returns-in_err-sort_by_key-clause-lost g c = on_err _ _ (inr (ran_of _ _ _ (g.R.Reader.shown c.args.reader.now) c.args.steps.now c.gathered.new.steps _ (ran_for _ _ _ (g.R.Reader.shown c.args.reader.now) c.args.steps.now c.gathered.new.steps c.in_ok-query.query _ c.in_ok-query.ensures c.in_ok-found.ensures.ran)))

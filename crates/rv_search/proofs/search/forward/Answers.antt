@@ -1,7 +1,8 @@
 use Rattle.std.proofs.Common.{◌∙◌, sym}
+use Rattle.rv_value.proofs.Lists.{on_err}
 use Rattle.rv_retrieval.specs.declared.steps.Fg.TheVariants.{Row, Working}
 use Rattle.rv_search.proofs.Gathering.{gathers_none, gathers_row}
-use Rattle.rv_search.proofs.Goings.{if_lost, some_none, some_one}
+use Rattle.rv_search.proofs.Goings.{some_none, some_one}
 use Rattle.rv_search.proofs.search.forward.Goals as goal
 
 pub returns-in_ok-push-in-Row-clause-gathers : goal.returns-in_ok-push-in-Row-clause-gathers
@@ -47,7 +48,7 @@ pub returns-in-End-clause-does : goal.returns-in-End-clause-does
 returns-in-End-clause-does g c = rw c.in-End.is at (c.in_ok-row.ensures.does c.requires.tells)
 
 pub returns-in_err-push-in-Row-clause-lost : goal.returns-in_err-push-in-Row-clause-lost
-returns-in_err-push-in-Row-clause-lost g c = if_lost _ _ (some_one _ _ _ (g.R.Reader.shown c.args.reader.now) c.args.steps.now c.fg_step.new.steps _ c.args.retrieval.now c.fg_step.new.self (c.in_ok-row.ensures.does c.requires.tells))
+returns-in_err-push-in-Row-clause-lost g c = on_err _ _ (some_one _ _ _ (g.R.Reader.shown c.args.reader.now) c.args.steps.now c.fg_step.new.steps _ c.args.retrieval.now c.fg_step.new.self (c.in_ok-row.ensures.does c.requires.tells))
 
 pub returns-in_err-row-clause-lost : goal.returns-in_err-row-clause-lost
-returns-in_err-row-clause-lost g c = if_lost _ _ (some_none _ _ _ (g.R.Reader.shown c.args.reader.now) c.args.steps.now c.args.retrieval.now c.in_err-row.ensures.quiet)
+returns-in_err-row-clause-lost g c = on_err _ _ (some_none _ _ _ (g.R.Reader.shown c.args.reader.now) c.args.steps.now c.args.retrieval.now c.in_err-row.ensures.quiet)

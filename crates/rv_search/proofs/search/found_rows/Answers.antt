@@ -1,5 +1,6 @@
 use Rattle.std.proofs.Common.{◌∙◌, ◌+◌, ◌≤◌, ℕ, List, ap, arith, inr, length, subst, sym}
 use Rattle.std.proofs.lemmas.List.{length-map}
+use Rattle.rv_value.proofs.Lists.{on_err}
 use Rattle.rv_value.specs.declared.record.Record.{Record}
 use Rattle.rv_value.specs.declared.record.RowNo.{RowNo}
 use Rattle.rv_judge.specs.Counting.{reads}
@@ -7,7 +8,7 @@ use Rattle.rv_restrict.specs.Truth.{qualifies}
 use Rattle.rv_final.specs.Rest.{qualifying}
 use Rattle.rv_retrieval.specs.Effort.{life_of}
 use Rattle.rv_search.specs.Searching.{OnlyRecords, rows_of, search_of}
-use Rattle.rv_search.proofs.Goings.{if_lost, ran_of}
+use Rattle.rv_search.proofs.Goings.{ran_of}
 use Rattle.rv_search.proofs.Fetching.{found_again}
 use Rattle.rv_search.proofs.Gathering.{reads_and}
 use Rattle.rv_search.proofs.search.found_rows.Goals as goal
@@ -50,4 +51,4 @@ returns-clause-ran g c =
     }
 
 pub returns-in_err-rows-clause-lost : goal.returns-in_err-rows-clause-lost
-returns-in_err-rows-clause-lost g c = if_lost _ _ (inr (ran_of _ _ _ (g.R.Reader.shown c.args.reader.now) c.args.steps.now c.find.new.steps (search_of c.args.table c.args.snap c.args.only.now c.args.indexes) c.in_ok-found.ensures.ran))
+returns-in_err-rows-clause-lost g c = on_err _ _ (inr (ran_of _ _ _ (g.R.Reader.shown c.args.reader.now) c.args.steps.now c.find.new.steps (search_of c.args.table c.args.snap c.args.only.now c.args.indexes) c.in_ok-found.ensures.ran))

@@ -1,6 +1,7 @@
 use Rattle.std.proofs.Common.{◌∙◌, refl}
+use Rattle.rv_value.proofs.Lists.{on_err}
 use Rattle.rv_search.proofs.Gathering.{gathers_all, gathers_begun, gathers_on, gathers_reads, gathers_records}
-use Rattle.rv_search.proofs.Goings.{goes_none, goes_on, goes_out, if_lost, some_on}
+use Rattle.rv_search.proofs.Goings.{goes_none, goes_on, goes_out, some_on}
 use Rattle.rv_search.proofs.search.gather.Goals as goal
 
 pub turns-init : goal.turns-init
@@ -61,4 +62,4 @@ pub returns-then-branch-clause-ran : goal.returns-then-branch-clause-ran
 returns-then-branch-clause-ran g c = goes_out _ _ _ _ _ (g.R.Reader.shown c.args.reader.now) c.args.steps.now c.turns.steps c.forward.new.steps c.args.retrieval.now c.turns.retrieval c.forward.new.retrieval c.turns.invariant.rule c.turns.invariant.goes (rw c.if-branch.true at c.in_ok-forward.ensures.does)
 
 pub returns-in_err-forward-clause-lost : goal.returns-in_err-forward-clause-lost
-returns-in_err-forward-clause-lost g c = if_lost _ _ (some_on _ _ _ _ _ (g.R.Reader.shown c.args.reader.now) c.args.steps.now c.turns.steps c.args.retrieval.now c.turns.retrieval c.turns.invariant.rule c.turns.invariant.goes c.in_err-forward.ensures.lost)
+returns-in_err-forward-clause-lost g c = on_err _ _ (some_on _ _ _ _ _ (g.R.Reader.shown c.args.reader.now) c.args.steps.now c.turns.steps c.args.retrieval.now c.turns.retrieval c.turns.invariant.rule c.turns.invariant.goes c.in_err-forward.ensures.lost)

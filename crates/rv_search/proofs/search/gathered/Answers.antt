@@ -1,5 +1,6 @@
 use Rattle.std.proofs.Common.{◌+◌, ◌≤◌, List, IfOk, ap, inl, refl, subst, sym, ◌∙◌}
 use Rattle.std.specs.Prelude.{IsPermutation}
+use Rattle.rv_value.proofs.Lists.{on_err}
 use Rattle.rv_value.specs.declared.record.RowNo.{RowNo}
 use Rattle.rv_judge.specs.Counting.{reads}
 use Rattle.rv_retrieval.specs.Effort.{Awaiting, effort, life_of}
@@ -9,7 +10,7 @@ use Rattle.rv_retrieval.specs.Short.{fetches_left}
 use Rattle.rv_search.specs.Searching.{numbers}
 use Rattle.rv_search.proofs.Few.{few_found, few_owed, if_ok}
 use Rattle.rv_search.proofs.Gathering.{ok_anyway, ok_more, reads_from, records_from}
-use Rattle.rv_search.proofs.Goings.{if_lost, ran_lost, ran_out}
+use Rattle.rv_search.proofs.Goings.{ran_lost, ran_out}
 use Rattle.rv_search.proofs.search.gathered.Goals as goal
 
 pub gathered_of-found-requires-clause-fits : goal.gathered_of-found-requires-clause-fits
@@ -50,7 +51,7 @@ returns-clause-few g c = λ unordered short.
     if_ok c.gathered_of-found.result (λ found. IsPermutation (numbers (rest v shown)) found.items) _ (λ found all. few_found (rest v shown) found.items owed all) (rw c.deref_mut.ensures.value at c.gathered_of-found.ensures.found))
 
 pub returns-in_err-retrieval-clause-lost : goal.returns-in_err-retrieval-clause-lost
-returns-in_err-retrieval-clause-lost g c = if_lost _ _ (inl refl)
+returns-in_err-retrieval-clause-lost g c = on_err _ _ (inl refl)
 
 pub returns-clause-ran : goal.returns-clause-ran
 returns-clause-ran g c = ran_out c.gathered_of-found.result _ _ _ (g.R.Reader.shown c.args.reader.now) c.args.steps.now c.open.new.steps c.gathered_of-found.new.steps c.args.query c.in_ok-retrieval.retrieval.value c.in_ok-retrieval.ensures.opened c.open.ensures.only (rw c.deref_mut.ensures.value at c.gathered_of-found.ensures.ran)

@@ -1,18 +1,19 @@
 use Rattle.std.proofs.Common.{◌∙◌, ap, refl, sym}
+use Rattle.rv_value.proofs.Lists.{all_got, on_err}
 use Rattle.rv_cursor.specs.Left.{CursorFits}
 use Rattle.rv_core.specs.Db.{stand_of}
-use Rattle.rv_core.proofs.Facts.{any_ok, if_ok, on_err}
+use Rattle.rv_core.proofs.Facts.{any_ok, if_ok}
 use Rattle.rv_core.proofs.Handling.{err_more, parted_err, parted_ok, refused_fetch}
 use Rattle.rv_core.proofs.Databases.{opens_fit, standing_set}
 use Rattle.rv_core.proofs.Keeping.{sees_itself}
-use Rattle.rv_core.proofs.Opens.{all_get, same_at}
+use Rattle.rv_core.proofs.Opens.{same_at}
 use Rattle.rv_core.proofs.Turning.{part_given, part_more, part_moves, part_named, part_turns}
 use Rattle.rv_core.proofs.database.Database.fetch_step.Goals as goal
 
 pub fetch_step-requires : goal.fetch_step-requires
 fetch_step-requires g c =
     let shown = g.S.Reader.shown c.self.inside.store in
-    record { fits = all_get (CursorFits shown) c.self.inside.cursors c.in-Some.place c.at_mut.result.now c.at_mut.ensures.value (opens_fit shown c.self.inside.catalog c.self.inside.txns.active c.self.inside.cursors c.self.invariant.standing.opens) }
+    record { fits = all_got (CursorFits shown) c.self.inside.cursors c.in-Some.place c.at_mut.result.now (opens_fit shown c.self.inside.catalog c.self.inside.txns.active c.self.inside.cursors c.self.invariant.standing.opens) c.at_mut.ensures.value }
 
 pub invariant_of-self : goal.invariant_of-self
 invariant_of-self g c =

@@ -1,4 +1,4 @@
-use Rattle.rv_core.proofs.Facts.{on_err}
+use Rattle.rv_value.proofs.Lists.{on_err}
 use Rattle.rv_core.proofs.Keeping.{sees_itself}
 use Rattle.rv_core.proofs.Soundness.{unanswered_same}
 use Rattle.rv_core.proofs.engine.Engine.call.Goals as goal

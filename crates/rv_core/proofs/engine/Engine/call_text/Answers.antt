@@ -1,7 +1,7 @@
 use Rattle.std.proofs.Common.{◌≡◌, ◌++◌, ◌∷◌, [], arith, refl, rules}
+use Rattle.rv_value.proofs.Lists.{on_err}
 use Rattle.rv_model.proofs.Bounds.{HasRoom-after}
 use Rattle.rv_core.specs.Core.{entry, shown_of}
-use Rattle.rv_core.proofs.Facts.{on_err}
 use Rattle.rv_core.proofs.Keeping.{sees_itself, sees_then}
 use Rattle.rv_core.proofs.Soundness.{IsSound-Answers, answered, opens_swept, unanswered_at, unanswered_kept}
 use Rattle.rv_core.proofs.engine.Engine.call_text.Goals as goal

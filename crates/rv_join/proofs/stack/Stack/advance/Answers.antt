@@ -1,4 +1,5 @@
 use Rattle.std.proofs.Common.{refl, subst, sym}
+use Rattle.rv_value.proofs.Lists.{on_err}
 use Rattle.rv_access.specs.declared.access.Access.{Access}
 use Rattle.rv_join.specs.declared.level.Level.{Level}
 use Rattle.rv_join.specs.Levels.{Stacked, first_of}
@@ -7,7 +8,7 @@ use Rattle.rv_join.proofs.OneItem.{alone_ended, alone_none, done_spends, first_p
 use Rattle.rv_join.proofs.Accounting.{alone_ends, alone_rises, alone_uses}
 use Rattle.rv_join.proofs.Catching.{stays_moves}
 use Rattle.rv_join.proofs.Going.{calls_at, calls_on}
-use Rattle.rv_join.proofs.Stacking.{kept_at, kept_if_not, kept_less, kept_or, kept_then, kept_then_if}
+use Rattle.rv_join.proofs.Stacking.{kept_at, kept_less, kept_or, kept_then, kept_then_if}
 use Rattle.rv_join.proofs.stack.Stack.advance.Goals as goal
 
 pub returns-in_err-ready-clause-err : goal.returns-in_err-ready-clause-err
@@ -17,7 +18,7 @@ returns-in_err-ready-clause-err g c =
     let old : Stacked = record { above = c.self.inside.above.items; at = c.self.inside.at; openings = c.self.inside.openings } in
     let mid : Stacked = record old { at = c.ready.new.self } in
     let fits = rw (← c.self.view_is) at c.requires.fits in
-    rw (← c.self.view_is) (kept_if_not _ _ (kept_at asked shown old mid fits refl (stays_moves asked shown old.at c.ready.new.self c.in_err-ready.ensures.err)))
+    rw (← c.self.view_is) (on_err _ _ (kept_at asked shown old mid fits refl (stays_moves asked shown old.at c.ready.new.self c.in_err-ready.ensures.err)))
 
 pub returns-in-Worked-clause-moves : goal.returns-in-Worked-clause-moves
 returns-in-Worked-clause-moves g c =
