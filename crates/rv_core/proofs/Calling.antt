@@ -2,6 +2,7 @@
 use Rattle.std.proofs.Common.{◌≡◌, ℕ, ◌-◌, ◌<◌, ◌≤◌, List, [], ◌∷◌, ◌++◌, refl, ap, sym, ◌∙◌, subst, arith, length, length-append, Result, Ok, Err, IfSome, Option, Some, None, true, false, nat_lt, is_some}
 use Rattle.std.specs.List.{AllByRecursion, list_all, slice_index_or}
 use Rattle.std.proofs.lemmas.Bool.Decides.{nat_tests}
+use Rattle.std.proofs.lemmas.Bool.{and_parts}
 use Rattle.rv_value.specs.declared.record.Record.{Record}
 use Rattle.rv_rows.specs.declared.changes.Change.{Change}
 use Rattle.rv_rows.specs.Changes.{Rise, rows_with_changes}
@@ -40,7 +41,6 @@ use Rattle.rv_core.specs.Doing.{Does, opening_base}
 use Rattle.rv_core.specs.Storing.{CommitsTo}
 use Rattle.rv_core.proofs.Choosing.{offers_same}
 use Rattle.rv_core.proofs.Images.{base_at}
-use Rattle.rv_core.proofs.Offering.{and_parts}
 use Rattle.rv_core.proofs.Tied.{changes_fit, own_changes, tied_committed, tied_created, tied_done, tied_same, tied_without}
 use Rattle.rv_core.proofs.Standing.{base_known, db_committed, db_rolled_back, finished_is, own_within, rolled_is, stand_created, stand_same}
 

@@ -1,5 +1,5 @@
 -- Facts of all items of a list.
-use Rattle.std.proofs.Common.{ℕ, zero, suc, List, [], ◌∷◌, Bool, filter, map, take, drop, remove, slice_get, slice_set, length, ◌<◌, ◌≡◌, refl, arith, Result, Ok, Err, IfOk, IfErr, OnOk, Some}
+use Rattle.std.proofs.Common.{ℕ, zero, suc, List, [], ◌∷◌, Bool, filter, map, take, drop, remove, slice_get, slice_set, length, ◌<◌, ◌≡◌, refl, arith, Result, Ok, Err, IfOk, OnOk, Some}
 use Rattle.std.specs.List.{AllByRecursion, slice_index_or}
 use Rattle.rv_value.proofs.Lists.{all_append, all_drop, all_filter, all_take}
 use Rattle.rv_rows.specs.Rising.{put_in}
@@ -24,11 +24,6 @@ pub all_map : {X Y : Type 0} (P : Y → Type 0) (f : X → Y) (xs : List X) → 
 all_map P f [] a = tt
 all_map P f (x ∷ xs) a = (a.0, all_map P f xs a.1)
 
--- what holds of an answer, where more follows from it
-pub if_ok : {A E : Type 0} (r : Result A E) (P Q : A → Type 0) → ((a : A) → P a → Q a) → IfOk r P → IfOk r Q
-if_ok (Ok a) P Q more h = more a h
-if_ok (Err e) P Q more h = tt
-
 pub if_ok_two : {A E : Type 0} (r : Result A E) (P Q S : A → Type 0) → ((a : A) → P a → Q a → S a) → IfOk r P → IfOk r Q → IfOk r S
 if_ok_two (Ok a) P Q S more h k = more a h k
 if_ok_two (Err e) P Q S more h k = tt
@@ -51,11 +46,3 @@ if_ok_three (Err e) P Q R S more h k l = tt
 pub on_ok : {A E : Type 0} (r : Result A E) (P : Type 0) (Q : A → Type 0) → ((a : A) → P → Q a) → OnOk r P → IfOk r Q
 on_ok (Ok a) P Q more h = more a h
 on_ok (Err e) P Q more h = tt
-
-pub ok_more : {A E : Type 0} (r : Result A E) (P Q : Type 0) → (P → Q) → OnOk r P → OnOk r Q
-ok_more (Ok a) P Q more h = more h
-ok_more (Err e) P Q more h = tt
-
-pub if_err : {A E : Type 0} (r : Result A E) (P Q : E → Type 0) → ((e : E) → P e → Q e) → IfErr r P → IfErr r Q
-if_err (Ok a) P Q more h = tt
-if_err (Err e) P Q more h = more e h

@@ -40,10 +40,6 @@ pub err_both : {A E : Type 0} (r : Result A E) (P Q R : Type 0) → (P → Q →
 err_both (Ok a) P Q R more p q = tt
 err_both (Err e) P Q R more p q = more p q
 
-pub err_more : {A E : Type 0} (r : Result A E) (P Q : Type 0) → (P → Q) → OnErr r P → OnErr r Q
-err_more (Ok a) P Q more p = tt
-err_more (Err e) P Q more p = more p
-
 -- Nothing was done.
 
 pub plans_same : {S : Type 0} (w d : Whole S) (judge : ℕ) → d.opens ≡ w.opens → d.opened ≡ w.opened → plans_of d judge ≡ plans_of w judge

@@ -1,5 +1,5 @@
 -- CREATE INDEX: what it asks of the store, and what it makes of the database.
-use Rattle.std.proofs.Common.{◌≡◌, ℕ, ◌<◌, ◌≤◌, List, [], ◌∷◌, ◌++◌, refl, ap, sym, ◌∙◌, arith, length, Option, Some, None, Ok, Err, Bool, true, false, not, ◌==◌, ◌&&◌, nat_eq, nat_lt}
+use Rattle.std.proofs.Common.{◌≡◌, ℕ, ◌<◌, ◌≤◌, List, [], ◌∷◌, ◌++◌, refl, ap, sym, ◌∙◌, arith, length, Option, Some, None, Ok, Err, true, false, not, ◌==◌, nat_eq, nat_lt}
 use Rattle.std.specs.List.{AllByRecursion, IsDistinct, list_any, list_all, slice_index_or}
 use Rattle.std.proofs.Math.Seq.{get_or-append_seam}
 use Rattle.std.proofs.lemmas.Bool.Decides.{nat_tests}
@@ -14,6 +14,8 @@ use Rattle.rv_catalog.specs.Schema.{Schema, width}
 use Rattle.rv_reader.specs.Shown.{Shown, CanRead}
 use Rattle.rv_reader.specs.Storing.{AreColumns, Indexed}
 use Rattle.std.specs.Option.{option_map}
+use Rattle.std.proofs.lemmas.Bool.{not-true}
+use Rattle.std.specs.Cmp.{first_so, second_so}
 use Rattle.rv_value.proofs.Tests.{left_false, right_false}
 use Rattle.rv_value.specs.declared.record.Record.{Record}
 use Rattle.rv_value.specs.declared.record.RowNo.{RowNo}
@@ -34,18 +36,6 @@ use Rattle.rv_core.proofs.Tied.{none_lowest, tied_indexed}
 use Rattle.rv_core.proofs.Standing.{stand_indexed}
 use Rattle.rv_core.proofs.Images.{image_at}
 
-both_left : (a b : Bool) → (a && b) ≡ true → a ≡ true
-both_left true b h = refl
-both_left false b h = h
-
-both_right : (a b : Bool) → (a && b) ≡ true → b ≡ true
-both_right true b h = h
-both_right false b h = cc
-
-is_false : (b : Bool) → not b ≡ true → b ≡ false
-is_false false h = refl
-is_false true h = cc
-
 turned : (c d : ℕ) → (d == c) ≡ false → nat_eq c d ≡ false
 turned c d h = grind (arith, nat_tests)
 
@@ -60,15 +50,15 @@ apart c (d ∷ ds) h = (turned c d (left_false (d == c) (list_any (λ e. e == c)
 distinct : (cs : List ℕ) → all_different cs ≡ true → IsDistinct nat_eq cs
 distinct [] h = none_distinct
 distinct (c ∷ cs) h =
-    let first = is_false (list_any (λ d. d == c) cs) (both_left (not (list_any (λ d. d == c) cs)) (all_different cs) h) in
-    IsDistinct-cons nat_eq c cs (apart c cs first) (distinct cs (both_right (not (list_any (λ d. d == c) cs)) (all_different cs) h))
+    let first = not-true (list_any (λ d. d == c) cs) (first_so (not (list_any (λ d. d == c) cs)) (all_different cs) h) in
+    IsDistinct-cons nat_eq c cs (apart c cs first) (distinct cs (second_so (not (list_any (λ d. d == c) cs)) (all_different cs) h))
 
 below : (c width : ℕ) → is_column width c ≡ true → c < width
 below c width h = grind (arith, nat_tests)
 
 all_there : (width : ℕ) (cs : List ℕ) → list_all (is_column width) cs ≡ true → AllByRecursion (λ (c : ℕ). c < width) cs
 all_there width [] h = tt
-all_there width (c ∷ cs) h = (below c width (both_left (is_column width c) (list_all (is_column width) cs) h), all_there width cs (both_right (is_column width c) (list_all (is_column width) cs) h))
+all_there width (c ∷ cs) h = (below c width (first_so (is_column width c) (list_all (is_column width) cs) h), all_there width cs (second_so (is_column width c) (list_all (is_column width) cs) h))
 
 -- the columns of a new index are those of one of the store
 pub index_columns : (shown : Shown) (schema : Schema) (txns : Transactions) (def : IndexDef) → IsTied shown schema txns → IsNewIndex schema def → 1 ≤ length def.columns → AreColumns (shown.columns def.table) def.columns

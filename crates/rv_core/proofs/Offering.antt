@@ -1,7 +1,8 @@
 -- What a cursor gives, and what it can read.
-use Rattle.std.proofs.Common.{◌≡◌, ◌<◌, ℕ, List, [], ◌∷◌, refl, arith, Bool, true, false, ◌&&◌, nat_lt, nat_eq, length}
+use Rattle.std.proofs.Common.{◌≡◌, ◌<◌, ℕ, List, [], ◌∷◌, refl, arith, Bool, true, nat_lt, nat_eq, length}
 use Rattle.std.specs.List.{list_all, slice_index_or}
 use Rattle.std.proofs.lemmas.Bool.Decides.{nat_tests}
+use Rattle.std.proofs.lemmas.Bool.{and_from, and_parts}
 use Rattle.rv_value.proofs.Lists.{passes_more}
 use Rattle.rv_restrict.specs.declared.atom.ColRef.{ColRef}
 use Rattle.rv_restrict.specs.declared.atom.Atom.{Atom}
@@ -21,14 +22,6 @@ use Rattle.rv_core.specs.Db.{IsTied}
 
 -- a restriction that passes one test passes another that follows from it
 
-pub and_parts : (a b : Bool) → (a && b) ≡ true → (a ≡ true) × (b ≡ true)
-and_parts true b e = (refl, e)
-and_parts false b e = cc
-
-both : (a b : Bool) → a ≡ true → b ≡ true → (a && b) ≡ true
-both true b p q = q
-both false b p q = cc
-
 operand_more : (p q : ColRef → Bool) → ((c : ColRef) → p c ≡ true → q c ≡ true) → (o : Operand) → operand_names_only p o ≡ true → operand_names_only q o ≡ true
 operand_more p q more (Literal v) h = refl
 operand_more p q more (Column c) h = more c h
@@ -36,7 +29,7 @@ operand_more p q more (Column c) h = more c h
 atom_more : (p q : ColRef → Bool) → ((c : ColRef) → p c ≡ true → q c ≡ true) → (a : Atom) → atom_names_only p a ≡ true → atom_names_only q a ≡ true
 atom_more p q more (Compare c op o) h =
     let parts = and_parts (p c) (operand_names_only p o) h in
-    both (q c) (operand_names_only q o) (more c parts.0) (operand_more p q more o parts.1)
+    and_from (q c) (operand_names_only q o) (more c parts.0) (operand_more p q more o parts.1)
 atom_more p q more (Between c low high) h = more c h
 atom_more p q more (Among c list) h = more c h
 atom_more p q more (IsNull c negated) h = more c h
@@ -53,7 +46,7 @@ column_home defs tables c one there =
     let below : nat_lt c.place 1 ≡ true = rw one at parts.0 in
     let home : c.place ≡ 0 = place_zero c.place below in
     let column : nat_lt c.column (width defs (slice_index_or tables 0 0)) ≡ true = rw home at parts.1 in
-    both (nat_eq c.place 0) (nat_lt c.column (width defs (slice_index_or tables 0 0))) (zero_is c.place home) column
+    and_from (nat_eq c.place 0) (nat_lt c.column (width defs (slice_index_or tables 0 0))) (zero_is c.place home) column
   where
     place_zero : (n : ℕ) → nat_lt n 1 ≡ true → n ≡ 0
     place_zero n h = grind (arith, nat_tests)

@@ -1,7 +1,9 @@
 -- A query over the schema can be planned at a snapshot of the store.
-use Rattle.std.proofs.Common.{◌≡◌, ℕ, zero, suc, ◌+◌, ◌<◌, ◌≤◌, List, [], ◌∷◌, Bool, true, false, ◌&&◌, ◌||◌, refl, ap, sym, ◌∙◌, subst, arith, inl, inr, ◌⊎◌, length, nat_eq, nat_lt}
+use Rattle.std.proofs.Common.{◌≡◌, ℕ, zero, suc, ◌+◌, ◌<◌, ◌≤◌, List, [], ◌∷◌, Bool, true, ◌||◌, refl, ap, sym, ◌∙◌, subst, arith, inl, inr, length, nat_eq, nat_lt}
 use Rattle.std.specs.List.{list_all, list_any, slice_index_or}
-use Rattle.std.proofs.lemmas.Bool.Decides.{eqb_tells, nat_tests}
+use Rattle.std.proofs.lemmas.Bool.Decides.{eqb_tells}
+use Rattle.std.proofs.lemmas.Bool.{and_from, eqb-true, lt-ltb, ltb-true, or_cases}
+use Rattle.std.specs.Cmp.{first_so, second_so}
 use Rattle.rv_value.specs.declared.record.Record.{Record}
 use Rattle.rv_rows.specs.Rows.{Ascend}
 use Rattle.rv_restrict.specs.declared.atom.ColRef.{ColRef}
@@ -26,29 +28,10 @@ use Rattle.rv_core.specs.Db.{IsTied}
 
 -- What all columns of a query pass, each column that it names passes.
 
-either : (a b : Bool) → (a || b) ≡ true → (a ≡ true) ⊎ (b ≡ true)
-either true b h = inl refl
-either false b h = inr h
-
-both_left : (a b : Bool) → (a && b) ≡ true → a ≡ true
-both_left true b h = refl
-both_left false b h = h
-
-both_right : (a b : Bool) → (a && b) ≡ true → b ≡ true
-both_right true b h = h
-both_right false b h = cc
-
-both : (a b : Bool) → a ≡ true → b ≡ true → (a && b) ≡ true
-both true b p q = q
-both false b p q = cc
-
-equal : (a b : ℕ) → nat_eq a b ≡ true → a ≡ b
-equal a b h = grind (arith, nat_tests)
-
 same_is : (c d : ColRef) → same_column c d ≡ true → c ≡ d
 same_is c d h =
-    let place = equal c.place d.place (both_left (nat_eq c.place d.place) (nat_eq c.column d.column) h) in
-    let column = equal c.column d.column (both_right (nat_eq c.place d.place) (nat_eq c.column d.column) h) in
+    let place = eqb-true c.place d.place (first_so (nat_eq c.place d.place) (nat_eq c.column d.column) h) in
+    let column = eqb-true c.column d.column (second_so (nat_eq c.place d.place) (nat_eq c.column d.column) h) in
     λ i. record { place = place i; column = column i }
 
 same_passes : (p : ColRef → Bool) (c d : ColRef) → p d ≡ true → same_column c d ≡ true → p c ≡ true
@@ -56,9 +39,9 @@ same_passes p c d h same = ap p (same_is c d same) ∙ h
 
 any_passes : {X : Type 0} (p names : X → Bool) (q : Bool) → ((x : X) → p x ≡ true → names x ≡ true → q ≡ true) → (xs : List X) → list_all p xs ≡ true → list_any names xs ≡ true → q ≡ true
 any_passes p names q each [] all some = cc
-any_passes p names q each (x ∷ xs) all some = elim (either (names x) (list_any names xs) some) [
-  | inl here ↦ each x (both_left (p x) (list_all p xs) all) here
-  | inr later ↦ any_passes p names q each xs (both_right (p x) (list_all p xs) all) later
+any_passes p names q each (x ∷ xs) all some = elim (or_cases (names x) (list_any names xs) some) [
+  | inl here ↦ each x (first_so (p x) (list_all p xs) all) here
+  | inr later ↦ any_passes p names q each xs (second_so (p x) (list_all p xs) all) later
 ]
 
 operand_passes : (p : ColRef → Bool) (c : ColRef) (o : Operand) → operand_names_only p o ≡ true → operand_names c o ≡ true → p c ≡ true
@@ -66,9 +49,9 @@ operand_passes p c (Literal v) all named = cc
 operand_passes p c (Column d) all named = same_passes p c d all named
 
 atom_passes : (p : ColRef → Bool) (c : ColRef) (a : Atom) → atom_names_only p a ≡ true → atom_names c a ≡ true → p c ≡ true
-atom_passes p c (Compare d op o) all named = elim (either (same_column c d) (operand_names c o) named) [
-  | inl left ↦ same_passes p c d (both_left (p d) (operand_names_only p o) all) left
-  | inr right ↦ operand_passes p c o (both_right (p d) (operand_names_only p o) all) right
+atom_passes p c (Compare d op o) all named = elim (or_cases (same_column c d) (operand_names c o) named) [
+  | inl left ↦ same_passes p c d (first_so (p d) (operand_names_only p o) all) left
+  | inr right ↦ operand_passes p c o (second_so (p d) (operand_names_only p o) all) right
 ]
 atom_passes p c (Between d low high) all named = same_passes p c d all named
 atom_passes p c (Among d list) all named = same_passes p c d all named
@@ -80,9 +63,9 @@ only_passes : (p : ColRef → Bool) (c : ColRef) (only : List (List Atom)) → n
 only_passes p c only all named = any_passes (group_names_only p) (group_names c) (p c) (λ g h k. any_passes (atom_names_only p) (atom_names c) (p c) (λ a m n. atom_passes p c a m n) g h k) only all named
 
 used_passes : (p : ColRef → Bool) (s : Select) (c : ColRef) → list_all p s.returns ≡ true → list_all p s.order ≡ true → names_only p s.only ≡ true → select_uses s c ≡ true → p c ≡ true
-used_passes p s c returns order only used = elim (either (list_any (same_column c) s.returns) (list_any (same_column c) s.order || only_names c s.only) used) [
+used_passes p s c returns order only used = elim (or_cases (list_any (same_column c) s.returns) (list_any (same_column c) s.order || only_names c s.only) used) [
   | inl r ↦ any_passes p (same_column c) (p c) (λ d h k. same_passes p c d h k) s.returns returns r
-  | inr more ↦ elim (either (list_any (same_column c) s.order) (only_names c s.only) more) [
+  | inr more ↦ elim (or_cases (list_any (same_column c) s.order) (only_names c s.only) more) [
     | inl o ↦ any_passes p (same_column c) (p c) (λ d h k. same_passes p c d h k) s.order order o
     | inr g ↦ only_passes p c s.only only g
   ]
@@ -92,18 +75,12 @@ used_passes p s c returns order only used = elim (either (list_any (same_column 
 used_there : (schema : Schema) (s : Select) (c : ColRef) → IsQueryOf schema s → select_uses s c ≡ true → is_there schema.tables s.tables c ≡ true
 used_there schema s c query used = used_passes (is_there schema.tables s.tables) s c query.returns query.order query.only used
 
-below : (a b : ℕ) → nat_lt a b ≡ true → a < b
-below a b h = grind (arith, nat_tests)
-
-above : (a b : ℕ) → a < b → nat_lt a b ≡ true
-above a b h = grind (arith, nat_tests)
-
 -- Tables.
 
 all_at : (n : ℕ) (ts : List ℕ) (p : ℕ) → list_all (is_column n) ts ≡ true → p < length ts → slice_index_or ts p 0 < n
 all_at n [] p all h = absurd (omega arith)
-all_at n (t ∷ ts) zero all h = below t n (both_left (nat_lt t n) (list_all (is_column n) ts) all)
-all_at n (t ∷ ts) (suc p) all h = all_at n ts p (both_right (nat_lt t n) (list_all (is_column n) ts) all) (omega arith)
+all_at n (t ∷ ts) zero all h = ltb-true t n (first_so (nat_lt t n) (list_all (is_column n) ts) all)
+all_at n (t ∷ ts) (suc p) all h = all_at n ts p (second_so (nat_lt t n) (list_all (is_column n) ts) all) (omega arith)
 
 table_there : (schema : Schema) (s : Select) (p : ℕ) → IsQueryOf schema s → p < length s.tables → table_at s p < length schema.tables
 table_there schema s p query h = all_at (length schema.tables) s.tables p query.there h
@@ -112,7 +89,7 @@ pub have_wide : (c columns : ℕ) (rows : List Record) → AreWide columns rows 
 have_wide c columns [] wide h = refl
 have_wide c columns (r ∷ rows) wide h =
     let long : c < length r.values = omega (arith, wide.0, h) in
-    both (nat_lt c (length r.values)) (have_column c rows) (above c (length r.values) long) (have_wide c columns rows wide.1 h)
+    and_from (nat_lt c (length r.values)) (have_column c rows) (lt-ltb c (length r.values) long) (have_wide c columns rows wide.1 h)
 
 -- Indexes.
 
@@ -146,7 +123,7 @@ pub can_plan : (shown : Shown) (schema : Schema) (txns : Transactions) (s : Sele
 can_plan shown schema txns s snap tied stored base query some numbers few ascend =
     let reads : (p : ℕ) → p < length s.tables → CanRead shown (table_at s p) snap = λ p h. record { there = let t = table_there schema s p query h in omega (arith, tied.count); snapshot = base } in
     let seen : (p : ℕ) → p < length s.tables → (alone shown snap).rows (table_at s p) snap ≡ shown.rows (table_at s p) snap = λ p h. same_rows shown snap (table_at s p) snap (reads_alone shown snap (table_at s p) (reads p h)) in
-    let places : (c : ColRef) → select_uses s c ≡ true → c.place < length s.tables = λ c used. below c.place (length s.tables) (both_left (nat_lt c.place (length s.tables)) (is_column (width schema.tables (slice_index_or s.tables c.place 0)) c.column) (used_there schema s c query used)) in
+    let places : (c : ColRef) → select_uses s c ≡ true → c.place < length s.tables = λ c used. ltb-true c.place (length s.tables) (first_so (nat_lt c.place (length s.tables)) (is_column (width schema.tables (slice_index_or s.tables c.place 0)) c.column) (used_there schema s c query used)) in
     record {
       some = some;
       joined = query.joined;
@@ -156,7 +133,7 @@ can_plan shown schema txns s snap tied stored base query some numbers few ascend
       columns = λ c used.
           let h = places c used in
           let t = table_there schema s c.place query h in
-          let column : c.column < width schema.tables (table_at s c.place) = below c.column (width schema.tables (table_at s c.place)) (both_right (nat_lt c.place (length s.tables)) (is_column (width schema.tables (slice_index_or s.tables c.place 0)) c.column) (used_there schema s c query used)) in
+          let column : c.column < width schema.tables (table_at s c.place) = ltb-true c.column (width schema.tables (table_at s c.place)) (second_so (nat_lt c.place (length s.tables)) (is_column (width schema.tables (slice_index_or s.tables c.place 0)) c.column) (used_there schema s c query used)) in
           let wide = stored.wide (table_at s c.place) snap (reads c.place h) in
           subst (λ (rows : List Record). have_column c.column rows ≡ true) (sym (seen c.place h)) (have_wide c.column (shown.columns (table_at s c.place)) (shown.rows (table_at s c.place) snap) wide (omega (arith, tied.columns (table_at s c.place) t, column)));
       numbers = omega (arith, numbers);
@@ -168,7 +145,7 @@ can_plan shown schema txns s snap tied stored base query some numbers few ascend
 pub column_fits : (shown : Shown) (schema : Schema) (txns : Transactions) (s : Select) (c : ColRef) → IsTied shown schema txns → IsQueryOf schema s → select_uses s c ≡ true → c.column < shown.columns (table_at s c.place)
 column_fits shown schema txns s c tied query used =
     let named = used_there schema s c query used in
-    let h : c.place < length s.tables = below c.place (length s.tables) (both_left (nat_lt c.place (length s.tables)) (is_column (width schema.tables (slice_index_or s.tables c.place 0)) c.column) named) in
+    let h : c.place < length s.tables = ltb-true c.place (length s.tables) (first_so (nat_lt c.place (length s.tables)) (is_column (width schema.tables (slice_index_or s.tables c.place 0)) c.column) named) in
     let t = table_there schema s c.place query h in
-    let column : c.column < width schema.tables (table_at s c.place) = below c.column (width schema.tables (table_at s c.place)) (both_right (nat_lt c.place (length s.tables)) (is_column (width schema.tables (slice_index_or s.tables c.place 0)) c.column) named) in
+    let column : c.column < width schema.tables (table_at s c.place) = ltb-true c.column (width schema.tables (table_at s c.place)) (second_so (nat_lt c.place (length s.tables)) (is_column (width schema.tables (slice_index_or s.tables c.place 0)) c.column) named) in
     omega (arith, tied.columns (table_at s c.place) t, column)

@@ -2,6 +2,7 @@
 use Rattle.std.proofs.Common.{◌≡◌, ℕ, zero, suc, ◌<◌, ◌≤◌, List, [], ◌∷◌, true, Option, Some, None, IfSome, ap, sym, subst, ◌∙◌, arith, length, nat_lt, Result, Ok, Err, IfOk}
 use Rattle.std.specs.List.{AllByRecursion, list_all, slice_index_or}
 use Rattle.std.proofs.lemmas.Bool.Decides.{nat_tests}
+use Rattle.std.proofs.lemmas.Bool.{and_parts}
 use Rattle.rv_rows.specs.Rows.{Ascend}
 use Rattle.rv_catalog.specs.declared.def.IndexDef.{IndexDef}
 use Rattle.rv_catalog.specs.declared.def.Select.{Select}
@@ -20,7 +21,6 @@ use Rattle.rv_cursor.specs.declared.cursor.Open.{Open}
 use Rattle.rv_cursor.specs.Left.{left, seen_at}
 use Rattle.rv_core.specs.Db.{IsTied, IsViewed, seen_of, view_at}
 use Rattle.rv_core.proofs.Choosing.{offers_same}
-use Rattle.rv_core.proofs.Offering.{and_parts}
 use Rattle.rv_core.proofs.Planning.{can_plan, column_fits}
 use Rattle.rv_core.proofs.Viewing.{plan_viewed, seen_view}
 

@@ -3,7 +3,7 @@ use Rattle.std.proofs.Common.{◌≡◌, ℕ, suc, ◌<◌, ◌≤◌, List, [],
 use Rattle.std.specs.Prelude.{slice_get}
 use Rattle.std.specs.List.{AllByRecursion}
 use Rattle.std.proofs.lemmas.Bool.Decides.{nat_tests}
-use Rattle.std.proofs.lemmas.Option.{slice_get_within}
+use Rattle.std.proofs.lemmas.Option.{slice_get_within, same_Some}
 use Rattle.rv_value.proofs.Lists.{all_filter, all_more}
 use Rattle.rv_value.proofs.Places.{read_as}
 use Rattle.rv_value.specs.declared.value.Value.{Value}
@@ -57,13 +57,10 @@ pub record Owns (active : List Transaction) (session : ℕ) (t : Transaction) : 
   pub here : transaction_at active place ≡ t
   pub owner : t.session ≡ session
 
-some_is : (a b : Transaction) → Some a ≡ Some b → a ≡ b
-some_is a b e = cc
-
 owns_at : (active : List Transaction) (session : ℕ) (t : Transaction) (o : Option ℕ) → transaction_of active session ≡ o → Some t ≡ option_map (transaction_at active) o → Owns active session t
 owns_at active session t None e is = cc
 owns_at active session t (Some place) e is =
-    let here : transaction_at active place ≡ t = sym (some_is t (transaction_at active place) is) in
+    let here : transaction_at active place ≡ t = sym (same_Some t (transaction_at active place) is) in
     let found = own_is active session place e in
     let owner : (transaction_at active place).session ≡ session = grind (arith, nat_tests) in
     record { place = place; at = e; here = here; owner = ap (λ (u : Transaction). u.session) (sym here) ∙ owner }

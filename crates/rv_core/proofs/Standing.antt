@@ -4,6 +4,7 @@ use Rattle.std.specs.List.{AllByRecursion}
 use Rattle.std.proofs.lemmas.List.Quantifiers.{position-Some}
 use Rattle.std.proofs.lemmas.Bool.{cases_Bool}
 use Rattle.std.proofs.lemmas.Bool.Decides.{eqb_tells, nat_tests}
+use Rattle.std.proofs.lemmas.List.{map_push}
 use Rattle.rv_value.proofs.Lists.{all_append, all_filter, all_more}
 use Rattle.rv_value.specs.declared.value.Value.{Value}
 use Rattle.rv_value.specs.declared.record.Record.{Record}
@@ -40,7 +41,7 @@ use Rattle.rv_core.specs.Db.{image, bases_of, db_of, Stand, stand_of, AreTaken, 
 use Rattle.rv_core.specs.Doing.{Does}
 use Rattle.rv_core.specs.Storing.{CommitsTo, changed_over}
 use Rattle.rv_core.proofs.Facts.{all_at, all_map, all_put}
-use Rattle.rv_core.proofs.Images.{base_at, map_push, map_remove, set_same, image_stays, bases_stay, image_committed, image_created}
+use Rattle.rv_core.proofs.Images.{base_at, map_remove, set_same, image_stays, bases_stay, image_committed, image_created}
 use Rattle.rv_core.proofs.Numbers.{TakesOne, takes_more, takes_one}
 use Rattle.rv_core.proofs.Tied.{actives_more, own_changes, horizon_low, horizon_last, none_lowest, set_length, tied_more}
 

@@ -1,6 +1,6 @@
 -- The offer in hand is one that may be given, and taken out it leaves the others.
 use Rattle.std.proofs.Common.{◌≡◌, ℕ, ◌+◌, ◌<◌, List, [], ◌∷◌, Bool, true, false, cond, not, ◌&&◌, refl, ap, sym, ◌∙◌, inl, inr, arith, length, suc, Option, Some, position, remove, nat_lt}
-use Rattle.std.proofs.lemmas.Bool.{cases_Bool}
+use Rattle.std.proofs.lemmas.Bool.{cases_Bool, and_from, and_parts}
 use Rattle.std.proofs.lemmas.Bool.Decides.{nat_tests}
 use Rattle.std.specs.List.{Contains, list_all, position_or_len}
 use Rattle.std.specs.Ordering.{is_lt, is_eq, ordering_then}
@@ -29,23 +29,15 @@ equal_then Less b h f = cc
 equal_then Equal b h f = refl
 equal_then Greater b h f = cc
 
-and_parts : (a b : Bool) → (a && b) ≡ true → (a ≡ true) × (b ≡ true)
-and_parts true b e = (refl, e)
-and_parts false b e = cc
-
-both : (a b : Bool) → a ≡ true → b ≡ true → (a && b) ≡ true
-both true b p q = q
-both false b p q = cc
-
 -- a test that all offers pass, sorted or not
 all_in : (p : Offer → Bool) (o : Offer) (xs : List Offer) → p o ≡ true → list_all p xs ≡ true → list_all p (with_offer o xs) ≡ true
-all_in p o [] here all = both (p o) true here refl
+all_in p o [] here all = and_from (p o) true here refl
 all_in p o (x ∷ xs) here all =
     let parts = and_parts (p x) (list_all p xs) all in
     let rest = all_in p o xs here parts.1 in
     elim (less x o) as (λ b. list_all p (cond b (x ∷ with_offer o xs) (o ∷ x ∷ xs)) ≡ true) [
-      | true ↦ both (p x) (list_all p (with_offer o xs)) parts.0 rest
-      | false ↦ both (p o) (list_all p (x ∷ xs)) here all
+      | true ↦ and_from (p x) (list_all p (with_offer o xs)) parts.0 rest
+      | false ↦ and_from (p o) (list_all p (x ∷ xs)) here all
     ]
 
 all_sorted : (p : Offer → Bool) (xs : List Offer) → list_all p xs ≡ true → list_all p (offers_in_order xs) ≡ true
@@ -123,7 +115,7 @@ there x e xs k = (suc k.0, (let h = k.1 in omega arith), k.2)
 -- none of some offers is less
 none_less : (o : Offer) (xs : List Offer) → IsLeastOf o xs → list_all (not_after o) xs ≡ true
 none_less o [] least = refl
-none_less o (x ∷ xs) least = both (not_after o x) (list_all (not_after o) xs) (ap not (least x (here x xs))) (none_less o xs (λ e k. least e (there x e xs k)))
+none_less o (x ∷ xs) least = and_from (not_after o x) (list_all (not_after o) xs) (ap not (least x (here x xs))) (none_less o xs (λ e k. least e (there x e xs k)))
 
 pub gives_least : (o : Offer) (rest : List Offer) (replies : Reply × Reply) → IsLeastOf o rest → replies.1 ≡ replies.0 → replies.0 ≡ Row o.returned → TakesOffer (offers_in_order (o ∷ rest)) replies (offers_in_order rest)
 gives_least o rest replies least twice first =

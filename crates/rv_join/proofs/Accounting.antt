@@ -1,6 +1,7 @@
 -- What a plan has read, and over one FROM item what its one retrieval has read.
 use Rattle.std.proofs.Common.{◌≡◌, ℕ, ◌+◌, ◌<◌, List, [], ◌∷◌, length, false, nat_eq, None, refl, ap, sym, ◌∙◌, arith, subst, inl, inr}
 use Rattle.std.proofs.lemmas.Bool.Decides.{nat_tests}
+use Rattle.std.proofs.lemmas.List.{nil_from_length}
 use Rattle.rv_judge.specs.declared.counting.Counts.{Counts}
 use Rattle.rv_judge.specs.declared.events.Trace.{Trace}
 use Rattle.rv_reader.specs.Shown.{Shown}
@@ -14,13 +15,9 @@ use Rattle.rv_join.specs.Moves.{Rises}
 use Rattle.rv_join.proofs.Numbers.{rules_stay}
 use Rattle.rv_join.specs.Plans.{AreReads, HoldsGood, PlanFits, Planned, RisesAlone, plan_trace, reads_with}
 
-no_levels : {A : Type 0} (xs : List A) → length xs ≡ 0 → xs ≡ []
-no_levels [] h = refl
-no_levels (x ∷ xs) h = absurd (omega (arith, h))
-
 -- over one FROM item one level is open
 pub alone_above : (a : Asked) (shown : Shown) (v : Stacked) → StackFits a shown v → length a.items ≡ 1 → v.above ≡ []
-alone_above a shown v fits one = let deep = fits.deep in let inside = fits.at.inside in no_levels v.above (omega (arith, deep, inside, one))
+alone_above a shown v fits one = let deep = fits.deep in let inside = fits.at.inside in nil_from_length v.above (omega (arith, deep, inside, one))
 
 -- it is the last
 pub alone_last : {X : Type 0} (a : Asked) (shown : Shown) (v : Stacked) → StackFits a shown v → length a.items ≡ 1 → is_last a v ≡ false → X

@@ -1,11 +1,12 @@
 -- What a retrieval of an item is asked can be asked of the reader, and its restriction can be bound.
-use Rattle.std.proofs.Common.{◌≡◌, ℕ, ◌+◌, ◌*◌, ◌<◌, ◌≤◌, List, [], ◌∷◌, ◌++◌, length, max, Bool, true, false, cond, not, ◌||◌, ◌==◌, nat_lt, refl, ap, sym, ◌∙◌, arith, subst, slice_index_or, filter, Result, Ok, Err, IfOk}
+use Rattle.std.proofs.Common.{◌≡◌, ℕ, ◌+◌, ◌*◌, ◌<◌, ◌≤◌, List, [], ◌∷◌, ◌++◌, length, max, Bool, true, false, not, ◌||◌, ◌==◌, nat_lt, refl, ap, sym, ◌∙◌, arith, subst, slice_index_or, Result, Ok, Err, IfOk}
 use Rattle.std.specs.List.{AllByRecursion, list_all, list_any}
 use Rattle.std.proofs.lemmas.Bool.Decides.{nat_tests}
 use Rattle.std.proofs.lemmas.Grind.{common_steps}
 use Rattle.std.proofs.lemmas.List.{get_or_append_left}
-use Rattle.std.proofs.lemmas.Bool.{and_from}
+use Rattle.std.proofs.lemmas.Bool.{and_from, or_right}
 use Rattle.std.specs.Cmp.{first_so, second_so}
+use Rattle.std.proofs.lemmas.List.Elements.{filter_agree}
 use Rattle.rv_value.specs.declared.value.Value.{Value}
 use Rattle.rv_value.specs.declared.record.Record.{Record}
 use Rattle.rv_restrict.specs.declared.atom.Atom.{Atom}
@@ -30,7 +31,7 @@ use Rattle.rv_access.specs.Opened.{Begins, life_of, lives}
 use Rattle.rv_join.specs.declared.places.Asked.{Asked}
 use Rattle.rv_join.specs.Asking.{AreWide, Asks, CanRun, IsIndexAt, OpensItem, asked_uses, col_at, have_column, item_at, item_life, lives_of, only_names, rows_at, same_column}
 use Rattle.rv_join.specs.Levels.{widened}
-use Rattle.rv_join.proofs.Naming.{only_named, or_right, taken_named}
+use Rattle.rv_join.proofs.Naming.{only_named, taken_named}
 
 used_named : (a : Asked) (c : ColRef) → only_names c a.only ≡ true → asked_uses a c ≡ true
 used_named a c n = or_right (list_any (same_column c) a.returns) _ (or_right (list_any (same_column c) a.order) _ n)
@@ -88,13 +89,6 @@ can_ask a shown outer query can inside asks =
       needs = rw (item.order, item.need) here.within;
     }
 
-filter_same : {A : Type 0} (p q : A → Bool) → ((x : A) → p x ≡ q x) → (xs : List A) → filter p xs ≡ filter q xs
-filter_same p q same [] = refl
-filter_same p q same (x ∷ xs) =
-    let tail = filter_same p q same xs in
-    let here = same x in
-    rw here (elim (q x) as (λ b. cond b (x ∷ filter p xs) (filter p xs) ≡ cond b (x ∷ filter q xs) (filter q xs)) [ true ↦ ap (λ l. x ∷ l) tail | false ↦ tail ])
-
 less_product : (r n c : ℕ) → r ≤ n → r * c ≤ n * c
 less_product r n c h = grind (arith, h)
 
@@ -121,7 +115,7 @@ opens_if (Ok v) a shown outer query c d asks begins = record {
   tells = begins.tells;
   life = opens_life a shown outer query v (effort v shown) asks begins.most;
   asks = subst (Asks a outer) (sym begins.asked) asks;
-  rest_is = begins.owes ∙ ap (qualifying query.only) (ap (λ t. shown.rows t query.snap) asks.item.table ∙ ap (λ n. shown.rows (item_at a (length outer)).table n) asks.item.snap) ∙ filter_same _ _ (λ (x : Record). asks.binds x.values) (rows_at a shown (length outer));
+  rest_is = begins.owes ∙ ap (qualifying query.only) (ap (λ t. shown.rows t query.snap) asks.item.table ∙ ap (λ n. shown.rows (item_at a (length outer)).table n) asks.item.snap) ∙ filter_agree _ _ (λ (x : Record). asks.binds x.values) (rows_at a shown (length outer));
 }
 
 -- A row that was widened to the columns needed has them.

@@ -1,11 +1,12 @@
 -- A row that the first level catches leads: what is over it is least of all that is left.
-use Rattle.std.proofs.Common.{◌≡◌, ℕ, ◌<◌, List, [], ◌∷◌, ◌++◌, length, map, Bool, true, false, not, Some, None, refl, ap, sym, ◌∙◌, arith, subst, slice_index_or, is_lt, inl, inr, Ordering, Less, Equal, Greater}
+use Rattle.std.proofs.Common.{◌≡◌, ℕ, ◌<◌, List, [], ◌∷◌, ◌++◌, length, map, false, not, Some, None, refl, ap, sym, ◌∙◌, arith, subst, slice_index_or, is_lt, inl, inr, Ordering, Less, Equal, Greater}
 use Rattle.std.specs.List.{Contains, flat_map, list_all}
 use Rattle.std.specs.List.Sorted.{IsPermutation}
 use Rattle.std.specs.Ordering.{ordering_reverse}
 use Rattle.std.proofs.lemmas.List.Sorted.{IsPermutation-refl}
 use Rattle.std.proofs.lemmas.List.Elements.{Contains-append_cases, Contains-append_right, Contains-append_left}
 use Rattle.std.specs.Cmp.{first_so, second_so}
+use Rattle.std.proofs.lemmas.Bool.{not-true}
 use Rattle.rv_value.specs.declared.value.Value.{Value}
 use Rattle.rv_value.specs.declared.record.Record.{Record}
 use Rattle.rv_value.specs.Order.{values_cmp}
@@ -65,10 +66,6 @@ lt_same k = lt_self (values_cmp k k) (values_cmp_total.antisymm k k)
     lt_self Equal h = refl
     lt_self Greater h = refl
 
-not_less : (b : Bool) → not b ≡ true → b ≡ false
-not_less true h = absurd (cc)
-not_less false h = refl
-
 least_in : (order : List ℕ) (r : Record) (rows : List Record) (x : Record) → IsLeast order r rows → Contains rows x → is_lt (values_cmp (order_of order x) (order_of order r)) ≡ false
 least_in order r [] x least c = absurd (none_in x c)
 least_in order r (y ∷ rows) x least c = elim (Contains-append_cases (y ∷ []) rows x c) [
@@ -79,7 +76,7 @@ least_in order r (y ∷ rows) x least c = elim (Contains-append_cases (y ∷ [])
     lone : Contains (y ∷ []) x → is_lt (values_cmp (order_of order x) (order_of order r)) ≡ false
     lone c = let inside = c.1 in let at : c.0 ≡ 0 = omega (arith, inside) in
         let is : y ≡ x = subst (λ k. slice_index_or (y ∷ []) k x ≡ x) at c.2 in
-        subst (λ (z : Record). is_lt (values_cmp (order_of order z) (order_of order r)) ≡ false) is (not_less _ (first_so (not (is_lt (values_cmp (order_of order y) (order_of order r)))) _ least))
+        subst (λ (z : Record). is_lt (values_cmp (order_of order z) (order_of order r)) ≡ false) is (not-true _ (first_so (not (is_lt (values_cmp (order_of order y) (order_of order r)))) _ least))
 
 -- what stays of a rest stood in it
 stayed : (front behind : List Record) (taken x : Record) → Contains (front ++ behind) x → Contains (front ++ taken ∷ behind) x

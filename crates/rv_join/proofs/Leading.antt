@@ -5,6 +5,7 @@ use Rattle.std.specs.List.Sorted.{IsPermutation}
 use Rattle.std.proofs.lemmas.List.Elements.{Contains-append_right}
 use Rattle.std.proofs.lemmas.List.Sorted.{IsPermutation-refl, IsPermutation-sym, IsPermutation-append_comm, IsPermutation-append_left, IsPermutation-append_right, IsPermutation-trans, Contains-permutation}
 use Rattle.std.proofs.lemmas.List.Concat.{flat_map-append}
+use Rattle.std.proofs.lemmas.List.{append-nil}
 use Rattle.rv_value.specs.declared.value.Value.{Value}
 use Rattle.rv_model.specs.declared.state.Offer.{Offer}
 use Rattle.rv_reader.specs.Shown.{Shown}
@@ -12,10 +13,10 @@ use Rattle.rv_join.specs.declared.places.Asked.{Asked}
 use Rattle.rv_join.specs.declared.level.Level.{Level}
 use Rattle.rv_join.specs.Levels.{given_in, over_held, over_rest, over_row, still}
 use Rattle.rv_join.specs.Order.{Lead}
-use Rattle.rv_join.proofs.Opening.{append_nil, assoc}
+use Rattle.rv_join.proofs.Opening.{assoc}
 
 pub bag_more : (a : Asked) (shown : Shown) (ls : List Level) (l : Level) → flat_map (still a shown) (ls ++ l ∷ []) ≡ flat_map (still a shown) ls ++ still a shown l
-bag_more a shown ls l = flat_map-append (still a shown) ls (l ∷ []) ∙ ap (λ x. flat_map (still a shown) ls ++ x) (append_nil (still a shown l))
+bag_more a shown ls l = flat_map-append (still a shown) ls (l ∷ []) ∙ ap (λ x. flat_map (still a shown) ls ++ x) (append-nil (still a shown l))
 
 -- an item of a permutation's part
 pub stands_in : {A : Type 0} (xs more ys : List A) (d : A) → IsPermutation xs (more ++ ys) → Contains ys d → Contains xs d
@@ -31,8 +32,8 @@ given_at a shown f ls old new p = IsPermutation-append_right (over_held a shown 
 
 -- the innermost level is left
 pub given_up : (a : Asked) (shown : Shown) (above : List Level) (l at : Level) → still a shown at ≡ [] → given_in a shown (above ++ l ∷ []) at ≡ given_in a shown above l
-given_up a shown [] l at none = rw none (append_nil (over_held a shown l l.row))
-given_up a shown (f ∷ ls) l at none = ap (λ x. over_held a shown f f.row ++ x) (rw (none, bag_more a shown ls l) (append_nil (flat_map (still a shown) ls ++ still a shown l)))
+given_up a shown [] l at none = rw none (append-nil (over_held a shown l l.row))
+given_up a shown (f ∷ ls) l at none = ap (λ x. over_held a shown f f.row ++ x) (rw (none, bag_more a shown ls l) (append-nil (flat_map (still a shown) ls ++ still a shown l)))
 
 turned : {A : Type 0} (x y z : List A) → IsPermutation (x ++ (y ++ z)) ((x ++ z) ++ y)
 turned x y z = rw (assoc x z y) (IsPermutation-append_right x (y ++ z) (z ++ y) (IsPermutation-append_comm y z))
@@ -53,7 +54,7 @@ fronted x y z = subst (λ l. IsPermutation (x ++ (y ++ z)) l) (assoc y x z) (sub
 
 -- the row that is held is used
 pub given_used : (a : Asked) (shown : Shown) (above : List Level) (at : Level) (row : List Value) → at.row ≡ Some row → IsPermutation (given_in a shown above at) (over_row a shown at row ++ given_in a shown above (record at { row = None }))
-given_used a shown [] at row e = rw (e, append_nil (over_row a shown at row)) (IsPermutation-refl _)
+given_used a shown [] at row e = rw (e, append-nil (over_row a shown at row)) (IsPermutation-refl _)
 given_used a shown (f ∷ ls) at row e = rw e (IsPermutation-trans _ _ _ (IsPermutation-append_right (over_held a shown f f.row) _ _ (fronted (flat_map (still a shown) ls) (over_row a shown at row) (over_rest a shown at))) (fronted (over_held a shown f f.row) (over_row a shown at row) (flat_map (still a shown) ls ++ over_rest a shown at)))
 
 pub bag_used : (a : Asked) (shown : Shown) (above : List Level) (at : Level) (row : List Value) → at.row ≡ Some row → IsPermutation (flat_map (still a shown) above ++ still a shown at) (over_row a shown at row ++ (flat_map (still a shown) above ++ still a shown (record at { row = None })))

@@ -2,7 +2,7 @@
 use Rattle.std.proofs.Common.{◌≡◌, ◌≢◌, ℕ, List, [], ◌∷◌, ◌++◌, Bool, true, false, cond, ◌&&◌, ◌||◌, ◌==◌, nat_eq, refl, sym, ◌∙◌, ap, subst, arith}
 use Rattle.std.specs.List.{list_any}
 use Rattle.std.proofs.lemmas.Bool.Decides.{nat_tests}
-use Rattle.std.proofs.lemmas.Bool.{and_from}
+use Rattle.std.proofs.lemmas.Bool.{and_from, or_left, or_right}
 use Rattle.std.specs.Cmp.{first_so, second_so}
 use Rattle.rv_restrict.specs.declared.atom.ColRef.{ColRef}
 use Rattle.rv_restrict.specs.declared.atom.Operand.TheVariants.{Literal, Column}
@@ -16,12 +16,6 @@ use Rattle.rv_join.specs.Asking.{Adds, asked_uses, atom_names, col_at, group_nam
 
 pub same_itself : (c : ColRef) → same_column c c ≡ true
 same_itself c = grind (arith, nat_tests)
-
-pub or_left : (a b : Bool) → a ≡ true → (a || b) ≡ true
-or_left a b h = grind arith
-
-pub or_right : (a b : Bool) → b ≡ true → (a || b) ≡ true
-or_right a b h = grind arith
 
 atom_named : (q : ColRef → Bool) (a : Atom) → ((c : ColRef) → atom_names c a ≡ true → q c ≡ true) → atom_names_only q a ≡ true
 atom_named q (Compare c op (Literal v)) h = and_from (q c) true (h c (or_left (same_column c c) false (same_itself c))) refl

@@ -31,10 +31,6 @@ pub assoc : {B : Type 0} (a b c : List B) → (a ++ b) ++ c ≡ a ++ (b ++ c)
 assoc [] b c = refl
 assoc (x ∷ a) b c = ap (λ l. x ∷ l) (assoc a b c)
 
-pub append_nil : {A : Type 0} (xs : List A) → xs ++ [] ≡ xs
-append_nil [] = refl
-append_nil (x ∷ xs) = ap (λ l. x ∷ l) (append_nil xs)
-
 -- one item's part goes to the front
 pub flat_out : {A B : Type 0} (f : A → List B) (front : List A) (x : A) (behind : List A) → IsPermutation (flat_map f (front ++ x ∷ behind)) (f x ++ flat_map f (front ++ behind))
 flat_out f front x behind = rw (flat_map-append f front (x ∷ behind), flat_map-append f front behind) (swapped (flat_map f front) (f x) (flat_map f behind))

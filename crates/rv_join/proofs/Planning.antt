@@ -3,6 +3,7 @@ use Rattle.std.proofs.Common.{◌≡◌, ◌+◌, ◌<◌, ◌≤◌, List, ◌�
 use Rattle.std.specs.Cmp.{IsStrictWeakOrder}
 use Rattle.std.specs.List.Sorted.{IsPermutation, IsSortedBy}
 use Rattle.std.proofs.lemmas.List.Sorted.{IsPermutation-refl, IsPermutation-append, IsPermutation-append_right, IsPermutation-middle, IsPermutation-trans, IsPermutation-sym, IsPermutation-reverse, ranks_by, sorted_far}
+use Rattle.std.proofs.lemmas.List.{append-nil}
 use Rattle.rv_value.proofs.Tests.{no_way}
 use Rattle.rv_value.specs.Orders.{values_cmp_total}
 use Rattle.rv_model.specs.declared.state.Offer.{Offer}
@@ -17,7 +18,6 @@ use Rattle.rv_join.specs.Levels.{Stacked, StackFits, bag}
 use Rattle.rv_join.specs.Moves.{Kept, Moves, Takes}
 use Rattle.rv_join.specs.Order.{before}
 use Rattle.rv_join.specs.Plans.{GathersAll, GathersMore, Gives, GivesOne, HoldsGood, Planned, PlanKept, PlanMoves, Sorts, StepsTo, WorkTo, plan_rest, plan_work, step_of}
-use Rattle.rv_join.proofs.Opening.{append_nil}
 use Rattle.rv_join.specs.Work.{loops_work}
 use Rattle.rv_join.proofs.Stacking.{none_before}
 use Rattle.rv_join.proofs.Working.{less_le, same_le}
@@ -169,7 +169,7 @@ all_moves shown m old mid sorted new holds stage all gathered sorts gives same =
     record { asked = moves.asked ∙ ap (λ (p : Planned). p.asked) sorts.same ∙ ap (λ (p : Planned). p.asked) gathered; step = stepped m moves.step; work = worked m gives }
   where
     old_is : plan_rest shown old ≡ old.gathered
-    old_is = rw (stage, all.none) (append_nil old.gathered)
+    old_is = rw (stage, all.none) (append-nil old.gathered)
 
     sorted_is : plan_rest shown sorted ≡ sorted.gathered
     sorted_is = rw sorts.same refl
@@ -200,4 +200,4 @@ all_failed (Ok m) shown old mid sorted new stage all gathered sorts err = tt
 all_failed (Err e) shown old mid sorted new stage all gathered sorts err = rw (err, sorts.same, gathered) (record { asked = refl; rest_kept = rw old_is (rw (← all.offers) sorts.moved); work = all.kept.work })
   where
     old_is : plan_rest shown old ≡ old.gathered
-    old_is = rw (stage, all.none) (append_nil old.gathered)
+    old_is = rw (stage, all.none) (append-nil old.gathered)

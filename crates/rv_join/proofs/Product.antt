@@ -1,10 +1,11 @@
 -- Nested loops over bound restrictions give the offers of the definition, in the same order.
 use Rattle.std.proofs.Common.{◌≡◌, ℕ, ◌+◌, ◌<◌, List, [], ◌∷◌, ◌++◌, filter, length, map, Bool, true, false, not, cond, ◌&&◌, ◌||◌, ◌==◌, refl, ap, sym, ◌∙◌, arith, subst, nat_le, nat_lt, max, slice_index_or, suc}
 use Rattle.std.specs.List.{list_all, flat_map}
-use Rattle.std.proofs.lemmas.List.{append_assoc, get_or_append_left}
+use Rattle.std.proofs.lemmas.List.{append_assoc, get_or_append_left, append-nil}
 use Rattle.std.proofs.lemmas.Bool.Decides.{nat_tests}
 use Rattle.std.proofs.lemmas.Grind.{common_steps}
-use Rattle.std.proofs.lemmas.Bool.{and_from}
+use Rattle.std.proofs.lemmas.Bool.{and_from, lt-ltb}
+use Rattle.std.proofs.lemmas.List.Elements.{filter-append}
 use Rattle.rv_value.specs.declared.value.Value.{Value}
 use Rattle.rv_value.specs.declared.value.Value.TheVariants.{Null}
 use Rattle.rv_value.specs.declared.record.Record.{Record}
@@ -22,11 +23,6 @@ use Rattle.rv_join.specs.declared.places.Asked.{Asked}
 use Rattle.rv_join.specs.Asking.{holds}
 use Rattle.rv_join.specs.Levels.{offered, table_rows, under}
 use Rattle.rv_model.specs.Offering.{choices, is_kept}
-use Rattle.rv_join.proofs.Opening.{append_nil}
-
-filter_append : {A : Type 0} (p : A → Bool) (xs ys : List A) → filter p (xs ++ ys) ≡ filter p xs ++ filter p ys
-filter_append p [] ys = refl
-filter_append p (x ∷ xs) ys = let tail = filter_append p xs ys in elim (p x) as (λ b. cond b (x ∷ filter p (xs ++ ys)) (filter p (xs ++ ys)) ≡ cond b (x ∷ filter p xs) (filter p xs) ++ filter p ys) [ true ↦ ap (λ l. x ∷ l) tail | false ↦ tail ]
 
 map_append : {A B : Type 0} (f : A → B) (xs ys : List A) → map f (xs ++ ys) ≡ map f xs ++ map f ys
 map_append f [] ys = refl
@@ -38,14 +34,14 @@ filter_none (x ∷ xs) = filter_none xs
 
 -- two tests that agree on every choice that begins so
 choices_same : (rows : ℕ → List Record) (ts : List ℕ) (outer : List (List Value)) (p q : List (List Value) → Bool) → ((more : List (List Value)) → p (outer ++ more) ≡ q (outer ++ more)) → filter p (choices rows ts outer) ≡ filter q (choices rows ts outer)
-choices_same rows [] outer p q h = ap (λ b. cond b (outer ∷ []) []) (subst (λ c. p c ≡ q c) (append_nil outer) (h []))
+choices_same rows [] outer p q h = ap (λ b. cond b (outer ∷ []) []) (subst (λ c. p c ≡ q c) (append-nil outer) (h []))
 choices_same rows (t ∷ ts) outer p q h = all (λ r. choices_same rows ts (outer ++ r.values ∷ []) p q (λ more. rw (append_assoc outer (r.values ∷ []) more) (h (r.values ∷ more)))) (rows t)
   where
     all : ((r : Record) → filter p (choices rows ts (outer ++ r.values ∷ [])) ≡ filter q (choices rows ts (outer ++ r.values ∷ []))) → (some : List Record) → filter p (flat_map (λ (r : Record). choices rows ts (outer ++ r.values ∷ [])) some) ≡ filter q (flat_map (λ (r : Record). choices rows ts (outer ++ r.values ∷ [])) some)
     all each [] = refl
     all each (r ∷ some) =
         let here = each r in
-        filter_append p (choices rows ts (outer ++ r.values ∷ [])) _ ∙ ap (λ l. l ++ filter p (flat_map (λ (r : Record). choices rows ts (outer ++ r.values ∷ [])) some)) here ∙ ap (λ l. filter q (choices rows ts (outer ++ r.values ∷ [])) ++ l) (all each some) ∙ sym (filter_append q (choices rows ts (outer ++ r.values ∷ [])) _)
+        filter-append p (choices rows ts (outer ++ r.values ∷ [])) _ ∙ ap (λ l. l ++ filter p (flat_map (λ (r : Record). choices rows ts (outer ++ r.values ∷ [])) some)) here ∙ ap (λ l. filter q (choices rows ts (outer ++ r.values ∷ [])) ++ l) (all each some) ∙ sym (filter-append q (choices rows ts (outer ++ r.values ∷ [])) _)
 
 -- The groups of a place read no row after it.
 
@@ -55,16 +51,13 @@ max_left a b n h = grind (arith, h)
 max_right : (a b n : ℕ) → max a b < n → b < n
 max_right a b n h = grind (arith, h)
 
-below_test : (p n : ℕ) → p < n → nat_lt p n ≡ true
-below_test p n h = grind (arith, nat_tests, h)
-
 atom_below : (n : ℕ) (a : Atom) → atom_place a < n → atom_names_only (λ (c : ColRef). nat_lt c.place n) a ≡ true
-atom_below n (Compare c op (Literal v)) h = and_from (nat_lt c.place n) true (below_test c.place n (max_left c.place 0 n h)) refl
-atom_below n (Compare c op (Column d)) h = and_from (nat_lt c.place n) (nat_lt d.place n) (below_test c.place n (max_left c.place d.place n h)) (below_test d.place n (max_right c.place d.place n h))
-atom_below n (Between c low high) h = below_test c.place n h
-atom_below n (Among c list) h = below_test c.place n h
-atom_below n (IsNull c negated) h = below_test c.place n h
-atom_below n (Starts c text) h = below_test c.place n h
+atom_below n (Compare c op (Literal v)) h = and_from (nat_lt c.place n) true (lt-ltb c.place n (max_left c.place 0 n h)) refl
+atom_below n (Compare c op (Column d)) h = and_from (nat_lt c.place n) (nat_lt d.place n) (lt-ltb c.place n (max_left c.place d.place n h)) (lt-ltb d.place n (max_right c.place d.place n h))
+atom_below n (Between c low high) h = lt-ltb c.place n h
+atom_below n (Among c list) h = lt-ltb c.place n h
+atom_below n (IsNull c negated) h = lt-ltb c.place n h
+atom_below n (Starts c text) h = lt-ltb c.place n h
 atom_below n (Const t) h = refl
 
 group_below : (n : ℕ) (g : List Atom) → group_place g < n → group_names_only (λ (c : ColRef). nat_lt c.place n) g ≡ true
@@ -169,7 +162,7 @@ under_is a shown (t ∷ ts) outer named = all (λ r. under_is a shown ts (outer 
     all : ((r : Record) → Inner r) → (rows : List Record) → flat_map (λ (r : Record). under a shown ts (outer ++ r.values ∷ [])) (filter (λ (r : Record). holds a.only (length outer) (outer ++ r.values ∷ [])) rows) ≡ map (offered a) (filter (later a.only (length outer)) (flat_map (λ (r : Record). choices (table_rows shown a.snap) ts (outer ++ r.values ∷ [])) rows))
     all each [] = refl
     all each (r ∷ rows) =
-        rw (filter_append (later a.only (length outer)) (choices (table_rows shown a.snap) ts (outer ++ r.values ∷ [])) (flat_map (λ (r : Record). choices (table_rows shown a.snap) ts (outer ++ r.values ∷ [])) rows), map_append (offered a) (filter (later a.only (length outer)) (choices (table_rows shown a.snap) ts (outer ++ r.values ∷ []))) (filter (later a.only (length outer)) (flat_map (λ (r : Record). choices (table_rows shown a.snap) ts (outer ++ r.values ∷ [])) rows)), ← one r (each r) _ refl, ← all each rows) (split (holds a.only (length outer) (outer ++ r.values ∷ [])) r rows)
+        rw (filter-append (later a.only (length outer)) (choices (table_rows shown a.snap) ts (outer ++ r.values ∷ [])) (flat_map (λ (r : Record). choices (table_rows shown a.snap) ts (outer ++ r.values ∷ [])) rows), map_append (offered a) (filter (later a.only (length outer)) (choices (table_rows shown a.snap) ts (outer ++ r.values ∷ []))) (filter (later a.only (length outer)) (flat_map (λ (r : Record). choices (table_rows shown a.snap) ts (outer ++ r.values ∷ [])) rows)), ← one r (each r) _ refl, ← all each rows) (split (holds a.only (length outer) (outer ++ r.values ∷ [])) r rows)
       where
         split : (b : Bool) (r : Record) (rows : List Record) → flat_map (λ (r : Record). under a shown ts (outer ++ r.values ∷ [])) (cond b (r ∷ filter (λ (r : Record). holds a.only (length outer) (outer ++ r.values ∷ [])) rows) (filter (λ (r : Record). holds a.only (length outer) (outer ++ r.values ∷ [])) rows)) ≡ cond b (under a shown ts (outer ++ r.values ∷ [])) [] ++ flat_map (λ (r : Record). under a shown ts (outer ++ r.values ∷ [])) (filter (λ (r : Record). holds a.only (length outer) (outer ++ r.values ∷ [])) rows)
         split true r rows = refl

@@ -4,7 +4,7 @@ use Rattle.std.specs.List.{AllByRecursion, IsDistinct, list_all, list_any}
 use Rattle.std.proofs.lemmas.Bool.Decides.{nat_tests}
 use Rattle.std.proofs.lemmas.List.{get_or_append_left}
 use Rattle.std.specs.Cmp.{first_so, second_so}
-use Rattle.std.proofs.lemmas.Bool.{and_from}
+use Rattle.std.proofs.lemmas.Bool.{and_from, or_left, or_right}
 use Rattle.rv_rows.specs.Rows.{Ascend}
 use Rattle.rv_restrict.specs.declared.atom.ColRef.{ColRef}
 use Rattle.rv_restrict.specs.declared.atom.Atom.{Atom}
@@ -25,7 +25,7 @@ use Rattle.rv_model.specs.Offering.{offers_over}
 use Rattle.rv_join.specs.Order.{IsByFirst}
 use Rattle.rv_join.specs.Plans.{stage_of}
 use Rattle.rv_join.proofs.Binding.{last_row}
-use Rattle.rv_join.proofs.Naming.{or_left, or_right, same_itself}
+use Rattle.rv_join.proofs.Naming.{same_itself}
 use Rattle.rv_join.proofs.Product.{are_placed, loops_are}
 
 -- an index of a later number is another

@@ -3,6 +3,7 @@ use Rattle.std.proofs.Common.{◌≡◌, ℕ, ◌+◌, ◌-◌, ◌≤◌, List,
 use Rattle.std.specs.List.{list_any, flat_map}
 use Rattle.std.proofs.lemmas.List.{append_assoc, append-nil, replicate_more}
 use Rattle.std.proofs.lemmas.Grind.{common_steps}
+use Rattle.std.proofs.lemmas.Bool.{or_left, or_right}
 use Rattle.rv_value.specs.declared.value.Value.{Value}
 use Rattle.rv_value.specs.declared.value.Value.TheVariants.{Null}
 use Rattle.rv_value.specs.declared.record.Record.{Record}
@@ -16,7 +17,7 @@ use Rattle.rv_join.specs.declared.places.Asked.{Asked}
 use Rattle.rv_join.specs.Asking.{asked_uses, col_at, holds, only_names, same_column}
 use Rattle.rv_join.specs.Levels.{under, widened}
 use Rattle.rv_model.specs.Offering.{picked_over}
-use Rattle.rv_join.proofs.Naming.{or_left, or_right, same_itself, uses_taken}
+use Rattle.rv_join.proofs.Naming.{same_itself, uses_taken}
 
 pub record Alike (a : Asked) (x y : List (List Value)) : Type 0 where
   pub long : length x ≡ length y

@@ -3,7 +3,7 @@ use Rattle.std.proofs.Common.{◌≡◌, ℕ, ◌+◌, ◌<◌, List, [], ◌∷
 use Rattle.std.specs.List.{flat_map}
 use Rattle.std.specs.List.Sorted.{IsPermutation}
 use Rattle.std.proofs.lemmas.Bool.Decides.{nat_tests}
-use Rattle.std.proofs.lemmas.List.{drop_all}
+use Rattle.std.proofs.lemmas.List.{drop_all, append-nil, nil_from_length}
 use Rattle.std.proofs.lemmas.List.Elements.{Contains-append_left}
 use Rattle.std.proofs.lemmas.List.Sorted.{Contains-permutation, IsPermutation-refl, IsPermutation-append_right, IsPermutation-sym, IsPermutation-trans, length_permutation}
 use Rattle.std.proofs.lemmas.Grind.{common_steps}
@@ -20,7 +20,6 @@ use Rattle.rv_join.specs.Moves.{Descends, Kept, LevelMoves, Moves, Takes}
 use Rattle.rv_join.specs.Work.{level_work, levels_work, loops_work}
 use Rattle.rv_join.specs.Order.{IsByFirst, Lead}
 use Rattle.rv_join.proofs.Leading.{bag_down, bag_more, bag_used, given_at, given_down, given_up, given_used, lead_less, stands_in}
-use Rattle.rv_join.proofs.Opening.{append_nil}
 use Rattle.rv_join.proofs.Working.{down_work, given_work, le_le, le_less, less_le, same_le, sums_le, sums_less, up_work}
 
 fit_more : (a : Asked) (shown : Shown) (place : ℕ) (ls : List Level) (l : Level) → AllFit a shown place ls → length l.outer ≡ place + length ls → LevelFits a shown l → AllFit a shown place (ls ++ l ∷ [])
@@ -40,12 +39,8 @@ fit_less a shown place (x ∷ ls) l all = let tail = fit_less a shown (place + 1
 stack_is : (above : List Level) (at : Level) (openings : ℕ) → Stacked
 stack_is above at openings = record { above = above; at = at; openings = openings }
 
-no_outer : {A : Type 0} (xs : List A) → length xs ≡ 0 → xs ≡ []
-no_outer [] h = refl
-no_outer (x ∷ xs) h = absurd (omega (arith, h))
-
 led_at : (a : Asked) (shown : Shown) (above : List Level) (old new : Level) (n : ℕ) → length old.outer ≡ length above → LevelMoves a shown old new → IsByFirst a → Lead (given_in a shown above old) (flat_map (still a shown) above ++ still a shown old) → Lead (given_in a shown above new) (flat_map (still a shown) above ++ still a shown new)
-led_at a shown [] old new n deep moves by led = moves.led (no_outer old.outer deep) by led
+led_at a shown [] old new n deep moves by led = moves.led (nil_from_length old.outer deep) by led
 led_at a shown (f ∷ ls) old new n deep moves by led = lead_less (given_in a shown (f ∷ ls) old) (flat_map (still a shown) (f ∷ ls) ++ still a shown old) [] (given_in a shown (f ∷ ls) new) [] (flat_map (still a shown) (f ∷ ls) ++ still a shown new) (given_at a shown f ls old new moves.bag) (IsPermutation-append_right (flat_map (still a shown) (f ∷ ls)) (still a shown old) (still a shown new) moves.bag) led
 
 -- the innermost level alone moves
@@ -119,7 +114,7 @@ pub climbs : (a : Asked) (shown : Shown) (old new : Stacked) → StackFits a sho
 climbs a shown old new fits none up =
     let all = fit_less a shown 0 new.above new.at (rw (← up) fits.above) in
     let deep = all.deep in
-    let same : bag a shown old ≡ bag a shown new = rw (up, none, bag_more a shown new.above new.at) (append_nil (flat_map (still a shown) new.above ++ still a shown new.at)) in
+    let same : bag a shown old ≡ bag a shown new = rw (up, none, bag_more a shown new.above new.at) (append-nil (flat_map (still a shown) new.above ++ still a shown new.at)) in
     let held : given a shown old ≡ given a shown new = rw up (given_up a shown new.above new.at old.at none) in
     let less : loops_work a shown new < loops_work a shown old = rw up (up_work a shown new.above new.at old.at) in (
       record {

@@ -7,6 +7,7 @@ use Rattle.std.specs.Map.{lookup}
 use Rattle.std.proofs.lemmas.Bool.{cases_Bool, and_parts}
 use Rattle.std.proofs.lemmas.Bool.Decides.{nat_tests}
 use Rattle.std.proofs.lemmas.List.{map-append, take-append-drop, take_more}
+use Rattle.std.proofs.lemmas.List.Elements.{filter_agree}
 use Rattle.rv_value.specs.declared.value.Value.{Value}
 use Rattle.rv_value.proofs.Lists.{passes_take}
 use Rattle.rv_rows.specs.declared.changes.Change.{Change}
@@ -80,10 +81,6 @@ first_others table row (c ∷ cs) rise none = elim (cases_Bool (comes_before tab
 
 -- ---- and from a table on
 
-filter_is : (p q : Change → Bool) → ((c : Change) → p c ≡ q c) → (cs : List Change) → filter p cs ≡ filter q cs
-filter_is p q each [] = refl
-filter_is p q each (c ∷ cs) = rw (each c, filter_is p q each cs) refl
-
 least_row : (table : ℕ) (c : Change) → not (comes_before table 0 c) ≡ is_from table c
 least_row table c = elim (cases_Bool (nat_lt c.table table)) [
   | inl low ↦ rw low refl
@@ -91,7 +88,7 @@ least_row table c = elim (cases_Bool (nat_lt c.table table)) [
 ]
 
 pub from_least_row : (table : ℕ) (cs : List Change) → from_row table 0 cs ≡ filter (is_from table) cs
-from_least_row table cs = filter_is (λ (c : Change). not (comes_before table 0 c)) (is_from table) (least_row table) cs
+from_least_row table cs = filter_agree (λ (c : Change). not (comes_before table 0 c)) (is_from table) (least_row table) cs
 
 -- the first of them tells whether the table is touched
 pub touches_listed : (table : ℕ) (cs : List Change) → Rise cs → begins_in table (filter (is_from table) cs) ≡ touches table cs

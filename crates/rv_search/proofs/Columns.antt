@@ -1,6 +1,6 @@
 -- A restriction that names columns of the first place alone names those that it names.
-use Rattle.std.proofs.Common.{◌≡◌, ℕ, List, [], ◌∷◌, ◌++◌, Bool, true, ◌||◌, ◌==◌, refl, inl, inr, arith}
-use Rattle.std.proofs.lemmas.Bool.{cases_Bool, and_from}
+use Rattle.std.proofs.Common.{◌≡◌, ℕ, List, [], ◌∷◌, ◌++◌, Bool, true, ◌==◌, refl, inl, inr}
+use Rattle.std.proofs.lemmas.Bool.{cases_Bool, and_from, or_left, or_right}
 use Rattle.std.specs.Cmp.{first_so, second_so}
 use Rattle.rv_restrict.specs.declared.atom.ColRef.{ColRef}
 use Rattle.rv_restrict.specs.declared.atom.Operand.TheVariants.{Literal, Column}
@@ -11,12 +11,6 @@ use Rattle.rv_restrict.specs.Parts.{stands_among}
 use Rattle.rv_restrict.specs.Truth.{atom_names_only, group_names_only, is_home, names_only}
 use Rattle.rv_restrict.proofs.Tests.{is_itself}
 use Rattle.rv_search.specs.Named.{atom_columns, columns_named, group_columns}
-
-or_left : (a b : Bool) → a ≡ true → (a || b) ≡ true
-or_left a b h = grind arith
-
-or_right : (a b : Bool) → b ≡ true → (a || b) ≡ true
-or_right a b h = grind arith
 
 -- Columns that stand in a list.
 

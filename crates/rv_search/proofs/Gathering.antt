@@ -118,10 +118,6 @@ records_from c d e left same most few = omega (arith, same, most, few)
 
 -- What is known of a search that ended, and what is known however it went.
 
-pub ok_more : {A E : Type 0} (r : Result A E) (P Q : Type 0) → (P → Q) → OnOk r P → OnOk r Q
-ok_more (Ok a) P Q more h = more h
-ok_more (Err e) P Q more h = tt
-
 pub ok_anyway : {A E : Type 0} (r : Result A E) (P : Type 0) → P → OnOk r P
 ok_anyway (Ok a) P h = h
 ok_anyway (Err e) P h = tt

@@ -5,6 +5,7 @@ use Rattle.std.proofs.lemmas.Grind.{common_steps}
 use Rattle.std.proofs.lemmas.List.{get_or_append_left}
 use Rattle.std.specs.List.{list_all, list_any}
 use Rattle.std.specs.Cmp.{first_so, second_so}
+use Rattle.std.proofs.lemmas.Bool.{ltb-true}
 use Rattle.rv_value.proofs.Tests.{either}
 use Rattle.rv_value.specs.declared.record.Record.{Record}
 use Rattle.rv_restrict.specs.declared.atom.ColRef.{ColRef}
@@ -57,12 +58,9 @@ only_is q (g ∷ only) c all n = either (group_names c g) (only_names c only) n 
 uses_is : (s : Select) (c : ColRef) → IsOurs s → select_uses s c ≡ true → is_column (length s.tables) c ≡ true
 uses_is s c ours u = either (list_any (same_column c) s.returns) (list_any (same_column c) s.order || only_names c s.only) u (λ e. any_is (is_column (length s.tables)) s.returns c ours.returns e) (λ e. either (list_any (same_column c) s.order) (only_names c s.only) e (λ f. any_is (is_column (length s.tables)) s.order c ours.order f) (λ f. only_is (is_column (length s.tables)) s.only c ours.only f))
 
-below : (n m : ℕ) → nat_lt n m ≡ true → n < m
-below n m h = grind (arith, nat_tests, h)
-
 table_low : (tables : List ℕ) (p : ℕ) → list_all is_table tables ≡ true → p < length tables → slice_index_or tables p 0 < 4
 table_low [] p all le = absurd (omega (arith, le))
-table_low (t ∷ tables) zero all le = below t 4 (first_so (is_table t) (list_all is_table tables) all)
+table_low (t ∷ tables) zero all le = ltb-true t 4 (first_so (is_table t) (list_all is_table tables) all)
 table_low (t ∷ tables) (suc p) all le = table_low tables p (second_so (is_table t) (list_all is_table tables) all) (omega (arith, le))
 
 wide_has : (c : ℕ) (rows : List Record) → c < 3 → AreWide 3 rows → have_column c rows ≡ true
@@ -104,14 +102,14 @@ can_plan s indexes shown snap ours has offers =
       ascend = λ p le. offers.ascend (table_at s p) (table_low s.tables p ours.there le);
       read = λ p le. offers.read (table_at s p) (table_low s.tables p ours.there le);
       places = λ c u. inside c u;
-      columns = λ c u. wide_has c.column (shown.rows (table_at s c.place) snap) (below c.column 3 (second_so (nat_lt c.place (length s.tables)) (nat_lt c.column 3) (uses_is s c ours u))) (offers.wide (table_at s c.place) (table_low s.tables c.place ours.there (inside c u)));
+      columns = λ c u. wide_has c.column (shown.rows (table_at s c.place) snap) (ltb-true c.column 3 (second_so (nat_lt c.place (length s.tables)) (nat_lt c.column 3) (uses_is s c ours u))) (offers.wide (table_at s c.place) (table_low s.tables c.place ours.there (inside c u)));
       numbers = small (length indexes) has.count has.few long;
       each = λ i le. index_is indexes shown snap has.count i has.few has.are offers (omega (arith, le, long));
       few = λ p le. eight (length (indexes_from (table_at s p) 0 indexes)) (length indexes) has.count has.few (from_less (table_at s p) 0 indexes) long;
     }
   where
     inside : (c : ColRef) → select_uses s c ≡ true → c.place < length s.tables
-    inside c u = below c.place (length s.tables) (first_so (nat_lt c.place (length s.tables)) (nat_lt c.column 3) (uses_is s c ours u))
+    inside c u = ltb-true c.place (length s.tables) (first_so (nat_lt c.place (length s.tables)) (nat_lt c.column 3) (uses_is s c ours u))
 
     small : (n m : ℕ) → m ≤ 6 → n ≡ m → n < 2 ^ 32
     small n m few h = omega (arith, few, h)

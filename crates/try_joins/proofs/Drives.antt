@@ -1,13 +1,12 @@
 -- A drive gives what was due.
-use Rattle.std.proofs.Common.{◌≡◌, ◌∙◌, ap, List, [], ◌∷◌, ◌++◌, refl, sym, subst}
+use Rattle.std.proofs.Common.{◌≡◌, ◌∙◌, List, [], ◌∷◌, ◌++◌, sym, subst}
 use Rattle.std.specs.List.Sorted.{IsPermutation}
-use Rattle.std.proofs.lemmas.List.{append_assoc}
+use Rattle.std.proofs.lemmas.List.{append_assoc, append-nil}
 use Rattle.std.proofs.lemmas.List.Sorted.{IsPermutation-append_right, IsPermutation-refl, IsPermutation-trans}
 use Rattle.rv_model.specs.declared.state.Offer.{Offer}
 use Rattle.rv_reader.specs.Shown.{Shown}
-use Rattle.rv_join.specs.declared.plan.PlanStep.{PlanStep}
 use Rattle.rv_join.specs.declared.plan.PlanStep.TheVariants.{Row, End, Working}
-use Rattle.rv_join.specs.Plans.{GivesOne, PlanFits, PlanMoves, Planned, plan_rest}
+use Rattle.rv_join.specs.Plans.{PlanFits, PlanMoves, Planned, plan_rest}
 use Rattle.try_joins.specs.Driving.{Gives, Stays}
 
 pub gives_none : (shown : Shown) (p : Planned) → PlanFits shown p → Gives shown (plan_rest shown p) [] p
@@ -34,9 +33,5 @@ gives_end shown due given old new gives fits moves = record {
 pub gives_stays : (shown : Shown) (due given : List Offer) (old new : Planned) → Gives shown due given old → Stays shown old new → Gives shown due given new
 gives_stays shown due given old new gives stays = record { fits = stays.fits; whole = subst (λ l. IsPermutation due (given ++ l)) (sym stays.left) gives.whole }
 
-append_nil : {A : Type 0} (xs : List A) → xs ++ [] ≡ xs
-append_nil [] = refl
-append_nil (x ∷ xs) = ap (λ l. x ∷ l) (append_nil xs)
-
 pub given_all : (shown : Shown) (due given : List Offer) (p : Planned) → Gives shown due given p → plan_rest shown p ≡ [] → IsPermutation due given
-given_all shown due given p gives none = subst (IsPermutation due) (append_nil given) (subst (λ l. IsPermutation due (given ++ l)) none gives.whole)
+given_all shown due given p gives none = subst (IsPermutation due) (append-nil given) (subst (λ l. IsPermutation due (given ++ l)) none gives.whole)

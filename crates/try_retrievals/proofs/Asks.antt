@@ -7,6 +7,7 @@ use Rattle.std.proofs.lemmas.Bool.Decides.{nat_tests}
 use Rattle.std.proofs.lemmas.Cmp.{nat_eq_equiv}
 use Rattle.std.proofs.lemmas.Map.Keys.{IsDistinct-push}
 use Rattle.std.specs.List.{AllByRecursion, IsDistinct, list_any}
+use Rattle.std.proofs.lemmas.Bool.{and_from}
 use Rattle.rv_value.specs.declared.record.Record.{Record}
 use Rattle.rv_value.specs.declared.value.Value.{Value}
 use Rattle.rv_restrict.specs.declared.atom.Atom.{Atom}
@@ -87,18 +88,15 @@ our_indexes shown query (i ∷ indexes) table offers ours = (our_index shown que
 
 -- The restriction.
 
-both_true : (a b : Bool) → a ≡ true → b ≡ true → (a && b) ≡ true
-both_true a b h i = grind arith
-
 and_true : (a : Bool) → (a && true) ≡ a
 and_true true = refl
 and_true false = refl
 
 atoms_more : (p : ColRef → Bool) (xs ys : List Atom) → group_names_only p xs ≡ true → group_names_only p ys ≡ true → group_names_only p (xs ++ ys) ≡ true
-atoms_more p xs ys h i = list_all-append (atom_names_only p) xs ys ∙ both_true (group_names_only p xs) (group_names_only p ys) h i
+atoms_more p xs ys h i = list_all-append (atom_names_only p) xs ys ∙ and_from (group_names_only p xs) (group_names_only p ys) h i
 
 groups_more : (p : ColRef → Bool) (xs ys : List (List Atom)) → names_only p xs ≡ true → names_only p ys ≡ true → names_only p (xs ++ ys) ≡ true
-groups_more p xs ys h i = list_all-append (group_names_only p) xs ys ∙ both_true (names_only p xs) (names_only p ys) h i
+groups_more p xs ys h i = list_all-append (group_names_only p) xs ys ∙ and_from (names_only p xs) (names_only p ys) h i
 
 atom_named : (p : ColRef → Bool) (column : ℕ) (span : Option Span) → p (record { place = 0; column = column }) ≡ true → group_names_only p (span_atoms column span) ≡ true
 atom_named p column None h = refl

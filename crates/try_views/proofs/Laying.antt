@@ -4,6 +4,7 @@ use Rattle.std.specs.Prelude.{slice_get}
 use Rattle.std.specs.List.{IsDistinct}
 use Rattle.std.proofs.lemmas.Bool.Decides.{nat_tests}
 use Rattle.std.proofs.lemmas.Map.Keys.{IsDistinct-cons}
+use Rattle.std.proofs.lemmas.Option.{same_Some}
 use Rattle.rv_value.specs.declared.record.IndexEntry.{IndexEntry}
 use Rattle.rv_rows.specs.declared.changes.Change.{Change}
 use Rattle.rv_rows.specs.Changes.{is_before}
@@ -25,15 +26,12 @@ suits_all shown index snap = record { entries = long_all (shown.entries index sn
 
 -- One index.
 
-def_is : (d e : IndexDef) → Some d ≡ Some e → d ≡ e
-def_is d e is = cc
-
 over_first : (shown : Shown) (d : IndexDef) (index : ℕ) (e : IndexDef) → shown.over 0 ≡ 0 → IsFirst d → slice_get (d ∷ []) index ≡ Some e → shown.over index ≡ e.table
-over_first shown d zero e over first is = over ∙ sym first.table ∙ ap (λ (x : IndexDef). x.table) (def_is d e is)
+over_first shown d zero e over first is = over ∙ sym first.table ∙ ap (λ (x : IndexDef). x.table) (same_Some d e is)
 over_first shown d (suc n) e over first is = cc
 
 keys_first : (shown : Shown) (d : IndexDef) (index : ℕ) (e : IndexDef) → shown.keys 0 ≡ 0 ∷ [] → IsFirst d → slice_get (d ∷ []) index ≡ Some e → shown.keys index ≡ e.columns
-keys_first shown d zero e keys first is = keys ∙ sym first.columns ∙ ap (λ (x : IndexDef). x.columns) (def_is d e is)
+keys_first shown d zero e keys first is = keys ∙ sym first.columns ∙ ap (λ (x : IndexDef). x.columns) (same_Some d e is)
 keys_first shown d (suc n) e keys first is = cc
 
 one_index : (shown : Shown) (d : IndexDef) → shown.indexes ≡ 1 → shown.over 0 ≡ 0 → shown.keys 0 ≡ 0 ∷ [] → IsFirst d → AreIndexes shown (d ∷ [])

@@ -1,10 +1,11 @@
 use Rattle.std.proofs.Common.{Ok, ap, sym, ◌∙◌}
+use Rattle.std.proofs.lemmas.Result.{IfOk-weaker, on_err_weaker}
 use Rattle.rv_value.proofs.Lists.{on_err}
 use Rattle.rv_catalog.specs.declared.def.Resolved.{Resolved}
 use Rattle.rv_catalog.specs.declared.def.Resolved.TheVariants.{Fetch}
 use Rattle.rv_parse.specs.Reading.{statement_of}
-use Rattle.rv_core.proofs.Facts.{if_ok, if_ok_two}
-use Rattle.rv_core.proofs.Handling.{err_more, executes, handles_text, leaves_asked, leaves_text, ok_each}
+use Rattle.rv_core.proofs.Facts.{if_ok_two}
+use Rattle.rv_core.proofs.Handling.{executes, handles_text, leaves_asked, leaves_text, ok_each}
 use Rattle.rv_core.proofs.statements.answer.Goals as goal
 
 pub returns-in_err-place-clause-lost : goal.returns-in_err-place-clause-lost
@@ -23,7 +24,7 @@ pub returns-in-Ok-fetch_name-clause-ok : goal.returns-in-Ok-fetch_name-clause-ok
 returns-in-Ok-fetch_name-clause-ok g c =
     let asks = rw (c.catalog.ensures, c.at-statement.ensures.is, c.in_ok-place.ensures.is) at c.in-Ok.ensures.gives in
     let fetches = asks ∙ ap (λ (a : Resolved). Ok a) c.in-Ok-fetch_name.ensures.name in
-    if_ok c.fetch.result _ _ (λ replies k. executes (statement_of c.args.text.now) (Fetch c.in-Ok-fetch_name.name) _ _ _ replies fetches k) c.fetch.ensures.ok
+    IfOk-weaker c.fetch.result _ _ (λ replies k. executes (statement_of c.args.text.now) (Fetch c.in-Ok-fetch_name.name) _ _ _ replies fetches k) c.fetch.ensures.ok
 
 pub returns-in-Ok-fetch_name-clause-handles : goal.returns-in-Ok-fetch_name-clause-handles
 returns-in-Ok-fetch_name-clause-handles g c =
@@ -35,13 +36,13 @@ pub returns-in-Ok-fetch_name-clause-lost : goal.returns-in-Ok-fetch_name-clause-
 returns-in-Ok-fetch_name-clause-lost g c =
     let asks = rw (c.catalog.ensures, c.at-statement.ensures.is, c.in_ok-place.ensures.is) at c.in-Ok.ensures.gives in
     let fetches = asks ∙ ap (λ (a : Resolved). Ok a) c.in-Ok-fetch_name.ensures.name in
-    err_more c.fetch.result _ _ (λ k. leaves_asked _ _ (Ok (Fetch c.in-Ok-fetch_name.name)) _ _ _ _ fetches k) c.fetch.ensures.lost
+    on_err_weaker c.fetch.result (λ k. leaves_asked _ _ (Ok (Fetch c.in-Ok-fetch_name.name)) _ _ _ _ fetches k) c.fetch.ensures.lost
 
 pub returns-in-Err-clause-ok : goal.returns-in-Err-clause-ok
 returns-in-Err-clause-ok g c =
     let asks = rw (c.catalog.ensures, c.at-statement.ensures.is, c.in_ok-place.ensures.is) at c.in-Ok.ensures.gives in
     let other = asks ∙ ap (λ (a : Resolved). Ok a) (sym c.in-Err.ensures.other.0) in
-    if_ok c.perform.result _ _ (λ replies k. executes (statement_of c.args.text.now) c.in-Err.other _ _ _ replies other k) c.perform.ensures.ok
+    IfOk-weaker c.perform.result _ _ (λ replies k. executes (statement_of c.args.text.now) c.in-Err.other _ _ _ replies other k) c.perform.ensures.ok
 
 pub returns-in-Err-clause-handles : goal.returns-in-Err-clause-handles
 returns-in-Err-clause-handles g c =
@@ -53,7 +54,7 @@ pub returns-in-Err-clause-lost : goal.returns-in-Err-clause-lost
 returns-in-Err-clause-lost g c =
     let asks = rw (c.catalog.ensures, c.at-statement.ensures.is, c.in_ok-place.ensures.is) at c.in-Ok.ensures.gives in
     let other = asks ∙ ap (λ (a : Resolved). Ok a) (sym c.in-Err.ensures.other.0) in
-    err_more c.perform.result _ _ (λ k. leaves_asked _ _ (Ok c.in-Err.other) _ _ _ _ other k) c.perform.ensures.lost
+    on_err_weaker c.perform.result (λ k. leaves_asked _ _ (Ok c.in-Err.other) _ _ _ _ other k) c.perform.ensures.lost
 
 pub returns-in-Err-NoMemory-clause-lost : goal.returns-in-Err-NoMemory-clause-lost
 returns-in-Err-NoMemory-clause-lost g c = leaves_text _ _ _ _ _

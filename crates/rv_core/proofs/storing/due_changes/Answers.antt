@@ -1,7 +1,8 @@
 use Rattle.std.proofs.Common.{inl, refl}
 use Rattle.std.specs.Option.{option_copied}
+use Rattle.std.proofs.lemmas.Result.{IfErr-weaker, IfOk-weaker}
 use Rattle.rv_txn.proofs.Halving.{changing_unwritten}
-use Rattle.rv_core.proofs.Facts.{any_ok, if_err, if_ok}
+use Rattle.rv_core.proofs.Facts.{any_ok}
 use Rattle.rv_core.proofs.Putting.{found_due, found_fault}
 use Rattle.rv_core.proofs.storing.due_changes.Goals as goal
 
@@ -16,13 +17,13 @@ returns-in-Err-met_by-clause-asks g c = c.met_by.ensures.asks
 
 pub returns-clause-ok : goal.returns-clause-ok
 returns-clause-ok g c =
-    if_ok c.changing_found.result _ _ (λ new due.
+    IfOk-weaker c.changing_found.result _ _ (λ new due.
     found_due c.args.txns.now c.args.session c.args.table c.args.only.now (option_copied c.args.sets) ((g.S.Reader.shown c.args.store.now).rows c.args.table) c.in-Ok.own.now c.in-Ok-met_by.rows.items c.as_slice.result.now new.items
     c.in-Ok.ensures.ok c.in-Ok-met_by.ensures.rows c.as_slice.ensures.value due) c.changing_found.ensures.ok
 
 pub returns-clause-fault : goal.returns-clause-fault
 returns-clause-fault g c =
-    if_err c.changing_found.result _ _ (λ fault due.
+    IfErr-weaker c.changing_found.result _ _ (λ fault due.
     found_fault c.args.txns.now c.args.session c.args.table c.args.only.now (option_copied c.args.sets) ((g.S.Reader.shown c.args.store.now).rows c.args.table) c.in-Ok.own.now c.in-Ok-met_by.rows.items c.as_slice.result.now fault
     c.in-Ok.ensures.ok c.in-Ok-met_by.ensures.rows c.as_slice.ensures.value due) c.changing_found.ensures.fault
 

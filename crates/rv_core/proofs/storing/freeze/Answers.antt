@@ -1,8 +1,8 @@
 use Rattle.std.proofs.Common.{List, [], subst, sym}
+use Rattle.std.proofs.lemmas.Result.{IfOk-weaker}
 use Rattle.rv_catalog.specs.declared.def.IndexDef.{IndexDef}
 use Rattle.rv_own.specs.Views.{CanView}
 use Rattle.rv_model.specs.Transactions.{transaction_of}
-use Rattle.rv_core.proofs.Facts.{if_ok}
 use Rattle.rv_core.proofs.Putting.{can_view, frozen_owned, none_owned, nothing_new, own_at, owns, views_own}
 use Rattle.rv_core.proofs.storing.freeze.Goals as goal
 
@@ -20,7 +20,7 @@ pub returns-in-None-clause-freezes : goal.returns-in-None-clause-freezes
 returns-in-None-clause-freezes g c = none_owned c.args.txns.now.active c.args.session _ c.in-None.ensures
 
 pub returns-in-Some-clause-freezes : goal.returns-in-Some-clause-freezes
-returns-in-Some-clause-freezes g c = if_ok c.freeze.result _ _ (λ frozen k. frozen_owned (g.S.Reader.shown c.args.store.now) c.args.txns.now.active c.args.session c.in-Some.own.now frozen (owns c.args.txns.now.active c.args.session c.in-Some.own.now c.in-Some.ensures) k) c.freeze.ensures.freezes
+returns-in-Some-clause-freezes g c = IfOk-weaker c.freeze.result _ _ (λ frozen k. frozen_owned (g.S.Reader.shown c.args.store.now) c.args.txns.now.active c.args.session c.in-Some.own.now frozen (owns c.args.txns.now.active c.args.session c.in-Some.own.now c.in-Some.ensures) k) c.freeze.ensures.freezes
 
 pub returns-in-Some-clause-views : goal.returns-in-Some-clause-views
 returns-in-Some-clause-views g c =

@@ -1,5 +1,6 @@
-use Rattle.std.proofs.Common.{◌+◌, ◌≤◌, List, IfOk, ap, inl, refl, subst, sym, ◌∙◌}
+use Rattle.std.proofs.Common.{List, IfOk, ap, inl, refl, subst, sym, ◌∙◌}
 use Rattle.std.specs.Prelude.{IsPermutation}
+use Rattle.std.proofs.lemmas.Result.{IfOk-weaker, on_ok_weaker}
 use Rattle.rv_value.proofs.Lists.{on_err}
 use Rattle.rv_value.specs.declared.record.RowNo.{RowNo}
 use Rattle.rv_judge.specs.Counting.{reads}
@@ -8,8 +9,8 @@ use Rattle.rv_retrieval.specs.Runs.{Tells}
 use Rattle.rv_retrieval.specs.Shape.{RetrievalFits, Shape, rest}
 use Rattle.rv_retrieval.specs.Short.{fetches_left}
 use Rattle.rv_search.specs.Searching.{numbers}
-use Rattle.rv_search.proofs.Few.{few_found, few_owed, if_ok}
-use Rattle.rv_search.proofs.Gathering.{ok_anyway, ok_more, reads_from, records_from}
+use Rattle.rv_search.proofs.Few.{few_found, few_owed}
+use Rattle.rv_search.proofs.Gathering.{ok_anyway, reads_from, records_from}
 use Rattle.rv_search.proofs.Goings.{ran_lost, ran_out}
 use Rattle.rv_search.proofs.search.gathered.Goals as goal
 
@@ -29,7 +30,7 @@ returns-clause-found g c =
 pub returns-clause-reads : goal.returns-clause-reads
 returns-clause-reads g c =
     let shown = g.R.Reader.shown c.args.reader.now in
-    ok_more c.gathered_of-found.result (reads c.gathered_of-found.new.steps ≤ reads c.open.new.steps + effort c.in_ok-retrieval.retrieval.value shown) _ (reads_from c.args.steps.now c.open.new.steps c.gathered_of-found.new.steps (effort c.in_ok-retrieval.retrieval.value shown) (life_of c.args.query shown) c.in_ok-retrieval.ensures.life) (rw c.deref_mut.ensures.value at c.gathered_of-found.ensures.reads)
+    on_ok_weaker c.gathered_of-found.result (reads_from c.args.steps.now c.open.new.steps c.gathered_of-found.new.steps (effort c.in_ok-retrieval.retrieval.value shown) (life_of c.args.query shown) c.in_ok-retrieval.ensures.life) (rw c.deref_mut.ensures.value at c.gathered_of-found.ensures.reads)
 
 pub returns-clause-pages : goal.returns-clause-pages
 returns-clause-pages g c = λ short. ok_anyway c.gathered_of-found.result _ ((rw c.deref_mut.ensures.value at c.gathered_of-found.ensures.pages) (c.in_ok-retrieval.ensures.short short).0 ∙ c.open.ensures.only.pages)
@@ -38,7 +39,7 @@ pub returns-clause-records : goal.returns-clause-records
 returns-clause-records g c = λ short.
     (let few = c.in_ok-retrieval.ensures.short short in
     let left = fetches_left c.in_ok-retrieval.retrieval.value (g.R.Reader.shown c.args.reader.now) in
-    ok_more c.gathered_of-found.result (c.gathered_of-found.new.steps.records ≤ c.open.new.steps.records + left) _ (λ spent. records_from c.args.steps.now.records c.open.new.steps.records c.gathered_of-found.new.steps.records left c.open.ensures.only.records spent few.1) ((rw c.deref_mut.ensures.value at c.gathered_of-found.ensures.records) few.0))
+    on_ok_weaker c.gathered_of-found.result (λ spent. records_from c.args.steps.now.records c.open.new.steps.records c.gathered_of-found.new.steps.records left c.open.ensures.only.records spent few.1) ((rw c.deref_mut.ensures.value at c.gathered_of-found.ensures.records) few.0))
 
 pub returns-clause-unasked : goal.returns-clause-unasked
 returns-clause-unasked g c = λ short. ((rw c.deref_mut.ensures.value at c.gathered_of-found.ensures.unasked) (c.in_ok-retrieval.ensures.short short).0)
@@ -48,7 +49,7 @@ returns-clause-few g c = λ unordered short.
     (let shown = g.R.Reader.shown c.args.reader.now in
     let v = c.in_ok-retrieval.retrieval.value in
     let owed = few_owed c.args.query shown 0 0 v unordered c.in_ok-retrieval.ensures.opened c.in_ok-retrieval.ensures.fits (c.in_ok-retrieval.ensures.short short) in
-    if_ok c.gathered_of-found.result (λ found. IsPermutation (numbers (rest v shown)) found.items) _ (λ found all. few_found (rest v shown) found.items owed all) (rw c.deref_mut.ensures.value at c.gathered_of-found.ensures.found))
+    IfOk-weaker c.gathered_of-found.result (λ found. IsPermutation (numbers (rest v shown)) found.items) _ (λ found all. few_found (rest v shown) found.items owed all) (rw c.deref_mut.ensures.value at c.gathered_of-found.ensures.found))
 
 pub returns-in_err-retrieval-clause-lost : goal.returns-in_err-retrieval-clause-lost
 returns-in_err-retrieval-clause-lost g c = on_err _ _ (inl refl)

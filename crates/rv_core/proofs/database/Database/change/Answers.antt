@@ -1,8 +1,8 @@
 use Rattle.std.proofs.Common.{◌≡◌, Err}
 use Rattle.std.specs.Option.{option_copied}
+use Rattle.std.proofs.lemmas.Result.{IfOk-weaker}
 use Rattle.rv_core.proofs.Databases.{changes_standing}
 use Rattle.rv_core.proofs.Standing.{db_changed}
-use Rattle.rv_core.proofs.Facts.{if_ok}
 use Rattle.rv_core.proofs.Indexing.{refused_does}
 use Rattle.rv_core.proofs.Putting.{change_refused}
 use Rattle.rv_core.proofs.Searching.{touches_none}
@@ -29,7 +29,7 @@ returns-in-Err-Refused-clause-ok g c =
     let opens = seen shown c.self.inside.cursors in
     let why : changed_alone shown c.self.inside.catalog c.self.inside.txns c.args.session c.args.table (option_copied c.args.sets) c.args.only.now ≡ Err c.in-Err-Refused.refusal = (rw c.in-Err-Refused.field-0-is at c.in-Err-Refused.ensures.fault) in
     let refusal = change_refused shown c.self.inside.catalog c.self.inside.txns opens c.args.session c.args.table c.args.only.now (option_copied c.args.sets) c.in-Err-Refused.refusal why in
-    rw (c.in-Err-Refused.ensures.err, ← c.self.view_is) (if_ok c.refused.result _ _ (λ replies k. refused_does _ (stand_of shown c.self.inside.catalog c.self.inside.txns opens) _ replies refusal k) c.refused.ensures)
+    rw (c.in-Err-Refused.ensures.err, ← c.self.view_is) (IfOk-weaker c.refused.result _ _ (λ replies k. refused_does _ (stand_of shown c.self.inside.catalog c.self.inside.txns opens) _ replies refusal k) c.refused.ensures)
 
 pub returns-in-Err-Refused-clause-asks : goal.returns-in-Err-Refused-clause-asks
 returns-in-Err-Refused-clause-asks g c = rw (← c.self.view_is) c.change_rows.ensures.asks
@@ -44,4 +44,4 @@ pub returns-clause-found : goal.returns-clause-found
 returns-clause-found g c = rw (← c.self.view_is) (λ count touched. c.in-Ok.ensures.found)
 
 pub returns-in-Err-Refused-clause-found : goal.returns-in-Err-Refused-clause-found
-returns-in-Err-Refused-clause-found g c = if_ok c.refused.result _ _ (λ replies k. touches_none c.in-Err-Refused.refusal replies k.0) c.refused.ensures
+returns-in-Err-Refused-clause-found g c = IfOk-weaker c.refused.result _ _ (λ replies k. touches_none c.in-Err-Refused.refusal replies k.0) c.refused.ensures

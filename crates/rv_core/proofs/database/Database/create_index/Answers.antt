@@ -1,9 +1,9 @@
 use Rattle.std.proofs.Common.{◌∙◌, sym}
+use Rattle.std.proofs.lemmas.Result.{IfOk-weaker}
 use Rattle.rv_catalog.specs.Fits.{IsNewIndex}
 use Rattle.rv_core.proofs.Databases.{idle_sees, indexes_all, indexes_standing, sees_again, stand_again, standing_same}
 use Rattle.rv_core.proofs.Indexing.{equal_refused, few_room, index_alone, index_columns, newest_read, refused_does, rows_are_different, rows_are_equal}
 use Rattle.rv_core.specs.Db.{db_of, seen, stand_of}
-use Rattle.rv_core.proofs.Facts.{if_ok}
 use Rattle.rv_core.proofs.Owning.{views_idle, views_same}
 use Rattle.rv_core.proofs.database.Database.create_index.Goals as goal
 
@@ -62,4 +62,4 @@ returns-in-Some-equal-clause-ok g c =
     let equal = rows_are_equal shown c.self.inside.catalog c.self.inside.txns opens c.args.def c.in-Some-equal.row new.there (sym c.in-Some-equal.is ∙ c.in-Ok.ensures) in
     let room = few_room _ c.count_indexes.result c.count_indexes.ensures c.if-count_indexes-gt7.false in
     let refusal = equal_refused (db_of shown c.self.inside.catalog c.self.inside.txns opens) c.args.def _ (sym c.active.ensures ∙ c.in_default.is) room equal in
-    rw (← c.self.view_is) (if_ok c.refused-in-Some-equal.result _ _ (λ replies k. refused_does _ (stand_of shown c.self.inside.catalog c.self.inside.txns opens) _ replies refusal k) c.refused-in-Some-equal.ensures)
+    rw (← c.self.view_is) (IfOk-weaker c.refused-in-Some-equal.result _ _ (λ replies k. refused_does _ (stand_of shown c.self.inside.catalog c.self.inside.txns opens) _ replies refusal k) c.refused-in-Some-equal.ensures)

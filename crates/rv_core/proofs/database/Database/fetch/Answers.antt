@@ -1,9 +1,10 @@
 use Rattle.std.proofs.Common.{◌∙◌, ap, refl, sym}
+use Rattle.std.proofs.lemmas.Result.{IfOk-weaker, on_err_weaker}
 use Rattle.rv_value.proofs.Lists.{all_got, on_err}
 use Rattle.rv_cursor.specs.Left.{CursorFits, left}
 use Rattle.rv_core.specs.Db.{stand_of}
-use Rattle.rv_core.proofs.Facts.{any_ok, if_ok, on_ok}
-use Rattle.rv_core.proofs.Handling.{err_more, refused_fetch}
+use Rattle.rv_core.proofs.Facts.{any_ok, on_ok}
+use Rattle.rv_core.proofs.Handling.{refused_fetch}
 use Rattle.rv_core.proofs.Databases.{opens_fit, standing_set}
 use Rattle.rv_core.proofs.Keeping.{sees_itself}
 use Rattle.rv_core.proofs.Opens.{same_at, takes_no_refusal}
@@ -29,12 +30,12 @@ pub returns-clause-ok : goal.returns-clause-ok
 returns-clause-ok g c =
     let shown = g.S.Reader.shown c.self.inside.store in
     let named = sym (c.cursor_named.ensures.seen shown) ∙ c.in-Some.is in
-    rw (← c.self.view_is) (if_ok c.fetch.result _ _ (λ replies takes. fetches_named shown c.self.inside.catalog c.self.inside.txns c.self.inside.cursors c.args.session c.in-Some.place c.args.name c.at_mut.result.now c.fetch.new.cursor replies named c.at_mut.ensures.value c.fetch.ensures.same takes) c.fetch.ensures.ok)
+    rw (← c.self.view_is) (IfOk-weaker c.fetch.result _ _ (λ replies takes. fetches_named shown c.self.inside.catalog c.self.inside.txns c.self.inside.cursors c.args.session c.in-Some.place c.args.name c.at_mut.result.now c.fetch.new.cursor replies named c.at_mut.ensures.value c.fetch.ensures.same takes) c.fetch.ensures.ok)
 
 pub returns-clause-err : goal.returns-clause-err
 returns-clause-err g c =
     let shown = g.S.Reader.shown c.self.inside.store in
-    rw (← c.self.view_is) (err_more c.fetch.result _ _ (λ kept. ap (stand_of shown c.self.inside.catalog c.self.inside.txns) (same_at shown c.self.inside.cursors c.in-Some.place c.at_mut.result.now c.fetch.new.cursor c.at_mut.ensures.value c.fetch.ensures.same kept)) c.fetch.ensures.err)
+    rw (← c.self.view_is) (on_err_weaker c.fetch.result (λ kept. ap (stand_of shown c.self.inside.catalog c.self.inside.txns) (same_at shown c.self.inside.cursors c.in-Some.place c.at_mut.result.now c.fetch.new.cursor c.at_mut.ensures.value c.fetch.ensures.same kept)) c.fetch.ensures.err)
 
 pub returns-clause-moves : goal.returns-clause-moves
 returns-clause-moves g c =
@@ -44,7 +45,7 @@ returns-clause-moves g c =
 pub returns-clause-refuses : goal.returns-clause-refuses
 returns-clause-refuses g c refusal =
     let shown = g.S.Reader.shown c.self.inside.store in
-    if_ok c.fetch.result _ _ (λ replies takes e. absurd (takes_no_refusal (left shown c.at_mut.result.now) replies (left shown c.fetch.new.cursor) takes refusal e)) c.fetch.ensures.ok
+    IfOk-weaker c.fetch.result _ _ (λ replies takes e. absurd (takes_no_refusal (left shown c.at_mut.result.now) replies (left shown c.fetch.new.cursor) takes refusal e)) c.fetch.ensures.ok
 
 pub returns-clause-lost : goal.returns-clause-lost
 returns-clause-lost g c =
@@ -54,7 +55,7 @@ returns-clause-lost g c =
 pub returns-in_default-clause-ok : goal.returns-in_default-clause-ok
 returns-in_default-clause-ok g c =
     let none = sym (c.cursor_named.ensures.seen (g.S.Reader.shown c.self.inside.store)) ∙ c.in_default.is in
-    rw (← c.self.view_is) (if_ok c.refused.result _ _ (λ replies k. refused_fetch _ c.args.session c.args.name replies none k) c.refused.ensures)
+    rw (← c.self.view_is) (IfOk-weaker c.refused.result _ _ (λ replies k. refused_fetch _ c.args.session c.args.name replies none k) c.refused.ensures)
 
 pub returns-in_default-clause-moves : goal.returns-in_default-clause-moves
 returns-in_default-clause-moves g c =

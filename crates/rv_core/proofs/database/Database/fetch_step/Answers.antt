@@ -1,9 +1,10 @@
 use Rattle.std.proofs.Common.{◌∙◌, ap, refl, sym}
+use Rattle.std.proofs.lemmas.Result.{IfOk-weaker, on_err_weaker}
 use Rattle.rv_value.proofs.Lists.{all_got, on_err}
 use Rattle.rv_cursor.specs.Left.{CursorFits}
 use Rattle.rv_core.specs.Db.{stand_of}
-use Rattle.rv_core.proofs.Facts.{any_ok, if_ok}
-use Rattle.rv_core.proofs.Handling.{err_more, parted_err, parted_ok, refused_fetch}
+use Rattle.rv_core.proofs.Facts.{any_ok}
+use Rattle.rv_core.proofs.Handling.{parted_err, parted_ok, refused_fetch}
 use Rattle.rv_core.proofs.Databases.{opens_fit, standing_set}
 use Rattle.rv_core.proofs.Keeping.{sees_itself}
 use Rattle.rv_core.proofs.Opens.{same_at}
@@ -29,25 +30,25 @@ pub returns-clause-ok : goal.returns-clause-ok
 returns-clause-ok g c =
     let shown = g.S.Reader.shown c.self.inside.store in
     let named = sym (c.cursor_named.ensures.seen shown) ∙ c.in-Some.is in
-    rw (← c.self.view_is) (if_ok c.fetch_step.result _ _ (λ part takes. part_named c.self.inside.store shown c.self.inside.catalog c.self.inside.txns c.self.inside.cursors c.self.inside.opened c.args.session c.in-Some.place c.args.name c.at_mut.result.now c.fetch_step.new.cursor part named c.at_mut.ensures.value c.fetch_step.ensures.same takes) c.fetch_step.ensures.ok)
+    rw (← c.self.view_is) (IfOk-weaker c.fetch_step.result _ _ (λ part takes. part_named c.self.inside.store shown c.self.inside.catalog c.self.inside.txns c.self.inside.cursors c.self.inside.opened c.args.session c.in-Some.place c.args.name c.at_mut.result.now c.fetch_step.new.cursor part named c.at_mut.ensures.value c.fetch_step.ensures.same takes) c.fetch_step.ensures.ok)
 
 pub returns-clause-err : goal.returns-clause-err
 returns-clause-err g c =
     let shown = g.S.Reader.shown c.self.inside.store in
-    rw (← c.self.view_is) (err_more c.fetch_step.result _ _ (λ kept. ap (stand_of shown c.self.inside.catalog c.self.inside.txns) (same_at shown c.self.inside.cursors c.in-Some.place c.at_mut.result.now c.fetch_step.new.cursor c.at_mut.ensures.value c.fetch_step.ensures.same kept)) c.fetch_step.ensures.err)
+    rw (← c.self.view_is) (on_err_weaker c.fetch_step.result (λ kept. ap (stand_of shown c.self.inside.catalog c.self.inside.txns) (same_at shown c.self.inside.cursors c.in-Some.place c.at_mut.result.now c.fetch_step.new.cursor c.at_mut.ensures.value c.fetch_step.ensures.same kept)) c.fetch_step.ensures.err)
 
 pub returns-clause-moves : goal.returns-clause-moves
 returns-clause-moves g c =
     let named = sym c.cursor_named.ensures.named ∙ c.in-Some.is in
-    rw (← c.self.view_is, named) (if_ok c.fetch_step.result _ _ (λ part turn. part_more _ _ _ _ part (λ replies moves. (refl, moves)) (λ moves. (refl, (refl, moves))) (part_moves c.args.beside _ (g.S.Reader.shown c.self.inside.store) c.self.inside.cursors c.in-Some.place _ _ c.at_mut.result.now c.fetch_step.new.cursor part c.at_mut.ensures.value c.fetch_step.ensures.same c.fetch_step.ensures.held turn)) c.fetch_step.ensures.turn)
+    rw (← c.self.view_is, named) (IfOk-weaker c.fetch_step.result _ _ (λ part turn. part_more _ _ _ _ part (λ replies moves. (refl, moves)) (λ moves. (refl, (refl, moves))) (part_moves c.args.beside _ (g.S.Reader.shown c.self.inside.store) c.self.inside.cursors c.in-Some.place _ _ c.at_mut.result.now c.fetch_step.new.cursor part c.at_mut.ensures.value c.fetch_step.ensures.same c.fetch_step.ensures.held turn)) c.fetch_step.ensures.turn)
 
 pub returns-clause-turn : goal.returns-clause-turn
 returns-clause-turn g c =
     let named = sym c.cursor_named.ensures.named ∙ c.in-Some.is in
-    rw (← c.self.view_is, named) (if_ok c.fetch_step.result _ _ (λ part turn. part_more _ _ _ _ part (λ replies moves. (refl, moves)) (λ works. works) (part_turns c.args.beside _ (g.S.Reader.shown c.self.inside.store) c.self.inside.cursors c.in-Some.place _ _ c.at_mut.result.now c.fetch_step.new.cursor part c.at_mut.ensures.value c.fetch_step.ensures.same turn)) c.fetch_step.ensures.turn)
+    rw (← c.self.view_is, named) (IfOk-weaker c.fetch_step.result _ _ (λ part turn. part_more _ _ _ _ part (λ replies moves. (refl, moves)) (λ works. works) (part_turns c.args.beside _ (g.S.Reader.shown c.self.inside.store) c.self.inside.cursors c.in-Some.place _ _ c.at_mut.result.now c.fetch_step.new.cursor part c.at_mut.ensures.value c.fetch_step.ensures.same turn)) c.fetch_step.ensures.turn)
 
 pub returns-clause-refuses : goal.returns-clause-refuses
-returns-clause-refuses g c refusal = if_ok c.fetch_step.result _ _ (λ part takes. part_more _ _ _ _ part (λ replies none e. absurd (none refusal e)) (λ works. works) (part_given (g.S.Reader.shown c.self.inside.store) c.at_mut.result.now c.fetch_step.new.cursor part takes)) c.fetch_step.ensures.ok
+returns-clause-refuses g c refusal = IfOk-weaker c.fetch_step.result _ _ (λ part takes. part_more _ _ _ _ part (λ replies none e. absurd (none refusal e)) (λ works. works) (part_given (g.S.Reader.shown c.self.inside.store) c.at_mut.result.now c.fetch_step.new.cursor part takes)) c.fetch_step.ensures.ok
 
 pub returns-clause-lost : goal.returns-clause-lost
 returns-clause-lost g c =
@@ -57,7 +58,7 @@ returns-clause-lost g c =
 pub returns-in_default-clause-ok : goal.returns-in_default-clause-ok
 returns-in_default-clause-ok g c =
     let none = sym (c.cursor_named.ensures.seen (g.S.Reader.shown c.self.inside.store)) ∙ c.in_default.is in
-    rw (← c.self.view_is, c.answered.ensures) (parted_ok c.refused.result _ _ (if_ok c.refused.result _ _ (λ replies k. refused_fetch _ c.args.session c.args.name replies none k) c.refused.ensures))
+    rw (← c.self.view_is, c.answered.ensures) (parted_ok c.refused.result _ _ (IfOk-weaker c.refused.result _ _ (λ replies k. refused_fetch _ c.args.session c.args.name replies none k) c.refused.ensures))
 
 pub returns-in_default-clause-moves : goal.returns-in_default-clause-moves
 returns-in_default-clause-moves g c =

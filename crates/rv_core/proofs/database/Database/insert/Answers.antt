@@ -1,7 +1,7 @@
 use Rattle.std.proofs.Common.{◌≡◌, Err}
+use Rattle.std.proofs.lemmas.Result.{IfOk-weaker}
 use Rattle.rv_core.proofs.Standing.{db_inserted}
 use Rattle.rv_core.proofs.Databases.{inserts_standing}
-use Rattle.rv_core.proofs.Facts.{if_ok}
 use Rattle.rv_core.proofs.Indexing.{refused_does}
 use Rattle.rv_core.proofs.Putting.{insert_refused}
 use Rattle.rv_core.specs.Db.{seen, stand_of}
@@ -25,4 +25,4 @@ returns-in-Err-Refused-clause-ok g c =
     let opens = seen shown c.self.inside.cursors in
     let why : inserted_alone shown c.self.inside.catalog c.self.inside.txns c.args.session c.args.table c.args.values ≡ Err c.in-Err-Refused.refusal = (rw c.in-Err-Refused.field-0-is at c.in-Err-Refused.ensures.fault) in
     let refusal = insert_refused shown c.self.inside.catalog c.self.inside.txns opens c.args.session c.args.table c.args.values c.in-Err-Refused.refusal why in
-    rw (c.in-Err-Refused.ensures.err, ← c.self.view_is) (if_ok c.refused.result _ _ (λ replies k. refused_does _ (stand_of shown c.self.inside.catalog c.self.inside.txns opens) _ replies refusal k) c.refused.ensures)
+    rw (c.in-Err-Refused.ensures.err, ← c.self.view_is) (IfOk-weaker c.refused.result _ _ (λ replies k. refused_does _ (stand_of shown c.self.inside.catalog c.self.inside.txns opens) _ replies refusal k) c.refused.ensures)

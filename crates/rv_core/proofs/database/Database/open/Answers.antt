@@ -1,4 +1,5 @@
 use Rattle.std.proofs.Common.{◌≡◌, ◌∙◌, ◌+◌, ◌++◌, ◌∷◌, [], Err, List, Option, ℕ, ap, arith, sym, subst}
+use Rattle.std.proofs.lemmas.Result.{IfOk-weaker}
 use Rattle.rv_join.specs.Plans.{LeadsWith}
 use Rattle.rv_model.specs.declared.state.Cursor.{Cursor}
 use Rattle.rv_overlay.specs.declared.frozen.Frozen.{Frozen}
@@ -9,7 +10,6 @@ use Rattle.rv_core.specs.Doing.{opening_base}
 use Rattle.rv_core.specs.Obeying.{IsBounded}
 use Rattle.rv_core.proofs.Calling.{opened_rows, opening_snapshot, opens_does, opens_refused}
 use Rattle.rv_core.proofs.Databases.{fresh_open, opened_asked, opens_standing}
-use Rattle.rv_core.proofs.Facts.{if_ok}
 use Rattle.rv_core.proofs.Opens.{pushed_seen}
 use Rattle.rv_core.proofs.Putting.{opens_viewed}
 use Rattle.rv_core.proofs.database.Database.open.Goals as goal
@@ -18,7 +18,7 @@ pub returns-in-Err-Refused-clause-ok : goal.returns-in-Err-Refused-clause-ok
 returns-in-Err-Refused-clause-ok g c =
     let shown = g.S.Reader.shown c.self.inside.store in
     let why : opening_base c.self.inside.txns.active (seen shown c.self.inside.cursors) c.args.session c.args.name ≡ Err c.in-Err-Refused.refusal = (rw c.in-Err-Refused.field-0-is at (c.in-Err-Refused.ensures.fault shown)) in
-    rw (← c.self.view_is) (if_ok c.refused.result _ _ (λ replies k. opens_refused shown c.self.inside.catalog c.self.inside.txns (seen shown c.self.inside.cursors) c.args.session c.args.name c.args.select.now c.in-Err-Refused.refusal replies why k) c.refused.ensures)
+    rw (← c.self.view_is) (IfOk-weaker c.refused.result _ _ (λ replies k. opens_refused shown c.self.inside.catalog c.self.inside.txns (seen shown c.self.inside.cursors) c.args.session c.args.name c.args.select.now c.in-Err-Refused.refusal replies why k) c.refused.ensures)
 
 pub plan_cursor-requires-clause-tied : goal.plan_cursor-requires-clause-tied
 plan_cursor-requires-clause-tied g c =

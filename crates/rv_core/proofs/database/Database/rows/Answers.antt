@@ -1,8 +1,8 @@
-use Rattle.rv_core.proofs.Facts.{if_ok}
 use Rattle.rv_core.proofs.Putting.{none_viewed_rows, own_read, owns, read_owned}
 use Rattle.rv_core.specs.Db.{db_of, seen}
 use Rattle.rv_model.specs.Transactions.{transaction_of}
 use Rattle.rv_core.proofs.database.Database.rows.Goals as goal
+use Rattle.std.proofs.lemmas.Result.{IfOk-weaker}
 
 pub viewed_rows-requires : goal.viewed_rows-requires
 viewed_rows-requires g c =
@@ -19,4 +19,4 @@ returns-in-Some g c =
     let shown = g.S.Reader.shown c.self.inside.store in
     let there = rw (← c.self.view_is) at c.requires.there in
     let own = owns c.self.inside.txns.active c.args.session c.in-Some.own.now c.in-Some.ensures in
-    rw (← c.self.view_is) (if_ok c.viewed_rows.result _ _ (λ rows k. read_owned shown c.self.inside.catalog c.self.inside.txns (seen shown c.self.inside.cursors) c.args.session c.args.table c.in-Some.own.now rows.items there own k) c.viewed_rows.ensures)
+    rw (← c.self.view_is) (IfOk-weaker c.viewed_rows.result _ _ (λ rows k. read_owned shown c.self.inside.catalog c.self.inside.txns (seen shown c.self.inside.cursors) c.args.session c.args.table c.in-Some.own.now rows.items there own k) c.viewed_rows.ensures)
