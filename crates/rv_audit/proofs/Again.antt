@@ -1,6 +1,7 @@
 -- A front of a legal history that follows a script is such a history, too.
 use Rattle.std.proofs.Common.{◌≡◌, ℕ, zero, suc, ◌<◌, ◌≤◌, List, [], ◌∷◌, ◌++◌, inl, inr, refl, ap, sym, subst, ◌∙◌, length, drop, take, arith, eqb, append-nil, append_assoc}
 use Rattle.std.proofs.lemmas.Bool.{cases_Bool}
+use Rattle.std.proofs.lemmas.List.{take-append-drop}
 use Rattle.rv_script.specs.declared.scripts.Phase.{Phase}
 use Rattle.rv_script.specs.declared.scripts.Script.{Script}
 use Rattle.rv_model.specs.declared.entry.Entry.{Entry}
@@ -84,17 +85,12 @@ follows_front phases h xs (y ∷ ys) is l f =
       high = λ s from to. from_append y.phase (made s (y ∷ ys)) (rest s) (from_kept y.phase s (calls_made (y ∷ ys)) (from_behind (call_by y) (calls_made xs) (calls_made ys) rising)) (from_lower y.phase follows.at (rest s) upto (m.high s from to));
     })
 
-parts_of : (k : ℕ) (h : List Entry) → h ≡ take k h ++ drop k h
-parts_of zero h = refl
-parts_of (suc k) [] = refl
-parts_of (suc k) (e ∷ es) = ap (λ xs. e ∷ xs) (parts_of k es)
-
 pub front_legal : (script : Script) (k : ℕ) (es : List Entry) → IsLegalTo script es → IsLegalTo script (take k es)
 front_legal script k es l = record {
   history = take k l.history;
   same = same_take k es l.history l.same;
   legal = legal_front k l.history l.legal;
-  follows = follows_front script.phases l.history (take k l.history) (drop k l.history) (parts_of k l.history) l.legal l.follows;
+  follows = follows_front script.phases l.history (take k l.history) (drop k l.history) (sym (take-append-drop k l.history)) l.legal l.follows;
 }
 
 -- entries that are equal in all but phases are legal together

@@ -1,6 +1,7 @@
 -- From entries that follow a script, and their replay, to what is said of them.
 use Rattle.std.proofs.Common.{◌≡◌, ℕ, zero, suc, ◌+◌, ◌-◌, ◌≤◌, List, [], ◌∷◌, ◌++◌, refl, ap, sym, subst, ◌∙◌, length, take, arith, length-append}
 use Rattle.std.proofs.lemmas.List.{take-append-le}
+use Rattle.std.proofs.Math.Seq.{take-length}
 use Rattle.rv_script.specs.declared.scripts.Script.{Script}
 use Rattle.rv_model.specs.declared.entry.Entry.{Entry}
 use Rattle.rv_model.specs.Transcript.{AllSameButPhase}
@@ -32,10 +33,6 @@ same_over (x ∷ xs) [] bs h k = absurd h
 same_over (x ∷ xs) (a ∷ us) [] h k = absurd k
 same_over (x ∷ xs) (a ∷ us) (b ∷ bs) h k = (let p = h.0 in let q = k.0 in record { session = sym p.session ∙ q.session; text = sym p.text ∙ q.text; reply = sym p.reply ∙ q.reply }, same_over xs us bs h.1 k.1)
 
-take_all : (es : List Entry) → take (length es) es ≡ es
-take_all [] = refl
-take_all (e ∷ es) = ap (λ xs. e ∷ xs) (take_all es)
-
 take_one : (us : List Entry) (b : Entry) (bs : List Entry) → take (suc (length us)) (us ++ b ∷ bs) ≡ us ++ b ∷ []
 take_one [] b bs = refl
 take_one (a ∷ us) b bs = ap (λ xs. a ∷ xs) (take_one us b bs)
@@ -66,7 +63,7 @@ stuck script entries done fronts legal s =
     let count = length-append s.passed (s.next ∷ s.more) in
     let less : length done + 1 - 1 ≡ length s.passed = omega (arith, long) in
     let more : length done + 1 ≡ suc (length s.passed) = omega (arith, long) in
-    let here = ap (λ es. take (length s.passed) es) s.is ∙ take-append-le (length s.passed) s.passed (s.next ∷ s.more) (omega arith) ∙ take_all s.passed in
+    let here = ap (λ es. take (length s.passed) es) s.is ∙ take-append-le (length s.passed) s.passed (s.next ∷ s.more) (omega arith) ∙ take-length s.passed in
     record {
       from = omega arith;
       to = omega (arith, long, all, count);
@@ -74,14 +71,14 @@ stuck script entries done fronts legal s =
         history = done;
         same = subst (λ es. AllSameButPhase es done) (sym (ap (λ k. take k entries) less ∙ here)) s.same;
         legal = legal;
-        follows = subst (λ es. Follows script.phases es) (take_all done) (fronts (length done));
+        follows = subst (λ es. Follows script.phases es) (take-length done) (fronts (length done));
       };
       with_it = λ (l : IsLegalTo script (take (length done + 1) entries)). s.no_further l.history (subst (λ es. AllSameButPhase es l.history) (ap (λ k. take k entries) more ∙ ap (λ es. take (suc (length s.passed)) es) s.is ∙ take_one s.passed s.next s.more) l.same) l.legal l.follows;
     }
 
 pub lacks : (script : Script) (entries done : List Entry) (session phase : ℕ) → FrontsFollow script.phases done → IsLegal done → AllSameButPhase entries done → IsFirstMissing script.phases done session phase → LacksFirst script entries session phase
 lacks script entries done session phase fronts legal same first = record {
-  legal = record { history = done; same = same; legal = legal; follows = subst (λ es. Follows script.phases es) (take_all done) (fronts (length done)) };
+  legal = record { history = done; same = same; legal = legal; follows = subst (λ es. Follows script.phases es) (take-length done) (fronts (length done)) };
   first = first;
 }
 

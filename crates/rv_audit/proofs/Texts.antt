@@ -9,6 +9,7 @@ use Rattle.std.proofs.lemmas.Bool.Decides.{nat_tests}
 use Rattle.std.proofs.lemmas.List.{drop_at, nil_from_length, take_at}
 use Rattle.std.proofs.lemmas.Str.{IsCharBoundary-after_ascii, IsCharBoundary-before_ascii, IsUtf8-drop, IsUtf8-from_is_utf8, IsUtf8-nil, IsUtf8-take}
 use Rattle.std.proofs.lemmas.Option.{same_Some}
+use Rattle.std.proofs.Math.Seq.{get_or-append_seam}
 use Rattle.rv_script.specs.declared.scripts.Line.{Line}
 use Rattle.rv_script.specs.declared.scripts.Phase.{Phase}
 use Rattle.rv_script.specs.declared.scripts.ScriptFault.{ScriptFault}
@@ -43,14 +44,10 @@ utf8_of bytes e = by (length bytes) refl (eqb-true (valid_len_up_to bytes (lengt
           absurd (omega (arith, less, same))
     ]
 
-seen_at : (front : List ℕ) (b : ℕ) (rest : List ℕ) → get_or (front ++ b ∷ rest) (length front) 0 ≡ b
-seen_at [] b rest = refl
-seen_at (f ∷ front) b rest = seen_at front b rest
-
 -- before an ASCII byte and behind it a text may be cut
 utf8_cut : (front : List ℕ) (b : ℕ) (rest : List ℕ) → b < 128 → IsUtf8 (front ++ b ∷ rest) → IsUtf8 front × IsUtf8 rest
 utf8_cut front b rest low u =
-    let at = seen_at front b rest in
+    let at = get_or-append_seam front b rest 0 in
     let long : length front < length (front ++ b ∷ rest) = omega (arith, length-append front (b ∷ rest)) in
     let before = IsCharBoundary-before_ascii (front ++ b ∷ rest) (length front) long (omega (arith, at, low)) in
     let behind = IsCharBoundary-after_ascii (front ++ b ∷ rest) (length front) u long (omega (arith, at, low)) in

@@ -1,7 +1,8 @@
 -- What INSERT makes of row numbers, and COMMIT of who last wrote a row, at each table and row.
-use Rattle.std.proofs.Common.{◌≡◌, ℕ, zero, suc, ◌+◌, ◌-◌, ◌<◌, ◌≤◌, List, [], ◌∷◌, ◌++◌, Bool, true, false, cond, ◌&&◌, ◌||◌, refl, sym, ap, ◌∙◌, arith, length, nat_eq, nat_lt, slice_index_or, slice_set, if◌then◌else◌}
+use Rattle.std.proofs.Common.{◌≡◌, ℕ, zero, suc, ◌+◌, ◌-◌, ◌<◌, ◌≤◌, List, [], ◌∷◌, ◌++◌, Bool, true, false, cond, ◌&&◌, ◌||◌, refl, sym, ap, ◌∙◌, arith, length, nat_eq, nat_lt, slice_index_or, slice_set, if◌then◌else◌, zero-add}
 use Rattle.std.proofs.lemmas.Bool.Decides.{nat_tests}
 use Rattle.std.proofs.lemmas.Bool.{eqb-true, ltb-false, ltb-true}
+use Rattle.std.proofs.lemmas.List.{get_or_past, length_push}
 use Rattle.rv_value.proofs.Tests.{number_turned, same_number}
 use Rattle.rv_rows.specs.declared.changes.Change.{Change}
 use Rattle.rv_rows.specs.Changes.{has_change, is_of}
@@ -45,23 +46,15 @@ set_at (x ∷ xs) (suc n) (suc t) y d lt = set_at xs n t y d (omega (arith, lt))
 
 -- ---- INSERT
 
-none_there : (xs : List (List ℕ)) (n : ℕ) → length xs ≤ n → slice_index_or xs n [] ≡ []
-none_there [] n le = refl
-none_there (x ∷ xs) zero le = absurd (omega (arith, le))
-none_there (x ∷ xs) (suc n) le = none_there xs n (omega (arith, le))
-
 past_empty : (k t : ℕ) → slice_index_or (empty_lists k ++ (0 ∷ []) ∷ []) t [] ≡ cond (nat_eq t k) (0 ∷ []) []
 past_empty zero zero = ap (λ b. cond b (0 ∷ []) []) (sym (same_number zero))
 past_empty zero (suc t) = ap (λ b. cond b (0 ∷ []) []) (sym (suc_zero t))
 past_empty (suc k) zero = ap (λ b. cond b (0 ∷ []) []) (sym (zero_suc k))
 past_empty (suc k) (suc t) = past_empty k t ∙ ap (λ b. cond b (0 ∷ []) []) (sym (suc_by t k (nat_eq t k) refl))
 
-zero_and : (k : ℕ) → k ≡ 0 + k
-zero_and k = omega arith
-
 past_at : (xs : List (List ℕ)) (k t : ℕ)
     → slice_index_or (xs ++ empty_lists k ++ (0 ∷ []) ∷ []) t [] ≡ cond (nat_eq t (length xs + k)) (0 ∷ []) (slice_index_or xs t [])
-past_at [] k t = past_empty k t ∙ ap (λ n. cond (nat_eq t n) (0 ∷ []) []) (zero_and k)
+past_at [] k t = past_empty k t ∙ ap (λ n. cond (nat_eq t n) (0 ∷ []) []) (sym (zero-add k))
 past_at (x ∷ xs) k zero = ap (λ b. cond b (0 ∷ []) x) (sym (zero_plus (length xs) k))
 past_at (x ∷ xs) k (suc t) = past_at xs k t
     ∙ ap (λ b. cond b (0 ∷ []) (slice_index_or xs t [])) (sym (suc_plus_by t (length xs) k (nat_eq t (length xs + k)) refl))
@@ -76,19 +69,15 @@ number_by touched table t true e = set_at touched table t (touched_in touched ta
 number_by touched table t false e =
     let le : length touched ≤ table = ltb-false table (length touched) e in
     past_at touched (table - length touched) t
-    ∙ (λ k. cond (nat_eq t (plus_rest (length touched) table le k)) (sym (none_there touched table le) k ++ 0 ∷ []) (touched_in touched t))
+    ∙ (λ k. cond (nat_eq t (plus_rest (length touched) table le k)) (sym (get_or_past touched table [] le) k ++ 0 ∷ []) (touched_in touched t))
 
 -- the list of the table has one number more, and no other list has
 number_in : (touched : List (List ℕ)) (table t : ℕ)
     → touched_in (with_number touched table) t ≡ cond (nat_eq t table) (touched_in touched table ++ 0 ∷ []) (touched_in touched t)
 number_in touched table t = number_by touched table t (nat_lt table (length touched)) refl
 
-one_longer : (ns : List ℕ) → length (ns ++ 0 ∷ []) ≡ length ns + 1
-one_longer [] = refl
-one_longer (n ∷ ns) = let rest : length (ns ++ 0 ∷ []) ≡ length ns + 1 = one_longer ns in omega (arith, rest)
-
 length_by : (b : Bool) (ns ms : List ℕ) → length (cond b (ns ++ 0 ∷ []) ms) ≡ cond b (length ns + 1) (length ms)
-length_by true ns ms = one_longer ns
+length_by true ns ms = length_push ns 0
 length_by false ns ms = refl
 
 pub number_next : (touched : List (List ℕ)) (table t : ℕ)

@@ -1,9 +1,10 @@
 -- Bridge: kinds are tested on the condition as it stands in the text, and in the working definition on the resolved one.
-use Rattle.std.proofs.Common.{◌≡◌, refl, sym, ap, ◌∙◌, arith}
+use Rattle.std.proofs.Common.{◌≡◌, refl, sym, ap, ◌∙◌, arith, append_assoc}
 use Rattle.std.proofs.Math.Seq.{get_or-append_seam}
 use Rattle.std.specs.Prelude.{ℕ, List, [], ◌∷◌, ◌++◌, ◌+◌, Bool, true, false, not, ◌&&◌, ◌||◌, Option, None, Result, Ok, length, filter, if◌then◌else◌}
 use Rattle.std.specs.List.{list_any, list_all, slice_index_or, AllByRecursion}
 use Rattle.std.specs.Option.{option_to_list}
+use Rattle.std.proofs.Math.Bool.{or-false}
 use Rattle.rv_value.proofs.Lists.{all_append, all_filter}
 use Rattle.rv_value.specs.declared.value.Kind.{Kind}
 use Rattle.rv_value.specs.declared.value.Kind.TheVariants.{Big, Chars}
@@ -29,7 +30,7 @@ use Rattle.rv_catalog.specs.Schema.{columns_of}
 use Rattle.rv_believed.specs.Answers.{Test, answers}
 use Rattle.rv_believed.specs.Limits.{left, right, literals}
 use Rattle.rv_believed.specs.Names.{InReach, reach_from, reach_of, fits, only_one, reference, is_of_kind, same_kind, atom_kinds, kinds, op_of, atom_of, condition_of}
-use Rattle.rv_believed.proofs.Chains.{append_assoc, test_end, in_a_row, same_after}
+use Rattle.rv_believed.proofs.Chains.{test_end, in_a_row, same_after}
 
 -- ---- a column that is found is at its place
 
@@ -149,10 +150,6 @@ simple tables items a mk made none test L =
     ∙ sym (in_a_row (reference reach (left a)) (λ c. Ok (mk c.at)) (λ b. L b (atom_kinds reach a)))
     ∙ sym (ap (λ r. r >>= (λ b. L b (atom_kinds reach a))) made)
 
-or_false : (b : Bool) → b || false ≡ b
-or_false true = refl
-or_false false = refl
-
 big_kind : (k : Kind) (text : List ℕ) → today.is_big k ≡ list_any (today.is_other_kind k) (Str text ∷ [])
 big_kind Big text = refl
 big_kind (Chars n) text = refl
@@ -195,12 +192,12 @@ two_columns tables items c op d L =
 atom_agrees : {B : Type 0} (tables : List TableDef) (items : List Item) (a : RawAtom) → Agrees B tables items a
 atom_agrees tables items (raw.Compare c op (raw_operands.Literal v)) =
     simple tables items (raw.Compare c op (raw_operands.Literal v)) (λ d. Compare d (op_of op) (Literal v)) refl refl
-    (λ d. ap (λ b. today.refuse_column b (column_at tables items d)) (sym (or_false (today.is_other_kind (column_at tables items d).1 v))))
+    (λ d. ap (λ b. today.refuse_column b (column_at tables items d)) (sym (or-false (today.is_other_kind (column_at tables items d).1 v))))
 atom_agrees tables items (raw.Compare c op (raw_operands.Column d)) = two_columns tables items c op d
 atom_agrees tables items (raw.Between c low high) =
     simple tables items (raw.Between c low high) (λ d. Between d low high) refl refl
     (λ d. ap (λ b. today.refuse_column (today.is_other_kind (column_at tables items d).1 low || b) (column_at tables items d))
-    (sym (or_false (today.is_other_kind (column_at tables items d).1 high))))
+    (sym (or-false (today.is_other_kind (column_at tables items d).1 high))))
 atom_agrees tables items (raw.Among c list) =
     simple tables items (raw.Among c list) (λ d. Among d list) refl refl (λ d. refl)
 atom_agrees tables items (raw.IsNull c negated) =

@@ -4,6 +4,8 @@ use Rattle.std.proofs.lemmas.Bool.Decides.{nat_tests}
 use Rattle.std.specs.Prelude.{ℕ, ℤ, pos, negsuc, List, [], ◌∷◌, ◌++◌, Bool, true, false, ◌||◌, Option, Some, None, Ok, Err, map, nat_lt, length}
 use Rattle.std.specs.List.{list_any, flat_map}
 use Rattle.std.specs.Option.{unwrap_or, option_to_list}
+use Rattle.std.proofs.lemmas.List.Folds.{list_any-append}
+use Rattle.std.proofs.Math.Bool.{or-false, or_assoc}
 use Rattle.rv_believed.proofs.ChangingSame.{pass_same}
 use Rattle.rv_value.specs.declared.value.Value.{Value}
 use Rattle.rv_value.specs.declared.value.Value.TheVariants.{Null, Int, Str}
@@ -26,20 +28,8 @@ use Rattle.rv_believed.proofs.Chains.{all_pass_refuse, test_end}
 
 -- ---- Bools and lists
 
-or_false : (b : Bool) → b || false ≡ b
-or_false true = refl
-or_false false = refl
-
-or_assoc : (a b c : Bool) → (a || b) || c ≡ a || (b || c)
-or_assoc true b c = refl
-or_assoc false b c = refl
-
 or_two : {a b c d : Bool} → a ≡ b → c ≡ d → (a || c) ≡ (b || d)
 or_two p q = λ i. p i || q i
-
-any_append : {X : Type 0} (p : X → Bool) (xs ys : List X) → list_any p (xs ++ ys) ≡ list_any p xs || list_any p ys
-any_append p [] ys = refl
-any_append p (x ∷ xs) ys = ap (λ b. p x || b) (any_append p xs ys) ∙ sym (or_assoc (p x) (list_any p xs) (list_any p ys))
 
 any_map : {X Y : Type 0} (p : Y → Bool) (f : X → Y) (xs : List X) → list_any p (map f xs) ≡ list_any (λ x. p (f x)) xs
 any_map p f [] = refl
@@ -48,7 +38,7 @@ any_map p f (x ∷ xs) = ap (λ b. p (f x) || b) (any_map p f xs)
 any_flat : {X Y : Type 0} (p : Y → Bool) (q : X → Bool) (f : X → List Y) → ((x : X) → list_any p (f x) ≡ q x)
     → (xs : List X) → list_any p (flat_map f xs) ≡ list_any q xs
 any_flat p q f same [] = refl
-any_flat p q f same (x ∷ xs) = any_append p (f x) (flat_map f xs) ∙ or_two (same x) (any_flat p q f same xs)
+any_flat p q f same (x ∷ xs) = list_any-append p (f x) (flat_map f xs) ∙ or_two (same x) (any_flat p q f same xs)
 
 -- ---- tests
 
@@ -63,18 +53,18 @@ all_by f p r same xs = pass_same f (λ x. refuse_if (p x) r) same xs ∙ all_pas
 
 ref_parts : (t : Option (List ℕ)) (n : List ℕ)
     → list_any today.is_long (option_to_list t ++ n ∷ []) ≡ (today.is_long_option t || today.is_long n)
-ref_parts None n = or_false (today.is_long n)
-ref_parts (Some m) n = ap (λ b. today.is_long m || b) (or_false (today.is_long n))
+ref_parts None n = or-false (today.is_long n)
+ref_parts (Some m) n = ap (λ b. today.is_long m || b) (or-false (today.is_long n))
 
 any_ref : (c : RawCol) → list_any today.is_long (column_names c) ≡ today.is_long_ref c
 any_ref c = ref_parts c.table c.column
 
 alone : (c : RawCol) → list_any today.is_long (column_names c ++ []) ≡ today.is_long_ref c
-alone c = any_append today.is_long (column_names c) [] ∙ or_false (list_any today.is_long (column_names c)) ∙ any_ref c
+alone c = list_any-append today.is_long (column_names c) [] ∙ or-false (list_any today.is_long (column_names c)) ∙ any_ref c
 
 any_atom : (a : RawAtom) → list_any today.is_long (atom_names a) ≡ today.is_long_atom a
-any_atom (Compare c op (Literal v)) = alone c ∙ sym (or_false (today.is_long_ref c))
-any_atom (Compare c op (Column d)) = any_append today.is_long (column_names c) (column_names d ++ []) ∙ or_two (any_ref c) (alone d)
+any_atom (Compare c op (Literal v)) = alone c ∙ sym (or-false (today.is_long_ref c))
+any_atom (Compare c op (Column d)) = list_any-append today.is_long (column_names c) (column_names d ++ []) ∙ or_two (any_ref c) (alone d)
 any_atom (Between c low high) = alone c
 any_atom (Among c list) = alone c
 any_atom (IsNull c negated) = alone c
@@ -89,7 +79,7 @@ any_names only = any_flat today.is_long (λ g. list_any today.is_long_atom g) (f
 item_parts : (n : List ℕ) (second : Option (List ℕ))
     → list_any today.is_long (n ∷ option_to_list second) ≡ (today.is_long n || today.is_long_option second)
 item_parts n None = refl
-item_parts n (Some m) = ap (λ b. today.is_long n || b) (or_false (today.is_long m))
+item_parts n (Some m) = ap (λ b. today.is_long n || b) (or-false (today.is_long m))
 
 any_items : (items : List (List ℕ × Option (List ℕ))) → list_any today.is_long (flat_map item_names items)
     ≡ list_any (λ (i : List ℕ × Option (List ℕ)). today.is_long i.0 || today.is_long_option i.1) items
@@ -116,12 +106,12 @@ value_test (Int n) = refl
 value_test (Str text) = refl
 
 any_values : (a : RawAtom) → list_any today.is_wide (literals a) ≡ today.is_wide_atom a
-any_values (Compare c op (Literal v)) = or_false (today.is_wide v)
+any_values (Compare c op (Literal v)) = or-false (today.is_wide v)
 any_values (Compare c op (Column d)) = refl
-any_values (Between c low high) = ap (λ b. today.is_wide low || b) (or_false (today.is_wide high))
+any_values (Between c low high) = ap (λ b. today.is_wide low || b) (or-false (today.is_wide high))
 any_values (Among c list) = refl
 any_values (IsNull c negated) = refl
-any_values (Starts c text) = or_false (today.is_wide (Str text))
+any_values (Starts c text) = or-false (today.is_wide (Str text))
 
 any_texts : (only : List (List RawAtom)) → list_any today.is_wide (values_in only) ≡ today.has_wide_texts only
 any_texts only = any_flat today.is_wide (λ g. list_any today.is_wide_atom g) (flat_map literals)
@@ -159,13 +149,13 @@ lists_test only = all_by (all_pass list_fits) (λ g. list_any today.is_long_list
 set_names : (sets : List (List ℕ × Value)) (only : List (List RawAtom))
     → list_any today.is_long (map (λ (s : List ℕ × Value). s.0) sets ++ names_in only)
     ≡ (list_any (λ (s : List ℕ × Value). today.is_long s.0) sets || today.has_long_names only)
-set_names sets only = any_append today.is_long (map (λ (s : List ℕ × Value). s.0) sets) (names_in only)
+set_names sets only = list_any-append today.is_long (map (λ (s : List ℕ × Value). s.0) sets) (names_in only)
     ∙ or_two (any_map today.is_long (λ (s : List ℕ × Value). s.0) sets) (any_names only)
 
 set_texts : (sets : List (List ℕ × Value)) (only : List (List RawAtom))
     → list_any today.is_wide (map (λ (s : List ℕ × Value). s.1) sets ++ values_in only)
     ≡ (list_any (λ (s : List ℕ × Value). today.is_wide s.1) sets || today.has_wide_texts only)
-set_texts sets only = any_append today.is_wide (map (λ (s : List ℕ × Value). s.1) sets) (values_in only)
+set_texts sets only = list_any-append today.is_wide (map (λ (s : List ℕ × Value). s.1) sets) (values_in only)
     ∙ or_two (any_map today.is_wide (λ (s : List ℕ × Value). s.1) sets) (any_texts only)
 
 five : (a b c d e : Bool) → a || (((b || c) || d) || e) ≡ (((a || b) || c) || d) || e
@@ -181,11 +171,11 @@ open_names : (cursor : List ℕ) (returned : Option (List RawCol)) (items : List
     || today.has_long_names only) || list_any today.is_long_ref order
 open_names cursor returned items only order =
     ap (λ b. today.is_long cursor || b)
-    (any_append today.is_long (flat_map column_names (unwrap_or returned []) ++ flat_map item_names items
+    (list_any-append today.is_long (flat_map column_names (unwrap_or returned []) ++ flat_map item_names items
     ++ names_in only) (flat_map column_names order)
-    ∙ or_two (any_append today.is_long (flat_map column_names (unwrap_or returned []) ++ flat_map item_names items)
+    ∙ or_two (list_any-append today.is_long (flat_map column_names (unwrap_or returned []) ++ flat_map item_names items)
     (names_in only)
-    ∙ or_two (any_append today.is_long (flat_map column_names (unwrap_or returned [])) (flat_map item_names items)
+    ∙ or_two (list_any-append today.is_long (flat_map column_names (unwrap_or returned [])) (flat_map item_names items)
     ∙ or_two (any_returned returned) (any_items items)) (any_names only)) (any_refs order))
     ∙ five (today.is_long cursor) (today.has_long_refs returned)
     (list_any (λ (i : List ℕ × Option (List ℕ)). today.is_long i.0 || today.is_long_option i.1) items)
@@ -229,7 +219,7 @@ steps_test (negsuc n) = refl
 
 one_name : (cursor : List ℕ)
     → names_fit (cursor ∷ []) ≡ (refuse_if (today.is_long cursor) (Limit which.Name 31) >>= (λ u. Ok tt))
-one_name cursor = names_test (cursor ∷ []) (today.is_long cursor) (or_false (today.is_long cursor))
+one_name cursor = names_test (cursor ∷ []) (today.is_long cursor) (or-false (today.is_long cursor))
     ∙ sym (test_end (refuse_if (today.is_long cursor) (Limit which.Name 31)))
 
 -- THE BRIDGE
@@ -245,7 +235,7 @@ limits_same (CreateIndex unique name table columns) = both_tests
     (sym (test_end (at_most 4 which.Key columns)))
 limits_same (Begin read_only) = refl
 limits_same (Insert table values) = both_tests
-    (names_test (table ∷ []) (today.is_long table) (or_false (today.is_long table)))
+    (names_test (table ∷ []) (today.is_long table) (or-false (today.is_long table)))
     (both_tests (texts_test values (list_any today.is_wide values) refl)
     (sym (test_end (at_most 16 which.Columns values))))
 limits_same (Update table sets only) = both_tests
@@ -280,4 +270,4 @@ limits_same (Fetch cursor) = one_name cursor
 limits_same (Show cursor) = one_name cursor
 limits_same (Close cursor) = one_name cursor
 limits_same (Step cursor n) = both_tests
-    (names_test (cursor ∷ []) (today.is_long cursor) (or_false (today.is_long cursor))) (steps_test n)
+    (names_test (cursor ∷ []) (today.is_long cursor) (or-false (today.is_long cursor))) (steps_test n)

@@ -3,6 +3,7 @@ use Rattle.std.proofs.Common.{◌≡◌, refl, sym, ap, ◌∙◌}
 use Rattle.std.specs.Prelude.{ℕ, List, [], ◌∷◌, ◌++◌, ◌+◌, Bool, true, false, cond, ◌&&◌, Option, Some, None, Result, Ok, Err, bytes_eq, filter, map, if◌then◌else◌}
 use Rattle.std.specs.Option.{option_map_or}
 use Rattle.std.proofs.lemmas.List.Elements.{filter-append}
+use Rattle.std.proofs.lemmas.List.{map-append}
 use Rattle.rv_value.proofs.Tests.{no_other}
 use Rattle.rv_value.specs.declared.value.Kind.{Kind}
 use Rattle.rv_restrict.specs.declared.atom.ColRef.{ColRef}
@@ -109,10 +110,6 @@ pub reference_same : (tables : List TableDef) (items : List Item) (r : RawCol)
 reference_same tables items r = ap (λ f. today.only_one f r.column) (sym (items_same tables r items 0 Nothing))
     ∙ only_same r.column (filter (fits r) (reach_of tables 0 items))
 
-map_append : {A B : Type 0} (f : A → B) (xs ys : List A) → map f (xs ++ ys) ≡ map f xs ++ map f ys
-map_append f [] ys = refl
-map_append f (x ∷ xs) ys = ap (λ l. f x ∷ l) (map_append f xs ys)
-
 from_same : (item : List ℕ) (place : ℕ) (cs : List (List ℕ × Kind)) (n : ℕ)
     → today.columns_from place n cs ≡ map (λ (c : InReach). c.at) (reach_from item place n cs)
 from_same item place [] n = refl
@@ -123,7 +120,7 @@ pub all_columns_same : (tables : List TableDef) (items : List Item) (place : ℕ
 all_columns_same tables [] place = refl
 all_columns_same tables (i ∷ more) place =
     (λ k. from_same i.name place (columns_of tables i.table) 0 k ++ all_columns_same tables more (place + 1) k)
-    ∙ sym (map_append (λ (c : InReach). c.at) (reach_from i.name place 0 (columns_of tables i.table))
+    ∙ sym (map-append (λ (c : InReach). c.at) (reach_from i.name place 0 (columns_of tables i.table))
     (reach_of tables (place + 1) more))
 
 -- ---- conditions

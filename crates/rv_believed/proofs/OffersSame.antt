@@ -1,7 +1,7 @@
 -- Bridge: what a select offers is what the working definition gathers with the rows chosen so far.
-use Rattle.std.proofs.Common.{◌≡◌, ℕ, List, [], ◌∷◌, ◌++◌, refl, sym, ap, ◌∙◌, map, filter}
+use Rattle.std.proofs.Common.{◌≡◌, ℕ, List, [], ◌∷◌, ◌++◌, refl, sym, ap, ◌∙◌, map, filter, append_assoc}
 use Rattle.std.specs.List.{flat_map}
-use Rattle.std.proofs.lemmas.List.{append-nil}
+use Rattle.std.proofs.lemmas.List.{append-nil, map-append}
 use Rattle.std.proofs.lemmas.List.Elements.{filter_agree}
 use Rattle.rv_value.specs.declared.value.Value.{Value}
 use Rattle.rv_value.specs.declared.record.Record.{Record}
@@ -12,12 +12,7 @@ use Rattle.rv_model.specs.Offering as working
 use Rattle.rv_model.specs.Offering.{offers_over}
 use Rattle.rv_believed.specs.Offers.{choices, offer_of, offers_of}
 use Rattle.rv_believed.specs.Truth.{keeps}
-use Rattle.rv_believed.proofs.Chains.{append_assoc}
 use Rattle.rv_believed.proofs.TruthSame.{keeps_same}
-
-map_append : {A B : Type 0} (f : A → B) (xs ys : List A) → map f (xs ++ ys) ≡ map f xs ++ map f ys
-map_append f [] ys = refl
-map_append f (x ∷ xs) ys = ap (λ l. f x ∷ l) (map_append f xs ys)
 
 map_over : (chosen : List (List Value)) (v : List Value) (cs : List (List (List Value)))
     → map (λ c. (chosen ++ v ∷ []) ++ c) cs ≡ map (λ c. chosen ++ c) (map (λ c. v ∷ c) cs)
@@ -32,7 +27,7 @@ over : (rows : ℕ → List Record) (ts : List ℕ) (chosen : List (List Value))
 over rows ts chosen rest [] = refl
 over rows ts chosen rest (r ∷ rs) =
     (λ k. (rest (chosen ++ r.values ∷ []) ∙ map_over chosen r.values (choices (map rows ts))) k ++ over rows ts chosen rest rs k)
-    ∙ sym (map_append (λ c. chosen ++ c) (map (λ c. r.values ∷ c) (choices (map rows ts)))
+    ∙ sym (map-append (λ c. chosen ++ c) (map (λ c. r.values ∷ c) (choices (map rows ts)))
     (flat_map (λ (q : Record). map (λ c. q.values ∷ c) (choices (map rows ts))) rs))
 
 choices_same : (rows : ℕ → List Record) (ts : List ℕ) (chosen : List (List Value))

@@ -1,5 +1,5 @@
 -- After every legal history the database is orderly.
-use Rattle.std.proofs.Common.{◌≡◌, ℕ, ◌+◌, ◌<◌, List, [], ◌∷◌, ◌++◌, Option, Some, None, Result, Ok, Err, Bool, true, false, ◌&&◌, refl, sym, ap, ◌∙◌, subst, is_some, length, nat_lt, nat_eq, arith, bytes_eq}
+use Rattle.std.proofs.Common.{◌≡◌, ℕ, ◌+◌, ◌<◌, List, [], ◌∷◌, ◌++◌, Option, Some, None, Result, Ok, Err, Bool, true, false, ◌&&◌, refl, sym, ap, ◌∙◌, subst, is_some, length, nat_lt, nat_eq, arith, bytes_eq, length-set}
 use Rattle.std.specs.Prelude.{remove}
 use Rattle.std.specs.List.{AllByRecursion}
 use Rattle.rv_value.proofs.Tests.{no_other, same_number}
@@ -33,7 +33,7 @@ use Rattle.rv_model.specs.Step.{Outcome, began, changed, closed, committed, comm
 use Rattle.rv_model.specs.Transactions as transactions
 use Rattle.rv_model.specs.Transactions.{no_transaction, refuse_at, transaction_at, transaction_of}
 use Rattle.rv_believed.specs.Orderly.{BeginsBefore, EachTwo, IsOrderly, IsOther, StaysOrderly}
-use Rattle.rv_believed.proofs.Pairs.{all_last, all_put, last_same, none_passes, put_length, two_filter, two_last, two_put, two_without, without_same}
+use Rattle.rv_believed.proofs.Pairs.{all_last, all_put, last_same, none_passes, two_filter, two_last, two_put, two_without, without_same}
 use Rattle.rv_believed.proofs.PlainLists.{all_remove}
 
 -- ---- what an answer has, where there is one
@@ -81,7 +81,7 @@ own_keeps t own changes touched h b =
       active = two_put BeginsBefore t.active own new no_transaction h
           (λ y r. record { session = r.session; number = r.number }) (λ y r. record { session = r.session; number = r.number });
       below = all_put (λ (u : Transaction). u.number < t.next) t.active own new no_transaction b (λ p. p);
-      count = put_length t.active own new;
+      count = length-set t.active own new;
     }
 
 insert_keeps : (t : Transactions) (session table : ℕ) (vs : List Value) → EachTwo BeginsBefore t.active → AreBelow t.next t.active

@@ -56,11 +56,6 @@ last_same [] (z ∷ ys) x y e = absurd (omega (arith, e))
 last_same (z ∷ xs) [] x y e = absurd (omega (arith, e))
 last_same (z ∷ xs) (w ∷ ys) x y e = let rest : length (xs ++ x ∷ []) ≡ length (ys ++ y ∷ []) = last_same xs ys x y (omega (arith, e)) in omega (arith, rest)
 
-pub put_length : {X : Type 0} (xs : List X) (n : ℕ) (x : X) → length (slice_set xs n x) ≡ length xs
-put_length [] n x = refl
-put_length (y ∷ xs) zero x = refl
-put_length (y ∷ xs) (suc n) x = let rest : length (slice_set xs n x) ≡ length xs = put_length xs n x in omega (arith, rest)
-
 -- ---- none passes, where none is found
 
 is_none_at : (b : Bool) (n : ℕ) → is_some (cond b (Some n) None) ≡ false → b ≡ false

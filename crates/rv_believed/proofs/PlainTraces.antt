@@ -1,5 +1,5 @@
 -- What SHOW answers has the names of indexes of the schema.
-use Rattle.std.proofs.Common.{◌≡◌, ℕ, ◌+◌, ◌∷◌, ◌++◌, [], List, Option, Some, None, Bool, true, false, refl, sym, ◌∙◌, subst, length, map, nat_eq, if◌then◌else◌}
+use Rattle.std.proofs.Common.{◌≡◌, ℕ, ◌+◌, ◌∷◌, ◌++◌, [], List, Option, Some, None, Bool, true, false, refl, sym, ◌∙◌, subst, length, map, nat_eq, if◌then◌else◌, append_assoc}
 use Rattle.std.proofs.Math.Seq.{get_or-append_seam}
 use Rattle.std.specs.Prelude.{IfSome}
 use Rattle.std.specs.List.{AllByRecursion, slice_index_or, list_all}
@@ -24,7 +24,6 @@ use Rattle.rv_model.specs.Database.{index_at, no_index}
 use Rattle.rv_model.specs.Showing.{ShowsTrace, numbers_over, shown_event}
 use Rattle.rv_model.specs.Transcript.{IsName as IsPlainName}
 use Rattle.rv_believed.specs.Plain.{IsPlainEvent}
-use Rattle.rv_believed.proofs.Chains.{append_assoc}
 use Rattle.rv_believed.proofs.KindsSame.{one_longer}
 use Rattle.rv_believed.proofs.PlainLists.{all_map}
 

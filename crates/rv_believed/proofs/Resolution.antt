@@ -1,10 +1,11 @@
 -- Bridge: a statement asks what it asks by the working definition, or has the same first refusal.
-use Rattle.std.proofs.Common.{◌≡◌, refl, sym, ap, subst, ◌∙◌}
+use Rattle.std.proofs.Common.{◌≡◌, refl, sym, ap, subst, ◌∙◌, append_assoc}
 use Rattle.std.proofs.Math.Seq.{get_or-append_seam}
 use Rattle.std.specs.Prelude.{ℕ, ℤ, pos, negsuc, List, [], ◌∷◌, ◌++◌, ◌+◌, Bool, true, false, not, cond, ◌||◌, nat_lt, Option, Some, None, Result, Ok, Err, bytes_eq, is_some, length, map, filter}
 use Rattle.std.specs.List.{list_any, slice_index_or, AllByRecursion}
 use Rattle.std.specs.Option.{unwrap_or}
 use Rattle.std.proofs.lemmas.List.{append-nil}
+use Rattle.std.proofs.lemmas.List.Folds.{list_any-append}
 use Rattle.rv_value.proofs.Tests.{right_false}
 use Rattle.rv_value.proofs.Lists.{all_filter}
 use Rattle.rv_value.specs.declared.value.Kind.{Kind}
@@ -37,7 +38,7 @@ use Rattle.rv_catalog.specs.Schema.{Schema, columns_of, index_named, table_named
 use Rattle.rv_believed.specs.Answers.{Test, answers}
 use Rattle.rv_believed.specs.Limits.{at_most, kind_fits, is_outside, names_fit, within_limits}
 use Rattle.rv_believed.specs.Names.{InReach, reach_from, reach_of, reach_alone, fits, reference, references, plain_column, column_number, condition_of, is_of_kind, is_too_long, can_hold, row_kinds, set_kind, kinds, all_differ, table_number, number_of, column_def, goal_of, item_of, columns_returned, set_of, asked_in, resolution}
-use Rattle.rv_believed.proofs.Chains.{append_assoc, in_a_row, same_after, collected_same}
+use Rattle.rv_believed.proofs.Chains.{in_a_row, same_after, collected_same}
 use Rattle.rv_believed.proofs.LimitsSame.{limits_same}
 use Rattle.rv_believed.proofs.NamesSame.{reference_same, all_columns_same, condition_same, own_same, at_of}
 use Rattle.rv_believed.proofs.KindsSame.{one_longer, only_at, list_agrees, kinds_agree}
@@ -49,14 +50,6 @@ or_swap true true = refl
 or_swap true false = refl
 or_swap false true = refl
 or_swap false false = refl
-
-or_assoc : (a b c : Bool) → (a || b) || c ≡ a || (b || c)
-or_assoc true b c = refl
-or_assoc false b c = refl
-
-any_append : {X : Type 0} (p : X → Bool) (xs ys : List X) → list_any p (xs ++ ys) ≡ list_any p xs || list_any p ys
-any_append p [] ys = refl
-any_append p (x ∷ xs) ys = ap (λ b. p x || b) (any_append p xs ys) ∙ sym (or_assoc (p x) (list_any p xs) (list_any p ys))
 
 differ_step : (b : Bool) (n : List ℕ) (t : Test) (o : Option (List ℕ)) → t ≡ refuse_some o Exists
     → (refuse_if b (Exists n) >>= (λ u. t)) ≡ refuse_some (cond b (Some n) o) Exists
@@ -73,7 +66,7 @@ differ_from name_of seen before same (x ∷ xs) =
     ∙ differ_step (today.stands_among name_of seen n) n (all_differ (n ∷ before) (map name_of xs))
     (today.first_repeat name_of (seen ++ x ∷ []) xs)
     (differ_from name_of (seen ++ x ∷ []) (n ∷ before)
-    (λ m. sym (any_append (λ y. bytes_eq m (name_of y)) seen (x ∷ [])
+    (λ m. sym (list_any-append (λ y. bytes_eq m (name_of y)) seen (x ∷ [])
     ∙ or_swap (bytes_eq m n) (list_any (λ y. bytes_eq m (name_of y)) seen)
     ∙ ap (λ b. bytes_eq m n || b) (sym (same m)))) xs)
 

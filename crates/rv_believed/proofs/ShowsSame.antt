@@ -3,6 +3,7 @@ use Rattle.std.proofs.Common.{◌≡◌, ◌≢◌, ℕ, zero, suc, ◌<◌, ◌
 use Rattle.std.specs.List.{AllByRecursion, Contains, list_all, slice_index_or}
 use Rattle.std.specs.Option.{option_to_list}
 use Rattle.std.proofs.lemmas.Bool.{and_from, and_parts, eqb-true, or_parts}
+use Rattle.std.proofs.Math.Bool.{or-true}
 use Rattle.rv_value.proofs.Tests.{no_other, same_number}
 use Rattle.rv_judge.specs.declared.events.Strategy.{Strategy}
 use Rattle.rv_judge.specs.declared.events.Strategy.TheVariants.{Table, BackgroundOnly, FastFirst, Sorted, IndexOnly, Union}
@@ -44,14 +45,10 @@ contains_of : (i : ℕ) (ns : List ℕ) → has_index i ns ≡ true → Contains
 contains_of i [] h = no_other h
 contains_of i (n ∷ ns) h = contains_by n i ns (nat_eq n i) refl h (contains_of i ns)
 
-or_true : (b : Bool) → (b || true) ≡ true
-or_true true = refl
-or_true false = refl
-
 has_at : (ns : List ℕ) (i k : ℕ) → k < length ns → slice_index_or ns k i ≡ i → has_index i ns ≡ true
 has_at [] i k lt e = absurd (omega (arith, lt))
 has_at (n ∷ ns) i zero lt e = (λ j. nat_eq (e j) i || has_index i ns) ∙ ap (λ b. b || has_index i ns) (same_number i)
-has_at (n ∷ ns) i (suc k) lt e = ap (λ b. nat_eq n i || b) (has_at ns i k (omega (arith, lt)) e) ∙ or_true (nat_eq n i)
+has_at (n ∷ ns) i (suc k) lt e = ap (λ b. nat_eq n i || b) (has_at ns i k (omega (arith, lt)) e) ∙ or-true (nat_eq n i)
 
 has_of : (i : ℕ) (ns : List ℕ) → Contains ns i → has_index i ns ≡ true
 has_of i ns h = has_at ns i h.0 h.1 h.2

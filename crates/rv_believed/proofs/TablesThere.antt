@@ -1,5 +1,5 @@
 -- After every history each table has a list of rows, and row numbers were taken of tables alone.
-use Rattle.std.proofs.Common.{◌≡◌, ℕ, zero, suc, ◌+◌, ◌-◌, ◌<◌, ◌≤◌, List, [], ◌∷◌, ◌++◌, Option, Some, None, Result, Ok, Err, Bool, true, false, cond, refl, ◌∙◌, subst, arith, is_some, length, map, nat_lt, slice_set, if◌then◌else◌}
+use Rattle.std.proofs.Common.{◌≡◌, ℕ, zero, suc, ◌+◌, ◌-◌, ◌<◌, ◌≤◌, List, [], ◌∷◌, ◌++◌, Option, Some, None, Result, Ok, Err, Bool, true, false, cond, refl, ◌∙◌, subst, arith, is_some, length, map, nat_lt, slice_set, if◌then◌else◌, length-set}
 use Rattle.std.proofs.lemmas.Bool.{ltb-false, ltb-true}
 use Rattle.std.proofs.lemmas.List.{length-append}
 use Rattle.std.proofs.lemmas.List.FromFn.{length-map-range_with_len}
@@ -40,7 +40,7 @@ use Rattle.rv_believed.proofs.ChangingOfState.{changes_by, no_holder, no_later_c
 use Rattle.rv_believed.proofs.ChangingSame.{change_same, insert_same}
 use Rattle.rv_believed.proofs.CommitsSame.{begin_same}
 use Rattle.rv_believed.proofs.OrderlyStates.{Gives, empty_orderly, next_orderly, then_gives}
-use Rattle.rv_believed.proofs.Pairs.{last_same, put_length}
+use Rattle.rv_believed.proofs.Pairs.{last_same}
 use Rattle.rv_believed.proofs.Resolution.{resolution_same}
 use Rattle.rv_believed.proofs.TakenStates.{empty_taken, next_taken}
 
@@ -129,7 +129,7 @@ untouched_length (suc n) = let e : length (empty_lists n) ≡ n = untouched_leng
 number_length : (touched : List (List ℕ)) (table n : ℕ) (b : Bool) → nat_lt table (length touched) ≡ b → length touched ≤ n → table < n
     → length (if b then slice_set touched table (touched_in touched table ++ 0 ∷ []) else touched ++ empty_lists (table - length touched) ++ (0 ∷ []) ∷ []) ≤ n
 number_length touched table n true e le lt =
-    let p : length (slice_set touched table (touched_in touched table ++ 0 ∷ [])) ≡ length touched = put_length touched table (touched_in touched table ++ 0 ∷ []) in
+    let p : length (slice_set touched table (touched_in touched table ++ 0 ∷ [])) ≡ length touched = length-set touched table (touched_in touched table ++ 0 ∷ []) in
     let all : length (slice_set touched table (touched_in touched table ++ 0 ∷ [])) ≤ n = omega (arith, p, le) in
     all
 number_length touched table n false e le lt =
@@ -145,7 +145,7 @@ number_length touched table n false e le lt =
 touch_length : (commit : ℕ) (cs : List Change) (touched : List (List ℕ)) → length (touch_all commit cs touched) ≡ length touched
 touch_length commit [] touched = refl
 touch_length commit (c ∷ cs) touched = touch_length commit cs (touch commit c touched)
-    ∙ put_length touched c.table (slice_set (touched_in touched c.table) c.row.0 commit)
+    ∙ length-set touched c.table (slice_set (touched_in touched c.table) c.row.0 commit)
 
 -- ---- statements
 

@@ -1,8 +1,9 @@
 -- After every legal history each row has a number that its table gave.
-use Rattle.std.proofs.Common.{◌≡◌, ℕ, zero, suc, ◌+◌, ◌-◌, ◌<◌, ◌≤◌, List, [], ◌∷◌, ◌++◌, Option, Some, None, Result, Ok, Err, Bool, true, false, refl, sym, ap, ◌∙◌, subst, filter, map, length, nat_lt, nat_eq, not, arith, if◌then◌else◌}
+use Rattle.std.proofs.Common.{◌≡◌, ℕ, zero, suc, ◌+◌, ◌-◌, ◌<◌, ◌≤◌, List, [], ◌∷◌, ◌++◌, Option, Some, None, Result, Ok, Err, Bool, true, false, refl, sym, ap, ◌∙◌, subst, filter, map, length, nat_lt, nat_eq, not, arith, if◌then◌else◌, length-set}
 use Rattle.std.specs.Prelude.{remove, slice_set}
 use Rattle.std.specs.List.{AllByRecursion, range_with_len, slice_index_or}
 use Rattle.std.proofs.lemmas.Bool.{eqb-true, ltb-false, ltb-true}
+use Rattle.std.proofs.lemmas.List.{get_or_past, length_push}
 use Rattle.rv_value.proofs.Lists.{all_append, all_filter}
 use Rattle.rv_value.specs.declared.value.Value.{Value}
 use Rattle.rv_value.specs.declared.record.Record.{Record}
@@ -54,32 +55,23 @@ set_length (x ∷ xs) zero (suc t) y e = refl
 set_length (x ∷ xs) (suc n) zero y e = refl
 set_length (x ∷ xs) (suc n) (suc t) y e = set_length xs n t y e
 
-item_length : (ns : List ℕ) (k c : ℕ) → length (slice_set ns k c) ≡ length ns
-item_length [] k c = refl
-item_length (n ∷ ns) zero c = refl
-item_length (n ∷ ns) (suc k) c = let rest : length (slice_set ns k c) ≡ length ns = item_length ns k c in omega (arith, rest)
-
 touch_same : (commit : ℕ) (c : Change) (touched : List (List ℕ)) (t : ℕ) → next_row (touch commit c touched) t ≡ next_row touched t
-touch_same commit c touched t = set_length touched c.table t (slice_set (touched_in touched c.table) c.row.0 commit) (item_length (touched_in touched c.table) c.row.0 commit)
+touch_same commit c touched t = set_length touched c.table t (slice_set (touched_in touched c.table) c.row.0 commit) (length-set (touched_in touched c.table) c.row.0 commit)
 
 pub touch_all_same : (commit : ℕ) (cs : List Change) (touched : List (List ℕ)) (t : ℕ) → next_row (touch_all commit cs touched) t ≡ next_row touched t
 touch_all_same commit [] touched t = refl
 touch_all_same commit (c ∷ cs) touched t = touch_all_same commit cs (touch commit c touched) t ∙ touch_same commit c touched t
 
-one_longer : (ns : List ℕ) → length (ns ++ 0 ∷ []) ≡ length ns + 1
-one_longer [] = refl
-one_longer (n ∷ ns) = let rest : length (ns ++ 0 ∷ []) ≡ length ns + 1 = one_longer ns in omega (arith, rest)
-
 set_rises : (xs : List (List ℕ)) (n t : ℕ) → length (slice_index_or xs t []) ≤ length (slice_index_or (slice_set xs n (slice_index_or xs n [] ++ 0 ∷ [])) t [])
 set_rises [] n t = omega arith
-set_rises (x ∷ xs) zero zero = let e = one_longer x in omega (arith, e)
+set_rises (x ∷ xs) zero zero = let e = length_push x 0 in omega (arith, e)
 set_rises (x ∷ xs) zero (suc t) = omega arith
 set_rises (x ∷ xs) (suc n) zero = omega arith
 set_rises (x ∷ xs) (suc n) (suc t) = set_rises xs n t
 
 set_gives : (xs : List (List ℕ)) (n : ℕ) → n < length xs → length (slice_index_or xs n []) < length (slice_index_or (slice_set xs n (slice_index_or xs n [] ++ 0 ∷ [])) n [])
 set_gives [] n lt = absurd (omega (arith, lt))
-set_gives (x ∷ xs) zero lt = let e = one_longer x in omega (arith, e)
+set_gives (x ∷ xs) zero lt = let e = length_push x 0 in omega (arith, e)
 set_gives (x ∷ xs) (suc n) lt = set_gives xs n (omega (arith, lt))
 
 behind_rises : (xs more : List (List ℕ)) (t : ℕ) → length (slice_index_or xs t []) ≤ length (slice_index_or (xs ++ more) t [])
@@ -91,11 +83,6 @@ behind_rises (x ∷ xs) more (suc t) = behind_rises xs more t
 past_empty : (k : ℕ) → slice_index_or (empty_lists k ++ (0 ∷ []) ∷ []) k [] ≡ 0 ∷ []
 past_empty zero = refl
 past_empty (suc k) = past_empty k
-
-none_there : (xs : List (List ℕ)) (n : ℕ) → length xs ≤ n → slice_index_or xs n [] ≡ []
-none_there [] n le = refl
-none_there (x ∷ xs) zero le = absurd (omega (arith, le))
-none_there (x ∷ xs) (suc n) le = none_there xs n (omega (arith, le))
 
 past_by : (n m k : ℕ) (us : List (List ℕ)) → n ≡ m → slice_index_or us m [] ≡ 0 ∷ [] → slice_index_or us n [] ≡ 0 ∷ []
 past_by n m k us e h = subst (λ j. slice_index_or us j [] ≡ 0 ∷ []) (sym e) h
@@ -123,7 +110,7 @@ given_by : (touched : List (List ℕ)) (table : ℕ) (b : Bool) → nat_lt table
 given_by touched table true e = set_gives touched table (ltb-true table (length touched) e)
 given_by touched table false e =
     let le : length touched ≤ table = ltb-false table (length touched) e in
-    let before : length (slice_index_or touched table []) ≡ 0 = ap (λ (ns : List ℕ). length ns) (none_there touched table le) in
+    let before : length (slice_index_or touched table []) ≡ 0 = ap (λ (ns : List ℕ). length ns) (get_or_past touched table [] le) in
     let now : length (slice_index_or (touched ++ empty_lists (table - length touched) ++ (0 ∷ []) ∷ []) table []) ≡ 1 =
     ap (λ (ns : List ℕ). length ns) (past_end touched table (table - length touched) (omega (arith, le))) in
     omega (arith, before, now)

@@ -104,9 +104,6 @@ set_insert xs i n x y h e = rw e (set_first xs i x y h)
     set_first (v ∷ zs) zero z w l = refl
     set_first (v ∷ zs) (suc k) z w l = ap (λ us. v ∷ us) (set_first zs k z w (omega arith))
 
-pub add_one : (n : ℕ) → n + 1 ≡ suc n
-add_one n = omega arith
-
 -- an item that was read from a block, and its copy
 pub got_copy : {X : Type 0} (bs : List (List X)) (i j : ℕ) (x y : X) (b c : List X) → i < length bs → b ≡ slice_index_or bs i b → j < length (block_at bs i) → c ≡ b → x ≡ slice_index_or c j x → y ≡ x → slice_get (flat bs) (start_of bs i + j) ≡ Some y
 got_copy bs i j x y b c h e k f r s =

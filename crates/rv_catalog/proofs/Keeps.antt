@@ -6,6 +6,7 @@ use Rattle.std.proofs.lemmas.Bool.Decides.{nat_tests}
 use Rattle.std.proofs.lemmas.List.{length-take}
 use Rattle.std.proofs.lemmas.Bool.{and_from}
 use Rattle.std.specs.Cmp.{first_so, second_so}
+use Rattle.std.proofs.lemmas.List.Filters.{length-filter_both}
 use Rattle.rv_value.proofs.Lists.{passes_more, passes_take}
 use Rattle.rv_catalog.specs.declared.def.IndexDef.{IndexDef}
 use Rattle.rv_catalog.specs.declared.def.TableDef.{TableDef}
@@ -86,10 +87,6 @@ index_cut f keys tables indexes n k = record { named = cut f (λ (i : IndexDef).
 
 -- Eight indexes a table are at most eight times as many as the tables.
 
-split : {X : Type 0} (p : X → Bool) (xs : List X) → length xs ≡ length (filter p xs) + length (filter (λ x. not (p x)) xs)
-split p [] = refl
-split p (x ∷ xs) = let k = split p xs in elim (p x) as (λ b. length (x ∷ xs) ≡ length (cond b (x ∷ filter p xs) (filter p xs)) + length (cond (not b) (x ∷ filter (λ x. not (p x)) xs) (filter (λ x. not (p x)) xs))) [ true ↦ omega (arith, k) | false ↦ omega (arith, k) ]
-
 filter_twice : {X : Type 0} (p q : X → Bool) (xs : List X) → length (filter p (filter q xs)) ≤ length (filter p xs)
 filter_twice p q [] = omega arith
 filter_twice p q (x ∷ xs) = let k = filter_twice p q xs in elim (q x) as (λ c. length (filter p (cond c (x ∷ filter q xs) (filter q xs))) ≤ length (filter p (x ∷ xs))) [
@@ -110,7 +107,7 @@ none_below (i ∷ more) h = let b : i.table < 0 = let a = first_so (is_below 0 i
 
 eight_each : (n : ℕ) (indexes : List IndexDef) → list_all (is_below n) indexes ≡ true → ((t : ℕ) → indexes_over t indexes ≤ 8) → length indexes ≤ 8 * n
 eight_each zero indexes h few = omega (arith, none_below indexes h)
-eight_each (suc n) indexes h few = let s = split (is_over n) indexes in let f = few n in let r = eight_each n (filter (λ i. not (is_over n i)) indexes) (others_below n indexes (rw add-one h)) (λ t. let g = few t in let k = filter_twice (is_over t) (λ i. not (is_over n i)) indexes in omega (arith, g, k)) in omega (arith, s, f, r)
+eight_each (suc n) indexes h few = let s = length-filter_both (is_over n) (λ i. not (is_over n i)) (λ i. refl) indexes in let f = few n in let r = eight_each n (filter (λ i. not (is_over n i)) indexes) (others_below n indexes (rw add-one h)) (λ t. let g = few t in let k = filter_twice (is_over t) (λ i. not (is_over n i)) indexes in omega (arith, g, k)) in omega (arith, s, f, r)
 
 pub few_indexes : (names : List (List ℕ)) (tables : ℕ) (indexes : List IndexDef) → tables ≤ 64 → KeepsIndexes names tables indexes → length indexes ≤ 512
 few_indexes names tables indexes room k = let e = eight_each tables indexes k.there k.few in omega (arith, e, room)

@@ -3,6 +3,7 @@ use Rattle.std.proofs.Common.{◌≡◌, ℕ, ◌+◌, ◌*◌, ◌<◌, ◌≤�
 use Rattle.std.proofs.lemmas.Bool.{cases_Bool}
 use Rattle.std.proofs.lemmas.Bool.Decides.{nat_tests}
 use Rattle.std.specs.List.{AllByRecursion}
+use Rattle.std.proofs.lemmas.List.Filters.{length-filter_both}
 
 -- the items of a kind
 abbrev pub of_kind : {X : Type 0} → (X → ℕ) → ℕ → List X → List X
@@ -10,15 +11,6 @@ of_kind kind n xs = filter (λ x. kind x == n) xs
 
 abbrev pub FewEach : {X : Type 0} → (X → ℕ) → ℕ → List X → Type 0
 FewEach kind most xs = (n : ℕ) → length (of_kind kind n xs) ≤ most
-
-split : {X : Type 0} (p : X → Bool) (xs : List X) → length xs ≡ length (filter p xs) + length (filter (λ x. not (p x)) xs)
-split p [] = refl
-split p (x ∷ xs) =
-    let rest = split p xs in
-    elim (cases_Bool (p x)) [
-      | inl t ↦ rw (t) (omega (arith, rest))
-      | inr f ↦ rw (f) (omega (arith, rest))
-    ]
 
 filter_few : {X : Type 0} (p q : X → Bool) (xs : List X) → length (filter q (filter p xs)) ≤ length (filter q xs)
 filter_few p q [] = omega arith
@@ -53,7 +45,7 @@ none kind (x ∷ xs) all = let h = all.0 in absurd (omega (arith, h))
 pub few_all : {X : Type 0} (kind : X → ℕ) (most n : ℕ) (xs : List X) → AllByRecursion (λ x. kind x < n) xs → FewEach kind most xs → length xs ≤ n * most
 few_all kind most zero xs all few = let e = none kind xs all in omega (arith, e)
 few_all kind most (suc n) xs all few =
-    let s = split (λ x. kind x == n) xs in
+    let s = length-filter_both (λ x. kind x == n) (λ x. not (kind x == n)) (λ x. refl) xs in
     let own = few n in
     let rest = few_all kind most n (filter (λ x. not (kind x == n)) xs) (below kind n xs all) (few_filter kind most (λ x. not (kind x == n)) xs few) in
     let e : suc n * most ≡ most + n * most = omega arith in

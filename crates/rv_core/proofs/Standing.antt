@@ -1,5 +1,5 @@
 -- What each statement does to the database of a core.
-use Rattle.std.proofs.Common.{◌≡◌, ℕ, zero, suc, ◌+◌, ◌<◌, ◌≤◌, List, [], ◌∷◌, ◌++◌, refl, ap, sym, ◌∙◌, subst, arith, map, length, length-append, remove, slice_set, Result, Ok, Err, IfOk, OnErr, Option, Some, None, Bool, true, false, nat_lt, inl, inr, ◌⊎◌, ◌≢◌, eqb, IfSome}
+use Rattle.std.proofs.Common.{◌≡◌, ℕ, zero, suc, ◌+◌, ◌<◌, ◌≤◌, List, [], ◌∷◌, ◌++◌, refl, ap, sym, ◌∙◌, subst, arith, map, length, length-append, remove, slice_set, Result, Ok, Err, IfOk, OnErr, Option, Some, None, Bool, true, false, nat_lt, inl, inr, ◌⊎◌, ◌≢◌, eqb, IfSome, length-set}
 use Rattle.std.specs.List.{AllByRecursion}
 use Rattle.std.proofs.lemmas.List.Quantifiers.{position-Some}
 use Rattle.std.proofs.lemmas.Bool.{cases_Bool}
@@ -43,7 +43,7 @@ use Rattle.rv_core.specs.Storing.{CommitsTo, changed_over}
 use Rattle.rv_core.proofs.Facts.{all_at, all_map, all_put}
 use Rattle.rv_core.proofs.Images.{base_at, map_remove, set_same, image_stays, bases_stay, image_committed, image_created}
 use Rattle.rv_core.proofs.Numbers.{TakesOne, takes_more, takes_one}
-use Rattle.rv_core.proofs.Tied.{actives_more, own_changes, horizon_low, horizon_last, none_lowest, set_length, tied_more}
+use Rattle.rv_core.proofs.Tied.{actives_more, own_changes, horizon_low, horizon_last, none_lowest, tied_more}
 
 pub does : (o : Outcome) (old : Stand) (new : State) (reply : Reply) → o ≡ Ok (reply, new) → Does o old (reply, reply) (record old { db = new })
 does o old new reply h = rw h (refl, refl, refl)
@@ -330,7 +330,7 @@ tied_inserted shown schema txns new session table values row tied there wide h =
 
 sets_length : (sets : List (ℕ × Value)) (values : List Value) → length (calls.with_sets sets values) ≡ length values
 sets_length [] values = refl
-sets_length (s ∷ sets) values = sets_length sets (slice_set values s.0 s.1) ∙ set_length values s.0 s.1
+sets_length (s ∷ sets) values = sets_length sets (slice_set values s.0 s.1) ∙ length-set values s.0 s.1
 
 -- a row that a change of own may be made of
 pub record IsRow (shown : Shown) (touched : List (List ℕ)) (table : ℕ) (r : Record) : Type 0 where

@@ -1,5 +1,5 @@
 -- A database stays tied to its store under the store's calls.
-use Rattle.std.proofs.Common.{◌≡◌, ℕ, zero, suc, ◌+◌, ◌<◌, ◌≤◌, List, [], ◌∷◌, ◌++◌, refl, ap, sym, ◌∙◌, subst, arith, length, length-append, slice_set, Option, Some, None, inl, inr, ◌≢◌, eqb, true, false, filter, IfSome}
+use Rattle.std.proofs.Common.{◌≡◌, ℕ, zero, suc, ◌+◌, ◌<◌, ◌≤◌, List, [], ◌∷◌, ◌++◌, refl, ap, sym, ◌∙◌, subst, arith, length, length-append, slice_set, Option, Some, None, inl, inr, ◌≢◌, eqb, true, false, filter, IfSome, length-set}
 use Rattle.std.specs.List.{AllByRecursion, slice_index_or}
 use Rattle.std.proofs.Math.Seq.{get_or-append_seam}
 use Rattle.std.proofs.lemmas.List.{get_or_append_left}
@@ -199,14 +199,9 @@ applied_taken shown touched table (c ∷ cs) rows fits a = elim (eqb_tells c.tab
   | inr other ↦ rw other.0 (applied_taken shown touched table cs rows fits.1 a)
 ]
 
-pub set_length : {X : Type 0} (xs : List X) (i : ℕ) (x : X) → length (slice_set xs i x) ≡ length xs
-set_length [] i x = refl
-set_length (y ∷ ys) zero x = refl
-set_length (y ∷ ys) (suc i) x = ap (λ n. suc n) (set_length ys i x)
-
 set_row : (touched : List (List ℕ)) (table row commit i : ℕ) → next_row (slice_set touched table (slice_set (touched_in touched table) row commit)) i ≡ next_row touched i
 set_row [] table row commit i = refl
-set_row (xs ∷ touched) zero row commit zero = set_length xs row commit
+set_row (xs ∷ touched) zero row commit zero = length-set xs row commit
 set_row (xs ∷ touched) zero row commit (suc i) = refl
 set_row (xs ∷ touched) (suc table) row commit zero = refl
 set_row (xs ∷ touched) (suc table) row commit (suc i) = set_row touched table row commit i

@@ -1,7 +1,7 @@
 -- A query can be planned over what a transaction sees, where it can be planned over the transaction's snapshot.
-use Rattle.std.proofs.Common.{◌≡◌, ℕ, ◌<◌, List, [], ◌∷◌, ◌++◌, Bool, true, false, not, ◌&&◌, ◌==◌, cond, if◌then◌else◌, Option, Some, None, IfSome, refl, ap, sym, ◌∙◌, subst, arith, inl, inr, filter, length, nat_eq, nat_lt}
+use Rattle.std.proofs.Common.{◌≡◌, ℕ, ◌<◌, List, [], ◌∷◌, ◌++◌, Bool, true, false, not, ◌&&◌, ◌==◌, cond, Option, Some, None, IfSome, refl, ap, sym, ◌∙◌, subst, arith, inl, inr, filter, length, nat_eq, nat_lt}
 use Rattle.std.specs.List.{AllByRecursion, list_all}
-use Rattle.std.proofs.lemmas.Bool.{cases_Bool, and_parts}
+use Rattle.std.proofs.lemmas.Bool.{cases_Bool, and_parts, cond-true}
 use Rattle.std.proofs.lemmas.List.Folds.{list_all-append}
 use Rattle.std.proofs.lemmas.Bool.Decides.{nat_tests}
 use Rattle.rv_reader.proofs.Rows.{applied_ascends}
@@ -55,14 +55,11 @@ lays_some shown touched snap (Some f) stored viewed = lays_viewed shown snap f v
 
 -- What is kept is kept over the snapshot alone.
 
-picked : {X : Type 0} (b : Bool) (x y : X) → b ≡ true → (if b then x else y) ≡ x
-picked b x y h = rw h refl
-
 over_alone : (shown : Shown) (snap index : ℕ) → index < shown.indexes → (alone shown snap).over index ≡ shown.over index
-over_alone shown snap index low = let here : nat_lt index shown.indexes ≡ true = grind (arith, nat_tests) in picked (nat_lt index shown.indexes) (shown.over index) 0 here
+over_alone shown snap index low = let here : nat_lt index shown.indexes ≡ true = grind (arith, nat_tests) in cond-true (nat_lt index shown.indexes) (shown.over index) 0 here
 
 keys_alone : (shown : Shown) (snap index : ℕ) → index < shown.indexes → (alone shown snap).keys index ≡ shown.keys index
-keys_alone shown snap index low = let here : nat_lt index shown.indexes ≡ true = grind (arith, nat_tests) in picked (nat_lt index shown.indexes) (shown.keys index) [] here
+keys_alone shown snap index low = let here : nat_lt index shown.indexes ≡ true = grind (arith, nat_tests) in cond-true (nat_lt index shown.indexes) (shown.keys index) [] here
 
 keeps_alone : (shown : Shown) (snap : ℕ) (f : Frozen) (written : List Change) → IsStored shown → Keeps shown f written → Keeps (alone shown snap) f written
 keeps_alone shown snap f written stored keeps = record {

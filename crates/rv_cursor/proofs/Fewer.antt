@@ -1,5 +1,5 @@
 -- Of how many records a plan fetches that moves.
-use Rattle.std.proofs.Common.{◌≡◌, ℕ, ◌+◌, ◌-◌, ◌≤◌, List, [], ◌∷◌, ◌++◌, length, Option, Some, None, refl, ap, sym, ◌∙◌, subst, arith, zero, suc}
+use Rattle.std.proofs.Common.{◌≡◌, ℕ, ◌+◌, ◌-◌, ◌≤◌, List, [], ◌∷◌, ◌++◌, length, Option, Some, None, refl, ap, sym, ◌∙◌, subst, arith, zero, suc, zero-add}
 use Rattle.rv_judge.specs.declared.counting.Counts.{Counts}
 use Rattle.rv_judge.specs.declared.judging.Facts.{Facts}
 use Rattle.rv_judge.specs.Verdicts.{Ruling}
@@ -88,14 +88,11 @@ moves_few (move ∷ moves) would shown old new made one =
 lose_nothing : (would : ℕ → Facts → Ruling) (shown : Shown) (old new : Ruled) → new ≡ old → LosesNone would shown old new
 lose_nothing would shown old new same = record { moves = []; made = same; none = refl }
 
-lost_start : (n : ℕ) → n ≡ 0 + n
-lost_start n = omega arith
-
 lost_step : (all xs ys x : ℕ) → all ≡ xs + ys → all + x ≡ xs + x + ys
 lost_step all xs ys x rest = omega (arith, rest)
 
 lost_all : (xs ys : List Move) → lost_in (xs ++ ys) ≡ lost_in xs + lost_in ys
-lost_all [] ys = lost_start (lost_in ys)
+lost_all [] ys = sym (zero-add (lost_in ys))
 lost_all (x ∷ xs) ys = lost_step (lost_in (xs ++ ys)) (lost_in xs) (lost_in ys) (lost_of x) (lost_all xs ys)
 
 no_sum : (all xs ys : ℕ) → all ≡ xs + ys → xs ≡ 0 → ys ≡ 0 → all ≡ 0

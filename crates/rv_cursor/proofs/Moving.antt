@@ -1,5 +1,5 @@
 -- How a cursor's plan moves: one call after another.
-use Rattle.std.proofs.Common.{◌≡◌, ℕ, ◌+◌, ◌<◌, ◌≤◌, List, [], ◌∷◌, ◌++◌, true, false, Option, Some, None, IsSome, refl, ap, sym, ◌∙◌, subst, inl, inr, arith, zero, suc}
+use Rattle.std.proofs.Common.{◌≡◌, ℕ, ◌+◌, ◌<◌, ◌≤◌, List, [], ◌∷◌, ◌++◌, true, false, Option, Some, None, IsSome, refl, ap, sym, ◌∙◌, subst, inl, inr, arith, zero, suc, add-one}
 use Rattle.rv_judge.specs.declared.counting.Counts.{Counts}
 use Rattle.rv_judge.specs.declared.judging.Facts.{Facts}
 use Rattle.rv_judge.specs.Verdicts.{Ruling}
@@ -104,14 +104,8 @@ none_works state old new none same = (none, ap (λ (p : Planned). record { plan 
 
 -- Background steps, one after another.
 
-pub less_work : (n m k : ℕ) → m ≤ n → k ≤ m → k ≤ n
-less_work n m k first then = omega (arith, first, then)
-
-next_is : (n : ℕ) → n + 1 ≡ suc n
-next_is n = omega arith
-
 pub backs_more : (done : ℕ) (v w : ℕ → Facts → Ruling) (s t : Shown) (a b c : Ruled) → v ≡ w → s ≡ t → StepsBacks done w t a b → WorksPiece true v s b c → StepsBacks (done + 1) w t a c
-backs_more done v w s t a b c rule seen first back = subst (λ (n : ℕ). StepsBacks n w t a c) (sym (next_is done)) (b, first, turned (λ u x. StepsBack u x b c) v w s t rule seen back)
+backs_more done v w s t a b c rule seen first back = subst (λ (n : ℕ). StepsBacks n w t a c) (sym (add-one done)) (b, first, turned (λ u x. StepsBack u x b c) v w s t rule seen back)
 
 pub backs_end : (done : ℕ) (w : ℕ → Facts → Ruling) (t : Shown) (a b c : Ruled) → StepsBacks done w t a b → (plan_awaited b.plan ≡ None) × (c ≡ b) → StepsBacks done w t a c
 backs_end done w t a b c first none = subst (StepsBacks done w t a) (sym none.1) first
@@ -125,7 +119,7 @@ backs_counted zero would shown old new steps = ap (λ (s : Ruled). plan_pieces s
 backs_counted (suc n) would shown old new steps = steps.2.gives.counted ∙ ap one_more (steps.2.takes.pieces ∙ backs_counted n would shown old steps.0 steps.1)
 
 pub beside_more : (done : ℕ) (v w : ℕ → Facts → Ruling) (s t : Shown) (a b c : Ruled) → v ≡ w → s ≡ t → StepsBeside done w t a b → stack_builds b.plan.stack ≡ true → WorksPiece true v s b c → StepsBeside (done + 1) w t a c
-beside_more done v w s t a b c rule seen first builds back = subst (λ (n : ℕ). StepsBeside n w t a c) (sym (next_is done)) (b, first, builds, turned (λ u x. StepsBack u x b c) v w s t rule seen back)
+beside_more done v w s t a b c rule seen first builds back = subst (λ (n : ℕ). StepsBeside n w t a c) (sym (add-one done)) (b, first, builds, turned (λ u x. StepsBack u x b c) v w s t rule seen back)
 
 -- they end: none is awaited, no retrieval has both sides running, or there were as many as asked
 pub beside_none : (most done : ℕ) (w : ℕ → Facts → Ruling) (t : Shown) (a b c : Ruled) → done < most → StepsBeside done w t a b → (plan_awaited b.plan ≡ None) × (c ≡ b) → Beside most w t a c

@@ -1,5 +1,5 @@
 -- The final stage, over plain tests, numbers, controls and traces: of races and of unions, and in part of retrievals.
-use Rattle.std.proofs.Common.{◌≡◌, ◌⊎◌, ℕ, ◌-◌, ◌<◌, ◌≤◌, List, [], Bool, true, false, not, ◌&&◌, Option, None, refl, ap, sym, ◌∙◌, arith, subst, inl, inr, Result, Ok, Err, IfOk}
+use Rattle.std.proofs.Common.{◌≡◌, ◌⊎◌, ℕ, ◌-◌, List, [], Bool, true, false, not, ◌&&◌, Option, None, refl, ap, sym, ◌∙◌, arith, subst, inl, inr, Result, Ok, Err, IfOk}
 use Rattle.rv_value.specs.declared.record.Record.{Record}
 use Rattle.rv_rows.specs.Rows.{Ascend}
 use Rattle.rv_keys.specs.Keys.{has_key}
@@ -84,9 +84,6 @@ table_whole only rows at last u = same_rest only rows (λ n. true) (λ n. table_
 -- what holds of two numbers holds of those that equal them
 pub told_as : (P : ℕ → ℕ → Type 0) (a b old new : ℕ) → old ≡ a → new ≡ b → P a b → P old new
 told_as P a b old new o n h = subst (λ (x : ℕ). P x new) (sym o) (subst (λ (x : ℕ). P a x) (sym n) h)
-
-pub below : (a b c : ℕ) → c < b → b ≤ a → c < a
-below a b c l m = omega arith
 
 -- a step that reads nothing
 pub done_tries : (c : Counts) (n : ℕ) → Tries c c n n

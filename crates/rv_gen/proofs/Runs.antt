@@ -49,9 +49,6 @@ line_then old mid new l ls a b = b ∙ ap (λ (ms : List Line). ms ++ ls) a ∙ 
 pub lines_then : (old mid new ks ls : List Line) → mid ≡ old ++ ks → new ≡ mid ++ ls → new ≡ old ++ (ks ++ ls)
 lines_then old mid new ks ls a b = b ∙ ap (λ (ms : List Line). ms ++ ls) a ∙ append_assoc old ks ls
 
-pub none_yet : (old : List Line) → old ≡ old ++ []
-none_yet old = sym (append-nil old)
-
 pub row_added : (x i s : ℕ) (old now new : List Line) → now ≡ old ++ inserts x i → s ≡ state_after x (3 * i) → new ≡ now ++ line 1 (insert_text s) ∷ [] → new ≡ old ++ inserts x (i + 1)
 row_added x i s old now new a b c =
     lines_then old now new (inserts x i) (line 1 (insert_text s) ∷ []) a c

@@ -3,6 +3,7 @@ use Rattle.std.proofs.Common.{◌≡◌, ℕ, zero, suc, ◌≤◌, ◌<◌, Lis
 use Rattle.std.proofs.lemmas.Bool.{cases_Bool}
 use Rattle.std.proofs.lemmas.Option.{slice_get_read}
 use Rattle.std.specs.List.Sorted.{IsPartitionedBy}
+use Rattle.std.proofs.Math.Bool.{or-true}
 use Rattle.rv_value.specs.declared.record.IndexEntry.{IndexEntry}
 use Rattle.rv_value.specs.declared.range.Range.{Range}
 use Rattle.rv_value.specs.declared.range.Side.{Side}
@@ -30,17 +31,13 @@ passed_count goes (x ∷ xs) (suc k) h l = rw h.0 (ap suc (passed_count goes xs 
 
 -- Entries ahead of what is wanted.
 
-or_true : (a : Bool) → (a || true) ≡ true
-or_true true = refl
-or_true false = refl
-
 ahead_goes : (range : Range) (start : Option IndexEntry) (x y : IndexEntry) → comes_before x y ≡ true → is_long range x ≡ true → is_long range y ≡ true → is_ahead range start y ≡ true → is_ahead range start x ≡ true
 ahead_goes range None x y h lx ly p = before_goes range x y h lx ly p
 ahead_goes range (Some s) x y h lx ly p = elim (cases_Bool (comes_before y s)) [
   | inl t ↦ rw (lt_trans comes_before order x y s h t) refl
   | inr f ↦
       let b : before_side (place range y.key) ≡ true = rw f at p in
-      rw (before_goes range x y h lx ly b) (or_true (comes_before x s))
+      rw (before_goes range x y h lx ly b) (or-true (comes_before x s))
 ]
 
 pub ahead_parted : (range : Range) (start : Option IndexEntry) (es : List IndexEntry) → Ascend es → AreLong range es → IsPartitionedBy (is_ahead range start) es

@@ -1,5 +1,5 @@
 -- What a retrieval of an item is asked can be asked of the reader, and its restriction can be bound.
-use Rattle.std.proofs.Common.{◌≡◌, ℕ, ◌+◌, ◌*◌, ◌<◌, ◌≤◌, List, [], ◌∷◌, ◌++◌, length, max, Bool, true, false, not, ◌||◌, ◌==◌, nat_lt, refl, ap, sym, ◌∙◌, arith, subst, slice_index_or, Result, Ok, Err, IfOk}
+use Rattle.std.proofs.Common.{◌≡◌, ℕ, ◌+◌, ◌*◌, ◌<◌, ◌≤◌, List, [], ◌∷◌, ◌++◌, length, max, Bool, true, false, not, ◌||◌, ◌==◌, nat_lt, refl, ap, sym, ◌∙◌, arith, subst, slice_index_or, Result, Ok, Err, IfOk, mul-le-mul_right}
 use Rattle.std.specs.List.{AllByRecursion, list_all, list_any}
 use Rattle.std.proofs.lemmas.Bool.Decides.{nat_tests}
 use Rattle.std.proofs.lemmas.Grind.{common_steps}
@@ -89,14 +89,11 @@ can_ask a shown outer query can inside asks =
       needs = rw (item.order, item.need) here.within;
     }
 
-less_product : (r n c : ℕ) → r ≤ n → r * c ≤ n * c
-less_product r n c h = grind (arith, h)
-
 -- the life of an access to an item, in the words of what is asked
 opens_life : (a : Asked) (shown : Shown) (outer : List (List Value)) (query : Query) (v : Access) (effort : ℕ) → Asks a outer query → effort ≤ life_of v query shown → effort ≤ item_life (lives_of a.only) shown a.snap (item_at a (length outer))
 opens_life a shown outer query v effort asks most =
     let few = subst (λ (x : List (List Atom)). widths x ≤ widths a.only) (sym asks.only) (bound_widths (length outer) outer a.only) in
-    let product = less_product (lives v query.only) (lives_of a.only) (retrieval_life query shown) (more (lives v query.only) (widths query.only) (widths a.only) (lives_most v query.only) few) in
+    let product = mul-le-mul_right (retrieval_life query shown) (more (lives v query.only) (widths query.only) (widths a.only) (lives_most v query.only) few) in
     let same : retrieval_life query shown ≡ life_bound (shown.pages (item_at a (length outer)).table a.snap) (cuts_and_entries (item_at a (length outer)).indexes shown a.snap) = ap (λ t. life_bound (shown.pages t query.snap) (cuts_and_entries query.indexes shown query.snap)) asks.item.table ∙ ap (λ n. life_bound (shown.pages (item_at a (length outer)).table n) (cuts_and_entries query.indexes shown n)) asks.item.snap ∙ ap (λ l. life_bound (shown.pages (item_at a (length outer)).table a.snap) (cuts_and_entries l shown a.snap)) asks.item.over in
     subst (λ (n : ℕ). effort ≤ lives_of a.only * n) same (within effort (life_of v query shown) (lives_of a.only * retrieval_life query shown) most product)
   where

@@ -1,5 +1,5 @@
 -- What is over the row that the first level gave last, through each change of the open levels.
-use Rattle.std.proofs.Common.{◌≡◌, List, [], ◌∷◌, ◌++◌, Some, None, ap, ◌∙◌, subst}
+use Rattle.std.proofs.Common.{◌≡◌, List, [], ◌∷◌, ◌++◌, Some, None, ap, ◌∙◌, subst, append_assoc}
 use Rattle.std.specs.List.{Contains, flat_map}
 use Rattle.std.specs.List.Sorted.{IsPermutation}
 use Rattle.std.proofs.lemmas.List.Elements.{Contains-append_right}
@@ -13,7 +13,6 @@ use Rattle.rv_join.specs.declared.places.Asked.{Asked}
 use Rattle.rv_join.specs.declared.level.Level.{Level}
 use Rattle.rv_join.specs.Levels.{given_in, over_held, over_rest, over_row, still}
 use Rattle.rv_join.specs.Order.{Lead}
-use Rattle.rv_join.proofs.Opening.{assoc}
 
 pub bag_more : (a : Asked) (shown : Shown) (ls : List Level) (l : Level) → flat_map (still a shown) (ls ++ l ∷ []) ≡ flat_map (still a shown) ls ++ still a shown l
 bag_more a shown ls l = flat_map-append (still a shown) ls (l ∷ []) ∙ ap (λ x. flat_map (still a shown) ls ++ x) (append-nil (still a shown l))
@@ -36,7 +35,7 @@ given_up a shown [] l at none = rw none (append-nil (over_held a shown l l.row))
 given_up a shown (f ∷ ls) l at none = ap (λ x. over_held a shown f f.row ++ x) (rw (none, bag_more a shown ls l) (append-nil (flat_map (still a shown) ls ++ still a shown l)))
 
 turned : {A : Type 0} (x y z : List A) → IsPermutation (x ++ (y ++ z)) ((x ++ z) ++ y)
-turned x y z = rw (assoc x z y) (IsPermutation-append_right x (y ++ z) (z ++ y) (IsPermutation-append_comm y z))
+turned x y z = rw (append_assoc x z y) (IsPermutation-append_right x (y ++ z) (z ++ y) (IsPermutation-append_comm y z))
 
 -- an inner level is opened over the row that is held
 pub given_down : (a : Asked) (shown : Shown) (above : List Level) (at inner : Level) → still a shown inner ≡ over_held a shown at at.row → IsPermutation (given_in a shown above at) (given_in a shown (above ++ (record at { row = None }) ∷ []) inner)
@@ -47,7 +46,7 @@ pub bag_down : (a : Asked) (shown : Shown) (above : List Level) (at inner : Leve
 bag_down a shown above at inner is = rw (bag_more a shown above (record at { row = None }), is) (turned (flat_map (still a shown) above) (over_held a shown at at.row) (over_rest a shown at))
 
 fronted : {A : Type 0} (x y z : List A) → IsPermutation (x ++ (y ++ z)) (y ++ (x ++ z))
-fronted x y z = subst (λ l. IsPermutation (x ++ (y ++ z)) l) (assoc y x z) (subst (λ l. IsPermutation l ((y ++ x) ++ z)) (assoc x y z) (both x y z))
+fronted x y z = subst (λ l. IsPermutation (x ++ (y ++ z)) l) (append_assoc y x z) (subst (λ l. IsPermutation l ((y ++ x) ++ z)) (append_assoc x y z) (both x y z))
   where
     both : {A : Type 0} (x y z : List A) → IsPermutation ((x ++ y) ++ z) ((y ++ x) ++ z)
     both x y z = IsPermutation-append_left z (x ++ y) (y ++ x) (IsPermutation-append_comm x y)

@@ -1,5 +1,5 @@
 -- A plan over one FROM item: what its one retrieval does, and what the first item's retrieval keeps.
-use Rattle.std.proofs.Common.{Bool, ◌&&◌, ◌≡◌, ℕ, ◌+◌, ◌*◌, ◌-◌, ◌^◌, ◌<◌, ◌≤◌, List, [], ◌∷◌, ◌++◌, length, true, false, Option, Some, None, is_some, refl, ap, sym, ◌∙◌, arith, subst, inl, inr, zero, suc, slice_index_or, slice_set, Result, Ok, Err, IfOk, OnOk, OnErr}
+use Rattle.std.proofs.Common.{Bool, ◌&&◌, ◌≡◌, ℕ, ◌+◌, ◌*◌, ◌-◌, ◌^◌, ◌<◌, ◌≤◌, List, [], ◌∷◌, ◌++◌, length, true, false, Option, Some, None, is_some, refl, ap, sym, ◌∙◌, arith, subst, inl, inr, zero, suc, slice_index_or, slice_set, Result, Ok, Err, IfOk, OnOk, OnErr, mul-le-mul_right}
 use Rattle.rv_value.specs.declared.value.Value.{Value}
 use Rattle.rv_judge.specs.Counting.{reads, raised}
 use Rattle.rv_judge.specs.declared.counting.Counts.{Counts}
@@ -316,9 +316,6 @@ all_spends (Err e) had has c d old new gives spends = tt
 
 -- At opening.
 
-less_product : (r n c : ℕ) → r ≤ n → r * c ≤ n * c
-less_product r n c h = grind (arith, h)
-
 -- what is read by an access to the first FROM item, as a plan's life
 abbrev pub first_life : Select → List IndexDef → Shown → ℕ → Access → ℕ
 first_life s indexes shown snap v = lives v s.only * life_bound (shown.pages (table_at s 0) snap) (cuts_and_entries (indexes_from (table_at s 0) 0 indexes) shown snap)
@@ -328,7 +325,7 @@ life_within s indexes shown snap cursor a q v some asked asks =
     let item = asked.items 0 some in
     let few = subst (λ (x : List (List Atom)). widths q.only ≤ widths x) asked.only (subst (λ (x : List (List Atom)). widths x ≤ widths a.only) (sym asks.only) (bound_widths 0 [] a.only)) in
     let same : retrieval_life q shown ≡ life_bound (shown.pages (table_at s 0) snap) (cuts_and_entries (indexes_from (table_at s 0) 0 indexes) shown snap) = rw (asks.item.table ∙ item.table, asks.item.snap ∙ asked.snap, asks.item.over ∙ item.over) refl in
-    subst (λ (n : ℕ). life_of v q shown ≤ lives v s.only * n) same (less_product (lives v q.only) (lives v s.only) (retrieval_life q shown) (lives_less v q.only s.only few))
+    subst (λ (n : ℕ). life_of v q shown ≤ lives v s.only * n) same (mul-le-mul_right (retrieval_life q shown) (lives_less v q.only s.only few))
 
 pub begins_life : (s : Select) (indexes : List IndexDef) (shown : Shown) (snap cursor : ℕ) (a : Asked) (v : Stacked) (c d : Counts) → 1 ≤ length s.tables → IsAsked s indexes snap cursor a → Asks a [] (query_of v.at.here) → v.at.row ≡ None → reads d + effort v.at.here shown ≤ reads c + life_of v.at.here (query_of v.at.here) shown → reads d + level_effort shown v.at ≤ reads c + first_life s indexes shown snap v.at.here
 begins_life s indexes shown snap cursor a v c d some asked asks none life =

@@ -1,5 +1,5 @@
 -- Levels: a row that is found, a retrieval that is opened, a call that keeps the rest.
-use Rattle.std.proofs.Common.{◌≡◌, ℕ, ◌+◌, ◌<◌, ◌≤◌, List, [], ◌∷◌, ◌++◌, length, map, drop, Option, Some, None, refl, ap, sym, ◌∙◌, arith, subst, slice_index_or, zero, suc}
+use Rattle.std.proofs.Common.{◌≡◌, ℕ, ◌+◌, ◌<◌, ◌≤◌, List, [], ◌∷◌, ◌++◌, length, map, drop, Option, Some, None, refl, ap, sym, ◌∙◌, arith, subst, slice_index_or, zero, suc, append_assoc}
 use Rattle.std.specs.List.{flat_map}
 use Rattle.std.specs.List.Sorted.{IsPermutation}
 use Rattle.std.proofs.lemmas.List.Sorted.{IsPermutation-append_comm, IsPermutation-append_left}
@@ -27,16 +27,12 @@ use Rattle.rv_join.specs.Moves.{Descends, LevelStays, OpensInner}
 use Rattle.rv_join.proofs.Working.{fresh_work, same_le, stays_work}
 use Rattle.rv_join.proofs.Same.{alike_last, alike_wide, flat_filter_same, under_same}
 
-pub assoc : {B : Type 0} (a b c : List B) → (a ++ b) ++ c ≡ a ++ (b ++ c)
-assoc [] b c = refl
-assoc (x ∷ a) b c = ap (λ l. x ∷ l) (assoc a b c)
-
 -- one item's part goes to the front
 pub flat_out : {A B : Type 0} (f : A → List B) (front : List A) (x : A) (behind : List A) → IsPermutation (flat_map f (front ++ x ∷ behind)) (f x ++ flat_map f (front ++ behind))
 flat_out f front x behind = rw (flat_map-append f front (x ∷ behind), flat_map-append f front behind) (swapped (flat_map f front) (f x) (flat_map f behind))
   where
     swapped : {B : Type 0} (a b c : List B) → IsPermutation (a ++ (b ++ c)) (b ++ (a ++ c))
-    swapped a b c = subst (λ l. IsPermutation l (b ++ (a ++ c))) (assoc a b c) (subst (λ l. IsPermutation ((a ++ b) ++ c) l) (assoc b a c) (IsPermutation-append_left c (a ++ b) (b ++ a) (IsPermutation-append_comm a b)))
+    swapped a b c = subst (λ l. IsPermutation l (b ++ (a ++ c))) (append_assoc a b c) (subst (λ l. IsPermutation ((a ++ b) ++ c) l) (append_assoc b a c) (IsPermutation-append_left c (a ++ b) (b ++ a) (IsPermutation-append_comm a b)))
 
 -- the row that is told has the same offers over it as the table's
 pub told_same : (a : Asked) (shown : Shown) (l : Level) (r taken : Record) → CanRun a shown → LevelFits a shown l → AgreesIn (query_of l.here).need r taken → over_row a shown l r.values ≡ over_row a shown l taken.values

@@ -1,7 +1,7 @@
 -- Nested loops over bound restrictions give the offers of the definition, in the same order.
 use Rattle.std.proofs.Common.{◌≡◌, ℕ, ◌+◌, ◌<◌, List, [], ◌∷◌, ◌++◌, filter, length, map, Bool, true, false, not, cond, ◌&&◌, ◌||◌, ◌==◌, refl, ap, sym, ◌∙◌, arith, subst, nat_le, nat_lt, max, slice_index_or, suc}
 use Rattle.std.specs.List.{list_all, flat_map}
-use Rattle.std.proofs.lemmas.List.{append_assoc, get_or_append_left, append-nil}
+use Rattle.std.proofs.lemmas.List.{append_assoc, get_or_append_left, append-nil, map-append}
 use Rattle.std.proofs.lemmas.Bool.Decides.{nat_tests}
 use Rattle.std.proofs.lemmas.Grind.{common_steps}
 use Rattle.std.proofs.lemmas.Bool.{and_from, lt-ltb}
@@ -23,10 +23,6 @@ use Rattle.rv_join.specs.declared.places.Asked.{Asked}
 use Rattle.rv_join.specs.Asking.{holds}
 use Rattle.rv_join.specs.Levels.{offered, table_rows, under}
 use Rattle.rv_model.specs.Offering.{choices, is_kept}
-
-map_append : {A B : Type 0} (f : A → B) (xs ys : List A) → map f (xs ++ ys) ≡ map f xs ++ map f ys
-map_append f [] ys = refl
-map_append f (x ∷ xs) ys = ap (λ l. f x ∷ l) (map_append f xs ys)
 
 filter_none : {A : Type 0} (xs : List A) → filter (λ x. false) xs ≡ []
 filter_none [] = refl
@@ -162,7 +158,7 @@ under_is a shown (t ∷ ts) outer named = all (λ r. under_is a shown ts (outer 
     all : ((r : Record) → Inner r) → (rows : List Record) → flat_map (λ (r : Record). under a shown ts (outer ++ r.values ∷ [])) (filter (λ (r : Record). holds a.only (length outer) (outer ++ r.values ∷ [])) rows) ≡ map (offered a) (filter (later a.only (length outer)) (flat_map (λ (r : Record). choices (table_rows shown a.snap) ts (outer ++ r.values ∷ [])) rows))
     all each [] = refl
     all each (r ∷ rows) =
-        rw (filter-append (later a.only (length outer)) (choices (table_rows shown a.snap) ts (outer ++ r.values ∷ [])) (flat_map (λ (r : Record). choices (table_rows shown a.snap) ts (outer ++ r.values ∷ [])) rows), map_append (offered a) (filter (later a.only (length outer)) (choices (table_rows shown a.snap) ts (outer ++ r.values ∷ []))) (filter (later a.only (length outer)) (flat_map (λ (r : Record). choices (table_rows shown a.snap) ts (outer ++ r.values ∷ [])) rows)), ← one r (each r) _ refl, ← all each rows) (split (holds a.only (length outer) (outer ++ r.values ∷ [])) r rows)
+        rw (filter-append (later a.only (length outer)) (choices (table_rows shown a.snap) ts (outer ++ r.values ∷ [])) (flat_map (λ (r : Record). choices (table_rows shown a.snap) ts (outer ++ r.values ∷ [])) rows), map-append (offered a) (filter (later a.only (length outer)) (choices (table_rows shown a.snap) ts (outer ++ r.values ∷ []))) (filter (later a.only (length outer)) (flat_map (λ (r : Record). choices (table_rows shown a.snap) ts (outer ++ r.values ∷ [])) rows)), ← one r (each r) _ refl, ← all each rows) (split (holds a.only (length outer) (outer ++ r.values ∷ [])) r rows)
       where
         split : (b : Bool) (r : Record) (rows : List Record) → flat_map (λ (r : Record). under a shown ts (outer ++ r.values ∷ [])) (cond b (r ∷ filter (λ (r : Record). holds a.only (length outer) (outer ++ r.values ∷ [])) rows) (filter (λ (r : Record). holds a.only (length outer) (outer ++ r.values ∷ [])) rows)) ≡ cond b (under a shown ts (outer ++ r.values ∷ [])) [] ++ flat_map (λ (r : Record). under a shown ts (outer ++ r.values ∷ [])) (filter (λ (r : Record). holds a.only (length outer) (outer ++ r.values ∷ [])) rows)
         split true r rows = refl

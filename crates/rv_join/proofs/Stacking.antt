@@ -1,5 +1,5 @@
 -- Each change of the open levels keeps the bag, but for an offer that is given.
-use Rattle.std.proofs.Common.{◌≡◌, ℕ, ◌+◌, ◌<◌, List, [], ◌∷◌, ◌++◌, length, map, true, Option, Some, None, IsSome, Result, Ok, Err, IfOk, OnOk, OnErr, refl, ap, sym, ◌∙◌, arith, subst, suc}
+use Rattle.std.proofs.Common.{◌≡◌, ℕ, ◌+◌, ◌<◌, List, [], ◌∷◌, ◌++◌, length, map, true, Option, Some, None, IsSome, Result, Ok, Err, IfOk, OnOk, OnErr, refl, ap, sym, ◌∙◌, arith, subst, suc, le_trans, lt_of_lt_of_le}
 use Rattle.std.specs.List.{flat_map}
 use Rattle.std.specs.List.Sorted.{IsPermutation}
 use Rattle.std.proofs.lemmas.Bool.Decides.{nat_tests}
@@ -20,7 +20,7 @@ use Rattle.rv_join.specs.Moves.{Descends, Kept, LevelMoves, Moves, Takes}
 use Rattle.rv_join.specs.Work.{level_work, levels_work, loops_work}
 use Rattle.rv_join.specs.Order.{IsByFirst, Lead}
 use Rattle.rv_join.proofs.Leading.{bag_down, bag_more, bag_used, given_at, given_down, given_up, given_used, lead_less, stands_in}
-use Rattle.rv_join.proofs.Working.{down_work, given_work, le_le, le_less, less_le, same_le, sums_le, sums_less, up_work}
+use Rattle.rv_join.proofs.Working.{down_work, given_work, less_le, same_le, sums_le, sums_less, up_work}
 
 fit_more : (a : Asked) (shown : Shown) (place : ℕ) (ls : List Level) (l : Level) → AllFit a shown place ls → length l.outer ≡ place + length ls → LevelFits a shown l → AllFit a shown place (ls ++ l ∷ [])
 fit_more a shown place [] l all deep fits = (omega (arith, deep), fits, record {})
@@ -134,12 +134,12 @@ none_before [] p = refl
 none_before (x ∷ xs) p = absurd (omega (arith, length_permutation (x ∷ xs) [] p))
 
 kept_kept : (a : Asked) (shown : Shown) (old mid new : Stacked) → Kept a shown old mid → Kept a shown mid new → Kept a shown old new
-kept_kept a shown old mid new one two = record { fits = two.fits; bag = IsPermutation-trans _ _ _ one.bag two.bag; led = λ by led. two.led by (one.led by led); work = le_le (loops_work a shown new) (loops_work a shown mid) (loops_work a shown old) two.work one.work }
+kept_kept a shown old mid new one two = record { fits = two.fits; bag = IsPermutation-trans _ _ _ one.bag two.bag; led = λ by led. two.led by (one.led by led); work = le_trans two.work one.work }
 
 pub kept_then : (a : Asked) (shown : Shown) (m : Moved) (old mid new : Stacked) → Kept a shown old mid → Moves a shown m mid new → Moves a shown m old new
-kept_then a shown (Gave o) old mid new kept moves = record { fits = moves.fits; bag = IsPermutation-trans _ _ _ kept.bag moves.bag; led = λ by led. moves.led by (kept.led by led); least = λ by led. moves.least by (kept.led by led); work = le_less (loops_work a shown new) (loops_work a shown mid) (loops_work a shown old) moves.work kept.work }
+kept_then a shown (Gave o) old mid new kept moves = record { fits = moves.fits; bag = IsPermutation-trans _ _ _ kept.bag moves.bag; led = λ by led. moves.led by (kept.led by led); least = λ by led. moves.least by (kept.led by led); work = lt_of_lt_of_le moves.work kept.work }
 kept_then a shown Done old mid new kept moves = (kept_kept a shown old mid new kept moves.0, none_before _ (subst (λ l. IsPermutation (bag a shown old) l) moves.1 kept.bag))
-kept_then a shown Moving old mid new kept moves = (kept_kept a shown old mid new kept moves.0, le_less (loops_work a shown new) (loops_work a shown mid) (loops_work a shown old) moves.1 kept.work)
+kept_then a shown Moving old mid new kept moves = (kept_kept a shown old mid new kept moves.0, lt_of_lt_of_le moves.1 kept.work)
 
 pub kept_then_if : {E : Type 0} (a : Asked) (shown : Shown) (r : Result Moved E) (old mid new : Stacked) → Kept a shown old mid → IfOk r (λ m. Moves a shown m mid new) → IfOk r (λ m. Moves a shown m old new)
 kept_then_if a shown (Ok m) old mid new kept moves = kept_then a shown m old mid new kept moves

@@ -1,5 +1,5 @@
 -- The work left: what each change of the open levels does to it.
-use Rattle.std.proofs.Common.{◌≡◌, ℕ, ◌+◌, ◌*◌, ◌<◌, ◌≤◌, List, [], ◌∷◌, ◌++◌, length, drop, Some, None, refl, ap, sym, ◌∙◌, arith, subst, slice_index_or, zero, suc}
+use Rattle.std.proofs.Common.{◌≡◌, ℕ, ◌+◌, ◌*◌, ◌<◌, ◌≤◌, List, [], ◌∷◌, ◌++◌, length, drop, Some, None, refl, ap, sym, ◌∙◌, arith, subst, slice_index_or, zero, suc, mul-le-mul_right}
 use Rattle.std.proofs.lemmas.Grind.{common_steps}
 use Rattle.rv_value.proofs.Lists.{filter_length}
 use Rattle.rv_value.specs.declared.value.Value.{Value}
@@ -25,11 +25,8 @@ sum_less e f k h = omega (arith, h)
 taken_out : (e f n m k c : ℕ) → e ≤ f → m ≡ n + 1 → k ≡ 0 → e + 1 + (1 + n) * c ≤ f + 1 + (k + m) * c
 taken_out e f n m k c h one none = let same : 1 + n ≡ k + m = omega (arith, one, none) in subst (λ r. e + 1 + r * c ≤ f + 1 + (k + m) * c) (sym same) (sum_le e f ((k + m) * c) h)
 
-less_product : (r n c : ℕ) → r ≤ n → r * c ≤ n * c
-less_product r n c h = grind (arith, h)
-
 fresh_sum : (e l r n c : ℕ) → e ≤ l → r ≤ n → e + 1 + (0 + r) * c < l + 2 + n * c
-fresh_sum e l r n c h i = let none : 0 + r ≡ r = omega arith in let less = less_product r n c i in subst (λ k. e + 1 + k * c < l + 2 + n * c) (sym none) (close e l (r * c) (n * c) h less)
+fresh_sum e l r n c h i = let none : 0 + r ≡ r = omega arith in let less = mul-le-mul_right c i in subst (λ k. e + 1 + k * c < l + 2 + n * c) (sym none) (close e l (r * c) (n * c) h less)
   where
     close : (e l a b : ℕ) → e ≤ l → a ≤ b → e + 1 + a < l + 2 + b
     close e l a b h i = omega (arith, h, i)
@@ -49,12 +46,6 @@ same_le n = omega arith
 
 pub less_le : (n m : ℕ) → n < m → n ≤ m
 less_le n m h = omega (arith, h)
-
-pub le_le : (n m k : ℕ) → n ≤ m → m ≤ k → n ≤ k
-le_le n m k h i = omega (arith, h, i)
-
-pub le_less : (n m k : ℕ) → n < m → m ≤ k → n < k
-le_less n m k h i = omega (arith, h, i)
 
 pub sums_le : (a b c d : ℕ) → a ≤ b → c ≤ d → a + c ≤ b + d
 sums_le a b c d h i = omega (arith, h, i)

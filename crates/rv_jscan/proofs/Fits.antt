@@ -1,8 +1,9 @@
 -- A leaf read, an accepted piece and an abandoned scan keep what a joint scan holds drawn from the entries.
-use Rattle.std.proofs.Common.{◌≡◌, ℕ, ◌<◌, ◌≤◌, List, [], ◌++◌, length, length-set, slice_set, Bool, true, false, ◌||◌, refl, ap, sym, ◌∙◌, arith, subst, Option, Some, None, nat_eq, IfSome, IsPermutation}
+use Rattle.std.proofs.Common.{◌≡◌, ℕ, ◌<◌, ◌≤◌, List, [], ◌++◌, length, length-set, slice_set, true, ◌||◌, refl, ap, sym, ◌∙◌, arith, subst, Option, Some, None, nat_eq, IfSome, IsPermutation}
 use Rattle.std.proofs.lemmas.Bool.Decides.{nat_tests}
 use Rattle.std.proofs.lemmas.List.{get_or-set_other, get_or-set_same}
 use Rattle.std.proofs.lemmas.List.Sorted.{list_any-IsPermutation}
+use Rattle.std.proofs.Math.Bool.{or-false}
 use Rattle.rv_value.specs.declared.record.IndexEntry.{IndexEntry}
 use Rattle.rv_keys.specs.Keys.{has_key}
 use Rattle.rv_keylist.proofs.Bits.{may_key-never_denies}
@@ -58,9 +59,6 @@ covered_may j shown n c inc = by_list j.list c
     by_list None c = refl
     by_list (Some keys) c = may_key-never_denies n keys (c n inc)
 
-or_false : (b : Bool) → (b || false) ≡ true → b ≡ true
-or_false b h = grind arith
-
 -- a row that the scan has to find stands among those it built, in the leaf or after it
 builds_split : (j : Joint) (shown : Shown) (n : ℕ) (entries after : List IndexEntry) → JointFits j shown → to_sieve j shown ≡ entries ++ after → InCompleted j shown n → meets (present j) shown j.snap n ≡ true → (has_key n (j.building ++ kept_of j entries) || has_entry n (passing (present j).part after)) ≡ true
 builds_split j shown n entries after f parts inc m =
@@ -93,7 +91,7 @@ completed_fits j shown entries keys way f parts perm =
       covers = λ n inc.
           let before : InCompleted j shown n = in_completed_before j shown _ n (λ i lt l. inc i (omega arith) l) in
           let b = builds_split j shown n entries [] f parts before (inc j.ended (omega arith) listed) in
-          sym (list_any-IsPermutation (nat_eq n) (j.building ++ kept_of j entries) keys perm) ∙ or_false _ b;
+          sym (list_any-IsPermutation (nat_eq n) (j.building ++ kept_of j entries) keys perm) ∙ sym (or-false _) ∙ b;
       builds = λ n inc m. m;
       fresh = λ n. refl;
       drawn = tt;

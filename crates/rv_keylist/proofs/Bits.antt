@@ -3,7 +3,7 @@ use Rattle.std.proofs.Common.{◌≡◌, ℕ, ◌+◌, ◌<◌, ◌++◌, ◌∷
 use Rattle.std.proofs.lemmas.Bool.{cond_both, or_cases, or_left, or_right, eq-eqb, eqb-true}
 use Rattle.std.proofs.lemmas.List.Folds.{list_any-append, list_any_more}
 use Rattle.std.proofs.lemmas.List.Sorted.{list_any-IsPermutation}
-use Rattle.rv_value.proofs.Tests.{or_false}
+use Rattle.std.proofs.Math.Bool.{or-false}
 use Rattle.rv_filter.specs.Bits.{bit_of, is_set, holds, SetsBit}
 use Rattle.rv_keys.specs.Keys.{has_key}
 use Rattle.rv_keylist.specs.Keys.{has_bit, may_key, Marks}
@@ -14,7 +14,7 @@ or_assoc true b c = refl
 or_assoc false b c = refl
 
 pub AddsBits-none : (words : List ℕ) → AddsBits words words []
-AddsBits-none words = record { bits = λ b. sym (or_false (is_set words b)) }
+AddsBits-none words = record { bits = λ b. sym (or-false (is_set words b)) }
 
 pub AddsBits-more :
     (old mid new keys : List ℕ) (i key : ℕ)
@@ -41,7 +41,7 @@ Marks-push old new keys key marks sets = record {
   bits = λ b.
       let more : has_bit b (keys ++ key ∷ []) ≡ (has_bit b keys || (b == bit_of key))
       = list_any-append (λ k. b == bit_of k) keys (key ∷ [])
-      ∙ ap (λ (x : Bool). has_bit b keys || x) (or_false (b == bit_of key))
+      ∙ ap (λ (x : Bool). has_bit b keys || x) (or-false (b == bit_of key))
       in sets.bits b ∙ ap (λ (x : Bool). x || (b == bit_of key)) (marks.bits b) ∙ sym more;
 }
 

@@ -7,6 +7,7 @@ use Rattle.std.proofs.lemmas.List.{take_at, drop_at, append-nil}
 use Rattle.std.proofs.lemmas.Bool.{eqb-true, and_parts}
 use Rattle.std.proofs.lemmas.Bool.Decides.{nat_tests}
 use Rattle.std.proofs.lemmas.Str.{IsUtf8-append, IsUtf8-take, IsUtf8-drop, IsCharBoundary-after_ascii, IsCharBoundary-before_ascii}
+use Rattle.std.proofs.Math.Seq.{get_or-append_seam}
 use Rattle.rv_lang.specs.declared.token.Token.{Token}
 use Rattle.rv_lang.specs.declared.token.Token.TheVariants.{Word, Int, Str, Symbol}
 use Rattle.rv_lang.specs.declared.token.Symbol.{Symbol as OneSymbol}
@@ -18,13 +19,9 @@ use Rattle.rv_lang.proofs.Texts.{IsText, text_is}
 use Rattle.rv_lang.proofs.TextLengths.{body_scanned, cut_some_of}
 use Rattle.rv_lang.proofs.Longest.{longest_of}
 
-get_or_at : (front : List ℕ) (x : ℕ) (bs : List ℕ) → get_or (front ++ x ∷ bs) (length front) 0 ≡ x
-get_or_at [] x bs = refl
-get_or_at (f ∷ front) x bs = get_or_at front x bs
-
 utf8_front : (front bs : List ℕ) → IsUtf8 (front ++ 39 ∷ bs) → IsUtf8 (front ++ 39 ∷ []) × IsUtf8 bs
 utf8_front front bs u =
-    let at : get_or (front ++ 39 ∷ bs) (length front) 0 ≡ 39 = get_or_at front 39 bs in
+    let at : get_or (front ++ 39 ∷ bs) (length front) 0 ≡ 39 = get_or-append_seam front 39 bs 0 in
     let long : length front < length (front ++ 39 ∷ bs) = omega (arith, length-append front (39 ∷ bs)) in
     let edge = IsCharBoundary-after_ascii (front ++ 39 ∷ bs) (length front) u long (omega arith) in
     let e : front ++ 39 ∷ bs ≡ (front ++ 39 ∷ []) ++ bs = sym (append_assoc front (39 ∷ []) bs) in
@@ -43,7 +40,7 @@ utf8_doubled front (b ∷ text) u = by (nat_eq b 39)
 
 utf8_before : (front bs : List ℕ) → IsUtf8 (front ++ 39 ∷ bs) → IsUtf8 front
 utf8_before front bs u =
-    let at : get_or (front ++ 39 ∷ bs) (length front) 0 ≡ 39 = get_or_at front 39 bs in
+    let at : get_or (front ++ 39 ∷ bs) (length front) 0 ≡ 39 = get_or-append_seam front 39 bs 0 in
     let long : length front < length (front ++ 39 ∷ bs) = omega (arith, length-append front (39 ∷ bs)) in
     subst IsUtf8 (take_at front (39 ∷ bs) (length front) refl) (IsUtf8-take (front ++ 39 ∷ bs) (length front) u (IsCharBoundary-before_ascii (front ++ 39 ∷ bs) (length front) long (omega arith)))
 
@@ -130,7 +127,7 @@ token_ends front (Symbol s) rest h = subst EndsAscii (sym h) (symbol_ends s)
 
 utf8_after : (init : List ℕ) (b : ℕ) (bs : List ℕ) → b < 128 → IsUtf8 (init ++ b ∷ bs) → IsUtf8 bs
 utf8_after init b bs lt u =
-    let at : get_or (init ++ b ∷ bs) (length init) 0 ≡ b = get_or_at init b bs in
+    let at : get_or (init ++ b ∷ bs) (length init) 0 ≡ b = get_or-append_seam init b bs 0 in
     let long : length init < length (init ++ b ∷ bs) = omega (arith, length-append init (b ∷ bs)) in
     let edge = IsCharBoundary-after_ascii (init ++ b ∷ bs) (length init) u long (omega arith) in
     let e : init ++ b ∷ bs ≡ (init ++ b ∷ []) ++ bs = sym (append_assoc init (b ∷ []) bs) in

@@ -10,6 +10,7 @@ use Rattle.std.specs.declared.cmp.Ordering.{Ordering}
 use Rattle.std.specs.declared.cmp.Ordering.TheVariants.{Less, Equal, Greater}
 use Rattle.std.proofs.lemmas.List.Elements.{filter_agree}
 use Rattle.std.proofs.lemmas.Option.{slice_get_within}
+use Rattle.std.proofs.Math.Bool.{and-true}
 use Rattle.rv_value.proofs.Lists.{filter_passes}
 use Rattle.rv_value.specs.declared.record.IndexEntry.{IndexEntry}
 use Rattle.rv_value.specs.declared.range.Range.{Range}
@@ -150,12 +151,8 @@ span_taken range start next n m d es nf nb mf mb e h =
       span_count (is_early start range) (is_until next range) n m d es early until e h ∙ ap length tests,
     )
 
-and_true : (b : Bool) → (b && true) ≡ b
-and_true true = refl
-and_true false = refl
-
 pub in_range : (range : Range) (es : List IndexEntry) → filter (is_taken range None None) es ≡ run es range
-in_range range es = filter_agree (is_taken range None None) (is_in range) (λ e. and_true (is_in range e)) es
+in_range range es = filter_agree (is_taken range None None) (is_in range) (λ e. and-true (is_in range e)) es
 
 -- Marks.
 

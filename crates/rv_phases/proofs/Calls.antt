@@ -3,6 +3,7 @@ use Rattle.std.proofs.Common.{◌≡◌, ◌≢◌, ℕ, suc, ◌+◌, ◌-◌, 
 use Rattle.std.proofs.lemmas.Bool.{cases_Bool}
 use Rattle.std.proofs.lemmas.Bool.Decides.{nat_tests}
 use Rattle.std.proofs.lemmas.List.Elements.{All-append, All-contains}
+use Rattle.std.proofs.Math.Seq.{take-length}
 use Rattle.rv_lang.specs.declared.reply.Reply.{Reply}
 use Rattle.rv_script.specs.declared.scripts.Line.{Line}
 use Rattle.rv_model.specs.declared.entry.Entry.{Entry}
@@ -58,10 +59,6 @@ asked_other s phase l h = rw (unlike l.session s h) refl
 pub asked_one : (s phase : ℕ) (l : Line) → l.session ≡ s → asked s phase (l ∷ []) ≡ call phase l.text ∷ []
 asked_one s phase l h = rw (same l.session s h) refl
 
-pub take_all : {X : Type 0} (xs : List X) → take (length xs) xs ≡ xs
-take_all [] = refl
-take_all (x ∷ xs) = ap (λ (ys : List _). x ∷ ys) (take_all xs)
-
 pub made_whole : (s phase : ℕ) (lines : List Line) (seen now : List Entry) → own s now ≡ own s seen ++ asked s phase (take (length lines) lines) → Made s phase lines false seen now
 made_whole s phase lines seen now e = record { count = length lines; within = omega arith; all = λ _. refl; calls = e }
 
@@ -77,7 +74,7 @@ pub idle_done : (turn : TurnState Entry) (lines : List Line) (p : PassState Entr
 idle_done turn lines p fresh none =
     let s = p.number + 1 in record {
       pass = fresh.own;
-      made = λ below. made_whole s turn.mark lines turn.opening p.seen (ap (own s) fresh.seen ∙ (sym (append-nil (own s turn.opening)) ∙ ap (λ (cs : List Call). own s turn.opening ++ cs) (sym (ap (asked s turn.mark) (take_all lines) ∙ none turn.mark))));
+      made = λ below. made_whole s turn.mark lines turn.opening p.seen (ap (own s) fresh.seen ∙ (sym (append-nil (own s turn.opening)) ∙ ap (λ (cs : List Call). own s turn.opening ++ cs) (sym (ap (asked s turn.mark) (take-length lines) ∙ none turn.mark))));
     }
 
 made_more : (s phase : ℕ) (lines : List Line) (a b : Bool) (seen now : List Entry) → (b ≡ false → a ≡ false) → Made s phase lines a seen now → Made s phase lines b seen now

@@ -1,6 +1,7 @@
 -- What the scans under way hold stays drawn from the entries that a reader shows.
-use Rattle.std.proofs.Common.{◌≡◌, ℕ, ◌<◌, List, [], ◌++◌, length, Bool, true, false, ◌||◌, refl, ap, sym, ◌∙◌, arith, subst, Option, Some, None, IfSome, IsPermutation, nat_eq}
+use Rattle.std.proofs.Common.{◌≡◌, ℕ, ◌<◌, List, [], ◌++◌, length, Bool, true, ◌||◌, refl, ap, sym, ◌∙◌, subst, Option, Some, None, IfSome, IsPermutation, nat_eq}
 use Rattle.std.proofs.lemmas.List.Sorted.{list_any-IsPermutation}
+use Rattle.std.proofs.Math.Bool.{or-false}
 use Rattle.rv_value.specs.declared.record.IndexEntry.{IndexEntry}
 use Rattle.rv_keys.specs.Keys.{has_key}
 use Rattle.rv_keylist.specs.Keys.{may_key}
@@ -67,9 +68,6 @@ passed_fits plans owed shown snap run admits piece cut f part has next admitted 
     } in
     subst (λ (place : Option IndexEntry). RunnerFits plans owed shown snap (record run { lane = record { place = place; held = None; building = built } })) (sym next) fits
 
-or_false : (b : Bool) → (b || false) ≡ true → b ≡ true
-or_false b h = grind arith
-
 -- the last of its scan: the list has each row that is owed
 pub passed_all : (plans : List ScanPlan) (owed : ℕ → Bool) (shown : Shown) (snap : ℕ) (run : Runner) (admits : ℕ → Bool) (piece : Pieced) (keys : List ℕ) → RunnerFits plans owed shown snap run → piece.part ≡ (plan_at plans run.scan).part → HasEntries run.lane.held piece.entries → held_next run.lane.held ≡ None → ((n : ℕ) → owed n ≡ true → admits n ≡ true) → IsPermutation (run.lane.building ++ kept_by admits piece.part piece.entries) keys → Covers owed keys
 passed_all plans owed shown snap run admits piece keys f part has next admitted perm n o =
@@ -78,7 +76,7 @@ passed_all plans owed shown snap run admits piece keys f part has next admitted 
     let built = run.lane.building ++ kept_by admits piece.part piece.entries in
     let parts : ahead plan shown snap run.lane ≡ piece.entries ++ [] = ahead_split plan shown snap run.lane.place run.lane.held piece.entries has f.lane.drawn ∙ ap (λ (c : Option IndexEntry). piece.entries ++ run_after all plan.range c) next in
     let b = builds_on plan shown snap run.lane piece admits [] n part parts (admitted n o) (f.builds n o) in
-    sym (list_any-IsPermutation (nat_eq n) built keys perm) ∙ or_false (has_key n built) b
+    sym (list_any-IsPermutation (nat_eq n) built keys perm) ∙ sym (or-false (has_key n built)) ∙ b
 
 -- A list that covers what is owed narrows what another scan has.
 

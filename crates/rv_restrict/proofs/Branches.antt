@@ -1,12 +1,12 @@
 -- A group is True exactly where some branch is, and each branch names only columns of the group.
-use Rattle.std.proofs.Common.{◌≡◌, ℕ, ◌<◌, List, [], ◌∷◌, length, subst, Bool, true, false, cond, not, ◌&&◌, ◌||◌, filter, map, refl, ap, sym, ◌∙◌}
+use Rattle.std.proofs.Common.{◌≡◌, ℕ, ◌<◌, List, [], ◌∷◌, length, subst, Bool, true, false, cond, not, ◌||◌, filter, map, refl, ap, sym, ◌∙◌}
 use Rattle.std.specs.Prelude.{Vec}
 use Rattle.std.specs.List.{list_all, list_any, slice_index_or}
 use Rattle.std.proofs.lemmas.List.{get_or-map, length-map}
 use Rattle.std.proofs.lemmas.List.Folds.{list_all-append, list_any-append}
 use Rattle.std.proofs.lemmas.Bool.{and_from}
 use Rattle.std.specs.Cmp.{first_so, second_so}
-use Rattle.rv_value.proofs.Tests.{or_false}
+use Rattle.std.proofs.Math.Bool.{and-true, or-false}
 use Rattle.rv_value.specs.declared.value.Value.{Value}
 use Rattle.rv_restrict.specs.declared.atom.ColRef.{ColRef}
 use Rattle.rv_restrict.specs.declared.atom.Op.TheVariants.{Eq}
@@ -42,15 +42,11 @@ alone_true True = refl
 alone_true False = refl
 alone_true Unknown = refl
 
-and_true : (a : Bool) → (a && true) ≡ a
-and_true true = refl
-and_true false = refl
-
 abbrev some_true : (ColRef → Value) → List (List (List Atom)) → Bool
 some_true read bs = list_any (λ (b : List (List Atom)). is_true (truth_by read b)) bs
 
 one_true : (read : ColRef → Value) (a : Atom) → some_true read (alone a ∷ []) ≡ is_true (atom_truth read a)
-one_true read a = or_false (is_true (truth_by read (alone a))) ∙ alone_true (atom_truth read a)
+one_true read a = or-false (is_true (truth_by read (alone a))) ∙ alone_true (atom_truth read a)
 
 -- with NULL nothing is equal
 null_equal : (x v : Value) → is_null v ≡ true → compared x Eq v ≡ Unknown
@@ -93,7 +89,7 @@ some_branch read (a ∷ group) =
 -- THE COLUMNS
 
 one_names : (p : ColRef → Bool) (a : Atom) → atom_names_only p a ≡ true → list_all (names_only p) (alone a ∷ []) ≡ true
-one_names p a h = and_true (names_only p (alone a)) ∙ and_true (group_names_only p (a ∷ [])) ∙ and_true (atom_names_only p a) ∙ h
+one_names p a h = and-true (names_only p (alone a)) ∙ and-true (group_names_only p (a ∷ [])) ∙ and-true (atom_names_only p a) ∙ h
 
 equals_names : (p : ColRef → Bool) (c : ColRef) (list : List Value) → p c ≡ true → list_all (names_only p) (map alone (alternatives (Among c list))) ≡ true
 equals_names p c [] h = refl
@@ -102,7 +98,7 @@ equals_names p c (v ∷ list) h =
     let keeps = filter (λ (w : Value). not (is_null w)) list in
     elim (is_null v) as (λ n. list_all (names_only p) (map alone (map (equal_to c) (cond (not n) (v ∷ keeps) keeps))) ≡ true) [
       | true ↦ more
-      | false ↦ and_from (names_only p (alone (equal_to c v))) (list_all (names_only p) (map alone (map (equal_to c) keeps))) (and_true (group_names_only p (equal_to c v ∷ [])) ∙ and_true (atom_names_only p (equal_to c v)) ∙ and_true (p c) ∙ h) more
+      | false ↦ and_from (names_only p (alone (equal_to c v))) (list_all (names_only p) (map alone (map (equal_to c) keeps))) (and-true (group_names_only p (equal_to c v ∷ [])) ∙ and-true (atom_names_only p (equal_to c v)) ∙ and-true (p c) ∙ h) more
     ]
 
 atom_names : (p : ColRef → Bool) (a : Atom) → atom_names_only p a ≡ true → list_all (names_only p) (map alone (alternatives a)) ≡ true

@@ -1,5 +1,5 @@
 -- The effort where a verdict is obeyed, a scan ends and a piece is given.
-use Rattle.std.proofs.Common.{◌≡◌, ℕ, ◌+◌, ◌<◌, ◌≤◌, ◌++◌, Bool, true, false, refl, ap, sym, ◌∙◌, arith, subst, Option, Some, None, is_some, Result, Ok, Err, IfOk, OnErr, nat_eq}
+use Rattle.std.proofs.Common.{◌≡◌, ℕ, ◌+◌, ◌<◌, ◌≤◌, ◌++◌, Bool, true, false, refl, ap, sym, ◌∙◌, arith, subst, Option, Some, None, is_some, Result, Ok, Err, IfOk, OnErr, nat_eq, le_trans}
 use Rattle.std.specs.Prelude.{if◌then◌else◌}
 use Rattle.std.proofs.lemmas.Bool.Decides.{nat_tests}
 use Rattle.rv_value.proofs.Tests.{no_way, same_number}
@@ -42,15 +42,12 @@ gone_less h v shown = sum_lower v.control (next_control v.strategy v.control h) 
 at_most : (n : ℕ) → n ≤ n
 at_most n = omega arith
 
-through : (a b c : ℕ) → a ≤ b → b ≤ c → a ≤ c
-through a b c h i = omega arith
-
 dropping_less : (v : Shape) (shown : Shown) → under_way v.joint ≡ true → effort (dropping v) shown ≤ effort v shown
 dropping_less v shown way = sum_less v.control (back_work (abandoned v.joint) (if is_some v.joint.list then v.borrowed else 0) shown) (back_work v.joint v.borrowed shown) (front_work v shown) (front_work v shown) (table_work v shown) (table_work v shown) (keys_work v) (keys_work v) (abandoned_less v.joint shown v.borrowed way) (at_most _) (at_most _) (at_most _)
 
 dropped_less : (verdict : Verdict) (more next : Bool) (v : Shape) (shown : Shown) → under_way v.joint ≡ true → effort (dropped verdict more next v) shown ≤ effort v shown
 dropped_less verdict more true v shown way = dropping_less v shown way
-dropped_less verdict more false v shown way = through _ _ _ (gone_less (Ruled verdict more (is_some v.joint.list)) (dropping v) shown) (dropping_less v shown way)
+dropped_less verdict more false v shown way = le_trans (gone_less (Ruled verdict more (is_some v.joint.list)) (dropping v) shown) (dropping_less v shown way)
 
 stopped_less : (more : Bool) (v : Shape) (shown : Shown) → effort (stopped more v) shown ≤ effort v shown
 stopped_less more v shown = by (can_stop v)

@@ -94,6 +94,3 @@ at_once_tried v shown before after back z spent =
     let was = unborrowed v shown z in
     let part = back_in v.control (back_work v.joint 0 shown) (front_work v shown) (table_work v shown) (keys_work v) back in
     omega arith
-
-pub below : (a b c : ℕ) → a < b → b ≤ c → a < c
-below a b c h i = omega arith

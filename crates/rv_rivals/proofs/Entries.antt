@@ -1,13 +1,13 @@
 -- The entries of the rows that a statement writes, put in one after another.
-use Rattle.std.proofs.Common.{◌≡◌, ℕ, zero, suc, List, [], ◌∷◌, ◌++◌, Bool, true, false, ◌&&◌, ◌||◌, ◌==◌, cond, Option, Some, None, inl, inr, refl, ap, sym, subst, ◌∙◌, take, arith}
+use Rattle.std.proofs.Common.{◌≡◌, ℕ, zero, suc, List, [], ◌∷◌, ◌++◌, Bool, true, false, ◌&&◌, ◌||◌, ◌==◌, cond, Option, Some, None, inl, inr, refl, ap, sym, subst, ◌∙◌, take, arith, append-nil, append_assoc}
 use Rattle.std.specs.Prelude.{slice_get}
 use Rattle.std.proofs.lemmas.Bool.{cases_Bool, and_parts}
 use Rattle.std.proofs.lemmas.Bool.Decides.{nat_tests}
 use Rattle.std.specs.List.{AllByRecursion, list_all}
 use Rattle.std.specs.Ordering.{is_eq}
 use Rattle.std.proofs.lemmas.Option.{same_Some}
+use Rattle.std.proofs.Math.Bool.{or-false}
 use Rattle.rv_reader.proofs.Rows.{applied_ascends}
-use Rattle.rv_value.proofs.Tests.{or_false}
 use Rattle.rv_value.proofs.Lists.{passes_take}
 use Rattle.rv_value.specs.declared.value.Value.{Value}
 use Rattle.rv_value.specs.declared.record.Record.{Record}
@@ -42,17 +42,9 @@ abbrev pub given : List Change → List Record
 given [] = []
 given (c ∷ cs) = values_row c.row.0 c.values ++ given cs
 
-joined_again : (xs ys zs : List Record) → (xs ++ ys) ++ zs ≡ xs ++ (ys ++ zs)
-joined_again [] ys zs = refl
-joined_again (x ∷ xs) ys zs = ap (λ rows. x ∷ rows) (joined_again xs ys zs)
-
-joined_none : (xs : List Record) → xs ≡ xs ++ []
-joined_none [] = refl
-joined_none (x ∷ xs) = ap (λ rows. x ∷ rows) (joined_none xs)
-
 given_more : (cs : List Change) (c : Change) → given (cs ++ c ∷ []) ≡ given cs ++ values_row c.row.0 c.values
-given_more [] c = sym (joined_none (values_row c.row.0 c.values))
-given_more (d ∷ ds) c = ap (λ rows. values_row d.row.0 d.values ++ rows) (given_more ds c) ∙ sym (joined_again (values_row d.row.0 d.values) (given ds) (values_row c.row.0 c.values))
+given_more [] c = append-nil (values_row c.row.0 c.values)
+given_more (d ∷ ds) c = ap (λ rows. values_row d.row.0 d.values ++ rows) (given_more ds c) ∙ sym (append_assoc (values_row d.row.0 d.values) (given ds) (values_row c.row.0 c.values))
 
 pub written_given : (table : ℕ) (new : List Change) → Rise new → AllByRecursion (λ (c : Change). c.table ≡ table) new → rows_written table new ≡ given new
 written_given table [] rise of = refl
@@ -103,7 +95,7 @@ one_entry : (columns : List ℕ) (rows : List Record) (r : Record) (e : IndexEnt
 one_entry columns rows r e ascend = by (r.row.0 == e.row.0) refl
   where
     by : (b : Bool) → (r.row.0 == e.row.0) ≡ b → (is_eq (entry_cmp (entry_of columns r) e) || is_entry columns (row_at rows e.row.0) e) ≡ is_entry columns (cond b (Some r) (row_at rows e.row.0)) e
-    by true t = ap (λ o. is_eq (entry_cmp (entry_of columns r) e) || is_entry columns o e) (none_last rows r e.row.0 ascend t) ∙ or_false (is_eq (entry_cmp (entry_of columns r) e))
+    by true t = ap (λ o. is_eq (entry_cmp (entry_of columns r) e) || is_entry columns o e) (none_last rows r e.row.0 ascend t) ∙ or-false (is_eq (entry_cmp (entry_of columns r) e))
     by false f = ap (λ b. b || is_entry columns (row_at rows e.row.0) e) (row_other columns r e f)
 
 pub front_ascends : (rows : List Record) (r : Record) → rows_by_number.Ascend (rows ++ r ∷ []) → rows_by_number.Ascend rows
@@ -129,7 +121,7 @@ put_more columns rows r ascend =
 
 one_more : (columns : List ℕ) (c : Change) (values : Option (List Value)) (rows : List Record) → rows_by_number.Ascend (rows ++ values_row c.row.0 values)
     → with_some (entry_at columns (changed_row (Some (record c { values = values })) None)) (entries_of columns rows) ≡ entries_of columns (rows ++ values_row c.row.0 values)
-one_more columns c None rows ascend = ap (entries_of columns) (joined_none rows)
+one_more columns c None rows ascend = ap (entries_of columns) (sym (append-nil rows))
 one_more columns c (Some vs) rows ascend = put_more columns rows (record { row = record { 0 = c.row.0 }; values = vs }) ascend
 
 pub entries_next : (columns : List ℕ) (table k : ℕ) (c : Change) (new : List Change) (entries next : List IndexEntry) → Rise new → AllByRecursion (λ (d : Change). d.table ≡ table) new → slice_get new k ≡ Some c

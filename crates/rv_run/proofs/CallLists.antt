@@ -1,6 +1,7 @@
 -- The calls of a history and of a script, in order, and those of each session.
-use Rattle.std.proofs.Common.{◌≡◌, ℕ, ◌+◌, ◌<◌, List, [], ◌∷◌, ◌++◌, refl, sym, ap, ◌∙◌, arith, suc, zero, inl, inr, ◌⊎◌, append_assoc, append-nil, take, drop, length}
+use Rattle.std.proofs.Common.{◌≡◌, ℕ, ◌+◌, ◌<◌, List, [], ◌∷◌, ◌++◌, refl, sym, ap, ◌∙◌, arith, suc, inl, inr, ◌⊎◌, append_assoc, append-nil, take, drop, length}
 use Rattle.std.specs.List.{slice_index_or}
+use Rattle.std.proofs.lemmas.List.{take-append-drop}
 use Rattle.rv_script.specs.declared.scripts.Line.{Line}
 use Rattle.rv_script.specs.declared.scripts.Phase.{Phase}
 use Rattle.rv_script.specs.declared.scripts.Script.{Script}
@@ -92,18 +93,13 @@ pub calls_in-append : (phase : ℕ) (xs ys : List Line) → calls_in phase (xs +
 calls_in-append phase [] ys = refl
 calls_in-append phase (x ∷ xs) ys = ap (λ cs. call x.session phase x.text ∷ cs) (calls_in-append phase xs ys)
 
-take_drop : {X : Type 0} (n : ℕ) (xs : List X) → xs ≡ take n xs ++ drop n xs
-take_drop zero xs = refl
-take_drop (suc n) [] = refl
-take_drop (suc n) (x ∷ xs) = ap (λ ys. x ∷ ys) (take_drop n xs)
-
 -- what stops within a phase has made the first calls of all
 pub first_calls : (before after : List Entry) (phase : ℕ) (p : Phase) (ps : List Phase) (all : List Call) → calls_made before ++ calls_from phase (p ∷ ps) ≡ all → MakesCalls before after phase p.lines → MakesFirst after all
 first_calls before after phase p ps all whole made =
     let mine = calls_in phase (take made.count p.lines) in
     let left = calls_in phase (drop made.count p.lines) in
     let more = calls_from (phase + 1) ps in
-    let parts : calls_in phase p.lines ≡ mine ++ left = ap (calls_in phase) (take_drop made.count p.lines) ∙ calls_in-append phase (take made.count p.lines) (drop made.count p.lines) in
+    let parts : calls_in phase p.lines ≡ mine ++ left = ap (calls_in phase) (sym (take-append-drop made.count p.lines)) ∙ calls_in-append phase (take made.count p.lines) (drop made.count p.lines) in
     let regrouped : calls_made before ++ ((mine ++ left) ++ more) ≡ (calls_made before ++ mine) ++ (left ++ more) = simp append_assoc in
     record {
       rest = left ++ more;

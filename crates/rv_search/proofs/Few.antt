@@ -1,5 +1,5 @@
 -- Where a short index was scanned at opening few rows are found: those of the complete list.
-use Rattle.std.proofs.Common.{◌≡◌, ℕ, ◌+◌, ◌≤◌, List, [], ◌∷◌, length, filter, Bool, true, false, cond, ◌&&◌, ◌||◌, refl, ap, sym, ◌∙◌, arith, inl, inr, Option, Some, None, nat_eq, nat_lt}
+use Rattle.std.proofs.Common.{◌≡◌, ℕ, ◌+◌, ◌≤◌, List, [], ◌∷◌, length, filter, Bool, true, false, cond, ◌&&◌, ◌||◌, refl, ap, sym, ◌∙◌, arith, inl, inr, Option, Some, None, nat_eq, nat_lt, le_trans}
 use Rattle.std.specs.Prelude.{IsPermutation}
 use Rattle.std.proofs.lemmas.Bool.{cases_Bool}
 use Rattle.std.proofs.lemmas.Bool.Decides.{nat_tests}
@@ -28,9 +28,6 @@ use Rattle.rv_retrieval.specs.Opened.{Opened}
 use Rattle.rv_retrieval.specs.Shape.{RetrievalFits, Shape, is_sorted, left_at, rest, rows_of, source_of}
 use Rattle.rv_retrieval.specs.Short.{Settled, fetches_by, fetches_left, is_settled, scan_fetches}
 use Rattle.rv_search.specs.Searching.{numbers}
-
-le_trans : (a b c : ℕ) → a ≤ b → b ≤ c → a ≤ c
-le_trans a b c h k = omega (arith, h, k)
 
 -- Rows whose numbers some keys have are at most as many as the keys.
 
@@ -76,13 +73,13 @@ by_control v shown BackgroundAlone a unsorted over front = no_way (sym over)
 by_control v shown FinalTable a unsorted over front = no_way (sym over)
 by_control v shown FinalList a unsorted over front =
     let keys = keys_left v.joint.list v.at in
-    le_trans _ _ _ (filter_fewer _ (λ (r : Record). has_key r.row.0 keys) (λ r h. listed _ _ _ h) (rows_of v shown)) (keys_few keys (rows_of v shown) a)
+    le_trans (filter_fewer _ (λ (r : Record). has_key r.row.0 keys) (λ r h. listed _ _ _ h) (rows_of v shown)) (keys_few keys (rows_of v shown) a)
   where
     listed : (q k d : Bool) → (q && (k && d)) ≡ true → k ≡ true
     listed q k d h = grind arith
 by_control v shown Done a unsorted over front =
     let none = none_at_all (rows_of v shown) in
-    le_trans _ _ _ (filter_fewer _ (λ (r : Record). false) (λ r h. nothing _ h) (rows_of v shown)) (omega (arith, none))
+    le_trans (filter_fewer _ (λ (r : Record). false) (λ r h. nothing _ h) (rows_of v shown)) (omega (arith, none))
   where
     nothing : (q : Bool) → (q && false) ≡ true → false ≡ true
     nothing q h = grind arith
@@ -119,7 +116,7 @@ unsorted query shown cursor opening v none o =
 -- where a short index was scanned at opening at most twenty rows are owed
 pub few_owed : (query : Query) (shown : Shown) (cursor opening : ℕ) (v : Shape) → query.order ≡ [] → Opened query shown cursor opening v → RetrievalFits v shown → Settled v × (fetches_left v shown ≤ 20) → length (rest v shown) ≤ 20
 few_owed query shown cursor opening v none opened fits few =
-    le_trans _ _ _ (rest_few v shown fits few.0 (unsorted query shown cursor opening v none opened)) few.1
+    le_trans (rest_few v shown fits few.0 (unsorted query shown cursor opening v none opened)) few.1
 
 -- and so at most twenty numbers are found
 pub few_found : (owed : List Record) (found : List RowNo) → length owed ≤ 20 → IsPermutation (numbers owed) found → length found ≤ 20

@@ -2,7 +2,7 @@
 use Rattle.std.proofs.Common.{◌≡◌, ℕ, ◌+◌, ◌<◌, ◌≤◌, List, [], ◌∷◌, ◌++◌, Bool, true, not, ◌==◌, refl, ap, sym, ◌∙◌, inl, inr, arith, subst, length, zero, suc, take, drop, map, append_assoc, append-nil, length-set}
 use Rattle.std.proofs.lemmas.Bool.{cases_eq, cases_lt, and_parts}
 use Rattle.std.proofs.lemmas.Bool.Decides.{nat_tests}
-use Rattle.std.proofs.lemmas.List.{drop_more, get_or_past}
+use Rattle.std.proofs.lemmas.List.{drop_more, get_or_past, take-append-drop}
 use Rattle.std.specs.List.{list_all, slice_index_or, slice_set}
 use Rattle.rv_value.specs.declared.record.Record.{Record}
 use Rattle.rv_rows.specs.declared.changes.Change.{Change}
@@ -142,16 +142,11 @@ ascend_pages page (suc k) n h ascend = elim (cases_eq n k) [
   | inr other ↦ ascend_pages page k n (omega arith) (ascend_front (rows_of page k) (page k) ascend)
 ]
 
-taken_apart : {X : Type 0} (xs : List X) (i : ℕ) → xs ≡ take i xs ++ drop i xs
-taken_apart xs zero = refl
-taken_apart [] (suc i) = refl
-taken_apart (x ∷ xs) (suc i) = ap (λ ys. x ∷ ys) (taken_apart xs i)
-
 -- the rows of the pages before one, those of it up to one, it, and those behind
 pub page_apart : (page : ℕ → List Record) (k n i : ℕ) (r d : Record) → n < k → i < length (page n) → r ≡ slice_index_or (page n) i d → Ascend (rows_of page k) → Ascend ((rows_of page n ++ take i (page n)) ++ r ∷ drop (i + 1) (page n))
 page_apart page k n i r d h l e ascend =
     let rest : drop i (page n) ≡ r ∷ drop (i + 1) (page n) = drop_more (page n) i d l ∙ ap (λ (x : Record). x ∷ drop (i + 1) (page n)) (sym e) in
-    let all : page n ≡ take i (page n) ++ r ∷ drop (i + 1) (page n) = taken_apart (page n) i ∙ ap (λ ys. take i (page n) ++ ys) rest in
+    let all : page n ≡ take i (page n) ++ r ∷ drop (i + 1) (page n) = sym (take-append-drop i (page n)) ∙ ap (λ ys. take i (page n) ++ ys) rest in
     let joined = append_assoc (rows_of page n) (take i (page n)) (r ∷ drop (i + 1) (page n)) in
     subst Ascend (ap (λ ys. rows_of page n ++ ys) all ∙ sym joined) (ascend_pages page k n h ascend)
 

@@ -5,7 +5,8 @@ use Rattle.std.specs.List.{list_any}
 use Rattle.std.proofs.lemmas.List.Elements.{filter-append}
 use Rattle.std.proofs.lemmas.List.Sorted.{list_any-IsPermutation}
 use Rattle.std.specs.Cmp.{first_so}
-use Rattle.rv_value.proofs.Tests.{either, or_false}
+use Rattle.std.proofs.Math.Bool.{or-false}
+use Rattle.rv_value.proofs.Tests.{either}
 use Rattle.rv_value.specs.declared.record.IndexEntry.{IndexEntry}
 use Rattle.rv_keys.specs.Keys.{has_key}
 use Rattle.rv_restrict.specs.Parts.{Parted, passes}
@@ -176,7 +177,7 @@ last_gathers u piece keys shown a next perm f = record {
     parts = ahead_split (present u) shown u.snap u.lane.place u.lane.held piece.entries a.own.entries f.lane.drawn ∙ ap (λ (o : Option IndexEntry). piece.entries ++ run_after (shown.entries (present u).index u.snap) (present u).range o) next
 
     all : (n : ℕ) → found u shown n ≡ true → (has_key n u.keys || (has_key n built || later n)) ≡ true
-    all n h = still_found (has_key n u.keys) (builds (present u) shown u.snap u.lane n) (has_key n built) (later n) h (λ admitted b. sym (or_false (has_key n built)) ∙ builds_on (present u) shown u.snap u.lane piece (lacks u.keys) [] n a.own.part parts admitted b)
+    all n h = still_found (has_key n u.keys) (builds (present u) shown u.snap u.lane n) (has_key n built) (later n) h (λ admitted b. sym (or-false (has_key n built)) ∙ builds_on (present u) shown u.snap u.lane piece (lacks u.keys) [] n a.own.part parts admitted b)
 
 -- the next member has its part of what is met later
 pub next_met : (plans : List ScanPlan) (k : ℕ) (shown : Shown) (snap n : ℕ) → k < length plans → meets_any (drop k plans) shown snap n ≡ (builds (plan_at plans k) shown snap no_lane n || meets_any (drop (k + 1) plans) shown snap n)

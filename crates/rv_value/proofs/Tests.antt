@@ -18,10 +18,6 @@ left_false a b h = (or_parts a b h).0
 pub right_false : (a b : Bool) → (a || b) ≡ false → b ≡ false
 right_false a b h = (or_parts a b h).1
 
-pub or_false : (a : Bool) → (a || false) ≡ a
-or_false true = refl
-or_false false = refl
-
 pub either : {P : Type 0} (a b : Bool) → (a || b) ≡ true → (a ≡ true → P) → (b ≡ true → P) → P
 either true b h left right = left refl
 either false b h left right = right h

@@ -8,6 +8,7 @@ use Rattle.std.proofs.lemmas.Cmp.{nat_eq_equiv}
 use Rattle.std.proofs.lemmas.Map.Keys.{IsDistinct-push}
 use Rattle.std.specs.List.{AllByRecursion, IsDistinct, list_any}
 use Rattle.std.proofs.lemmas.Bool.{and_from}
+use Rattle.std.proofs.Math.Bool.{and-true}
 use Rattle.rv_value.specs.declared.record.Record.{Record}
 use Rattle.rv_value.specs.declared.value.Value.{Value}
 use Rattle.rv_restrict.specs.declared.atom.Atom.{Atom}
@@ -88,10 +89,6 @@ our_indexes shown query (i ∷ indexes) table offers ours = (our_index shown que
 
 -- The restriction.
 
-and_true : (a : Bool) → (a && true) ≡ a
-and_true true = refl
-and_true false = refl
-
 atoms_more : (p : ColRef → Bool) (xs ys : List Atom) → group_names_only p xs ≡ true → group_names_only p ys ≡ true → group_names_only p (xs ++ ys) ≡ true
 atoms_more p xs ys h i = list_all-append (atom_names_only p) xs ys ∙ and_from (group_names_only p xs) (group_names_only p ys) h i
 
@@ -100,18 +97,18 @@ groups_more p xs ys h i = list_all-append (group_names_only p) xs ys ∙ and_fro
 
 atom_named : (p : ColRef → Bool) (column : ℕ) (span : Option Span) → p (record { place = 0; column = column }) ≡ true → group_names_only p (span_atoms column span) ≡ true
 atom_named p column None h = refl
-atom_named p column (Some s) h = and_true (p (record { place = 0; column = column })) ∙ h
+atom_named p column (Some s) h = and-true (p (record { place = 0; column = column })) ∙ h
 
 group_named : (p : ColRef → Bool) (column : ℕ) (span : Option Span) → p (record { place = 0; column = column }) ≡ true → names_only p (span_group column span) ≡ true
 group_named p column None h = refl
-group_named p column (Some s) h = and_true (group_names_only p (span_atoms column (Some s))) ∙ and_true (p (record { place = 0; column = column })) ∙ h
+group_named p column (Some s) h = and-true (group_names_only p (span_atoms column (Some s))) ∙ and-true (p (record { place = 0; column = column })) ∙ h
 
 either_named : (p : ColRef → Bool) (either : Option Either) → p (record { place = 0; column = 0 }) ≡ true → p (record { place = 0; column = 1 }) ≡ true → p (record { place = 0; column = 2 }) ≡ true → names_only p (either_group either) ≡ true
 either_named p None f s t = refl
 either_named p (Some e) f s t =
     let two = atoms_more p (span_atoms 0 e.first) (span_atoms 1 e.second) (atom_named p 0 e.first f) (atom_named p 1 e.second s) in
     let three = atoms_more p (span_atoms 0 e.first ++ span_atoms 1 e.second) (span_atoms 2 e.third) two (atom_named p 2 e.third t) in
-    and_true (group_names_only p (either_atoms e)) ∙ atoms_more p (span_atoms 0 e.first ++ span_atoms 1 e.second ++ span_atoms 2 e.third) (span_atoms 0 e.again) three (atom_named p 0 e.again f)
+    and-true (group_names_only p (either_atoms e)) ∙ atoms_more p (span_atoms 0 e.first ++ span_atoms 1 e.second ++ span_atoms 2 e.third) (span_atoms 0 e.again) three (atom_named p 0 e.again f)
 
 spans_pass : (p : ColRef → Bool) (first second third : Option Span) (either : Option Either) → p (record { place = 0; column = 0 }) ≡ true → p (record { place = 0; column = 1 }) ≡ true → p (record { place = 0; column = 2 }) ≡ true → names_only p (span_group 0 first ++ span_group 1 second ++ span_group 2 third ++ either_group either) ≡ true
 spans_pass p first second third either f s t =

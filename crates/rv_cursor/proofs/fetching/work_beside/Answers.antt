@@ -1,7 +1,7 @@
-use Rattle.std.proofs.Common.{rules, ◌∙◌}
+use Rattle.std.proofs.Common.{rules, ◌∙◌, le_trans}
 use Rattle.rv_cursor.specs.Left.{work}
 use Rattle.rv_cursor.proofs.Holding.{seen_stays, stays_on}
-use Rattle.rv_cursor.proofs.Moving.{beside_more, beside_none, less_work, moves_on}
+use Rattle.rv_cursor.proofs.Moving.{beside_more, beside_none, moves_on}
 use Rattle.rv_cursor.proofs.fetching.work_beside.Goals as goal
 
 pub pieces-preserved : goal.pieces-preserved
@@ -11,7 +11,7 @@ pieces-preserved g c =
     record {
       stays = stays_on (g.R.Reader.shown c.args.reader.now) c.args.cursor.now c.pieces.cursor c.work_piece.new.cursor before.stays c.work_piece.ensures.stays;
       hand = c.work_piece.ensures.hand ∙ before.hand;
-      work = less_work (work (g.R.Reader.shown c.args.reader.now) c.args.cursor.now) (work (g.R.Reader.shown c.args.reader.now) c.pieces.cursor) (work (g.R.Reader.shown c.args.reader.now) c.work_piece.new.cursor) c.pieces.invariant.work c.work_piece.ensures.work;
+      work = le_trans c.work_piece.ensures.work c.pieces.invariant.work;
       rule = c.work_piece.ensures.stays_rule ∙ before.rule;
       steps_made = beside_more c.pieces._done _ _ _ _ _ _ _ before.rule seen before.steps_made (search rules) (rw c.in-Ok-true.field-0-test at c.in-Ok-true.ensures.worked);
       moves = moves_on _ _ _ _ _ _ _ before.rule seen before.moves c.work_piece.ensures.moves;

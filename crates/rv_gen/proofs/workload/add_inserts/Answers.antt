@@ -1,9 +1,10 @@
+use Rattle.std.proofs.Common.{append-nil, sym}
 use Rattle.rv_gen.proofs.Goings.{state_more, state_none}
-use Rattle.rv_gen.proofs.Runs.{none_yet, row_added}
+use Rattle.rv_gen.proofs.Runs.{row_added}
 use Rattle.rv_gen.proofs.workload.add_inserts.Goals as goal
 
 pub rows-init : goal.rows-init
-rows-init c = record { lines = none_yet c.args.lines.now; state = state_none c.args.draws.now.state }
+rows-init c = record { lines = sym (append-nil c.args.lines.now); state = state_none c.args.draws.now.state }
 
 pub rows-preserved : goal.rows-preserved
 rows-preserved c = record {

@@ -1,11 +1,11 @@
-use Rattle.std.proofs.Common.{◌≡◌, ℕ, ◌+◌, ◌-◌, List, ◌++◌, arith, ap, ◌∙◌}
+use Rattle.std.proofs.Common.{◌≡◌, ℕ, ◌+◌, ◌-◌, List, ◌++◌, arith, ap, ◌∙◌, append-nil, sym}
 use Rattle.rv_gen.specs.Workload.{openings_of}
 use Rattle.rv_gen.proofs.Goings.{state_more, state_none}
-use Rattle.rv_gen.proofs.Runs.{none_yet, opening_added, readers_end}
+use Rattle.rv_gen.proofs.Runs.{opening_added, readers_end}
 use Rattle.rv_gen.proofs.workload.add_openings.Goals as goal
 
 pub readers-init : goal.readers-init
-readers-init c = record { lines = none_yet c.args.lines.now; state = state_none c.args.draws.now.state }
+readers-init c = record { lines = sym (append-nil c.args.lines.now); state = state_none c.args.draws.now.state }
 
 pub readers-preserved : goal.readers-preserved
 readers-preserved c =

@@ -1,9 +1,10 @@
+use Rattle.std.proofs.Common.{append-nil, sym}
 use Rattle.rv_gen.proofs.Goings.{state_more, state_none}
-use Rattle.rv_gen.proofs.Runs.{none_yet, round_added}
+use Rattle.rv_gen.proofs.Runs.{round_added}
 use Rattle.rv_gen.proofs.workload.add_rounds.Goals as goal
 
 pub rounds-init : goal.rounds-init
-rounds-init c = record { lines = none_yet c.args.lines.now; state = state_none c.args.draws.now.state }
+rounds-init c = record { lines = sym (append-nil c.args.lines.now); state = state_none c.args.draws.now.state }
 
 pub rounds-preserved : goal.rounds-preserved
 rounds-preserved c = record {

@@ -1,9 +1,9 @@
-use Rattle.std.proofs.Common.{◌∙◌, ap, refl, rules, subst, sym}
+use Rattle.std.proofs.Common.{◌∙◌, ap, refl, rules, subst, sym, lt_of_lt_of_le}
 use Rattle.rv_value.proofs.Lists.{on_err}
 use Rattle.rv_retrieval.proofs.Stepped.{as_it_is, one_piece}
 use Rattle.rv_retrieval.specs.Shape.{is_background}
 use Rattle.rv_retrieval.proofs.Efforts.{give_awaits, give_less}
-use Rattle.rv_retrieval.proofs.Openings.{below, gave_less, nothing_awaited, tries_to}
+use Rattle.rv_retrieval.proofs.Openings.{gave_less, nothing_awaited, tries_to}
 use Rattle.rv_retrieval.specs.Stepping.{OnlyTakes}
 use Rattle.rv_retrieval.specs.Runs.{SameCourse}
 use Rattle.rv_retrieval.proofs.Waiting.{leaf_course, steady_by, steady_on, took_only}
@@ -25,7 +25,7 @@ returns-in_ok-_given-in-Piece-clause-falls g c back a =
     let shown = g.R.Reader.shown c.args.reader.now in
     let took = c.take_piece.ensures.tries.less in
     let gave = gave_less _ _ _ c.in-Piece.piece c.sieve.result c.in_ok-_given-in-Piece._given c.take_piece.new.self c.give_piece.new.self shown (rw c.in-Piece.is at c.in_ok-piece.ensures.taken) c.sieve.ensures c.in_ok-_given-in-Piece.ensures.given c.in_ok-_given-in-Piece.ensures.obeys c.take_piece.ensures.fits in
-    below _ _ _ gave took
+    lt_of_lt_of_le gave took
 
 pub returns-in_ok-_given-in-Piece-clause-steady : goal.returns-in_ok-_given-in-Piece-clause-steady
 returns-in_ok-_given-in-Piece-clause-steady g c =

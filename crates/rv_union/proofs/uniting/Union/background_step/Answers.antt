@@ -1,9 +1,8 @@
-use Rattle.std.proofs.Common.{◌≡◌, ◌∙◌, ap, false, refl, subst, sym, true}
+use Rattle.std.proofs.Common.{◌≡◌, ◌∙◌, ap, false, refl, subst, sym, true, lt_of_lt_of_le}
 use Rattle.rv_value.proofs.Lists.{on_err}
 use Rattle.rv_judge.specs.declared.events.Control.TheVariants.{BackgroundAlone}
 use Rattle.rv_union.specs.Opened.{OnlyTakes}
 use Rattle.rv_union.specs.Unioned.{Unioned, scanning}
-use Rattle.rv_final.proofs.Endings.{below}
 use Rattle.rv_final.proofs.LaneWork.{tries_on}
 use Rattle.rv_union.proofs.Efforts.{gives_less, leaf_spends, piece_falls}
 use Rattle.rv_union.proofs.Finals.{accepted_piece, one_piece}
@@ -55,7 +54,7 @@ returns-clause-falls g c =
     let piece = rw c.in-Piece.is at c.in_ok-piece.ensures.taken in
     let took = (leaf_spends c.args.self.now mid shown c.args.steps.now c.take_piece.new.steps c.take_piece.ensures.leaves c.take_piece.ensures.reads).less in
     let was = accepted_piece (right_of c.give_piece.ensures.stays) _ _ mid c.give_piece.new.self c.in-Piece.piece c.sieve.result c.in_ok-_given-in-Piece._given piece c.sieve.ensures c.in_ok-_given-in-Piece.ensures.given c.in_ok-_given-in-Piece.ensures.obeys in
-    below _ _ _ (piece_falls (right_of c.give_piece.ensures.stays) _ _ c.sieve.result mid c.give_piece.new.self shown was.0 was.1 c.take_piece.ensures.fits) took
+    lt_of_lt_of_le (piece_falls (right_of c.give_piece.ensures.stays) _ _ c.sieve.result mid c.give_piece.new.self shown was.0 was.1 c.take_piece.ensures.fits) took
 
 pub returns-in_err-piece-clause-steady : goal.returns-in_err-piece-clause-steady
 returns-in_err-piece-clause-steady g c = took_steady c.args.self.now c.take_piece.new.self (g.R.Reader.shown c.args.reader.now) c.take_piece.ensures.leaves c.take_piece.ensures.told c.take_piece.ensures.fits
