@@ -3,6 +3,7 @@ use Rattle.std.proofs.Common.{◌≡◌, ◌⊎◌, ℕ, ◌<◌, ◌≤◌, Lis
 use Rattle.std.proofs.lemmas.Bool.{cases_Bool, cases_lt}
 use Rattle.std.proofs.lemmas.Bool.Decides.{nat_tests}
 use Rattle.std.specs.List.{AllByRecursion}
+use Rattle.rv_value.proofs.Lists.{first_same}
 use Rattle.rv_audit.specs.declared.calls.Call.{Call}
 use Rattle.rv_audit.specs.Following.{IsFront}
 use Rattle.rv_audit.proofs.Phases.{from_none, none_below, texts, AreFrom, AreUpTo, Rising}
@@ -59,14 +60,11 @@ phases_same p x xs y ys rx ry a = by (cases_lt y.phase x.phase) (cases_lt x.phas
     by (inr le) (inl less) = (let up = head_up p (x ∷ xs) y ys a in none_is x xs (sym (a.past x.phase (omega (arith, less, up))) ∙ none_below x.phase y.phase (y ∷ ys) less (omega arith, ry)))
     by (inr le) (inr ge) = omega (arith, le, ge)
 
-first_text : (a b : List ℕ) (us bs : List (List ℕ)) → a ∷ us ≡ b ∷ bs → a ≡ b
-first_text a b us bs e = cc
-
 heads_same : (p s : ℕ) (x : Call) (xs : List Call) (y : Call) (ys : List Call) → x.session ≡ s → y.session ≡ s → AreFrom x.phase xs → AreFrom y.phase ys → Agrees p (x ∷ xs) (y ∷ ys) → y ≡ x
 heads_same p s x xs y ys sx sy rx ry a =
     let phase = phases_same p x xs y ys rx ry a in
     let f = head_front p (x ∷ xs) y ys a in
-    let text = first_text x.text y.text (texts x.phase xs) (texts y.phase ys ++ f.rest) (sym (head_text x xs) ∙ ap (λ q. texts q (x ∷ xs)) (sym phase) ∙ f.is) in
+    let text = first_same x.text y.text (texts x.phase xs) (texts y.phase ys ++ f.rest) (sym (head_text x xs) ∙ ap (λ q. texts q (x ∷ xs)) (sym phase) ∙ f.is) in
     (λ i. record { phase = phase i; session = (sy ∙ sym sx) i; text = sym text i })
 
 uncons : (q : ℕ) (c : Call) (us bs : List Call) → texts q (c ∷ us) ≡ texts q (c ∷ bs) → texts q us ≡ texts q bs

@@ -2,6 +2,7 @@
 use Rattle.std.proofs.Common.{◌≡◌, ℕ, ◌≤◌, List, [], ◌∷◌, ◌++◌, true, inl, inr, refl, ap, sym, subst, ◌∙◌, length, drop, map, arith, eqb, append-nil, append_assoc}
 use Rattle.std.proofs.lemmas.Bool.{cases_Bool}
 use Rattle.std.proofs.lemmas.Bool.Decides.{nat_tests}
+use Rattle.rv_value.proofs.Lists.{first_same}
 use Rattle.rv_script.specs.declared.scripts.Phase.{Phase}
 use Rattle.rv_model.specs.declared.entry.Entry.{Entry}
 use Rattle.rv_model.specs.History.{calls}
@@ -127,9 +128,6 @@ same_both (x ∷ xs) (a ∷ us) (b ∷ bs) h k =
     let q = k.0 in
     (record { session = sym p.session ∙ q.session; text = sym p.text ∙ q.text; reply = sym p.reply ∙ q.reply }, same_both xs us bs h.1 k.1)
 
-first_call : (x y : Call) (xs ys : List Call) → x ∷ xs ≡ y ∷ ys → x ≡ y
-first_call x y xs ys e = cc
-
 rest_calls : (x y : Call) (xs ys : List Call) → x ∷ xs ≡ y ∷ ys → xs ≡ ys
 rest_calls x y xs ys e = cc
 
@@ -154,7 +152,7 @@ determined (a ∷ us) (b ∷ bs) r1 r2 ss same e =
     let but = same.0 in
     let session = ss.0 in
     let here = sym (ap (λ cs. cs ++ r1 a.session) (made_here a.session a us refl)) ∙ e a.session session.0 session.1 ∙ ap (λ cs. cs ++ r2 a.session) (made_here a.session b bs (sym but.session)) in
-    let call = first_call (call_by a) (call_by b) (made a.session us ++ r1 a.session) (made a.session bs ++ r2 a.session) here in
+    let call = first_same (call_by a) (call_by b) (made a.session us ++ r1 a.session) (made a.session bs ++ r2 a.session) here in
     let is : a ≡ b = (λ i. record { session = but.session i; phase = ap (λ (c : Call). c.phase) call i; text = but.text i; reply = but.reply i }) in
     let ih = determined us bs r1 r2 ss.1 same.1 (λ s from to. uncons_made s a us bs (r1 s) (r2 s) (e s from to ∙ ap (λ x. made s (x ∷ bs) ++ r2 s) (sym is))) in
     record { entries = λ i. is i ∷ ih.entries i; rests = ih.rests }

@@ -2,6 +2,8 @@
 use Rattle.std.proofs.Common.{◌≡◌, ℕ, ◌+◌, ◌≤◌, List, [], ◌∷◌, ◌++◌, true, false, cond, Option, Some, None, inl, inr, refl, ap, sym, ◌∙◌, length, take, arith, bytes_eq, codes, append_assoc, append-nil, length-append}
 use Rattle.std.proofs.lemmas.Bool.{cases_Bool}
 use Rattle.std.proofs.lemmas.Option.{same_Some}
+use Rattle.rv_value.proofs.Lists.{front_taken}
+use Rattle.rv_value.proofs.Tests.{no_some}
 use Rattle.rv_text.specs.Lines.{cut, split, Split}
 use Rattle.rv_text.proofs.Cutting.{behind, cut_whole, split_cut, split_of, split_whole, unsplit}
 use Rattle.rv_audit.specs.Marks.{behind_line, ended, is_mark, parted, parted_lines, Parted}
@@ -58,14 +60,10 @@ passed_line input left word more passed p w m not_mark = record {
   is = p.is ∙ ap (after_front p.front) (parted_cut left ∙ (λ i. cut_parted (sym w i) (sym m i)) ∙ (λ i. cond (not_mark i) (Some (parts [] more)) (behind_line word (parted more)))) ∙ front_line p.front word (parted more);
 }
 
-front_is : (front rest text : List ℕ) (at : ℕ) → front ++ rest ≡ text → length front ≡ at → take at text ≡ front
-front_is [] rest text at whole count = rw (sym count) refl
-front_is (c ∷ cs) rest text at whole count = rw (sym count, sym whole) (ap (λ bs. c ∷ bs) (front_is cs rest (cs ++ rest) (length cs) refl refl))
-
 pub passed_mark : (input left word more : List ℕ) (passed : ℕ) → PassedSo input passed left → word ≡ (cut 10 left).word → Some more ≡ (cut 10 left).more → is_mark word ≡ true → Some (parts (take passed input) more) ≡ parted input
 passed_mark input left word more passed p w m mark = sym (
     p.is ∙ ap (after_front p.front) (parted_cut left ∙ (λ i. cut_parted (sym w i) (sym m i)) ∙ (λ i. cond (mark i) (Some (parts [] more)) (behind_line word (parted more))))
-    ∙ ap (λ bs. Some (parts bs more)) (append-nil p.front ∙ sym (front_is p.front left input passed p.whole p.count)))
+    ∙ ap (λ bs. Some (parts bs more)) (append-nil p.front ∙ sym (front_taken p.front left input passed p.whole p.count)))
 
 last_line : (left word : List ℕ) → word ≡ (cut 10 left).word → None ≡ (cut 10 left).more → parted left ≡ cond (bytes_eq left (codes "====")) (Some (parts [] [])) None
 last_line left word w m = parted_cut left ∙ (λ i. cut_parted (sym w i) (sym m i)) ∙ ap (λ bs. cond (bytes_eq bs (codes "====")) (Some (parts [] [])) None) (sym (append-nil word) ∙ (λ i. w i ++ behind 10 (m i)) ∙ cut_whole 10 left)
@@ -73,7 +71,7 @@ last_line left word w m = parted_cut left ∙ (λ i. cut_parted (sym w i) (sym m
 pub passed_last : (input left word : List ℕ) (passed : ℕ) → PassedSo input passed left → word ≡ (cut 10 left).word → None ≡ (cut 10 left).more → bytes_eq left (codes "====") ≡ true → Some (parts (take passed input) []) ≡ parted input
 passed_last input left word passed p w m mark = sym (
     p.is ∙ ap (after_front p.front) (last_line left word w m ∙ (λ i. cond (mark i) (Some (parts [] [])) None))
-    ∙ ap (λ bs. Some (parts bs [])) (append-nil p.front ∙ sym (front_is p.front left input passed p.whole p.count)))
+    ∙ ap (λ bs. Some (parts bs [])) (append-nil p.front ∙ sym (front_taken p.front left input passed p.whole p.count)))
 
 pub passed_all : (input left word : List ℕ) (passed : ℕ) → PassedSo input passed left → word ≡ (cut 10 left).word → None ≡ (cut 10 left).more → bytes_eq left (codes "====") ≡ false → None ≡ parted input
 passed_all input left word passed p w m no_mark = sym (p.is ∙ ap (after_front p.front) (last_line left word w m ∙ (λ i. cond (no_mark i) (Some (parts [] [])) None)))
@@ -88,13 +86,10 @@ line_within left word more w m = (let whole = (λ i. w i ++ behind 10 (m i)) ∙
 
 -- a transcript is no longer than its input
 
-no_part : {X : Type 0} (p : Parted) → None ≡ Some p → X
-no_part p e = absurd (cc)
-
 lines_within : (ls : List (List ℕ)) (rest : List ℕ) (p : Parted) → parted_lines ls rest ≡ Some p → length p.transcript ≤ length (ended ls rest)
 lines_within [] rest p e = elim (cases_Bool (bytes_eq rest (codes "===="))) [
   | inl t ↦ let n = ap (λ (q : Parted). length q.transcript) (same_Some (parts [] []) p (rw t at e)) in omega (arith, n)
-  | inr f ↦ no_part p (rw f at e)
+  | inr f ↦ no_some (rw f at e)
 ]
 lines_within (l ∷ ls) rest p e = elim (cases_Bool (is_mark l)) [
   | inl t ↦
@@ -105,7 +100,7 @@ lines_within (l ∷ ls) rest p e = elim (cases_Bool (is_mark l)) [
 ]
   where
     by : ((q : Parted) → parted_lines ls rest ≡ Some q → length q.transcript ≤ length (ended ls rest)) → (o : Option Parted) → parted_lines ls rest ≡ o → behind_line l o ≡ Some p → length p.transcript ≤ length (l ++ 10 ∷ ended ls rest)
-    by within None is e = no_part p e
+    by within None is e = no_some e
     by within (Some q) is e =
         let n = ap (λ (r : Parted). length r.transcript) (same_Some (parts (l ++ 10 ∷ q.script) q.transcript) p e) in
         let m = length-append l (10 ∷ ended ls rest) in

@@ -1,7 +1,8 @@
 -- The texts of entries that follow a script are the script's, so they are as short.
-use Rattle.std.proofs.Common.{ℕ, zero, suc, ◌+◌, ◌≤◌, List, [], ◌∷◌, ◌++◌, inl, inr, refl, sym, subst, length, arith, eqb}
+use Rattle.std.proofs.Common.{ℕ, ◌+◌, ◌≤◌, List, [], ◌∷◌, ◌++◌, inl, inr, refl, sym, subst, length, eqb}
 use Rattle.std.proofs.lemmas.Bool.{cases_Bool}
-use Rattle.std.specs.List.{All, AllByRecursion}
+use Rattle.std.specs.List.{AllByRecursion}
+use Rattle.rv_value.proofs.Lists.{from_all}
 use Rattle.rv_script.specs.declared.scripts.Line.{Line}
 use Rattle.rv_script.specs.declared.scripts.Phase.{Phase}
 use Rattle.rv_script.specs.declared.scripts.Script.{Script}
@@ -15,15 +16,6 @@ use Rattle.rv_audit.proofs.Making.{made, made_here, Made}
 
 abbrev pub AreShort : ℕ → List Call → Type 0
 AreShort most calls = AllByRecursion (λ (c : Call). length c.text ≤ most) calls
-
-from_all : {X : Type 0} (P : X → Type 0) (xs : List X) → All P xs → AllByRecursion P xs
-from_all P [] h = tt
-from_all P (x ∷ xs) h = (h 0 x (omega arith), from_all P xs (λ k d less. h (suc k) d (omega (arith, less))))
-
-pub to_all : {X : Type 0} (P : X → Type 0) (xs : List X) → AllByRecursion P xs → All P xs
-to_all P [] h k d less = absurd (omega (arith, less))
-to_all P (x ∷ xs) h zero d less = h.0
-to_all P (x ∷ xs) h (suc k) d less = to_all P xs h.1 k d (omega (arith, less))
 
 -- The calls of a script.
 

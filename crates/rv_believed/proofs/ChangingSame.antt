@@ -4,6 +4,7 @@ use Rattle.std.proofs.lemmas.Bool.Decides.{nat_tests}
 use Rattle.std.specs.List.{position_or_len}
 use Rattle.std.proofs.lemmas.List.{length-map}
 use Rattle.std.proofs.lemmas.List.Elements.{filter_agree}
+use Rattle.std.proofs.lemmas.Bool.{le-ltb, lt-ltb}
 use Rattle.rv_value.specs.declared.value.Value.{Value}
 use Rattle.rv_value.specs.declared.record.Record.{Record}
 use Rattle.rv_value.specs.declared.record.RowNo.{RowNo}
@@ -35,12 +36,6 @@ abbrev pub found : Bool → Option ℕ → Option ℕ
 found true o = Some zero
 found false o = option_map suc o
 
-at_first : (n : ℕ) → nat_lt 0 (suc n) ≡ true
-at_first n = grind (arith, nat_tests)
-
-none_less : (n : ℕ) → nat_lt n 0 ≡ false
-none_less n = grind (arith, nat_tests)
-
 more_less : (m n : ℕ) → nat_lt m n ≡ true → nat_lt (1 + m) (suc n) ≡ true
 more_less m n h = grind (arith, nat_tests)
 
@@ -57,14 +52,14 @@ one_on m n false e = ap (λ b. cond b (Some (1 + m)) None) (no_more_less m n e)
 
 step_by : (m n : ℕ) (b : Bool) → cond (nat_lt (cond (not b) (1 + m) 0) (suc n)) (Some (cond (not b) (1 + m) 0)) None
     ≡ found b (cond (nat_lt m n) (Some m) None)
-step_by m n true = ap (λ b. cond b (Some 0) None) (at_first n)
+step_by m n true = ap (λ b. cond b (Some 0) None) (lt-ltb 0 (suc n) (omega arith))
 step_by m n false = one_on m n (nat_lt m n) refl
 
 pub position_step : {X : Type 0} (p : X → Bool) (x : X) (xs : List X) → position p (x ∷ xs) ≡ found (p x) (position p xs)
 position_step p x xs = step_by (position_or_len p xs) (length xs) (p x)
 
 pub position_none : {X : Type 0} (p : X → Bool) → position p [] ≡ None
-position_none p = ap (λ b. cond b (Some (position_or_len p [])) None) (none_less (position_or_len p []))
+position_none p = ap (λ b. cond b (Some (position_or_len p [])) None) (le-ltb (position_or_len p []) 0 (omega arith))
 
 -- ---- a test of each, and the first that fails
 

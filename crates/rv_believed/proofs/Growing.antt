@@ -4,6 +4,7 @@ use Rattle.std.proofs.lemmas.Bool.Decides.{nat_tests}
 use Rattle.std.proofs.lemmas.Bool.{eqb-true, ltb-false, ltb-true}
 use Rattle.std.proofs.lemmas.List.{get_or_past, length_push}
 use Rattle.rv_value.proofs.Tests.{number_turned, same_number}
+use Rattle.rv_value.proofs.Places.{default_behind}
 use Rattle.rv_rows.specs.declared.changes.Change.{Change}
 use Rattle.rv_rows.specs.Changes.{has_change, is_of}
 use Rattle.rv_model.specs.Transactions.{empty_lists, next_row, touch, touch_all, touched_by, touched_in, with_number}
@@ -85,15 +86,9 @@ pub number_next : (touched : List (List ℕ)) (table t : ℕ)
 number_next touched table t = ap (λ (ns : List ℕ). length ns) (number_in touched table t)
     ∙ length_by (nat_eq t table) (touched_in touched table) (touched_in touched t)
 
-zero_behind : (ns : List ℕ) (r : ℕ) → slice_index_or (ns ++ 0 ∷ []) r 0 ≡ slice_index_or ns r 0
-zero_behind [] zero = refl
-zero_behind [] (suc r) = refl
-zero_behind (n ∷ ns) zero = refl
-zero_behind (n ∷ ns) (suc r) = zero_behind ns r
-
 entry_by : (touched : List (List ℕ)) (table t r : ℕ) (b : Bool) → nat_eq t table ≡ b
     → slice_index_or (cond b (touched_in touched table ++ 0 ∷ []) (touched_in touched t)) r 0 ≡ touched_by touched t r
-entry_by touched table t r true e = zero_behind (touched_in touched table) r ∙ ap (λ n. touched_by touched n r) (sym (eqb-true t table e))
+entry_by touched table t r true e = default_behind (touched_in touched table) r 0 ∙ ap (λ n. touched_by touched n r) (sym (eqb-true t table e))
 entry_by touched table t r false e = refl
 
 pub number_touched : (touched : List (List ℕ)) (table t r : ℕ) → touched_by (with_number touched table) t r ≡ touched_by touched t r

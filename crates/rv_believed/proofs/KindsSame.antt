@@ -1,7 +1,7 @@
 -- Bridge: kinds are tested on the condition as it stands in the text, and in the working definition on the resolved one.
 use Rattle.std.proofs.Common.{◌≡◌, refl, sym, ap, ◌∙◌, arith, append_assoc}
 use Rattle.std.proofs.Math.Seq.{get_or-append_seam}
-use Rattle.std.specs.Prelude.{ℕ, List, [], ◌∷◌, ◌++◌, ◌+◌, Bool, true, false, not, ◌&&◌, ◌||◌, Option, None, Result, Ok, length, filter, if◌then◌else◌}
+use Rattle.std.specs.Prelude.{ℕ, List, [], ◌∷◌, ◌++◌, ◌+◌, Bool, true, false, not, ◌&&◌, ◌||◌, Option, None, Result, Ok, length, filter}
 use Rattle.std.specs.List.{list_any, list_all, slice_index_or, AllByRecursion}
 use Rattle.std.specs.Option.{option_to_list}
 use Rattle.std.proofs.Math.Bool.{or-false}
@@ -65,11 +65,6 @@ items_at tables items (i ∷ more) front place q r =
     (columns_of tables i.table) [] 0 refl refl)
     (items_at tables items more (front ++ i ∷ []) (place + 1) (q ∙ sym (append_assoc front (i ∷ []) more))
     (one_longer front i place r))
-
-kept_all : {X : Type 0} (P : X → Type 0) (x : X) (xs : List X) (b : Bool) → P x → AllByRecursion P xs
-    → AllByRecursion P (if b then x ∷ xs else xs)
-kept_all P x xs true a rest = (a, rest)
-kept_all P x xs false a rest = rest
 
 -- what a reference finds is at its place
 pub only_at : {B : Type 0} (P : InReach → Type 0) (name : List ℕ) (xs : List InReach) → AllByRecursion P xs

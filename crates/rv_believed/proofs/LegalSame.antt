@@ -1,5 +1,6 @@
 -- Bridge: legal over the grammar and the believed names is legal by the working definitions, and back.
 use Rattle.std.proofs.Common.{◌≡◌, ℕ, List, [], ◌∷◌, Option, Some, None, Result, refl, sym, ◌∙◌, subst}
+use Rattle.rv_value.proofs.Tests.{no_some}
 use Rattle.rv_lang.specs.declared.reply.Refusal.{Refusal}
 use Rattle.rv_lang.specs.declared.statement.Statement.{Statement}
 use Rattle.rv_parse.specs.Reading.{statement_of}
@@ -21,18 +22,11 @@ use Rattle.rv_believed.proofs.Resolution.{resolution_same}
 use Rattle.rv_believed.proofs.StepSame.{does_from, does_to}
 use Rattle.rv_believed.proofs.TablesThere.{empty_sound, stepped_sound}
 
-abbrev IsSomething : {X : Type 0} → Option X → Type 0
-IsSomething None = ⊥
-IsSomething (Some x) = Unit {0}
-
-none_some : {X A : Type 0} {x : X} → None ≡ Some x → A
-none_some p = absurd (subst IsSomething (sym p) tt)
-
 -- ---- from the working definitions
 
 answer_by : SaysIsRead → ReadIsSaid → (s : State) (e : Entry) → IsSound s → (o : Option Statement) → statement_of e.text ≡ o
     → Allows s e.session o e.reply → Answers (database s) e (database (next s e.session o e.reply))
-answer_by read said s e h None p allowed = says_none (λ statement g. none_some (sym p ∙ read e.text statement g)) allowed refl
+answer_by read said s e h None p allowed = says_none (λ statement g. no_some (sym p ∙ read e.text statement g)) allowed refl
 answer_by read said s e h (Some statement) p allowed = says statement (said e.text statement p)
     (subst (λ (r : Result Resolved Refusal). DoesAsked (database s) e.session r e.reply (database (next s e.session (Some statement) e.reply)))
     (sym (resolution_same s.schema statement))

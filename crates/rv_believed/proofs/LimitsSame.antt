@@ -1,11 +1,11 @@
 -- Bridge: the limits, statement by statement, are those of the working definition, test by test.
 use Rattle.std.proofs.Common.{◌≡◌, refl, sym, ap, ◌∙◌, arith}
-use Rattle.std.proofs.lemmas.Bool.Decides.{nat_tests}
 use Rattle.std.specs.Prelude.{ℕ, ℤ, pos, negsuc, List, [], ◌∷◌, ◌++◌, Bool, true, false, ◌||◌, Option, Some, None, Ok, Err, map, nat_lt, length}
 use Rattle.std.specs.List.{list_any, flat_map}
 use Rattle.std.specs.Option.{unwrap_or, option_to_list}
 use Rattle.std.proofs.lemmas.List.Folds.{list_any-append}
 use Rattle.std.proofs.Math.Bool.{or-false, or_assoc}
+use Rattle.std.proofs.lemmas.Bool.{le-ltb}
 use Rattle.rv_believed.proofs.ChangingSame.{pass_same}
 use Rattle.rv_value.specs.declared.value.Value.{Value}
 use Rattle.rv_value.specs.declared.value.Value.TheVariants.{Null, Int, Str}
@@ -209,12 +209,9 @@ returned_test : (returned : Option (List RawCol)) → at_most 64 which.Returned 
 returned_test None = refl
 returned_test (Some refs) = refl
 
-below_zero : (n : ℕ) → nat_lt n 0 ≡ false
-below_zero n = grind (arith, nat_tests)
-
 steps_test : (n : ℤ) → refuse_if (is_outside 0 10000 n) (Limit which.Steps 10000)
     ≡ refuse_if (today.is_no_steps n) (Limit which.Steps 10000)
-steps_test (pos n) = ap (λ b. refuse_if (b || nat_lt 10000 n) (Limit which.Steps 10000)) (below_zero n)
+steps_test (pos n) = ap (λ b. refuse_if (b || nat_lt 10000 n) (Limit which.Steps 10000)) (le-ltb n 0 (omega arith))
 steps_test (negsuc n) = refl
 
 one_name : (cursor : List ℕ)

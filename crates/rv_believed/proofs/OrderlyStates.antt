@@ -2,10 +2,12 @@
 use Rattle.std.proofs.Common.{◌≡◌, ℕ, ◌+◌, ◌<◌, List, [], ◌∷◌, ◌++◌, Option, Some, None, Result, Ok, Err, Bool, true, false, ◌&&◌, refl, sym, ap, ◌∙◌, subst, is_some, length, nat_lt, nat_eq, arith, bytes_eq, length-set}
 use Rattle.std.specs.Prelude.{remove}
 use Rattle.std.specs.List.{AllByRecursion}
+use Rattle.std.proofs.lemmas.Slice.Eq.{bytes_eq-Decides}
 use Rattle.rv_value.proofs.Tests.{no_other, same_number}
 use Rattle.rv_value.specs.declared.value.Value.{Value}
 use Rattle.rv_value.specs.declared.record.Record.{Record}
 use Rattle.rv_value.specs.declared.record.RowNo.{RowNo}
+use Rattle.rv_value.proofs.Lists.{all_last, all_remove}
 use Rattle.rv_restrict.specs.declared.atom.Atom.{Atom}
 use Rattle.rv_rows.specs.declared.changes.Change.{Change}
 use Rattle.rv_lang.specs.declared.reply.Refusal.{Refusal}
@@ -33,8 +35,7 @@ use Rattle.rv_model.specs.Step.{Outcome, began, changed, closed, committed, comm
 use Rattle.rv_model.specs.Transactions as transactions
 use Rattle.rv_model.specs.Transactions.{no_transaction, refuse_at, transaction_at, transaction_of}
 use Rattle.rv_believed.specs.Orderly.{BeginsBefore, EachTwo, IsOrderly, IsOther, StaysOrderly}
-use Rattle.rv_believed.proofs.Pairs.{all_last, all_put, last_same, none_passes, two_filter, two_last, two_put, two_without, without_same}
-use Rattle.rv_believed.proofs.PlainLists.{all_remove}
+use Rattle.rv_believed.proofs.Pairs.{all_put, last_same, none_passes, two_filter, two_last, two_put, two_without, without_same}
 
 -- ---- what an answer has, where there is one
 
@@ -126,10 +127,6 @@ indexed_orderly s def h = then_gives Any Done (refuse_at (transactions.lowest s.
     (any_gives (refuse_if (nat_lt 7 (indexes_over def.table s.schema.indexes)) (refusals.Limit which.Indexes 8)))
     (λ v q. then_gives Any Done (rows_differ s def) _ (any_gives (rows_differ s def))
     (λ w r. record { active = h.active; below = h.below; bases = h.bases; cursors = h.cursors })))
-
-same_bytes : (bs : List ℕ) → bytes_eq bs bs ≡ true
-same_bytes [] = refl
-same_bytes (b ∷ bs) = λ k. same_number b k && same_bytes bs k
 
 abbrev IsTrueOne : Bool → Type 0
 IsTrueOne true = Unit {0}
@@ -231,7 +228,7 @@ others_of : (cursors : List Cursor) (new : Cursor) → AllByRecursion (λ (c : C
 others_of [] new e = tt
 others_of (c ∷ cs) new e = (
   (λ p q. no_other (sym e.0
-      ∙ (λ k. nat_eq (p k) new.session && bytes_eq (q k) new.name) ∙ (λ k. same_number new.session k && same_bytes new.name k))),
+      ∙ (λ k. nat_eq (p k) new.session && bytes_eq (q k) new.name) ∙ (λ k. same_number new.session k && (bytes_eq-Decides new.name new.name).1 refl k))),
   others_of cs new e.1,
 )
 

@@ -3,13 +3,9 @@ use Rattle.std.proofs.Common.{◌≡◌, ℕ, zero, suc, ◌+◌, List, [], ◌�
 use Rattle.std.proofs.lemmas.Bool.Decides.{nat_tests}
 use Rattle.std.specs.Prelude.{slice_set, remove, position}
 use Rattle.std.specs.List.{AllByRecursion, slice_index_or, position_or_len}
-use Rattle.rv_value.proofs.Lists.{all_filter, all_more}
+use Rattle.std.proofs.lemmas.Bool.{lt-ltb}
+use Rattle.rv_value.proofs.Lists.{all_filter, all_more, all_last, all_remove}
 use Rattle.rv_believed.specs.Orderly.{EachTwo}
-use Rattle.rv_believed.proofs.PlainLists.{all_remove}
-
-pub all_last : {X : Type 0} (P : X → Type 0) (xs : List X) (y : X) → AllByRecursion P xs → P y → AllByRecursion P (xs ++ y ∷ [])
-all_last P [] y h p = (p, tt)
-all_last P (x ∷ xs) y h p = (h.0, all_last P xs y h.1 p)
 
 pub two_last : {X : Type 0} (R : X → X → Type 0) (xs : List X) (y : X) → EachTwo R xs → AllByRecursion (λ x. R x y) xs → EachTwo R (xs ++ y ∷ [])
 two_last R [] y h a = (tt, tt)
@@ -65,11 +61,8 @@ is_none_at false n e = refl
 one_more : (m n : ℕ) → nat_lt (1 + m) (suc n) ≡ false → nat_lt m n ≡ false
 one_more m n h = grind (arith, nat_tests)
 
-first_less : (n : ℕ) → nat_lt 0 (suc n) ≡ true
-first_less n = grind (arith, nat_tests)
-
 none_here : {A : Type 0} (m n : ℕ) → (b : Bool) → nat_lt (cond (not b) (1 + m) 0) (suc n) ≡ false → (b ≡ false → nat_lt m n ≡ false → A) → A
-none_here m n true h f = absurd (cc (sym (first_less n) ∙ h))
+none_here m n true h f = absurd (cc (sym (lt-ltb 0 (suc n) (omega arith)) ∙ h))
 none_here m n false h f = f refl (one_more m n h)
 
 none_from : {X : Type 0} (p : X → Bool) (xs : List X) → nat_lt (position_or_len p xs) (length xs) ≡ false → AllByRecursion (λ x. p x ≡ false) xs

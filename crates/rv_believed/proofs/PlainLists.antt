@@ -1,10 +1,10 @@
 -- Facts of all items of a list, through what is made of lists.
-use Rattle.std.proofs.Common.{◌≡◌, ℕ, zero, suc, ◌+◌, List, [], ◌∷◌, Option, Some, None, Bool, true, false, not, cond, nat_lt, length, map, take, drop, refl, sym, ◌∙◌, arith, if◌then◌else◌}
+use Rattle.std.proofs.Common.{◌≡◌, ℕ, suc, ◌+◌, List, [], ◌∷◌, Option, Some, None, Bool, true, false, not, cond, nat_lt, length, map, refl, sym, ◌∙◌, arith}
 use Rattle.std.proofs.lemmas.Bool.Decides.{nat_tests}
-use Rattle.std.specs.Prelude.{slice_set, remove, position, flat_map, IfSome, IsSome, is_some, find}
+use Rattle.std.specs.Prelude.{position, flat_map, IfSome, IsSome, is_some, find}
 use Rattle.std.specs.List.{AllByRecursion, slice_index_or, position_or_len}
-use Rattle.std.proofs.lemmas.Bool.{ltb-true}
-use Rattle.rv_value.proofs.Lists.{all_append, all_at, all_drop, all_take}
+use Rattle.std.proofs.lemmas.Bool.{ltb-true, le-ltb}
+use Rattle.rv_value.proofs.Lists.{all_append, all_at}
 
 pub all_map : {X Y : Type 0} (P : X → Type 0) (Q : Y → Type 0) (f : X → Y) → ((x : X) → P x → Q (f x)) → (xs : List X) → AllByRecursion P xs → AllByRecursion Q (map f xs)
 all_map P Q f holds [] a = tt
@@ -14,26 +14,9 @@ pub all_map_any : {X Y : Type 0} (Q : Y → Type 0) (f : X → Y) → ((x : X) �
 all_map_any Q f holds [] = tt
 all_map_any Q f holds (x ∷ xs) = (holds x, all_map_any Q f holds xs)
 
-kept_all : {X : Type 0} (P : X → Type 0) (x : X) (xs : List X) (b : Bool) → P x → AllByRecursion P xs → AllByRecursion P (if b then x ∷ xs else xs)
-kept_all P x xs true a rest = (a, rest)
-kept_all P x xs false a rest = rest
-
 pub all_flat : {X Y : Type 0} (P : X → Type 0) (Q : Y → Type 0) (f : X → List Y) → ((x : X) → P x → AllByRecursion Q (f x)) → (xs : List X) → AllByRecursion P xs → AllByRecursion Q (flat_map f xs)
 all_flat P Q f holds [] a = tt
 all_flat P Q f holds (x ∷ xs) a = all_append Q (f x) (flat_map f xs) (holds x a.0) (all_flat P Q f holds xs a.1)
-
-pub all_remove : {X : Type 0} (P : X → Type 0) (xs : List X) (n : ℕ) → AllByRecursion P xs → AllByRecursion P (remove xs n)
-all_remove P xs n a = all_append P (take n xs) (drop (suc n) xs) (all_take P n xs a) (all_drop P (suc n) xs a)
-
-pub all_set : {X : Type 0} (P : X → Type 0) (xs : List X) (n : ℕ) (x : X) → AllByRecursion P xs → P x → AllByRecursion P (slice_set xs n x)
-all_set P [] n x a p = tt
-all_set P (y ∷ xs) zero x a p = (p, a.1)
-all_set P (y ∷ xs) (suc n) x a p = (a.0, all_set P xs n x a.1 p)
-
-pub or_all : {X : Type 0} (P : X → Type 0) (xs : List X) (n : ℕ) (d : X) → AllByRecursion P xs → P d → P (slice_index_or xs n d)
-or_all P [] n d a p = p
-or_all P (x ∷ xs) zero d a p = a.0
-or_all P (x ∷ xs) (suc n) d a p = or_all P xs n d a.1 p
 
 found_all : {X : Type 0} (P : X → Type 0) (xs : List X) (n : ℕ) (d : X) → AllByRecursion P xs → (b : Bool) → nat_lt n (length xs) ≡ b
     → IfSome (cond b (Some n) None) (λ m. P (slice_index_or xs m d))
@@ -62,9 +45,6 @@ some_true false n e = absurd (cc e)
 one_less : (m n : ℕ) → nat_lt (1 + m) (suc n) ≡ true → nat_lt m n ≡ true
 one_less m n h = grind (arith, nat_tests)
 
-none_less : (n : ℕ) → nat_lt n 0 ≡ false
-none_less n = grind (arith, nat_tests)
-
 -- the first item, or what the others give
 by_first : {X : Type 0} {A : Type 0} (P : X → Type 0) (p : X → Bool) (x : X) → P x → ((y : X) → P y → p y ≡ true → A)
     → (m n : ℕ) → (nat_lt m n ≡ true → A) → (b : Bool) → p x ≡ b → nat_lt (cond (not b) (1 + m) 0) (suc n) ≡ true → A
@@ -73,7 +53,7 @@ by_first P p x a serves m n rest false e h = rest (one_less m n h)
 
 passing_from : {X : Type 0} {A : Type 0} (P : X → Type 0) (p : X → Bool) (xs : List X) → AllByRecursion P xs
     → ((y : X) → P y → p y ≡ true → A) → nat_lt (position_or_len p xs) (length xs) ≡ true → A
-passing_from P p [] a serves h = absurd (cc (sym (none_less (position_or_len p [])) ∙ h))
+passing_from P p [] a serves h = absurd (cc (sym (le-ltb (position_or_len p []) 0 (omega arith)) ∙ h))
 passing_from P p (x ∷ xs) a serves h = by_first P p x a.0 serves (position_or_len p xs) (length xs)
     (passing_from P p xs a.1 serves) (p x) refl h
 

@@ -3,7 +3,7 @@ use Rattle.std.proofs.Common.{◌≢◌, ℕ, ◌+◌, List, [], ◌∷◌, Opti
 use Rattle.std.specs.Prelude.{IfSome}
 use Rattle.std.specs.List.{AllByRecursion, slice_index_or, list_any, list_all}
 use Rattle.std.specs.Option.{option_to_list, unwrap_or}
-use Rattle.rv_value.proofs.Lists.{all_append, all_filter}
+use Rattle.rv_value.proofs.Lists.{all_append, all_filter, all_or}
 use Rattle.rv_value.specs.declared.value.Kind.{Kind}
 use Rattle.rv_value.specs.declared.value.Value.{Value}
 use Rattle.rv_restrict.specs.declared.atom.Operand.TheVariants.{Column}
@@ -33,7 +33,7 @@ use Rattle.rv_believed.specs.Limits.{left, right, literals, within_limits}
 use Rattle.rv_believed.specs.Names.{InReach, reach_from, reach_of, reach_alone, fits, only_one, reference, references, plain_column, column_number, operand_of, atom_over, right_of, atom_of, condition_of, is_of_kind, same_kind, can_hold, row_kinds, set_kind, atom_kinds, kinds, all_differ, table_number, column_def, item_of, columns_returned, set_of, asked_in, resolution}
 use Rattle.rv_believed.specs.Plain.{IsPlainValue, IsPlainRefusal}
 use Rattle.rv_believed.proofs.LimitsSame.{limits_same}
-use Rattle.rv_believed.proofs.PlainLists.{all_map, or_all, position_all}
+use Rattle.rv_believed.proofs.PlainLists.{all_map, position_all}
 use Rattle.rv_believed.proofs.PlainTexts.{IsPlainColumn, IsPlainOperand, IsPlainAtom, ArePlainAtoms, MayBePlain, IsPlainItem, ArePlainReturned, IsPlainDef, IsPlainSet, IsPlainStatement}
 
 -- ---- answers
@@ -116,7 +116,7 @@ tables_columns [] h = tt
 tables_columns (t ∷ ts) h = (h.0.columns, tables_columns ts h.1)
 
 columns_plain : (tables : List TableDef) (n : ℕ) → ArePlainTables tables → AllByRecursion IsPlainColumnDef (columns_of tables n)
-columns_plain tables n h = or_all HasPlainColumns tables n no_table (tables_columns tables h) tt
+columns_plain tables n h = all_or HasPlainColumns tables n no_table (tables_columns tables h) tt
 
 abbrev IsPlainReach : InReach → Type 0
 IsPlainReach c = IsPlainName c.name

@@ -4,13 +4,11 @@ use Rattle.std.specs.Prelude.{IfSome, IsSome, find, slice_set, remove}
 use Rattle.std.specs.List.{AllByRecursion, slice_index_or, range_with_len}
 use Rattle.std.specs.Ordering.{is_lt}
 use Rattle.std.specs.Cmp.{second_so}
-use Rattle.rv_value.proofs.Tests.{equal_is}
-use Rattle.rv_value.proofs.Lists.{all_append, all_filter}
+use Rattle.rv_value.proofs.Lists.{all_append, all_filter, all_or, all_remove, all_set}
 use Rattle.rv_value.specs.declared.value.Value.{Value}
 use Rattle.rv_value.specs.declared.value.Value.TheVariants.{Null}
 use Rattle.rv_value.specs.declared.record.Record.{Record}
 use Rattle.rv_value.specs.declared.record.RowNo.{RowNo}
-use Rattle.rv_value.specs.Order.{values_cmp}
 use Rattle.rv_restrict.specs.declared.atom.Atom.{Atom}
 use Rattle.rv_restrict.specs.declared.atom.ColRef.{ColRef}
 use Rattle.rv_rows.specs.declared.changes.Change.{Change}
@@ -42,10 +40,10 @@ use Rattle.rv_model.specs.Offering.{choices, is_kept, offer_over, offers_over, p
 use Rattle.rv_model.specs.Rivals.{Neighbour, all_alone, alone, first_equal, is_rival, rows_written, unique_over}
 use Rattle.rv_model.specs.Step.{Outcome, AllowsFetch, AllowsShow, AllowsStep, Offers, AllowsAsked, next_asked, began, closed, changed, committed, committed_with, created, changes_met, ended, fetched, indexed, inserted, neighbours_of, new_change, no_rivals_of, offers_after, opened, opening, own_cursors, reply_of, rolled_back, row_alone, rows_alone, rows_differ, rows_seen, state_of, tables_changed, view_rows}
 use Rattle.rv_model.specs.Transcript.{IsName as IsPlainName}
-use Rattle.rv_value.proofs.Same.{values_same}
+use Rattle.rv_value.proofs.Same.{equal_values}
 use Rattle.rv_believed.specs.Answers.{Test}
 use Rattle.rv_believed.specs.Plain.{IsPlainValue, IsPlainRefusal, IsPlainReply}
-use Rattle.rv_believed.proofs.PlainLists.{all_map, all_map_any, all_flat, all_remove, all_set, or_all, passing}
+use Rattle.rv_believed.proofs.PlainLists.{all_map, all_map_any, all_flat, passing}
 use Rattle.rv_believed.proofs.PlainNames.{Comes, Any, then_comes, refuse_comes, ok_or_comes, IsPlainTable, ArePlainTables, IsPlainAsked}
 use Rattle.rv_believed.proofs.PlainTraces.{shown_plain}
 
@@ -130,17 +128,17 @@ with_changes_plain [] cs p h = h
 with_changes_plain (c ∷ new) cs p h = with_changes_plain new (with_change c cs) p.1 (with_change_plain c cs p.0 h)
 
 own_plain : (active : List Transaction) (own : ℕ) → ArePlainTransactions active → ArePlainChanges (transaction_at active own).changes
-own_plain active own h = or_all IsPlainTransaction active own no_transaction h tt
+own_plain active own h = all_or IsPlainTransaction active own no_transaction h tt
 
 with_own_plain : (active : List Transaction) (own : ℕ) (changes : List Change) → ArePlainTransactions active → ArePlainChanges changes
     → ArePlainTransactions (transactions.with_own active own changes)
 with_own_plain active own changes h p = all_set IsPlainTransaction active own (record (transaction_at active own) { changes = changes }) h p
 
 rows_at_plain : (tables : List (List Record)) (n : ℕ) → AllByRecursion ArePlainRows tables → ArePlainRows (rows_at tables n)
-rows_at_plain tables n h = or_all ArePlainRows tables n [] h tt
+rows_at_plain tables n h = all_or ArePlainRows tables n [] h tt
 
 base_plain : (s : State) (own table : ℕ) → IsPlainState s → ArePlainRows (base_rows s own table)
-base_plain s own table h = rows_at_plain (slice_index_or s.bases own []) table (or_all (AllByRecursion ArePlainRows) s.bases own [] h.bases tt)
+base_plain s own table h = rows_at_plain (slice_index_or s.bases own []) table (all_or (AllByRecursion ArePlainRows) s.bases own [] h.bases tt)
 
 seen_plain : (s : State) (o : Option ℕ) (table : ℕ) → IsPlainState s → ArePlainRows (rows_seen s o table)
 seen_plain s None table h = tt
@@ -358,7 +356,7 @@ choices_plain rows h (t ∷ ts) chosen p = all_flat IsPlainRow IsPlainChoice (λ
 
 picked_plain : (columns : List ColRef) (rows : List (List Value)) → IsPlainChoice rows → ArePlainValues (picked_over columns rows)
 picked_plain columns rows h = all_map_any IsPlainValue (λ (c : ColRef). slice_index_or (slice_index_or rows c.place []) c.column Null)
-    (λ (c : ColRef). or_all IsPlainValue (slice_index_or rows c.place []) c.column Null (or_all ArePlainValues rows c.place [] h tt) tt) columns
+    (λ (c : ColRef). all_or IsPlainValue (slice_index_or rows c.place []) c.column Null (all_or ArePlainValues rows c.place [] h tt) tt) columns
 
 offers_plain : (q : Select) (rows : ℕ → List Record) → ((t : ℕ) → ArePlainRows (rows t)) → AllByRecursion IsPlainOffer (offers_over q rows)
 offers_plain q rows h = all_map IsPlainChoice IsPlainOffer (offer_over q.order q.returns) (λ c p. picked_plain q.returns c p)
@@ -418,13 +416,10 @@ closed_plain s session cursor h p = then_comes Any IsPlainDone (ok_or (cursor_na
 
 -- ---- FETCH
 
-same_is : (a b : List Value) → same_values a b ≡ true → a ≡ b
-same_is a b e = values_same a b (equal_is (values_cmp a b) e)
-
 given_plain : (offers : List Offer) (values : List Value) → AllByRecursion IsPlainOffer offers → IsSome (place_of offers values) → ArePlainValues values
 given_plain [] values h e = absurd (cc e)
 given_plain (first ∷ others) values h e = passing IsPlainOffer (λ (o : Offer). same_values o.order first.order && same_values o.returned values)
-    (first ∷ others) h e (λ o p q. subst ArePlainValues (same_is o.returned values (second_so (same_values o.order first.order) (same_values o.returned values) q)) p)
+    (first ∷ others) h e (λ o p q. subst ArePlainValues (equal_values o.returned values (second_so (same_values o.order first.order) (same_values o.returned values) q)) p)
 
 offered_plain : (offers : List Offer) (reply : Reply) → AllByRecursion IsPlainOffer offers → Offers offers reply → IsPlainReply reply
 offered_plain offers (replies.Row values) h p = given_plain offers values h p
@@ -461,7 +456,7 @@ after_plain offers (replies.Trace shown) h = h
 after_plain offers (replies.Refused refusal) h = h
 
 cursor_plain : (s : State) (place : ℕ) → IsPlainState s → IsPlainCursor (cursor_at s.cursors place)
-cursor_plain s place h = or_all IsPlainCursor s.cursors place no_cursor h.cursors tt
+cursor_plain s place h = all_or IsPlainCursor s.cursors place no_cursor h.cursors tt
 
 fetch_plain : (o : Option ℕ) (s : State) (name : List ℕ) (reply : Reply) → IsPlainState s → IsPlainName name → AllowsFetch o s name reply
     → IsPlainReply reply × IsPlainState (fetched o s reply)

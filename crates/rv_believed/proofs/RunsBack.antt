@@ -1,6 +1,7 @@
 -- Bridge, the other way: a run is one by turns of the working definition. The cases were written by a script.
 use Rattle.std.proofs.Common.{◌≡◌, refl, sym, ap, subst, ◌∙◌, inl, inr, ◌⊎◌}
 use Rattle.std.specs.Prelude.{ℕ, List, [], ◌∷◌, ◌++◌, true, false, Option, Some, None, is_some}
+use Rattle.rv_value.proofs.Tests.{no_some}
 use Rattle.rv_judge.specs.declared.events.Strategy.{Strategy}
 use Rattle.rv_judge.specs.declared.events.Strategy.TheVariants.{Table, BackgroundOnly, FastFirst, Sorted, IndexOnly, Union}
 use Rattle.rv_judge.specs.declared.events.Control.{Control}
@@ -22,13 +23,6 @@ Back st s events t = (turn : today.Turn) × today.MayCome st s turn.happening tu
 
 abbrev turn : Happening → ℕ → today.Turn
 turn happening keys = record { happening = happening; keys = keys }
-
-abbrev IsSomeControl : Option Control → Type 0
-IsSomeControl None = ⊥
-IsSomeControl (Some c) = Unit {0}
-
-no_some : {A : Type 0} {next : Control} → None ≡ Some next → A
-no_some q = absurd (subst IsSomeControl (sym q) tt)
 
 abbrev control_or : Control → Option Control → Control
 control_or c None = c

@@ -4,7 +4,7 @@ use Rattle.std.specs.Prelude.{remove, slice_set}
 use Rattle.std.specs.List.{AllByRecursion, range_with_len, slice_index_or}
 use Rattle.std.proofs.lemmas.Bool.{eqb-true, ltb-false, ltb-true}
 use Rattle.std.proofs.lemmas.List.{get_or_past, length_push}
-use Rattle.rv_value.proofs.Lists.{all_append, all_filter}
+use Rattle.rv_value.proofs.Lists.{all_append, all_filter, all_last, all_or, all_remove, all_set}
 use Rattle.rv_value.specs.declared.value.Value.{Value}
 use Rattle.rv_value.specs.declared.record.Record.{Record}
 use Rattle.rv_value.specs.declared.record.RowNo.{RowNo}
@@ -35,8 +35,6 @@ use Rattle.rv_model.specs.Transactions as transactions
 use Rattle.rv_model.specs.Transactions.{empty_lists, next_row, no_transaction, refuse_at, touch, touch_all, touched_in, transaction_at, transaction_of, with_number}
 use Rattle.rv_believed.specs.Taken.{AreTaken, ChangesTaken, HasTaken, StaysTaken, TablesTaken}
 use Rattle.rv_believed.proofs.OrderlyStates.{Gives, Any, then_gives, any_gives}
-use Rattle.rv_believed.proofs.Pairs.{all_last}
-use Rattle.rv_believed.proofs.PlainLists.{all_remove, all_set, or_all}
 
 -- ---- the next row numbers
 
@@ -167,11 +165,11 @@ with_changes_taken next [] cs p h = h
 with_changes_taken next (c ∷ new) cs p h = with_changes_taken next new (with_change c cs) p.1 (with_change_taken next c cs p.0 h)
 
 pub own_taken : (next : Next) (ts : List Transaction) (own : ℕ) → AllByRecursion (Takes next) ts → ChangesTaken next (transaction_at ts own).changes
-own_taken next ts own h = or_all (Takes next) ts own no_transaction h tt
+own_taken next ts own h = all_or (Takes next) ts own no_transaction h tt
 
 rows_at_taken : (next : Next) (bases : List (List (List Record))) (own table : ℕ) → AllByRecursion (TablesTaken next) bases
     → AreTaken (next table) (rows_at (slice_index_or bases own []) table)
-rows_at_taken next bases own table h = or_all (TablesTaken next) bases own [] h (λ t. tt) table
+rows_at_taken next bases own table h = all_or (TablesTaken next) bases own [] h (λ t. tt) table
 
 seen_taken : (s : State) (o : Option ℕ) (table : ℕ) → HasTaken s → AreTaken (next_row s.transactions.touched table) (rows_seen s o table)
 seen_taken s None table h = tt

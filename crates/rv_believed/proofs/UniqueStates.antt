@@ -4,15 +4,15 @@ use Rattle.std.proofs.lemmas.Bool.{cases_Bool}
 use Rattle.std.proofs.lemmas.Bool.Decides.{nat_tests}
 use Rattle.std.specs.Prelude.{slice_get}
 use Rattle.std.specs.List.{AllByRecursion, flat_map, list_any}
-use Rattle.std.specs.Ordering.{is_eq, ordering_reverse, ordering_then}
+use Rattle.std.specs.Ordering.{is_eq, ordering_then}
 use Rattle.std.specs.declared.cmp.Ordering.{Ordering}
 use Rattle.std.specs.declared.cmp.Ordering.TheVariants.{Less, Equal, Greater}
-use Rattle.rv_value.proofs.Lists.{all_filter}
+use Rattle.rv_value.proofs.Lists.{all_filter, all_last}
 use Rattle.rv_value.specs.declared.value.Value.{Value}
 use Rattle.rv_value.specs.declared.value.Value.TheVariants.{Null, Int, Str}
 use Rattle.rv_value.specs.declared.record.Record.{Record}
 use Rattle.rv_value.specs.Order.{value_cmp, values_cmp}
-use Rattle.rv_value.specs.Orders.{values_cmp_total}
+use Rattle.rv_value.proofs.Same.{values_turned}
 use Rattle.rv_restrict.specs.declared.atom.Atom.{Atom}
 use Rattle.rv_rows.specs.declared.changes.Change.{Change}
 use Rattle.rv_rows.specs.Changes.{Rise, has_change, rows_with_changes, with_changes}
@@ -46,7 +46,7 @@ use Rattle.rv_believed.specs.Standing.{IsSound, database, first, outcome_of, res
 use Rattle.rv_believed.specs.Transactions.{Outcome, begin, commit, commit_of, create_index, create_table, new_transaction, rollback}
 use Rattle.rv_believed.specs.Unique.{KeepsApart, NoRivals, StaysUnique}
 use Rattle.rv_believed.proofs.OrderlyStates.{Gives, then_gives}
-use Rattle.rv_believed.proofs.Pairs.{all_last, two_filter, two_last}
+use Rattle.rv_believed.proofs.Pairs.{two_filter, two_last}
 use Rattle.rv_believed.proofs.StatementsStand.{begin_stands, change_stands, commit_stands, index_stands, insert_stands, rollback_stands, table_stands}
 use Rattle.rv_believed.proofs.TablesThere.{empty_sound, stepped_sound}
 use Rattle.rv_believed.proofs.UniqueRows.{In, commit_in, in_back, in_filter, in_front, in_kept, left_further, none_elsewhere, rise_further, view_further, written_further, written_there}
@@ -124,14 +124,6 @@ any_none p (y ∷ ys) x none h = elim (cases_Bool (p y)) [
 
 -- ---- rivals are rivals of each other
 
-eq_back : (o : Ordering) → is_eq (ordering_reverse o) ≡ is_eq o
-eq_back Less = refl
-eq_back Equal = refl
-eq_back Greater = refl
-
-same_turned : (xs ys : List Value) → same_values xs ys ≡ same_values ys xs
-same_turned xs ys = ap is_eq (values_cmp_total.antisymm xs ys) ∙ eq_back (values_cmp ys xs)
-
 eq_both : (a b : Ordering) → is_eq (ordering_then a b) ≡ true → (is_eq a ≡ true) × (is_eq b ≡ true)
 eq_both Less b h = cc
 eq_both Equal b h = (refl, h)
@@ -160,10 +152,10 @@ equal_turned : (columns : List ℕ) (r s : Record) → are_equal columns r s ≡
 equal_turned columns r s = elim (cases_Bool (same_values (key_of columns s.values) (key_of columns r.values))) [
   | inl t ↦
       let null = null_same (key_of columns s.values) (key_of columns r.values) t in
-      let back : same_values (key_of columns r.values) (key_of columns s.values) ≡ true = same_turned (key_of columns r.values) (key_of columns s.values) ∙ t in
+      let back : same_values (key_of columns r.values) (key_of columns s.values) ≡ true = values_turned (key_of columns r.values) (key_of columns s.values) ∙ t in
       (λ i. not (sym null i) && t i) ∙ sym (ap (λ b. not (list_any is_null (key_of columns s.values)) && b) back)
   | inr f ↦
-      let back : same_values (key_of columns r.values) (key_of columns s.values) ≡ false = same_turned (key_of columns r.values) (key_of columns s.values) ∙ f in
+      let back : same_values (key_of columns r.values) (key_of columns s.values) ≡ false = values_turned (key_of columns r.values) (key_of columns s.values) ∙ f in
       ap (λ b. not (list_any is_null (key_of columns r.values)) && b) f ∙ and_false (not (list_any is_null (key_of columns r.values)))
       ∙ sym (ap (λ b. not (list_any is_null (key_of columns s.values)) && b) back ∙ and_false (not (list_any is_null (key_of columns s.values))))
 ]

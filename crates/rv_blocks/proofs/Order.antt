@@ -9,15 +9,11 @@ use Rattle.rv_blocks.specs.Kept.{Kept}
 use Rattle.std.specs.Cmp.{IsStrictWeakOrder}
 use Rattle.std.proofs.lemmas.Bool.{and_parts, not-false, not-true}
 use Rattle.std.proofs.lemmas.Option.{same_Some}
+use Rattle.rv_value.proofs.Lists.{passes_at}
 use Rattle.rv_rows.specs.Rising.{Rising, put_in}
 use Rattle.rv_rows.proofs.Puts.{filter_all, put_first, put_same, put_more, rising_put}
 use Rattle.rv_blocks.specs.Taking.{take_from, standing, is_level}
 use Rattle.rv_blocks.proofs.Places.{chain_of, alike, none_before, all_behind}
-
-pub all_at : {X : Type 0} (p : X → Bool) (xs : List X) (i : ℕ) (d : X) → i < length xs → list_all p xs ≡ true → p (slice_index_or xs i d) ≡ true
-all_at p [] i d h all = absurd (omega arith)
-all_at p (x ∷ xs) zero d h all = (and_parts (p x) (list_all p xs) all).0
-all_at p (x ∷ xs) (suc i) d h all = all_at p xs i d (omega arith) (and_parts (p x) (list_all p xs) all).1
 
 turns_tail : {X : Type 0} (p : X → Bool) (x : X) (xs : List X) (k : ℕ) → Turns p (x ∷ xs) (suc k) → Turns p xs k
 turns_tail p x xs zero t = record {
@@ -43,7 +39,7 @@ module _ {X : Type 0} (before : X → X → Bool) (weak : IsStrictWeakOrder befo
       let within = t.within in
       let one : suc (suc m) - 1 ≡ suc m = omega arith in
       let last : before (slice_index_or xs m x) new ≡ true = rw one at t.before x (omega arith) in
-      (chain_of before weak).follows x (slice_index_or xs m x) new (all_at (before x) xs m x (omega arith) rising.0) last
+      (chain_of before weak).follows x (slice_index_or xs m x) new (passes_at (before x) xs m x (omega arith) rising.0) last
 
   all_alike : (x y : X) (xs : List X) → before x y ≡ false → before y x ≡ false → list_all (before x) xs ≡ true → list_all (before y) xs ≡ true
   all_alike x y [] h k all = refl

@@ -29,9 +29,6 @@ different_append : (done : List ℕ) (y : ℕ) → all_different done ≡ true �
 different_append [] y h k = refl
 different_append (c ∷ cs) y h k = let n = or_parts (c == y) (list_any (λ d. d == y) cs) k in let apart : list_any (λ d. d == c) cs ≡ false = not-true (list_any (λ d. d == c) cs) (first_so (not (list_any (λ d. d == c) cs)) (all_different cs) h) in let still : list_any (λ d. d == c) (cs ++ y ∷ []) ≡ false = any_append (λ d. d == c) cs y apart (turned_number c y n.0) in and_from (not (list_any (λ d. d == c) (cs ++ y ∷ []))) (all_different (cs ++ y ∷ [])) (rw still refl) (different_append cs y (second_so (not (list_any (λ d. d == c) cs)) (all_different cs) h) n.1)
 
-same_bytes : (a b : List ℕ) → bytes_eq a b ≡ true → a ≡ b
-same_bytes a b h = (bytes_eq-Decides a b).0 h
-
 own_bytes : (a b : List ℕ) → a ≡ b → bytes_eq a b ≡ true
 own_bytes a b h = (bytes_eq-Decides a b).1 h
 
@@ -45,4 +42,4 @@ number_named name_at (d ∷ ds) y h = let n = or_parts (bytes_eq (name_at y) (na
 
 pub numbers_differ : (f : List ℕ → Result ℕ Refusal) (name_at : ℕ → List ℕ) → ((x : List ℕ) (y : ℕ) → f x ≡ Ok y → bytes_eq x (name_at y) ≡ true) → (seen : List (List ℕ)) (done : List ℕ) (xs : List (List ℕ)) (ys : List ℕ) → map name_at done ≡ seen → all_different done ≡ true → first_repeat itself seen xs ≡ None → collected f done xs ≡ Ok ys → all_different ys ≡ true
 numbers_differ f name_at named seen done [] ys m d r h = rw (← ok_is done ys h) d
-numbers_differ f name_at named seen done (x ∷ xs) ys m d r h = let s = bind_ok (f x) (λ y. collected f (done ++ y ∷ []) xs) ys h in let step = repeat_step seen x xs r in let name : x ≡ name_at s.0 = same_bytes x (name_at s.0) (named x s.0 s.1) in let apart : list_any (λ d. d == s.0) done ≡ false = number_named name_at done s.0 (rw (m, ← name) step.0) in numbers_differ f name_at named (seen ++ x ∷ []) (done ++ s.0 ∷ []) xs ys (rw (map-append name_at done (s.0 ∷ []), m, ← name) refl) (different_append done s.0 d apart) step.1 s.2
+numbers_differ f name_at named seen done (x ∷ xs) ys m d r h = let s = bind_ok (f x) (λ y. collected f (done ++ y ∷ []) xs) ys h in let step = repeat_step seen x xs r in let name : x ≡ name_at s.0 = (bytes_eq-Decides x (name_at s.0)).0 (named x s.0 s.1) in let apart : list_any (λ d. d == s.0) done ≡ false = number_named name_at done s.0 (rw (m, ← name) step.0) in numbers_differ f name_at named (seen ++ x ∷ []) (done ++ s.0 ∷ []) xs ys (rw (map-append name_at done (s.0 ∷ []), m, ← name) refl) (different_append done s.0 d apart) step.1 s.2

@@ -7,6 +7,7 @@ use Rattle.std.proofs.lemmas.Bool.{and_from, lt-ltb}
 use Rattle.std.specs.Cmp.{first_so, second_so}
 use Rattle.rv_value.specs.declared.value.Kind.{Kind}
 use Rattle.rv_value.specs.declared.value.Value.{Value}
+use Rattle.rv_value.proofs.Tests.{not_some}
 use Rattle.rv_restrict.specs.declared.atom.ColRef.{ColRef}
 use Rattle.rv_lang.specs.declared.statement.RawAtom.{RawAtom}
 use Rattle.rv_lang.specs.declared.statement.RawCol.{RawCol}
@@ -31,7 +32,7 @@ use Rattle.rv_catalog.specs.Limits.{columns_count, joined_count, key_count}
 use Rattle.rv_catalog.specs.Resolve.{alone, column_def, column_name, deleted, first_repeat, form, goal_of, inserted, item, item_name, item_table, itself, new_index, new_table, opened, references, returns, second_or, selected, set_column, set_name, steps_of, table_number, updated}
 use Rattle.rv_catalog.specs.Schema.{Schema, columns_of, index_named, no_table, table_named, width}
 use Rattle.rv_catalog.proofs.Different.{numbers_differ}
-use Rattle.rv_catalog.proofs.Steps.{bind_ok, collected_all, collected_len, none_refused, not_refused, ok_is, was_none, was_some}
+use Rattle.rv_catalog.proofs.Steps.{bind_ok, collected_all, collected_len, none_refused, not_refused, ok_is, was_some}
 use Rattle.rv_catalog.proofs.There.{every_there, groups_there, over_there, own_there, reference_there}
 
 -- A resolved form that is there and whole.
@@ -43,12 +44,12 @@ number_there : (tables : List TableDef) (name : List ℕ) (n : ℕ) → table_nu
 number_there tables name n h = (position-Some (λ (t : TableDef). bytes_eq name t.name) tables n no_table (was_some (table_named tables name) (Unknown name) n h)).0
 
 good_table : (schema : Schema) (name : List ℕ) (columns : List (List ℕ × RawKind)) (r : Resolved) → length columns ≤ 16 → new_table schema name columns ≡ Ok r → IsGood schema (length columns) r
-good_table schema name columns r few h = let def : TableDef = record { name = name; columns = map column_def columns } in let s = bind_ok (refuse_if (is_some (table_named schema.tables name)) (Exists name)) (λ fresh. refuse_some (first_repeat column_name [] columns) Exists >>= (λ once. Ok (NewTable def))) r h in let t = bind_ok (refuse_some (first_repeat column_name [] columns) Exists) (λ once. Ok (NewTable def)) r s.2 in let len : length (map column_def columns) ≡ length columns = length-map columns column_def in rw (← ok_is (NewTable def) r t.2) (record { fits = record { fresh = was_none (table_named schema.tables name) (not_refused (is_some (table_named schema.tables name)) (Exists name) s.0 s.1); narrow = omega (arith, len, few) }; whole = len })
+good_table schema name columns r few h = let def : TableDef = record { name = name; columns = map column_def columns } in let s = bind_ok (refuse_if (is_some (table_named schema.tables name)) (Exists name)) (λ fresh. refuse_some (first_repeat column_name [] columns) Exists >>= (λ once. Ok (NewTable def))) r h in let t = bind_ok (refuse_some (first_repeat column_name [] columns) Exists) (λ once. Ok (NewTable def)) r s.2 in let len : length (map column_def columns) ≡ length columns = length-map columns column_def in rw (← ok_is (NewTable def) r t.2) (record { fits = record { fresh = not_some (table_named schema.tables name) (not_refused (is_some (table_named schema.tables name)) (Exists name) s.0 s.1); narrow = omega (arith, len, few) }; whole = len })
 
 good_index : (schema : Schema) (unique : Bool) (name table : List ℕ) (columns : List (List ℕ)) (r : Resolved) → length columns ≤ 4 → new_index schema unique name table columns ≡ Ok r → IsGood schema (length columns) r
 good_index schema unique name table columns r few h = let a = bind_ok (table_number schema.tables table) (λ number. collected (own_column schema.tables number) [] columns >>= (λ found. refuse_if (is_some (index_named schema.indexes name)) (Exists name) >>= (λ fresh. refuse_some (first_repeat itself [] columns) Exists >>= (λ once. Ok (NewIndex (record { name = name; table = number; columns = found; unique = unique })))))) r h in let b = bind_ok (collected (own_column schema.tables a.0) [] columns) (λ found. refuse_if (is_some (index_named schema.indexes name)) (Exists name) >>= (λ fresh. refuse_some (first_repeat itself [] columns) Exists >>= (λ once. Ok (NewIndex (record { name = name; table = a.0; columns = found; unique = unique }))))) r a.2 in let def : IndexDef = record { name = name; table = a.0; columns = b.0; unique = unique } in let c = bind_ok (refuse_if (is_some (index_named schema.indexes name)) (Exists name)) (λ fresh. refuse_some (first_repeat itself [] columns) Exists >>= (λ once. Ok (NewIndex def))) r b.2 in let d = bind_ok (refuse_some (first_repeat itself [] columns) Exists) (λ once. Ok (NewIndex def)) r c.2 in let len : length b.0 ≡ length columns = let l = collected_len (own_column schema.tables a.0) [] columns b.0 b.1 in omega (arith, l) in rw (← ok_is (NewIndex def) r d.2) (record {
   fits = record {
-    fresh = was_none (index_named schema.indexes name) (not_refused (is_some (index_named schema.indexes name)) (Exists name) c.0 c.1);
+    fresh = not_some (index_named schema.indexes name) (not_refused (is_some (index_named schema.indexes name)) (Exists name) c.0 c.1);
     there = number_there schema.tables table a.0 a.1;
     few = omega (arith, len, few);
     columns = collected_all (own_column schema.tables a.0) (is_column (width schema.tables a.0)) (λ x y e. lt-ltb y (width schema.tables a.0) (own_there schema.tables a.0 x y e).0) [] columns b.0 refl b.1;

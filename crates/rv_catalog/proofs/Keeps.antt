@@ -7,7 +7,7 @@ use Rattle.std.proofs.lemmas.List.{length-take}
 use Rattle.std.proofs.lemmas.Bool.{and_from}
 use Rattle.std.specs.Cmp.{first_so, second_so}
 use Rattle.std.proofs.lemmas.List.Filters.{length-filter_both}
-use Rattle.rv_value.proofs.Lists.{passes_more, passes_take}
+use Rattle.rv_value.proofs.Lists.{passes_more, passes_take, filtered_fewer}
 use Rattle.rv_catalog.specs.declared.def.IndexDef.{IndexDef}
 use Rattle.rv_catalog.specs.declared.def.TableDef.{TableDef}
 use Rattle.rv_catalog.specs.Kept.{KeepsIndexes, KeepsTables, indexes_over, is_below, is_narrow, is_over}
@@ -87,13 +87,6 @@ index_cut f keys tables indexes n k = record { named = cut f (λ (i : IndexDef).
 
 -- Eight indexes a table are at most eight times as many as the tables.
 
-filter_twice : {X : Type 0} (p q : X → Bool) (xs : List X) → length (filter p (filter q xs)) ≤ length (filter p xs)
-filter_twice p q [] = omega arith
-filter_twice p q (x ∷ xs) = let k = filter_twice p q xs in elim (q x) as (λ c. length (filter p (cond c (x ∷ filter q xs) (filter q xs))) ≤ length (filter p (x ∷ xs))) [
-  | true ↦ elim (p x) as (λ b. length (cond b (x ∷ filter p (filter q xs)) (filter p (filter q xs))) ≤ length (cond b (x ∷ filter p xs) (filter p xs))) [ true ↦ omega (arith, k) | false ↦ k ]
-  | false ↦ elim (p x) as (λ b. length (filter p (filter q xs)) ≤ length (cond b (x ∷ filter p xs) (filter p xs))) [ true ↦ omega (arith, k) | false ↦ k ]
-]
-
 others_below : (n : ℕ) (indexes : List IndexDef) → list_all (is_below (n + 1)) indexes ≡ true → list_all (is_below n) (filter (λ i. not (is_over n i)) indexes) ≡ true
 others_below n [] h = refl
 others_below n (i ∷ more) h = let k = others_below n more (second_so (is_below (n + 1) i) (list_all (is_below (n + 1)) more) h) in elim (is_over n i) as (λ b. is_over n i ≡ b → list_all (is_below n) (cond (not b) (i ∷ filter (λ i. not (is_over n i)) more) (filter (λ i. not (is_over n i)) more)) ≡ true) [
@@ -107,7 +100,7 @@ none_below (i ∷ more) h = let b : i.table < 0 = let a = first_so (is_below 0 i
 
 eight_each : (n : ℕ) (indexes : List IndexDef) → list_all (is_below n) indexes ≡ true → ((t : ℕ) → indexes_over t indexes ≤ 8) → length indexes ≤ 8 * n
 eight_each zero indexes h few = omega (arith, none_below indexes h)
-eight_each (suc n) indexes h few = let s = length-filter_both (is_over n) (λ i. not (is_over n i)) (λ i. refl) indexes in let f = few n in let r = eight_each n (filter (λ i. not (is_over n i)) indexes) (others_below n indexes (rw add-one h)) (λ t. let g = few t in let k = filter_twice (is_over t) (λ i. not (is_over n i)) indexes in omega (arith, g, k)) in omega (arith, s, f, r)
+eight_each (suc n) indexes h few = let s = length-filter_both (is_over n) (λ i. not (is_over n i)) (λ i. refl) indexes in let f = few n in let r = eight_each n (filter (λ i. not (is_over n i)) indexes) (others_below n indexes (rw add-one h)) (λ t. let g = few t in let k = filtered_fewer (is_over t) (λ i. not (is_over n i)) indexes in omega (arith, g, k)) in omega (arith, s, f, r)
 
 pub few_indexes : (names : List (List ℕ)) (tables : ℕ) (indexes : List IndexDef) → tables ≤ 64 → KeepsIndexes names tables indexes → length indexes ≤ 512
 few_indexes names tables indexes room k = let e = eight_each tables indexes k.there k.few in omega (arith, e, room)

@@ -1,5 +1,5 @@
 -- Steps from the left that all gave an answer.
-use Rattle.std.proofs.Common.{◌≡◌, ℕ, ◌+◌, List, [], ◌∷◌, ◌++◌, Bool, true, false, Option, Some, None, Result, Ok, Err, is_some, length, refl, arith, length-append}
+use Rattle.std.proofs.Common.{◌≡◌, ℕ, ◌+◌, List, [], ◌∷◌, ◌++◌, Bool, true, false, Option, Some, None, Result, Ok, Err, length, refl, arith, length-append}
 use Rattle.std.specs.List.{list_all}
 use Rattle.rv_lang.specs.declared.reply.Refusal.{Refusal}
 use Rattle.rv_catalog.specs.Answers.{◌>>=◌, collected, ok_or, refuse_if, refuse_some}
@@ -26,10 +26,6 @@ none_refused (Some name) r u h = absurd (cc)
 pub was_some : {A : Type 0} (o : Option A) (r : Refusal) (a : A) → ok_or o r ≡ Ok a → o ≡ Some a
 was_some (Some b) r a h = let e : b ≡ a = cc in rw e refl
 was_some None r a h = absurd (cc)
-
-pub was_none : {A : Type 0} (o : Option A) → is_some o ≡ false → o ≡ None
-was_none (Some a) h = absurd (cc)
-was_none None h = refl
 
 pub collected_all : {A B : Type 0} (f : A → Result B Refusal) (p : B → Bool) → ((x : A) (y : B) → f x ≡ Ok y → p y ≡ true) → (done : List B) (xs : List A) (ys : List B) → list_all p done ≡ true → collected f done xs ≡ Ok ys → list_all p ys ≡ true
 collected_all f p each done [] ys d h = rw (← ok_is done ys h) d

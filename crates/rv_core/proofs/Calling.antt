@@ -4,6 +4,7 @@ use Rattle.std.specs.List.{AllByRecursion, list_all, slice_index_or}
 use Rattle.std.proofs.lemmas.Bool.Decides.{nat_tests}
 use Rattle.std.proofs.lemmas.Bool.{and_parts}
 use Rattle.rv_value.specs.declared.record.Record.{Record}
+use Rattle.rv_value.proofs.Tests.{some_at}
 use Rattle.rv_rows.specs.declared.changes.Change.{Change}
 use Rattle.rv_rows.specs.Changes.{Rise, rows_with_changes}
 use Rattle.rv_overlay.specs.declared.frozen.Frozen.{Frozen}
@@ -78,15 +79,10 @@ can_commit shown schema txns session n base changes tied h rise =
     let f = finished_is txns session n base changes h in
     record { rise = rise; each = rw (← f.3) (changes_fit shown schema txns f.0 tied) }
 
--- a fact of the place of the session's transaction
-pub at_own : (o : Option ℕ) (own : ℕ) (P : ℕ → Type 0) → o ≡ Some own → IfSome o P → P own
-at_own None own P e h = cc
-at_own (Some other) own P e h = let same : other ≡ own = cc in subst P same h
-
 pub commits_tied : (old new : Shown) (schema : Schema) (txns left : Transactions) (session n base c : ℕ) (changes : List Change) → IsTied old schema txns → finished txns session ≡ Ok (n, base, changes) → CommitsTo old new base changes c → IfSome (transaction_of txns.active session) (λ own. left ≡ done txns own c) → IsTied new schema left
 commits_tied old new schema txns left session n base c changes tied h told is =
     let f = finished_is txns session n base changes h in
-    let at = at_own (transaction_of txns.active session) f.0 (λ own. left ≡ done txns own c) f.1 is in
+    let at = some_at (λ own. left ≡ done txns own c) (transaction_of txns.active session) f.0 f.1 is in
     let owns = own_changes old txns.touched txns.active f.0 tied.active in
     rw at (tied_done new schema txns f.0 c (by_changes changes (rw f.3 at owns) told))
   where
@@ -98,7 +94,7 @@ pub commits_does : (old new : Shown) (schema : Schema) (txns left : Transactions
     → Does (committed (db_of old schema txns cursors) session) (stand_of old schema txns cursors) (Committed c, Committed c) (stand_of new schema left others)
 commits_does old new schema txns left cursors others session n base c changes tied h told is kept =
     let f = finished_is txns session n base changes h in
-    let at = at_own (transaction_of txns.active session) f.0 (λ own. left ≡ done txns own c) f.1 is in
+    let at = some_at (λ own. left ≡ done txns own c) (transaction_of txns.active session) f.0 f.1 is in
     rw (at, kept) (db_committed old new schema txns cursors session f.0 base c changes tied f.1 f.3 f.2 told)
 
 -- ROLLBACK

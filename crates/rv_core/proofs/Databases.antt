@@ -2,9 +2,11 @@
 use Rattle.std.proofs.Common.{◌≡◌, ℕ, ◌+◌, ◌<◌, List, [], ◌∷◌, ◌++◌, ◌==◌, refl, ap, sym, ◌∙◌, subst, Bool, true, false, not, filter, length, remove, Ok, IfSome, Option, Some, None, nat_lt, slice_get, slice_set}
 use Rattle.std.specs.List.{AllByRecursion}
 use Rattle.std.proofs.lemmas.List.Quantifiers.{position-Some}
-use Rattle.rv_value.proofs.Lists.{all_append, all_filter, all_got, all_more}
+use Rattle.rv_value.proofs.Lists.{all_append, all_filter, all_got, all_more, all_remove}
 use Rattle.rv_value.specs.declared.value.Value.{Value}
 use Rattle.rv_value.specs.declared.record.RowNo.{RowNo}
+use Rattle.rv_value.proofs.Tests.{some_at}
+use Rattle.rv_value.proofs.Places.{get_there}
 use Rattle.rv_rows.specs.declared.changes.Change.{Change}
 use Rattle.rv_judge.specs.declared.events.Trace.{Trace as RanTrace}
 use Rattle.rv_judge.specs.Runs.{Allowed}
@@ -40,8 +42,7 @@ use Rattle.rv_core.specs.Obeying.{SeesSame, TellsPlan}
 use Rattle.rv_own.proofs.Bases.{base_found}
 use Rattle.rv_core.specs.Storing.{CommitsTo, changed_over}
 use Rattle.rv_restrict.specs.declared.atom.Atom.{Atom}
-use Rattle.rv_core.proofs.Calling.{at_own, commits_does, commits_tied, creates, creates_tied, opening_is, rolls_does, rolls_tied, same_stand}
-use Rattle.rv_core.proofs.Facts.{all_remove, get_there}
+use Rattle.rv_core.proofs.Calling.{commits_does, commits_tied, creates, creates_tied, opening_is, rolls_does, rolls_tied, same_stand}
 use Rattle.rv_core.proofs.Indexing.{indexes_does, indexes_tied}
 use Rattle.rv_core.proofs.Keeping.{Kept, SameBases, all_seen, begun_bases, kept_committed, kept_same, kept_swept, none_open, opens_over, opens_stay, others_bases, same_bases, sees_kept, sees_none, with_bases}
 use Rattle.rv_core.proofs.Numbering.{listed_filter, listed_push, listed_remove, listed_set, none_listed}
@@ -169,7 +170,7 @@ pub commit_own : (txns left : Transactions) (session k base c : ℕ) (changes : 
     → (own : ℕ) × (transaction_of txns.active session ≡ Some own) × (left.active ≡ remove txns.active own)
 commit_own txns left session k base c changes did is =
     let f = finished_is txns session k base changes did in
-    let at = at_own (transaction_of txns.active session) f.0 (λ own. left ≡ done txns own c) f.1 is in
+    let at = some_at (λ own. left ≡ done txns own c) (transaction_of txns.active session) f.0 f.1 is in
     (f.0, f.1, ap (λ (t : Transactions). t.active) at)
 
 pub commits_standing : (old new : Shown) (schema : Schema) (txns left : Transactions) (cs kept : List Open) (n session k base c : ℕ) (changes : List Change) → finished txns session ≡ Ok (k, base, changes) → CommitsTo old new base changes c → IfSome (transaction_of txns.active session) (λ own. left ≡ done txns own c) → kept ≡ filter (λ (c : Open). not (c.session == session)) cs → IsStanding old schema txns cs n → IsStanding new schema left kept n

@@ -4,6 +4,7 @@ use Rattle.std.proofs.lemmas.Bool.{cases_Bool}
 use Rattle.std.proofs.lemmas.Bool.Decides.{nat_tests}
 use Rattle.std.specs.List.{AllByRecursion}
 use Rattle.std.proofs.lemmas.List.Filters.{length-filter_both}
+use Rattle.rv_value.proofs.Lists.{filtered_fewer}
 
 -- the items of a kind
 abbrev pub of_kind : {X : Type 0} → (X → ℕ) → ℕ → List X → List X
@@ -12,17 +13,8 @@ of_kind kind n xs = filter (λ x. kind x == n) xs
 abbrev pub FewEach : {X : Type 0} → (X → ℕ) → ℕ → List X → Type 0
 FewEach kind most xs = (n : ℕ) → length (of_kind kind n xs) ≤ most
 
-filter_few : {X : Type 0} (p q : X → Bool) (xs : List X) → length (filter q (filter p xs)) ≤ length (filter q xs)
-filter_few p q [] = omega arith
-filter_few p q (x ∷ xs) =
-    let rest = filter_few p q xs in
-    elim (cases_Bool (p x)) [
-      | inl t ↦ elim (cases_Bool (q x)) [ inl u ↦ rw (t, u) (omega (arith, rest)) | inr v ↦ rw (t, v) rest ]
-      | inr f ↦ elim (cases_Bool (q x)) [ inl u ↦ rw (f, u) (omega (arith, rest)) | inr v ↦ rw (f, v) rest ]
-    ]
-
 pub few_filter : {X : Type 0} (kind : X → ℕ) (most : ℕ) (p : X → Bool) (xs : List X) → FewEach kind most xs → FewEach kind most (filter p xs)
-few_filter kind most p xs few n = let a = filter_few p (λ x. kind x == n) xs in let b = few n in omega (arith, a, b)
+few_filter kind most p xs few n = let a = filtered_fewer (λ x. kind x == n) p xs in let b = few n in omega (arith, a, b)
 
 below : {X : Type 0} (kind : X → ℕ) (n : ℕ) (xs : List X) → AllByRecursion (λ x. kind x < suc n) xs → AllByRecursion (λ x. kind x < n) (filter (λ x. not (kind x == n)) xs)
 below kind n [] all = tt

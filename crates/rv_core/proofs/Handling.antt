@@ -1,6 +1,7 @@
 -- What calls do to the plans of open cursors, by what they ask.
-use Rattle.std.proofs.Common.{◌≡◌, ◌⊎◌, inl, inr, ℕ, zero, suc, ◌==◌, ◌&&◌, ◌<◌, [], ◌∷◌, List, Bool, true, false, Option, Some, None, Result, Ok, Err, IfOk, OnErr, refl, ap, sym, ◌∙◌, subst, length, position, bytes_eq, slice_get, slice_set}
+use Rattle.std.proofs.Common.{◌≡◌, ◌⊎◌, inl, inr, ℕ, ◌==◌, ◌&&◌, ◌<◌, [], ◌∷◌, List, Bool, true, false, Option, Some, None, Result, Ok, Err, IfOk, OnErr, refl, ap, sym, ◌∙◌, subst, length, position, bytes_eq, slice_get, slice_set}
 use Rattle.std.proofs.lemmas.List.Quantifiers.{position-Some}
+use Rattle.rv_value.proofs.Places.{get_there, put_back}
 use Rattle.rv_judge.specs.declared.judging.Facts.{Facts}
 use Rattle.rv_judge.specs.Verdicts.{Ruling}
 use Rattle.rv_lang.specs.declared.statement.Statement.{Statement}
@@ -19,7 +20,6 @@ use Rattle.rv_join.specs.Plans.{Planned}
 use Rattle.rv_core.specs.Db.{Stand, Whole, open_named}
 use Rattle.rv_core.specs.Doing.{DoesAsked, Executes, Fetches, PartIs, parted}
 use Rattle.rv_core.specs.Obeying.{AnyOf, AsksJudge, Handles, HandlesText, Leaves, LeavesText, MovesNamed, Plans, Refuses, Turns, TurnsText, Under, Works, WorksText, is_fetch, plans_of}
-use Rattle.rv_core.proofs.Facts.{get_there}
 
 -- Results.
 
@@ -57,11 +57,6 @@ pub searches : {S May : Type 0} (w d : Whole S) (before after : ℕ) → d.opens
 searches w d before after opens opened (inl unasked) = inl (asked_on w d before after opens opened ∙ ap (plans_of w) unasked)
 searches w d before after opens opened (inr may) = inr (asked_on w d before after opens opened, may)
 
-pub set_got : {X : Type 0} (xs : List X) (i : ℕ) (x : X) → slice_get xs i ≡ Some x → slice_set xs i x ≡ xs
-set_got [] i x h = refl
-set_got (y ∷ ys) zero x h = let e : x ≡ y = cc in ap (λ z. z ∷ ys) e
-set_got (y ∷ ys) (suc i) x h = ap (λ zs. y ∷ zs) (set_got ys i x h)
-
 position_within : {X : Type 0} (p : X → Bool) (xs : List X) (i : ℕ) → position p xs ≡ Some i → i < length xs
 position_within p [] i e = absurd (cc)
 position_within p (x ∷ xs) i e = (position-Some p (x ∷ xs) i x e).0
@@ -78,7 +73,7 @@ rests would shown p place there = (
     before = there.0;
     after = there.0;
     here = there.1;
-    set = sym (set_got p.opens place there.0 there.1);
+    set = sym (put_back p.opens place there.0 there.1);
     same = record { session = refl; name = refl; number = refl; snap = refl; frozen = refl; asked = refl };
     moved = record { moves = []; made = refl };
   },
@@ -120,7 +115,7 @@ leaves_asked u statement asked db session old new is leaves = record { left = su
 
 -- a plan that is as it was
 pub given_back : (cs : List Open) (place : ℕ) (c : Open) (plan : Planned) → slice_get cs place ≡ Some c → plan ≡ c.plan → slice_set cs place (record c { plan = plan }) ≡ cs
-given_back cs place c plan at same = rw same (set_got cs place c at)
+given_back cs place c plan at same = rw same (put_back cs place c at)
 
 -- A turn.
 

@@ -14,7 +14,7 @@ use Rattle.rv_catalog.specs.Schema.{Schema, width}
 use Rattle.rv_reader.specs.Shown.{Shown, CanRead}
 use Rattle.rv_reader.specs.Storing.{AreColumns, Indexed}
 use Rattle.std.specs.Option.{option_map}
-use Rattle.std.proofs.lemmas.Bool.{not-true}
+use Rattle.std.proofs.lemmas.Bool.{not-true, ltb-true}
 use Rattle.std.specs.Cmp.{first_so, second_so}
 use Rattle.rv_value.proofs.Tests.{left_false, right_false}
 use Rattle.rv_value.specs.declared.record.Record.{Record}
@@ -53,12 +53,9 @@ distinct (c ∷ cs) h =
     let first = not-true (list_any (λ d. d == c) cs) (first_so (not (list_any (λ d. d == c) cs)) (all_different cs) h) in
     IsDistinct-cons nat_eq c cs (apart c cs first) (distinct cs (second_so (not (list_any (λ d. d == c) cs)) (all_different cs) h))
 
-below : (c width : ℕ) → is_column width c ≡ true → c < width
-below c width h = grind (arith, nat_tests)
-
 all_there : (width : ℕ) (cs : List ℕ) → list_all (is_column width) cs ≡ true → AllByRecursion (λ (c : ℕ). c < width) cs
 all_there width [] h = tt
-all_there width (c ∷ cs) h = (below c width (first_so (is_column width c) (list_all (is_column width) cs) h), all_there width cs (second_so (is_column width c) (list_all (is_column width) cs) h))
+all_there width (c ∷ cs) h = (ltb-true c width (first_so (is_column width c) (list_all (is_column width) cs) h), all_there width cs (second_so (is_column width c) (list_all (is_column width) cs) h))
 
 -- the columns of a new index are those of one of the store
 pub index_columns : (shown : Shown) (schema : Schema) (txns : Transactions) (def : IndexDef) → IsTied shown schema txns → IsNewIndex schema def → 1 ≤ length def.columns → AreColumns (shown.columns def.table) def.columns

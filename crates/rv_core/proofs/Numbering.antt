@@ -2,10 +2,9 @@
 use Rattle.std.proofs.Common.{◌≡◌, ℕ, zero, suc, ◌+◌, ◌<◌, ◌≤◌, List, [], ◌∷◌, ◌++◌, ◌∙◌, sym, ap, arith, Bool, filter, inl, inr, length, remove, slice_set, slice_get, Some}
 use Rattle.std.proofs.lemmas.Bool.{cases_Bool}
 use Rattle.std.proofs.lemmas.Grind.{common_steps}
-use Rattle.rv_value.proofs.Lists.{all_append, all_filter, all_got}
+use Rattle.rv_value.proofs.Lists.{all_append, all_filter, all_got, all_remove, all_set}
 use Rattle.rv_cursor.specs.declared.cursor.Open.{Open}
 use Rattle.rv_core.specs.Db.{AreListed, AreNumbered, own_opens}
-use Rattle.rv_core.proofs.Facts.{all_remove, all_set}
 use Rattle.rv_core.proofs.Few.{few_all, few_filter, few_push, few_remove, few_set}
 
 lower : (low less high : ℕ) (cs : List Open) → less ≤ low → AreNumbered low high cs → AreNumbered less high cs
@@ -74,7 +73,7 @@ pub listed_set : (n : ℕ) (cs : List Open) (i : ℕ) (c new : Open) → slice_g
 listed_set n cs i c new at same own h = record {
   numbers = numbered_set 1 n cs i c new at same h.numbers;
   few = λ session. let e = few_set owner cs i c new at own session in let f = h.few session in omega (arith, e, f);
-  sessions = all_set (λ (d : Open). d.session < 256) cs i new (let b = all_got (λ (d : Open). d.session < 256) cs i c h.sessions at in omega (arith, own, b)) h.sessions;
+  sessions = all_set (λ (d : Open). d.session < 256) cs i new h.sessions (let b = all_got (λ (d : Open). d.session < 256) cs i c h.sessions at in omega (arith, own, b));
 }
 
 -- there are few in all

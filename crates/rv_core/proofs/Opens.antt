@@ -1,7 +1,7 @@
 -- Open cursors as the definitions have them.
 use Rattle.std.proofs.Common.{◌≡◌, ℕ, ◌+◌, List, [], ◌∷◌, ◌++◌, ◌==◌, ◌&&◌, refl, ap, sym, subst, ◌∙◌, Bool, true, false, not, cond, filter, length, suc, zero, slice_get, slice_set, remove, bytes_eq, Some}
 use Rattle.std.specs.List.{AllByRecursion, prefix_len, slice_index_or}
-use Rattle.rv_value.proofs.Lists.{all_got}
+use Rattle.rv_value.proofs.Lists.{all_got, all_set}
 use Rattle.rv_lang.specs.declared.reply.Refusal.{Refusal}
 use Rattle.rv_lang.specs.declared.reply.Reply.{Reply}
 use Rattle.rv_lang.specs.declared.reply.Reply.TheVariants.{Refused}
@@ -17,7 +17,6 @@ use Rattle.rv_model.specs.declared.transactions.Transaction.{Transaction}
 use Rattle.rv_join.specs.declared.places.Asked.{Asked}
 use Rattle.rv_join.specs.Asking.{indexes_from, item_at}
 use Rattle.rv_core.specs.Db.{IsOpen, base_of, open_named, own_opens, seen, seen_of}
-use Rattle.rv_core.proofs.Facts.{all_set}
 use Rattle.rv_core.proofs.Images.{map_remove}
 use Rattle.rv_core.specs.Doing.{TakesAt}
 
@@ -88,11 +87,11 @@ removed_seen shown cs i = map_remove (seen_of shown) cs i
 pub opens_at : (shown : Shown) (schema : Schema) (active : List Transaction) (cs : List Open) (place : ℕ) (c new : Open) → slice_get cs place ≡ Some c → CursorFits shown new → SameCursor c new → AllByRecursion (IsOpen shown schema active) cs → AllByRecursion (IsOpen shown schema active) (slice_set cs place new)
 opens_at shown schema active cs place c new at fits same all =
     let was = all_got (IsOpen shown schema active) cs place c all at in
-    all_set (IsOpen shown schema active) cs place new (record {
+    all_set (IsOpen shown schema active) cs place new all (record {
       base = ap (λ (s : ℕ). base_of active s) same.session ∙ was.base ∙ ap (λ (n : ℕ). Some n) (sym same.snap);
       fits = fits;
       over = ap (λ (a : Asked). (item_at a 0).indexes) same.asked ∙ was.over ∙ ap (λ (a : Asked). indexes_from (item_at a 0).table 0 schema.indexes) (sym same.asked);
-    }) all
+    })
 
 -- what a cursor has left to offer, and what it was opened with, are all that is seen of it
 pub same_seen : (shown : Shown) (c new : Open) (offers : List Offer) → SameCursor c new → left shown new ≡ offers → seen_of shown new ≡ record (seen_of shown c) { offers = offers }

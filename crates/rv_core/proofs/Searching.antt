@@ -1,7 +1,7 @@
 -- A search over what the session's transaction sees: it can be asked, and finds the rows that UPDATE and DELETE change.
 use Rattle.std.proofs.Common.{◌≡◌, ◌⊎◌, ℕ, zero, suc, ◌+◌, ◌<◌, ◌≤◌, List, [], ◌∷◌, Bool, true, false, ◌&&◌, Option, Some, None, Ok, IfSome, refl, ap, sym, ◌∙◌, subst, inl, inr, arith, length, nat_lt, nat_eq, if◌then◌else◌, cond}
 use Rattle.std.specs.List.{AllByRecursion, list_all}
-use Rattle.std.proofs.lemmas.Bool.{cases_Bool, and_from}
+use Rattle.std.proofs.lemmas.Bool.{cases_Bool, and_from, ltb-true}
 use Rattle.std.proofs.lemmas.Bool.Decides.{nat_tests}
 use Rattle.std.specs.Cmp.{first_so, second_so}
 use Rattle.rv_value.specs.declared.record.Record.{Record}
@@ -126,9 +126,6 @@ have_all columns only (r ∷ rows) named have =
     (first_so (nat_lt c.column (length r.values)) (have_column c.column rows) (have c.column (second_so (is_home c) (is_column columns c.column) h)))) only named)
     (have_all columns only rows named (λ c low. second_so (nat_lt c (length r.values)) (have_column c rows) (have c low)))
 
-below : (c n : ℕ) → is_column n c ≡ true → c < n
-below c n h = grind (arith, nat_tests)
-
 seen_have : (shown : Shown) (touched : List (List ℕ)) (table snap c : ℕ) (frozen : Option Frozen) → IsStored shown → CanRead shown table snap → c < shown.columns table → IfSome frozen (IsViewed shown touched snap) → have_column c ((seen_at shown snap frozen).rows table snap) ≡ true
 seen_have shown touched table snap c None stored read low viewed =
     subst (λ (rows : List Record). have_column c rows ≡ true) (sym (seen_view shown snap table None read tt))
@@ -155,7 +152,7 @@ can_search shown schema txns table snap only frozen tied stored read there over 
     record {
       ascend = item.ascend;
       read = item.read;
-      columns = have_all (shown.columns table) only (seen.rows table snap) named (λ c low. seen_have shown txns.touched table snap c frozen stored read (below c (shown.columns table) low) viewed);
+      columns = have_all (shown.columns table) only (seen.rows table snap) named (λ c low. seen_have shown txns.touched table snap c frozen stored read (ltb-true c (shown.columns table) low) viewed);
       few = item.few;
       different = item.different;
       indexes = indexes_asked (search_of table snap only indexes) seen indexes item.indexes;

@@ -1,6 +1,7 @@
 -- Of how many records a short range makes a cursor fetch.
-use Rattle.std.proofs.Common.{◌≡◌, ℕ, ◌+◌, ◌≤◌, true, List, [], ◌∷◌, length, Option, Some, None, zero, suc, slice_get, slice_set, refl, ap, sym, ◌∙◌, subst, arith}
+use Rattle.std.proofs.Common.{◌≡◌, ℕ, ◌+◌, ◌≤◌, true, List, [], ◌∷◌, length, Option, Some, None, zero, suc, slice_get, slice_set, refl, ap, sym, ◌∙◌, subst, arith, le_trans, le-add_right}
 use Rattle.rv_value.proofs.Lists.{all_got}
+use Rattle.rv_value.proofs.Places.{get_set}
 use Rattle.rv_judge.specs.declared.counting.Counts.{Counts}
 use Rattle.rv_judge.specs.declared.judging.Facts.{Facts}
 use Rattle.rv_judge.specs.Verdicts.{Ruling}
@@ -61,11 +62,8 @@ sums n most a b h = omega (arith, h)
 sum_lost : (most a b : ℕ) (shown : Shown) (p : Planned) → Few (most + a + b) shown p → Few (most + (a + b)) shown p
 sum_lost most a b shown p few = record { over = few.over; few = sums (plan_fetches shown p) most a b few.few }
 
-no_more : (n m : ℕ) → n ≤ m → n ≤ m + 0
-no_more n m h = omega (arith, h)
-
 none_lost : (most : ℕ) (shown : Shown) (p : Planned) → Few most shown p → Few (most + 0) shown p
-none_lost most shown p few = record { over = few.over; few = no_more (plan_fetches shown p) most few.few }
+none_lost most shown p few = record { over = few.over; few = le_trans few.few (le-add_right most 0) }
 
 calls_few : MovesFetchFew → (calls : List (List Move)) (most : ℕ) (old new : Held) → CallsMove calls old new → IsAlone old.cursor.plan → Few most (sight old) old.cursor.plan → Few (most + lost_by calls) (sight old) new.cursor.plan
 calls_few law [] most old new same one few = subst (λ (h : Held). Few (most + 0) (sight old) h.cursor.plan) (sym same) (none_lost most (sight old) old.cursor.plan few)
@@ -132,11 +130,6 @@ pub keeps_itself : (old new : List Open) → new ≡ old → KeepsSettled old ne
 keeps_itself old new same = record { each = λ i x y was is one s. some_same (slice_get old i) x y was (subst (λ (cs : List Open). slice_get cs i ≡ Some y) same is) }
 
 -- What the calls say of plans.
-
-get_set : (cs : List Open) (place : ℕ) (c d : Open) → slice_get cs place ≡ Some c → slice_get (slice_set cs place d) place ≡ Some d
-get_set [] place c d here = cc
-get_set (o ∷ os) zero c d here = refl
-get_set (o ∷ os) (suc place) c d here = get_set os place c d here
 
 place_sees : (store later : Shown) (place : ℕ) (old new : List Open) (before after : Open) → slice_get old place ≡ Some before → new ≡ slice_set old place after → SeesSame store later new → seen_by later after ≡ seen_by store after
 place_sees store later place old new before after here set sees =

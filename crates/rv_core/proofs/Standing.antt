@@ -5,7 +5,7 @@ use Rattle.std.proofs.lemmas.List.Quantifiers.{position-Some}
 use Rattle.std.proofs.lemmas.Bool.{cases_Bool}
 use Rattle.std.proofs.lemmas.Bool.Decides.{eqb_tells, nat_tests}
 use Rattle.std.proofs.lemmas.List.{map_push}
-use Rattle.rv_value.proofs.Lists.{all_append, all_filter, all_more}
+use Rattle.rv_value.proofs.Lists.{all_append, all_filter, all_more, all_or}
 use Rattle.rv_value.specs.declared.value.Value.{Value}
 use Rattle.rv_value.specs.declared.record.Record.{Record}
 use Rattle.rv_value.specs.declared.record.RowNo.{RowNo}
@@ -40,7 +40,7 @@ use Rattle.rv_txn.specs.Changing.{CanChange, IsWide}
 use Rattle.rv_core.specs.Db.{image, bases_of, db_of, Stand, stand_of, AreTaken, IsOwn, IsActive, IsTied}
 use Rattle.rv_core.specs.Doing.{Does}
 use Rattle.rv_core.specs.Storing.{CommitsTo, changed_over}
-use Rattle.rv_core.proofs.Facts.{all_at, all_map, all_put}
+use Rattle.rv_core.proofs.Facts.{all_map, all_put}
 use Rattle.rv_core.proofs.Images.{base_at, map_remove, set_same, image_stays, bases_stay, image_committed, image_created}
 use Rattle.rv_core.proofs.Numbers.{TakesOne, takes_more, takes_one}
 use Rattle.rv_core.proofs.Tied.{actives_more, own_changes, horizon_low, horizon_last, none_lowest, tied_more}
@@ -423,7 +423,7 @@ can_change shown schema txns session table only tied there over = by_place (tran
         record {
           rows = record { there = omega (arith, tied.count); snapshot = base };
           over = rw (tied.columns table there) over;
-          wide = all_at (λ (t : Transaction). AllByRecursion (IsWide table (shown.columns table)) t.changes) txns.active own no_transaction tt (all_more (IsActive shown txns.touched) (λ (t : Transaction). AllByRecursion (IsWide table (shown.columns table)) t.changes) (λ t a. wide t a) txns.active tied.active);
+          wide = all_or (λ (t : Transaction). AllByRecursion (IsWide table (shown.columns table)) t.changes) txns.active own no_transaction (all_more (IsActive shown txns.touched) (λ (t : Transaction). AllByRecursion (IsWide table (shown.columns table)) t.changes) (λ t a. wide t a) txns.active tied.active) tt;
         }
 
 -- transactions after UPDATE or DELETE, whatever is answered

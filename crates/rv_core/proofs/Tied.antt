@@ -5,7 +5,7 @@ use Rattle.std.proofs.Math.Seq.{get_or-append_seam}
 use Rattle.std.proofs.lemmas.List.{get_or_append_left}
 use Rattle.std.proofs.lemmas.Bool.{cases_lt}
 use Rattle.std.proofs.lemmas.Bool.Decides.{eqb_tells}
-use Rattle.rv_value.proofs.Lists.{all_filter, all_more}
+use Rattle.rv_value.proofs.Lists.{all_filter, all_more, all_or, all_remove}
 use Rattle.rv_value.specs.declared.value.Value.{Value}
 use Rattle.rv_value.specs.declared.record.Record.{Record}
 use Rattle.rv_rows.specs.declared.changes.Change.{Change}
@@ -22,7 +22,7 @@ use Rattle.rv_model.specs.declared.transactions.Transactions.{Transactions}
 use Rattle.rv_model.specs.Transactions.{no_transaction, transaction_at, next_row, touched_in, touch, touch_all, done, without, lowest, horizon}
 use Rattle.rv_model.specs.Database.{no_index}
 use Rattle.rv_core.specs.Db.{IsOwn, IsActive, AreTaken, HasIndex, IsTied}
-use Rattle.rv_core.proofs.Facts.{all_put, all_at, all_remove}
+use Rattle.rv_core.proofs.Facts.{all_put}
 
 own_stays : (old new : Shown) (touched : List (List ℕ)) (c : Change) → old.tables ≤ new.tables → Stays old new → IsOwn old touched c → IsOwn new touched c
 own_stays old new touched c more stays h = record {
@@ -252,7 +252,7 @@ change_fits shown schema txns c tied h = let most = tied.few c.table in record {
 
 -- the changes of the transaction in a place
 pub own_changes : (shown : Shown) (touched : List (List ℕ)) (active : List Transaction) (own : ℕ) → AllByRecursion (IsActive shown touched) active → AllByRecursion (IsOwn shown touched) (transaction_at active own).changes
-own_changes shown touched active own all = all_at (λ (t : Transaction). AllByRecursion (IsOwn shown touched) t.changes) active own no_transaction tt (all_more (IsActive shown touched) (λ (t : Transaction). AllByRecursion (IsOwn shown touched) t.changes) (λ t a. a.changes) active all)
+own_changes shown touched active own all = all_or (λ (t : Transaction). AllByRecursion (IsOwn shown touched) t.changes) active own no_transaction (all_more (IsActive shown touched) (λ (t : Transaction). AllByRecursion (IsOwn shown touched) t.changes) (λ t a. a.changes) active all) tt
 
 -- a transaction's changes are those of a commit
 pub changes_fit : (shown : Shown) (schema : Schema) (txns : Transactions) (own : ℕ) → IsTied shown schema txns → AllByRecursion (IsChange shown) (transaction_at txns.active own).changes

@@ -1,5 +1,5 @@
 -- What becomes of a cursor's offers when its plan is called.
-use Rattle.std.proofs.Common.{◌≡◌, ◌<◌, ◌≤◌, List, [], ◌∷◌, ◌++◌, refl, ap, sym, ◌∙◌, subst, arith, Option, Some, None, IfSome, false, is_some}
+use Rattle.std.proofs.Common.{◌≡◌, ◌<◌, ◌≤◌, List, [], ◌∷◌, ◌++◌, refl, ap, sym, ◌∙◌, subst, arith, Option, Some, None, IfSome}
 use Rattle.std.specs.List.Sorted.{IsPermutation}
 use Rattle.std.proofs.lemmas.List.Sorted.{IsPermutation-refl}
 use Rattle.rv_value.specs.declared.value.Value.{Value}
@@ -55,11 +55,6 @@ piece_stays shown c p fits new stays = record {
 -- two calls on the plan, one after the other
 pub pieces_stay : (shown : Shown) (c : Open) (p q : Planned) → CursorFits shown c → PlanFits (seen_by shown c) q → PlanStays (seen_by shown c) c.plan p → PlanStays (seen_by shown c) p q → Stays shown c (record c { plan = q })
 pieces_stay shown c p q fits new first then = piece_stays shown c q fits new (record { asked = then.asked ∙ first.asked; rest_same = then.rest_same ∙ first.rest_same; work = omega (arith, first.work, then.work) })
-
--- no row is in hand
-pub not_some : (hand : Option Offer) → is_some hand ≡ false → hand ≡ None
-not_some None e = refl
-not_some (Some o) e = absurd (cc)
 
 no_hand : (hand : Option Offer) (rest : List Offer) → hand ≡ None → offers_in_order (in_hand hand ++ rest) ≡ offers_in_order rest
 no_hand hand rest empty = rw empty refl

@@ -9,6 +9,7 @@ use Rattle.rv_value.specs.declared.range.Range.{Range}
 use Rattle.rv_value.specs.Order.{value_cmp, values_cmp, prefix_cmp}
 use Rattle.rv_value.specs.Orders.{values_cmp_total}
 use Rattle.rv_value.specs.Ranges.{place, in_side, is_empty, is_empty_between, crossed, crosses, falls_under, goes_over}
+use Rattle.rv_value.proofs.Same.{prefix_whole}
 use Rattle.rv_reader.specs.Entries.{reaches}
 
 prefix_take : (xs ys : List Value) → length ys ≤ length xs → prefix_cmp xs ys ≡ values_cmp (take (length ys) xs) ys
@@ -16,12 +17,6 @@ prefix_take [] [] l = refl
 prefix_take [] (y ∷ ys) l = absurd (omega arith)
 prefix_take (x ∷ xs) [] l = refl
 prefix_take (x ∷ xs) (y ∷ ys) l = ap (ordering_then (value_cmp x y)) (prefix_take xs ys (omega arith))
-
-prefix_whole : (xs ys : List Value) → length xs ≡ length ys → prefix_cmp xs ys ≡ values_cmp xs ys
-prefix_whole [] [] l = refl
-prefix_whole [] (y ∷ ys) l = absurd (omega arith)
-prefix_whole (x ∷ xs) [] l = absurd (omega arith)
-prefix_whole (x ∷ xs) (y ∷ ys) l = ap (ordering_then (value_cmp x y)) (prefix_whole xs ys (omega arith))
 
 -- a key that is not under the low bound and not over the high one shows that they do not cross
 not_crossed : (k low high : List Value) (a b : Bool) → falls_under (values_cmp k low) a ≡ false → goes_over (values_cmp k high) b ≡ false → crosses (values_cmp low high) (a && b) ≡ false

@@ -1,10 +1,10 @@
 -- What users of a sound tree need: its entries and cuts ascend, the cuts are few, and the leaves short; a key of another
 -- row is absent.
-use Rattle.std.proofs.Common.{ℕ, true, inl, inr, ◌<◌, ◌≤◌, ◌≡◌, List, [], ◌∷◌, Bool, length, refl, ap, arith, None, subst}
-use Rattle.std.specs.List.{list_all}
+use Rattle.std.proofs.Common.{ℕ, true, inl, inr, ◌<◌, ◌≤◌, ◌≡◌, List, Bool, length, refl, ap, arith, None, subst}
 use Rattle.std.specs.Prelude.{◌||◌}
 use Rattle.std.proofs.lemmas.Bool.{cases_Bool}
 use Rattle.rv_value.specs.declared.record.IndexEntry.{IndexEntry}
+use Rattle.rv_value.proofs.Lists.{all_true}
 use Rattle.rv_reader.specs.Entries.{comes_before}
 use Rattle.rv_reader.specs.Leaves.{leaf_from, leaf_entries}
 use Rattle.rv_reader.specs.Shown.{IsIndex}
@@ -32,10 +32,6 @@ index_is len at index small =
       apart = cuts_rising comes_before order level None None (tree_at at level 0) index.whole;
       few = omega arith;
     }
-
-all_true : (xs : List IndexEntry) → list_all (λ (x : IndexEntry). true) xs ≡ true
-all_true [] = refl
-all_true (x ∷ xs) = all_true xs
 
 -- each leaf of the tree has at most 32 entries
 pub short_leaves : (len : ℕ) (at : ℕ → Parts) → IsIndexTree len at → (passes : IndexEntry → Bool) → length (leaf_entries (leaf_from passes None (cuts_all (whole_at at))) (entries_all (whole_at at))) ≤ 32

@@ -1,5 +1,5 @@
 -- A plan over one FROM item: what its one retrieval does, and what the first item's retrieval keeps.
-use Rattle.std.proofs.Common.{Bool, ◌&&◌, ◌≡◌, ℕ, ◌+◌, ◌*◌, ◌-◌, ◌^◌, ◌<◌, ◌≤◌, List, [], ◌∷◌, ◌++◌, length, true, false, Option, Some, None, is_some, refl, ap, sym, ◌∙◌, arith, subst, inl, inr, zero, suc, slice_index_or, slice_set, Result, Ok, Err, IfOk, OnOk, OnErr, mul-le-mul_right}
+use Rattle.std.proofs.Common.{Bool, ◌&&◌, ◌≡◌, ℕ, ◌+◌, ◌*◌, ◌-◌, ◌^◌, ◌<◌, ◌≤◌, List, [], ◌∷◌, ◌++◌, length, true, false, Option, Some, None, is_some, refl, ap, sym, ◌∙◌, arith, subst, inl, inr, zero, suc, slice_index_or, slice_set, Result, Ok, Err, IfOk, OnOk, OnErr, mul-le-mul_right, le_trans, le-add_right}
 use Rattle.rv_value.specs.declared.value.Value.{Value}
 use Rattle.rv_judge.specs.Counting.{reads, raised}
 use Rattle.rv_judge.specs.declared.counting.Counts.{Counts}
@@ -101,11 +101,6 @@ less_held e f k h = omega (arith, h)
 
 pub held_tries : (c d : Counts) (e f : ℕ) (row now : Option (List Value)) → now ≡ row → Tries c d f e → Tries c d (f + held_rows row) (e + held_rows now)
 held_tries c d e f row now same tries = let less = tries.less in rw same (record { once = tries.once; less = omega (arith, less) })
-
--- no row is held
-pub no_row : (row : Option (List Value)) → is_some row ≡ false → row ≡ None
-no_row None e = refl
-no_row (Some values) e = absurd (cc)
 
 -- a row was found, and is held
 pub row_tries : (c d : Counts) (e f : ℕ) (row : Option (List Value)) → row ≡ None → Tries c d f e → e < f → Tries c d (f + held_rows row) (e + 1)
@@ -252,15 +247,12 @@ counted_few n shown c d old mid new reads same up settled few = rw same (record 
 counted_as : (mid new : Planned) (c d before after : Counts) → before ≡ c → after ≡ d → new ≡ record mid { reads = reads_with mid.reads before after } → new ≡ record mid { reads = reads_with mid.reads c d }
 counted_as mid new c d before after b a same = rw (b, a) at same
 
-no_wanting : (n m : ℕ) → n ≤ m → n ≤ m + 0
-no_wanting n m le = omega (arith, le)
-
 -- an answered step
 pub few_ok : {E : Type 0} (r : Result PlanStep E) (would : ℕ → Facts → Ruling) (state after : ℕ) (shown : Shown) (c d before behind : Counts) (old mid new : Planned) → before ≡ c → behind ≡ d → before.records < 2 ^ 64 → mid.reads ≡ old.reads → new ≡ record mid { reads = reads_with mid.reads before behind } → (IsAlone old → StepsOnce would state after shown c d old.stack.at mid.stack.at) → (IsAlone old → OnOk r (Fetches shown c d old.stack.at.here mid.stack.at.here)) → IsAlone old → OnOk r (FewFetches 0 shown old new)
 few_ok (Ok m) would state after shown c d before behind old mid new b e within reads same once fetches one =
     let calls = (once one).calls in
     let up = calls_up would state after shown c d old.stack.at.here mid.stack.at.here (subst (λ (k : Counts). k.records < 2 ^ 64) b within) calls in
-    counted_few 0 shown c d old mid new reads (counted_as mid new c d before behind b e same) up.0 (calls_settled would state after shown c d old.stack.at.here mid.stack.at.here calls) (λ s. no_wanting _ _ ((fetches one).records s))
+    counted_few 0 shown c d old mid new reads (counted_as mid new c d before behind b e same) up.0 (calls_settled would state after shown c d old.stack.at.here mid.stack.at.here calls) (λ s. le_trans ((fetches one).records s) (le-add_right _ 0))
 few_ok (Err x) would state after shown c d before behind old mid new b e within reads same once fetches one = tt
 
 -- a step, whatever it answers

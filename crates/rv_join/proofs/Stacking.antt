@@ -1,5 +1,5 @@
 -- Each change of the open levels keeps the bag, but for an offer that is given.
-use Rattle.std.proofs.Common.{◌≡◌, ℕ, ◌+◌, ◌<◌, List, [], ◌∷◌, ◌++◌, length, map, true, Option, Some, None, IsSome, Result, Ok, Err, IfOk, OnOk, OnErr, refl, ap, sym, ◌∙◌, arith, subst, suc, le_trans, lt_of_lt_of_le}
+use Rattle.std.proofs.Common.{◌≡◌, ℕ, ◌+◌, ◌<◌, List, [], ◌∷◌, ◌++◌, length, map, true, Option, Some, None, IsSome, Result, Ok, Err, IfOk, OnErr, refl, ap, sym, ◌∙◌, arith, subst, suc, le_trans, lt_of_lt_of_le}
 use Rattle.std.specs.List.{flat_map}
 use Rattle.std.specs.List.Sorted.{IsPermutation}
 use Rattle.std.proofs.lemmas.Bool.Decides.{nat_tests}
@@ -149,7 +149,3 @@ kept_then_if a shown (Err e) old mid new kept moves = moves
 pub kept_or : {X E : Type 0} (r : Result X E) (a : Asked) (shown : Shown) (old mid new : Stacked) → Kept a shown old mid → OnErr r (new ≡ mid) → OnErr r (Kept a shown old new)
 kept_or (Ok x) a shown old mid new kept same = tt
 kept_or (Err e) a shown old mid new kept same = subst (Kept a shown old) (sym same) kept
-
-pub kept_if : {X E : Type 0} (r : Result X E) (P : Type 0) → P → OnOk r P
-kept_if (Ok x) P p = p
-kept_if (Err e) P p = tt

@@ -3,7 +3,6 @@ use Rattle.std.proofs.Common.{◌≡◌, ℕ, ◌<◌, ◌++◌, ◌∷◌, [], 
 use Rattle.std.specs.List.{AllByRecursion, IsDistinct}
 use Rattle.std.specs.List.Sorted.{IsStrictlyIncreasing}
 use Rattle.std.proofs.lemmas.Bool.{ne_eqb, or_parts}
-use Rattle.std.proofs.lemmas.Bool.Decides.{nat_tests}
 use Rattle.std.proofs.lemmas.Cmp.{nat_eq_equiv}
 use Rattle.std.proofs.lemmas.Map.Keys.{IsDistinct-push, IsDistinct-cons, IsDistinct-head, IsDistinct-tail, IsDistinct-from_apart, IsDistinct-IsPermutation, sorted_from_strictly_increasing, below_from_sorted}
 use Rattle.rv_keys.specs.Keys.{has_key, Once}
@@ -15,11 +14,8 @@ Once-nil = tt
 pub Once-push : (keys : List ℕ) (key : ℕ) → Once keys → has_key key keys ≡ false → Once (keys ++ key ∷ [])
 Once-push keys key once fresh = IsDistinct-push nat_eq_equiv keys key once fresh
 
-flips : (x y : ℕ) → nat_eq x y ≡ nat_eq y x
-flips x y = grind (arith, nat_tests)
-
 pub Once-IsPermutation : (xs ys : List ℕ) → IsPermutation xs ys → Once xs → Once ys
-Once-IsPermutation xs ys moved once = IsDistinct-IsPermutation nat_eq flips xs ys moved once
+Once-IsPermutation xs ys moved once = IsDistinct-IsPermutation nat_eq nat_eq_equiv.symm xs ys moved once
 
 pub Once-ascending : (keys : List ℕ) → IsStrictlyIncreasing keys → Once keys
 Once-ascending keys ascends = IsDistinct-from_apart nat_eq keys (λ i j d before within.

@@ -7,7 +7,7 @@ use Rattle.std.proofs.lemmas.List.Folds.{list_any-append}
 use Rattle.std.proofs.lemmas.List.Sorted.{IsPermutation-append_comm, IsPermutation-append_left, IsPermutation-append_right, IsPermutation-trans, length_permutation, list_any-IsPermutation}
 use Rattle.std.proofs.lemmas.Option.{get_or_from_slice_get, slice_get_within}
 use Rattle.std.proofs.lemmas.Bool.{and_right, or_from}
-use Rattle.rv_value.proofs.Tests.{right_false}
+use Rattle.rv_value.proofs.Tests.{right_false, other_false}
 use Rattle.rv_keys.specs.Keys.{has_key, Once}
 use Rattle.rv_keys.proofs.Onces.{Once-cons, Once-head, Once-IsPermutation, Once-nil, Once-tail}
 use Rattle.rv_keylist.specs.Listed.{Listed}
@@ -78,11 +78,8 @@ key_new (x ∷ keys) (suc i) k once e = or_from (nat_eq k x) (has_key k (take i 
     each false other = other
     each true here = absurd (let bad : true ≡ false = sym (key_there keys i k e) ∙ ap (λ (n : ℕ). has_key n keys) (sym (number k x here)) ∙ Once-head x keys once in cc)
 
-other_off : (a b : Bool) → a ≡ true → (a && b) ≡ false → b ≡ false
-other_off a b h d = grind arith
-
 pub next_new : (put list : List ℕ) (i k : ℕ) → AreApart list put → Once list → slice_get list i ≡ Some k → has_key k (put ++ take i list) ≡ false
-next_new put list i k a once e = key_append k put (take i list) ∙ or_from (has_key k put) (has_key k (take i list)) (other_off (has_key k list) (has_key k put) (key_there list i k e) (a.apart k)) (key_new list i k once e)
+next_new put list i k a once e = key_append k put (take i list) ∙ or_from (has_key k put) (has_key k (take i list)) (other_false (has_key k list) (has_key k put) (key_there list i k e) (a.apart k)) (key_new list i k once e)
 
 pub next_put : (put list : List ℕ) (i k : ℕ) → slice_get list i ≡ Some k → (put ++ take i list) ++ k ∷ [] ≡ put ++ take (i + 1) list
 next_put put list i k e = append_assoc put (take i list) (k ∷ []) ∙ ap (λ (x : List ℕ). put ++ x) (sym (take_more list i k (slice_get_within list i k e) ∙ ap (λ (x : ℕ). take i list ++ x ∷ []) (get_or_from_slice_get list i k k e)))

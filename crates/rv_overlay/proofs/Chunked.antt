@@ -3,7 +3,7 @@ use Rattle.std.proofs.Common.{◌≡◌, ℕ, zero, suc, ◌+◌, ◌≤◌, Lis
 use Rattle.std.proofs.lemmas.Bool.{cases_Bool, and_parts}
 use Rattle.std.proofs.lemmas.Bool.Decides.{nat_tests}
 use Rattle.std.specs.List.{list_all}
-use Rattle.rv_value.proofs.Lists.{filter_length}
+use Rattle.rv_value.proofs.Lists.{filter_length, all_true}
 use Rattle.rv_value.specs.declared.value.Value.{Value}
 use Rattle.rv_value.specs.declared.record.IndexEntry.{IndexEntry}
 use Rattle.rv_value.specs.declared.range.Bound.{Bound}
@@ -94,10 +94,6 @@ nearer true false false true f = refl
 nearer true false false false f = refl
 nearer false near far true f = refl
 nearer false near far false f = refl
-
-all_true : (xs : List IndexEntry) → list_all (λ (e : IndexEntry). true) xs ≡ true
-all_true [] = refl
-all_true (x ∷ xs) = all_true xs
 
 left_is : (range : Range) (start next other : Option IndexEntry) (taken entries : List IndexEntry)
     → filter (λ e. is_below (lesser next other) e && not (has taken e)) (filter (is_taken range start next) entries) ≡ filter (is_taken range start (lesser next other)) (without taken entries)

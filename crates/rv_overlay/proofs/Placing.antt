@@ -6,7 +6,7 @@ use Rattle.std.specs.Ordering.{is_eq, is_lt, ordering_reverse}
 use Rattle.std.specs.declared.cmp.Ordering.{Ordering}
 use Rattle.std.specs.declared.cmp.Ordering.TheVariants.{Less, Equal, Greater}
 use Rattle.std.proofs.lemmas.List.Elements.{filter-append, filter_agree}
-use Rattle.rv_value.proofs.Lists.{filter_passes}
+use Rattle.rv_value.proofs.Lists.{filter_passes, all_true}
 use Rattle.rv_value.specs.declared.record.IndexEntry.{IndexEntry}
 use Rattle.rv_value.specs.Entries.{entry_cmp}
 use Rattle.rv_value.specs.Orders.{entry_cmp_total}
@@ -20,10 +20,6 @@ use Rattle.rv_reader.proofs.Sorting.{same}
 use Rattle.rv_overlay.specs.Laying.{has, with_all}
 
 -- Places.
-
-all_true : (xs : List IndexEntry) → list_all (λ (e : IndexEntry). true) xs ≡ true
-all_true [] = refl
-all_true (x ∷ xs) = all_true xs
 
 -- with an entry in its place
 pub put_ascends : (e : IndexEntry) (xs : List IndexEntry) → Ascend xs → Ascend (put_in comes_before e xs)

@@ -11,7 +11,7 @@ use Rattle.std.specs.declared.cmp.Ordering.TheVariants.{Less, Equal, Greater}
 use Rattle.std.proofs.lemmas.List.Elements.{filter_agree}
 use Rattle.std.proofs.lemmas.Option.{slice_get_within}
 use Rattle.std.proofs.Math.Bool.{and-true}
-use Rattle.rv_value.proofs.Lists.{filter_passes}
+use Rattle.rv_value.proofs.Lists.{filter_passes, all_true}
 use Rattle.rv_value.specs.declared.record.IndexEntry.{IndexEntry}
 use Rattle.rv_value.specs.declared.range.Range.{Range}
 use Rattle.rv_value.specs.declared.range.Side.{Side}
@@ -85,10 +85,6 @@ span_count p q (suc n) zero d (x ∷ xs) pt qt e h =
 span_count p q (suc n) (suc m) d (x ∷ xs) pt qt e h =
     let rest = span_count p q n m d xs pt.1 qt.1 (omega arith) (omega arith) in
     rw (pt.0, qt.0) (omega arith)
-
-all_true : {X : Type 0} (xs : List X) → list_all (λ (x : X). true) xs ≡ true
-all_true [] = refl
-all_true (x ∷ xs) = all_true xs
 
 -- Entries in a range.
 

@@ -8,6 +8,7 @@ use Rattle.rv_reader.proofs.Rows.{applied_ascends}
 use Rattle.rv_value.specs.declared.record.Record.{Record}
 use Rattle.rv_value.specs.declared.record.IndexEntry.{IndexEntry}
 use Rattle.rv_value.specs.Entries.{entry_cmp}
+use Rattle.rv_value.proofs.Tests.{or_swapped}
 use Rattle.rv_rows.specs.declared.changes.Change.{Change}
 use Rattle.rv_rows.specs.Changes.{rows_with_changes}
 use Rattle.rv_rows.specs.Rows as rows_by_number
@@ -23,16 +24,10 @@ use Rattle.rv_overlay.proofs.Members.{laid_has, members_tell}
 use Rattle.rv_overlay.proofs.Placing.{equal_same, with_ascends}
 use Rattle.rv_overlay.proofs.Tabling.{row_applied}
 
-or_turn : (a b c : Bool) → (a || (b || c)) ≡ (b || (a || c))
-or_turn true true c = refl
-or_turn true false c = refl
-or_turn false true c = refl
-or_turn false false c = refl
-
 has_in : (x e : IndexEntry) (xs : List IndexEntry) → has (sorted_in x xs) e ≡ (is_eq (entry_cmp x e) || has xs e)
 has_in x e [] = refl
 has_in x e (y ∷ ys) = elim (cases_Bool (comes_before y x)) [
-  | inl t ↦ rw t (ap (λ b. is_eq (entry_cmp y e) || b) (has_in x e ys) ∙ or_turn (is_eq (entry_cmp y e)) (is_eq (entry_cmp x e)) (has ys e))
+  | inl t ↦ rw t (ap (λ b. is_eq (entry_cmp y e) || b) (has_in x e ys) ∙ or_swapped (is_eq (entry_cmp y e)) (is_eq (entry_cmp x e)) (has ys e))
   | inr f ↦ rw f refl
 ]
 

@@ -8,7 +8,7 @@ use Rattle.std.proofs.lemmas.Grind.{common_steps}
 use Rattle.std.proofs.lemmas.List.Folds.{find_at}
 use Rattle.std.proofs.lemmas.List.Quantifiers.{position-Some}
 use Rattle.std.proofs.lemmas.Option.{same_Some, slice_get_past}
-use Rattle.rv_value.proofs.Lists.{all_at}
+use Rattle.rv_value.proofs.Lists.{all_at, all_last}
 use Rattle.rv_rows.specs.declared.changes.Change.{Change}
 use Rattle.rv_rows.specs.Changes.{with_change, with_changes}
 use Rattle.rv_reader.specs.Shown.{Shown, CanRead}
@@ -19,10 +19,6 @@ use Rattle.rv_own.specs.declared.views.OwnView.{OwnView}
 use Rattle.rv_own.specs.Views.{AreOwn, CanKeep, IsFrozenOf, IsMadeOf, IsOwnOf, MayJoin, others, view_of}
 
 -- ---- lists
-
-pub all_behind : {X : Type 0} (P : X → Type 0) (xs : List X) (x : X) → AllByRecursion P xs → P x → AllByRecursion P (xs ++ x ∷ [])
-all_behind P [] x all here = (here, tt)
-all_behind P (y ∷ ys) x all here = (all.0, all_behind P ys x all.1 here)
 
 got_at : {X : Type 0} (xs : List X) (i : ℕ) (x : X) → slice_get xs i ≡ Some x → slice_index_or xs i x ≡ x
 got_at [] i x e = cc
@@ -137,4 +133,4 @@ joins P old new v (inr more) its = inr (v, more, its)
 
 pub all_joined : (P Q : OwnView → Type 0) (old new : List OwnView) → MayJoin P old new → AllByRecursion Q old → ((v : OwnView) → P v → Q v) → AllByRecursion Q new
 all_joined P Q old new (inl same) all its = subst (AllByRecursion Q) (sym same) all
-all_joined P Q old new (inr more) all its = subst (AllByRecursion Q) (sym more.1) (all_behind Q old more.0 all (its more.0 more.2))
+all_joined P Q old new (inr more) all its = subst (AllByRecursion Q) (sym more.1) (all_last Q old more.0 all (its more.0 more.2))

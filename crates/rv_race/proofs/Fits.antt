@@ -3,6 +3,7 @@ use Rattle.std.proofs.Common.{◌≡◌, ℕ, ◌<◌, List, [], ◌++◌, lengt
 use Rattle.std.proofs.lemmas.List.Sorted.{list_any-IsPermutation}
 use Rattle.std.proofs.Math.Bool.{or-false}
 use Rattle.rv_value.specs.declared.record.IndexEntry.{IndexEntry}
+use Rattle.rv_value.proofs.Tests.{some_at}
 use Rattle.rv_keys.specs.Keys.{has_key}
 use Rattle.rv_keylist.specs.Keys.{may_key}
 use Rattle.rv_keylist.proofs.Bits.{may_key-never_denies}
@@ -25,7 +26,7 @@ use Rattle.rv_final.proofs.LaneWork.{ahead_split}
 use Rattle.rv_race.specs.Raced.{Covers, PlansFit, RunnerFits, RunningFits}
 use Rattle.rv_race.specs.Rulings.{narrowed_by}
 use Rattle.rv_race.specs.Ways.{advanced, begun, followed, has_next, turned, turned_to}
-use Rattle.rv_race.proofs.Ways.{advanced_as, followed_as, some_at}
+use Rattle.rv_race.proofs.Ways.{advanced_as, followed_as}
 
 -- A scan that begins.
 

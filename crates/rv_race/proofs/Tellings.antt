@@ -9,6 +9,7 @@ use Rattle.std.specs.Cmp.{first_so}
 use Rattle.rv_judge.proofs.Rooms.{with_room}
 use Rattle.rv_jscan.proofs.Planned.{dropped_one, index_known}
 use Rattle.rv_value.specs.declared.record.IndexEntry.{IndexEntry}
+use Rattle.rv_value.proofs.Tests.{some_at}
 use Rattle.rv_judge.specs.declared.counting.Counts.{Counts}
 use Rattle.rv_judge.specs.declared.events.Control.{Control}
 use Rattle.rv_judge.specs.declared.events.Control.TheVariants.{Building, ForegroundAlone, BackgroundAlone, FinalList, FinalTable, Done}
@@ -45,7 +46,7 @@ use Rattle.rv_final.proofs.Endings.{IsFinal, final_done}
 use Rattle.rv_final.proofs.Givings.{given_holds}
 use Rattle.rv_race.proofs.Switches.{is_racing, over_as}
 use Rattle.rv_race.proofs.Traces.{OneTurn, chain_went, drop_last, final_of, final_turn, has_scans, last_off, list_last, listed_more, one_more, once_apart, once_front, once_swap, so_far, stop_last, told_length, told_more, turns_of, undropped}
-use Rattle.rv_race.proofs.Ways.{advanced_as, followed_as, some_at}
+use Rattle.rv_race.proofs.Ways.{advanced_as, followed_as}
 
 -- THE SCANS THAT ARE LEFT
 

@@ -1,8 +1,9 @@
 -- Who goes on where a scan is over.
-use Rattle.std.proofs.Common.{◌≡◌, ℕ, ◌+◌, ◌<◌, List, length, Bool, true, false, not, ◌&&◌, ◌||◌, Option, Some, None, is_some, IfSome, nat_lt, refl, ap, subst, arith}
+use Rattle.std.proofs.Common.{◌≡◌, ℕ, ◌+◌, ◌<◌, List, length, Bool, true, false, not, ◌&&◌, ◌||◌, Option, Some, None, is_some, nat_lt, refl, ap, arith}
 use Rattle.std.specs.Prelude.{if◌then◌else◌}
 use Rattle.std.proofs.lemmas.Bool.{ltb-true}
 use Rattle.std.specs.Cmp.{second_so}
+use Rattle.rv_value.proofs.Tests.{some_at}
 use Rattle.rv_keylist.specs.Listed.{Listed}
 use Rattle.rv_jscan.specs.declared.jscan.ScanPlan.{ScanPlan}
 use Rattle.rv_race.specs.declared.running.Runner.{Runner}
@@ -30,10 +31,6 @@ advanced_turn listed planned w other e = advanced_as (λ v. v.turn ≡ other) li
   where
     first : (followed w).turn ≡ other
     first = ap (λ (o : Option Runner). (followed_by o w).turn) e
-
-pub some_at : (P : Runner → Type 0) (o : Option Runner) (other : Runner) → o ≡ Some other → IfSome o P → P other
-some_at P None other e h = absurd (cc)
-some_at P (Some x) other e h = let same : x ≡ other = cc in subst P same h
 
 pub advanced_within : (plans : List ScanPlan) (list : Option Listed) (listed : Bool) (w : Running) → IsRace plans w list → has_next (length plans) w ≡ true → IsRace plans (advanced listed (length plans) w) list
 advanced_within plans list listed w i h = advanced_as (λ v. IsRace plans v list) listed (length plans) w alone (λ l. record {

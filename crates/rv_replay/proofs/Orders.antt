@@ -7,7 +7,7 @@ use Rattle.std.specs.List.{list_all, slice_index_or}
 use Rattle.std.specs.Ordering.{is_eq, is_lt, ordering_reverse}
 use Rattle.std.specs.declared.cmp.Ordering.{Ordering}
 use Rattle.std.specs.declared.cmp.Ordering.TheVariants.{Less, Equal, Greater}
-use Rattle.rv_value.proofs.Tests.{equal_is}
+use Rattle.rv_value.proofs.Tests.{equal_is, less_other}
 use Rattle.rv_value.specs.declared.value.Value.{Value}
 use Rattle.rv_value.specs.Order.{values_cmp}
 use Rattle.rv_rows.specs.Rising.{Rising}
@@ -15,11 +15,12 @@ use Rattle.rv_rows.proofs.Puts.{IsChain, rising_put}
 use Rattle.rv_blocks.specs.Flat.{Turns}
 use Rattle.rv_blocks.specs.Taking.{is_level}
 use Rattle.rv_blocks.proofs.Places.{chain_of}
-use Rattle.rv_blocks.proofs.Order.{all_at, put_new}
+use Rattle.rv_blocks.proofs.Order.{put_new}
 use Rattle.rv_model.specs.declared.state.Offer.{Offer}
 use Rattle.rv_model.specs.OfferOrder.{offer_cmp_total}
 use Rattle.rv_model.specs.Offers.{offer_cmp}
 use Rattle.rv_value.proofs.Same.{values_same}
+use Rattle.rv_value.proofs.Lists.{passes_at}
 use Rattle.rv_replay.specs.Judging.{fits}
 use Rattle.rv_replay.specs.Queues.{comes_before, fits_at, is_under}
 use Rattle.rv_replay.specs.declared.queues.Alike.{Alike}
@@ -39,14 +40,9 @@ sought first values = record { order = first.order; returned = values }
 pub fits_is : (first : Offer) (values : List Value) (o : Offer) → fits first values o ≡ is_eq (offer_cmp o (sought first values))
 fits_is first values o = tied_then (values_cmp o.order first.order) (values_cmp o.returned values)
 
-less_not : (r : Ordering) → is_lt r ≡ true → is_eq r ≡ false
-less_not Less e = refl
-less_not Equal e = cc
-less_not Greater e = cc
-
 -- what comes before an offer is not equal to it
 pub under_not : (first : Offer) (values : List Value) (o : Offer) → less o (sought first values) ≡ true → fits first values o ≡ false
-under_not first values o h = fits_is first values o ∙ less_not (offer_cmp o (sought first values)) h
+under_not first values o h = fits_is first values o ∙ less_other (offer_cmp o (sought first values)) h
 
 -- nor is what comes behind an offer that does not come before it
 pub over_not : (first : Offer) (values : List Value) (x o : Offer) → less x (sought first values) ≡ false → less x o ≡ true → fits first values o ≡ false
@@ -97,7 +93,7 @@ first_under o a gs (suc m) rising t =
     let within = t.within in
     let one : suc (suc m) - 1 ≡ suc m = omega arith in
     let last : less (slice_index_or gs m a).offer o ≡ true = rw one at t.before a (omega arith) in
-    let behind : less a.offer (slice_index_or gs m a).offer ≡ true = all_at (comes_before a) gs m a (omega arith) rising.0 in
+    let behind : less a.offer (slice_index_or gs m a).offer ≡ true = passes_at (comes_before a) gs m a (omega arith) rising.0 in
     chain.follows a.offer (slice_index_or gs m a).offer o behind last
 
 -- What a search by an offer finds in a rising list: those before the place come before the offer, those in it do not,

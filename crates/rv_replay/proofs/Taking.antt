@@ -1,10 +1,11 @@
 -- An offer that is taken out of a queue.
-use Rattle.std.proofs.Common.{◌≡◌, ℕ, zero, suc, ◌+◌, ◌-◌, ◌<◌, ◌≤◌, List, [], ◌∷◌, ◌++◌, refl, ap, sym, ◌∙◌, subst, inl, inr, arith, Bool, true, false, ◌&&◌, ◌==◌, Option, Some, None, All, IsSome, is_some, length, length-set, nat_lt, option_map, replicate, slice_get, slice_set}
-use Rattle.std.proofs.lemmas.Bool.{cases_lt, and_parts}
+use Rattle.std.proofs.Common.{◌≡◌, ℕ, zero, suc, ◌+◌, ◌-◌, ◌<◌, ◌≤◌, List, [], ◌∷◌, ◌++◌, refl, ap, sym, ◌∙◌, subst, inl, inr, arith, true, false, ◌&&◌, ◌==◌, Option, Some, None, All, IsSome, is_some, length, length-set, nat_lt, option_map, replicate, slice_get, slice_set}
+use Rattle.std.proofs.lemmas.Bool.{cases_lt, and_parts, lt-ltb}
 use Rattle.std.proofs.lemmas.Bool.Decides.{nat_tests}
 use Rattle.std.proofs.lemmas.List.Elements.{All-append, All-nil, All-replicate}
 use Rattle.std.specs.List.{list_all, slice_index_or}
 use Rattle.rv_value.specs.declared.value.Value.{Value}
+use Rattle.rv_value.proofs.Tests.{other_false}
 use Rattle.rv_rows.specs.Rising.{Rising}
 use Rattle.rv_blocks.specs.Flat.{Turns}
 use Rattle.rv_model.specs.declared.state.Offer.{Offer}
@@ -17,18 +18,11 @@ use Rattle.rv_replay.proofs.Places.{Takes, place_is, position_none, takes_one, t
 
 -- ---- numbers
 
-some_there : (n : ℕ) → nat_lt 0 (suc n) ≡ true
-some_there n = grind (arith, nat_tests)
-
 is_some_left : (n : ℕ) → nat_lt 0 n ≡ true → 0 < n
 is_some_left n h = grind (arith, nat_tests)
 
 is_none_left : (n : ℕ) → nat_lt 0 n ≡ false → n ≡ 0
 is_none_left n h = grind (arith, nat_tests)
-
-second_false : (b c : Bool) → b ≡ true → (b && c) ≡ false → c ≡ false
-second_false true c e h = h
-second_false false c e h = cc
 
 -- ---- one that may be given
 
@@ -69,7 +63,7 @@ takes_out gs first values at rising begins turns may =
 
 those_fail : (first : Offer) (values : List Value) (n : ℕ) (o : Offer) → (nat_lt 0 n && fits first values o) ≡ false → All (λ (p : Offer). fits first values p ≡ false) (replicate n o)
 those_fail first values zero o fail = All-nil (λ (p : Offer). fits first values p ≡ false)
-those_fail first values (suc n) o fail = All-replicate (λ (p : Offer). fits first values p ≡ false) (suc n) o (second_false (nat_lt 0 (suc n)) (fits first values o) (some_there n) fail)
+those_fail first values (suc n) o fail = All-replicate (λ (p : Offer). fits first values p ≡ false) (suc n) o (other_false (nat_lt 0 (suc n)) (fits first values o) (lt-ltb 0 (suc n) (omega arith)) fail)
 
 behind_fail : (first : Offer) (values : List Value) (a : Alike) (gs : List Alike) → less a.offer (sought first values) ≡ false → list_all (comes_before a) gs ≡ true → All (λ (p : Offer). fits first values p ≡ false) (all_of gs)
 behind_fail first values a [] low all = All-nil (λ (p : Offer). fits first values p ≡ false)

@@ -6,9 +6,9 @@ use Rattle.std.proofs.lemmas.Bool.Decides.{nat_tests}
 use Rattle.std.proofs.lemmas.List.Quantifiers.{position-Some}
 use Rattle.std.proofs.lemmas.List.{length-map}
 use Rattle.std.proofs.lemmas.List.Sorted.{All-permutation, length_permutation}
-use Rattle.std.specs.List.{All, AllByRecursion, list_any, starts_with, position, position_or_len}
+use Rattle.std.specs.List.{AllByRecursion, list_any, starts_with, position, position_or_len}
 use Rattle.rv_value.proofs.Tests.{no_way}
-use Rattle.rv_value.proofs.Lists.{all_at, all_filter, filter_length}
+use Rattle.rv_value.proofs.Lists.{all_at, all_filter, filter_length, from_all, to_all}
 use Rattle.rv_value.specs.declared.record.IndexEntry.{IndexEntry}
 use Rattle.rv_value.specs.declared.range.Range.{Range}
 use Rattle.rv_value.specs.Ranges.{in_side}
@@ -64,13 +64,6 @@ plan_makes query shown plan p = record {
 plans_made : (query : Query) (shown : Shown) (cs : List Candidate) → AllByRecursion (IsCandidate query shown) cs → AllByRecursion (IsPlanned query shown) (map (plan_of query.only) cs)
 plans_made query shown [] all = tt
 plans_made query shown (c ∷ cs) all = (record { columns = c.columns; index = all.0.index_of; range = all.0.its_range; part = refl }, plans_made query shown cs all.1)
-
-pub to_all : {X : Type 0} (P : X → Type 0) (xs : List X) → AllByRecursion P xs → All P xs
-to_all P xs all k d l = all_at P xs k d all l
-
-pub from_all : {X : Type 0} (P : X → Type 0) (xs : List X) → All P xs → AllByRecursion P xs
-from_all P [] all = tt
-from_all P (x ∷ xs) all = (all zero x (omega arith), from_all P xs (λ k d l. all (suc k) d (omega arith)))
 
 pub are_planned : (query : Query) (shown : Shown) (cs : List Candidate) (choice : Choice) (scans : List ScanPlan) → AllByRecursion (IsCandidate query shown) cs → AreScans query.only cs choice.background scans → AllByRecursion (IsPlanned query shown) scans
 are_planned query shown cs choice scans all s = from_all (IsPlanned query shown) scans (All-permutation (IsPlanned query shown) (map (plan_of query.only) (filter (is_scanned choice.background) cs)) scans s.these (to_all (IsPlanned query shown) (map (plan_of query.only) (filter (is_scanned choice.background) cs)) (plans_made query shown (filter (is_scanned choice.background) cs) (all_filter (IsCandidate query shown) (is_scanned choice.background) cs all))))

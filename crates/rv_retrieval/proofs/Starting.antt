@@ -8,6 +8,7 @@ use Rattle.std.proofs.lemmas.Bool.Decides.{nat_tests}
 use Rattle.std.proofs.lemmas.List.{length-map}
 use Rattle.std.proofs.lemmas.List.Sorted.{All-permutation, IsPermutation-map, length_permutation}
 use Rattle.rv_value.proofs.Tests.{no_way}
+use Rattle.rv_value.proofs.Lists.{from_all, to_all}
 use Rattle.rv_keys.specs.Keys.{Once, has_key}
 use Rattle.rv_keys.proofs.Onces.{Once-IsPermutation, Once-cons, Once-head, Once-tail}
 use Rattle.rv_judge.specs.declared.counting.Counts.{Counts}
@@ -43,7 +44,7 @@ use Rattle.rv_retrieval.specs.Runs.{Tells, TellsOf, events_left, indexes_asked, 
 use Rattle.rv_retrieval.specs.Shape.{Shape, is_background, is_building}
 use Rattle.rv_retrieval.specs.Telling.{events_for, index_of}
 use Rattle.rv_judge.specs.Tracing.{counted, new_trace, with_events}
-use Rattle.rv_retrieval.proofs.Chosen.{filter_some, from_all, one_found, to_all}
+use Rattle.rv_retrieval.proofs.Chosen.{filter_some, one_found}
 use Rattle.rv_retrieval.proofs.Tellings.{counted_tells, runs_tells}
 
 -- The indexes planned are each planned once.

@@ -13,6 +13,7 @@ use Rattle.rv_value.specs.declared.value.Value.{Value}
 use Rattle.rv_value.specs.declared.record.Record.{Record}
 use Rattle.rv_value.specs.declared.record.IndexEntry.{IndexEntry}
 use Rattle.rv_value.specs.Entries.{entry_cmp}
+use Rattle.rv_value.proofs.Tests.{or_swapped}
 use Rattle.rv_rows.specs.declared.changes.Change.{Change}
 use Rattle.rv_rows.specs.Changes.{Rise, has_change, is_before, is_of}
 use Rattle.rv_rows.specs.Merging.{values_row}
@@ -132,12 +133,6 @@ entries_next columns table k c new entries next rise of is before put =
     put ∙ ap (with_some (entry_at columns (changed_row (Some c) None))) before ∙ one_more columns c c.values (given (take k new)) ascends ∙ ap (entries_of columns) (sym more)
 
 -- the rows that a statement changes, told by a list with the same rows
-
-or_swapped : (a b x : Bool) → (a || (b || x)) ≡ (b || (a || x))
-or_swapped true true x = refl
-or_swapped true false x = refl
-or_swapped false true x = refl
-or_swapped false false x = refl
 
 has_last : (table row : ℕ) (c : Change) (cs : List Change) → (is_of table row c || has_change table row cs) ≡ has_change table row (cs ++ c ∷ [])
 has_last table row c [] = refl

@@ -5,17 +5,15 @@ use Rattle.std.proofs.lemmas.Bool.{cases_Bool, and_parts}
 use Rattle.std.proofs.lemmas.Bool.Decides.{nat_tests}
 use Rattle.std.proofs.lemmas.List.Elements.{filter-append}
 use Rattle.std.specs.List.{list_all, list_any}
-use Rattle.std.specs.Ordering.{is_eq}
-use Rattle.std.specs.Cmp.{tied_itself}
 use Rattle.rv_value.specs.declared.value.Value.{Value}
 use Rattle.rv_value.specs.declared.record.Record.{Record}
 use Rattle.rv_value.specs.declared.record.IndexEntry.{IndexEntry}
 use Rattle.rv_value.specs.declared.range.Range.{Range}
-use Rattle.rv_value.specs.Orders.{values_cmp_total}
 use Rattle.std.specs.Option.{option_map}
 use Rattle.std.proofs.lemmas.List.{length-map}
 use Rattle.rv_value.proofs.Lists.{passes_take}
 use Rattle.rv_value.specs.declared.record.RowNo.{RowNo}
+use Rattle.rv_value.proofs.Same.{equal_values, values_turned}
 use Rattle.rv_catalog.specs.declared.def.IndexDef.{IndexDef}
 use Rattle.rv_rows.specs.Rising.{put_in}
 use Rattle.rv_rows.specs.Rows.{Ascend, comes_below}
@@ -27,31 +25,16 @@ use Rattle.rv_rivals.specs.Lookups.{is_whole}
 use Rattle.rv_rivals.specs.Points.{has_entry, point}
 use Rattle.rv_rivals.proofs.Entries.{put_more}
 use Rattle.rv_rivals.proofs.Finding.{find_same}
-use Rattle.rv_rivals.proofs.Points.{point_runs, values_same}
+use Rattle.rv_rivals.proofs.Points.{point_runs}
 
 -- Equal keys.
-
-keys_same : (xs ys : List Value) → same_values xs ys ≡ true → xs ≡ ys
-keys_same xs ys h = values_same xs ys h
-
-key_itself : (xs : List Value) → same_values xs xs ≡ true
-key_itself xs = ap is_eq (tied_itself values_cmp_total xs)
-
-same_turned : (xs ys : List Value) → same_values xs ys ≡ same_values ys xs
-same_turned xs ys = elim (cases_Bool (same_values xs ys)) [
-  | inl t ↦ (let is = keys_same xs ys t in t ∙ sym (ap (λ zs. same_values ys zs) is ∙ key_itself ys))
-  | inr f ↦ elim (cases_Bool (same_values ys xs)) [
-    | inl t ↦ (let is = keys_same ys xs t in let no : false ≡ true = sym f ∙ ap (λ zs. same_values xs zs) is ∙ key_itself xs in cc)
-    | inr g ↦ f ∙ sym g
-  ]
-]
 
 -- A row with NULL in its key equals none.
 
 null_apart : (columns : List ℕ) (s r : Record) → list_any is_null (key_of columns r.values) ≡ true → are_equal columns s r ≡ false
 null_apart columns s r null = elim (cases_Bool (same_values (key_of columns r.values) (key_of columns s.values))) [
   | inl t ↦
-      let is = keys_same (key_of columns r.values) (key_of columns s.values) t in
+      let is = equal_values (key_of columns r.values) (key_of columns s.values) t in
       let null_too : list_any is_null (key_of columns s.values) ≡ true = ap (list_any is_null) (sym is) ∙ null in
       rw null_too refl
   | inr f ↦ rw f (and_false (not (list_any is_null (key_of columns s.values))))
@@ -71,7 +54,7 @@ equal_any : (columns : List ℕ) (r : Record) (rows : List Record) → list_any 
 equal_any columns r [] = refl
 equal_any columns r (s ∷ rows) =
     let rest = equal_any columns r rows in
-    let turned = same_turned (key_of columns r.values) (key_of columns s.values) in
+    let turned = values_turned (key_of columns r.values) (key_of columns s.values) in
     elim (cases_Bool (list_any is_null (key_of columns s.values))) [
       | inl t ↦ rw t rest
       | inr f ↦ rw f (λ i. turned i || rest i)

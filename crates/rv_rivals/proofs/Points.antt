@@ -3,13 +3,13 @@ use Rattle.std.proofs.Common.{◌≡◌, ℕ, List, [], ◌∷◌, Bool, true, f
 use Rattle.std.proofs.lemmas.Bool.{cases_Bool, and_parts}
 use Rattle.std.proofs.lemmas.Bool.Decides.{nat_tests}
 use Rattle.std.specs.List.{list_all}
-use Rattle.std.specs.Ordering.{is_eq, is_lt, nat_cmp, ordering_then}
+use Rattle.std.specs.Ordering.{is_eq, is_lt, nat_cmp}
 use Rattle.std.specs.declared.cmp.Ordering.{Ordering}
 use Rattle.std.specs.declared.cmp.Ordering.TheVariants.{Less, Equal, Greater}
 use Rattle.rv_value.specs.declared.value.Value.{Value}
 use Rattle.rv_value.specs.declared.record.Record.{Record}
 use Rattle.rv_value.specs.declared.record.IndexEntry.{IndexEntry}
-use Rattle.rv_value.specs.Order.{prefix_cmp, value_cmp, values_cmp}
+use Rattle.rv_value.specs.Order.{prefix_cmp, values_cmp}
 use Rattle.rv_value.specs.Ranges.{falls_under, goes_over, in_side, place}
 use Rattle.rv_rows.specs.Rows as rows_by_number
 use Rattle.rv_rows.specs.Rows.{comes_below}
@@ -17,11 +17,9 @@ use Rattle.rv_reader.specs.Entries.{column_of, comes_before, entries_of, entry_o
 use Rattle.rv_reader.proofs.Filters.{all_filter}
 use Rattle.rv_reader.proofs.Orders.{order, one_way}
 use Rattle.std.proofs.lemmas.List.{length-map}
-use Rattle.rv_value.proofs.Same.{values_itself}
-use Rattle.rv_value.proofs.Tests.{equal_is}
+use Rattle.rv_value.proofs.Same.{values_itself, equal_values, prefix_whole}
 use Rattle.rv_value.specs.declared.range.Side.TheVariants.{Before, In, After}
 use Rattle.rv_reader.proofs.Sorting.{entries_ascend}
-use Rattle.rv_overlay.proofs.Placing.{equal_same}
 use Rattle.rv_model.specs.Rivals.{has_key}
 use Rattle.rv_rivals.specs.Points.{point}
 
@@ -30,12 +28,6 @@ abbrev key_in : List ℕ → Record → List Value
 key_in columns r = map (column_of r.values) columns
 
 -- A key is in the range exactly where it is equal to that of the bounds.
-
-same_length : (xs ys : List Value) → length xs ≡ length ys → prefix_cmp xs ys ≡ values_cmp xs ys
-same_length [] [] e = refl
-same_length [] (y ∷ ys) e = absurd (omega (arith, e))
-same_length (x ∷ xs) [] e = absurd (omega (arith, e))
-same_length (x ∷ xs) (y ∷ ys) e = ap (ordering_then (value_cmp x y)) (same_length xs ys (omega (arith, e)))
 
 point_in : (key other : List Value) → in_side (place (point key) other) ≡ is_eq (prefix_cmp other key)
 point_in key other = by (prefix_cmp other key)
@@ -46,7 +38,7 @@ point_in key other = by (prefix_cmp other key)
     by Greater = refl
 
 entry_in : (columns : List ℕ) (key : List Value) (r : Record) → length key ≡ length columns → is_in (point key) (entry_of columns r) ≡ has_key columns key r
-entry_in columns key r e = point_in key (key_in columns r) ∙ ap is_eq (same_length (key_in columns r) key (length-map columns (column_of r.values) ∙ sym e))
+entry_in columns key r e = point_in key (key_in columns r) ∙ ap is_eq (prefix_whole (key_in columns r) key (length-map columns (column_of r.values) ∙ sym e))
 
 -- A filter of a sorted list.
 
@@ -82,16 +74,10 @@ filter_in p e (x ∷ xs) ascend = elim (cases_Bool (comes_before x e)) [
 
 -- Entries of one key come in the order of their rows.
 
-pub values_same : (xs ys : List Value) → is_eq (values_cmp xs ys) ≡ true → xs ≡ ys
-values_same xs ys h =
-    let one : IndexEntry = record { key = xs; row = record { 0 = 0 } } in
-    let other : IndexEntry = record { key = ys; row = record { 0 = 0 } } in
-    ap (λ (e : IndexEntry). e.key) (equal_same one other (ap (λ o. is_eq (ordering_then o (nat_cmp 0 0))) (equal_is (values_cmp xs ys) h)))
-
 later_not : (columns : List ℕ) (key : List Value) (r s : Record) → has_key columns key r ≡ true → has_key columns key s ≡ true → comes_below r s ≡ true → comes_before (entry_of columns s) (entry_of columns r) ≡ false
 later_not columns key r s hr hs below =
-    let kr : key_in columns r ≡ key = values_same (key_in columns r) key hr in
-    let ks : key_in columns s ≡ key = values_same (key_in columns s) key hs in
+    let kr : key_in columns r ≡ key = equal_values (key_in columns r) key hr in
+    let ks : key_in columns s ≡ key = equal_values (key_in columns s) key hs in
     let same : values_cmp (key_in columns s) (key_in columns r) ≡ Equal = ap (λ k. values_cmp k (key_in columns r)) (ks ∙ sym kr) ∙ values_itself (key_in columns r) in
     rw same (number_not r.row.0 s.row.0 below)
   where

@@ -9,7 +9,7 @@ use Rattle.std.proofs.lemmas.Bool.Decides.{nat_tests}
 use Rattle.std.proofs.lemmas.List.{map-append, take-append-drop, take_more}
 use Rattle.std.proofs.lemmas.List.Elements.{filter_agree}
 use Rattle.rv_value.specs.declared.value.Value.{Value}
-use Rattle.rv_value.proofs.Lists.{passes_take}
+use Rattle.rv_value.proofs.Lists.{passes_take, all_true, passes_at}
 use Rattle.rv_rows.specs.declared.changes.Change.{Change}
 use Rattle.rv_rows.specs.declared.changes.RowKey.{RowKey}
 use Rattle.rv_rows.specs.declared.changes.Undo.{Undo}
@@ -29,10 +29,6 @@ from_row table row = filter (λ (c : Change). not (comes_before table row c))
 
 before_goes : (table row : ℕ) (x y : Change) → is_before x y ≡ true → comes_before table row y ≡ true → comes_before table row x ≡ true
 before_goes table row x y h k = grind (arith, nat_tests)
-
-all_true : (cs : List Change) → list_all (λ (c : Change). true) cs ≡ true
-all_true [] = refl
-all_true (c ∷ cs) = all_true cs
 
 pub changes_partitioned : (table row : ℕ) (cs : List Change) → Rise cs → IsPartitionedBy (comes_before table row) cs
 changes_partitioned table row cs rise = partitioned is_before (λ (c : Change). true) (comes_before table row) (λ x y h a b. before_goes table row x y h) cs rise (all_true cs)
@@ -249,11 +245,6 @@ rise_take zero [] rise = tt
 rise_take zero (c ∷ cs) rise = tt
 rise_take (suc i) [] rise = tt
 rise_take (suc i) (c ∷ cs) rise = (passes_take (is_before c) i cs rise.0, rise_take i cs rise.1)
-
-passes_at : (p : Change → Bool) (cs : List Change) (i : ℕ) (d : Change) → i < length cs → list_all p cs ≡ true → p (slice_index_or cs i d) ≡ true
-passes_at p [] i d within all = absurd (omega arith)
-passes_at p (c ∷ cs) zero d within all = (and_parts (p c) (list_all p cs) all).0
-passes_at p (c ∷ cs) (suc i) d within all = passes_at p cs i d (omega arith) (and_parts (p c) (list_all p cs) all).1
 
 all_ahead : (cs : List Change) (i : ℕ) (d : Change) → Rise cs → i < length cs → list_all (λ (c : Change). is_before c (slice_index_or cs i d)) (take i cs) ≡ true
 all_ahead [] i d rise within = absurd (omega arith)

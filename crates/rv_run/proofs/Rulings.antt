@@ -3,7 +3,7 @@ use Rattle.std.proofs.Common.{◌≡◌, ◌∙◌, ◌+◌, ◌<◌, ◌++◌, 
 use Rattle.std.specs.List.{slice_index_or}
 use Rattle.std.proofs.lemmas.List.{map-append, reverse-append}
 use Rattle.std.proofs.Math.Seq.{drop-cons, take-append_seam}
-use Rattle.rv_value.proofs.Places.{put_back}
+use Rattle.rv_value.proofs.Places.{put_back, get_set}
 use Rattle.rv_judge.specs.declared.judging.Facts.{Facts}
 use Rattle.rv_judge.specs.Verdicts.{Ruling}
 use Rattle.rv_value.specs.declared.duplicate.NoMemory.{NoMemory}
@@ -23,11 +23,6 @@ use Rattle.rv_run.specs.Script.{Call, call, calls_from, calls_in, calls_made}
 use Rattle.rv_run.proofs.CallLists.{calls_in-append}
 
 -- places
-
-pub get_set : {X : Type 0} (xs : List X) (i : ℕ) (x y : X) → slice_get xs i ≡ Some x → slice_get (slice_set xs i y) i ≡ Some y
-get_set [] i x y h = absurd (cc)
-get_set (z ∷ zs) zero x y h = refl
-get_set (z ∷ zs) (suc i) x y h = get_set zs i x y h
 
 pub set_set : {X : Type 0} (xs : List X) (i : ℕ) (x y : X) → slice_set (slice_set xs i x) i y ≡ slice_set xs i y
 set_set [] i x y = refl

@@ -1,5 +1,5 @@
 -- What the steps of a search leave: one step after another, and the end.
-use Rattle.std.proofs.Common.{◌≡◌, ℕ, ◌+◌, ◌≤◌, List, [], ◌∷◌, ◌++◌, refl, ap, sym, subst, ◌∙◌, arith, Result, Ok, Err, OnOk}
+use Rattle.std.proofs.Common.{◌≡◌, ℕ, ◌+◌, ◌≤◌, List, [], ◌∷◌, ◌++◌, refl, ap, sym, subst, ◌∙◌, arith}
 use Rattle.std.specs.Prelude.{IsPermutation}
 use Rattle.std.proofs.lemmas.List.{append-nil, map-append}
 use Rattle.std.proofs.lemmas.List.Sorted.{IsPermutation-append_right, IsPermutation-middle, IsPermutation-refl, IsPermutation-trans}
@@ -117,10 +117,6 @@ pub records_from : (c d e left : ℕ) → d ≡ c → e ≤ d + left → left �
 records_from c d e left same most few = omega (arith, same, most, few)
 
 -- What is known of a search that ended, and what is known however it went.
-
-pub ok_anyway : {A E : Type 0} (r : Result A E) (P : Type 0) → P → OnOk r P
-ok_anyway (Ok a) P h = h
-ok_anyway (Err e) P h = tt
 
 -- The fetch of what was found.
 

@@ -1,5 +1,5 @@
 -- Places put at the end of a list.
-use Rattle.std.proofs.Common.{rules, ◌≡◌, ℕ, zero, suc, ◌+◌, ◌<◌, ◌≤◌, List, [], ◌∷◌, ◌++◌, refl, ap, sym, ◌∙◌, inl, inr, arith, subst, length, slice_set, append_assoc, append-nil, length-append}
+use Rattle.std.proofs.Common.{rules, ◌≡◌, ℕ, ◌+◌, ◌<◌, ◌≤◌, List, [], ◌∷◌, ◌++◌, ap, sym, ◌∙◌, inl, inr, arith, subst, length, slice_set, append_assoc, append-nil, length-append}
 use Rattle.std.proofs.lemmas.Bool.{cases_eq, cases_lt}
 use Rattle.std.proofs.lemmas.List.{get_or_past, get_or-set_other, get_or-set_same}
 use Rattle.std.proofs.lemmas.List.Elements.{Contains-append_left, Contains-append_right}
@@ -62,12 +62,6 @@ abbrev pub node_count : Index → ℕ
 node_count i = length i.tree
 
 -- Counts of what is listed.
-
-pub zero_more : (counts : List ℕ) (at : ℕ) → slice_index_or (counts ++ 0 ∷ []) at 0 ≡ slice_index_or counts at 0
-zero_more [] zero = refl
-zero_more [] (suc at) = refl
-zero_more (c ∷ counts) zero = refl
-zero_more (c ∷ counts) (suc at) = zero_more counts at
 
 pub listed_none : (place : ℕ → ℕ → Place) (count : ℕ → ℕ) (counts : List ℕ) → AreListed place count counts counts
 listed_none place count counts places all had = had

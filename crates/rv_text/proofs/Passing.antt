@@ -10,6 +10,7 @@ use Rattle.rv_text.specs.declared.traces.Tail.{Tail}
 use Rattle.rv_text.specs.Lines.{cut, extended}
 use denote.Ref.{Bor}
 use Rattle.std.specs.Option.{option_copied}
+use Rattle.rv_value.proofs.Lists.{front_taken}
 use Rattle.rv_text.specs.Traces.{counts_at, events_before, shown_of, stepped, step_at, strategy_at, told, trace_at, trace_told, words, words_of, Awaited, Event, Step}
 use Rattle.rv_text.specs.Values.{all_values, before, more_values, pieces_of, spaced_value, unquoted, values_at, value_at, value_before, value_cut}
 use Rattle.rv_text.proofs.Cutting.{extended_twice, pieces_cut, words_cut}
@@ -79,15 +80,11 @@ pub passed_rest : (text : List ℕ) (at : ℕ) (inside next : Bool) (rest : List
 passed_rest text at inside next [] some goes is p = absurd (omega (arith, some))
 passed_rest text at inside next (c ∷ more) some goes is p = subst (Passed text (at + 1) next) (sym (take_rest (c ∷ more) 1)) (rw is (passed_one text at inside c more goes p))
 
-front_is : (front rest text : List ℕ) (at : ℕ) → front ++ rest ≡ text → length front ≡ at → take at text ≡ front
-front_is [] rest text at whole count = rw (sym count) refl
-front_is (c ∷ cs) rest text at whole count = rw (sym count, sym whole) (ap (λ bs. c ∷ bs) (front_is cs rest (cs ++ rest) (length cs) refl refl))
-
 pub passed_found : (text : List ℕ) (at c : ℕ) (more : List ℕ) → c ≡ 44 → Passed text at false (c ∷ more) → value_cut false text ≡ record { word = take at text; more = Some more }
 passed_found text at c more comma p =
     p.is ∙ (λ i. extended p.front (value_cut false (comma i ∷ more)))
     ∙ (λ i. record { word = append-nil p.front i; more = Some more })
-    ∙ (λ i. record { word = sym (front_is p.front (c ∷ more) text at p.whole p.count) i; more = Some more })
+    ∙ (λ i. record { word = sym (front_taken p.front (c ∷ more) text at p.whole p.count) i; more = Some more })
 
 pub passed_all : (text : List ℕ) (at : ℕ) (inside : Bool) → Passed text at inside [] → value_cut false text ≡ record { word = text; more = None }
 passed_all text at inside p = p.is ∙ (λ i. record { word = p.whole i; more = None })

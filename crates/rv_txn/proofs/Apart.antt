@@ -1,10 +1,9 @@
 -- Transactions of different sessions, where one changes rows, begins or ends; each stands in the place of its session.
-use Rattle.std.proofs.Common.{◌≡◌, ℕ, zero, suc, ◌<◌, ◌≤◌, List, [], ◌∷◌, ◌++◌, Bool, true, false, not, ◌||◌, ◌==◌, Some, None, is_some, inl, inr, refl, ap, sym, ◌∙◌, arith, length, find, nat_lt, remove}
-use Rattle.std.specs.Prelude.{position, slice_get, slice_set}
+use Rattle.std.proofs.Common.{◌≡◌, ℕ, zero, suc, ◌<◌, List, [], ◌∷◌, ◌++◌, Bool, true, false, not, ◌||◌, ◌==◌, Some, None, is_some, inl, inr, refl, ap, sym, ◌∙◌, arith, length, find, nat_lt, remove}
+use Rattle.std.specs.Prelude.{slice_get, slice_set}
 use Rattle.std.specs.List.{list_any, position_or_len}
 use Rattle.std.proofs.lemmas.Bool.{cases_Bool, and_parts, not-true}
 use Rattle.std.proofs.lemmas.Bool.Decides.{nat_tests}
-use Rattle.std.proofs.lemmas.Grind.{common_steps}
 use Rattle.std.proofs.lemmas.List.Sums.{position_or_len_is}
 use Rattle.rv_catalog.proofs.Known.{none_any}
 use Rattle.rv_rows.specs.declared.changes.Change.{Change}
@@ -33,9 +32,6 @@ apart_at active own t changes e apart =
     ap (λ (u : Transaction). are_apart (slice_set active own (record u { changes = changes }))) (sym (read_as active own t no_transaction e)) ∙ apart_with active own changes apart
 
 -- A transaction of a session that has none.
-
-place_behind : {X : Type 0} (p : X → Bool) (xs : List X) → position p xs ≡ None → length xs ≤ position_or_len p xs
-place_behind p xs e = grind (arith, common_steps)
 
 some_any : {X : Type 0} (p : X → Bool) (xs : List X) → list_any p xs ≡ is_some (find p xs)
 some_any p [] = refl

@@ -1,14 +1,15 @@
--- Values and their lists that compare as equal are the same, and each compares as equal to itself.
-use Rattle.std.proofs.Common.{◌≡◌, ℕ, ℤ, List, [], ◌∷◌, refl, ap}
-use Rattle.std.specs.Ordering.{int_cmp, nat_cmp, ordering_then}
+-- Values and their lists that compare as equal are the same, and each compares as equal to itself; an equality by a test, and fronts.
+use Rattle.std.proofs.Common.{◌≡◌, ℕ, ℤ, List, [], ◌∷◌, true, refl, ap, ◌∙◌, arith, length}
+use Rattle.std.specs.Ordering.{int_cmp, is_eq, nat_cmp, ordering_reverse, ordering_then}
 use Rattle.std.specs.Cmp.{ranks, int_ranks, tied_itself}
 use Rattle.std.specs.Cmp.Lexicographic.{slice_cmp}
 use Rattle.std.specs.declared.cmp.Ordering.{Ordering}
 use Rattle.std.specs.declared.cmp.Ordering.TheVariants.{Less, Equal, Greater}
 use Rattle.rv_value.specs.declared.value.Value.{Value}
 use Rattle.rv_value.specs.declared.value.Value.TheVariants.{Null, Int, Str}
-use Rattle.rv_value.specs.Order.{value_cmp, values_cmp}
+use Rattle.rv_value.specs.Order.{prefix_cmp, value_cmp, values_cmp}
 use Rattle.rv_value.specs.Orders.{value_cmp_total, values_cmp_total}
+use Rattle.rv_value.proofs.Tests.{equal_is}
 
 pub both_equal : (a b : Ordering) → ordering_then a b ≡ Equal → (a ≡ Equal) × (b ≡ Equal)
 both_equal Less b e = cc
@@ -45,6 +46,25 @@ value_same (Str s) (Str t) e = ap (λ (u : List ℕ). Str u) (lists_same nat_cmp
 
 pub values_same : (vs ws : List Value) → values_cmp vs ws ≡ Equal → vs ≡ ws
 values_same = lists_same value_cmp value_same
+
+-- the same, where equality is a test
+pub equal_values : (vs ws : List Value) → is_eq (values_cmp vs ws) ≡ true → vs ≡ ws
+equal_values vs ws h = values_same vs ws (equal_is (values_cmp vs ws) h)
+
+pub values_turned : (vs ws : List Value) → is_eq (values_cmp vs ws) ≡ is_eq (values_cmp ws vs)
+values_turned vs ws = ap is_eq (values_cmp_total.antisymm vs ws) ∙ turned (values_cmp ws vs)
+  where
+    turned : (o : Ordering) → is_eq (ordering_reverse o) ≡ is_eq o
+    turned Less = refl
+    turned Equal = refl
+    turned Greater = refl
+
+-- lists of one length compare as whole ones do
+pub prefix_whole : (vs ws : List Value) → length vs ≡ length ws → prefix_cmp vs ws ≡ values_cmp vs ws
+prefix_whole [] [] long = refl
+prefix_whole [] (w ∷ ws) long = absurd (omega (arith, long))
+prefix_whole (v ∷ vs) [] long = absurd (omega (arith, long))
+prefix_whole (v ∷ vs) (w ∷ ws) long = ap (ordering_then (value_cmp v w)) (prefix_whole vs ws (omega (arith, long)))
 
 pub value_itself : (v : Value) → value_cmp v v ≡ Equal
 value_itself v = tied_itself value_cmp_total v

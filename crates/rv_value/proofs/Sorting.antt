@@ -8,6 +8,7 @@ use Rattle.std.specs.Ordering.{is_lt, is_eq, ordering_reverse}
 use Rattle.std.specs.Cmp.{IsTotalOrder, tied_itself}
 use Rattle.std.specs.declared.cmp.Ordering.{Ordering}
 use Rattle.std.specs.declared.cmp.Ordering.TheVariants.{Less, Equal, Greater}
+use Rattle.rv_value.proofs.Tests.{less_other}
 
 -- an order, an insertion before the first item that is not less, and a sort by insertions
 pub record IsSort {X : Type 0} (cmp : X → X → Ordering) (put : X → List X → List X) (sorted : List X → List X) : Type 0 where
@@ -36,11 +37,6 @@ is_less : (o : Ordering) → is_lt o ≡ true → o ≡ Less
 is_less Less e = refl
 is_less Equal e = cc
 is_less Greater e = cc
-
-before_other : (r : Ordering) → is_lt r ≡ true → is_eq r ≡ false
-before_other Less e = refl
-before_other Equal e = cc
-before_other Greater e = cc
 
 at_same : {X : Type 0} (xs : List X) (i : ℕ) (y d : X) → i < length xs → slice_index_or (slice_set xs i y) i d ≡ y
 at_same [] i y d h = absurd (omega arith)
@@ -123,7 +119,7 @@ module _ {X : Type 0} {cmp : X → X → Ordering} {put : X → List X → List 
   taken_in : (o : X) (xs : List X) → taken cmp o (put o xs) ≡ xs
   taken_in o [] = rw (s.put_first o, tied_itself s.total o) refl
   taken_in o (x ∷ xs) = rw (s.put_next o x xs) (elim (cases_Bool (is_lt (cmp x o))) [
-    | inl h ↦ rw (h, before_other (cmp x o) h) (ap (λ ys. x ∷ ys) (taken_in o xs))
+    | inl h ↦ rw (h, less_other (cmp x o) h) (ap (λ ys. x ∷ ys) (taken_in o xs))
     | inr h ↦ rw (h, tied_itself s.total o) refl
   ])
 

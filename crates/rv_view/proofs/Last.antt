@@ -7,7 +7,7 @@ use Rattle.std.proofs.lemmas.List.{length-take-le}
 use Rattle.std.specs.List.{list_all}
 use Rattle.std.specs.List.Sorted.{IsPartitionedBy}
 use Rattle.std.proofs.lemmas.Option.{same_Some}
-use Rattle.rv_value.proofs.Lists.{filter_passes}
+use Rattle.rv_value.proofs.Lists.{filter_passes, all_true}
 use Rattle.rv_rows.specs.declared.changes.Change.{Change}
 use Rattle.rv_rows.specs.Changes.{Rise, is_before}
 use Rattle.rv_rows.proofs.Cuts.{partitioned}
@@ -15,10 +15,6 @@ use Rattle.rv_rows.proofs.Filters.{filter_same, filter_twice}
 use Rattle.rv_rows.proofs.Puts.{rising_filter}
 use Rattle.rv_view.specs.Making.{last_of, of_table}
 use Rattle.rv_view.proofs.Written.{all_last, last_is, last_or}
-
-all_true : (cs : List Change) → list_all (λ (c : Change). true) cs ≡ true
-all_true [] = refl
-all_true (c ∷ cs) = all_true cs
 
 up_down : (table : ℕ) (x y : Change) → is_before x y ≡ true → nat_le y.table table ≡ true → nat_le x.table table ≡ true
 up_down table x y h p = grind (arith, nat_tests)

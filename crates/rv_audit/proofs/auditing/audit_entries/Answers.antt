@@ -1,11 +1,12 @@
 use Rattle.std.proofs.Common.{◌≡◌, ◌≤◌, length, ap, sym, subst, ◌∙◌, arith, rules}
 use Rattle.std.specs.List.{All}
+use Rattle.rv_value.proofs.Lists.{to_all}
 use Rattle.rv_model.specs.declared.entry.Entry.{Entry}
 use Rattle.rv_believed.specs.History.{IsLegal}
 use Rattle.rv_audit.specs.Auditing.{SaysOfEntries}
 use Rattle.rv_audit.specs.Places.{end_told, BreaksAt, FollowsSo, ReplaysSo}
 use Rattle.rv_audit.proofs.Concluding.{breaks, concludes, few_done, sessions_readable}
-use Rattle.rv_audit.proofs.Short.{script_short, to_all}
+use Rattle.rv_audit.proofs.Short.{script_short}
 use Rattle.rv_audit.proofs.auditing.audit_entries.Goals as goal
 
 pub follow-requires-clause-sessions : goal.follow-requires-clause-sessions

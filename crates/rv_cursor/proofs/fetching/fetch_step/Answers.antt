@@ -1,9 +1,10 @@
 use Rattle.std.proofs.Common.{IsSome, ◌∙◌, ap, refl, subst, sym}
 use Rattle.rv_value.proofs.Lists.{on_err}
+use Rattle.rv_value.proofs.Tests.{not_some}
 use Rattle.rv_join.specs.declared.plan.PlanStep.TheVariants.{End, Row, Working}
 use Rattle.rv_cursor.specs.Left.{left, seen_by}
 use Rattle.rv_cursor.specs.Moves.Move.{Lost}
-use Rattle.rv_cursor.proofs.Holding.{end_takes, kept_stays, nearer_beside, none_moved, not_some, row_stays, same_on, stays_on, takes_then}
+use Rattle.rv_cursor.proofs.Holding.{end_takes, kept_stays, nearer_beside, none_moved, row_stays, same_on, stays_on, takes_then}
 use Rattle.rv_cursor.proofs.Moving.{front_err, front_moves, front_ok, held_turn, moves_by, moves_given, moves_on, moves_same, none_held, ruled_same, turn_ends, turn_gives, turn_works}
 use Rattle.rv_cursor.proofs.fetching.fetch_step.Goals as goal
 

@@ -1,7 +1,7 @@
 use Rattle.std.proofs.Common.{List, IfOk, ap, inl, refl, subst, sym, ◌∙◌}
 use Rattle.std.specs.Prelude.{IsPermutation}
 use Rattle.std.proofs.lemmas.Result.{IfOk-weaker, on_ok_weaker}
-use Rattle.rv_value.proofs.Lists.{on_err}
+use Rattle.rv_value.proofs.Lists.{on_err, on_ok}
 use Rattle.rv_value.specs.declared.record.RowNo.{RowNo}
 use Rattle.rv_judge.specs.Counting.{reads}
 use Rattle.rv_retrieval.specs.Effort.{Awaiting, effort, life_of}
@@ -10,7 +10,7 @@ use Rattle.rv_retrieval.specs.Shape.{RetrievalFits, Shape, rest}
 use Rattle.rv_retrieval.specs.Short.{fetches_left}
 use Rattle.rv_search.specs.Searching.{numbers}
 use Rattle.rv_search.proofs.Few.{few_found, few_owed}
-use Rattle.rv_search.proofs.Gathering.{ok_anyway, reads_from, records_from}
+use Rattle.rv_search.proofs.Gathering.{reads_from, records_from}
 use Rattle.rv_search.proofs.Goings.{ran_lost, ran_out}
 use Rattle.rv_search.proofs.search.gathered.Goals as goal
 
@@ -33,7 +33,7 @@ returns-clause-reads g c =
     on_ok_weaker c.gathered_of-found.result (reads_from c.args.steps.now c.open.new.steps c.gathered_of-found.new.steps (effort c.in_ok-retrieval.retrieval.value shown) (life_of c.args.query shown) c.in_ok-retrieval.ensures.life) (rw c.deref_mut.ensures.value at c.gathered_of-found.ensures.reads)
 
 pub returns-clause-pages : goal.returns-clause-pages
-returns-clause-pages g c = λ short. ok_anyway c.gathered_of-found.result _ ((rw c.deref_mut.ensures.value at c.gathered_of-found.ensures.pages) (c.in_ok-retrieval.ensures.short short).0 ∙ c.open.ensures.only.pages)
+returns-clause-pages g c = λ short. on_ok c.gathered_of-found.result _ ((rw c.deref_mut.ensures.value at c.gathered_of-found.ensures.pages) (c.in_ok-retrieval.ensures.short short).0 ∙ c.open.ensures.only.pages)
 
 pub returns-clause-records : goal.returns-clause-records
 returns-clause-records g c = λ short.

@@ -1,6 +1,7 @@
 use Rattle.std.proofs.Common.{inr, refl, sym, ◌∙◌}
+use Rattle.rv_value.proofs.Tests.{not_some}
 use Rattle.rv_access.specs.Accesses.{effort}
-use Rattle.rv_join.proofs.OneItem.{catch_err, catch_none, catch_row, ended_spends, held_spends, no_call, no_fetch, no_row, row_spends, worked_spends}
+use Rattle.rv_join.proofs.OneItem.{catch_err, catch_none, catch_row, ended_spends, held_spends, no_call, no_fetch, row_spends, worked_spends}
 use Rattle.rv_join.proofs.Catching.{ended_moves, found_moves, same_moves, worked_moves}
 use Rattle.rv_join.proofs.level.Level.ready.Goals as goal
 
@@ -19,7 +20,7 @@ returns-then-is_some g c =
 
 pub returns-in-Row-clause-caught : goal.returns-in-Row-clause-caught
 returns-in-Row-clause-caught g c =
-    let none = no_row c.args.self.now.row (sym c.is_some.ensures ∙ c.if-is_some.false) in
+    let none = not_some c.args.self.now.row (sym c.is_some.ensures ∙ c.if-is_some.false) in
     rw c.replace-before.ensures.after (found_moves c.args._asked.now (g.R.Reader.shown c.args.reader.now) c.args.self.now c.fg_step.new.self c.in-Row.record c.args.steps.now c.fg_step.new.steps c.requires.can c.requires.fits none c.fg_step.ensures.query c.fg_step.ensures.fits c.fg_step.ensures.tries c.fg_step.ensures.awaiting c.fg_step.ensures.tells (rw c.in-Row.is at c.in_ok-record.ensures.step), refl)
 
 pub returns-in-Working-clause-caught : goal.returns-in-Working-clause-caught
@@ -29,18 +30,18 @@ returns-in-Working-clause-caught g c =
 
 pub returns-in-End-clause-caught : goal.returns-in-End-clause-caught
 returns-in-End-clause-caught g c =
-    let none = no_row c.args.self.now.row (sym c.is_some.ensures ∙ c.if-is_some.false) in
+    let none = not_some c.args.self.now.row (sym c.is_some.ensures ∙ c.if-is_some.false) in
     ended_moves c.args._asked.now (g.R.Reader.shown c.args.reader.now) c.args.self.now c.fg_step.new.self c.args.steps.now c.fg_step.new.steps c.requires.fits none c.fg_step.ensures.query c.fg_step.ensures.fits c.fg_step.ensures.tries c.fg_step.ensures.awaiting c.fg_step.ensures.tells (rw c.in-End.is at c.in_ok-record.ensures.step)
 
 pub returns-in-Row-clause-once : goal.returns-in-Row-clause-once
 returns-in-Row-clause-once g c =
-    let none = no_row c.args.self.now.row (sym c.is_some.ensures ∙ c.if-is_some.false) in
+    let none = not_some c.args.self.now.row (sym c.is_some.ensures ∙ c.if-is_some.false) in
     let spends = c.in_ok-record.ensures.spends c.requires.fits.awaiting in
     rw c.replace-before.ensures.after (catch_row _ _ _ (g.R.Reader.shown c.args.reader.now) c.args.steps.now c.fg_step.new.steps _ c.args.self.now c.fg_step.new.self c.in-Row.record.values none (c.in_ok-record.ensures.does c.requires.fits.tells) (c.fg_step.ensures.may_read c.requires.fits.tells) c.fg_step.ensures.settled c.fg_step.ensures.unasked c.fg_step.ensures.pages c.in_ok-record.ensures.records c.fg_step.ensures.tries (rw c.in-Row.is at spends).1)
 
 pub returns-in-Row-clause-spends : goal.returns-in-Row-clause-spends
 returns-in-Row-clause-spends g c =
-    let none = no_row c.args.self.now.row (sym c.is_some.ensures ∙ c.if-is_some.false) in
+    let none = not_some c.args.self.now.row (sym c.is_some.ensures ∙ c.if-is_some.false) in
     let spends = c.in_ok-record.ensures.spends c.requires.fits.awaiting in
     let row = rw c.in-Row.is at spends in
     row_spends c.args.steps.now c.fg_step.new.steps _ _ c.args.self.now.row none row.0 row.1

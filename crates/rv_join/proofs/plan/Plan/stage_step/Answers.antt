@@ -1,8 +1,8 @@
 use Rattle.std.proofs.Common.{refl, sym, ◌∙◌}
+use Rattle.rv_value.proofs.Lists.{on_ok}
 use Rattle.rv_join.specs.Plans.{Planned}
 use Rattle.rv_join.proofs.OneItem.{fetches_same, moved_spends}
 use Rattle.rv_join.proofs.Planning.{found_good, found_holds, found_moves, not_given}
-use Rattle.rv_join.proofs.Stacking.{kept_if}
 use Rattle.rv_join.proofs.plan.Plan.stage_step.Goals as goal
 
 pub advance-requires : goal.advance-requires
@@ -71,7 +71,7 @@ pub returns-in_err-moved-in-AsFound-clause-reads : goal.returns-in_err-moved-in-
 returns-in_err-moved-in-AsFound-clause-reads g c = rw (← c.self.view_is) refl
 
 pub returns-in-Giving-clause-fetches : goal.returns-in-Giving-clause-fetches
-returns-in-Giving-clause-fetches g c = λ one. kept_if c.give_step.result _ (fetches_same (g.R.Reader.shown c.args.reader.now) c.args.steps.now c.args.self.now c.give_step.new.self c.give_step.ensures.same)
+returns-in-Giving-clause-fetches g c = λ one. on_ok c.give_step.result _ (fetches_same (g.R.Reader.shown c.args.reader.now) c.args.steps.now c.args.self.now c.give_step.new.self c.give_step.ensures.same)
 
 pub returns-in-Giving-clause-err : goal.returns-in-Giving-clause-err
 returns-in-Giving-clause-err g c = not_given c.give_step.result (g.R.Reader.shown c.args.reader.now) c.args.self.now c.give_step.new.self c.give_step.ensures.err
