@@ -12,10 +12,11 @@ use Rattle.rv_keys.specs.Keys.{has_key}
 use Rattle.rv_keylist.specs.Keys.{may_key}
 use Rattle.rv_keylist.proofs.Narrow.{none_stays}
 use Rattle.rv_reader.specs.declared.reader.Chunk.{Chunk}
+use Rattle.rv_keys.proofs.Onces.{key_append}
 use Rattle.rv_jscan.specs.Entries.{has_entry, Apart, Disjoint}
 use Rattle.rv_jscan.specs.Pieces.{kept_by, is_kept}
 use Rattle.rv_jscan.specs.Joint.{passing}
-use Rattle.rv_jscan.proofs.Parts.{Apart-cross, has_append, key_append}
+use Rattle.rv_jscan.proofs.Parts.{Apart-cross, has_append}
 
 pub kept_append : (admits : ℕ → Bool) (part : Parted) (xs ys : List IndexEntry) → kept_by admits part (xs ++ ys) ≡ kept_by admits part xs ++ kept_by admits part ys
 kept_append admits part xs ys = ap (map (λ (e : IndexEntry). e.row.0)) (filter-append (is_kept admits part) xs ys) ∙ map-append (λ (e : IndexEntry). e.row.0) (filter (is_kept admits part) xs) (filter (is_kept admits part) ys)

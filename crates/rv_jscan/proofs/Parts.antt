@@ -4,7 +4,6 @@ use Rattle.std.proofs.lemmas.Bool.Decides.{nat_tests}
 use Rattle.std.proofs.lemmas.List.Folds.{list_any-append}
 use Rattle.rv_value.specs.declared.record.IndexEntry.{IndexEntry}
 use Rattle.rv_value.specs.declared.range.Range.{Range}
-use Rattle.rv_keys.specs.Keys.{has_key}
 use Rattle.rv_reader.specs.declared.reader.Chunk.{Chunk}
 use Rattle.rv_reader.specs.Entries.{comes_before, is_in}
 use Rattle.rv_reader.specs.Leaves.{IsChunk, run_from, run_after, from_on}
@@ -13,9 +12,6 @@ use Rattle.rv_jscan.specs.Entries.{has_entry, Apart, Disjoint}
 
 pub has_append : (n : ℕ) (xs ys : List IndexEntry) → has_entry n (xs ++ ys) ≡ (has_entry n xs || has_entry n ys)
 has_append n xs ys = list_any-append (λ (e : IndexEntry). nat_eq n e.row.0) xs ys
-
-pub key_append : (n : ℕ) (xs ys : List ℕ) → has_key n (xs ++ ys) ≡ (has_key n xs || has_key n ys)
-key_append n xs ys = list_any-append (nat_eq n) xs ys
 
 pub has_filter : (n : ℕ) (p : IndexEntry → Bool) (xs : List IndexEntry) → has_entry n xs ≡ false → has_entry n (filter p xs) ≡ false
 has_filter n p [] h = refl

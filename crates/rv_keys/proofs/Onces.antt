@@ -1,11 +1,16 @@
--- Keys that stand once: none, one more, in another order, and ascending.
-use Rattle.std.proofs.Common.{◌≡◌, ℕ, ◌<◌, ◌++◌, ◌∷◌, [], List, nat_eq, false, slice_index_or, arith, refl, IsPermutation}
+-- Keys in two lists, and keys that stand once: none, one more, in another order, and ascending.
+use Rattle.std.proofs.Common.{◌≡◌, ℕ, ◌<◌, ◌++◌, ◌∷◌, [], List, nat_eq, false, slice_index_or, arith, refl, IsPermutation, ◌||◌}
 use Rattle.std.specs.List.{AllByRecursion, IsDistinct}
 use Rattle.std.specs.List.Sorted.{IsStrictlyIncreasing}
 use Rattle.std.proofs.lemmas.Bool.{ne_eqb, or_parts}
 use Rattle.std.proofs.lemmas.Cmp.{nat_eq_equiv}
 use Rattle.std.proofs.lemmas.Map.Keys.{IsDistinct-push, IsDistinct-cons, IsDistinct-head, IsDistinct-tail, IsDistinct-from_apart, IsDistinct-IsPermutation, sorted_from_strictly_increasing, below_from_sorted}
+use Rattle.std.proofs.lemmas.List.Folds.{list_any-append}
 use Rattle.rv_keys.specs.Keys.{has_key, Once}
+
+-- a row is among two lists where it is in one of them
+pub key_append : (row : ℕ) (xs ys : List ℕ) → has_key row (xs ++ ys) ≡ (has_key row xs || has_key row ys)
+key_append row xs ys = list_any-append (nat_eq row) xs ys
 
 pub Once-nil : Once []
 unfolding IsDistinct

@@ -3,20 +3,16 @@ use Rattle.std.proofs.Common.{◌≡◌, ℕ, ◌<◌, ◌≤◌, ◌+◌, ◌^�
 use Rattle.std.specs.Prelude.{if◌then◌else◌}
 use Rattle.std.proofs.lemmas.Bool.Decides.{nat_tests}
 use Rattle.std.proofs.lemmas.List.{take_more}
-use Rattle.std.proofs.lemmas.List.Folds.{list_any-append}
 use Rattle.std.proofs.lemmas.List.Sorted.{IsPermutation-append_comm, IsPermutation-append_left, IsPermutation-append_right, IsPermutation-trans, length_permutation, list_any-IsPermutation}
 use Rattle.std.proofs.lemmas.Option.{get_or_from_slice_get, slice_get_within}
 use Rattle.std.proofs.lemmas.Bool.{and_right, or_from}
 use Rattle.rv_value.proofs.Tests.{right_false, other_false}
 use Rattle.rv_keys.specs.Keys.{has_key, Once}
-use Rattle.rv_keys.proofs.Onces.{Once-cons, Once-head, Once-IsPermutation, Once-nil, Once-tail}
+use Rattle.rv_keys.proofs.Onces.{Once-cons, Once-head, Once-IsPermutation, Once-nil, Once-tail, key_append}
 use Rattle.rv_keylist.specs.Listed.{Listed}
 use Rattle.rv_keyset.specs.Sets.{AreApart, AreFinished, AreRuns, Keyed, Pours, flat}
 
 -- keys of two lists
-
-pub key_append : (n : ℕ) (xs ys : List ℕ) → has_key n (xs ++ ys) ≡ (has_key n xs || has_key n ys)
-key_append n xs ys = list_any-append (nat_eq n) xs ys
 
 number : (a b : ℕ) → nat_eq a b ≡ true → b ≡ a
 number a b h = grind (arith, nat_tests)

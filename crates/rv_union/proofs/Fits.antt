@@ -13,6 +13,7 @@ use Rattle.rv_restrict.specs.Parts.{Parted, passes}
 use Rattle.rv_reader.specs.Entries.{comes_before, is_in}
 use Rattle.rv_reader.specs.Leaves.{run_after, run_from}
 use Rattle.rv_reader.specs.Shown.{Shown}
+use Rattle.rv_keys.proofs.Onces.{key_append}
 use Rattle.rv_jscan.specs.declared.jscan.ScanPlan.{ScanPlan}
 use Rattle.rv_jscan.specs.Entries.{Apart, Disjoint, has_entry}
 use Rattle.rv_jscan.specs.Joint.{meets, no_plan, passing, plan_at}
@@ -25,7 +26,6 @@ use Rattle.rv_union.specs.Given.{Awaits}
 use Rattle.rv_union.specs.Rulings.{kept_of, lacks}
 use Rattle.rv_final.specs.LaneWork.{ahead}
 use Rattle.rv_union.specs.Unioned.{AreMet, MembersFit, UnionFits, Unioned, builds, found, meets_any, owed, present}
-use Rattle.rv_keyset.proofs.Lists.{key_append}
 use Rattle.rv_final.proofs.LaneWork.{ahead_split}
 
 -- A member that begins.

@@ -6,6 +6,7 @@ use Rattle.rv_judge.specs.Counting.{one_more}
 use Rattle.rv_judge.specs.Verdicts.{Ruling}
 use Rattle.rv_keys.specs.Keys.{has_key}
 use Rattle.rv_restrict.specs.Parts.{Parted}
+use Rattle.rv_keys.proofs.Onces.{key_append}
 use Rattle.rv_jscan.specs.declared.piece.PieceId.{PieceId}
 use Rattle.rv_jscan.specs.Entries.{has_entry}
 use Rattle.rv_jscan.specs.Joint.{passing}
@@ -18,7 +19,6 @@ use Rattle.rv_union.specs.Rulings.{Completes, IsRuled, Obeys, accepted, facts_of
 use Rattle.rv_keyset.specs.Sets.{AreApart}
 use Rattle.rv_union.specs.Unioned.{Unioned, present, scanning}
 use Rattle.rv_final.proofs.LaneWork.{kept_few}
-use Rattle.rv_keyset.proofs.Lists.{key_append}
 
 -- The lane.
 
