@@ -2,6 +2,7 @@
 use Rattle.std.proofs.Common.{◌≡◌, ℕ, List, [], ◌∷◌, ◌++◌, Bool, true, false, refl, sym, ap, ◌∙◌, subst, Option, Some, None, nat_lt}
 use Rattle.std.specs.Prelude.{if◌then◌else◌, is_some}
 use Rattle.std.proofs.lemmas.Bool.{and_from, or_left, or_right}
+use Rattle.rv_value.proofs.Tests.{no_way, same_number}
 use Rattle.rv_judge.specs.declared.events.Strategy.{Strategy}
 use Rattle.rv_judge.specs.declared.events.Control.{Control}
 use Rattle.rv_judge.specs.declared.events.Event.{Event}
@@ -12,7 +13,7 @@ use Rattle.rv_judge.specs.declared.events.Happening.TheVariants.{ScanEnded, Rule
 use Rattle.rv_judge.specs.Course.{has_row, next_control, scan_over_more}
 use Rattle.rv_judge.specs.Runs.{IsRun, MayCome, Standing, Turn, after, events_of, is_more, led_events, listed_after, moved, own_events, run_events, scans}
 use Rattle.rv_course.specs.Reading.{begun_by, leads, leads_to, listed_by, may_narrow, reads}
-use Rattle.rv_course.proofs.Controls.{changes, continue_none, dropped_on, ended_on, no_way, same_number, same_self}
+use Rattle.rv_course.proofs.Controls.{changes, continue_none, dropped_on, ended_on, same_self}
 use Rattle.rv_course.proofs.Sound.{goes_to, led_at, standing}
 
 -- events are read from here on, and the scans that they begin are the next that are planned

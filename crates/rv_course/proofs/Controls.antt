@@ -1,10 +1,10 @@
 -- Where the rows of the course lead.
-use Rattle.std.proofs.Common.{◌≡◌, ℕ, List, [], ◌∷◌, Bool, true, false, not, ◌&&◌, ◌||◌, refl, arith, sym, ap, ◌∙◌, nat_eq}
+use Rattle.std.proofs.Common.{◌≡◌, ℕ, List, [], ◌∷◌, Bool, true, false, not, ◌&&◌, ◌||◌, refl, sym, ap, ◌∙◌, nat_eq}
 use Rattle.std.specs.Prelude.{if◌then◌else◌}
 use Rattle.std.specs.List.{list_all, list_any}
-use Rattle.std.proofs.lemmas.Bool.Decides.{nat_tests}
 use Rattle.std.proofs.lemmas.Bool.{eqb-true, not-true}
 use Rattle.std.specs.Cmp.{first_so, second_so}
+use Rattle.rv_value.proofs.Tests.{no_way, same_number}
 use Rattle.rv_judge.specs.declared.events.Strategy.{Strategy}
 use Rattle.rv_judge.specs.declared.events.Control.{Control}
 use Rattle.rv_judge.specs.declared.events.Control.TheVariants.{Building, ForegroundAlone, BackgroundAlone, FinalList, FinalTable, Done}
@@ -14,14 +14,6 @@ use Rattle.rv_judge.specs.declared.judging.Verdict.TheVariants.{Continue, Abando
 use Rattle.rv_judge.specs.Course.{Row, any, background_alone, building, course, has_row, next_by, next_control, row, scan_over_more, stands, the_same}
 use Rattle.rv_judge.specs.Runs.{scans}
 use Rattle.rv_course.specs.Reading.{leads, rank, same_control}
-
--- Bools.
-
-pub no_way : {X : Type 0} → true ≡ false → X
-no_way bad = absurd (cc)
-
-pub same_number : (n : ℕ) → nat_eq n n ≡ true
-same_number n = grind (arith, nat_tests)
 
 -- Controls are told by their ranks.
 

@@ -4,6 +4,7 @@ use Rattle.std.specs.Bool.{IsTrue}
 use Rattle.std.specs.List.{list_all}
 use Rattle.std.proofs.lemmas.Bool.{and_from, not-true}
 use Rattle.std.specs.Cmp.{first_so, second_so}
+use Rattle.rv_value.proofs.Tests.{no_way}
 use Rattle.rv_judge.specs.declared.events.Strategy.{Strategy}
 use Rattle.rv_judge.specs.declared.events.Strategy.TheVariants.{Table, BackgroundOnly, FastFirst, Sorted, IndexOnly, Union}
 use Rattle.rv_judge.specs.declared.events.Control.{Control}
@@ -11,10 +12,11 @@ use Rattle.rv_judge.specs.declared.events.Control.TheVariants.{Building, Foregro
 use Rattle.rv_judge.specs.declared.events.Event.{Event}
 use Rattle.rv_judge.specs.declared.events.Event.TheVariants.{At, Scan, List as ListOf, Drop, Full as FullEvent, Stop}
 use Rattle.rv_judge.specs.Runs.{Allowed, AllowedRun, EachOnce, HasScans, IsRun, Turn, first_control, has_index, run_events, scans, start, start_events}
+use Rattle.rv_judge.proofs.Indexes.{front_once}
 use Rattle.rv_course.specs.Reading.{are_apart, begun_by, is_known, is_read, place_at, reads, reads_all, reads_at, same_control}
 use Rattle.rv_course.specs.Told.{trace_of}
-use Rattle.rv_course.proofs.Controls.{no_way, same_is}
-use Rattle.rv_course.proofs.Scanned.{apart, front_known, front_once, known, no_scans, once}
+use Rattle.rv_course.proofs.Controls.{same_is}
+use Rattle.rv_course.proofs.Scanned.{apart, front_known, known, no_scans, once}
 use Rattle.rv_course.proofs.Sound.{Runs, sound, standing}
 use Rattle.rv_course.proofs.Complete.{Read, complete}
 use Rattle.rv_course.proofs.Unions.{union_read, union_reads}

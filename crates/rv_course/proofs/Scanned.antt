@@ -2,8 +2,9 @@
 use Rattle.std.proofs.Common.{◌≡◌, ℕ, List, [], ◌∷◌, ◌++◌, Bool, true, false, ◌&&◌, ◌||◌, refl, sym, ap, ◌∙◌, Option, Some, None, nat_eq}
 use Rattle.std.specs.Prelude.{if◌then◌else◌}
 use Rattle.std.specs.List.{list_all, list_any}
-use Rattle.std.proofs.lemmas.Bool.{and_from, not-true, not_from_false, or_from}
+use Rattle.std.proofs.lemmas.Bool.{and_from, not-true, not_from_false}
 use Rattle.std.specs.Cmp.{first_so, second_so}
+use Rattle.rv_value.proofs.Tests.{no_way}
 use Rattle.rv_judge.specs.declared.events.Strategy.{Strategy}
 use Rattle.rv_judge.specs.declared.events.Control.{Control}
 use Rattle.rv_judge.specs.declared.events.Event.{Event}
@@ -11,7 +12,6 @@ use Rattle.rv_judge.specs.declared.events.Event.TheVariants.{At, Scan, List as L
 use Rattle.rv_judge.specs.Runs.{EachOnce, has_index, scans}
 use Rattle.rv_course.specs.declared.reading.Place.{Place}
 use Rattle.rv_course.specs.Reading.{are_apart, begins_scan, begun_by, goes_on, is_known, listed_by, reads}
-use Rattle.rv_course.proofs.Controls.{no_way}
 
 pub known : (indexes : List ℕ) (es : List Event) → list_all (is_known indexes) es ≡ list_all (λ i. has_index i indexes) (begun_by es)
 known indexes [] = refl
@@ -51,25 +51,9 @@ apart (Stop ∷ es) o = apart es o
 
 -- What begins a list of planned scans is known, and each once, where the list is.
 
-left_false : (a b : Bool) → (a || b) ≡ false → a ≡ false
-left_false true b h = no_way h
-left_false false b h = refl
-
-right_false : (a b : Bool) → (a || b) ≡ false → b ≡ false
-right_false true b h = no_way h
-right_false false b h = h
-
 pub front_known : (indexes xs ys : List ℕ) → list_all (λ i. has_index i indexes) (xs ++ ys) ≡ true → list_all (λ i. has_index i indexes) xs ≡ true
 front_known indexes [] ys a = refl
 front_known indexes (x ∷ xs) ys a = and_from _ _ (first_so _ _ a) (front_known indexes xs ys (second_so _ _ a))
-
-front_misses : (i : ℕ) (xs ys : List ℕ) → has_index i (xs ++ ys) ≡ false → has_index i xs ≡ false
-front_misses i [] ys a = refl
-front_misses i (x ∷ xs) ys a = or_from _ _ (left_false _ _ a) (front_misses i xs ys (right_false (nat_eq x i) _ a))
-
-pub front_once : (xs ys : List ℕ) → EachOnce (xs ++ ys) → EachOnce xs
-front_once [] ys o = tt
-front_once (x ∷ xs) ys o = (front_misses x xs ys o.0, front_once xs ys o.1)
 
 -- Where no scan is under way none begins any more.
 

@@ -1,8 +1,9 @@
 -- Events that are read are those of a run.
-use Rattle.std.proofs.Common.{◌≡◌, ℕ, List, [], ◌∷◌, ◌++◌, Bool, true, false, ◌||◌, refl, sym, ap, ◌∙◌, subst, Option, Some, None, nat_lt}
+use Rattle.std.proofs.Common.{◌≡◌, ℕ, List, [], ◌∷◌, ◌++◌, Bool, true, false, refl, sym, ap, ◌∙◌, subst, Option, Some, None, nat_lt}
 use Rattle.std.specs.Prelude.{if◌then◌else◌, is_some}
 use Rattle.std.proofs.lemmas.Bool.{eqb-true}
 use Rattle.std.specs.Cmp.{first_so, second_so}
+use Rattle.rv_value.proofs.Tests.{either, no_way}
 use Rattle.rv_judge.specs.declared.events.Strategy.{Strategy}
 use Rattle.rv_judge.specs.declared.events.Control.{Control}
 use Rattle.rv_judge.specs.declared.events.Event.{Event}
@@ -13,7 +14,7 @@ use Rattle.rv_judge.specs.declared.events.Happening.TheVariants.{ScanEnded, Rule
 use Rattle.rv_judge.specs.Course.{has_row, next_control, scan_over_more}
 use Rattle.rv_judge.specs.Runs.{IsRun, MayCome, Standing, Turn, after, events_of, idle, is_more, led_events, listed_after, moved, own_events, run_events, scans}
 use Rattle.rv_course.specs.Reading.{begun_by, goes_on, is_scanning, leads, leads_to, listed_by, may_narrow, reads}
-use Rattle.rv_course.proofs.Controls.{background_ends, drop_ends, dropped_on, ended_on, has_dropped_on, has_ended_on, leads_is, leads_stands, no_way, scan_ends}
+use Rattle.rv_course.proofs.Controls.{background_ends, drop_ends, dropped_on, ended_on, has_dropped_on, has_ended_on, leads_is, leads_stands, scan_ends}
 use Rattle.rv_course.proofs.Scanned.{no_scans}
 
 abbrev pub standing : Control → Option ℕ → List ℕ → Option ℕ → Standing
@@ -66,10 +67,6 @@ front_to s c to (Some i) ahead listed es l r = moves_to s c to (Some i) ahead li
 final_to : (s : Strategy) (c to : Control) (scan : Option ℕ) (ahead : List ℕ) (listed : Option ℕ) (es : List Event) → leads s c FinalEnded to ≡ true → Runs s (standing to (if scans to then scan else None) ahead listed) es → Runs s (standing c scan ahead listed) (At to ∷ es)
 final_to s c to None ahead listed es l r = moves_to s c to None ahead listed FinalEnded 0 es refl l (leads_stands s c FinalEnded to l) r
 final_to s c to (Some i) ahead listed es l r = moves_to s c to (Some i) ahead listed FinalEnded 0 es refl l (leads_stands s c FinalEnded to l) r
-
-either : (a b : Bool) {X : Type 0} → (a || b) ≡ true → (a ≡ true → X) → (b ≡ true → X) → X
-either true b h f g = f refl
-either false b h f g = g h
 
 scan_is : (scan : Option ℕ) (i : ℕ) → is_scanning scan i ≡ true → scan ≡ Some i
 scan_is None i h = no_way (sym h)

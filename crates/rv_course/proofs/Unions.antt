@@ -3,6 +3,7 @@ use Rattle.std.proofs.Common.{◌≡◌, ◌⊎◌, ℕ, ◌≤◌, List, [], �
 use Rattle.std.specs.List.{list_all, list_any}
 use Rattle.std.specs.Cmp.{first_so, second_so}
 use Rattle.std.proofs.lemmas.Bool.{and_from}
+use Rattle.rv_value.proofs.Tests.{no_way}
 use Rattle.rv_judge.specs.declared.events.Strategy.TheVariants.{Union}
 use Rattle.rv_judge.specs.declared.events.Control.{Control}
 use Rattle.rv_judge.specs.declared.events.Control.TheVariants.{BackgroundAlone, FinalList, FinalTable, Done}
@@ -12,7 +13,7 @@ use Rattle.rv_judge.specs.Runs.{AllowedUnion, EachOnce, UnionTail, has_index, ta
 use Rattle.rv_judge.specs.Runs.UnionTail.{Scanning, Fetching, Fetched, Reading, Read}
 use Rattle.rv_course.specs.Reading.{are_apart, begins_scan, begun_by, ends_in, is_known, is_over, reads_scans, reads_tail, reads_union, same_control}
 use Rattle.rv_course.specs.Told.{trace_of}
-use Rattle.rv_course.proofs.Controls.{no_way, same_is}
+use Rattle.rv_course.proofs.Controls.{same_is}
 use Rattle.rv_course.proofs.Scanned.{apart, begun, known, once}
 
 -- WHAT IS READ IS OF A UNION

@@ -4,6 +4,7 @@ use Rattle.std.specs.Prelude.{if◌then◌else◌}
 use Rattle.std.specs.List.{list_all, list_any}
 use Rattle.std.proofs.lemmas.Bool.{and_from, eqb-true}
 use Rattle.std.specs.Cmp.{first_so, second_so}
+use Rattle.rv_value.proofs.Tests.{no_way}
 use Rattle.rv_judge.specs.declared.events.Strategy.{Strategy}
 use Rattle.rv_judge.specs.declared.events.Strategy.TheVariants.{Table, BackgroundOnly, FastFirst, Sorted, IndexOnly, Union}
 use Rattle.rv_judge.specs.declared.events.Control.{Control}
@@ -12,7 +13,6 @@ use Rattle.rv_judge.specs.declared.events.Event.{Event}
 use Rattle.rv_judge.specs.declared.events.Event.TheVariants.{At, Scan, List as ListOf, Drop, Full as FullEvent, Stop}
 use Rattle.rv_judge.specs.Runs.{has_index, scans}
 use Rattle.rv_course.specs.Reading.{begins_scan, ends_in, goes_on, is_known, is_over, is_read, is_scanning, leads_to, listed_by, reads, reads_all, reads_at, reads_by, reads_scans, reads_tail, reads_union, same_control}
-use Rattle.rv_course.proofs.Controls.{no_way}
 use Rattle.rv_decide.proofs.Names.{names_known}
 
 -- the scan under way is of one of these indexes

@@ -2,6 +2,7 @@
 use Rattle.std.proofs.Common.{◌≡◌, ◌↔◌, ℕ, List, Bool, false, refl, sym, ap, ◌∙◌, subst, Some, None}
 use Rattle.std.specs.Bool.{IsTrue}
 use Rattle.std.proofs.lemmas.Option.{same_Some}
+use Rattle.rv_value.proofs.Tests.{no_way}
 use Rattle.rv_judge.specs.declared.events.Strategy.{Strategy}
 use Rattle.rv_judge.specs.declared.events.Event.{Event}
 use Rattle.rv_judge.specs.declared.events.Trace.{Trace}
@@ -11,7 +12,6 @@ use Rattle.rv_lang.specs.declared.reply.Shown.{Shown}
 use Rattle.rv_catalog.specs.declared.def.IndexDef.{IndexDef}
 use Rattle.rv_model.specs.Showing.{ShowsTrace, numbers_over}
 use Rattle.rv_course.specs.Told.{trace_of}
-use Rattle.rv_course.proofs.Controls.{no_way}
 use Rattle.rv_course.proofs.Deciding.{decides}
 use Rattle.rv_decide.specs.Naming.{AreNamedApart}
 use Rattle.rv_decide.specs.Reading.{events_of}

@@ -8,6 +8,7 @@ use Rattle.std.proofs.lemmas.Slice.Eq.{bytes_eq-Decides}
 use Rattle.std.specs.Cmp.{first_so, second_so}
 use Rattle.std.proofs.lemmas.Bool.{and_from, eqb-true, and_right, lt-ltb}
 use Rattle.std.proofs.lemmas.Option.{same_Some}
+use Rattle.rv_value.proofs.Tests.{no_way}
 use Rattle.rv_judge.specs.declared.events.Event.{Event}
 use Rattle.rv_judge.specs.declared.events.Event.TheVariants as events
 use Rattle.rv_judge.specs.Runs.{has_index}
@@ -16,7 +17,6 @@ use Rattle.rv_lang.specs.declared.reply.ShownEvent.TheVariants as told
 use Rattle.rv_catalog.specs.declared.def.IndexDef.{IndexDef}
 use Rattle.rv_model.specs.Database.{index_at, no_index}
 use Rattle.rv_model.specs.Showing.{numbers_over, shown_event}
-use Rattle.rv_course.proofs.Controls.{no_way}
 use Rattle.rv_decide.specs.Naming.{AreNamedApart}
 use Rattle.rv_decide.specs.Reading.{drop_of, event_of, events_of, is_of, list_of, number_of, scan_of, with_first}
 

@@ -40,12 +40,13 @@ use Rattle.rv_race.specs.Raced.{Raced, racing}
 use Rattle.rv_race.specs.Rulings.{GivesOn, Obeys, accepted, dropped, ended, going_on, gone, index_at, listed, more, narrowed_by, passed_on, ruled, stopped, told_over}
 use Rattle.rv_jscan.specs.Planned.{indexes_of}
 use Rattle.rv_judge.specs.Drops.{was_dropped}
+use Rattle.rv_judge.proofs.Indexes.{front_once}
 use Rattle.rv_race.specs.Runs.{Ended, IsOfUndropped, Placed, Tells, TellsBy, TellsOver, TellsRacing, ended_indexes, events_left, is_keyed, keyed, later, left_by, left_of, list_length, listed_by, outcome, told_ends}
 use Rattle.rv_race.specs.Ways.{advanced, followed, followed_by, has_next, joined, lower, lower_of, turned, turned_to}
 use Rattle.rv_final.proofs.Endings.{IsFinal, final_done}
 use Rattle.rv_final.proofs.Givings.{given_holds}
 use Rattle.rv_race.proofs.Switches.{is_racing, over_as}
-use Rattle.rv_race.proofs.Traces.{OneTurn, chain_went, drop_last, final_of, final_turn, has_scans, last_off, list_last, listed_more, one_more, once_apart, once_front, once_swap, so_far, stop_last, told_length, told_more, turns_of, undropped}
+use Rattle.rv_race.proofs.Traces.{OneTurn, chain_went, drop_last, final_of, final_turn, has_scans, last_off, list_last, listed_more, one_more, once_apart, once_swap, so_far, stop_last, told_length, told_more, turns_of, undropped}
 use Rattle.rv_race.proofs.Ways.{advanced_as, followed_as}
 
 -- THE SCANS THAT ARE LEFT
@@ -291,7 +292,7 @@ turn_once r t =
     let first = left_first r.plans r.running in
     let i = index_at r (turn_scan r) in
     let all : EachOnce ((ended_indexes t.ends ++ i ∷ []) ++ first.0) = subst EachOnce (ap (λ (is : List ℕ). ended_indexes t.ends ++ is) first.1 ∙ sym (append_assoc (ended_indexes t.ends) (i ∷ []) first.0)) t.once in
-    once_front (ended_indexes t.ends ++ i ∷ []) first.0 all
+    front_once (ended_indexes t.ends ++ i ∷ []) first.0 all
 
 -- so is that of the lower one
 lower_once : (r : Raced) (t : TellsRacing r) → EachOnce (ended_indexes t.ends ++ index_at r (lower r.running) ∷ [])
@@ -332,7 +333,7 @@ lower_once r t = by r.running.other refl
         all = subst (λ (x : Option Runner). EachOnce (xs ++ left_by r.plans r.running.turn x r.running.next)) e t.once
 
         other_once : EachOnce (xs ++ b ∷ [])
-        other_once = once_front (xs ++ b ∷ []) (a ∷ rest) (subst EachOnce (sym (append_assoc xs (b ∷ []) (a ∷ rest))) (once_swap xs a b rest all))
+        other_once = front_once (xs ++ b ∷ []) (a ∷ rest) (subst EachOnce (sym (append_assoc xs (b ∷ []) (a ∷ rest))) (once_swap xs a b rest all))
 
 lower_planned : (r : Raced) → TellsRacing r → lower r.running < length r.plans
 lower_planned r t = by r.running.other refl

@@ -184,13 +184,6 @@ last_off xs x =
 index_append : (i : ℕ) (xs ys : List ℕ) → has_index i (xs ++ ys) ≡ (has_index i xs || has_index i ys)
 index_append i xs ys = list_any-append (λ (k : ℕ). nat_eq k i) xs ys
 
-pub once_front : (xs ys : List ℕ) → EachOnce (xs ++ ys) → EachOnce xs
-once_front [] ys o = tt
-once_front (x ∷ xs) ys o = (left_off (has_index x xs) (has_index x ys) (sym (index_append x xs ys) ∙ o.0), once_front xs ys o.1)
-  where
-    left_off : (a b : Bool) → (a || b) ≡ false → a ≡ false
-    left_off a b h = grind arith
-
 pub once_swap : (xs : List ℕ) (a b : ℕ) (ys : List ℕ) → EachOnce (xs ++ a ∷ b ∷ ys) → EachOnce (xs ++ b ∷ a ∷ ys)
 once_swap [] a b ys o = (second (nat_eq b a) (has_index a ys) (has_index b ys) (nat_eq a b) (number_turned a b) o.0 o.1.0, (third (nat_eq b a) (has_index a ys) o.0, o.1.1))
   where
