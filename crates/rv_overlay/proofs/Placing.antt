@@ -1,11 +1,11 @@
 -- Entries put in their places, one after another.
-use Rattle.std.proofs.Common.{◌≡◌, ◌+◌, List, [], ◌∷◌, ◌++◌, Bool, true, false, not, ◌&&◌, cond, inl, inr, refl, ap, sym, ◌∙◌, filter}
+use Rattle.std.proofs.Common.{◌≡◌, ◌+◌, List, [], ◌∷◌, ◌++◌, Bool, true, false, not, cond, inl, inr, refl, ap, sym, ◌∙◌, filter}
 use Rattle.std.proofs.lemmas.Bool.{cases_Bool, and_parts}
 use Rattle.std.specs.List.{list_all}
 use Rattle.std.specs.Ordering.{is_eq, is_lt, ordering_reverse}
 use Rattle.std.specs.declared.cmp.Ordering.{Ordering}
 use Rattle.std.specs.declared.cmp.Ordering.TheVariants.{Less, Equal, Greater}
-use Rattle.std.proofs.lemmas.List.Elements.{filter-append, filter_agree}
+use Rattle.std.proofs.lemmas.List.Elements.{filter-append}
 use Rattle.rv_value.proofs.Lists.{filter_passes, all_true}
 use Rattle.rv_value.specs.declared.record.IndexEntry.{IndexEntry}
 use Rattle.rv_value.specs.Entries.{entry_cmp}
@@ -13,8 +13,9 @@ use Rattle.rv_value.specs.Orders.{entry_cmp_total}
 use Rattle.rv_rows.specs.Rising.{put_in}
 use Rattle.rv_rows.proofs.Merges.{all_kept}
 use Rattle.rv_rows.proofs.Puts.{rising_put, rising_filter}
+use Rattle.rv_rows.proofs.Filters.{filters_turn}
 use Rattle.rv_reader.specs.Entries.{comes_before, Ascend}
-use Rattle.rv_reader.proofs.Filters.{filter_same, filter_twice, rising_cut}
+use Rattle.rv_reader.proofs.Filters.{filter_same, rising_cut}
 use Rattle.rv_reader.proofs.Orders.{one_way, order, chain}
 use Rattle.rv_reader.proofs.Sorting.{same}
 use Rattle.rv_overlay.specs.Laying.{has, with_all}
@@ -26,15 +27,6 @@ pub put_ascends : (e : IndexEntry) (xs : List IndexEntry) → Ascend xs → Asce
 put_ascends e xs ascend = rising_put comes_before chain e xs ascend
 
 -- Filters.
-
-turn : (a b : Bool) → (a && b) ≡ (b && a)
-turn true true = refl
-turn true false = refl
-turn false true = refl
-turn false false = refl
-
-filters_turn : (p q : IndexEntry → Bool) (xs : List IndexEntry) → filter p (filter q xs) ≡ filter q (filter p xs)
-filters_turn p q xs = filter_twice p q xs ∙ filter_agree (λ x. q x && p x) (λ x. p x && q x) (λ x. turn (q x) (p x)) xs ∙ sym (filter_twice q p xs)
 
 -- entries that are other than one are before it or behind it
 apart : (e x : IndexEntry) → (x ≡ e → true ≡ false) → not (comes_before x e) ≡ comes_before e x

@@ -1,5 +1,5 @@
 -- Rows under changes, by number and by page.
-use Rattle.std.proofs.Common.{◌≡◌, ℕ, ◌/◌, List, [], ◌∷◌, ◌++◌, Bool, true, false, not, ◌&&◌, cond, Option, Some, None, length, inl, inr, refl, ap, sym, subst, ◌∙◌, filter, arith, ◌==◌}
+use Rattle.std.proofs.Common.{◌≡◌, ℕ, ◌/◌, List, [], ◌∷◌, ◌++◌, Bool, true, false, not, cond, Option, Some, None, length, inl, inr, refl, ap, sym, subst, ◌∙◌, filter, arith, ◌==◌}
 use Rattle.std.proofs.lemmas.Bool.{cases_Bool, cases_lt, and_parts}
 use Rattle.std.proofs.lemmas.Bool.Decides.{nat_tests}
 use Rattle.std.specs.List.{list_all}
@@ -10,7 +10,7 @@ use Rattle.rv_rows.specs.declared.changes.Change.{Change}
 use Rattle.rv_rows.specs.Changes.{Rise, is_before, is_of, rows_with_changes, touches}
 use Rattle.rv_rows.specs.Rows.{Ascend, comes_below, with_values, without_row}
 use Rattle.rv_rows.specs.Merging.{Passes}
-use Rattle.rv_rows.proofs.Filters.{all_filter, filter_same, filter_twice}
+use Rattle.rv_rows.proofs.Filters.{all_filter, filters_turn}
 use Rattle.rv_rows.proofs.Merges.{without_cut}
 use Rattle.rv_rows.proofs.Puts.{rising_filter}
 use Rattle.rv_reader.specs.Storing.{pages_after}
@@ -26,18 +26,8 @@ module _ (q : ℕ → Bool) where
   p : Record → Bool
   p r = q r.row.0
 
-  all_rows : (rows : List Record) → list_all (λ (r : Record). true) rows ≡ true
-  all_rows [] = refl
-  all_rows (r ∷ rows) = all_rows rows
-
-  turn : (a b : Bool) → (a && b) ≡ (b && a)
-  turn true true = refl
-  turn true false = refl
-  turn false true = refl
-  turn false false = refl
-
   swap : (t : Record → Bool) (rows : List Record) → filter (λ (r : Record). q r.row.0) (filter t rows) ≡ filter t (filter (λ (r : Record). q r.row.0) rows)
-  swap t rows = filter_twice (λ (r : Record). q r.row.0) t rows ∙ filter_same (λ (r : Record). true) (λ r. t r && q r.row.0) (λ r. q r.row.0 && t r) rows (all_rows rows) (λ r h. turn (t r) (q r.row.0)) ∙ sym (filter_twice t (λ (r : Record). q r.row.0) rows)
+  swap t rows = filters_turn (λ (r : Record). q r.row.0) t rows
 
   joined : (xs ys : List Record) → filter (λ (r : Record). q r.row.0) (xs ++ ys) ≡ filter (λ (r : Record). q r.row.0) xs ++ filter (λ (r : Record). q r.row.0) ys
   joined [] ys = refl

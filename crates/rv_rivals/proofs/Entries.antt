@@ -8,7 +8,6 @@ use Rattle.std.specs.Ordering.{is_eq}
 use Rattle.std.proofs.lemmas.Option.{same_Some}
 use Rattle.std.proofs.Math.Bool.{or-false}
 use Rattle.rv_reader.proofs.Rows.{applied_ascends}
-use Rattle.rv_value.proofs.Lists.{passes_take}
 use Rattle.rv_value.specs.declared.value.Value.{Value}
 use Rattle.rv_value.specs.declared.record.Record.{Record}
 use Rattle.rv_value.specs.declared.record.IndexEntry.{IndexEntry}
@@ -21,6 +20,7 @@ use Rattle.rv_rows.specs.Rising.{put_in}
 use Rattle.rv_rows.specs.Rows as rows_by_number
 use Rattle.rv_rows.specs.Rows.{comes_below}
 use Rattle.rv_rows.proofs.Merges.{passes_put}
+use Rattle.rv_rows.proofs.Cuts.{rising_take}
 use Rattle.rv_reader.specs.Entries.{Ascend, comes_before, entries_of, entry_of, entry_at}
 use Rattle.rv_reader.specs.Tables.{row_at}
 use Rattle.rv_reader.proofs.Sorting.{entries_ascend}
@@ -54,11 +54,6 @@ written_given table (c ∷ cs) rise of =
     sym (passes.same cs rise) ∙ ap (λ rows. values_row c.row.0 c.values ++ rows) (written_given table cs rise.1 of.1)
 
 -- They ascend, and so do those of the changes in front.
-
-rise_taken : (k : ℕ) (cs : List Change) → Rise cs → Rise (take k cs)
-rise_taken zero cs rise = tt
-rise_taken (suc k) [] rise = tt
-rise_taken (suc k) (c ∷ cs) rise = (passes_take (is_before c) k cs rise.0, rise_taken k cs rise.1)
 
 of_taken : (table k : ℕ) (cs : List Change) → AllByRecursion (λ (c : Change). c.table ≡ table) cs → AllByRecursion (λ (c : Change). c.table ≡ table) (take k cs)
 of_taken table zero cs of = tt
@@ -129,7 +124,7 @@ pub entries_next : (columns : List ℕ) (table k : ℕ) (c : Change) (new : List
     → entries ≡ entries_of columns (given (take k new)) → next ≡ with_some (entry_at columns (changed_row (Some c) None)) entries → next ≡ entries_of columns (given (take (suc k) new))
 entries_next columns table k c new entries next rise of is before put =
     let more : given (take (suc k) new) ≡ given (take k new) ++ values_row c.row.0 c.values = ap given (take_next new k c is) ∙ given_more (take k new) c in
-    let ascends = subst rows_by_number.Ascend more (given_ascends table (take (suc k) new) (rise_taken (suc k) new rise) (of_taken table (suc k) new of)) in
+    let ascends = subst rows_by_number.Ascend more (given_ascends table (take (suc k) new) (rising_take is_before (suc k) new rise) (of_taken table (suc k) new of)) in
     put ∙ ap (with_some (entry_at columns (changed_row (Some c) None))) before ∙ one_more columns c c.values (given (take k new)) ascends ∙ ap (entries_of columns) (sym more)
 
 -- the rows that a statement changes, told by a list with the same rows

@@ -9,7 +9,7 @@ use Rattle.std.proofs.lemmas.Bool.Decides.{nat_tests}
 use Rattle.std.proofs.lemmas.List.{map-append, take-append-drop, take_more}
 use Rattle.std.proofs.lemmas.List.Elements.{filter_agree}
 use Rattle.rv_value.specs.declared.value.Value.{Value}
-use Rattle.rv_value.proofs.Lists.{passes_take, all_true, passes_at}
+use Rattle.rv_value.proofs.Lists.{all_true}
 use Rattle.rv_rows.specs.declared.changes.Change.{Change}
 use Rattle.rv_rows.specs.declared.changes.RowKey.{RowKey}
 use Rattle.rv_rows.specs.declared.changes.Undo.{Undo}
@@ -17,7 +17,7 @@ use Rattle.rv_rows.specs.Changes.{Rise, change_at, has_change, is_before, is_fro
 use Rattle.rv_rows.specs.Kept.{IsGathered, IsKept, begins_at, begins_in, comes_before, kept_changes}
 use Rattle.rv_rows.proofs.Among.{set_is}
 use Rattle.rv_rows.proofs.Chains.{by_row, change_last, change_pushed, change_rises}
-use Rattle.rv_rows.proofs.Cuts.{partitioned}
+use Rattle.rv_rows.proofs.Cuts.{partitioned, rising_ahead, rising_drop, rising_take}
 use Rattle.rv_rows.proofs.Keys.{Entry, insert_is, is_same, none_above, not_of_later}
 use Rattle.rv_rows.proofs.Puts.{put_behind}
 use Rattle.rv_rows.proofs.Undoing.{AreOthers, same_with, undo_is, undone_rises}
@@ -161,16 +161,11 @@ set_first table row v (c ∷ cs) rise h =
     let others = later_others table row c cs from rise.0 in
     rw here (ap (λ (ds : List Change). record c { values = v } ∷ ds) (same_with table row v cs others) ∙ ap (λ (x : ℕ × ℕ). change_at (record { table = x.0; row = record { 0 = x.1 } }, v) ∷ cs) (λ i. (t i, r i)))
 
-rise_drop : (i : ℕ) (cs : List Change) → Rise cs → Rise (drop i cs)
-rise_drop zero cs rise = rise
-rise_drop (suc i) [] rise = tt
-rise_drop (suc i) (c ∷ cs) rise = rise_drop i cs rise.1
-
 pub set_place : (table row : ℕ) (v : Option (List Value)) (cs : List Change) (i : ℕ) → Rise cs → begins_at table row (drop i cs) ≡ true → slice_set cs i (record { table = table; row = record { 0 = row }; values = v }) ≡ with_new table row v cs
 set_place table row v cs i rise h =
     let new : Change = record { table = table; row = record { 0 = row }; values = v } in
     let front = same_with table row v (take i cs) (others_ahead table row cs i rise h) in
-    let back = set_first table row v (drop i cs) (rise_drop i cs rise) h in
+    let back = set_first table row v (drop i cs) (rising_drop is_before i cs rise) h in
     let parts : take i cs ++ drop i cs ≡ cs = take-append-drop i cs in
     set_is cs i new (inside table row cs i h)
     ∙ (λ j. sym front j ++ sym back j)
@@ -240,22 +235,11 @@ gathered_mapped (c ∷ cs) es e = let none : length (c ∷ cs) ≡ 0 = grind (ar
 
 -- a list as entries, up to a place
 
-rise_take : (i : ℕ) (cs : List Change) → Rise cs → Rise (take i cs)
-rise_take zero [] rise = tt
-rise_take zero (c ∷ cs) rise = tt
-rise_take (suc i) [] rise = tt
-rise_take (suc i) (c ∷ cs) rise = (passes_take (is_before c) i cs rise.0, rise_take i cs rise.1)
-
-all_ahead : (cs : List Change) (i : ℕ) (d : Change) → Rise cs → i < length cs → list_all (λ (c : Change). is_before c (slice_index_or cs i d)) (take i cs) ≡ true
-all_ahead [] i d rise within = absurd (omega arith)
-all_ahead (c ∷ cs) zero d rise within = refl
-all_ahead (c ∷ cs) (suc i) d rise within = rw (passes_at (is_before c) cs i d (omega arith) rise.0) (all_ahead cs i d rise.1 (omega arith))
-
 pub mapped_more : (cs : List Change) (i : ℕ) (c : Change) (es more : List Entry) (k : RowKey) (v : Option (List Value)) → Rise cs → i < length cs → c ≡ slice_index_or cs i c → change_at (k, v) ≡ c → more ≡ insert_entry key_cmp es k v → map change_at es ≡ take i cs → map change_at more ≡ take (i + 1) cs
 mapped_more cs i c es more k v rise within is at grown so_far =
-    let ahead : list_all (λ (d : Change). is_before d c) (take i cs) ≡ true = subst (λ (x : Change). list_all (λ (d : Change). is_before d x) (take i cs) ≡ true) (sym is) (all_ahead cs i c rise within) in
+    let ahead : list_all (λ (d : Change). is_before d c) (take i cs) ≡ true = subst (λ (x : Change). list_all (λ (d : Change). is_before d x) (take i cs) ≡ true) (sym is) (rising_ahead is_before cs i c within rise) in
     ap (map change_at) grown
-    ∙ insert_is es k v (subst Rise (sym so_far) (rise_take i cs rise))
+    ∙ insert_is es k v (subst Rise (sym so_far) (rising_take is_before i cs rise))
     ∙ ap (λ (d : Change). with_change d (map change_at es)) at
     ∙ ap (with_change c) so_far
     ∙ put_behind is_before by_row c (take i cs) ahead

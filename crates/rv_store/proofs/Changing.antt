@@ -1,8 +1,8 @@
 -- An index through the changes of its table's rows.
-use Rattle.std.proofs.Common.{◌≡◌, ℕ, ◌<◌, List, [], ◌∷◌, ◌++◌, Bool, true, false, not, ◌&&◌, ◌||◌, ◌==◌, refl, ap, sym, ◌∙◌, inl, inr, arith, subst, length, zero, suc, filter, take, nat_lt, Option, Some, None}
+use Rattle.std.proofs.Common.{◌≡◌, ℕ, List, [], ◌∷◌, ◌++◌, Bool, true, false, not, ◌&&◌, ◌||◌, ◌==◌, refl, ap, sym, ◌∙◌, inl, inr, arith, subst, length, filter, nat_lt, Option, Some, None}
 use Rattle.std.proofs.lemmas.Bool.{cases_Bool, cases_lt, and_parts}
 use Rattle.std.proofs.lemmas.Bool.Decides.{nat_tests}
-use Rattle.std.specs.List.{list_all, slice_index_or}
+use Rattle.std.specs.List.{list_all}
 use Rattle.std.specs.Ordering.{is_lt, is_eq, ordering_reverse}
 use Rattle.std.specs.declared.cmp.Ordering.{Ordering}
 use Rattle.std.specs.declared.cmp.Ordering.TheVariants.{Less, Equal, Greater}
@@ -14,7 +14,7 @@ use Rattle.rv_value.specs.declared.record.IndexEntry.{IndexEntry}
 use Rattle.rv_value.specs.Entries.{entry_cmp}
 use Rattle.rv_value.specs.Orders.{entry_cmp_total}
 use Rattle.rv_rows.specs.declared.changes.Change.{Change}
-use Rattle.rv_rows.specs.Changes.{Rise, is_before, rows_with_changes}
+use Rattle.rv_rows.specs.Changes.{is_before, rows_with_changes}
 use Rattle.rv_rows.specs.Rows.{comes_below, with_values, without_row, Ascend}
 use Rattle.rv_reader.specs.Tables.{row_at}
 use Rattle.rv_reader.specs.Entries.{comes_before, entry_of, column_of, entry_at}
@@ -176,18 +176,6 @@ row_applied c (d ∷ ds) rows all =
   where
     later : (t u m n : ℕ) → (nat_lt t u || ((t == u) && nat_lt m n)) ≡ true → t == u ≡ true → n ≡ m → ⊥
     later t u m n h e s = grind (arith, nat_tests)
-
-pub rise_before : (i : ℕ) (cs : List Change) (d : Change) → i < length cs → Rise cs → list_all (λ (x : Change). is_before x (slice_index_or cs i d)) (take i cs) ≡ true
-rise_before i [] d h rise = absurd (omega arith)
-rise_before zero (c ∷ cs) d h rise = refl
-rise_before (suc i) (c ∷ cs) d h rise =
-    let here = first_before cs i (omega arith) rise.0 in
-    rw here (rise_before i cs d (omega arith) rise.1)
-  where
-    first_before : (xs : List Change) (j : ℕ) → j < length xs → list_all (is_before c) xs ≡ true → is_before c (slice_index_or xs j d) ≡ true
-    first_before [] j l all = absurd (omega arith)
-    first_before (x ∷ xs) zero l all = (and_parts (is_before c x) (list_all (is_before c) xs) all).0
-    first_before (x ∷ xs) (suc j) l all = first_before xs j (omega arith) (and_parts (is_before c x) (list_all (is_before c) xs) all).1
 
 -- the row of a change is as it was before the changes in front of it
 pub row_before : (table : ℕ) (c : Change) (cs : List Change) (rows : List Record) → c.table ≡ table → list_all (λ (d : Change). is_before d c) cs ≡ true → row_at rows c.row.0 ≡ row_at (rows_with_changes table cs rows) c.row.0

@@ -27,12 +27,6 @@ before_goes table c d h k = grind (arith, nat_tests)
 pub before_parted : (table : ℕ) (cs : List Change) → Rise cs → IsPartitionedBy (λ (c : Change). nat_lt c.table table) cs
 before_parted table cs rise = partitioned is_before any (λ (c : Change). nat_lt c.table table) (λ c d h a b k. before_goes table c d h k) cs rise (all_true cs)
 
-up_to_goes : (table : ℕ) (c d : Change) → is_before c d ≡ true → nat_le d.table table ≡ true → nat_le c.table table ≡ true
-up_to_goes table c d h k = grind (arith, nat_tests)
-
-pub up_to_parted : (table : ℕ) (cs : List Change) → Rise cs → IsPartitionedBy (λ (c : Change). nat_le c.table table) cs
-up_to_parted table cs rise = partitioned is_before any (λ (c : Change). nat_le c.table table) (λ c d h a b k. up_to_goes table c d h k) cs rise (all_true cs)
-
 pub rise_behind : (table : ℕ) (cs rest : List Change) (k : ℕ) → Rise cs → rest ≡ drop k cs → drop k cs ≡ filter (λ (c : Change). not (nat_lt c.table table)) cs → Rise rest
 rise_behind table cs rest k rise is back = subst Rise (sym (is ∙ back)) (rising_filter is_before (λ (c : Change). not (nat_lt c.table table)) cs rise)
 

@@ -16,6 +16,7 @@ use Rattle.rv_restrict.specs.declared.atom.Atom.{Atom}
 use Rattle.rv_restrict.specs.Bind.{passes_home}
 use Rattle.rv_restrict.specs.Truth.{names_only, qualifies}
 use Rattle.rv_catalog.specs.Fits.{is_column}
+use Rattle.rv_rows.proofs.Filters.{filters_turn}
 use Rattle.rv_reader.specs.Storing.{AreWide}
 use Rattle.rv_txn.specs.Changing.{HasColumns, HaveColumns, IsWide, LeavesColumns, kept_change, kept_values}
 
@@ -44,29 +45,16 @@ filter_have only p (r ∷ rows) have =
 
 -- Rows that a test passes, with changes of which the values that it does not pass are left out.
 
-filter_swap : (p q : Record → Bool) (rows : List Record) → filter p (filter q rows) ≡ filter q (filter p rows)
-filter_swap p q [] = refl
-filter_swap p q (r ∷ rows) = elim (cases_Bool (p r)) [
-  | inl t ↦ elim (cases_Bool (q r)) [
-    | inl u ↦ rw (t, u, t) (ap (λ rs. r ∷ rs) (filter_swap p q rows))
-    | inr g ↦ rw (t, g) (filter_swap p q rows)
-  ]
-  | inr f ↦ elim (cases_Bool (q r)) [
-    | inl u ↦ rw (f, u, f) (filter_swap p q rows)
-    | inr g ↦ rw (f, g) (filter_swap p q rows)
-  ]
-]
-
 -- whether a row is kept
 abbrev pub keeps : List (List Atom) → Record → Bool
 keeps only r = qualifies only r.values
 
 kept_with : (only : List (List Atom)) (number : ℕ) (values : Option (List Value)) (rows : List Record) → Ascend rows → filter (keeps only) (with_values number values rows) ≡ with_values number (kept_values only values) (filter (keeps only) rows)
-kept_with only number None rows ascend = filter_swap (keeps only) (λ (r : Record). not (r.row.0 == number)) rows
+kept_with only number None rows ascend = filters_turn (keeps only) (λ (r : Record). not (r.row.0 == number)) rows
 kept_with only number (Some vs) rows ascend =
     let new : Record = record { row = record { 0 = number }; values = vs } in
-    let front = filter_swap (keeps only) (λ (r : Record). comes_below r new) rows in
-    let back = filter_swap (keeps only) (λ (r : Record). comes_below new r) rows in
+    let front = filters_turn (keeps only) (λ (r : Record). comes_below r new) rows in
+    let back = filters_turn (keeps only) (λ (r : Record). comes_below new r) rows in
     elim (cases_Bool (qualifies only vs)) [
       | inl t ↦ rw (filter-append (keeps only) (filter (λ (r : Record). comes_below r new) rows) (new ∷ filter (λ (r : Record). comes_below new r) rows), t, front, back) refl
       | inr f ↦

@@ -5,22 +5,14 @@ use Rattle.std.proofs.lemmas.Bool.{cases_Bool, and_parts}
 use Rattle.std.proofs.lemmas.Bool.Decides.{nat_tests}
 use Rattle.std.proofs.lemmas.List.{length-take-le}
 use Rattle.std.specs.List.{list_all}
-use Rattle.std.specs.List.Sorted.{IsPartitionedBy}
 use Rattle.std.proofs.lemmas.Option.{same_Some}
 use Rattle.rv_value.proofs.Lists.{filter_passes, all_true}
 use Rattle.rv_rows.specs.declared.changes.Change.{Change}
 use Rattle.rv_rows.specs.Changes.{Rise, is_before}
-use Rattle.rv_rows.proofs.Cuts.{partitioned}
 use Rattle.rv_rows.proofs.Filters.{filter_same, filter_twice}
 use Rattle.rv_rows.proofs.Puts.{rising_filter}
 use Rattle.rv_view.specs.Making.{last_of, of_table}
 use Rattle.rv_view.proofs.Written.{all_last, last_is, last_or}
-
-up_down : (table : ℕ) (x y : Change) → is_before x y ≡ true → nat_le y.table table ≡ true → nat_le x.table table ≡ true
-up_down table x y h p = grind (arith, nat_tests)
-
-pub up_parted : (table : ℕ) (cs : List Change) → Rise cs → IsPartitionedBy (λ (c : Change). nat_le c.table table) cs
-up_parted table cs rise = partitioned is_before (λ (c : Change). true) (λ (c : Change). nat_le c.table table) (λ x y h a b p. up_down table x y h p) cs rise (all_true cs)
 
 abbrev last_in : List Change → Option Change
 last_in cs = slice_get cs (length cs - 1)

@@ -1,8 +1,7 @@
 use Rattle.std.proofs.Common.{rules, nat_le}
 use Rattle.std.proofs.lemmas.List.Sorted.{IsPartitionPoint-from_clause}
 use Rattle.rv_rows.specs.declared.changes.Change.{Change}
-use Rattle.rv_rows.proofs.Cuts.{cut_at}
-use Rattle.rv_store.proofs.Owning.{up_to_parted}
+use Rattle.rv_rows.proofs.Cuts.{cut_at, up_to_parted}
 use Rattle.rv_store.proofs.indexes.count_up_to.Goals as goal
 
 pub returns-clause-front : goal.returns-clause-front

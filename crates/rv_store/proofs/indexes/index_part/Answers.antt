@@ -5,12 +5,13 @@ use Rattle.rv_reader.proofs.Rows.{applied_ascends}
 use Rattle.rv_value.specs.declared.record.Record.{Record}
 use Rattle.rv_rows.specs.declared.changes.Change.{Change}
 use Rattle.rv_rows.specs.Changes.{is_before, rows_with_changes}
+use Rattle.rv_rows.proofs.Cuts.{rising_ahead}
 use Rattle.rv_reader.specs.Tables.{row_at}
 use Rattle.rv_records.specs.Pages.{rows_at}
 use Rattle.rv_index.specs.Index.{tree_of, entries_of}
 use Rattle.rv_reader.specs.Entries.{entry_at}
 use Rattle.rv_store.specs.Indexing.{row_with, taken_out, tree_through, IsAbsent, IsIndexed}
-use Rattle.rv_store.proofs.Changing.{same_index_trans, absent_new, row_before, rise_before, pass_indexed, pass_tree, applied_more}
+use Rattle.rv_store.proofs.Changing.{same_index_trans, absent_new, row_before, pass_indexed, pass_tree, applied_more}
 use Rattle.rv_store.proofs.indexes.index_part.Goals as goal
 
 pub pass_change-requires-clause-absent : goal.pass_change-requires-clause-absent
@@ -22,7 +23,7 @@ pass_change-requires-clause-absent c own =
     let columns = c.args.index.now.columns in
     let rows = rows_at c.args.records.now c.args.commit in
     let so_far = rows_with_changes table (take i all) rows in
-    let front : list_all (λ (d : Change). is_before d item) (take i all) ≡ true = subst (λ (x : Change). list_all (λ (d : Change). is_before d x) (take i all) ≡ true) (sym c.change-item.is) (rise_before i all item c.changes-test.true c.requires.rise) in
+    let front : list_all (λ (d : Change). is_before d item) (take i all) ≡ true = subst (λ (x : Change). list_all (λ (d : Change). is_before d x) (take i all) ≡ true) (sym c.change-item.is) (rising_ahead is_before all i item c.changes-test.true c.requires.rise) in
     let found = row_before table item (take i all) rows (own ∙ c.changes.invariant.same.table) front in
     subst (λ (cs : List ℕ). IsAbsent (entry_at cs (row_with item.row.0 item.values)) (taken_out (entry_at cs (row_at rows item.row.0)) (entries_of c.changes.index.tree c.args.commit))) (sym c.changes.invariant.same.columns)
     (absent_new c.args.commit columns item.row.0 item.values (row_at rows item.row.0) so_far c.changes.index.tree (applied_ascends table (take i all) rows c.requires.ascend) found c.changes.invariant.indexed)
@@ -40,7 +41,7 @@ changes-preserved c =
     let rows = rows_at c.args.records.now c.args.commit in
     let so_far = rows_with_changes table (take i all) rows in
     let before = row_at rows item.row.0 in
-    let front : list_all (λ (d : Change). is_before d item) (take i all) ≡ true = subst (λ (x : Change). list_all (λ (d : Change). is_before d x) (take i all) ≡ true) (sym c.change-item.is) (rise_before i all item c.changes-test.true c.requires.rise) in
+    let front : list_all (λ (d : Change). is_before d item) (take i all) ≡ true = subst (λ (x : Change). list_all (λ (d : Change). is_before d x) (take i all) ≡ true) (sym c.change-item.is) (rising_ahead is_before all i item c.changes-test.true c.requires.rise) in
     let next : take (i + 1) all ≡ take i all ++ item ∷ [] = take_more all i item c.changes-test.true ∙ ap (λ (x : Change). take i all ++ x ∷ []) (sym c.change-item.is) in
     let rest : drop i all ≡ item ∷ drop (i + 1) all = drop_more all i item c.changes-test.true ∙ ap (λ (x : Change). x ∷ drop (i + 1) all) (sym c.change-item.is) in
     let step = applied_more table (take i all) item (take (i + 1) all) rows next in

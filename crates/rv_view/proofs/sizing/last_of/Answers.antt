@@ -1,10 +1,11 @@
 use Rattle.std.proofs.Common.{◌≡◌, ◌∙◌, ◌-◌, ap, sym, arith, true, false, ◌==◌, cond, Some, None}
 use Rattle.std.proofs.lemmas.Bool.Decides.{nat_tests}
-use Rattle.rv_view.proofs.Last.{last_at, last_none, up_parted}
+use Rattle.rv_rows.proofs.Cuts.{up_to_parted}
+use Rattle.rv_view.proofs.Last.{last_at, last_none}
 use Rattle.rv_view.proofs.sizing.last_of.Goals as goal
 
 pub count-rank-requires : goal.count-rank-requires
-count-rank-requires c = up_parted c.args.table c.args.written.now c.requires
+count-rank-requires c = up_to_parted c.args.table c.args.written.now c.requires
 
 pub returns-then-rank-eq0 : goal.returns-then-rank-eq0
 returns-then-rank-eq0 c = sym (last_none c.args.table c.count-rank.result c.args.written.now c.count-rank.ensures.front c.if-rank-eq0.true)

@@ -1,14 +1,10 @@
-use Rattle.std.proofs.Common.{◌≡◌, List, [], ◌∷◌, true, arith, refl}
+use Rattle.std.proofs.Common.{true, arith}
 use Rattle.std.specs.Prelude.{nat_lt, nat_le}
-use Rattle.std.specs.List.{list_all}
 use Rattle.std.proofs.lemmas.Bool.Decides.{nat_tests}
+use Rattle.rv_value.proofs.Lists.{all_true}
 use Rattle.try_views.specs.declared.lists.Ten.{Ten}
 use Rattle.rv_rows.proofs.Cuts.{partitioned}
 use Rattle.try_views.proofs.lists.up_to.Goals as goal
 
-all_tens : (xs : List Ten) → list_all (λ (x : Ten). true) xs ≡ true
-all_tens [] = refl
-all_tens (x ∷ xs) = all_tens xs
-
 pub count-requires : goal.count-requires
-count-requires c = partitioned (λ (a : Ten) (b : Ten). nat_lt a.ten b.ten) (λ (x : Ten). true) (λ (x : Ten). nat_le x.ten c.args.tens) (λ x y h a b k. let first = h in let second = k in grind (arith, nat_tests)) c.args.list.now c.len-count.ensures.rise (all_tens c.args.list.now)
+count-requires c = partitioned (λ (a : Ten) (b : Ten). nat_lt a.ten b.ten) (λ (x : Ten). true) (λ (x : Ten). nat_le x.ten c.args.tens) (λ x y h a b k. let first = h in let second = k in grind (arith, nat_tests)) c.args.list.now c.len-count.ensures.rise (all_true c.args.list.now)
