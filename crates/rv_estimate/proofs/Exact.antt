@@ -8,14 +8,12 @@ use Rattle.std.proofs.lemmas.Grind.{flat_map-append}
 use Rattle.rv_value.proofs.Lists.{all_more}
 use Rattle.rv_value.specs.declared.record.IndexEntry.{IndexEntry}
 use Rattle.rv_value.specs.declared.range.Range.{Range}
-use Rattle.rv_value.specs.declared.range.Side.{Side}
-use Rattle.rv_value.specs.declared.range.Side.TheVariants.{Before, In, After}
-use Rattle.rv_value.specs.Ranges.{place, in_side, is_empty}
+use Rattle.rv_value.specs.Ranges.{place, is_empty}
 use Rattle.rv_reader.specs.declared.reader.Estimate.{Estimate}
 use Rattle.rv_reader.specs.Entries.{comes_before, is_in, run, AreLong}
-use Rattle.rv_reader.specs.Leaves.{before_side, after_side}
+use Rattle.rv_reader.specs.Leaves.{after_side}
 use Rattle.rv_reader.specs.Shown.{IsEstimate}
-use Rattle.rv_reader.proofs.Chunks.{is_long}
+use Rattle.rv_reader.proofs.Chunks.{is_long, after_out, before_out}
 use Rattle.rv_reader.proofs.Orders.{order, one_way, key_not}
 use Rattle.rv_reader.proofs.Sides.{before_along, after_along}
 use Rattle.rv_reader.specs.Halves.{is_before, is_not_after}
@@ -89,16 +87,6 @@ child_at f none [] kid back = refl
 child_at f none (k ∷ front) kid back = child_at f none front kid back
 
 -- What is beside the child is not in the range.
-
-before_out : (s : Side) → before_side s ≡ true → in_side s ≡ false
-before_out Before h = refl
-before_out In h = cc
-before_out After h = refl
-
-after_out : (s : Side) → after_side s ≡ true → in_side s ≡ false
-after_out Before h = refl
-after_out In h = cc
-after_out After h = refl
 
 module _ (range : Range) where
   abbrev Long : IndexEntry → Type 0

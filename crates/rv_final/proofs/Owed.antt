@@ -1,10 +1,6 @@
--- Rows that are owed, and how many rows ascend below a number.
-use Rattle.std.proofs.Common.{◌≡◌, ℕ, ◌+◌, ◌<◌, ◌≤◌, List, [], ◌∷◌, Bool, true, false, ◌&&◌, ◌||◌, cond, refl, ap, arith, length, nat_eq, nat_lt}
-use Rattle.std.proofs.lemmas.Bool.{ltb-true}
-use Rattle.std.specs.Cmp.{first_so}
-use Rattle.std.specs.List.{AllByRecursion, list_all}
+-- Rows that are owed.
+use Rattle.std.proofs.Common.{◌≡◌, ℕ, List, [], ◌∷◌, Bool, true, false, ◌&&◌, ◌||◌, cond, refl, ap, nat_eq}
 use Rattle.rv_value.specs.declared.record.Record.{Record}
-use Rattle.rv_rows.specs.Rows.{Ascend}
 use Rattle.rv_restrict.specs.declared.atom.Atom.{Atom}
 use Rattle.rv_restrict.specs.Truth.{qualifies}
 use Rattle.rv_final.specs.Rest.{has_row, qualifies_at, qualifying, rest_by}
@@ -23,14 +19,3 @@ row_there only (r ∷ rows) n q = either (nat_eq n r.row.0) (qualifies only r.va
     either : (a b c d : Bool) → ((a && b) || c) ≡ true → (c ≡ true → d ≡ true) → (a || d) ≡ true
     either true b c d h f = refl
     either false b c d h f = f h
-
-pub rows_above : (rows : List Record) (low high : ℕ) → Ascend rows → AllByRecursion (λ (r : Record). r.row.0 < high) rows → list_all (λ (r : Record). nat_lt low r.row.0) rows ≡ true → low < high → length rows + low + 1 ≤ high
-rows_above [] low high asc below above l = omega arith
-rows_above (r ∷ rows) low high asc below above l =
-    let first : low < r.row.0 = ltb-true low r.row.0 (first_so _ _ above) in
-    let more = rows_above rows r.row.0 high asc.1 below.1 asc.0 below.0 in
-    omega arith
-
-pub rows_within : (rows : List Record) (high : ℕ) → Ascend rows → AllByRecursion (λ (r : Record). r.row.0 < high) rows → length rows ≤ high
-rows_within [] high asc below = omega arith
-rows_within (r ∷ rows) high asc below = let more = rows_above rows r.row.0 high asc.1 below.1 asc.0 below.0 in omega arith

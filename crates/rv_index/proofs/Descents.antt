@@ -1,15 +1,14 @@
 -- A step down, and what is read of the leaf in which a descent ends.
-use Rattle.std.proofs.Common.{ℕ, zero, suc, true, ◌+◌, ◌<◌, ◌≤◌, ◌≡◌, List, [], Option, Some, None, Bool, refl, ap, sym, ◌∙◌, arith, length}
+use Rattle.std.proofs.Common.{ℕ, zero, suc, ◌+◌, ◌<◌, ◌≤◌, ◌≡◌, List, [], Option, None, Bool, refl, ap, sym, ◌∙◌, arith, length}
 use Rattle.std.specs.Prelude.{filter}
-use Rattle.std.proofs.lemmas.Bool.{not-true}
 use Rattle.rv_value.proofs.Lists.{filter_length}
 use Rattle.rv_value.specs.declared.record.IndexEntry.{IndexEntry}
 use Rattle.rv_value.specs.declared.range.Range.{Range}
 use Rattle.rv_reader.specs.Entries.{comes_before, AreLong}
 use Rattle.rv_reader.specs.Leaves.{is_passed, is_wanted, within, leaf_at, leaf_entries, IsChunk}
 use Rattle.rv_reader.proofs.Chunks.{is_chunk, is_long, run_tests}
-use Rattle.rv_reader.proofs.Orders.{order, one_way, key_not}
-use Rattle.rv_reader.proofs.Sides.{before_along}
+use Rattle.rv_reader.proofs.Orders.{order}
+use Rattle.rv_reader.proofs.Halving.{passed_goes}
 use Rattle.rv_node.specs.Nodes.{Parts}
 use Rattle.rv_node.specs.Trees.{entries_all, cuts_all}
 use Rattle.rv_node.specs.Stored.{tree_at, IsStored}
@@ -43,11 +42,6 @@ pub leaf_end : (at : ℕ → Parts) (goes : IndexEntry → Bool) (level id : ℕ
 leaf_end at goes zero id next l = refl
 leaf_end at goes (suc level) id next l = absurd (omega arith)
 
--- what is before a cut that is passed is passed
-passed_before : (start : Option IndexEntry) (range : Range) (x c : IndexEntry) → is_long range x ≡ true → is_long range c ≡ true → comes_before x c ≡ true → is_passed start range c ≡ true → is_passed start range x ≡ true
-passed_before None range x c lx lc l p = before_along range x.key c.key (key_not x c (one_way x c l)) lx lc p
-passed_before (Some s) range x c lx lc l p = rw (order.chain s c x (not-true (comes_before s c) p) (one_way x c l)) refl
-
 pub chunk_is : (len : ℕ) (at : ℕ → Parts) (range : Range) (start : Option IndexEntry) (leaf entries : List IndexEntry) (cut next : Option IndexEntry) → IsIndexTree len at → AreLong range (entries_all (whole_at at)) → AreLong range (cuts_all (whole_at at))
     → (leaf, cut) ≡ leaf_of at start range → entries ≡ filter (is_wanted range start) leaf → next ≡ within range cut → IsChunk (entries_all (whole_at at)) (cuts_all (whole_at at)) range start (record { entries = entries; next = next })
 chunk_is len at range start leaf entries cut next index long long_cuts l e n =
@@ -56,7 +50,7 @@ chunk_is len at range start leaf entries cut next index long long_cuts l e n =
     let goes = is_passed start range in
     let es = entries_all (whole_at at) in
     let cs = cuts_all (whole_at at) in
-    let found = leaf_found goes (is_long range) (passed_before start range) level tree index.whole long_cuts in
+    let found = leaf_found goes (is_long range) (λ x c lx lc l p. passed_goes range start x c l lx lc p) level tree index.whole long_cuts in
     let leaf_is : leaf ≡ leaf_entries (leaf_at cs start range) es = ap (λ p. p.0) l ∙ found.0 in
     let cut_is : cut ≡ (leaf_at cs start range).next = ap (λ p. p.1) l ∙ found.1 in
     let short : length leaf ≤ 32 = rw (ap (λ p. p.0) l) (leaf_short comes_before level goes None None tree index.whole None) in

@@ -8,6 +8,7 @@ use Rattle.rv_reader.specs.declared.reader.Chunk.{Chunk}
 use Rattle.rv_reader.specs.Entries.{comes_before, is_in}
 use Rattle.rv_reader.specs.Leaves.{IsChunk, run_from, run_after, from_on}
 use Rattle.rv_reader.specs.Storing.{AreKeys}
+use Rattle.rv_reader.proofs.Sorting.{keys_filter}
 use Rattle.rv_jscan.specs.Entries.{has_entry, Apart, Disjoint}
 
 pub has_append : (n : ℕ) (xs ys : List IndexEntry) → has_entry n (xs ++ ys) ≡ (has_entry n xs || has_entry n ys)
@@ -57,21 +58,13 @@ pub chunk_fresh : (entries cuts : List IndexEntry) (range : Range) (start : Opti
 chunk_fresh entries cuts range start chunk keys d f = Disjoint-left keys chunk.entries (run_after entries range chunk.next) (subst (Disjoint keys) d.parts f)
 
 -- keys have as many values in each part
-pub AreKeys-filter : (columns : ℕ) (p : IndexEntry → Bool) (xs : List IndexEntry) → AreKeys columns xs → AreKeys columns (filter p xs)
-AreKeys-filter columns p [] a = tt
-AreKeys-filter columns p (x ∷ xs) a =
-    elim (p x) as (λ b. AreKeys columns (cond b (x ∷ filter p xs) (filter p xs))) [
-      | true ↦ (a.0, AreKeys-filter columns p xs a.1)
-      | false ↦ AreKeys-filter columns p xs a.1
-    ]
-
 AreKeys-left : (columns : ℕ) (xs ys : List IndexEntry) → AreKeys columns (xs ++ ys) → AreKeys columns xs
 AreKeys-left columns [] ys a = tt
 AreKeys-left columns (x ∷ xs) ys a = (a.0, AreKeys-left columns xs ys a.1)
 
 AreKeys-run : (columns : ℕ) (entries : List IndexEntry) (range : Range) (start : Option IndexEntry) → AreKeys columns entries → AreKeys columns (run_from entries range start)
-AreKeys-run columns entries range None a = AreKeys-filter columns (is_in range) entries a
-AreKeys-run columns entries range (Some s) a = AreKeys-filter columns (is_in range) (from_on (Some s) entries) (AreKeys-filter columns (λ (e : IndexEntry). not (comes_before e s)) entries a)
+AreKeys-run columns entries range None a = keys_filter columns (is_in range) entries a
+AreKeys-run columns entries range (Some s) a = keys_filter columns (is_in range) (from_on (Some s) entries) (keys_filter columns (λ (e : IndexEntry). not (comes_before e s)) entries a)
 
 pub chunk_keys : (columns : ℕ) (entries cuts : List IndexEntry) (range : Range) (start : Option IndexEntry) (chunk : Chunk) → IsChunk entries cuts range start chunk → AreKeys columns entries → AreKeys columns chunk.entries
 chunk_keys columns entries cuts range start chunk d a = AreKeys-left columns chunk.entries (run_after entries range chunk.next) (subst (AreKeys columns) d.parts (AreKeys-run columns entries range start a))

@@ -16,13 +16,13 @@ use Rattle.rv_reader.specs.Shown.{IsEstimate, IsIndex}
 use Rattle.rv_value.specs.Orders.{entry_cmp_total}
 use Rattle.std.specs.Cmp.{tied_itself}
 use Rattle.std.proofs.lemmas.List.{length-append}
-use Rattle.rv_reader.proofs.Sorting.{same}
+use Rattle.rv_reader.proofs.Sorting.{same, all_behind, equal_entries}
 use Rattle.rv_reader.proofs.Filters.{filter_same, filter_twice, all_filter}
-use Rattle.rv_reader.proofs.Orders.{one_way, follows}
+use Rattle.rv_reader.proofs.Orders.{one_way}
 use Rattle.rv_overlay.specs.declared.frozen.Part.{Part}
 use Rattle.rv_overlay.specs.Laying.{has, laid, marks, sixteenths, with_all, without}
 use Rattle.rv_overlay.specs.Overlaid.{LaysIndex, counted, fits}
-use Rattle.rv_overlay.proofs.Placing.{before_found, equal_same, filter_with, not_among, with_ascends}
+use Rattle.rv_overlay.proofs.Placing.{before_found, filter_with, not_among, with_ascends}
 use Rattle.rv_overlay.proofs.Following.{all_put, all_with}
 use Rattle.rv_overlay.proofs.Chunked.{keys_test, none_long, with_count}
 
@@ -99,7 +99,7 @@ not_there e [] all = refl
 not_there e (t ∷ ts) all =
     let parts = and_parts (comes_before e t) (list_all (comes_before e) ts) all in
     elim (cases_Bool (is_eq (entry_cmp t e))) [
-      | inl u ↦ let no : comes_before e e ≡ true = subst (λ y. comes_before e y ≡ true) (equal_same t e u) parts.0 in let not_so = one_way e e no in cc
+      | inl u ↦ let no : comes_before e e ≡ true = subst (λ y. comes_before e y ≡ true) (equal_entries t e u) parts.0 in let not_so = one_way e e no in cc
       | inr f ↦ rw f (not_there e ts parts.1)
     ]
 
@@ -109,10 +109,6 @@ there_rest e es (t ∷ ts) all there =
     let parts = and_parts (comes_before e t) (list_all (comes_before e) ts) all in
     let found = and_parts (has (e ∷ es) t) (list_all (has (e ∷ es)) ts) there in
     rw (rw (lt_other e t parts.0) at found.0) (there_rest e es ts parts.1 found.1)
-
-all_further : (e t : IndexEntry) (ts : List IndexEntry) → comes_before e t ≡ true → list_all (comes_before t) ts ≡ true → list_all (comes_before e) ts ≡ true
-all_further e t [] h all = refl
-all_further e t (u ∷ ts) h all = let parts = and_parts (comes_before t u) (list_all (comes_before t) ts) all in rw (follows e t u h parts.0) (all_further e t ts h parts.1)
 
 without_first : (p : IndexEntry → Bool) (e : IndexEntry) (ts es : List IndexEntry) → list_all (comes_before e) es ≡ true → filter p (without (e ∷ ts) es) ≡ filter p (without ts es)
 without_first p e ts es all = ap (filter p) (filter_same (comes_before e) (λ x. not (has (e ∷ ts) x)) (λ x. not (has ts x)) es all (λ x h. rw (lt_other e x h) refl))
@@ -137,14 +133,14 @@ without_count p (t ∷ ts) (e ∷ es) at ae there =
     let found = and_parts (has (e ∷ es) t) (list_all (has (e ∷ es)) ts) there in
     elim (cases_Bool (is_eq (entry_cmp e t))) [
       | inl u ↦
-          let is : e ≡ t = equal_same e t u in
+          let is : e ≡ t = equal_entries e t u in
           subst (λ (d : IndexEntry). length (filter p (without (d ∷ ts) (e ∷ es))) + length (filter p (d ∷ ts)) ≡ length (filter p (e ∷ es))) is
           (let above : list_all (comes_before e) ts ≡ true = subst (λ (d : IndexEntry). list_all (comes_before d) ts ≡ true) (sym is) at.0 in
           let rest = without_count p ts es at.1 ae.1 (there_rest e es ts above found.1) in
           rw (itself_true e, without_first p e ts es ae.0) (counted_first (p e) e (filter p (without ts es)) (filter p ts) (filter p es) rest))
       | inr f ↦
           let below : comes_before e t ≡ true = before_found e t es ae.0 (rw f at found.0) in
-          let above = all_further e t ts below at.0 in
+          let above = all_behind e t ts below at.0 in
           let all : list_all (comes_before e) (t ∷ ts) ≡ true = rw (below, above) refl in
           let rest = without_count p (t ∷ ts) es at ae.1 (there_rest e es (t ∷ ts) all there) in
           rw (not_there e (t ∷ ts) all) (counted_left (p e) e (filter p (without (t ∷ ts) es)) (filter p (t ∷ ts)) (filter p es) rest)

@@ -19,7 +19,7 @@ use Rattle.rv_rows.specs.Rows as rows_by_number
 use Rattle.rv_reader.specs.Entries.{column_of, entries_of, entry_of}
 use Rattle.rv_reader.specs.Storing.{pages_after, pages_with}
 use Rattle.rv_reader.specs.Tables.{IsTable, row_at}
-use Rattle.rv_reader.proofs.Sorting.{entries_keys}
+use Rattle.rv_reader.proofs.Sorting.{entries_keys, equal_entries}
 use Rattle.rv_overlay.specs.declared.frozen.TableSize.{TableSize}
 use Rattle.rv_overlay.specs.Freezing.{IndexFits, KeepsSize, TableFits}
 use Rattle.rv_overlay.specs.Laying.{has}
@@ -27,7 +27,6 @@ use Rattle.rv_overlay.specs.Overlaid.{IsSizeOf, size_of}
 use Rattle.rv_overlay.specs.Rows.{change_of, changed_row}
 use Rattle.rv_overlay.specs.Views.{is_entry}
 use Rattle.rv_overlay.proofs.Moving.{adds_is, takes_is}
-use Rattle.rv_overlay.proofs.Placing.{equal_same}
 use Rattle.rv_overlay.proofs.Viewing.{has_entries}
 
 -- Members and lists.
@@ -44,7 +43,7 @@ tests_members p (x ∷ xs) h = rw (h x (has_self x xs)) (tests_members p xs (λ 
 
 key_count : (columns : List ℕ) (found : Option Record) (e : IndexEntry) → is_entry columns found e ≡ true → length e.key ≡ length columns
 key_count columns None e h = cc
-key_count columns (Some r) e h = ap (λ (x : IndexEntry). length x.key) (sym (equal_same (entry_of columns r) e h)) ∙ length-map columns (column_of r.values)
+key_count columns (Some r) e h = ap (λ (x : IndexEntry). length x.key) (sym (equal_entries (entry_of columns r) e h)) ∙ length-map columns (column_of r.values)
 
 pub index_fits : IndexFits
 index_fits columns table changes rows cuts part keeps =

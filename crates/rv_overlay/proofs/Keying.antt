@@ -6,13 +6,13 @@ use Rattle.std.specs.Ordering.{is_eq}
 use Rattle.rv_value.specs.declared.record.IndexEntry.{IndexEntry}
 use Rattle.rv_value.specs.Entries.{entry_cmp}
 use Rattle.rv_reader.specs.Storing.{AreKeys}
+use Rattle.rv_reader.proofs.Sorting.{equal_entries}
 use Rattle.rv_overlay.specs.Laying.{has}
-use Rattle.rv_overlay.proofs.Placing.{equal_same}
 
 has_key : (width : ℕ) (entries : List IndexEntry) (e : IndexEntry) → AreKeys width entries → has entries e ≡ true → length e.key ≡ width
 has_key width [] e keys h = cc
 has_key width (x ∷ xs) e keys h = elim (cases_Bool (is_eq (entry_cmp x e))) [
-  | inl t ↦ ap (λ (y : IndexEntry). length y.key) (sym (equal_same x e t)) ∙ keys.0
+  | inl t ↦ ap (λ (y : IndexEntry). length y.key) (sym (equal_entries x e t)) ∙ keys.0
   | inr f ↦ has_key width xs e keys.1 (rw f at h)
 ]
 

@@ -8,10 +8,10 @@ use Rattle.rv_value.specs.Entries.{entry_cmp}
 use Rattle.rv_rows.specs.Rising.{put_in}
 use Rattle.rv_reader.specs.Entries.{comes_before, Ascend}
 use Rattle.rv_reader.proofs.Orders.{one_way}
-use Rattle.rv_reader.proofs.Sorting.{same}
+use Rattle.rv_reader.proofs.Sorting.{same, equal_entries}
 use Rattle.rv_overlay.specs.Laying.{has, laid, with_all, without}
 use Rattle.rv_overlay.specs.Members.{LaidHas, MembersTell}
-use Rattle.rv_overlay.proofs.Placing.{before_found, equal_same}
+use Rattle.rv_overlay.proofs.Placing.{before_found}
 use Rattle.rv_overlay.proofs.Counted.{itself_true, not_there}
 
 pub has_self : (x : IndexEntry) (xs : List IndexEntry) → has (x ∷ xs) x ≡ true
@@ -20,7 +20,7 @@ has_self x xs = rw (itself_true x) refl
 tail_same : (x e : IndexEntry) (xs ys : List IndexEntry) → Ascend (x ∷ xs) → Ascend (x ∷ ys) → has (x ∷ xs) e ≡ has (x ∷ ys) e → has xs e ≡ has ys e
 tail_same x e xs ys ax ay h = elim (cases_Bool (is_eq (entry_cmp x e))) [
   | inl t ↦
-      let is : x ≡ e = equal_same x e t in
+      let is : x ≡ e = equal_entries x e t in
       subst (λ d. has xs d ≡ has ys d) is (not_there x xs ax.0 ∙ sym (not_there x ys ay.0))
   | inr f ↦ rw f at h
 ]
@@ -28,7 +28,7 @@ tail_same x e xs ys ax ay h = elim (cases_Bool (is_eq (entry_cmp x e))) [
 behind_first : (x y : IndexEntry) (ys : List IndexEntry) → list_all (comes_before y) ys ≡ true → is_eq (entry_cmp x y) ≡ false → has (y ∷ ys) x ≡ true → comes_before y x ≡ true
 behind_first x y ys all f back = elim (cases_Bool (is_eq (entry_cmp y x))) [
   | inl t ↦
-      let is : y ≡ x = equal_same y x t in
+      let is : y ≡ x = equal_entries y x t in
       let wrong : is_eq (entry_cmp x y) ≡ true = subst (λ d. is_eq (entry_cmp x d) ≡ true) (sym is) (itself_true x) in
       let no : true ≡ false = sym wrong ∙ f in
       cc
@@ -41,7 +41,7 @@ members_tell [] (y ∷ ys) ax ay h = let no : false ≡ true = h y ∙ has_self 
 members_tell (x ∷ xs) [] ax ay h = let no : true ≡ false = sym (has_self x xs) ∙ h x in cc
 members_tell (x ∷ xs) (y ∷ ys) ax ay h = elim (cases_Bool (is_eq (entry_cmp x y))) [
   | inl t ↦
-      let is : y ≡ x = sym (equal_same x y t) in
+      let is : y ≡ x = sym (equal_entries x y t) in
       let ay_too : Ascend (x ∷ ys) = subst (λ d. Ascend (d ∷ ys)) is ay in
       let same_members : (e : IndexEntry) → has (x ∷ xs) e ≡ has (x ∷ ys) e = λ e. h e ∙ ap (λ d. has (d ∷ ys) e) is in
       let rest = members_tell xs ys ax.1 ay.1 (λ e. tail_same x e xs ys ax ay_too (same_members e)) in
@@ -71,7 +71,7 @@ has_filter p (x ∷ xs) e =
     let rest = has_filter p xs e in
     elim (cases_Bool (is_eq (entry_cmp x e))) [
       | inl t ↦
-          let is : x ≡ e = equal_same x e t in
+          let is : x ≡ e = equal_entries x e t in
           let test : p x ≡ p e = ap p is in
           elim (cases_Bool (p e)) [
             | inl u ↦ rw (test ∙ u, t, u) refl

@@ -13,7 +13,7 @@ use Rattle.rv_blocks.specs.Taking.{take_from}
 use Rattle.rv_reader.specs.Entries.{comes_before, entry_of, entry_at}
 use Rattle.rv_reader.specs.Tables.{row_at}
 use Rattle.rv_reader.proofs.Orders.{one_way}
-use Rattle.rv_reader.proofs.Sorting.{same}
+use Rattle.rv_reader.proofs.Sorting.{same, equal_entries}
 use Rattle.rv_overlay.specs.declared.frozen.Part.{Part}
 use Rattle.rv_overlay.specs.Keeping.{KeepsUp, NothingKept, OthersKeepUp, added_after, are_same, taken_after, with_some, without_some}
 use Rattle.rv_overlay.specs.Laying.{has}
@@ -21,7 +21,6 @@ use Rattle.rv_overlay.specs.Rows.{change_of, changed_row}
 use Rattle.rv_overlay.specs.Views.{Freezes, adds, is_entry, takes}
 use Rattle.rv_overlay.proofs.Counted.{itself_true}
 use Rattle.rv_overlay.proofs.Members.{has_filter, has_joined, has_put}
-use Rattle.rv_overlay.proofs.Placing.{equal_same}
 use Rattle.rv_overlay.proofs.Viewing.{row_other}
 
 -- The change of a row, once another one is put in.
@@ -97,13 +96,13 @@ has_taken x ys e =
   where
     apart : (a b : IndexEntry) → comes_before a b ≡ true → is_eq (entry_cmp b a) ≡ false
     apart a b h = elim (cases_Bool (is_eq (entry_cmp b a))) [
-      | inl t ↦ let is : b ≡ a = equal_same b a t in let no : comes_before a a ≡ true = ap (comes_before a) (sym is) ∙ h in let never = one_way a a no in cc
+      | inl t ↦ let is : b ≡ a = equal_entries b a t in let no : comes_before a a ≡ true = ap (comes_before a) (sym is) ∙ h in let never = one_way a a no in cc
       | inr f ↦ f
     ]
 
     apart_back : (a b : IndexEntry) → comes_before a b ≡ true → is_eq (entry_cmp a b) ≡ false
     apart_back a b h = elim (cases_Bool (is_eq (entry_cmp a b))) [
-      | inl t ↦ let is : a ≡ b = equal_same a b t in let no : comes_before b b ≡ true = sym (ap (λ d. comes_before d b) is) ∙ h in let never = one_way b b no in cc
+      | inl t ↦ let is : a ≡ b = equal_entries a b t in let no : comes_before b b ≡ true = sym (ap (λ d. comes_before d b) is) ∙ h in let never = one_way b b no in cc
       | inr f ↦ f
     ]
 
@@ -134,7 +133,7 @@ has_without_some (Some x) xs e = has_taken x xs e
 same_here : (a b : Option IndexEntry) (e : IndexEntry) → are_same a b ≡ true → here a e ≡ here b e
 same_here None b e h = cc
 same_here (Some x) None e h = cc
-same_here (Some x) (Some y) e h = ap (λ d. is_eq (entry_cmp d e)) (equal_same x y h)
+same_here (Some x) (Some y) e h = ap (λ d. is_eq (entry_cmp d e)) (equal_entries x y h)
 
 apart_here : (a b : Option IndexEntry) (e : IndexEntry) → are_same a b ≡ false → (here a e && here b e) ≡ false
 apart_here None b e h = refl
@@ -142,7 +141,7 @@ apart_here (Some x) None e h = elim (is_eq (entry_cmp x e)) as (λ b. (b && fals
 apart_here (Some x) (Some y) e h = elim (cases_Bool (is_eq (entry_cmp x e))) [
   | inl t ↦ elim (cases_Bool (is_eq (entry_cmp y e))) [
     | inl u ↦
-        let is : x ≡ y = equal_same x e t ∙ sym (equal_same y e u) in
+        let is : x ≡ y = equal_entries x e t ∙ sym (equal_entries y e u) in
         let no : is_eq (entry_cmp x y) ≡ true = subst (λ d. is_eq (entry_cmp x d) ≡ true) is (itself_true x) in
         let never : true ≡ false = sym no ∙ h in
         cc

@@ -2,22 +2,21 @@
 use Rattle.std.proofs.Common.{◌≡◌, ◌+◌, List, [], ◌∷◌, ◌++◌, Bool, true, false, not, cond, inl, inr, refl, ap, sym, ◌∙◌, filter}
 use Rattle.std.proofs.lemmas.Bool.{cases_Bool, and_parts}
 use Rattle.std.specs.List.{list_all}
-use Rattle.std.specs.Ordering.{is_eq, is_lt, ordering_reverse}
+use Rattle.std.specs.Ordering.{is_eq, is_lt}
 use Rattle.std.specs.declared.cmp.Ordering.{Ordering}
 use Rattle.std.specs.declared.cmp.Ordering.TheVariants.{Less, Equal, Greater}
 use Rattle.std.proofs.lemmas.List.Elements.{filter-append}
 use Rattle.rv_value.proofs.Lists.{filter_passes, all_true}
 use Rattle.rv_value.specs.declared.record.IndexEntry.{IndexEntry}
 use Rattle.rv_value.specs.Entries.{entry_cmp}
-use Rattle.rv_value.specs.Orders.{entry_cmp_total}
 use Rattle.rv_rows.specs.Rising.{put_in}
 use Rattle.rv_rows.proofs.Merges.{all_kept}
 use Rattle.rv_rows.proofs.Puts.{rising_put, rising_filter}
 use Rattle.rv_rows.proofs.Filters.{filters_turn}
 use Rattle.rv_reader.specs.Entries.{comes_before, Ascend}
 use Rattle.rv_reader.proofs.Filters.{filter_same, rising_cut}
-use Rattle.rv_reader.proofs.Orders.{one_way, order, chain}
-use Rattle.rv_reader.proofs.Sorting.{same}
+use Rattle.rv_reader.proofs.Orders.{one_way, chain, stays_above}
+use Rattle.rv_reader.proofs.Sorting.{same, equal_entries}
 use Rattle.rv_overlay.specs.Laying.{has, with_all}
 
 -- Places.
@@ -37,9 +36,6 @@ apart e x other = elim (cases_Bool (comes_before x e)) [
     | inr g ↦ let no = other (same x e f g) in cc
   ]
 ]
-
-stays_above : (e x y : IndexEntry) → comes_before x y ≡ true → comes_before x e ≡ false → comes_before y e ≡ false
-stays_above e x y h k = order.chain y x e (one_way x y h) k
 
 -- where all are other than one, they are those before it and those behind it
 around : (q : IndexEntry → Bool) (e : IndexEntry) (xs : List IndexEntry) → Ascend xs → list_all q xs ≡ true → q e ≡ false → filter (λ x. comes_before x e) xs ++ filter (λ x. comes_before e x) xs ≡ xs
@@ -92,23 +88,12 @@ equal_is x e h = by (entry_cmp x e) h
     by Equal h = refl
     by Greater h = cc
 
-equal_back : (x e : IndexEntry) → is_eq (entry_cmp x e) ≡ true → comes_before e x ≡ false
-equal_back x e h = rw (entry_cmp_total.antisymm e x) (by (entry_cmp x e) h)
-  where
-    by : (o : Ordering) → is_eq o ≡ true → is_lt (ordering_reverse o) ≡ false
-    by Less h = cc
-    by Equal h = refl
-    by Greater h = cc
-
-pub equal_same : (x e : IndexEntry) → is_eq (entry_cmp x e) ≡ true → x ≡ e
-equal_same x e h = same x e (equal_is x e h) (equal_back x e h)
-
 -- an entry among those that one comes before
 pub before_found : (x e : IndexEntry) (xs : List IndexEntry) → list_all (comes_before x) xs ≡ true → has xs e ≡ true → comes_before x e ≡ true
 before_found x e [] all h = cc
 before_found x e (y ∷ ys) all h =
     let parts = and_parts (comes_before x y) (list_all (comes_before x) ys) all in
     elim (cases_Bool (is_eq (entry_cmp y e))) [
-      | inl t ↦ sym (ap (comes_before x) (equal_same y e t)) ∙ parts.0
+      | inl t ↦ sym (ap (comes_before x) (equal_entries y e t)) ∙ parts.0
       | inr f ↦ before_found x e ys parts.1 (rw f at h)
     ]

@@ -15,13 +15,13 @@ use Rattle.rv_rows.specs.Rows as rows_by_number
 use Rattle.rv_rows.specs.Rows.{comes_below}
 use Rattle.rv_reader.specs.Entries.{comes_before, entries_of, entry_of, sorted, sorted_in, Ascend}
 use Rattle.rv_reader.specs.Tables.{row_at}
-use Rattle.rv_reader.proofs.Sorting.{entries_ascend}
+use Rattle.rv_reader.proofs.Sorting.{entries_ascend, equal_entries}
 use Rattle.rv_rows.proofs.Puts.{rising_filter}
 use Rattle.rv_overlay.specs.Laying.{has, laid, without}
 use Rattle.rv_overlay.specs.Rows.{change_of, changed_row}
 use Rattle.rv_overlay.specs.Views.{ViewIs, adds, is_entry, takes}
 use Rattle.rv_overlay.proofs.Members.{laid_has, members_tell}
-use Rattle.rv_overlay.proofs.Placing.{equal_same, with_ascends}
+use Rattle.rv_overlay.proofs.Placing.{with_ascends}
 use Rattle.rv_overlay.proofs.Tabling.{row_applied}
 
 has_in : (x e : IndexEntry) (xs : List IndexEntry) → has (sorted_in x xs) e ≡ (is_eq (entry_cmp x e) || has xs e)
@@ -39,7 +39,7 @@ has_sorted (x ∷ xs) e = has_in x e (sorted xs) ∙ ap (λ b. is_eq (entry_cmp 
 pub row_other : (columns : List ℕ) (r : Record) (e : IndexEntry) → r.row.0 == e.row.0 ≡ false → is_eq (entry_cmp (entry_of columns r) e) ≡ false
 row_other columns r e f = elim (cases_Bool (is_eq (entry_cmp (entry_of columns r) e))) [
   | inl t ↦
-      let is : r.row.0 ≡ e.row.0 = ap (λ (x : IndexEntry). x.row.0) (equal_same (entry_of columns r) e t) in
+      let is : r.row.0 ≡ e.row.0 = ap (λ (x : IndexEntry). x.row.0) (equal_entries (entry_of columns r) e t) in
       grind (arith, nat_tests)
   | inr g ↦ g
 ]

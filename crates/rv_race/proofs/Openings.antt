@@ -1,13 +1,14 @@
 -- A race before its first step.
 use Rattle.std.proofs.Common.{◌≡◌, ℕ, ◌+◌, ◌*◌, ◌<◌, ◌≤◌, List, [], ◌∷◌, length, Bool, true, ◌&&◌, refl, ap, sym, ◌∙◌, arith, subst}
 use Rattle.std.proofs.lemmas.List.{length-map}
-use Rattle.rv_final.proofs.Owed.{all_qualifying, rows_within}
+use Rattle.rv_final.proofs.Owed.{all_qualifying}
 use Rattle.rv_value.proofs.Lists.{filter_length}
 use Rattle.rv_restrict.specs.declared.atom.Atom.{Atom}
 use Rattle.rv_judge.specs.Runs.{EachOnce}
 use Rattle.rv_reader.specs.Entries.{is_in}
 use Rattle.rv_reader.specs.Shown.{Shown}
 use Rattle.rv_reader.specs.Tables.{IsTable}
+use Rattle.rv_reader.proofs.Rows.{rows_within}
 use Rattle.rv_jscan.specs.declared.jscan.ScanPlan.{ScanPlan}
 use Rattle.rv_final.specs.Rest.{qualifies_at, qualifying}
 use Rattle.rv_final.specs.LaneWork.{planned_work}

@@ -11,7 +11,7 @@ use Rattle.rv_reader.specs.declared.reader.Chunk.{Chunk}
 use Rattle.rv_reader.specs.Entries.{comes_before, Ascend, AreLong, is_in, reaches}
 use Rattle.rv_reader.specs.Leaves.{Leaf, IsChunk, is_from, is_wanted, is_below, is_taken, before_side, after_side, from_on, up_to, leaf_from, leaf_at, leaf_entries, is_passed, within, run_from, run_after, leaves_from, leaves_after, is_ahead, leaves_for, leaves_behind}
 use Rattle.rv_reader.proofs.Filters.{filter_same, filter_twice, filter_none, filter_fewer, rising_cut}
-use Rattle.rv_reader.proofs.Orders.{one_way, below_through, follows, itself, key_not, order}
+use Rattle.rv_reader.proofs.Orders.{one_way, below_through, follows, itself, key_not, order, stays_above}
 use Rattle.rv_reader.proofs.Sides.{before_along, after_along}
 
 -- Tests in place of lists.
@@ -85,15 +85,15 @@ next_counts p q passes low (cut ∷ cuts) sharper =
 
 -- What a leaf leaves out on either side.
 
-not_in : (s : Side) → before_side s ≡ true → in_side s ≡ false
-not_in Before h = refl
-not_in In h = cc
-not_in After h = refl
+pub before_out : (s : Side) → before_side s ≡ true → in_side s ≡ false
+before_out Before h = refl
+before_out In h = cc
+before_out After h = refl
 
-not_in_after : (s : Side) → after_side s ≡ true → in_side s ≡ false
-not_in_after Before h = refl
-not_in_after In h = cc
-not_in_after After h = refl
+pub after_out : (s : Side) → after_side s ≡ true → in_side s ≡ false
+after_out Before h = refl
+after_out In h = cc
+after_out After h = refl
 
 -- what is wanted is not below the cut at which the leaf begins
 low_wanted : (range : Range) (start low : Option IndexEntry) → IfSome low (λ c. is_passed start range c ≡ true) → IfSome low (λ c. is_long range c ≡ true) → (e : IndexEntry) → is_long range e ≡ true → is_wanted range start e ≡ true → is_from low e ≡ true
@@ -104,7 +104,7 @@ low_wanted range (Some s) (Some c) p l e long w =
 low_wanted range None (Some c) p l e long w = elim (cases_Bool (comes_before e c)) [
   | inl t ↦
       let before = before_along range e.key c.key (key_not e c (one_way e c t)) long l p in
-      let no : in_side (place range e.key) ≡ false = not_in (place range e.key) before in
+      let no : in_side (place range e.key) ≡ false = before_out (place range e.key) before in
       cc
   | inr f ↦ rw f refl
 ]
@@ -115,9 +115,6 @@ from_next range None n e p h = refl
 from_next range (Some s) n e p h =
     let above : comes_before s n ≡ true = not-false (comes_before s n) p in
     rw (one_way s e (below_through s n e above h)) refl
-
-stays_above : (n x y : IndexEntry) → comes_before x y ≡ true → comes_before x n ≡ false → comes_before y n ≡ false
-stays_above n x y h k = order.chain y x n (one_way x y h) k
 
 -- The parts of a run: a leaf's, and what is left.
 
@@ -154,7 +151,7 @@ left_tests entries range start n long l p =
     elim (after_side (place range n.key)) as (λ b. after_side (place range n.key) ≡ b → filter (λ e. is_wanted range start e && not (comes_before e n)) entries ≡ run_after entries range (cond b None (Some n))) [
       | true ↦ λ after. filter_none (is_long range) (λ e. is_wanted range start e && not (comes_before e n)) entries long
           (λ e h. left_none (is_from start e) (is_in range e) (comes_before e n)
-          (λ above. not_in_after (place range e.key) (after_along range n.key e.key (key_not n e above) l h after)))
+          (λ above. after_out (place range e.key) (after_along range n.key e.key (key_not n e above) l h after)))
       | false ↦ λ other.
           filter_same (is_long range) (λ e. is_wanted range start e && not (comes_before e n)) (is_wanted range (Some n)) entries long
           (λ e h. left_same (is_from start e) (is_in range e) (comes_before e n) (from_next range start n e p))
@@ -230,11 +227,11 @@ is_chunk entries cuts range start chunk ascend long long_cuts found following sh
 
 -- What is read of a leaf, by one test: what is wanted and before the cut that follows, where that is given.
 
-below_within : (range : Range) (start next : Option IndexEntry) (e : IndexEntry) → is_long range e ≡ true → IfSome next (λ c. is_long range c ≡ true) → is_taken range start (within range next) e ≡ is_taken range start next e
-below_within range start None e long l = refl
-below_within range start (Some n) e long l =
+pub taken_within : (range : Range) (start next : Option IndexEntry) (e : IndexEntry) → is_long range e ≡ true → IfSome next (λ c. is_long range c ≡ true) → is_taken range start (within range next) e ≡ is_taken range start next e
+taken_within range start None e long l = refl
+taken_within range start (Some n) e long l =
     elim (after_side (place range n.key)) as (λ b. after_side (place range n.key) ≡ b → is_taken range start (cond b None (Some n)) e ≡ is_taken range start (Some n) e) [
-      | true ↦ λ after. by_test (is_from start e) (is_in range e) (comes_before e n) (λ above. not_in_after (place range e.key) (after_along range n.key e.key (key_not n e above) l long after))
+      | true ↦ λ after. by_test (is_from start e) (is_in range e) (comes_before e n) (λ above. after_out (place range e.key) (after_along range n.key e.key (key_not n e above) l long after))
       | false ↦ λ other. refl
     ] refl
   where
@@ -253,14 +250,11 @@ leaf_read entries cuts range start long long_cuts =
     leaf_tests entries range start leaf
     ∙ filter_same (is_long range) (taken range start leaf) (is_taken range start (within range leaf.next)) entries long
     (λ e h. sym (taken_below (is_from leaf.low e) (is_below leaf.next e) (is_wanted range start e) (low_wanted range start leaf.low passes.0 keeps.0 e h))
-    ∙ sym (below_within range start leaf.next e h keeps.1))
+    ∙ sym (taken_within range start leaf.next e h keeps.1))
 
 -- the cut that follows a leaf has a key as long as the cuts have
 pub next_long : (cuts : List IndexEntry) (range : Range) (start : Option IndexEntry) → AreLong range cuts → IfSome (leaf_at cuts start range).next (λ c. is_long range c ≡ true)
 next_long cuts range start long = (leaf_keeps (is_long range) (is_passed start range) None cuts tt long).1
-
-pub taken_within : (range : Range) (start next : Option IndexEntry) (e : IndexEntry) → is_long range e ≡ true → IfSome next (λ c. is_long range c ≡ true) → is_taken range start (within range next) e ≡ is_taken range start next e
-taken_within = below_within
 
 -- Fewer leaves may hold what is left of a range.
 

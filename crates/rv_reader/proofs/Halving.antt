@@ -44,7 +44,7 @@ not_after_goes range x y h lx ly p = elim (cases_Bool (after_side (place range x
 pub not_after_parted : (range : Range) (es : List IndexEntry) → Ascend es → AreLong range es → IsPartitionedBy (is_not_after range) es
 not_after_parted range es ascend long = partitioned comes_before (is_long range) (is_not_after range) (not_after_goes range) es ascend long
 
-passed_goes : (range : Range) (start : Option IndexEntry) (x y : IndexEntry) → comes_before x y ≡ true → is_long range x ≡ true → is_long range y ≡ true → is_passed start range y ≡ true → is_passed start range x ≡ true
+pub passed_goes : (range : Range) (start : Option IndexEntry) (x y : IndexEntry) → comes_before x y ≡ true → is_long range x ≡ true → is_long range y ≡ true → is_passed start range y ≡ true → is_passed start range x ≡ true
 passed_goes range None x y h lx ly p = before_goes range x y h lx ly p
 passed_goes range (Some s) x y h lx ly p = rw (order.chain s y x (not-true (comes_before s y) p) (one_way x y h)) refl
 

@@ -1,15 +1,16 @@
--- Rows of a table, looked up by number, and what filters, joins and changes do to them.
-use Rattle.std.proofs.Common.{◌≡◌, ℕ, ◌≤◌, List, [], ◌∷◌, ◌++◌, Bool, true, false, ◌==◌, cond, refl, ap, sym, ◌∙◌, inl, inr, filter, Option, Some, None, arith}
-use Rattle.std.proofs.lemmas.Bool.{cases_Bool, and_parts}
+-- Rows of a table, looked up by number, and what filters, joins and changes do to them; how many there are.
+use Rattle.std.proofs.Common.{◌≡◌, ℕ, ◌≤◌, List, [], ◌∷◌, ◌++◌, Bool, true, false, ◌==◌, cond, refl, ap, sym, ◌∙◌, inl, inr, filter, Option, Some, None, arith, ◌+◌, ◌*◌, ◌<◌, length, nat_lt}
+use Rattle.std.proofs.lemmas.Bool.{cases_Bool, and_parts, ltb-true}
 use Rattle.std.proofs.lemmas.Bool.Decides.{nat_tests}
-use Rattle.std.specs.List.{list_all}
+use Rattle.std.specs.List.{list_all, AllByRecursion}
+use Rattle.std.specs.Cmp.{first_so}
 use Rattle.rv_value.specs.declared.value.Value.{Value}
 use Rattle.rv_value.specs.declared.record.Record.{Record}
 use Rattle.rv_rows.specs.declared.changes.Change.{Change}
 use Rattle.rv_rows.specs.Changes.{rows_with_changes}
 use Rattle.rv_rows.specs.Rows.{Ascend, comes_below, with_values}
 use Rattle.rv_rows.proofs.Chains.{ascends_without, record_ascends}
-use Rattle.rv_reader.specs.Tables.{row_at}
+use Rattle.rv_reader.specs.Tables.{row_at, IsTable}
 
 pub row_behind : (number : ℕ) (r : Record) (rows : List Record) → list_all (comes_below r) rows ≡ true → number ≤ r.row.0 → row_at rows number ≡ None
 row_behind number r [] all h = refl
@@ -72,3 +73,20 @@ applied_ascends table (c ∷ cs) rows ascend = elim (cases_Bool (c.table == tabl
   | inl t ↦ rw t (applied_ascends table cs (with_values c.row.0 c.values rows) (ascend_with c.row.0 c.values rows ascend))
   | inr f ↦ rw f (applied_ascends table cs rows ascend)
 ]
+
+-- How many rows ascend below a number.
+
+rows_above : (rows : List Record) (low high : ℕ) → Ascend rows → AllByRecursion (λ (r : Record). r.row.0 < high) rows → list_all (λ (r : Record). nat_lt low r.row.0) rows ≡ true → low < high → length rows + low + 1 ≤ high
+rows_above [] low high ascend below above l = omega arith
+rows_above (r ∷ rows) low high ascend below above l =
+    let first : low < r.row.0 = ltb-true low r.row.0 (first_so _ _ above) in
+    let more = rows_above rows r.row.0 high ascend.1 below.1 ascend.0 below.0 in
+    omega arith
+
+pub rows_within : (rows : List Record) (high : ℕ) → Ascend rows → AllByRecursion (λ (r : Record). r.row.0 < high) rows → length rows ≤ high
+rows_within [] high ascend below = omega arith
+rows_within (r ∷ rows) high ascend below = let more = rows_above rows r.row.0 high ascend.1 below.1 ascend.0 below.0 in omega arith
+
+-- they are at most as many as a table's pages have places
+pub rows_few : (rows : List Record) (pages : ℕ) → IsTable rows pages → length rows ≤ 32 * pages
+rows_few rows pages table = rows_within rows (32 * pages) table.ascend table.within

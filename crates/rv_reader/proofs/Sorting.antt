@@ -1,10 +1,10 @@
 -- The sorted list of entries: what a sort makes of them, and what holds of the entries of a table's rows.
-use Rattle.std.proofs.Common.{◌≡◌, ℕ, List, [], ◌∷◌, Bool, true, false, not, ◌==◌, cond, refl, ap, ◌∙◌, inl, inr, arith, length, map, suc}
+use Rattle.std.proofs.Common.{◌≡◌, ℕ, List, [], ◌∷◌, Bool, true, false, not, ◌==◌, cond, refl, ap, ◌∙◌, inl, inr, arith, length, map, suc, filter}
 use Rattle.std.proofs.lemmas.Bool.{cases_Bool, and_parts}
 use Rattle.std.proofs.lemmas.Bool.Decides.{nat_tests}
-use Rattle.std.specs.List.{list_all}
+use Rattle.std.specs.List.{list_all, AllByRecursion}
 use Rattle.std.specs.List.Sorted.{IsPermutation, IsSorted}
-use Rattle.std.specs.Ordering.{nat_cmp}
+use Rattle.std.specs.Ordering.{nat_cmp, is_eq}
 use Rattle.std.specs.declared.cmp.Ordering.TheVariants.{Equal}
 use Rattle.std.proofs.lemmas.List.{length-map}
 use Rattle.rv_value.specs.declared.record.Record.{Record}
@@ -15,11 +15,13 @@ use Rattle.rv_value.specs.Orders.{entry_cmp_total}
 use Rattle.rv_value.proofs.Same.{both_equal, numbers_same, values_same}
 use Rattle.rv_value.proofs.Sorting as sorts
 use Rattle.rv_value.proofs.Sorting.{IsSort}
+use Rattle.rv_value.proofs.Tests.{equal_is}
+use Rattle.rv_value.proofs.Lists.{all_filter}
 use Rattle.rv_rows.specs.Rows as rows_by_number
 use Rattle.rv_rows.specs.Rows.{comes_below}
 use Rattle.rv_reader.specs.Entries.{comes_before, Ascend, column_of, entry_of, sorted_in, sorted, entries_of}
 use Rattle.rv_reader.specs.Storing.{AreKeys}
-use Rattle.rv_reader.proofs.Orders.{follows}
+use Rattle.rv_reader.proofs.Orders.{follows, stays_above}
 
 -- Entries that compare as equal are the same.
 entry_same : (a b : IndexEntry) → entry_cmp a b ≡ Equal → a ≡ b
@@ -28,6 +30,10 @@ entry_same a b e =
     let key = values_same a.key b.key parts.0 in
     let number = numbers_same a.row.0 b.row.0 parts.1 in
     λ i. record { key = key i; row = record { 0 = number i } }
+
+-- the same, where equality is a test
+pub equal_entries : (a b : IndexEntry) → is_eq (entry_cmp a b) ≡ true → a ≡ b
+equal_entries a b h = entry_same a b (equal_is (entry_cmp a b) h)
 
 pub sort_of_entries : IsSort entry_cmp sorted_in sorted
 sort_of_entries = record {
@@ -60,6 +66,14 @@ apart a b h f = elim (cases_Bool (comes_before b a)) [
       grind (arith, nat_tests)
 ]
 
+pub all_in : (P : IndexEntry → Type 0) (e : IndexEntry) (xs : List IndexEntry) → P e → AllByRecursion P xs → AllByRecursion P (sorted_in e xs)
+all_in P e [] here all = (here, tt)
+all_in P e (x ∷ xs) here all =
+    elim (comes_before x e) as (λ b. AllByRecursion P (cond b (x ∷ sorted_in e xs) (e ∷ x ∷ xs))) [
+      | true ↦ (all.0, all_in P e xs here all.1)
+      | false ↦ (here, all)
+    ]
+
 pub all_sorted_in : (p : IndexEntry → Bool) (e : IndexEntry) (xs : List IndexEntry) → p e ≡ true → list_all p xs ≡ true → list_all p (sorted_in e xs) ≡ true
 all_sorted_in p e [] h all = rw h refl
 all_sorted_in p e (x ∷ xs) h all =
@@ -75,11 +89,18 @@ all_sorted p (x ∷ xs) all =
     let parts = and_parts (p x) (list_all p xs) all in
     all_sorted_in p x (sorted xs) parts.0 (all_sorted p xs parts.1)
 
-all_behind : (e x : IndexEntry) (xs : List IndexEntry) → comes_before e x ≡ true → list_all (comes_before x) xs ≡ true → list_all (comes_before e) xs ≡ true
+pub all_behind : (e x : IndexEntry) (xs : List IndexEntry) → comes_before e x ≡ true → list_all (comes_before x) xs ≡ true → list_all (comes_before e) xs ≡ true
 all_behind e x [] h all = refl
 all_behind e x (y ∷ ys) h all =
     let parts = and_parts (comes_before x y) (list_all (comes_before x) ys) all in
     rw (follows e x y h parts.0) (all_behind e x ys h parts.1)
+
+-- those behind an entry that is not before one are not before it
+pub none_before : (e x : IndexEntry) (xs : List IndexEntry) → comes_before x e ≡ false → list_all (comes_before x) xs ≡ true → list_all (λ y. not (comes_before y e)) xs ≡ true
+none_before e x [] f all = refl
+none_before e x (y ∷ ys) f all =
+    let parts = and_parts (comes_before x y) (list_all (comes_before x) ys) all in
+    rw (stays_above e x y parts.0 f) (none_before e x ys f parts.1)
 
 ascend_in : (e : IndexEntry) (xs : List IndexEntry) → others e.row.0 xs ≡ true → Ascend xs → Ascend (sorted_in e xs)
 ascend_in e [] o a = (refl, tt)
@@ -105,17 +126,13 @@ entries_ascend columns [] a = tt
 entries_ascend columns (r ∷ rows) a =
     ascend_in (entry_of columns r) (entries_of columns rows) (all_sorted (λ (e : IndexEntry). not (e.row.0 == r.row.0)) (map (entry_of columns) rows) (rows_others columns r rows a.0)) (entries_ascend columns rows a.1)
 
-keys_in : (n : ℕ) (e : IndexEntry) (xs : List IndexEntry) → length e.key ≡ n → AreKeys n xs → AreKeys n (sorted_in e xs)
-keys_in n e [] h all = (h, tt)
-keys_in n e (x ∷ xs) h all =
-    elim (comes_before x e) as (λ b. AreKeys n (cond b (x ∷ sorted_in e xs) (e ∷ x ∷ xs))) [
-      | true ↦ (all.0, keys_in n e xs h all.1)
-      | false ↦ (h, all)
-    ]
+-- keys of one length, of those that pass a test
+pub keys_filter : (n : ℕ) (p : IndexEntry → Bool) (es : List IndexEntry) → AreKeys n es → AreKeys n (filter p es)
+keys_filter n p es all = all_filter (λ (e : IndexEntry). length e.key ≡ n) p es all
 
 pub entries_keys : (columns : List ℕ) (rows : List Record) → AreKeys (length columns) (entries_of columns rows)
 entries_keys columns [] = tt
-entries_keys columns (r ∷ rows) = keys_in (length columns) (entry_of columns r) (entries_of columns rows) (length-map columns (column_of r.values)) (entries_keys columns rows)
+entries_keys columns (r ∷ rows) = all_in (λ (e : IndexEntry). length e.key ≡ length columns) (entry_of columns r) (entries_of columns rows) (length-map columns (column_of r.values)) (entries_keys columns rows)
 
 count_in : (e : IndexEntry) (xs : List IndexEntry) → length (sorted_in e xs) ≡ suc (length xs)
 count_in e [] = refl

@@ -13,6 +13,7 @@ use Rattle.rv_restrict.specs.Parts.{stands_among}
 use Rattle.rv_restrict.specs.Truth.{qualifies}
 use Rattle.rv_reader.specs.Entries.{comes_before, entries_of, entry_of, is_in, run, sorted, sorted_in}
 use Rattle.rv_reader.specs.Tables.{row_at}
+use Rattle.rv_reader.proofs.Sorting.{all_in}
 use Rattle.rv_scan.specs.Alongs.{Along, Follows, fetched, left}
 use Rattle.rv_scan.specs.Told.{NamesThese, told}
 use Rattle.rv_scan.proofs.Telling.{told_wide, told_reads, told_truth}
@@ -30,13 +31,6 @@ pub record EntryOf (columns : List ℕ) (rows : List Record) (e : IndexEntry) : 
 
 abbrev pub AreOf : List ℕ → List Record → List IndexEntry → Type 0
 AreOf columns rows entries = AllByRecursion (EntryOf columns rows) entries
-
-all_in : (P : IndexEntry → Type 0) (e : IndexEntry) (xs : List IndexEntry) → P e → AllByRecursion P xs → AllByRecursion P (sorted_in e xs)
-all_in P e [] p a = (p, tt)
-all_in P e (x ∷ xs) p a = elim (comes_before x e) as (λ b. AllByRecursion P (cond b (x ∷ sorted_in e xs) (e ∷ x ∷ xs))) [
-  | true ↦ (a.0, all_in P e xs p a.1)
-  | false ↦ (p, a)
-]
 
 all_sorted : (P : IndexEntry → Type 0) (xs : List IndexEntry) → AllByRecursion P xs → AllByRecursion P (sorted xs)
 all_sorted P [] a = tt

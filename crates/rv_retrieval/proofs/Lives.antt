@@ -8,7 +8,6 @@ use Rattle.std.proofs.lemmas.List.{length-map}
 use Rattle.std.proofs.lemmas.List.Quantifiers.{position-Some}
 use Rattle.std.proofs.lemmas.List.Sums.{sum_by-cons}
 use Rattle.std.proofs.lemmas.List.Sorted.{length_permutation, sum_by-IsPermutation}
-use Rattle.rv_final.proofs.Owed.{rows_within}
 use Rattle.rv_value.proofs.Tests.{no_way}
 use Rattle.rv_value.proofs.Lists.{filter_length}
 use Rattle.rv_value.specs.declared.record.Record.{Record}
@@ -22,6 +21,7 @@ use Rattle.rv_reader.specs.Entries.{is_in}
 use Rattle.rv_reader.specs.Leaves.{run_from}
 use Rattle.rv_reader.specs.Shown.{Shown}
 use Rattle.rv_reader.specs.Tables.{IsTable}
+use Rattle.rv_reader.proofs.Rows.{rows_few}
 use Rattle.rv_scan.specs.Alongs.{Along, leaf_work}
 use Rattle.rv_scan.specs.Places.{work as pages_work}
 use Rattle.rv_jscan.specs.declared.jscan.ScanPlan.{ScanPlan}
@@ -46,9 +46,6 @@ use Rattle.rv_retrieval.proofs.Chosen.{chosen_front, walk_same, filter_some}
 use Rattle.rv_retrieval.proofs.Courses.{HasFront, keys_back, sum_lower}
 
 -- The rows of a table are at most as many as its pages have places.
-
-rows_few : (rows : List Record) (pages : ℕ) → IsTable rows pages → length rows ≤ 32 * pages
-rows_few rows pages t = rows_within rows (32 * pages) t.ascend t.within
 
 -- The background's scans.
 

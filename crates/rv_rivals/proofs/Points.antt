@@ -15,11 +15,10 @@ use Rattle.rv_rows.specs.Rows as rows_by_number
 use Rattle.rv_rows.specs.Rows.{comes_below}
 use Rattle.rv_reader.specs.Entries.{column_of, comes_before, entries_of, entry_of, is_in, run, sorted_in, Ascend}
 use Rattle.rv_reader.proofs.Filters.{all_filter}
-use Rattle.rv_reader.proofs.Orders.{order, one_way}
 use Rattle.std.proofs.lemmas.List.{length-map}
 use Rattle.rv_value.proofs.Same.{values_itself, equal_values, prefix_whole}
 use Rattle.rv_value.specs.declared.range.Side.TheVariants.{Before, In, After}
-use Rattle.rv_reader.proofs.Sorting.{entries_ascend}
+use Rattle.rv_reader.proofs.Sorting.{entries_ascend, none_before}
 use Rattle.rv_model.specs.Rivals.{has_key}
 use Rattle.rv_rivals.specs.Points.{point}
 
@@ -53,12 +52,6 @@ front_in e (y ∷ ys) all =
     turned true h = cc
     turned false h = refl
 
-none_below : (e x : IndexEntry) (xs : List IndexEntry) → comes_before x e ≡ false → list_all (comes_before x) xs ≡ true → list_all (λ y. not (comes_before y e)) xs ≡ true
-none_below e x [] f all = refl
-none_below e x (y ∷ ys) f all =
-    let parts = and_parts (comes_before x y) (list_all (comes_before x) ys) all in
-    rw (order.chain y x e (one_way x y parts.0) f) (none_below e x ys f parts.1)
-
 filter_in : (p : IndexEntry → Bool) (e : IndexEntry) (xs : List IndexEntry) → Ascend xs → filter p (sorted_in e xs) ≡ cond (p e) (sorted_in e (filter p xs)) (filter p xs)
 filter_in p e [] ascend = refl
 filter_in p e (x ∷ xs) ascend = elim (cases_Bool (comes_before x e)) [
@@ -67,7 +60,7 @@ filter_in p e (x ∷ xs) ascend = elim (cases_Bool (comes_before x e)) [
     | inr v ↦ rw v (filter_in p e xs ascend.1)
   ])
   | inr f ↦
-      let none : list_all (λ y. not (comes_before y e)) (x ∷ xs) ≡ true = rw (f, none_below e x xs f ascend.0) refl in
+      let none : list_all (λ y. not (comes_before y e)) (x ∷ xs) ≡ true = rw (f, none_before e x xs f ascend.0) refl in
       let front = front_in e (filter p (x ∷ xs)) (all_filter (λ y. not (comes_before y e)) p (x ∷ xs) none) in
       rw f (elim (p e) as (λ b. cond b (e ∷ filter p (x ∷ xs)) (filter p (x ∷ xs)) ≡ cond b (sorted_in e (filter p (x ∷ xs))) (filter p (x ∷ xs))) [ true ↦ sym front | false ↦ refl ])
 ]

@@ -1,5 +1,5 @@
 -- What a reader tells of an index over the table that a statement writes: the store, and the store under a view.
-use Rattle.std.proofs.Common.{◌≡◌, ℕ, zero, suc, ◌<◌, List, [], ◌∷◌, ◌++◌, Bool, true, false, cond, Option, Some, None, ap, sym, subst, ◌∙◌, filter, length, arith, nat_eq}
+use Rattle.std.proofs.Common.{◌≡◌, ℕ, zero, suc, ◌<◌, List, [], ◌∷◌, ◌++◌, true, Option, Some, None, ap, sym, subst, ◌∙◌, filter, length, arith, nat_eq}
 use Rattle.std.proofs.lemmas.Bool.Decides.{nat_tests}
 use Rattle.std.specs.Prelude.{slice_get}
 use Rattle.rv_reader.proofs.Rows.{applied_ascends}
@@ -10,6 +10,7 @@ use Rattle.rv_reader.specs.Entries.{comes_before, entries_of}
 use Rattle.rv_reader.specs.Shown.{Shown, CanRead, CanScan, IsSnapshot}
 use Rattle.rv_reader.specs.Storing.{AreKeys, IsStored}
 use Rattle.rv_model.specs.declared.transactions.Transaction.{Transaction}
+use Rattle.rv_reader.proofs.Sorting.{keys_filter}
 use Rattle.rv_overlay.specs.declared.frozen.Frozen.{Frozen}
 use Rattle.rv_overlay.specs.Laying.{laid, marks, sixteenths, with_all}
 use Rattle.rv_overlay.specs.Overlaid.{part_at}
@@ -21,12 +22,6 @@ use Rattle.rv_own.specs.Views.{Freezes, IsFrozenOf}
 use Rattle.rv_rivals.specs.Lookups.{HasIndex, IsPlace, Tells}
 
 -- Keys of the view's cuts.
-
-keys_filter : (n : ℕ) (p : IndexEntry → Bool) (es : List IndexEntry) → AreKeys n es → AreKeys n (filter p es)
-keys_filter n p [] all = all
-keys_filter n p (e ∷ es) all =
-    let rest = keys_filter n p es all.1 in
-    elim (p e) as (λ b. AreKeys n (cond b (e ∷ filter p es) (filter p es))) [ true ↦ (all.0, rest) | false ↦ rest ]
 
 keys_joined : (n : ℕ) (xs ys : List IndexEntry) → AreKeys n xs → AreKeys n ys → AreKeys n (xs ++ ys)
 keys_joined n [] ys first then = then

@@ -3,16 +3,11 @@ use Rattle.std.proofs.Common.{◌≡◌, ℕ, List, [], ◌∷◌, ◌++◌, Boo
 use Rattle.std.proofs.lemmas.Bool.{cases_Bool, cases_lt, and_parts}
 use Rattle.std.proofs.lemmas.Bool.Decides.{nat_tests}
 use Rattle.std.specs.List.{list_all}
-use Rattle.std.specs.Ordering.{is_lt, is_eq, ordering_reverse}
-use Rattle.std.specs.declared.cmp.Ordering.{Ordering}
-use Rattle.std.specs.declared.cmp.Ordering.TheVariants.{Less, Equal, Greater}
 use Rattle.std.proofs.lemmas.List.{length-map}
 use Rattle.rv_reader.proofs.Rows.{find_back, find_front, find_kept, find_left}
 use Rattle.rv_value.specs.declared.value.Value.{Value}
 use Rattle.rv_value.specs.declared.record.Record.{Record}
 use Rattle.rv_value.specs.declared.record.IndexEntry.{IndexEntry}
-use Rattle.rv_value.specs.Entries.{entry_cmp}
-use Rattle.rv_value.specs.Orders.{entry_cmp_total}
 use Rattle.rv_rows.specs.declared.changes.Change.{Change}
 use Rattle.rv_rows.specs.Changes.{is_before, rows_with_changes}
 use Rattle.rv_rows.specs.Rows.{comes_below, with_values, without_row, Ascend}
@@ -21,7 +16,7 @@ use Rattle.rv_reader.specs.Entries.{comes_before, entry_of, column_of, entry_at}
 use Rattle.rv_reader.specs.Entries as rows_entries
 use Rattle.rv_reader.specs.Storing.{AreKeys}
 use Rattle.rv_reader.proofs.Filters.{all_filter}
-use Rattle.rv_reader.proofs.Sorting.{same, entries_keys}
+use Rattle.rv_reader.proofs.Sorting.{entries_keys, equal_entries}
 use Rattle.rv_node.specs.Trees.{differs}
 use Rattle.rv_node.specs.Sound.{Absent}
 use Rattle.rv_index.specs.Index.{Nodes, tree_of, entries_of, cuts_of, IsSound}
@@ -54,24 +49,10 @@ tree_stays commit before after nodes equal sound = record {
   cuts = λ test passes cuts entries. cuts;
 }
 
--- entries that compare as equal are the same
-equal_is : (a b : IndexEntry) → is_eq (entry_cmp a b) ≡ true → a ≡ b
-equal_is a b e = same a b (not_less (entry_cmp a b) e) (turned (entry_cmp a b) (entry_cmp b a) (entry_cmp_total.antisymm a b) e)
-  where
-    not_less : (o : Ordering) → is_eq o ≡ true → is_lt o ≡ false
-    not_less Less e = cc
-    not_less Equal e = refl
-    not_less Greater e = cc
-
-    turned : (o p : Ordering) → o ≡ ordering_reverse p → is_eq o ≡ true → is_lt p ≡ false
-    turned o Less e h = (let no : is_eq Greater ≡ true = subst (λ x. is_eq x ≡ true) e h in cc)
-    turned o Equal e h = refl
-    turned o Greater e h = refl
-
 stays_is : (before after : Option IndexEntry) → stays before after ≡ true → after ≡ before
 stays_is None after e = cc
 stays_is (Some a) None e = cc
-stays_is (Some a) (Some b) e = ap (λ x. Some x) (sym (equal_is a b e))
+stays_is (Some a) (Some b) e = ap (λ x. Some x) (sym (equal_entries a b e))
 
 -- Keys of entries.
 

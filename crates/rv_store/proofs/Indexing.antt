@@ -18,8 +18,8 @@ use Rattle.rv_reader.specs.Entries.{comes_before, Ascend, entry_of, sorted_in, s
 use Rattle.rv_node.specs.Trees.{differs}
 use Rattle.rv_store.specs.Indexing.{taken_out, put_in, row_with}
 use Rattle.rv_reader.proofs.Filters.{filter_same, filter_none, rising_cut}
-use Rattle.rv_reader.proofs.Orders.{one_way, through_below, itself}
-use Rattle.rv_reader.proofs.Sorting.{all_sorted, entries_ascend, same, sort_of_entries}
+use Rattle.rv_reader.proofs.Orders.{itself}
+use Rattle.rv_reader.proofs.Sorting.{all_sorted, entries_ascend, same, sort_of_entries, none_before}
 
 -- The order in which entries are put in does not matter.
 
@@ -63,16 +63,6 @@ entries_with columns number vs rows ascend =
 
 -- Entries without those that fail a test.
 
-behind_all : (e x : IndexEntry) (xs : List IndexEntry) → comes_before x e ≡ false → list_all (comes_before x) xs ≡ true → list_all (λ y. not (comes_before y e)) xs ≡ true
-behind_all e x [] f all = refl
-behind_all e x (y ∷ ys) f all =
-    let parts = and_parts (comes_before x y) (list_all (comes_before x) ys) all in
-    let here : comes_before y e ≡ false = elim (cases_Bool (comes_before y e)) [
-      | inl t ↦ (let no : comes_before x e ≡ true = through_below x y e (one_way x y parts.0) t in cc)
-      | inr g ↦ g
-    ] in
-    rw here (behind_all e x ys f parts.1)
-
 first_in : (e : IndexEntry) (p : IndexEntry → Bool) (xs : List IndexEntry) → list_all (λ y. not (comes_before y e)) xs ≡ true → sorted_in e (filter p xs) ≡ e ∷ filter p xs
 first_in e p [] all = refl
 first_in e p (x ∷ xs) all =
@@ -96,7 +86,7 @@ kept_in p e (x ∷ xs) h ascend = elim (cases_Bool (comes_before x e)) [
   ]
   | inr f ↦ elim (cases_Bool (p x)) [
     | inl k ↦ rw (f, h, k, f) refl
-    | inr k ↦ rw (f, h, k) (sym (first_in e p xs (behind_all e x xs f ascend.0)))
+    | inr k ↦ rw (f, h, k) (sym (first_in e p xs (none_before e x xs f ascend.0)))
   ]
 ]
 

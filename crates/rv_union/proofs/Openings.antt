@@ -2,7 +2,7 @@
 use Rattle.std.proofs.Common.{◌≡◌, ℕ, ◌+◌, ◌*◌, ◌<◌, ◌≤◌, List, [], ◌∷◌, length, drop, Bool, true, false, ◌&&◌, ◌||◌, refl, ap, sym, ◌∙◌, arith, subst, nat_eq}
 use Rattle.std.proofs.lemmas.Bool.{and_from}
 use Rattle.rv_jscan.proofs.Planned.{index_known}
-use Rattle.rv_final.proofs.Owed.{all_qualifying, rows_within}
+use Rattle.rv_final.proofs.Owed.{all_qualifying}
 use Rattle.rv_value.proofs.Lists.{filter_length}
 use Rattle.rv_value.proofs.Tests.{same_number}
 use Rattle.rv_restrict.specs.declared.atom.Atom.{Atom}
@@ -11,6 +11,7 @@ use Rattle.rv_judge.specs.Runs.UnionTail.{Scanning}
 use Rattle.rv_reader.specs.Entries.{is_in}
 use Rattle.rv_reader.specs.Shown.{Shown}
 use Rattle.rv_reader.specs.Tables.{IsTable}
+use Rattle.rv_reader.proofs.Rows.{rows_within}
 use Rattle.rv_jscan.specs.declared.jscan.ScanPlan.{ScanPlan}
 use Rattle.rv_jscan.specs.Joint.{plan_at}
 use Rattle.rv_jscan.specs.Lanes.{no_lane}

@@ -3,7 +3,7 @@ use Rattle.std.proofs.Common.{◌≡◌, ℕ, Bool, true, false, ◌&&◌, ◌||
 use Rattle.std.proofs.lemmas.Bool.Decides.{nat_tests}
 use Rattle.std.proofs.lemmas.Bool.{or_parts}
 use Rattle.std.proofs.lemmas.Option.{none-some, same_Some}
-use Rattle.std.specs.Ordering.{is_eq, is_lt}
+use Rattle.std.specs.Ordering.{is_eq, is_lt, ordering_then}
 use Rattle.std.specs.declared.cmp.Ordering.{Ordering}
 use Rattle.std.specs.declared.cmp.Ordering.TheVariants.{Less, Equal, Greater}
 
@@ -49,6 +49,11 @@ pub less_other : (o : Ordering) → is_lt o ≡ true → is_eq o ≡ false
 less_other Less h = refl
 less_other Equal h = cc
 less_other Greater h = cc
+
+pub first_not : (o p : Ordering) → is_lt (ordering_then o p) ≡ false → is_lt o ≡ false
+first_not Less p h = h
+first_not Equal p h = refl
+first_not Greater p h = refl
 
 -- What is there, and what is not.
 

@@ -10,6 +10,7 @@ use Rattle.rv_catalog.specs.declared.def.IndexDef.{IndexDef}
 use Rattle.rv_reader.specs.Shown.{Shown, CanRead}
 use Rattle.rv_reader.specs.Storing.{pages_after}
 use Rattle.rv_reader.specs.Tables.{IsTable, row_at}
+use Rattle.rv_reader.proofs.Rows.{rows_few}
 use Rattle.rv_overlay.specs.declared.frozen.Frozen.{Frozen}
 use Rattle.rv_overlay.specs.declared.frozen.Part.{Part}
 use Rattle.rv_overlay.specs.declared.frozen.TableSize.{TableSize}
@@ -20,7 +21,7 @@ use Rattle.rv_overlay.proofs.Runs.{change_before, change_first}
 use Rattle.rv_overlay.proofs.Tabling.{pages_untouched, row_applied}
 use Rattle.rv_view.specs.Making.{AreIndexes, Keeps, by_table, last_of, one_if, pages_or, pages_up, parts_after, rows_or, size_after, written_after, written_of}
 use Rattle.rv_view.proofs.Keeping.{all_put, rows_are, stays_kept}
-use Rattle.rv_view.proofs.Rows.{pages_fit, rows_few}
+use Rattle.rv_view.proofs.Rows.{pages_fit}
 use Rattle.rv_view.proofs.Written.{last_low, pages_written, written_rise, written_with}
 
 -- The counts fit.

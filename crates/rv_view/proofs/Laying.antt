@@ -2,7 +2,7 @@
 use Rattle.std.proofs.Common.{◌≡◌, ℕ, ◌+◌, ◌<◌, ◌≤◌, ◌^◌, List, [], ◌∷◌, Bool, true, false, not, ◌&&◌, ◌||◌, ◌==◌, Option, Some, None, IfSome, inl, inr, refl, ap, sym, subst, ◌∙◌, filter, length, arith}
 use Rattle.std.proofs.lemmas.Bool.{cases_Bool}
 use Rattle.std.proofs.lemmas.Bool.Decides.{nat_tests}
-use Rattle.rv_reader.proofs.Rows.{applied_ascends}
+use Rattle.rv_reader.proofs.Rows.{applied_ascends, rows_few}
 use Rattle.rv_value.proofs.Lists.{filter_length}
 use Rattle.rv_value.specs.declared.record.Record.{Record}
 use Rattle.rv_value.specs.declared.record.IndexEntry.{IndexEntry}
@@ -27,7 +27,7 @@ use Rattle.rv_overlay.proofs.Freezing.{applied_fits, index_fits, table_fits}
 use Rattle.rv_overlay.proofs.Members.{has_filter, has_self, laid_has, members_tell}
 use Rattle.rv_overlay.proofs.Viewing.{view_is}
 use Rattle.rv_view.specs.Making.{KeepsPart, LaysKept}
-use Rattle.rv_view.proofs.Rows.{pages_more, rows_few}
+use Rattle.rv_view.proofs.Rows.{pages_more}
 
 -- Of an index at most as many entries are added as the view has rows.
 

@@ -1,7 +1,7 @@
 -- Rows under one change more.
-use Rattle.std.proofs.Common.{◌≡◌, ℕ, suc, ◌+◌, ◌-◌, ◌*◌, ◌/◌, ◌<◌, ◌≤◌, List, [], ◌∷◌, ◌++◌, Bool, true, false, ◌&&◌, ◌||◌, ◌==◌, cond, Option, Some, None, is_some, inl, inr, refl, ap, sym, ◌∙◌, filter, length, nat_lt, nat_le, arith, length-append}
+use Rattle.std.proofs.Common.{◌≡◌, ℕ, suc, ◌+◌, ◌-◌, ◌/◌, ◌<◌, ◌≤◌, List, [], ◌∷◌, ◌++◌, Bool, true, false, ◌&&◌, ◌||◌, ◌==◌, cond, Option, Some, None, is_some, inl, inr, refl, ap, sym, ◌∙◌, filter, length, nat_lt, arith, length-append}
 use Rattle.std.specs.Prelude.{max}
-use Rattle.std.proofs.lemmas.Bool.{cases_Bool, cases_lt, and_parts}
+use Rattle.std.proofs.lemmas.Bool.{cases_Bool, cases_lt}
 use Rattle.std.proofs.lemmas.Bool.Decides.{nat_tests}
 use Rattle.std.specs.List.{AllByRecursion, list_all, list_any}
 use Rattle.std.proofs.lemmas.Option.{same_Some}
@@ -16,7 +16,7 @@ use Rattle.rv_rows.proofs.Chains.{by_row, change_rises}
 use Rattle.rv_rows.proofs.Merges.{without_cut}
 use Rattle.rv_rows.proofs.Puts.{put_first, put_more, put_same}
 use Rattle.rv_reader.specs.Storing.{pages_after}
-use Rattle.rv_reader.specs.Tables.{IsTable, row_at}
+use Rattle.rv_reader.specs.Tables.{row_at}
 use Rattle.rv_overlay.specs.Rows.{changed_row}
 use Rattle.rv_overlay.proofs.Moving.{put_other, put_own}
 use Rattle.rv_overlay.proofs.Tabling.{row_applied, row_with_other, row_with_own}
@@ -181,30 +181,7 @@ length_with c rows ascend = by c.values
         let sum : (length front + suc (length back)) + one_if (row_at rows c.row.0) ≡ length rows + 1 = omega (arith, all) in
         ap (λ n. n + one_if (row_at rows c.row.0)) joined ∙ sum
 
--- Rows within so many pages are not more than these hold.
-
-above_low : (r : Record) (rows : List Record) → list_all (comes_below r) rows ≡ true → list_all (λ (s : Record). nat_le (suc r.row.0) s.row.0) rows ≡ true
-above_low r [] all = refl
-above_low r (s ∷ rows) all =
-    let parts = and_parts (comes_below r s) (list_all (comes_below r) rows) all in
-    let here : nat_le (suc r.row.0) s.row.0 ≡ true = (let first = parts.0 in grind (arith, nat_tests)) in
-    rw here (above_low r rows parts.1)
-
-count_from : (low n : ℕ) (rows : List Record) → low ≤ n → Ascend rows → list_all (λ (s : Record). nat_le low s.row.0) rows ≡ true → AllByRecursion (λ (r : Record). r.row.0 < n) rows → length rows + low ≤ n
-count_from low n [] le ascend above all = omega (arith, le)
-count_from low n (r ∷ rows) le ascend above all =
-    let parts = and_parts (nat_le low r.row.0) (list_all (λ (s : Record). nat_le low s.row.0) rows) above in
-    let first : low ≤ r.row.0 = (let here = parts.0 in grind (arith, nat_tests)) in
-    let last : r.row.0 < n = all.0 in
-    let rest = count_from (suc r.row.0) n rows (omega (arith, last)) ascend.1 (above_low r rows ascend.0) all.1 in
-    omega (arith, first, rest)
-
-all_low : (rows : List Record) → list_all (λ (s : Record). nat_le 0 s.row.0) rows ≡ true
-all_low [] = refl
-all_low (r ∷ rows) = let here : nat_le 0 r.row.0 ≡ true = grind (arith, nat_tests) in rw here (all_low rows)
-
-pub rows_few : (rows : List Record) (pages : ℕ) → IsTable rows pages → length rows ≤ 32 * pages
-rows_few rows pages stands = let few = count_from 0 (32 * pages) rows (omega arith) stands.ascend (all_low rows) stands.within in omega (arith, few)
+-- Pages under changes.
 
 pub pages_fit : (table : ℕ) (cs : List Change) (pages : ℕ) → pages < 4294967296 → AllByRecursion (λ (c : Change). c.row.0 < 4294967296) cs → pages_after table cs pages < 4294967296
 pages_fit table [] pages fit all = fit

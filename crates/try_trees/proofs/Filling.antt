@@ -9,6 +9,7 @@ use Rattle.rv_value.specs.declared.range.Range.{Range}
 use Rattle.rv_reader.specs.Entries.{comes_before, sorted_in, AreLong}
 use Rattle.rv_reader.specs.Storing.{AreKeys}
 use Rattle.rv_reader.proofs.Suiting.{long_keys}
+use Rattle.rv_reader.proofs.Sorting.{all_in}
 use Rattle.rv_versions.specs.declared.chain.Version.{Version}
 use Rattle.rv_versions.specs.Chains.{AllBelow, AllChainsBelow}
 use Rattle.rv_node.specs.Sound.{Absent}
@@ -16,10 +17,6 @@ use Rattle.rv_node.proofs.Rising.{All-of, list_all-of}
 use Rattle.rv_index.specs.Index.{Nodes, entries_of, cuts_of, IsNew, IsInserted}
 use Rattle.rv_index.proofs.Facts.{other_row}
 use Rattle.try_trees.specs.Filled.{IsFilled, IsNarrow}
-
-sorted_all : (P : IndexEntry → Type 0) (e : IndexEntry) (es : List IndexEntry) → P e → AllByRecursion P es → AllByRecursion P (sorted_in e es)
-sorted_all P e [] p all = (p, tt)
-sorted_all P e (x ∷ xs) p all = let more = sorted_all P e xs p all.1 in elim (comes_before x e) as (λ b. AllByRecursion P (cond b (x ∷ sorted_in e xs) (e ∷ x ∷ xs))) [ true ↦ (all.0, more) | false ↦ (p, all) ]
 
 sorted_length : (e : IndexEntry) (es : List IndexEntry) (n : ℕ) → length es ≡ n → length (sorted_in e es) ≡ n + 1
 sorted_length e [] n l = omega arith
@@ -48,8 +45,8 @@ filled_next row e old new filled is one put below = record {
   sound = put.sound;
   newest = below;
   number = subst (λ es. length es ≡ row + 1) (sym put.entries) (sorted_length e (entries_of old 1) row filled.number);
-  rows = subst (AllByRecursion (λ x. x.row.0 < row + 1)) (sym put.entries) (sorted_all (λ x. x.row.0 < row + 1) e (entries_of old 1) (omega arith) (all_more (λ x. x.row.0 < row) (λ x. x.row.0 < row + 1) (λ x l. omega arith) (entries_of old 1) filled.rows));
-  keys = subst (AreKeys 1) (sym put.entries) (sorted_all (λ x. length x.key ≡ 1) e (entries_of old 1) one filled.keys);
+  rows = subst (AllByRecursion (λ x. x.row.0 < row + 1)) (sym put.entries) (all_in (λ x. x.row.0 < row + 1) e (entries_of old 1) (omega arith) (all_more (λ x. x.row.0 < row) (λ x. x.row.0 < row + 1) (λ x l. omega arith) (entries_of old 1) filled.rows));
+  keys = subst (AreKeys 1) (sym put.entries) (all_in (λ x. length x.key ≡ 1) e (entries_of old 1) one filled.keys);
   cuts = keys_of (cuts_of new 1) (put.cuts one_value (one_of e one) (ones (cuts_of old 1) filled.cuts) (ones (entries_of old 1) filled.keys));
 }
 
