@@ -34,11 +34,11 @@ use Rattle.rv_final.specs.Rest.{qualifies_at, qualifying}
 use Rattle.rv_retrieval.specs.Effort.{cuts_and_entries, life_of as retrieval_life}
 use Rattle.rv_retrieval.specs.Runs.{indexes_asked}
 use Rattle.rv_retrieval.proofs.Chosen.{plan_makes}
-use Rattle.rv_retrieval.proofs.Entered.{entries_apart}
 use Rattle.rv_retrieval.proofs.Planning.{planned_meets}
 use Rattle.rv_union.specs.Effort.{effort as union_effort, life_of as union_life, member_life, members_life}
 use Rattle.rv_union.specs.Opened.{CanUnite, Opened as UnionOpened}
 use Rattle.rv_jscan.specs.Planned.{indexes_of}
+use Rattle.rv_jscan.proofs.Apart.{entries_apart}
 use Rattle.rv_union.specs.Runs.{OfFewIndexes, Tells as UnionTells}
 use Rattle.rv_union.specs.Unioned.{MembersFit, UnionFits, Unioned, meets_any, rest as union_rest}
 use Rattle.rv_access.specs.declared.uniting.UnitedQuery.{UnitedQuery}

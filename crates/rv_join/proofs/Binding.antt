@@ -1,5 +1,5 @@
 -- What a retrieval of an item is asked can be asked of the reader, and its restriction can be bound.
-use Rattle.std.proofs.Common.{◌≡◌, ℕ, ◌+◌, ◌*◌, ◌<◌, ◌≤◌, List, [], ◌∷◌, ◌++◌, length, max, Bool, true, false, not, ◌||◌, ◌==◌, nat_lt, refl, ap, sym, ◌∙◌, arith, subst, slice_index_or, Result, Ok, Err, IfOk, mul-le-mul_right}
+use Rattle.std.proofs.Common.{◌≡◌, ℕ, ◌+◌, ◌*◌, ◌<◌, ◌≤◌, List, [], ◌∷◌, ◌++◌, length, Bool, true, false, not, ◌||◌, ◌==◌, nat_lt, refl, ap, sym, ◌∙◌, arith, subst, slice_index_or, Result, Ok, Err, IfOk, mul-le-mul_right}
 use Rattle.std.specs.List.{AllByRecursion, list_all, list_any}
 use Rattle.std.proofs.lemmas.Bool.Decides.{nat_tests}
 use Rattle.std.proofs.lemmas.Grind.{common_steps}
@@ -22,6 +22,7 @@ use Rattle.rv_choice.specs.declared.query.Query.{Query}
 use Rattle.rv_choice.specs.Asked.{CanAsk, IsIndexOf}
 use Rattle.rv_judge.specs.declared.counting.Counts.{Counts}
 use Rattle.rv_judge.specs.Account.{life_bound}
+use Rattle.rv_scan.proofs.Telling.{below_width}
 use Rattle.rv_retrieval.specs.Effort.{cuts_and_entries, life_of as retrieval_life}
 use Rattle.rv_final.specs.Rest.{qualifying}
 use Rattle.rv_access.specs.declared.access.Access.{Access}
@@ -117,16 +118,6 @@ opens_if (Ok v) a shown outer query c d asks begins = record {
 
 -- A row that was widened to the columns needed has them.
 
-width_above : (need : List ℕ) (c : ℕ) → stands_among need c ≡ true → c < width need
-width_above [] c h = absurd (cc)
-width_above (n ∷ need) c h = elim (n == c) as (λ b. (n == c) ≡ b → (b || stands_among need c) ≡ true → c < max (n + 1) (width need)) [
-  | true ↦ λ e g. here e
-  | false ↦ λ e g. let tail = width_above need c g in grind (arith, tail)
-] refl h
-  where
-    here : (n == c) ≡ true → c < max (n + 1) (width need)
-    here e = grind (arith, nat_tests, e)
-
 widened_long : (n : ℕ) (row : List Value) → n ≤ length (widened n row)
 widened_long n row = grind (arith, common_steps)
 
@@ -159,7 +150,7 @@ wide_more a shown outer row can inside wide c le u = elim (nat_lt c.place (lengt
     front h = and_from (nat_lt c.place (length (outer ++ last ∷ []))) (nat_lt c.column (length (slice_index_or (outer ++ last ∷ []) c.place []))) (less _ _ le) (let same = get_or_append_left outer (last ∷ []) [] c.place h in rw same (second_so (nat_lt c.place (length outer)) (nat_lt c.column (length (slice_index_or outer c.place []))) (wide c h u)))
 
     behind : c.place ≡ length outer → rows_has (outer ++ last ∷ []) c ≡ true
-    behind e = and_from (nat_lt c.place (length (outer ++ last ∷ []))) (nat_lt c.column (length (slice_index_or (outer ++ last ∷ []) c.place []))) (less _ _ le) (rw (e, last_row outer last []) (less c.column (length last) (reached (widened_long (width (item_at a (length outer)).need) row) (width_above (item_at a (length outer)).need c.column ((can.each (length outer) inside).need c.column (subst (λ q. asked_uses a (col_at q c.column) ≡ true) e u))))))
+    behind e = and_from (nat_lt c.place (length (outer ++ last ∷ []))) (nat_lt c.column (length (slice_index_or (outer ++ last ∷ []) c.place []))) (less _ _ le) (rw (e, last_row outer last []) (less c.column (length last) (reached (widened_long (width (item_at a (length outer)).need) row) (below_width (item_at a (length outer)).need c.column ((can.each (length outer) inside).need c.column (subst (λ q. asked_uses a (col_at q c.column) ≡ true) e u))))))
       where
         reached : {q n m : ℕ} → n ≤ m → q < n → q < m
         reached h i = omega (arith, h, i)

@@ -11,14 +11,14 @@ use Rattle.rv_jscan.specs.Joint.{Joint, JointFits, IsNextLeaf, leaves_ahead, lea
 use Rattle.rv_jscan.specs.Steps.{Accepts, Awaits, HasEntries, abandoned, completed, going, held_next}
 use Rattle.rv_jscan.proofs.Fits.{way_within}
 
-sum_ahead : (plans : List ScanPlan) (shown : Shown) (snap : ℕ) → leaves_of plans None shown snap ≡ leaves_planned plans shown snap
-sum_ahead [] shown snap = refl
-sum_ahead (p ∷ plans) shown snap = refl
+pub leaves_first : (plans : List ScanPlan) (shown : Shown) (snap : ℕ) → leaves_of plans None shown snap ≡ leaves_planned plans shown snap
+leaves_first [] shown snap = refl
+leaves_first (p ∷ plans) shown snap = refl
 
 -- those of the present scan, and those of the scans behind it
 pub ahead_split : (j : Joint) (shown : Shown) → j.ended < length j.plans → leaves_ahead j shown ≡ leaves_from (shown.cuts (present j).index j.snap) j.place + leaves_of (drop (j.ended + 1) j.plans) None shown j.snap
 ahead_split j shown lt =
-    ap (λ (ps : List ScanPlan). leaves_of ps j.place shown j.snap) (drop_more j.plans j.ended no_plan lt) ∙ ap (λ (n : ℕ). leaves_from (shown.cuts (present j).index j.snap) j.place + n) (sym (sum_ahead (drop (j.ended + 1) j.plans) shown j.snap))
+    ap (λ (ps : List ScanPlan). leaves_of ps j.place shown j.snap) (drop_more j.plans j.ended no_plan lt) ∙ ap (λ (n : ℕ). leaves_from (shown.cuts (present j).index j.snap) j.place + n) (sym (leaves_first (drop (j.ended + 1) j.plans) shown j.snap))
 
 going_nearer : (j : Joint) (shown : Shown) (entries : List IndexEntry) (cut : IndexEntry) → under_way j ≡ true → leaves_from (shown.cuts (present j).index j.snap) (Some cut) < leaves_from (shown.cuts (present j).index j.snap) j.place → leaves_ahead (going j entries cut) shown < leaves_ahead j shown
 going_nearer j shown entries cut way near =

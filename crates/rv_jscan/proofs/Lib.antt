@@ -7,3 +7,4 @@ pub mod Leaves
 pub mod Lanes
 pub mod Works
 pub mod Planned
+pub mod Apart

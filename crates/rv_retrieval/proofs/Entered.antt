@@ -2,7 +2,6 @@
 use Rattle.std.proofs.Common.{◌≡◌, ℕ, List, [], ◌∷◌, filter, map, drop, Bool, true, false, cond, ◌&&◌, ◌||◌, refl, ap, sym, ◌∙◌, arith, subst, Some, None, Option, nat_eq, zero, suc, inl, inr}
 use Rattle.std.specs.List.{list_any, AllByRecursion, cons_option}
 use Rattle.std.proofs.lemmas.Bool.{cases_Bool}
-use Rattle.std.proofs.lemmas.Bool.Decides.{nat_tests}
 use Rattle.rv_reader.proofs.Rows.{found_row}
 use Rattle.rv_value.proofs.Lists.{all_drop, all_filter}
 use Rattle.rv_value.specs.declared.record.Record.{Record}
@@ -21,7 +20,7 @@ use Rattle.rv_jscan.specs.Entries.{has_entry, Apart}
 use Rattle.rv_jscan.proofs.Parts.{Apart-filter}
 use Rattle.rv_final.specs.Rest.{qualifies_at, has_row}
 use Rattle.rv_final.proofs.Rests.{rows_found}
-use Rattle.rv_final.proofs.Dues.{StandsFor, RowsApart, Looks, rows_apart}
+use Rattle.rv_final.proofs.Dues.{StandsFor, RowsApart, Looks}
 
 -- an entry of a row
 pub record EntryOf (columns : List ℕ) (rows : List Record) (e : IndexEntry) : Type 0 where
@@ -49,40 +48,6 @@ any_in p e (x ∷ xs) = elim (comes_before x e) as (λ b. list_any p (cond b (x 
 any_sorted : (p : IndexEntry → Bool) (xs : List IndexEntry) → list_any p (sorted xs) ≡ list_any p xs
 any_sorted p [] = refl
 any_sorted p (x ∷ xs) = any_in p x (sorted xs) ∙ ap (λ (b : Bool). p x || b) (any_sorted p xs)
-
-apart_in : (e : IndexEntry) (xs : List IndexEntry) → has_entry e.row.0 xs ≡ false → Apart xs → Apart (sorted_in e xs)
-apart_in e [] h a = (refl, tt)
-apart_in e (x ∷ xs) h a =
-    let here : nat_eq e.row.0 x.row.0 ≡ false = left_false _ _ h in
-    let later : has_entry e.row.0 xs ≡ false = right_false _ _ h in
-    elim (comes_before x e) as (λ b. Apart (cond b (x ∷ sorted_in e xs) (e ∷ x ∷ xs))) [
-      | true ↦ (any_in (λ (y : IndexEntry). nat_eq x.row.0 y.row.0) e xs ∙ or_false _ _ (turned e.row.0 x.row.0 here) a.0, apart_in e xs later a.1)
-      | false ↦ (h, a)
-    ]
-  where
-    left_false : (a b : Bool) → (a || b) ≡ false → a ≡ false
-    left_false a b h = grind arith
-
-    right_false : (a b : Bool) → (a || b) ≡ false → b ≡ false
-    right_false a b h = grind arith
-
-    or_false : (a b : Bool) → a ≡ false → b ≡ false → (a || b) ≡ false
-    or_false a b h i = grind arith
-
-    turned : (a b : ℕ) → nat_eq a b ≡ false → nat_eq b a ≡ false
-    turned a b h = grind (arith, nat_tests)
-
-mapped_has : (columns : List ℕ) (n : ℕ) (rows : List Record) → has_entry n (map (entry_of columns) rows) ≡ has_row n rows
-mapped_has columns n [] = refl
-mapped_has columns n (r ∷ rows) = ap (λ (b : Bool). nat_eq n r.row.0 || b) (mapped_has columns n rows)
-
-apart_mapped : (columns : List ℕ) (rows : List Record) → RowsApart rows → Apart (sorted (map (entry_of columns) rows))
-apart_mapped columns [] a = tt
-apart_mapped columns (r ∷ rows) a = apart_in (entry_of columns r) (sorted (map (entry_of columns) rows)) (any_sorted (λ (y : IndexEntry). nat_eq r.row.0 y.row.0) (map (entry_of columns) rows) ∙ mapped_has columns r.row.0 rows ∙ a.0) (apart_mapped columns rows a.1)
-
--- no row stands in two entries of a table
-pub entries_apart : (columns : List ℕ) (rows : List Record) → Ascend rows → Apart (entries_of columns rows)
-entries_apart columns rows asc = apart_mapped columns rows (rows_apart rows asc)
 
 stand_mapped : (columns : List ℕ) (rows some : List Record) → AllByRecursion (λ (x : Record). row_at rows x.row.0 ≡ Some x) some → AreOf columns rows (map (entry_of columns) some)
 stand_mapped columns rows [] a = tt

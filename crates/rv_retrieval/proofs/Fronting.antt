@@ -20,10 +20,11 @@ use Rattle.rv_jscan.proofs.Fits.{covered_may}
 use Rattle.rv_final.specs.Rest.{Agree, StepMarks, has_row, qualifies_at}
 use Rattle.rv_retrieval.specs.Fronts.{front_left}
 use Rattle.rv_scan.specs.Fronts.{Front, SameFront, front_rest, walk_of}
+use Rattle.rv_jscan.proofs.Apart.{entries_apart}
 use Rattle.rv_retrieval.specs.Shape.{RetrievalFits, Shape, front_entries, is_led, is_sorted, rows_of}
 use Rattle.rv_retrieval.specs.Stepping.{WalkReads}
 use Rattle.rv_final.proofs.Dues.{Looks, marks_move, open_in, step_marks}
-use Rattle.rv_retrieval.proofs.Entered.{AreOf, Covering, entries_apart, entries_stand, fetched_looks, fetched_open, left_apart, left_stands, told_looks, told_open}
+use Rattle.rv_retrieval.proofs.Entered.{AreOf, Covering, entries_stand, fetched_looks, fetched_open, left_apart, left_stands, told_looks, told_open}
 
 -- the records that a step looks through
 abbrev pub front_items : Front → List IndexEntry → List Record → List Record

@@ -25,7 +25,7 @@ use Rattle.rv_reader.proofs.Rows.{rows_few}
 use Rattle.rv_scan.specs.Alongs.{Along, leaf_work}
 use Rattle.rv_scan.specs.Places.{work as pages_work}
 use Rattle.rv_jscan.specs.declared.jscan.ScanPlan.{ScanPlan}
-use Rattle.rv_jscan.specs.Joint.{Joint, leaves_of, leaves_planned, under_way}
+use Rattle.rv_jscan.specs.Joint.{Joint, leaves_planned, under_way}
 use Rattle.rv_choice.specs.declared.query.Query.{Query}
 use Rattle.rv_choice.specs.declared.choosing.Background.{Background}
 use Rattle.rv_choice.specs.declared.choosing.Background.TheVariants.{Each, One}
@@ -38,6 +38,7 @@ use Rattle.rv_choice.specs.Asked.{CanAsk}
 use Rattle.rv_choice.specs.Choice.{AreScans, IsChosen, IsLeastOf, candidate_at, choice_of, leads, no_candidate, order_index, restricted_choice, candidate_of, candidates_of, is_scanned, plan_of}
 use Rattle.rv_retrieval.specs.Effort.{Awaiting, back_work, cuts_and_entries, effort, entries_of_scans, entries_planned, front_work, keys_work, life_of, sum_of, table_work}
 use Rattle.rv_scan.specs.Fronts.{Front, walk_of}
+use Rattle.rv_jscan.proofs.Leaves.{leaves_first}
 use Rattle.rv_retrieval.specs.Opened.{Begun, has_scans}
 use Rattle.rv_choice.specs.Leading.{front_begun, front_candidate, walk_begun}
 use Rattle.rv_retrieval.specs.Opens.{first_of}
@@ -107,10 +108,6 @@ front_cost query shown choice chosen false led = omega arith
 -- all parts together
 sum_most : (c : Control) (b f t k : ℕ) → k ≤ b → sum_of c b f t k ≤ b + f + t
 sum_most c b f t k l = sum_lower Building c b f t k refl l
-
-leaves_first : (plans : List ScanPlan) (shown : Shown) (snap : ℕ) → leaves_of plans None shown snap ≡ leaves_planned plans shown snap
-leaves_first [] shown snap = refl
-leaves_first (p ∷ plans) shown snap = refl
 
 entries_first : (plans : List ScanPlan) (shown : Shown) (snap : ℕ) → entries_of_scans plans None shown snap ≡ entries_planned plans shown snap
 entries_first [] shown snap = refl

@@ -18,10 +18,11 @@ use Rattle.rv_reader.proofs.Filters.{filter_twice}
 use Rattle.rv_jscan.specs.declared.jscan.ScanPlan.{ScanPlan}
 use Rattle.rv_jscan.specs.Entries.{has_entry, Apart}
 use Rattle.rv_jscan.specs.Joint.{meets, passing}
+use Rattle.rv_jscan.proofs.Apart.{entries_apart}
 use Rattle.rv_choice.specs.declared.query.Query.{Query}
 use Rattle.rv_choice.specs.Asked.{CanAsk, IsPlanned}
 use Rattle.rv_final.specs.Rest.{qualifies_at}
-use Rattle.rv_retrieval.proofs.Entered.{entered, entries_apart}
+use Rattle.rv_retrieval.proofs.Entered.{entered}
 
 pub is_true_true : (t : Tri) → is_true t ≡ true → t ≡ True
 is_true_true True h = refl

@@ -44,6 +44,7 @@ use Rattle.rv_choice.specs.Asked.{CanAsk}
 use Rattle.rv_choice.specs.Choice.{AreScans, IsChosen, IsLeastOf, IsRight, candidate_at, candidate_of, candidates_of, choice_of, is_scanned, no_candidate, order_index, plan_of, plays}
 use Rattle.rv_retrieval.specs.Effort.{Awaiting, entries_of_scans, entries_planned, keys_work}
 use Rattle.rv_scan.specs.Fronts.{Front, walk_of}
+use Rattle.rv_jscan.proofs.Apart.{entries_apart}
 use Rattle.rv_retrieval.specs.Opened.{Begun, OnlyLists, SameScans, is_one}
 use Rattle.rv_retrieval.specs.Rulings.{going_on, gone, listed, scan_over}
 use Rattle.rv_retrieval.specs.Shape.{RetrievalFits, Shape, front_entries, is_background, is_sorted}
@@ -52,7 +53,7 @@ use Rattle.rv_retrieval.specs.Telling.{list_len}
 use Rattle.rv_retrieval.proofs.BackWork.{entries_split, kept_few}
 use Rattle.rv_retrieval.proofs.Controls.{sorted_is_led}
 use Rattle.rv_retrieval.proofs.Courses.{HasFront, keys_few}
-use Rattle.rv_retrieval.proofs.Entered.{entries_apart, left_apart}
+use Rattle.rv_retrieval.proofs.Entered.{left_apart}
 
 -- The keys that a list can come to have.
 

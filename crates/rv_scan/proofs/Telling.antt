@@ -27,7 +27,7 @@ use Rattle.rv_scan.specs.Alongs.{Along, FetchesDue, Follows, leaf_work, to_come}
 use Rattle.rv_scan.specs.Told.{FindsTold, Goes, KeyReads, NamesThese, Tells, told, told_rest, told_values, width}
 use Rattle.rv_scan.proofs.Fetches.{drop_all, length_drop}
 
-below_width : (columns : List ℕ) (c : ℕ) → stands_among columns c ≡ true → c < width columns
+pub below_width : (columns : List ℕ) (c : ℕ) → stands_among columns c ≡ true → c < width columns
 below_width [] c h = cc
 below_width (n ∷ ns) c h = elim (cases_Bool (n == c)) [
   | inl t ↦ let same : n ≡ c = grind (arith, nat_tests) in omega arith

@@ -19,9 +19,9 @@ use Rattle.rv_jscan.specs.Entries.{Apart}
 use Rattle.rv_jscan.specs.Pieces.{Pieced}
 use Rattle.rv_jscan.specs.Joint.{CanMake, CanTake, Joint, JointFits, no_plan, plan_at, under_way}
 use Rattle.rv_jscan.specs.Steps.{Accepts, Gives, TakeLeaves, abandoned, begun, completed, going, held_next}
+use Rattle.rv_jscan.proofs.Apart.{entries_apart}
 use Rattle.try_pieces.specs.Drawing.{Drawn, IsPlan, Lists}
 use Rattle.try_pieces.specs.Laying.{Laid}
-use Rattle.try_pieces.proofs.Apart.{entries_apart}
 
 -- one of the two indexes
 record OneOf (shown : Shown) (index : ℕ) : Type 0 where
