@@ -1,16 +1,12 @@
 -- What a cursor gives, and what it can read.
-use Rattle.std.proofs.Common.{◌≡◌, ◌<◌, ℕ, List, [], ◌∷◌, refl, arith, Bool, true, nat_lt, nat_eq, length}
+use Rattle.std.proofs.Common.{◌≡◌, ◌<◌, ℕ, List, [], ◌∷◌, arith, true, nat_lt, nat_eq, length}
 use Rattle.std.specs.List.{list_all, slice_index_or}
 use Rattle.std.proofs.lemmas.Bool.Decides.{nat_tests}
 use Rattle.std.proofs.lemmas.Bool.{and_from, and_parts}
-use Rattle.rv_value.proofs.Lists.{passes_more}
 use Rattle.rv_restrict.specs.declared.atom.ColRef.{ColRef}
-use Rattle.rv_restrict.specs.declared.atom.Atom.{Atom}
-use Rattle.rv_restrict.specs.declared.atom.Atom.TheVariants.{Compare, Between, Among, IsNull, Starts, Const}
-use Rattle.rv_restrict.specs.declared.atom.Operand.{Operand}
-use Rattle.rv_restrict.specs.declared.atom.Operand.TheVariants.{Literal, Column}
 use Rattle.rv_restrict.specs.Bind.{passes_home}
-use Rattle.rv_restrict.specs.Truth.{names_only, group_names_only, atom_names_only, operand_names_only}
+use Rattle.rv_restrict.specs.Truth.{names_only}
+use Rattle.rv_restrict.proofs.Names.{names_weaker}
 use Rattle.rv_catalog.specs.declared.def.TableDef.{TableDef}
 use Rattle.rv_catalog.specs.declared.def.Select.{Select}
 use Rattle.rv_catalog.specs.Schema.{Schema, width}
@@ -19,25 +15,6 @@ use Rattle.rv_reader.specs.Shown.{Shown, IsSnapshot, CanRead}
 use Rattle.rv_model.specs.declared.transactions.Transactions.{Transactions}
 use Rattle.rv_model.specs.Step.{table_of}
 use Rattle.rv_core.specs.Db.{IsTied}
-
--- a restriction that passes one test passes another that follows from it
-
-operand_more : (p q : ColRef → Bool) → ((c : ColRef) → p c ≡ true → q c ≡ true) → (o : Operand) → operand_names_only p o ≡ true → operand_names_only q o ≡ true
-operand_more p q more (Literal v) h = refl
-operand_more p q more (Column c) h = more c h
-
-atom_more : (p q : ColRef → Bool) → ((c : ColRef) → p c ≡ true → q c ≡ true) → (a : Atom) → atom_names_only p a ≡ true → atom_names_only q a ≡ true
-atom_more p q more (Compare c op o) h =
-    let parts = and_parts (p c) (operand_names_only p o) h in
-    and_from (q c) (operand_names_only q o) (more c parts.0) (operand_more p q more o parts.1)
-atom_more p q more (Between c low high) h = more c h
-atom_more p q more (Among c list) h = more c h
-atom_more p q more (IsNull c negated) h = more c h
-atom_more p q more (Starts c text) h = more c h
-atom_more p q more (Const t) h = refl
-
-names_more : (p q : ColRef → Bool) → ((c : ColRef) → p c ≡ true → q c ≡ true) → (only : List (List Atom)) → names_only p only ≡ true → names_only q only ≡ true
-names_more p q more only h = passes_more (group_names_only p) (group_names_only q) (λ g k. passes_more (atom_names_only p) (atom_names_only q) (atom_more p q more) g k) only h
 
 -- a column of the one FROM item
 column_home : (defs : List TableDef) (tables : List ℕ) (c : ColRef) → length tables ≡ 1 → is_there defs tables c ≡ true → passes_home (is_column (width defs (slice_index_or tables 0 0))) c ≡ true
@@ -71,4 +48,4 @@ query_reads shown schema txns select snap tied one query base = record { there =
 pub query_over : (shown : Shown) (schema : Schema) (txns : Transactions) (select : Select) → IsTied shown schema txns → length select.tables ≡ 1 → IsQueryOf schema select → names_only (passes_home (is_column (shown.columns (table_of select)))) select.only ≡ true
 query_over shown schema txns select tied one query =
     let t = first_there (length schema.tables) select.tables one query.there in
-    rw (tied.columns (table_of select) t) (names_more (is_there schema.tables select.tables) (passes_home (is_column (width schema.tables (table_of select)))) (λ c h. column_home schema.tables select.tables c one h) select.only query.only)
+    rw (tied.columns (table_of select) t) (names_weaker (is_there schema.tables select.tables) (passes_home (is_column (width schema.tables (table_of select)))) (λ c h. column_home schema.tables select.tables c one h) select.only query.only)

@@ -1,17 +1,12 @@
 -- A query over the schema can be planned at a snapshot of the store.
-use Rattle.std.proofs.Common.{◌≡◌, ℕ, zero, suc, ◌+◌, ◌<◌, ◌≤◌, List, [], ◌∷◌, Bool, true, ◌||◌, refl, ap, sym, ◌∙◌, subst, arith, inl, inr, length, nat_eq, nat_lt}
-use Rattle.std.specs.List.{list_all, list_any, slice_index_or}
+use Rattle.std.proofs.Common.{◌≡◌, ℕ, zero, suc, ◌+◌, ◌<◌, ◌≤◌, List, [], ◌∷◌, true, refl, ap, sym, ◌∙◌, subst, arith, inl, inr, length, nat_lt}
+use Rattle.std.specs.List.{list_all, slice_index_or}
 use Rattle.std.proofs.lemmas.Bool.Decides.{eqb_tells}
-use Rattle.std.proofs.lemmas.Bool.{and_from, eqb-true, lt-ltb, ltb-true, or_cases}
+use Rattle.std.proofs.lemmas.Bool.{and_from, lt-ltb, ltb-true}
 use Rattle.std.specs.Cmp.{first_so, second_so}
 use Rattle.rv_value.specs.declared.record.Record.{Record}
 use Rattle.rv_rows.specs.Rows.{Ascend}
 use Rattle.rv_restrict.specs.declared.atom.ColRef.{ColRef}
-use Rattle.rv_restrict.specs.declared.atom.Operand.{Operand}
-use Rattle.rv_restrict.specs.declared.atom.Operand.TheVariants.{Literal, Column}
-use Rattle.rv_restrict.specs.declared.atom.Atom.{Atom}
-use Rattle.rv_restrict.specs.declared.atom.Atom.TheVariants.{Compare, Between, Among, IsNull, Starts, Const}
-use Rattle.rv_restrict.specs.Truth.{atom_names_only, group_names_only, names_only, operand_names_only}
 use Rattle.rv_catalog.specs.declared.def.IndexDef.{IndexDef}
 use Rattle.rv_catalog.specs.declared.def.Select.{Select}
 use Rattle.rv_catalog.specs.Fits.{IsQueryOf, is_column, is_there}
@@ -23,53 +18,9 @@ use Rattle.rv_reader.specs.Storing.{AreColumns, AreKeys, AreWide, IsStored}
 use Rattle.rv_model.specs.declared.transactions.Transactions.{Transactions}
 use Rattle.rv_snapshot.specs.Alone.{alone}
 use Rattle.rv_snapshot.proofs.Staying.{reads_alone, same_cuts, same_entries, same_rows, scans_alone}
-use Rattle.rv_join.specs.Asking.{CanPlan, IsIndexAt, atom_names, group_names, have_column, index_at, indexes_from, only_names, operand_names, same_column, select_uses, table_at}
+use Rattle.rv_join.specs.Asking.{CanPlan, IsIndexAt, have_column, index_at, indexes_from, select_uses, table_at}
+use Rattle.rv_join.proofs.Naming.{used_passes}
 use Rattle.rv_core.specs.Db.{IsTied}
-
--- What all columns of a query pass, each column that it names passes.
-
-same_is : (c d : ColRef) → same_column c d ≡ true → c ≡ d
-same_is c d h =
-    let place = eqb-true c.place d.place (first_so (nat_eq c.place d.place) (nat_eq c.column d.column) h) in
-    let column = eqb-true c.column d.column (second_so (nat_eq c.place d.place) (nat_eq c.column d.column) h) in
-    λ i. record { place = place i; column = column i }
-
-same_passes : (p : ColRef → Bool) (c d : ColRef) → p d ≡ true → same_column c d ≡ true → p c ≡ true
-same_passes p c d h same = ap p (same_is c d same) ∙ h
-
-any_passes : {X : Type 0} (p names : X → Bool) (q : Bool) → ((x : X) → p x ≡ true → names x ≡ true → q ≡ true) → (xs : List X) → list_all p xs ≡ true → list_any names xs ≡ true → q ≡ true
-any_passes p names q each [] all some = cc
-any_passes p names q each (x ∷ xs) all some = elim (or_cases (names x) (list_any names xs) some) [
-  | inl here ↦ each x (first_so (p x) (list_all p xs) all) here
-  | inr later ↦ any_passes p names q each xs (second_so (p x) (list_all p xs) all) later
-]
-
-operand_passes : (p : ColRef → Bool) (c : ColRef) (o : Operand) → operand_names_only p o ≡ true → operand_names c o ≡ true → p c ≡ true
-operand_passes p c (Literal v) all named = cc
-operand_passes p c (Column d) all named = same_passes p c d all named
-
-atom_passes : (p : ColRef → Bool) (c : ColRef) (a : Atom) → atom_names_only p a ≡ true → atom_names c a ≡ true → p c ≡ true
-atom_passes p c (Compare d op o) all named = elim (or_cases (same_column c d) (operand_names c o) named) [
-  | inl left ↦ same_passes p c d (first_so (p d) (operand_names_only p o) all) left
-  | inr right ↦ operand_passes p c o (second_so (p d) (operand_names_only p o) all) right
-]
-atom_passes p c (Between d low high) all named = same_passes p c d all named
-atom_passes p c (Among d list) all named = same_passes p c d all named
-atom_passes p c (IsNull d negated) all named = same_passes p c d all named
-atom_passes p c (Starts d text) all named = same_passes p c d all named
-atom_passes p c (Const t) all named = cc
-
-only_passes : (p : ColRef → Bool) (c : ColRef) (only : List (List Atom)) → names_only p only ≡ true → only_names c only ≡ true → p c ≡ true
-only_passes p c only all named = any_passes (group_names_only p) (group_names c) (p c) (λ g h k. any_passes (atom_names_only p) (atom_names c) (p c) (λ a m n. atom_passes p c a m n) g h k) only all named
-
-used_passes : (p : ColRef → Bool) (s : Select) (c : ColRef) → list_all p s.returns ≡ true → list_all p s.order ≡ true → names_only p s.only ≡ true → select_uses s c ≡ true → p c ≡ true
-used_passes p s c returns order only used = elim (or_cases (list_any (same_column c) s.returns) (list_any (same_column c) s.order || only_names c s.only) used) [
-  | inl r ↦ any_passes p (same_column c) (p c) (λ d h k. same_passes p c d h k) s.returns returns r
-  | inr more ↦ elim (or_cases (list_any (same_column c) s.order) (only_names c s.only) more) [
-    | inl o ↦ any_passes p (same_column c) (p c) (λ d h k. same_passes p c d h k) s.order order o
-    | inr g ↦ only_passes p c s.only only g
-  ]
-]
 
 -- a column that a query names is of one of its tables
 used_there : (schema : Schema) (s : Select) (c : ColRef) → IsQueryOf schema s → select_uses s c ≡ true → is_there schema.tables s.tables c ≡ true

@@ -27,9 +27,8 @@ use Rattle.rv_own.specs.Views.{Freezes}
 use Rattle.rv_txn.specs.Calls.{writing}
 use Rattle.rv_txn.specs.Changing.{CanChange}
 use Rattle.rv_txn.proofs.Halving.{writing_is}
-use Rattle.rv_choice.specs.declared.query.Query.{Query}
 use Rattle.rv_choice.specs.declared.query.Goal2.TheVariants.{TotalTime as Late}
-use Rattle.rv_choice.specs.Asked.{CanAsk, IsIndexOf}
+use Rattle.rv_choice.specs.Asked.{CanAsk}
 use Rattle.rv_final.specs.Rest.{qualifying}
 use Rattle.rv_search.specs.Named.{columns_named}
 use Rattle.rv_retrieval.specs.Short.{has_short}
@@ -43,8 +42,9 @@ use Rattle.rv_judge.specs.declared.judging.Facts.{Facts}
 use Rattle.rv_judge.specs.Verdicts.{Ruling}
 use Rattle.rv_search.proofs.Columns.{named_home, none_needed}
 use Rattle.rv_join.specs.declared.places.Asked.{Asked}
-use Rattle.rv_join.specs.Asking.{CanPlan, CanRun, CanRunItem, IsAsked, IsIndexAt, IsItem, by_index, have_column, indexes_from, item_at}
+use Rattle.rv_join.specs.Asking.{CanPlan, CanRun, CanRunItem, IsAsked, IsItem, by_index, have_column, indexes_from, item_at}
 use Rattle.rv_join.proofs.Running.{can_run}
+use Rattle.rv_join.proofs.Binding.{indexes_of}
 use Rattle.rv_cursor.specs.Left.{seen_at}
 use Rattle.rv_core.specs.Db.{IsTied, IsViewed}
 use Rattle.rv_core.specs.Obeying.{FindsRows, HasSearched, IsLong}
@@ -135,10 +135,6 @@ seen_have shown touched table snap c (Some f) stored read low viewed =
     (have_viewed table c f.changes (shown.rows table snap) (own_have shown touched table c f.changes low viewed.changes)
     (have_wide c (shown.columns table) (shown.rows table snap) (stored.wide table snap read) low))
 
-indexes_asked : (query : Query) (shown : Shown) (is : List (ℕ × List ℕ)) → AllByRecursion (λ (i : ℕ × List ℕ). IsIndexAt shown query.table query.snap i.0 i.1) is → AllByRecursion (λ (i : ℕ × List ℕ). IsIndexOf query shown i.0 i.1) is
-indexes_asked query shown [] all = all
-indexes_asked query shown (i ∷ is) all = let here = all.0 in (record { can = here.can; some = here.some; few = here.few; different = here.different; entries = here.entries; cuts = here.cuts }, indexes_asked query shown is all.1)
-
 pub can_search : (shown : Shown) (schema : Schema) (txns : Transactions) (table snap : ℕ) (only : List (List Atom)) (frozen : Option Frozen) → IsTied shown schema txns → IsStored shown → CanRead shown table snap → table < length schema.tables → is_over_table schema.tables table only ≡ true → length schema.indexes ≤ 512
     → IfSome frozen (IsViewed shown txns.touched snap) → CanAsk (search_of table snap only (indexes_from table 0 schema.indexes)) (seen_at shown snap frozen)
 can_search shown schema txns table snap only frozen tied stored read there over few viewed =
@@ -155,7 +151,7 @@ can_search shown schema txns table snap only frozen tied stored read there over 
       columns = have_all (shown.columns table) only (seen.rows table snap) named (λ c low. seen_have shown txns.touched table snap c frozen stored read (ltb-true c (shown.columns table) low) viewed);
       few = item.few;
       different = item.different;
-      indexes = indexes_asked (search_of table snap only indexes) seen indexes item.indexes;
+      indexes = indexes_of (search_of table snap only indexes) seen indexes item.indexes;
       named = named_home (is_column (shown.columns table)) only named;
       ordered = inl refl;
       needs = λ c h. none_needed c (stands_among (columns_named only) c) h;

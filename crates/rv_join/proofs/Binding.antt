@@ -69,7 +69,7 @@ have_columns a outer query need (r ∷ rows) asks covers have = and_from (names_
     (asks.names (λ n. nat_lt n (length r.values)) (passes_used a (length outer) (λ n. nat_lt n (length r.values)) (λ c u. first_so (nat_lt c (length r.values)) (have_column c rows) (have c (covers c u)))))
     (have_columns a outer query need rows asks covers (λ c s. second_so (nat_lt c (length r.values)) (have_column c rows) (have c s)))
 
-indexes_of : (query : Query) (shown : Shown) (is : List (ℕ × List ℕ)) → AllByRecursion (λ (i : ℕ × List ℕ). IsIndexAt shown query.table query.snap i.0 i.1) is → AllByRecursion (λ (i : ℕ × List ℕ). IsIndexOf query shown i.0 i.1) is
+pub indexes_of : (query : Query) (shown : Shown) (is : List (ℕ × List ℕ)) → AllByRecursion (λ (i : ℕ × List ℕ). IsIndexAt shown query.table query.snap i.0 i.1) is → AllByRecursion (λ (i : ℕ × List ℕ). IsIndexOf query shown i.0 i.1) is
 indexes_of query shown [] all = all
 indexes_of query shown (i ∷ is) all = let here = all.0 in (record { can = here.can; some = here.some; few = here.few; different = here.different; entries = here.entries; cuts = here.cuts }, indexes_of query shown is all.1)
 

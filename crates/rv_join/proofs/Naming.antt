@@ -1,18 +1,20 @@
--- What holds of each column that a restriction names holds of all that it names; and lists of columns that gain some.
-use Rattle.std.proofs.Common.{◌≡◌, ◌≢◌, ℕ, List, [], ◌∷◌, ◌++◌, Bool, true, false, cond, ◌&&◌, ◌||◌, ◌==◌, nat_eq, refl, sym, ◌∙◌, ap, subst, arith}
-use Rattle.std.specs.List.{list_any}
+-- What holds of each column that a restriction names holds of all that it names, and the other way; and lists of columns that gain some.
+use Rattle.std.proofs.Common.{◌≡◌, ◌≢◌, ℕ, List, [], ◌∷◌, ◌++◌, Bool, true, false, cond, ◌&&◌, ◌||◌, ◌==◌, nat_eq, refl, sym, ◌∙◌, ap, subst, arith, inl, inr}
+use Rattle.std.specs.List.{list_any, list_all}
 use Rattle.std.proofs.lemmas.Bool.Decides.{nat_tests}
-use Rattle.std.proofs.lemmas.Bool.{and_from, or_left, or_right}
+use Rattle.std.proofs.lemmas.Bool.{and_from, or_left, or_right, eqb-true, or_cases}
 use Rattle.std.specs.Cmp.{first_so, second_so}
 use Rattle.rv_restrict.specs.declared.atom.ColRef.{ColRef}
+use Rattle.rv_restrict.specs.declared.atom.Operand.{Operand}
 use Rattle.rv_restrict.specs.declared.atom.Operand.TheVariants.{Literal, Column}
 use Rattle.rv_restrict.specs.declared.atom.Atom.{Atom}
 use Rattle.rv_restrict.specs.declared.atom.Atom.TheVariants.{Compare, Between, Among, IsNull, Starts, Const}
 use Rattle.rv_restrict.specs.Bind.{group_place, taken}
 use Rattle.rv_restrict.specs.Parts.{stands_among}
-use Rattle.rv_restrict.specs.Truth.{atom_names_only, group_names_only, names_only}
+use Rattle.rv_restrict.specs.Truth.{atom_names_only, group_names_only, names_only, operand_names_only}
+use Rattle.rv_catalog.specs.declared.def.Select.{Select}
 use Rattle.rv_join.specs.declared.places.Asked.{Asked}
-use Rattle.rv_join.specs.Asking.{Adds, asked_uses, atom_names, col_at, group_names, only_names, same_column}
+use Rattle.rv_join.specs.Asking.{Adds, asked_uses, atom_names, col_at, group_names, only_names, same_column, operand_names, select_uses}
 
 pub same_itself : (c : ColRef) → same_column c c ≡ true
 same_itself c = grind (arith, nat_tests)
@@ -102,3 +104,48 @@ needed_is p q r x y z f g h c = h.same c ∙ ap (λ b. b || r c) (g.same c) ∙ 
   where
     turned : (a b d : Bool) → (((false || a) || b) || d) ≡ (a || (b || d))
     turned a b d = grind arith
+
+-- What all columns of a query pass, each column that it names passes.
+
+same_is : (c d : ColRef) → same_column c d ≡ true → c ≡ d
+same_is c d h =
+    let place = eqb-true c.place d.place (first_so (nat_eq c.place d.place) (nat_eq c.column d.column) h) in
+    let column = eqb-true c.column d.column (second_so (nat_eq c.place d.place) (nat_eq c.column d.column) h) in
+    λ i. record { place = place i; column = column i }
+
+same_passes : (p : ColRef → Bool) (c d : ColRef) → p d ≡ true → same_column c d ≡ true → p c ≡ true
+same_passes p c d h same = ap p (same_is c d same) ∙ h
+
+any_passes : {X : Type 0} (p names : X → Bool) (q : Bool) → ((x : X) → p x ≡ true → names x ≡ true → q ≡ true) → (xs : List X) → list_all p xs ≡ true → list_any names xs ≡ true → q ≡ true
+any_passes p names q each [] all some = cc
+any_passes p names q each (x ∷ xs) all some = elim (or_cases (names x) (list_any names xs) some) [
+  | inl here ↦ each x (first_so (p x) (list_all p xs) all) here
+  | inr later ↦ any_passes p names q each xs (second_so (p x) (list_all p xs) all) later
+]
+
+operand_passes : (p : ColRef → Bool) (c : ColRef) (o : Operand) → operand_names_only p o ≡ true → operand_names c o ≡ true → p c ≡ true
+operand_passes p c (Literal v) all named = cc
+operand_passes p c (Column d) all named = same_passes p c d all named
+
+atom_passes : (p : ColRef → Bool) (c : ColRef) (a : Atom) → atom_names_only p a ≡ true → atom_names c a ≡ true → p c ≡ true
+atom_passes p c (Compare d op o) all named = elim (or_cases (same_column c d) (operand_names c o) named) [
+  | inl left ↦ same_passes p c d (first_so (p d) (operand_names_only p o) all) left
+  | inr right ↦ operand_passes p c o (second_so (p d) (operand_names_only p o) all) right
+]
+atom_passes p c (Between d low high) all named = same_passes p c d all named
+atom_passes p c (Among d list) all named = same_passes p c d all named
+atom_passes p c (IsNull d negated) all named = same_passes p c d all named
+atom_passes p c (Starts d text) all named = same_passes p c d all named
+atom_passes p c (Const t) all named = cc
+
+only_passes : (p : ColRef → Bool) (c : ColRef) (only : List (List Atom)) → names_only p only ≡ true → only_names c only ≡ true → p c ≡ true
+only_passes p c only all named = any_passes (group_names_only p) (group_names c) (p c) (λ g h k. any_passes (atom_names_only p) (atom_names c) (p c) (λ a m n. atom_passes p c a m n) g h k) only all named
+
+pub used_passes : (p : ColRef → Bool) (s : Select) (c : ColRef) → list_all p s.returns ≡ true → list_all p s.order ≡ true → names_only p s.only ≡ true → select_uses s c ≡ true → p c ≡ true
+used_passes p s c returns order only used = elim (or_cases (list_any (same_column c) s.returns) (list_any (same_column c) s.order || only_names c s.only) used) [
+  | inl r ↦ any_passes p (same_column c) (p c) (λ d h k. same_passes p c d h k) s.returns returns r
+  | inr more ↦ elim (or_cases (list_any (same_column c) s.order) (only_names c s.only) more) [
+    | inl o ↦ any_passes p (same_column c) (p c) (λ d h k. same_passes p c d h k) s.order order o
+    | inr g ↦ only_passes p c s.only only g
+  ]
+]

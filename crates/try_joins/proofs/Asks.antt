@@ -1,62 +1,25 @@
 -- A select of ours can be planned over the loaded store.
-use Rattle.std.proofs.Common.{zero, suc, ◌≡◌, ℕ, ◌<◌, ◌≤◌, ◌+◌, ◌^◌, List, [], ◌∷◌, ◌++◌, Bool, true, false, cond, ◌||◌, nat_eq, nat_lt, refl, sym, ◌∙◌, arith, length, subst, slice_index_or}
+use Rattle.std.proofs.Common.{zero, suc, ◌≡◌, ℕ, ◌<◌, ◌≤◌, ◌+◌, ◌^◌, List, [], ◌∷◌, ◌++◌, true, false, cond, nat_eq, nat_lt, refl, sym, ◌∙◌, arith, length, subst, slice_index_or}
 use Rattle.std.proofs.lemmas.Bool.Decides.{nat_tests}
 use Rattle.std.proofs.lemmas.Grind.{common_steps}
 use Rattle.std.proofs.lemmas.List.{get_or_append_left}
-use Rattle.std.specs.List.{list_all, list_any}
+use Rattle.std.specs.List.{list_all}
 use Rattle.std.specs.Cmp.{first_so, second_so}
 use Rattle.std.proofs.lemmas.Bool.{ltb-true}
-use Rattle.rv_value.proofs.Tests.{either}
 use Rattle.rv_value.specs.declared.record.Record.{Record}
 use Rattle.rv_restrict.specs.declared.atom.ColRef.{ColRef}
-use Rattle.rv_restrict.specs.declared.atom.Operand.TheVariants.{Literal, Column}
-use Rattle.rv_restrict.specs.declared.atom.Atom.{Atom}
-use Rattle.rv_restrict.specs.declared.atom.Atom.TheVariants.{Compare, Between, Among, IsNull, Starts, Const}
-use Rattle.rv_restrict.specs.Truth.{atom_names_only, group_names_only, names_only}
 use Rattle.rv_catalog.specs.declared.def.Select.{Select}
 use Rattle.rv_catalog.specs.declared.def.IndexDef.{IndexDef}
 use Rattle.rv_reader.specs.Shown.{Shown}
 use Rattle.rv_reader.specs.Storing.{AreColumns, AreWide}
-use Rattle.rv_join.specs.Asking.{CanPlan, IsIndexAt, atom_names, group_names, have_column, index_at, indexes_from, no_index, only_names, same_column, select_uses, table_at}
+use Rattle.rv_join.specs.Asking.{CanPlan, IsIndexAt, have_column, index_at, indexes_from, no_index, select_uses, table_at}
+use Rattle.rv_join.proofs.Naming.{used_passes}
 use Rattle.try_joins.specs.Laying.{Offers, columns_of, table_of}
 use Rattle.try_joins.specs.Asking.{AreIndexes, HasIndexes, IsOurs, is_column, is_table}
 use Rattle.try_joins.proofs.Kept.{are_columns}
 
-same_is : (q : ColRef → Bool) (c d : ColRef) → same_column c d ≡ true → q d ≡ true → q c ≡ true
-same_is q c d same h = subst (λ (p : ℕ). q (record { place = p; column = c.column }) ≡ true) (sym (place (first_so (nat_eq c.place d.place) (nat_eq c.column d.column) same))) (subst (λ (n : ℕ). q (record { place = d.place; column = n }) ≡ true) (sym (column (second_so (nat_eq c.place d.place) (nat_eq c.column d.column) same))) h)
-  where
-    place : nat_eq c.place d.place ≡ true → c.place ≡ d.place
-    place e = grind (arith, nat_tests, e)
-
-    column : nat_eq c.column d.column ≡ true → c.column ≡ d.column
-    column e = grind (arith, nat_tests, e)
-
-any_is : (q : ColRef → Bool) (cs : List ColRef) (c : ColRef) → list_all q cs ≡ true → list_any (same_column c) cs ≡ true → q c ≡ true
-any_is q [] c all some = absurd (cc)
-any_is q (d ∷ cs) c all some = either (same_column c d) (list_any (same_column c) cs) some (λ e. same_is q c d e (first_so (q d) (list_all q cs) all)) (λ e. any_is q cs c (second_so (q d) (list_all q cs) all) e)
-
-atom_is : (q : ColRef → Bool) (a : Atom) (c : ColRef) → atom_names_only q a ≡ true → atom_names c a ≡ true → q c ≡ true
-atom_is q (Compare d op (Literal v)) c only n = either (same_column c d) false n (λ e. same_is q c d e (first_so (q d) true only)) (λ e. no e)
-  where
-    no : {X : Type 0} → false ≡ true → X
-    no e = absurd (cc)
-atom_is q (Compare d op (Column f)) c only n = either (same_column c d) (same_column c f) n (λ e. same_is q c d e (first_so (q d) (q f) only)) (λ e. same_is q c f e (second_so (q d) (q f) only))
-atom_is q (Between d low high) c only n = same_is q c d n only
-atom_is q (Among d list) c only n = same_is q c d n only
-atom_is q (IsNull d negated) c only n = same_is q c d n only
-atom_is q (Starts d text) c only n = same_is q c d n only
-atom_is q (Const t) c only n = absurd (cc)
-
-group_is : (q : ColRef → Bool) (g : List Atom) (c : ColRef) → group_names_only q g ≡ true → group_names c g ≡ true → q c ≡ true
-group_is q [] c only n = absurd (cc)
-group_is q (a ∷ g) c only n = either (atom_names c a) (group_names c g) n (λ e. atom_is q a c (first_so (atom_names_only q a) (group_names_only q g) only) e) (λ e. group_is q g c (second_so (atom_names_only q a) (group_names_only q g) only) e)
-
-only_is : (q : ColRef → Bool) (only : List (List Atom)) (c : ColRef) → names_only q only ≡ true → only_names c only ≡ true → q c ≡ true
-only_is q [] c all n = absurd (cc)
-only_is q (g ∷ only) c all n = either (group_names c g) (only_names c only) n (λ e. group_is q g c (first_so (group_names_only q g) (names_only q only) all) e) (λ e. only_is q only c (second_so (group_names_only q g) (names_only q only) all) e)
-
 uses_is : (s : Select) (c : ColRef) → IsOurs s → select_uses s c ≡ true → is_column (length s.tables) c ≡ true
-uses_is s c ours u = either (list_any (same_column c) s.returns) (list_any (same_column c) s.order || only_names c s.only) u (λ e. any_is (is_column (length s.tables)) s.returns c ours.returns e) (λ e. either (list_any (same_column c) s.order) (only_names c s.only) e (λ f. any_is (is_column (length s.tables)) s.order c ours.order f) (λ f. only_is (is_column (length s.tables)) s.only c ours.only f))
+uses_is s c ours u = used_passes (is_column (length s.tables)) s c ours.returns ours.order ours.only u
 
 table_low : (tables : List ℕ) (p : ℕ) → list_all is_table tables ≡ true → p < length tables → slice_index_or tables p 0 < 4
 table_low [] p all le = absurd (omega (arith, le))
