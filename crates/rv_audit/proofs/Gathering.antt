@@ -1,13 +1,12 @@
 -- The calls of a script, gathered phase by phase.
-use Rattle.std.proofs.Common.{◌≡◌, ℕ, suc, ◌+◌, ◌<◌, List, [], ◌∷◌, ◌++◌, refl, ap, sym, ◌∙◌, length, take, get_or, arith, append_assoc, append-nil}
-use Rattle.std.proofs.lemmas.List.{take_more, length-take-le}
+use Rattle.std.proofs.Common.{◌≡◌, ℕ, suc, ◌+◌, ◌<◌, List, [], ◌∷◌, ◌++◌, ap, sym, ◌∙◌, length, take, get_or, arith, append_assoc, append-nil}
+use Rattle.std.proofs.lemmas.List.{take_more, length-take-le, map-append}
 use Rattle.rv_script.specs.declared.scripts.Line.{Line}
 use Rattle.rv_script.specs.declared.scripts.Phase.{Phase}
 use Rattle.rv_audit.specs.Calls.{call_in, calls_from, calls_in}
 
 lines_append : (n : ℕ) (us bs : List Line) → calls_in n (us ++ bs) ≡ calls_in n us ++ calls_in n bs
-lines_append n [] bs = refl
-lines_append n (a ∷ us) bs = ap (λ cs. call_in n a ∷ cs) (lines_append n us bs)
+lines_append n us bs = map-append (call_in n) us bs
 
 pub lines_more : (n : ℕ) (lines : List Line) (i : ℕ) (x : Line) → i < length lines → x ≡ get_or lines i x → calls_in n (take (i + 1) lines) ≡ calls_in n (take i lines) ++ call_in n x ∷ []
 lines_more n lines i x less is = ap (calls_in n) (take_more lines i x less ∙ (λ j. take i lines ++ sym is j ∷ [])) ∙ lines_append n (take i lines) (x ∷ [])

@@ -15,6 +15,7 @@ use Rattle.rv_audit.specs.Following.{asked_in, Follows, IsFront}
 use Rattle.rv_audit.specs.Places.{AreSessions}
 use Rattle.rv_audit.proofs.Fronts.{parts, Agrees, AreBy, Parts}
 use Rattle.rv_audit.proofs.Phases.{asked_of, calls_rise, from_lower, none_above, none_below, rising_kept, texts, texts_append, AreFrom, AreUpTo, Rising}
+use Rattle.rv_audit.proofs.Ending.{same_over}
 
 abbrev pub call_by : Entry → Call
 call_by e = record { phase = e.phase; session = e.session; text = e.text }
@@ -117,17 +118,6 @@ made_from phases h l f = record { whole = λ s from to. (all s from to).is; low 
 
 -- A script determines the phases.
 
-pub same_both : (xs us bs : List Entry) → AllSameButPhase xs us → AllSameButPhase xs bs → AllSameButPhase us bs
-same_both [] [] [] h k = tt
-same_both [] [] (b ∷ bs) h k = absurd k
-same_both [] (a ∷ us) bs h k = absurd h
-same_both (x ∷ xs) [] bs h k = absurd h
-same_both (x ∷ xs) (a ∷ us) [] h k = absurd k
-same_both (x ∷ xs) (a ∷ us) (b ∷ bs) h k =
-    let p = h.0 in
-    let q = k.0 in
-    (record { session = sym p.session ∙ q.session; text = sym p.text ∙ q.text; reply = sym p.reply ∙ q.reply }, same_both xs us bs h.1 k.1)
-
 rest_calls : (x y : Call) (xs ys : List Call) → x ∷ xs ≡ y ∷ ys → xs ≡ ys
 rest_calls x y xs ys e = cc
 
@@ -162,7 +152,7 @@ pub same_history : (phases : List Phase) (xs us bs : List Entry) → AllSameButP
 same_history phases xs us bs h k la fa lb fb =
     let ma = made_from phases us la fa in
     let mb = made_from phases bs lb fb in
-    (determined us bs (rest_of phases us) (rest_of phases bs) (sessions_of us la) (same_both xs us bs h k) (λ s from to. (ma.whole s from to ∙ sym (mb.whole s from to)))).entries
+    (determined us bs (rest_of phases us) (rest_of phases bs) (sessions_of us la) (same_over us xs bs h k) (λ s from to. (ma.whole s from to ∙ sym (mb.whole s from to)))).entries
 
 -- The last entry.
 
@@ -208,7 +198,7 @@ goes_on phases passed done e p rest h sessions same m same_h legal follows from 
     m.whole s f t ∙ sym (mh.whole s f t) ∙ ap (λ es. made s es ++ rest_of phases h s) cut.is
     ∙ ap (λ cs. cs ++ rest_of phases h s) (made_append s cut.before (cut.last ∷ []))
     ∙ append_assoc (made s cut.before) (made s (cut.last ∷ [])) (rest_of phases h s)) in
-    let equal = determined done cut.before rest (λ s. made s (cut.last ∷ []) ++ rest_of phases h s) sessions (same_both passed done cut.before same cut.same) whole in
+    let equal = determined done cut.before rest (λ s. made s (cut.last ∷ []) ++ rest_of phases h s) sessions (same_over done passed cut.before same cut.same) whole in
     let low = subst (λ es. AreUpTo follows.at (made e.session es)) cut.is (mh.low e.session from to) in
     let up = up_last follows.at (made e.session cut.before) (call_by cut.last) (subst (AreUpTo follows.at) (made_append e.session cut.before (cut.last ∷ []) ∙ ap (λ cs. made e.session cut.before ++ cs) (made_here e.session cut.last [] (sym but.session))) low) in
     record {

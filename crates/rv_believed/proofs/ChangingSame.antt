@@ -17,6 +17,7 @@ use Rattle.rv_lang.specs.declared.reply.Refusal.TheVariants.{NoTransaction, Read
 use Rattle.rv_lang.specs.declared.reply.Which.TheVariants.{Rows, Pending}
 use Rattle.rv_lang.specs.declared.reply.Reply.TheVariants.{Inserted, Touched}
 use Rattle.rv_catalog.specs.Answers.{◌>>=◌, all_pass, ok_or, refuse_if}
+use Rattle.rv_catalog.proofs.Steps.{pass_same}
 use Rattle.rv_model.specs.declared.state.State.{State}
 use Rattle.rv_model.specs.declared.transactions.Transaction.{Transaction}
 use Rattle.rv_model.specs.declared.transactions.Transactions.{Transactions}
@@ -66,10 +67,6 @@ position_none p = ap (λ b. cond b (Some (position_or_len p [])) None) (le-ltb (
 pass_map : {X Y : Type 0} (f : Y → Test) (g : X → Y) (xs : List X) → all_pass f (map g xs) ≡ all_pass (λ x. f (g x)) xs
 pass_map f g [] = refl
 pass_map f g (x ∷ xs) = ap (λ (rest : Test). f (g x) >>= (λ u. rest)) (pass_map f g xs)
-
-pub pass_same : {X : Type 0} (f g : X → Test) → ((x : X) → f x ≡ g x) → (xs : List X) → all_pass f xs ≡ all_pass g xs
-pass_same f g same [] = refl
-pass_same f g same (x ∷ xs) = λ k. same x k >>= (λ u. pass_same f g same xs k)
 
 refuse_later : (g : ℕ → Refusal) (o : Option ℕ) → refuse_at (option_map suc o) g ≡ refuse_at o (λ n. g (suc n))
 refuse_later g None = refl

@@ -6,7 +6,6 @@ use Rattle.std.specs.Option.{unwrap_or, option_to_list}
 use Rattle.std.proofs.lemmas.List.Folds.{list_any-append}
 use Rattle.std.proofs.Math.Bool.{or-false, or_assoc}
 use Rattle.std.proofs.lemmas.Bool.{le-ltb}
-use Rattle.rv_believed.proofs.ChangingSame.{pass_same}
 use Rattle.rv_value.specs.declared.value.Value.{Value}
 use Rattle.rv_value.specs.declared.value.Value.TheVariants.{Null, Int, Str}
 use Rattle.rv_lang.specs.declared.statement.RawKind.{RawKind}
@@ -21,6 +20,7 @@ use Rattle.rv_lang.specs.declared.reply.Refusal.{Refusal}
 use Rattle.rv_lang.specs.declared.reply.Refusal.TheVariants.{Limit}
 use Rattle.rv_lang.specs.declared.reply.Which.TheVariants as which
 use Rattle.rv_catalog.specs.Answers.{◌>>=◌, refuse_if, all_pass}
+use Rattle.rv_catalog.proofs.Steps.{pass_same}
 use Rattle.rv_catalog.specs.Limits as today
 use Rattle.rv_believed.specs.Answers.{Test}
 use Rattle.rv_believed.specs.Limits.{literals, column_names, atom_names, names_in, values_in, item_names, at_most, names_fit, value_fits, texts_fit, kind_fits, list_fits, where_fits, is_outside, within_limits}

@@ -51,6 +51,10 @@ pub then_gives : {A B : Type 0} (P : A → Type 0) (Q : B → Type 0) (r : Resul
 then_gives P Q (Ok a) f p next = next a p
 then_gives P Q (Err e) f p next = tt
 
+pub then_any : {A B : Type 0} (Q : B → Type 0) (r : Result A Refusal) (f : A → Result B Refusal) → ((a : A) → Gives Q (f a)) → Gives Q (r >>= f)
+then_any Q (Ok a) f next = next a
+then_any Q (Err e) f next = tt
+
 pub any_gives : {A : Type 0} (r : Result A Refusal) → Gives Any r
 any_gives (Ok a) = tt
 any_gives (Err e) = tt

@@ -18,6 +18,7 @@ use Rattle.rv_catalog.specs.declared.def.IndexDef.{IndexDef}
 use Rattle.rv_catalog.specs.declared.def.Select.{Select}
 use Rattle.rv_catalog.specs.declared.def.TableDef.{TableDef}
 use Rattle.rv_catalog.specs.Answers.{◌>>=◌, all_pass, ok_or, refuse_if}
+use Rattle.rv_catalog.proofs.Steps.{pass_same}
 use Rattle.rv_model.specs.declared.state.State.{State}
 use Rattle.rv_model.specs.declared.state.Cursor.{Cursor}
 use Rattle.rv_model.specs.declared.transactions.Transaction.{Transaction as Working}
@@ -25,6 +26,7 @@ use Rattle.rv_model.specs.Database.{cursor_named, rows_at}
 use Rattle.rv_model.specs.Rivals.{all_alone, first_equal, neighbours, rows_written, unique_over}
 use Rattle.rv_model.specs.Step as step
 use Rattle.rv_model.specs.Transactions.{next_row, refuse_at, touched_by, transaction_at, transaction_of, with_number}
+use Rattle.rv_model.proofs.Touches.{touch_all_same}
 use Rattle.rv_believed.specs.Answers.{Test}
 use Rattle.rv_believed.specs.Changing as believed
 use Rattle.rv_believed.specs.Changing.{few_changes}
@@ -36,12 +38,12 @@ use Rattle.rv_believed.specs.Transactions as transactions
 use Rattle.rv_believed.proofs.ChangingOfState as changing
 use Rattle.rv_believed.proofs.CursorsOfState as opening
 use Rattle.rv_believed.proofs.TransactionsOfState as state
-use Rattle.rv_believed.proofs.ChangingSame.{change_same, insert_same, pass_same}
+use Rattle.rv_believed.proofs.ChangingSame.{change_same, insert_same}
 use Rattle.rv_believed.proofs.CommitsSame.{begin_same, commit_same, index_same, rollback_same, table_same}
 use Rattle.rv_believed.proofs.CursorsSame.{close_same, open_same}
 use Rattle.rv_believed.proofs.Growing.{number_next, number_touched, touch_all_by, within}
 use Rattle.rv_believed.proofs.StandingSame.{drop_at, others_listed, outcome_four, own_dropped, own_found, own_of, own_passes, own_put, own_then, others_pass, outcome_thrice, outcome_twice, put_at, writer_then}
-use Rattle.rv_believed.proofs.TakenStates.{own_taken, touch_all_same}
+use Rattle.rv_believed.proofs.TakenStates.{own_taken}
 
 -- ---- CREATE
 

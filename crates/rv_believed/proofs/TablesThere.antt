@@ -20,7 +20,7 @@ use Rattle.rv_catalog.specs.declared.def.Resolved.{Resolved}
 use Rattle.rv_catalog.specs.declared.def.Resolved.TheVariants as asked
 use Rattle.rv_catalog.specs.declared.def.Select.{Select}
 use Rattle.rv_catalog.specs.declared.def.TableDef.{TableDef}
-use Rattle.rv_catalog.specs.Answers.{◌>>=◌, all_pass, ok_or, refuse_if}
+use Rattle.rv_catalog.specs.Answers.{all_pass, ok_or, refuse_if}
 use Rattle.rv_catalog.specs.Kept.{indexes_over}
 use Rattle.rv_catalog.specs.Resolve.{resolved}
 use Rattle.rv_catalog.specs.Schema.{Schema, index_named, table_named}
@@ -39,7 +39,7 @@ use Rattle.rv_believed.specs.Standing.{IsOfTables, IsSound, StaysSound}
 use Rattle.rv_believed.proofs.ChangingOfState.{changes_by, no_holder, no_later_commit}
 use Rattle.rv_believed.proofs.ChangingSame.{change_same, insert_same}
 use Rattle.rv_believed.proofs.CommitsSame.{begin_same}
-use Rattle.rv_believed.proofs.OrderlyStates.{Gives, empty_orderly, next_orderly, then_gives}
+use Rattle.rv_believed.proofs.OrderlyStates.{Gives, empty_orderly, next_orderly, then_gives, then_any}
 use Rattle.rv_believed.proofs.Pairs.{last_same}
 use Rattle.rv_believed.proofs.Resolution.{resolution_same}
 use Rattle.rv_believed.proofs.TakenStates.{empty_taken, next_taken}
@@ -60,10 +60,6 @@ Among n (asked.Fetch cursor) = Unit {0}
 Among n (asked.Step cursor m) = Unit {0}
 Among n (asked.Show cursor) = Unit {0}
 Among n (asked.Close cursor) = Unit {0}
-
-then_any : {A B : Type 0} (Q : B → Type 0) (r : Result A Refusal) (f : A → Result B Refusal) → ((a : A) → Gives Q (f a)) → Gives Q (r >>= f)
-then_any Q (Ok a) f next = next a
-then_any Q (Err e) f next = tt
 
 number_by : (m n : ℕ) (name : List ℕ) (b : Bool) → nat_lt m n ≡ b → Gives (λ (k : ℕ). k < n) (ok_or (cond b (Some m) None) (refusals.Unknown name))
 number_by m n name true e = ltb-true m n e

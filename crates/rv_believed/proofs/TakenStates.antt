@@ -1,5 +1,5 @@
 -- After every legal history each row has a number that its table gave.
-use Rattle.std.proofs.Common.{◌≡◌, ℕ, zero, suc, ◌+◌, ◌-◌, ◌<◌, ◌≤◌, List, [], ◌∷◌, ◌++◌, Option, Some, None, Result, Ok, Err, Bool, true, false, refl, sym, ap, ◌∙◌, subst, filter, map, length, nat_lt, nat_eq, not, arith, if◌then◌else◌, length-set}
+use Rattle.std.proofs.Common.{◌≡◌, ℕ, zero, suc, ◌+◌, ◌-◌, ◌<◌, ◌≤◌, List, [], ◌∷◌, ◌++◌, Option, Some, None, Result, Ok, Err, Bool, true, false, refl, sym, ap, subst, filter, map, length, nat_lt, nat_eq, not, arith, if◌then◌else◌}
 use Rattle.std.specs.Prelude.{remove, slice_set}
 use Rattle.std.specs.List.{AllByRecursion, range_with_len, slice_index_or}
 use Rattle.std.proofs.lemmas.Bool.{eqb-true, ltb-false, ltb-true}
@@ -32,7 +32,8 @@ use Rattle.rv_model.specs.Database.{cursor_named, empty, rows_at}
 use Rattle.rv_model.specs.History.{after_from, stepped}
 use Rattle.rv_model.specs.Step.{Outcome, began, changed, closed, committed, committed_with, created, ended, fetched, indexed, inserted, next_asked, opened, opening, rolled_back, row_alone, rows_alone, rows_differ, rows_seen, state_of, tables_changed, understood}
 use Rattle.rv_model.specs.Transactions as transactions
-use Rattle.rv_model.specs.Transactions.{empty_lists, next_row, no_transaction, refuse_at, touch, touch_all, touched_in, transaction_at, transaction_of, with_number}
+use Rattle.rv_model.specs.Transactions.{empty_lists, next_row, no_transaction, refuse_at, touch_all, touched_in, transaction_at, transaction_of, with_number}
+use Rattle.rv_model.proofs.Touches.{touch_all_same}
 use Rattle.rv_believed.specs.Taken.{AreTaken, ChangesTaken, HasTaken, StaysTaken, TablesTaken}
 use Rattle.rv_believed.proofs.OrderlyStates.{Gives, Any, then_gives, any_gives}
 
@@ -44,21 +45,6 @@ Next = ℕ → ℕ
 -- no number falls
 abbrev pub Rises : Next → Next → Type 0
 Rises old new = (table : ℕ) → old table ≤ new table
-
-set_length : (xs : List (List ℕ)) (n t : ℕ) (y : List ℕ) → length y ≡ length (slice_index_or xs n [])
-    → length (slice_index_or (slice_set xs n y) t []) ≡ length (slice_index_or xs t [])
-set_length [] n t y e = refl
-set_length (x ∷ xs) zero zero y e = e
-set_length (x ∷ xs) zero (suc t) y e = refl
-set_length (x ∷ xs) (suc n) zero y e = refl
-set_length (x ∷ xs) (suc n) (suc t) y e = set_length xs n t y e
-
-touch_same : (commit : ℕ) (c : Change) (touched : List (List ℕ)) (t : ℕ) → next_row (touch commit c touched) t ≡ next_row touched t
-touch_same commit c touched t = set_length touched c.table t (slice_set (touched_in touched c.table) c.row.0 commit) (length-set (touched_in touched c.table) c.row.0 commit)
-
-pub touch_all_same : (commit : ℕ) (cs : List Change) (touched : List (List ℕ)) (t : ℕ) → next_row (touch_all commit cs touched) t ≡ next_row touched t
-touch_all_same commit [] touched t = refl
-touch_all_same commit (c ∷ cs) touched t = touch_all_same commit cs (touch commit c touched) t ∙ touch_same commit c touched t
 
 set_rises : (xs : List (List ℕ)) (n t : ℕ) → length (slice_index_or xs t []) ≤ length (slice_index_or (slice_set xs n (slice_index_or xs n [] ++ 0 ∷ [])) t [])
 set_rises [] n t = omega arith

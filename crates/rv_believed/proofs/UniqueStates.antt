@@ -45,7 +45,7 @@ use Rattle.rv_believed.specs.Orderly.{BeginsBefore, EachTwo}
 use Rattle.rv_believed.specs.Standing.{IsSound, database, first, outcome_of, rest, transaction_with, with_bases}
 use Rattle.rv_believed.specs.Transactions.{Outcome, begin, commit, commit_of, create_index, create_table, new_transaction, rollback}
 use Rattle.rv_believed.specs.Unique.{KeepsApart, NoRivals, StaysUnique}
-use Rattle.rv_believed.proofs.OrderlyStates.{Gives, then_gives}
+use Rattle.rv_believed.proofs.OrderlyStates.{Gives, then_gives, then_any}
 use Rattle.rv_believed.proofs.Pairs.{two_filter, two_last}
 use Rattle.rv_believed.proofs.StatementsStand.{begin_stands, change_stands, commit_stands, index_stands, insert_stands, rollback_stands, table_stands}
 use Rattle.rv_believed.proofs.TablesThere.{empty_sound, stepped_sound}
@@ -482,10 +482,6 @@ itself_gives (Err e) = tt
 some_gives : {A : Type 0} (o : Option A) (r : Refusal) → Gives (λ a. o ≡ Some a) (ok_or o r)
 some_gives None r = tt
 some_gives (Some a) r = refl
-
-then_any : {A B : Type 0} (Q : B → Type 0) (r : Result A Refusal) (f : A → Result B Refusal) → ((a : A) → Gives Q (f a)) → Gives Q (r >>= f)
-then_any Q (Ok a) f next = next a
-then_any Q (Err e) f next = tt
 
 writer_gives : (d : Database) (session : ℕ) → Gives (λ t. transaction_of d session ≡ Some t) (writer d session)
 writer_gives d session = then_gives (λ t. transaction_of d session ≡ Some t) (λ t. transaction_of d session ≡ Some t) (ok_or (transaction_of d session) refusals.NoTransaction) _ (some_gives (transaction_of d session) refusals.NoTransaction)

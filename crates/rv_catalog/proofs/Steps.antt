@@ -2,7 +2,7 @@
 use Rattle.std.proofs.Common.{◌≡◌, ℕ, ◌+◌, List, [], ◌∷◌, ◌++◌, Bool, true, false, Option, Some, None, Result, Ok, Err, length, refl, arith, length-append}
 use Rattle.std.specs.List.{list_all}
 use Rattle.rv_lang.specs.declared.reply.Refusal.{Refusal}
-use Rattle.rv_catalog.specs.Answers.{◌>>=◌, collected, ok_or, refuse_if, refuse_some}
+use Rattle.rv_catalog.specs.Answers.{◌>>=◌, collected, ok_or, refuse_if, refuse_some, all_pass}
 use Rattle.rv_catalog.proofs.Keeps.{all_append}
 
 pub bind_ok : {A B : Type 0} (r : Result A Refusal) (f : A → Result B Refusal) (b : B) → (r >>= f) ≡ Ok b → (a : A) × (r ≡ Ok a) × (f a ≡ Ok b)
@@ -34,3 +34,8 @@ collected_all f p each done (x ∷ xs) ys d h = let s = bind_ok (f x) (λ y. col
 pub collected_len : {A B : Type 0} (f : A → Result B Refusal) (done : List B) (xs : List A) (ys : List B) → collected f done xs ≡ Ok ys → length ys ≡ length done + length xs
 collected_len f done [] ys h = rw (← ok_is done ys h) (omega arith)
 collected_len f done (x ∷ xs) ys h = let s = bind_ok (f x) (λ y. collected f (done ++ y ∷ []) xs) ys h in let k = collected_len f (done ++ s.0 ∷ []) xs ys s.2 in omega (arith, k, length-append done (s.0 ∷ []))
+
+-- tests that agree on each item agree on all
+pub pass_same : {X : Type 0} (f g : X → Result (Unit {0}) Refusal) → ((x : X) → f x ≡ g x) → (xs : List X) → all_pass f xs ≡ all_pass g xs
+pass_same f g same [] = refl
+pass_same f g same (x ∷ xs) = λ k. same x k >>= (λ u. pass_same f g same xs k)

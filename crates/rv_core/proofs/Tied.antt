@@ -1,5 +1,5 @@
 -- A database stays tied to its store under the store's calls.
-use Rattle.std.proofs.Common.{◌≡◌, ℕ, zero, suc, ◌+◌, ◌<◌, ◌≤◌, List, [], ◌∷◌, ◌++◌, refl, ap, sym, ◌∙◌, subst, arith, length, length-append, slice_set, Option, Some, None, inl, inr, ◌≢◌, eqb, true, false, filter, IfSome, length-set}
+use Rattle.std.proofs.Common.{◌≡◌, ℕ, zero, suc, ◌+◌, ◌<◌, ◌≤◌, List, [], ◌∷◌, ◌++◌, refl, ap, sym, ◌∙◌, subst, arith, length, length-append, Option, Some, None, inl, inr, ◌≢◌, eqb, true, false, filter, IfSome}
 use Rattle.std.specs.List.{AllByRecursion, slice_index_or}
 use Rattle.std.proofs.Math.Seq.{get_or-append_seam}
 use Rattle.std.proofs.lemmas.List.{get_or_append_left}
@@ -19,8 +19,9 @@ use Rattle.rv_reader.specs.Shown.{Shown, IsSnapshot, CanRead}
 use Rattle.rv_reader.specs.Storing.{Stays, IsSame, Created, Indexed, Committed, Swept, IsChange}
 use Rattle.rv_model.specs.declared.transactions.Transaction.{Transaction}
 use Rattle.rv_model.specs.declared.transactions.Transactions.{Transactions}
-use Rattle.rv_model.specs.Transactions.{no_transaction, transaction_at, next_row, touched_in, touch, touch_all, done, without, lowest, horizon}
+use Rattle.rv_model.specs.Transactions.{no_transaction, transaction_at, next_row, touch_all, done, without, lowest, horizon}
 use Rattle.rv_model.specs.Database.{no_index}
+use Rattle.rv_model.proofs.Touches.{touch_all_same}
 use Rattle.rv_core.specs.Db.{IsOwn, IsActive, AreTaken, HasIndex, IsTied}
 use Rattle.rv_core.proofs.Facts.{all_put}
 
@@ -199,18 +200,6 @@ applied_taken shown touched table (c ∷ cs) rows fits a = elim (eqb_tells c.tab
   | inr other ↦ rw other.0 (applied_taken shown touched table cs rows fits.1 a)
 ]
 
-set_row : (touched : List (List ℕ)) (table row commit i : ℕ) → next_row (slice_set touched table (slice_set (touched_in touched table) row commit)) i ≡ next_row touched i
-set_row [] table row commit i = refl
-set_row (xs ∷ touched) zero row commit zero = length-set xs row commit
-set_row (xs ∷ touched) zero row commit (suc i) = refl
-set_row (xs ∷ touched) (suc table) row commit zero = refl
-set_row (xs ∷ touched) (suc table) row commit (suc i) = set_row touched table row commit i
-
--- a commit takes no row number
-pub touch_length : (commit : ℕ) (cs : List Change) (touched : List (List ℕ)) (i : ℕ) → next_row (touch_all commit cs touched) i ≡ next_row touched i
-touch_length commit [] touched i = refl
-touch_length commit (c ∷ cs) touched i = touch_length commit cs (touch commit c touched) i ∙ set_row touched c.table c.row.0 commit i
-
 -- Facts of row numbers taken, where at least as many were taken.
 
 abbrev pub TakesMore : List (List ℕ) → List (List ℕ) → Type 0
@@ -266,7 +255,7 @@ tied_without shown schema txns own tied = tied_more shown schema txns (without t
 pub tied_done : (shown : Shown) (schema : Schema) (txns : Transactions) (own commit : ℕ) → IsTied shown schema txns → IsTied shown schema (done txns own commit)
 tied_done shown schema txns own commit tied =
     let changes = (transaction_at txns.active own).changes in
-    let same : (i : ℕ) → next_row (touch_all commit changes txns.touched) i ≡ next_row txns.touched i = touch_length commit changes txns.touched in
+    let same : (i : ℕ) → next_row (touch_all commit changes txns.touched) i ≡ next_row txns.touched i = touch_all_same commit changes txns.touched in
     tied_more shown schema txns (done txns own commit) (λ i. let e = same i in omega arith) (λ i. let e = same i in let f = tied.few i in omega arith)
     (all_remove (IsActive shown (touch_all commit changes txns.touched)) txns.active own (actives_more shown txns.touched (touch_all commit changes txns.touched) txns.active (λ i. let e = same i in omega arith) tied.active)) tied
 

@@ -4,5 +4,6 @@ pub mod Histories
 pub mod Lines
 pub mod Replies
 pub mod Sorting
+pub mod Touches
 pub mod Traces
 pub mod Values

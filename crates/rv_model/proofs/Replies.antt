@@ -3,7 +3,7 @@ use Rattle.std.proofs.Common.{◌≡◌, ℕ, ◌<◌, ◌^◌, ◌+◌, List, [
 use Rattle.std.specs.List.{list_all, AllByRecursion}
 use Rattle.std.specs.Fmt.{decimal}
 use Rattle.std.specs.Str.Parse.{digits_value}
-use Rattle.std.proofs.lemmas.Fmt.{decimal_is_IsNumeral, decimal_injective}
+use Rattle.std.proofs.lemmas.Fmt.{decimal_injective}
 use Rattle.rv_value.specs.declared.value.Value.{Value}
 use Rattle.rv_value.specs.declared.record.RowNo.{RowNo}
 use Rattle.rv_lang.specs.declared.reply.Which.{Which}
@@ -17,7 +17,7 @@ use Rattle.rv_lang.specs.declared.reply.Reply.{Reply}
 use Rattle.rv_lang.specs.declared.reply.Reply.TheVariants as replies
 use Rattle.rv_model.specs.Transcript.{values_text, reply_text, refusal_text, rival_text, limit_word, words_text, trace_words, IsPlainValue, IsPlainReply, IsPlainRefusal, IsPlainRival, IsPlainTrace}
 use Rattle.rv_model.proofs.Cuts.{Stops, cut}
-use Rattle.rv_model.proofs.Values.{values_same, numeric, decimal_pass}
+use Rattle.rv_model.proofs.Values.{values_same, numeric, decimal_pass, value_back}
 use Rattle.rv_model.proofs.Traces.{trace_same, no_space}
 
 -- what follows a word
@@ -70,9 +70,6 @@ shape (replies.Refused (refusals.Held row txn)) = replies.Refused (refusals.Held
 shape (replies.Refused (refusals.Limit which number)) = replies.Refused (refusals.Limit limits.Name 0)
 shape (replies.Refused (refusals.Duplicate row by)) = replies.Refused (refusals.Duplicate (record { 0 = 0 }) rivals.View)
 shape reply = reply
-
-value_back : (n : ℕ) → n < 2 ^ 64 → digits_value 10 (decimal n) ≡ n
-value_back n small = (decimal_is_IsNumeral n small).1
 
 read_is : (r : Reply) → IsPlainReply r → read (reply_text r) ≡ shape r
 read_is replies.Created p = refl

@@ -4,7 +4,7 @@ use Rattle.std.proofs.lemmas.Bool.Decides.{nat_tests}
 use Rattle.std.specs.List.{list_all, AllByRecursion}
 use Rattle.std.specs.Fmt.{decimal}
 use Rattle.std.specs.Str.Parse.{digits_value}
-use Rattle.std.proofs.lemmas.Fmt.{decimal_is_IsNumeral, decimal_injective}
+use Rattle.std.proofs.lemmas.Fmt.{decimal_injective}
 use Rattle.std.proofs.lemmas.Bool.{and_from}
 use Rattle.rv_value.proofs.Lists.{passes_more}
 use Rattle.rv_judge.specs.declared.events.Strategy.{Strategy}
@@ -16,7 +16,7 @@ use Rattle.rv_lang.specs.declared.reply.ShownEvent.TheVariants as events
 use Rattle.rv_lang.specs.declared.reply.Shown.{Shown}
 use Rattle.rv_model.specs.Transcript.{strategy_word, control_word, event_words, count_words, trace_words, words_text, IsName, is_name_byte, is_capital, IsPlainEvent, IsPlainTrace}
 use Rattle.rv_model.proofs.Cuts.{Stops, cut}
-use Rattle.rv_model.proofs.Values.{numeric, decimal_pass}
+use Rattle.rv_model.proofs.Values.{numeric, decimal_pass, value_back}
 
 abbrev pub no_space : ℕ → Bool
 no_space c = not (eqb c 32)
@@ -125,9 +125,6 @@ event_or (Some p) = p.0
 abbrev words_or : Option (ShownEvent × List (List ℕ)) → List (List ℕ)
 words_or None = []
 words_or (Some p) = p.1
-
-value_back : (n : ℕ) → n < 2 ^ 64 → digits_value 10 (decimal n) ≡ n
-value_back n small = (decimal_is_IsNumeral n small).1
 
 next_is : (e : ShownEvent) (ws : List (List ℕ)) → IsPlainEvent e → next_event (event_words e ++ ws) ≡ Some (e, ws)
 next_is (events.At controls.Building) ws p = refl

@@ -3,7 +3,7 @@ use Rattle.std.proofs.Common.{◌≡◌, ℕ, ℤ, pos, negsuc, ◌+◌, ◌<◌
 use Rattle.std.proofs.lemmas.Bool.Decides.{nat_tests, eqb_tells}
 use Rattle.std.specs.List.{list_all, AllByRecursion}
 use Rattle.std.specs.Fmt.{decimal, signed_decimal}
-use Rattle.std.specs.Str.Parse.{AllDigits}
+use Rattle.std.specs.Str.Parse.{AllDigits, digits_value}
 use Rattle.std.specs.Char.{digit_value, is_ascii_digit}
 use Rattle.std.proofs.lemmas.Fmt.{decimal_nonempty, decimal_is_IsNumeral, signed_decimal_injective}
 use Rattle.std.specs.Int.Signed.{mag}
@@ -163,3 +163,7 @@ values_same (v ∷ vs) (w ∷ ws) pv pw e =
     let first : v ≡ w = r.0 in
     let others : vs ≡ ws = more_same vs ws pv.1 pw.1 r.1 in
     cc
+
+-- what the digits of a number are worth
+pub value_back : (n : ℕ) → n < 2 ^ 64 → digits_value 10 (decimal n) ≡ n
+value_back n small = (decimal_is_IsNumeral n small).1

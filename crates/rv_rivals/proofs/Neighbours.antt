@@ -14,6 +14,7 @@ use Rattle.rv_lang.specs.declared.reply.Rival.{Rival}
 use Rattle.rv_lang.specs.declared.reply.Rival.TheVariants.{Commit, Txn, View}
 use Rattle.rv_catalog.specs.declared.def.IndexDef.{IndexDef}
 use Rattle.rv_catalog.specs.Answers.{◌>>=◌, all_pass}
+use Rattle.rv_catalog.proofs.Steps.{pass_same}
 use Rattle.rv_reader.specs.Shown.{Shown}
 use Rattle.rv_model.specs.declared.transactions.Transaction.{Transaction}
 use Rattle.rv_model.specs.declared.transactions.Transactions.{Transactions}
@@ -135,18 +136,14 @@ all_passing : {A B : Type 0} (f : B → Result (Unit {0}) Refusal) (h : A → Re
 all_passing f h g [] same = refl
 all_passing f h g (x ∷ xs) same = λ i. same x i >>= (λ passed. all_passing f h g xs same i)
 
-passing_same : {A : Type 0} (f h : A → Result (Unit {0}) Refusal) (xs : List A) → ((x : A) → f x ≡ h x) → all_pass f xs ≡ all_pass h xs
-passing_same f h [] same = refl
-passing_same f h (x ∷ xs) same = λ i. same x i >>= (λ passed. passing_same f h xs same i)
-
 -- THE TEST OF ALL ROWS
 pub all_are : (shown : Shown) (txns : Transactions) (own : Transaction) (table : ℕ) (new : List Change) (indexes : List IndexDef) (rows : List Record)
     → all_none (λ (r : Record) (columns : List ℕ). first_equal_to shown (touched_by txns.touched table) columns (key_of columns r.values) r.row.0 table own new (touching table own.session txns.active)) (map (λ (d : IndexDef). d.columns) indexes) rows
     ≡ all_alone indexes (neighbours_in shown txns own table new) rows
-all_are shown txns own table new indexes rows = passing_same _ _ rows (λ r.
+all_are shown txns own table new indexes rows = pass_same _ _ (λ (r : Record).
     all_passing _ (alone (neighbours_in shown txns own table new) r) (λ (d : IndexDef). d.columns) indexes (λ d.
     ap (λ o. refuse_at o (λ (refusal : Refusal). refusal)) (found_is shown txns own table new d.columns r)
-    ∙ refused_same (find (λ (n : Neighbour). is_rival d.columns r n.row) (neighbours_in shown txns own table new)) (λ (n : Neighbour). Duplicate n.row.row n.at)))
+    ∙ refused_same (find (λ (n : Neighbour). is_rival d.columns r n.row) (neighbours_in shown txns own table new)) (λ (n : Neighbour). Duplicate n.row.row n.at))) rows
 
 -- without a unique index all pass
 pub none_unique : (near : List Neighbour) (rows : List Record) → all_alone [] near rows ≡ Ok tt

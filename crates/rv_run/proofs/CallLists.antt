@@ -1,7 +1,7 @@
 -- The calls of a history and of a script, in order, and those of each session.
 use Rattle.std.proofs.Common.{◌≡◌, ℕ, ◌+◌, ◌<◌, List, [], ◌∷◌, ◌++◌, refl, sym, ap, ◌∙◌, arith, suc, inl, inr, ◌⊎◌, append_assoc, append-nil, take, drop, length}
 use Rattle.std.specs.List.{slice_index_or}
-use Rattle.std.proofs.lemmas.List.{take-append-drop}
+use Rattle.std.proofs.lemmas.List.{take-append-drop, map-append}
 use Rattle.rv_script.specs.declared.scripts.Line.{Line}
 use Rattle.rv_script.specs.declared.scripts.Phase.{Phase}
 use Rattle.rv_script.specs.declared.scripts.Script.{Script}
@@ -90,8 +90,7 @@ front_calls h script f =
     }
 
 pub calls_in-append : (phase : ℕ) (xs ys : List Line) → calls_in phase (xs ++ ys) ≡ calls_in phase xs ++ calls_in phase ys
-calls_in-append phase [] ys = refl
-calls_in-append phase (x ∷ xs) ys = ap (λ cs. call x.session phase x.text ∷ cs) (calls_in-append phase xs ys)
+calls_in-append phase xs ys = map-append (λ (l : Line). call l.session phase l.text) xs ys
 
 -- what stops within a phase has made the first calls of all
 pub first_calls : (before after : List Entry) (phase : ℕ) (p : Phase) (ps : List Phase) (all : List Call) → calls_made before ++ calls_from phase (p ∷ ps) ≡ all → MakesCalls before after phase p.lines → MakesFirst after all
