@@ -8,8 +8,7 @@ use Rattle.std.specs.List.Sorted.{IsPartitionedBy}
 use Rattle.rv_value.proofs.Lists.{passes_take}
 use Rattle.rv_value.specs.declared.record.IndexEntry.{IndexEntry}
 use Rattle.rv_value.specs.declared.range.Range.{Range}
-use Rattle.rv_rows.specs.Rising.{Rising}
-use Rattle.rv_rows.proofs.Cuts.{partitioned}
+use Rattle.rv_rows.proofs.Cuts.{partitioned, rising_drop, rising_take}
 use Rattle.rv_reader.specs.Entries.{AreLong, Ascend, comes_before}
 use Rattle.rv_reader.proofs.Orders.{one_way, order}
 use Rattle.rv_reader.specs.Halves.{PassesTo, is_before, is_not_after}
@@ -84,11 +83,6 @@ last_found p (x ∷ xs) y got so =
 
 -- A part in front.
 
-rising_take : {X : Type 0} (before : X → X → Bool) (n : ℕ) (xs : List X) → Rising before xs → Rising before (take n xs)
-rising_take before zero xs rise = tt
-rising_take before (suc n) [] rise = tt
-rising_take before (suc n) (x ∷ xs) rise = (passes_take (before x) n xs rise.0, rising_take before n xs rise.1)
-
 pub ascend_front : (n : ℕ) (lows behind front : List IndexEntry) → behind ≡ drop 1 lows → front ≡ take n behind → Ascend (drop 1 lows) → Ascend front
 ascend_front n lows behind front is cut ascend = subst Ascend (sym (cut ∙ ap (take n) is)) (rising_take comes_before n (drop 1 lows) ascend)
 
@@ -101,11 +95,6 @@ all_drop : {X : Type 0} (q : X → Bool) (n : ℕ) (xs : List X) → list_all q 
 all_drop q zero xs all = all
 all_drop q (suc n) [] all = refl
 all_drop q (suc n) (x ∷ xs) all = all_drop q n xs (and_parts (q x) (list_all q xs) all).1
-
-rising_drop : {X : Type 0} (before : X → X → Bool) (n : ℕ) (xs : List X) → Rising before xs → Rising before (drop n xs)
-rising_drop before zero xs rise = rise
-rising_drop before (suc n) [] rise = tt
-rising_drop before (suc n) (x ∷ xs) rise = rising_drop before n xs rise.1
 
 pub ascend_behind : (n : ℕ) (es rest : List IndexEntry) → rest ≡ drop n es → Ascend es → Ascend rest
 ascend_behind n es rest is ascend = subst Ascend (sym is) (rising_drop comes_before n es ascend)

@@ -1,5 +1,5 @@
 -- An index scan gives the least of the records that are left in the columns with which its index begins.
-use Rattle.std.proofs.Common.{◌≡◌, ℕ, List, [], ◌∷◌, map, drop, take, filter, length, Bool, true, false, not, cond, ◌&&◌, ◌||◌, refl, ap, sym, ◌∙◌, arith, subst, Some, nat_eq, zero, suc, inl, inr, Result, Ok, Err, IfOk}
+use Rattle.std.proofs.Common.{◌≡◌, ℕ, List, [], ◌∷◌, map, take, filter, length, Bool, true, false, not, cond, ◌&&◌, ◌||◌, refl, ap, sym, ◌∙◌, arith, subst, Some, nat_eq, zero, suc, inl, inr, Result, Ok, Err, IfOk}
 use Rattle.std.specs.Prelude.{if◌then◌else◌, ◌==◌}
 use Rattle.std.specs.List.{AllByRecursion, list_all}
 use Rattle.std.specs.Cmp.{tied_itself}
@@ -20,6 +20,7 @@ use Rattle.rv_rows.proofs.Puts.{rising_filter}
 use Rattle.rv_restrict.specs.declared.atom.Atom.{Atom}
 use Rattle.rv_restrict.specs.Parts.{stands_among}
 use Rattle.rv_restrict.specs.Truth.{qualifies}
+use Rattle.rv_rows.proofs.Cuts.{rising_drop}
 use Rattle.rv_reader.specs.Entries.{column_of, comes_before, entry_of, is_in, run}
 use Rattle.rv_reader.specs.Shown.{Shown}
 use Rattle.rv_reader.specs.Tables.{row_at}
@@ -193,13 +194,8 @@ all_rest p test rows (x ∷ some) a h =
     and_both : (a b : Bool) → a ≡ true → b ≡ true → (a && b) ≡ true
     and_both a b h i = grind arith
 
-rising_drop : (k : ℕ) (es : List IndexEntry) → Rising comes_before es → Rising comes_before (drop k es)
-rising_drop zero es up = up
-rising_drop (suc k) [] up = up
-rising_drop (suc k) (e ∷ es) up = rising_drop k es up.1
-
 left_rising : (along : Along) (entries : List IndexEntry) → Follows along entries → Rising comes_before entries → Rising comes_before (left along entries)
-left_rising along entries f up = subst (Rising comes_before) (sym f.1) (rising_drop f.0 (run entries along.range) (rising_filter comes_before (is_in along.range) entries up))
+left_rising along entries f up = subst (Rising comes_before) (sym f.1) (rising_drop comes_before f.0 (run entries along.range) (rising_filter comes_before (is_in along.range) entries up))
 
 found_least : (v : Shape) (shown : Shown) (skip : Skipped) (r : Record) (more : List Record) → RetrievalFits v shown → is_sorted v.strategy ≡ true → SkipsBy v skip → front_rest v.front (front_entries v shown) (rows_of v shown) v.query.only skip ≡ r ∷ more → LeastOf v shown (Found r)
 found_least v shown skip r more f sorted by e =
