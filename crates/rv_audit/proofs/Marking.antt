@@ -89,7 +89,7 @@ line_within left word more w m = (let whole = (λ i. w i ++ behind 10 (m i)) ∙
 lines_within : (ls : List (List ℕ)) (rest : List ℕ) (p : Parted) → parted_lines ls rest ≡ Some p → length p.transcript ≤ length (ended ls rest)
 lines_within [] rest p e = elim (cases_Bool (bytes_eq rest (codes "===="))) [
   | inl t ↦ let n = ap (λ (q : Parted). length q.transcript) (same_Some (parts [] []) p (rw t at e)) in omega (arith, n)
-  | inr f ↦ no_some (rw f at e)
+  | inr f ↦ (let none : None ≡ Some p = rw f at e in no_some none)
 ]
 lines_within (l ∷ ls) rest p e = elim (cases_Bool (is_mark l)) [
   | inl t ↦

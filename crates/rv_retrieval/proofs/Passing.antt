@@ -1,5 +1,5 @@
 -- A step before which keys of delivered rows were passed over.
-use Rattle.std.proofs.Common.{◌≡◌, ◌≤◌, ◌∙◌, ◌&&◌, ℕ, Option, None, Result, Ok, Err, IfOk, OnErr, ap, arith, refl, subst, sym, lt_of_lt_of_le}
+use Rattle.std.proofs.Common.{◌≡◌, ◌≤◌, ◌∙◌, ◌&&◌, ℕ, Option, None, Result, Ok, Err, IfOk, OnErr, ap, arith, refl, subst, sym, lt_of_lt_of_le, ◌<◌}
 use Rattle.std.specs.Prelude.{if◌then◌else◌}
 use Rattle.rv_judge.specs.Course.{building, fast_first}
 use Rattle.rv_judge.specs.declared.counting.Counts.{Counts}
@@ -42,8 +42,8 @@ pub tries_from : (before after : Counts) (old mid new : ℕ) → mid ≤ old →
 tries_from before after old mid new passed t = let less = t.less in record { once = t.once; less = omega arith }
 
 pub falls_from : {E : Type 0} (r : Result Scanned E) (before after : Counts) (old mid new : ℕ) → mid ≤ old → IfOk r (λ s. Falls s before after mid new) → IfOk r (λ s. Falls s before after old new)
-falls_from (Ok (Found x)) before after old mid new passed f = lt_of_lt_of_le {n = new} {m = mid} {k = old} f passed
-falls_from (Ok Working) before after old mid new passed f = lt_of_lt_of_le {n = new} {m = mid} {k = old} f passed
+falls_from (Ok (Found x)) before after old mid new passed f = (let less : new < mid = f in lt_of_lt_of_le less passed)
+falls_from (Ok Working) before after old mid new passed f = (let less : new < mid = f in lt_of_lt_of_le less passed)
 falls_from (Ok End) before after old mid new passed f = f
 falls_from (Err x) before after old mid new passed f = tt
 

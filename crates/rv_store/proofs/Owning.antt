@@ -18,14 +18,11 @@ use Rattle.rv_store.specs.Indexing.{tree_through}
 abbrev pub own : ℕ → Change → Bool
 own table c = c.table == table
 
-abbrev any : Change → Bool
-any c = true
-
 before_goes : (table : ℕ) (c d : Change) → is_before c d ≡ true → nat_lt d.table table ≡ true → nat_lt c.table table ≡ true
 before_goes table c d h k = grind (arith, nat_tests)
 
 pub before_parted : (table : ℕ) (cs : List Change) → Rise cs → IsPartitionedBy (λ (c : Change). nat_lt c.table table) cs
-before_parted table cs rise = partitioned is_before any (λ (c : Change). nat_lt c.table table) (λ c d h a b k. before_goes table c d h k) cs rise (all_true cs)
+before_parted table cs rise = partitioned is_before (λ (c : Change). true) (λ (c : Change). nat_lt c.table table) (λ c d h a b k. before_goes table c d h k) cs rise (all_true cs)
 
 pub rise_behind : (table : ℕ) (cs rest : List Change) (k : ℕ) → Rise cs → rest ≡ drop k cs → drop k cs ≡ filter (λ (c : Change). not (nat_lt c.table table)) cs → Rise rest
 rise_behind table cs rest k rise is back = subst Rise (sym (is ∙ back)) (rising_filter is_before (λ (c : Change). not (nat_lt c.table table)) cs rise)
@@ -35,7 +32,7 @@ pub own_is : (table : ℕ) (cs from own_part : List Change) (k n : ℕ) → from
 own_is table cs from own_part k n is cut back front =
     cut ∙ front ∙ ap (filter (λ (c : Change). nat_le c.table table)) (is ∙ back)
     ∙ filter_twice (λ (c : Change). nat_le c.table table) (λ (c : Change). not (nat_lt c.table table)) cs
-    ∙ filter_same any (λ (c : Change). not (nat_lt c.table table) && nat_le c.table table) (own table) cs (all_true cs) (λ c h. both_is c.table)
+    ∙ filter_same (λ (c : Change). true) (λ (c : Change). not (nat_lt c.table table) && nat_le c.table table) (own table) cs (all_true cs) (λ c h. both_is c.table)
   where
     both_is : (t : ℕ) → (not (nat_lt t table) && nat_le t table) ≡ (t == table)
     both_is t = grind (arith, nat_tests)
