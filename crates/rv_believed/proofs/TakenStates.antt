@@ -8,6 +8,7 @@ use Rattle.rv_value.proofs.Lists.{all_append, all_filter, all_last, all_or, all_
 use Rattle.rv_value.specs.declared.value.Value.{Value}
 use Rattle.rv_value.specs.declared.record.Record.{Record}
 use Rattle.rv_value.specs.declared.record.RowNo.{RowNo}
+use Rattle.rv_value.proofs.Places.{default_behind}
 use Rattle.rv_restrict.specs.declared.atom.Atom.{Atom}
 use Rattle.rv_rows.specs.declared.changes.Change.{Change}
 use Rattle.rv_rows.specs.Changes.{is_before, rows_with_changes, with_change, with_changes}
@@ -225,18 +226,12 @@ change_keeps t session table only sets rows h p = then_gives Any (λ (b : ℕ ×
 abbrev Done : Reply × State → Type 0
 Done d = HasTaken d.1
 
-last_empty : (tables : List (List Record)) (t : ℕ) → slice_index_or (tables ++ [] ∷ []) t [] ≡ slice_index_or tables t []
-last_empty [] zero = refl
-last_empty [] (suc t) = refl
-last_empty (x ∷ tables) zero = refl
-last_empty (x ∷ tables) (suc t) = last_empty tables t
-
 created_taken : (s : State) (def : TableDef) → HasTaken s → Gives Done (created s def)
 created_taken s def h = then_gives Any Done (refuse_at (transactions.lowest s.transactions.active) refusals.Busy) _
     (any_gives (refuse_at (transactions.lowest s.transactions.active) refusals.Busy))
     (λ u p. then_gives Any Done (refuse_if (nat_lt 63 (length s.schema.tables)) (refusals.Limit which.Tables 64)) _
     (any_gives (refuse_if (nat_lt 63 (length s.schema.tables)) (refusals.Limit which.Tables 64)))
-    (λ v q. record { rows = λ t. subst (AreTaken (next_row s.transactions.touched t)) (sym (last_empty s.rows t)) (h.rows t); bases = h.bases; changes = h.changes }))
+    (λ v q. record { rows = λ t. subst (AreTaken (next_row s.transactions.touched t)) (sym (default_behind s.rows t [])) (h.rows t); bases = h.bases; changes = h.changes }))
 
 indexed_taken : (s : State) (def : IndexDef) → HasTaken s → Gives Done (indexed s def)
 indexed_taken s def h = then_gives Any Done (refuse_at (transactions.lowest s.transactions.active) refusals.Busy) _

@@ -1,8 +1,9 @@
 -- A cursor's plan over a snapshot of the store.
-use Rattle.std.proofs.Common.{◌≡◌, ℕ, zero, suc, ◌<◌, ◌≤◌, List, [], ◌∷◌, true, Option, Some, None, IfSome, ap, sym, subst, ◌∙◌, arith, length, nat_lt, Result, Ok, Err, IfOk}
-use Rattle.std.specs.List.{AllByRecursion, list_all, slice_index_or}
+use Rattle.std.proofs.Common.{◌≡◌, ℕ, ◌<◌, ◌≤◌, List, [], ◌∷◌, true, Option, Some, None, IfSome, ap, sym, subst, ◌∙◌, arith, length, nat_lt, Result, Ok, Err, IfOk}
+use Rattle.std.specs.List.{AllByRecursion, list_all}
 use Rattle.std.proofs.lemmas.Bool.Decides.{nat_tests}
 use Rattle.std.proofs.lemmas.Bool.{and_parts}
+use Rattle.rv_value.proofs.Lists.{all_at}
 use Rattle.rv_rows.specs.Rows.{Ascend}
 use Rattle.rv_catalog.specs.declared.def.IndexDef.{IndexDef}
 use Rattle.rv_catalog.specs.declared.def.Select.{Select}
@@ -34,15 +35,10 @@ reads_all shown schema txns snap (t ∷ ts) tied there base =
     below : (a b : ℕ) → nat_lt a b ≡ true → a < b
     below a b h = grind (arith, nat_tests)
 
-all_in : (P : ℕ → Type 0) (xs : List ℕ) (p : ℕ) → p < length xs → AllByRecursion P xs → P (slice_index_or xs p 0)
-all_in P [] p h all = absurd (omega arith)
-all_in P (x ∷ xs) zero h all = all.0
-all_in P (x ∷ xs) (suc p) h all = all_in P xs p (omega arith) all.1
-
 pub plans : (shown : Shown) (schema : Schema) (txns : Transactions) (s : Select) (snap : ℕ) (frozen : Option Frozen) (indexes : List IndexDef) → IsTied shown schema txns → IsStored shown → IsSnapshot shown snap → IsQueryOf schema s → 1 ≤ length s.tables → indexes ≡ schema.indexes → length schema.indexes ≤ 512
     → AllByRecursion (λ (t : ℕ). Ascend (shown.rows t snap)) s.tables → IfSome frozen (IsViewed shown txns.touched snap) → CanPlan s indexes (seen_at shown snap frozen) snap
 plans shown schema txns s snap frozen indexes tied stored base query some same numbers ascend viewed =
-    let can = can_plan shown schema txns s snap tied stored base query some numbers tied.over (λ p h. all_in (λ (t : ℕ). Ascend (shown.rows t snap)) s.tables p h ascend) in
+    let can = can_plan shown schema txns s snap tied stored base query some numbers tied.over (λ p h. all_at (λ (t : ℕ). Ascend (shown.rows t snap)) s.tables p 0 ascend h) in
     subst (λ (ds : List IndexDef). CanPlan s ds (seen_at shown snap frozen) snap) (sym same)
     (plan_viewed shown schema txns s snap frozen tied stored base (λ c used. column_fits shown schema txns s c tied query used) viewed can)
 

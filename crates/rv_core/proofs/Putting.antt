@@ -1,9 +1,10 @@
 -- What is put into transactions is kept up with in their views, and what is frozen of them.
-use Rattle.std.proofs.Common.{◌≡◌, ℕ, suc, ◌<◌, ◌≤◌, List, [], ◌∷◌, false, not, ◌==◌, Option, Some, None, IfSome, Result, Ok, Err, refl, ap, sym, ◌∙◌, subst, arith, length, map, nat_lt, option_map, filter}
+use Rattle.std.proofs.Common.{◌≡◌, ℕ, suc, ◌<◌, ◌≤◌, List, [], ◌∷◌, not, ◌==◌, Option, Some, None, IfSome, Result, Ok, Err, refl, ap, sym, ◌∙◌, subst, arith, length, map, option_map, filter}
 use Rattle.std.specs.Prelude.{slice_get}
 use Rattle.std.specs.List.{AllByRecursion}
 use Rattle.std.proofs.lemmas.Bool.Decides.{nat_tests}
 use Rattle.std.proofs.lemmas.Option.{slice_get_within, same_Some}
+use Rattle.std.proofs.lemmas.Bool.{ltb-false}
 use Rattle.rv_value.proofs.Lists.{all_filter, all_more}
 use Rattle.rv_value.proofs.Places.{read_as}
 use Rattle.rv_value.specs.declared.value.Value.{Value}
@@ -197,15 +198,12 @@ put_back shown txns left session new views gone same is all =
 
 -- ---- INSERT
 
-few_rows : (n : ℕ) → nat_lt 999999 n ≡ false → n ≤ 999999
-few_rows n h = grind (arith, nat_tests)
-
 -- the row that is due may be kept up with
 pub insert_keeps : (shown : Shown) (schema : Schema) (txns : Transactions) (session table : ℕ) (values : List Value) (row : RowNo) (these : List Change) → IsTied shown schema txns → table < length schema.tables → inserting txns session table ≡ Ok row
     → these ≡ record { table = table; row = row; values = Some values } ∷ [] → IfSome (transaction_of txns.active session) (λ own. AllByRecursion (CanKeep shown (transaction_at txns.active own).base) these)
 insert_keeps shown schema txns session table values row these tied there due is =
     let b = inserted_is txns session table values row _ (inserted_by txns session table values row due) in
-    let low = few_rows (calls.next_row txns.touched table) b.2 in
+    let low = ltb-false 999999 (calls.next_row txns.touched table) b.2 in
     let place : row.0 ≡ calls.next_row txns.touched table = ap (λ (r : RowNo). r.0) b.3 in
     by_place (transaction_of txns.active session) refl (omega (arith, low, place))
   where

@@ -1,7 +1,7 @@
 -- A query can be planned over what a transaction sees, where it can be planned over the transaction's snapshot.
-use Rattle.std.proofs.Common.{◌≡◌, ℕ, ◌<◌, List, [], ◌∷◌, ◌++◌, Bool, true, false, not, ◌&&◌, ◌==◌, cond, Option, Some, None, IfSome, refl, ap, sym, ◌∙◌, subst, arith, inl, inr, filter, length, nat_eq, nat_lt}
+use Rattle.std.proofs.Common.{◌≡◌, ℕ, ◌<◌, List, [], ◌∷◌, ◌++◌, Bool, true, not, ◌&&◌, ◌==◌, cond, Option, Some, None, IfSome, ap, sym, ◌∙◌, subst, arith, inl, inr, filter, length, nat_eq, nat_lt}
 use Rattle.std.specs.List.{AllByRecursion, list_all}
-use Rattle.std.proofs.lemmas.Bool.{cases_Bool, and_parts, cond-true}
+use Rattle.std.proofs.lemmas.Bool.{cases_Bool, cond-true}
 use Rattle.std.proofs.lemmas.List.Folds.{list_all-append}
 use Rattle.std.proofs.lemmas.Bool.Decides.{nat_tests}
 use Rattle.rv_reader.proofs.Rows.{applied_ascends}
@@ -14,6 +14,7 @@ use Rattle.rv_restrict.specs.declared.atom.ColRef.{ColRef}
 use Rattle.rv_catalog.specs.declared.def.IndexDef.{IndexDef}
 use Rattle.rv_catalog.specs.declared.def.Select.{Select}
 use Rattle.rv_catalog.specs.Schema.{Schema}
+use Rattle.rv_rows.proofs.Filters.{all_filter}
 use Rattle.rv_reader.specs.Shown.{Shown, CanRead, IsSnapshot}
 use Rattle.rv_reader.specs.Storing.{AreKeys, IsStored}
 use Rattle.rv_model.specs.declared.transactions.Transactions.{Transactions}
@@ -96,27 +97,17 @@ HaveColumn table column = AllByRecursion (λ (c : Change). c.table ≡ table →
 abbrev has_value : ℕ → Record → Bool
 has_value column r = nat_lt column (length r.values)
 
-have_filter : (column : ℕ) (p : Record → Bool) (rows : List Record) → list_all (has_value column) rows ≡ true → list_all (has_value column) (filter p rows) ≡ true
-have_filter column p [] h = refl
-have_filter column p (r ∷ rows) h =
-    let parts = and_parts (has_value column r) (list_all (has_value column) rows) h in
-    let rest = have_filter column p rows parts.1 in
-    elim (p r) as (λ b. list_all (has_value column) (cond b (r ∷ filter p rows) (filter p rows)) ≡ true) [
-      | true ↦ subst (λ b. (b && list_all (has_value column) (filter p rows)) ≡ true) (sym parts.0) rest
-      | false ↦ rest
-    ]
-
 have_joined : (column : ℕ) (xs ys : List Record) → list_all (has_value column) xs ≡ true → list_all (has_value column) ys ≡ true → list_all (has_value column) (xs ++ ys) ≡ true
 have_joined column xs ys first more = list_all-append (has_value column) xs ys ∙ ap (λ b. b && list_all (has_value column) ys) first ∙ more
 
 -- the rows below, the row where there are values, the rows above
 have_with : (column number : ℕ) (values : Option (List Value)) (rows : List Record) → IfSome values (λ (vs : List Value). nat_lt column (length vs) ≡ true) → have_column column rows ≡ true → have_column column (with_values number values rows) ≡ true
-have_with column number None rows told have = have_filter column (λ (r : Record). not (r.row.0 == number)) rows have
+have_with column number None rows told have = all_filter (has_value column) (λ (r : Record). not (r.row.0 == number)) rows have
 have_with column number (Some vs) rows told have =
     let new : Record = record { row = record { 0 = number }; values = vs } in
     have_joined column (filter (λ (r : Record). comes_below r new) rows) (new ∷ filter (λ (r : Record). comes_below new r) rows)
-    (have_filter column (λ (r : Record). comes_below r new) rows have)
-    (subst (λ b. (b && list_all (has_value column) (filter (λ (r : Record). comes_below new r) rows)) ≡ true) (sym told) (have_filter column (λ (r : Record). comes_below new r) rows have))
+    (all_filter (has_value column) (λ (r : Record). comes_below r new) rows have)
+    (subst (λ b. (b && list_all (has_value column) (filter (λ (r : Record). comes_below new r) rows)) ≡ true) (sym told) (all_filter (has_value column) (λ (r : Record). comes_below new r) rows have))
 
 pub have_viewed : (table column : ℕ) (changes : List Change) (rows : List Record) → HaveColumn table column changes → have_column column rows ≡ true → have_column column (rows_with_changes table changes rows) ≡ true
 have_viewed table column [] rows all have = have

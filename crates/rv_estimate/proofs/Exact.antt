@@ -5,6 +5,7 @@ use Rattle.std.specs.List.{AllByRecursion}
 use Rattle.std.proofs.lemmas.Bool.{cases_Bool, eqb-true, not-false}
 use Rattle.std.proofs.lemmas.List.Elements.{filter-append}
 use Rattle.std.proofs.lemmas.Grind.{flat_map-append}
+use Rattle.std.proofs.lemmas.List.{length-map}
 use Rattle.rv_value.proofs.Lists.{all_more}
 use Rattle.rv_value.specs.declared.record.IndexEntry.{IndexEntry}
 use Rattle.rv_value.specs.declared.range.Range.{Range}
@@ -78,10 +79,6 @@ take_front : {E T : Type 0} (front : List (E × T)) (kid : E × T) (back : List 
 take_front [] kid back = refl
 take_front (k ∷ front) kid back = ap (λ xs. k.0 ∷ xs) (take_front front kid back)
 
-length-lows : {E T : Type 0} (kids : List (E × T)) → length (map (λ k. k.0) kids) ≡ length kids
-length-lows [] = refl
-length-lows (k ∷ kids) = ap suc (length-lows kids)
-
 child_at : {E T X : Type 0} (f : T → X) (none : X) (front : List (E × T)) (kid : E × T) (back : List (E × T)) → in_child f none (length front) (front ++ kid ∷ back) ≡ f kid.1
 child_at f none [] kid back = refl
 child_at f none (k ∷ front) kid back = child_at f none front kid back
@@ -152,7 +149,7 @@ module _ (range : Range) where
             let n : first ≡ suc (length front) = same ∙ last_is ∙ w.there ∙ omega arith in
             let m : last ≡ suc (length front) = sym same ∙ n in
             let taken : take last (map (λ k. k.0) kids) ≡ map (λ k. k.0) front ++ kid.0 ∷ [] = (λ i. take (m i) (map (λ k. k.0) (w.parts i))) ∙ take_front front kid back in
-            let long_front = length-lows front in
+            let long_front = length-map front (λ k. k.0) in
             let found : last_place (is_before range) 1 0 (map (λ k. k.0) front ++ kid.0 ∷ []) ≡ 1 + length (map (λ k. k.0) front) = sym (ap (last_place (is_before range) 1 0) taken) ∙ sym first_is ∙ n ∙ omega arith in
             let before = last_passes (is_before range) 1 0 (map (λ k. k.0) front) kid.0 (omega arith) found in
             let k' = rw w.parts at k in

@@ -3,6 +3,7 @@ use Rattle.std.proofs.Common.{ℕ, ◌+◌, ◌-◌, ◌*◌, ◌%◌, ◌^◌, 
 use Rattle.std.specs.List.{AllByRecursion, range_with_len}
 use Rattle.std.proofs.lemmas.Fmt.{length-decimal-le}
 use Rattle.std.proofs.lemmas.List.Elements.{All-from_recursion}
+use Rattle.rv_value.proofs.Lists.{all_append}
 use Rattle.rv_script.specs.declared.scripts.Line.{Line}
 use Rattle.rv_script.specs.declared.scripts.Phase.{Phase}
 use Rattle.rv_gen.specs.Draws.{draw, state_after}
@@ -48,17 +49,13 @@ short_call session text from to short = record { from = from; to = to; short = s
 
 -- ---- lists of them
 
-all_append : (xs ys : List Line) → AllByRecursion IsCall xs → AllByRecursion IsCall ys → AllByRecursion IsCall (xs ++ ys)
-all_append [] ys a b = b
-all_append (x ∷ xs) ys a b = (a.0, all_append xs ys a.1 b)
-
 all_map : (f : ℕ → Line) (ks : List ℕ) → ((k : ℕ) → IsCall (f k)) → AllByRecursion IsCall (map f ks)
 all_map f [] all = tt
 all_map f (k ∷ ks) all = (all k, all_map f ks all)
 
 all_flat : (f : ℕ → List Line) (ks : List ℕ) → AllByRecursion (λ (k : ℕ). AllByRecursion IsCall (f k)) ks → AllByRecursion IsCall (flat_map f ks)
 all_flat f [] all = tt
-all_flat f (k ∷ ks) all = all_append (f k) (flat_map f ks) all.0 (all_flat f ks all.1)
+all_flat f (k ∷ ks) all = all_append IsCall (f k) (flat_map f ks) all.0 (all_flat f ks all.1)
 
 all_of : (f : ℕ → List Line) (ks : List ℕ) → ((k : ℕ) → AllByRecursion IsCall (f k)) → AllByRecursion (λ (k : ℕ). AllByRecursion IsCall (f k)) ks
 all_of f [] all = tt
@@ -105,7 +102,7 @@ round_calls x =
 first_calls : (seed rows : ℕ) → AllByRecursion IsCall (tables ++ inserts seed rows ++ line 1 (codes "COMMIT") ∷ [])
 first_calls seed rows =
     let filled = all_map (λ (row : ℕ). line 1 (insert_text (state_after seed (3 * row)))) (range_with_len 0 rows) (λ row. insert_call (state_after seed (3 * row))) in
-    all_append (tables ++ inserts seed rows) (line 1 (codes "COMMIT") ∷ []) (all_append tables (inserts seed rows) table_calls filled) commit_call
+    all_append IsCall (tables ++ inserts seed rows) (line 1 (codes "COMMIT") ∷ []) (all_append IsCall tables (inserts seed rows) table_calls filled) commit_call
 
 second_calls : (x y count : ℕ) → AllByRecursion IsCall (openings_of readers x ++ rounds y count)
 second_calls x y count =
@@ -121,7 +118,7 @@ second_calls x y count =
       ),
     ) in
     let g : ℕ → List Line = λ number. round (state_after y (2 * number)) in
-    all_append (openings_of readers x) (rounds y count) opened (all_flat g (range_with_len 0 count) (all_of g (range_with_len 0 count) (λ number. round_calls (state_after y (2 * number)))))
+    all_append IsCall (openings_of readers x) (rounds y count) opened (all_flat g (range_with_len 0 count) (all_of g (range_with_len 0 count) (λ number. round_calls (state_after y (2 * number)))))
 
 pub runnable : (seed rows count : ℕ) → IsRunnable (workload seed rows count)
 unfolding workload

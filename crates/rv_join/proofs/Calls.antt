@@ -1,5 +1,5 @@
 -- A call of one level's retrieval that owes what it owed leaves the bag and what leads.
-use Rattle.std.proofs.Common.{◌≡◌, ℕ, ◌+◌, ◌<◌, ◌≤◌, List, [], ◌∷◌, ◌++◌, length, refl, ap, sym, ◌∙◌, arith, subst, zero, suc, slice_index_or, slice_set, position, Option, Some, None}
+use Rattle.std.proofs.Common.{◌≡◌, ℕ, ◌+◌, ◌<◌, ◌≤◌, List, [], ◌∷◌, ◌++◌, length, refl, ap, sym, ◌∙◌, arith, subst, zero, suc, slice_index_or, slice_set, position, Option, Some, None, le_refl}
 use Rattle.std.specs.List.{flat_map}
 use Rattle.std.proofs.lemmas.List.Quantifiers.{position-Some}
 use Rattle.rv_reader.specs.Shown.{Shown}
@@ -11,7 +11,7 @@ use Rattle.rv_join.specs.Order.{Lead, Led}
 use Rattle.rv_join.specs.Pieces.{is_waiting, place_or, waits}
 use Rattle.rv_join.specs.Work.{level_work, levels_work}
 use Rattle.rv_join.proofs.Opening.{stays_held, stays_still}
-use Rattle.rv_join.proofs.Working.{same_le, sums_le}
+use Rattle.rv_join.proofs.Working.{sums_le}
 
 pub fit_at : (a : Asked) (shown : Shown) (place : ℕ) (ls : List Level) (i : ℕ) (d : Level) → i < length ls → AllFit a shown place ls → LevelFits a shown (slice_index_or ls i d)
 fit_at a shown place [] i d le all = absurd (omega (arith, le))
@@ -30,11 +30,11 @@ levels_set a shown place (l ∷ ls) zero d new le all stays = record {
   fits = (ap length stays.outer ∙ all.0, stays.fits, all.2);
   count = refl;
   bag = ap (λ x. x ++ flat_map (still a shown) ls) (stays_still a shown l new stays);
-  work = sums_le (level_work a shown new) (level_work a shown l) (levels_work a shown ls) (levels_work a shown ls) stays.work (same_le (levels_work a shown ls));
+  work = sums_le (level_work a shown new) (level_work a shown l) (levels_work a shown ls) (levels_work a shown ls) stays.work (le_refl (levels_work a shown ls));
 }
 levels_set a shown place (l ∷ ls) (suc i) d new le all stays =
     let tail = levels_set a shown (place + 1) ls i d new (omega (arith, le)) all.2 stays in
-    record { fits = (all.0, all.1, tail.fits); count = ap suc tail.count; bag = ap (λ x. still a shown l ++ x) tail.bag; work = sums_le (level_work a shown l) (level_work a shown l) (levels_work a shown (slice_set ls i new)) (levels_work a shown ls) (same_le (level_work a shown l)) tail.work }
+    record { fits = (all.0, all.1, tail.fits); count = ap suc tail.count; bag = ap (λ x. still a shown l ++ x) tail.bag; work = sums_le (level_work a shown l) (level_work a shown l) (levels_work a shown (slice_set ls i new)) (levels_work a shown ls) (le_refl (level_work a shown l)) tail.work }
 
 first_set : (a : Asked) (shown : Shown) (place : ℕ) (ls : List Level) (i : ℕ) (d new : Level) → i < length ls → AllFit a shown place ls → LevelStays a shown (slice_index_or ls i d) new → SameFirst a shown ls (slice_set ls i new)
 first_set a shown place [] i d new le all stays = absurd (omega (arith, le))
@@ -75,7 +75,7 @@ pub stays_above : (a : Asked) (shown : Shown) (old new : Stacked) → StackFits 
 stays_above a shown old new fits stay first same = rw same (record {
   fits = record { above = stay.fits; at = fits.at; deep = fits.deep ∙ sym stay.count };
   bag = ap (λ x. x ++ still a shown old.at) stay.bag;
-  work = sums_le (levels_work a shown new.above) (levels_work a shown old.above) (level_work a shown old.at) (level_work a shown old.at) stay.work (same_le (level_work a shown old.at));
+  work = sums_le (levels_work a shown new.above) (levels_work a shown old.above) (level_work a shown old.at) (level_work a shown old.at) stay.work (le_refl (level_work a shown old.at));
   led = led_same a shown old (record old { above = new.above }) (given_same a shown old.above new.above old.at first) (ap (λ x. x ++ still a shown old.at) stay.bag);
 })
 
@@ -83,6 +83,6 @@ pub stays_at : (a : Asked) (shown : Shown) (old new : Stacked) → StackFits a s
 stays_at a shown old new fits stays same = rw same (record {
   fits = record { above = fits.above; at = stays.fits; deep = ap length stays.outer ∙ fits.deep };
   bag = ap (λ x. flat_map (still a shown) old.above ++ x) (stays_still a shown old.at new.at stays);
-  work = sums_le (levels_work a shown old.above) (levels_work a shown old.above) (level_work a shown new.at) (level_work a shown old.at) (same_le (levels_work a shown old.above)) stays.work;
+  work = sums_le (levels_work a shown old.above) (levels_work a shown old.above) (level_work a shown new.at) (level_work a shown old.at) (le_refl (levels_work a shown old.above)) stays.work;
   led = led_same a shown old (record old { at = new.at }) (given_at a shown old.above old.at new.at stays) (ap (λ x. flat_map (still a shown) old.above ++ x) (stays_still a shown old.at new.at stays));
 })

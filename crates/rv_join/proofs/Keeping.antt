@@ -1,5 +1,5 @@
 -- What a plan keeps at each call: what its levels keep, and over one FROM item the counts.
-use Rattle.std.proofs.Common.{◌≡◌, ℕ, ◌+◌, List, [], ◌∷◌, length, Result, Ok, Err, IfOk, OnErr, refl, ap, sym, ◌∙◌, subst, zero, suc, slice_index_or}
+use Rattle.std.proofs.Common.{◌≡◌, ℕ, ◌+◌, List, [], ◌∷◌, length, Result, Ok, Err, IfOk, OnErr, refl, ap, sym, ◌∙◌, subst, zero, suc, slice_index_or, le_refl}
 use Rattle.rv_judge.specs.declared.counting.Counts.{Counts}
 use Rattle.rv_judge.specs.declared.events.Trace.{Trace}
 use Rattle.rv_reader.specs.Shown.{Shown}
@@ -20,7 +20,6 @@ use Rattle.rv_join.specs.Plans.{AreReads, HoldsGood, PlanFits, PlanKept, PlanMov
 use Rattle.rv_join.specs.Work.{loops_work}
 use Rattle.rv_join.proofs.Accounting.{alone_above}
 use Rattle.rv_join.proofs.Numbers.{rules_stay}
-use Rattle.rv_join.proofs.Working.{same_le}
 
 -- The retrieval of a place.
 
@@ -85,7 +84,7 @@ taken_rises shown old new i before after holds stays rise one =
 
 -- nothing was called
 pub still_stays : (a : Asked) (shown : Shown) (v : Stacked) → StackFits a shown v → StackStays a shown v v
-still_stays a shown v fits = record { fits = fits; work = same_le (loops_work a shown v); bag = refl; led = λ led. led }
+still_stays a shown v fits = record { fits = fits; work = le_refl (loops_work a shown v); bag = refl; led = λ led. led }
 
 pub stays_still : (shown : Shown) (old new : Planned) → StackStays old.asked shown old.stack new.stack → new ≡ record old { stack = new.stack } → PlanStays shown old new
 stays_still shown old new stays same = rw same (record {

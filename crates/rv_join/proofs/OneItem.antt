@@ -1,5 +1,5 @@
 -- A plan over one FROM item: what its one retrieval does, and what the first item's retrieval keeps.
-use Rattle.std.proofs.Common.{Bool, ◌&&◌, ◌≡◌, ℕ, ◌+◌, ◌*◌, ◌-◌, ◌^◌, ◌<◌, ◌≤◌, List, [], ◌∷◌, ◌++◌, length, true, false, Option, Some, None, is_some, refl, ap, sym, ◌∙◌, arith, subst, inl, inr, zero, suc, slice_index_or, slice_set, Result, Ok, Err, IfOk, OnOk, OnErr, mul-le-mul_right, le_trans, le-add_right}
+use Rattle.std.proofs.Common.{Bool, ◌&&◌, ◌≡◌, ℕ, ◌+◌, ◌*◌, ◌-◌, ◌^◌, ◌<◌, ◌≤◌, List, [], ◌∷◌, ◌++◌, length, true, false, Option, Some, None, is_some, refl, ap, sym, ◌∙◌, arith, subst, inl, inr, zero, suc, slice_index_or, slice_set, Result, Ok, Err, IfOk, OnOk, OnErr, mul-le-mul_right, le_trans, le-add_right, le_refl}
 use Rattle.rv_value.specs.declared.value.Value.{Value}
 use Rattle.rv_judge.specs.Counting.{reads, raised}
 use Rattle.rv_judge.specs.declared.counting.Counts.{Counts}
@@ -191,12 +191,9 @@ list_plans (l ∷ ls) (suc i) old new le is plans d = plans_stay l.here
 
 -- What a step may fetch where the background is over.
 
-no_less : (n : ℕ) → n ≤ n
-no_less n = omega arith
-
 -- nothing was fetched
 pub no_fetch : (shown : Shown) (c : Counts) (v : Access) → Fetches shown c c v v
-no_fetch shown c v = record { records = λ s. no_less (c.records + fetches_left v shown) }
+no_fetch shown c v = record { records = λ s. le_refl (c.records + fetches_left v shown) }
 
 pub fetches_same : (shown : Shown) (c : Counts) (old new : Planned) → new ≡ record old { gathered = new.gathered } → Fetches shown c c old.stack.at.here new.stack.at.here
 fetches_same shown c old new same = subst (λ (v : Stacked). Fetches shown c c old.stack.at.here v.at.here) (sym (ap (λ (p : Planned). p.stack) same)) (no_fetch shown c old.stack.at.here)
@@ -231,7 +228,7 @@ fg_fewer None would state after shown c d old new most calls s = fewer_read c.re
 calls_fewer : (would : ℕ → Facts → Ruling) (state after : ℕ) (shown : Shown) (c d : Counts) (old new : Access) → d.records ≤ c.records + 1 → CallsOnce would state after shown c d old new → Settled old → d.records + fetches_left new shown ≤ c.records + fetches_left old shown + 1
 calls_fewer would state after shown c d old new most calls s = elim calls [
   | inl call ↦ fg_fewer call.0 would state after shown c d old new most call.1 s
-  | inr still ↦ rw still.0 (fewer_read c.records d.records (fetches_left old shown) (fetches_left old shown) most (no_less (fetches_left old shown)))
+  | inr still ↦ rw still.0 (fewer_read c.records d.records (fetches_left old shown) (fetches_left old shown) most (le_refl (fetches_left old shown)))
 ]
 
 -- the plan counts what was read

@@ -1,5 +1,5 @@
 -- Levels: a row that is found, a retrieval that is opened, a call that keeps the rest.
-use Rattle.std.proofs.Common.{◌≡◌, ℕ, ◌+◌, ◌<◌, ◌≤◌, List, [], ◌∷◌, ◌++◌, length, map, drop, Option, Some, None, refl, ap, sym, ◌∙◌, arith, subst, slice_index_or, zero, suc, append_assoc}
+use Rattle.std.proofs.Common.{◌≡◌, ℕ, ◌+◌, ◌<◌, ◌≤◌, List, [], ◌∷◌, ◌++◌, length, map, drop, Option, Some, None, refl, ap, sym, ◌∙◌, arith, subst, slice_index_or, zero, suc, append_assoc, le_refl}
 use Rattle.std.specs.List.{flat_map}
 use Rattle.std.specs.List.Sorted.{IsPermutation}
 use Rattle.std.proofs.lemmas.List.Sorted.{IsPermutation-append_comm, IsPermutation-append_left}
@@ -24,7 +24,7 @@ use Rattle.rv_join.specs.Asking.{AreWide, Asks, CanRun, OpensItem, item_at, live
 use Rattle.rv_join.specs.Levels.{LevelFits, below, over_held, over_rest, over_row, still, tables_of, under, widened}
 use Rattle.rv_join.specs.Work.{level_work, row_cost}
 use Rattle.rv_join.specs.Moves.{Descends, LevelStays, OpensInner}
-use Rattle.rv_join.proofs.Working.{fresh_work, same_le, stays_work}
+use Rattle.rv_join.proofs.Working.{fresh_work, stays_work}
 use Rattle.rv_join.proofs.Same.{alike_last, alike_wide, flat_filter_same, under_same}
 
 -- one item's part goes to the front
@@ -111,7 +111,7 @@ stays_still a shown old new stays = let held = stays_held a shown old new stays 
     over = rw (stays.left, stays.outer) refl
 
 pub level_same : (a : Asked) (shown : Shown) (l : Level) → LevelFits a shown l → LevelStays a shown l l
-level_same a shown l fits = record { fits = fits; outer = refl; row = refl; left = refl; work = same_le (level_work a shown l) }
+level_same a shown l fits = record { fits = fits; outer = refl; row = refl; left = refl; work = le_refl (level_work a shown l) }
 
 -- a call that keeps what every reader shows
 pub level_keeps : (a : Asked) (shown : Shown) (old : Level) (new : Access) → LevelFits a shown old → Keeps old.here new → ((shown : Shown) → AccessFits old.here shown → effort new shown ≤ effort old.here shown) → (Awaiting old.here → Awaiting new) → (Tells old.here → Tells new) → LevelStays a shown old (record old { here = new })

@@ -1,5 +1,5 @@
 -- Plans: each step keeps what it keeps, and does to the rest what it answers.
-use Rattle.std.proofs.Common.{◌≡◌, ◌+◌, ◌<◌, ◌≤◌, List, ◌∷◌, false, reverse, Result, Ok, Err, IfOk, OnErr, refl, ap, sym, ◌∙◌, arith, subst, suc, slice_index_or}
+use Rattle.std.proofs.Common.{◌≡◌, ◌+◌, ◌<◌, ◌≤◌, List, ◌∷◌, false, reverse, Result, Ok, Err, IfOk, OnErr, refl, ap, sym, ◌∙◌, arith, subst, suc, slice_index_or, le_of_lt, le_refl}
 use Rattle.std.specs.Cmp.{IsStrictWeakOrder}
 use Rattle.std.specs.List.Sorted.{IsPermutation, IsSortedBy}
 use Rattle.std.proofs.lemmas.List.Sorted.{IsPermutation-refl, IsPermutation-append, IsPermutation-append_right, IsPermutation-middle, IsPermutation-trans, IsPermutation-sym, IsPermutation-reverse, ranks_by, sorted_far}
@@ -20,7 +20,6 @@ use Rattle.rv_join.specs.Order.{before}
 use Rattle.rv_join.specs.Plans.{GathersAll, GathersMore, Gives, GivesOne, HoldsGood, Planned, PlanKept, PlanMoves, Sorts, StepsTo, WorkTo, plan_rest, plan_work, step_of}
 use Rattle.rv_join.specs.Work.{loops_work}
 use Rattle.rv_join.proofs.Stacking.{none_before}
-use Rattle.rv_join.proofs.Working.{less_le, same_le}
 
 pub offers_weak : IsStrictWeakOrder before
 offers_weak = ranks_by values_cmp_total (λ (o : Offer). o.order)
@@ -48,7 +47,7 @@ pub found_kept : (shown : Shown) (old new : Planned) → old.stage ≡ AsFound �
 found_kept shown old new stage kept same = rw same (record { asked = refl; rest_kept = rw stage kept.bag; work = kept.work })
 
 pub found_moves : (shown : Shown) (m : Moved) (old new : Planned) → HoldsGood shown old → old.stage ≡ AsFound → Moves old.asked shown m old.stack new.stack → new ≡ record old { stack = new.stack } → PlanMoves shown (step_of m) old new
-found_moves shown (Gave o) old new holds stage moves same = rw same (record { asked = refl; step = rw stage (record { out = moves.bag; least = moves.least (holds.ordered stage) (holds.led stage) }); work = less_le _ _ moves.work })
+found_moves shown (Gave o) old new holds stage moves same = rw same (record { asked = refl; step = rw stage (record { out = moves.bag; least = moves.least (holds.ordered stage) (holds.led stage) }); work = le_of_lt moves.work })
 found_moves shown Done old new holds stage moves same = rw same (record { asked = refl; step = rw stage (moves.1, none_before _ (IsPermutation-sym _ _ (subst (λ l. IsPermutation l (bag old.asked shown new.stack)) moves.1 moves.0.bag))); work = moves.0.work })
 found_moves shown Moving old new holds stage moves same = rw same (record { asked = refl; step = rw stage moves.0.bag; work = moves.1 })
 
@@ -117,8 +116,8 @@ pub sorted_tail : (o : Offer) (new : List Offer) → IsSortedBy before (o ∷ ne
 sorted_tail o new up = λ k d low high. let next : suc k + 1 ≡ suc (k + 1) = omega arith in subst (λ n. before (slice_index_or (o ∷ new) n d) (slice_index_or new k d) ≡ false) next (up (suc k) d (omega arith) (omega (arith, high)))
 
 pub given_moves : (shown : Shown) (m : PlanStep) (old new : Planned) → HoldsGood shown old → old.stage ≡ Giving → Gives m old.gathered new.gathered → new ≡ record old { gathered = new.gathered } → PlanMoves shown m old new
-given_moves shown (Row o) old new holds stage gives same = rw same (record { asked = refl; step = rw (stage, gives) (first_least o new.gathered (rw gives at holds.sorted stage)); work = same_le (loops_work old.asked shown old.stack) })
-given_moves shown End old new holds stage gives same = rw same (record { asked = refl; step = rw stage gives; work = same_le (loops_work old.asked shown old.stack) })
+given_moves shown (Row o) old new holds stage gives same = rw same (record { asked = refl; step = rw (stage, gives) (first_least o new.gathered (rw gives at holds.sorted stage)); work = le_refl (loops_work old.asked shown old.stack) })
+given_moves shown End old new holds stage gives same = rw same (record { asked = refl; step = rw stage gives; work = le_refl (loops_work old.asked shown old.stack) })
 given_moves shown Working old new holds stage gives same = no_way gives
 
 pub given_good : (shown : Shown) (m : PlanStep) (old new : Planned) → HoldsGood shown old → old.stage ≡ Giving → Gives m old.gathered new.gathered → new ≡ record old { gathered = new.gathered } → HoldsGood shown new
@@ -146,7 +145,7 @@ given_fits (Err e) shown old new holds stage gives err same = subst (HoldsGood s
 
 pub not_given : {E : Type 0} (r : Result PlanStep E) (shown : Shown) (old new : Planned) → OnErr r (new ≡ old) → OnErr r (PlanKept shown old new)
 not_given (Ok m) shown old new err = tt
-not_given (Err e) shown old new err = rw err (record { asked = refl; rest_kept = IsPermutation-refl _; work = same_le (loops_work old.asked shown old.stack) })
+not_given (Err e) shown old new err = rw err (record { asked = refl; rest_kept = IsPermutation-refl _; work = le_refl (loops_work old.asked shown old.stack) })
 
 -- all is gathered and sorted
 pub sorted_good : (shown : Shown) (old mid new : Planned) → HoldsGood shown old → old.stage ≡ Gathering → GathersAll old.asked shown old.stack old.gathered mid.stack mid.gathered → mid ≡ record old { stack = mid.stack; gathered = mid.gathered } → Sorts mid new → HoldsGood shown new

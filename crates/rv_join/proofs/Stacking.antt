@@ -1,5 +1,5 @@
 -- Each change of the open levels keeps the bag, but for an offer that is given.
-use Rattle.std.proofs.Common.{◌≡◌, ℕ, ◌+◌, ◌<◌, List, [], ◌∷◌, ◌++◌, length, map, true, Option, Some, None, IsSome, Result, Ok, Err, IfOk, OnErr, refl, ap, sym, ◌∙◌, arith, subst, suc, le_trans, lt_of_lt_of_le}
+use Rattle.std.proofs.Common.{◌≡◌, ℕ, ◌+◌, ◌<◌, List, [], ◌∷◌, ◌++◌, length, map, true, Option, Some, None, IsSome, Result, Ok, Err, IfOk, OnErr, refl, ap, sym, ◌∙◌, arith, subst, suc, le_trans, lt_of_lt_of_le, le_of_lt, le_refl}
 use Rattle.std.specs.List.{flat_map}
 use Rattle.std.specs.List.Sorted.{IsPermutation}
 use Rattle.std.proofs.lemmas.Bool.Decides.{nat_tests}
@@ -20,7 +20,7 @@ use Rattle.rv_join.specs.Moves.{Descends, Kept, LevelMoves, Moves, Takes}
 use Rattle.rv_join.specs.Work.{level_work, levels_work, loops_work}
 use Rattle.rv_join.specs.Order.{IsByFirst, Lead}
 use Rattle.rv_join.proofs.Leading.{bag_down, bag_more, bag_used, given_at, given_down, given_up, given_used, lead_less, stands_in}
-use Rattle.rv_join.proofs.Working.{down_work, given_work, less_le, same_le, sums_le, sums_less, up_work}
+use Rattle.rv_join.proofs.Working.{down_work, given_work, sums_le, sums_less, up_work}
 
 fit_more : (a : Asked) (shown : Shown) (place : ℕ) (ls : List Level) (l : Level) → AllFit a shown place ls → length l.outer ≡ place + length ls → LevelFits a shown l → AllFit a shown place (ls ++ l ∷ [])
 fit_more a shown place [] l all deep fits = (omega (arith, deep), fits, record {})
@@ -49,7 +49,7 @@ kept_at a shown old new fits same moves = rw same (record {
   fits = record { above = fits.above; at = moves.fits; deep = ap length moves.outer ∙ fits.deep };
   bag = IsPermutation-append_right (flat_map (still a shown) old.above) (still a shown old.at) (still a shown new.at) moves.bag;
   led = λ by led. led_at a shown old.above old.at new.at 0 fits.deep moves by led;
-  work = sums_le (levels_work a shown old.above) (levels_work a shown old.above) (level_work a shown new.at) (level_work a shown old.at) (same_le (levels_work a shown old.above)) moves.work;
+  work = sums_le (levels_work a shown old.above) (levels_work a shown old.above) (level_work a shown new.at) (level_work a shown old.at) (le_refl (levels_work a shown old.above)) moves.work;
 })
 
 -- and does some work
@@ -70,7 +70,7 @@ opens a shown old new inner fits some descends is =
         };
         bag = bag_down a shown old.above old.at inner descends.bag;
         led = λ by led. lead_less (given a shown old) (bag a shown old) [] _ [] _ (given_down a shown old.above old.at inner descends.bag) (bag_down a shown old.above old.at inner descends.bag) led;
-        work = less_le _ _ less;
+        work = le_of_lt less;
       },
       less,
     )
@@ -121,13 +121,13 @@ climbs a shown old new fits none up =
         fits = record { above = all.above; at = all.at; deep = omega (arith, deep) };
         bag = rw same (IsPermutation-refl _);
         led = λ by led. subst (λ l. Lead l (bag a shown new)) held (subst (λ l. Lead (given a shown old) l) same led);
-        work = less_le (loops_work a shown new) (loops_work a shown old) less;
+        work = le_of_lt less;
       },
       less,
     )
 
 pub ends : (a : Asked) (shown : Shown) (old new : Stacked) → StackFits a shown old → still a shown old.at ≡ [] → (old.above ≡ []) × (new ≡ old) → Moves a shown Done old new
-ends a shown old new fits none top = rw top.1 (record { fits = fits; bag = IsPermutation-refl _; led = λ by led. led; work = same_le _ }, rw (none, top.0) refl)
+ends a shown old new fits none top = rw top.1 (record { fits = fits; bag = IsPermutation-refl _; led = λ by led. led; work = le_refl _ }, rw (none, top.0) refl)
 
 pub none_before : {A : Type 0} (xs : List A) → IsPermutation xs [] → xs ≡ []
 none_before [] p = refl

@@ -41,12 +41,6 @@ used_sum e n k c w one h = let none : 0 + n ≡ n = omega arith in let more : (k
     close : (e a c w : ℕ) → w < c → e + 1 + a + w < e + 1 + (c + a)
     close e a c w h = omega (arith, h)
 
-pub same_le : (n : ℕ) → n ≤ n
-same_le n = omega arith
-
-pub less_le : (n m : ℕ) → n < m → n ≤ m
-less_le n m h = omega (arith, h)
-
 pub sums_le : (a b c d : ℕ) → a ≤ b → c ≤ d → a + c ≤ b + d
 sums_le a b c d h i = omega (arith, h, i)
 

@@ -16,6 +16,7 @@ use Rattle.rv_reader.specs.Shown.{IsEstimate, IsIndex}
 use Rattle.rv_value.specs.Orders.{entry_cmp_total}
 use Rattle.std.specs.Cmp.{tied_itself}
 use Rattle.std.proofs.lemmas.List.{length-append}
+use Rattle.std.proofs.lemmas.List.Filters.{length-filter_both}
 use Rattle.rv_reader.proofs.Sorting.{same, all_behind, equal_entries}
 use Rattle.rv_reader.proofs.Filters.{filter_same, filter_twice, all_filter}
 use Rattle.rv_reader.proofs.Orders.{one_way}
@@ -40,10 +41,6 @@ lt_other x e h = by (entry_cmp x e) h
 
 -- New entries.
 
-halves : (p : IndexEntry → Bool) (xs : List IndexEntry) → length (filter p xs) + length (filter (λ x. not (p x)) xs) ≡ length xs
-halves p [] = omega arith
-halves p (x ∷ xs) = let rest = halves p xs in elim (cases_Bool (p x)) [ inl t ↦ rw t (omega (arith, rest)) | inr f ↦ rw f (omega (arith, rest)) ]
-
 behind_same : (e : IndexEntry) (xs : List IndexEntry) → list_all (other e) xs ≡ true → filter (λ x. not (comes_before x e)) xs ≡ filter (λ x. comes_before e x) xs
 behind_same e xs all = filter_same (other e) (λ x. not (comes_before x e)) (λ x. comes_before e x) xs all (λ x h. apart e x h)
   where
@@ -58,7 +55,7 @@ behind_same e xs all = filter_same (other e) (λ x. not (comes_before x e)) (λ 
 
 put_more : (e : IndexEntry) (xs : List IndexEntry) → list_all (other e) xs ≡ true → length (put_in comes_before e xs) ≡ suc (length xs)
 put_more e xs all =
-    let two = halves (λ x. comes_before x e) xs in
+    let two = length-filter_both (λ x. comes_before x e) (λ x. not (comes_before x e)) (λ x. refl) xs in
     let back = ap length (behind_same e xs all) in
     rw (length-append (filter (λ x. comes_before x e) xs) (e ∷ filter (λ x. comes_before e x) xs)) (omega (arith, two, back))
 

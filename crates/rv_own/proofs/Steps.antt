@@ -9,6 +9,7 @@ use Rattle.std.proofs.lemmas.List.Folds.{find_at}
 use Rattle.std.proofs.lemmas.List.Quantifiers.{position-Some}
 use Rattle.std.proofs.lemmas.Option.{same_Some, slice_get_past}
 use Rattle.rv_value.proofs.Lists.{all_at, all_last}
+use Rattle.rv_value.proofs.Places.{read_as}
 use Rattle.rv_rows.specs.declared.changes.Change.{Change}
 use Rattle.rv_rows.specs.Changes.{with_change, with_changes}
 use Rattle.rv_reader.specs.Shown.{Shown, CanRead}
@@ -19,11 +20,6 @@ use Rattle.rv_own.specs.declared.views.OwnView.{OwnView}
 use Rattle.rv_own.specs.Views.{AreOwn, CanKeep, IsFrozenOf, IsMadeOf, IsOwnOf, MayJoin, others, view_of}
 
 -- ---- lists
-
-got_at : {X : Type 0} (xs : List X) (i : ℕ) (x : X) → slice_get xs i ≡ Some x → slice_index_or xs i x ≡ x
-got_at [] i x e = cc
-got_at (y ∷ ys) zero x e = same_Some y x e
-got_at (y ∷ ys) (suc i) x e = got_at ys i x e
 
 -- ---- the first that passes
 
@@ -58,7 +54,7 @@ pub others_left : (session : ℕ) (views seen : List OwnView) (place : ℕ) (v :
     → slice_get views place ≡ Some v → others session (remove views place) ≡ others session views
 others_left session views seen place v same at got =
     let its = position-Some (λ (w : OwnView). w.session == session) views place v (sym (at ∙ ap (position (λ (w : OwnView). w.session == session)) same)) in
-    let here : (v.session == session) ≡ true = ap (λ (w : OwnView). w.session == session) (sym (got_at views place v got)) ∙ its.1 in
+    let here : (v.session == session) ≡ true = ap (λ (w : OwnView). w.session == session) (sym (read_as views place v v got)) ∙ its.1 in
     filter_removed (λ (w : OwnView). not (w.session == session)) views place v got (ap not here)
 
 -- the view that is kept for the session of a transaction is what its changes make

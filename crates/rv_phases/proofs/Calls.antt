@@ -1,5 +1,5 @@
 -- The calls of one session in a history and among lines.
-use Rattle.std.proofs.Common.{◌≡◌, ◌≢◌, ℕ, suc, ◌+◌, ◌-◌, ◌<◌, ◌≤◌, ◌==◌, List, [], ◌∷◌, ◌++◌, refl, sym, ap, ◌∙◌, subst, arith, Bool, true, false, inl, inr, append-nil, take, length, All, Contains}
+use Rattle.std.proofs.Common.{◌≡◌, ◌≢◌, ℕ, ◌+◌, ◌-◌, ◌<◌, ◌≤◌, ◌==◌, List, [], ◌∷◌, ◌++◌, refl, sym, ap, ◌∙◌, subst, arith, Bool, true, false, inl, inr, append-nil, take, length, All, Contains}
 use Rattle.std.proofs.lemmas.Bool.{cases_Bool}
 use Rattle.std.proofs.lemmas.Bool.Decides.{nat_tests}
 use Rattle.std.proofs.lemmas.List.Elements.{All-append, All-contains}
@@ -85,9 +85,6 @@ done_more turn lines a b p more d = record { pass = d.pass; made = λ below. mad
 
 pub all_first : {X : Type 0} (P : X → Type 0) (l xs : List X) (x : X) → All P l → l ≡ x ∷ xs → P x
 all_first P l xs x h e = subst (λ (m : List _). All P m) e h 0 x (omega arith)
-
-pub all_others : {X : Type 0} (P : X → Type 0) (l xs : List X) (x : X) → All P l → l ≡ x ∷ xs → All P xs
-all_others P l xs x h e k d below = subst (λ (m : List _). All P m) e h (suc k) d (omega arith)
 
 -- what a pass's part comes to in the history at the end
 in_history : (turn : TurnState Entry) (lines : List Line) (short : Bool) (p : PassState Entry) (history : List Entry) → IsDone turn lines short p → GoesOn maker p.number p.seen history → (n : ℕ) → n < 8 → p.number ≡ n → Made (n + 1) turn.mark lines short turn.opening history

@@ -1,6 +1,6 @@
 -- An offer that is taken out of a queue.
 use Rattle.std.proofs.Common.{◌≡◌, ℕ, zero, suc, ◌+◌, ◌-◌, ◌<◌, ◌≤◌, List, [], ◌∷◌, ◌++◌, refl, ap, sym, ◌∙◌, subst, inl, inr, arith, true, false, ◌&&◌, ◌==◌, Option, Some, None, All, IsSome, is_some, length, length-set, nat_lt, option_map, replicate, slice_get, slice_set}
-use Rattle.std.proofs.lemmas.Bool.{cases_lt, and_parts, lt-ltb}
+use Rattle.std.proofs.lemmas.Bool.{cases_lt, and_parts, lt-ltb, ltb-true}
 use Rattle.std.proofs.lemmas.Bool.Decides.{nat_tests}
 use Rattle.std.proofs.lemmas.List.Elements.{All-append, All-nil, All-replicate}
 use Rattle.std.specs.List.{list_all, slice_index_or}
@@ -17,9 +17,6 @@ use Rattle.rv_replay.proofs.Orders.{Splits, less, over_not, rises_set, sought, s
 use Rattle.rv_replay.proofs.Places.{Takes, place_is, position_none, takes_one, takes_past}
 
 -- ---- numbers
-
-is_some_left : (n : ℕ) → nat_lt 0 n ≡ true → 0 < n
-is_some_left n h = grind (arith, nat_tests)
 
 is_none_left : (n : ℕ) → nat_lt 0 n ≡ false → n ≡ 0
 is_none_left n h = grind (arith, nat_tests)
@@ -41,7 +38,7 @@ is_there : (first : Offer) (values : List Value) (gs : List Alike) (at : ℕ) �
 is_there first values [] at h = absurd (cc)
 is_there first values (a ∷ gs) zero h =
     let parts = and_parts (nat_lt 0 a.left) (fits first values a.offer) h in
-    record { within = omega arith; some = is_some_left a.left parts.0; fit = parts.1 }
+    record { within = omega arith; some = ltb-true 0 a.left parts.0; fit = parts.1 }
 is_there first values (a ∷ gs) (suc k) h =
     let rest = is_there first values gs k h in
     let inside = rest.within in
@@ -108,7 +105,7 @@ pub front_here : (gs : List Alike) (place : ℕ) → place < length gs → AreTa
 front_here gs place within so_far pass = record {
   within = omega (arith, within);
   before = so_far;
-  some = λ inside. is_some_left (alike_at gs place).left pass;
+  some = λ inside. ltb-true 0 (alike_at gs place).left pass;
 }
 
 pub front_end : (gs : List Alike) (place n : ℕ) → n ≡ length gs → n ≤ place → AreTaken gs place → IsFront n gs

@@ -13,6 +13,7 @@ use Rattle.rv_value.specs.declared.record.Record.{Record}
 use Rattle.rv_value.specs.declared.record.IndexEntry.{IndexEntry}
 use Rattle.rv_value.specs.Entries.{entry_cmp}
 use Rattle.rv_value.proofs.Tests.{or_swapped}
+use Rattle.rv_value.proofs.Lists.{all_take}
 use Rattle.rv_rows.specs.declared.changes.Change.{Change}
 use Rattle.rv_rows.specs.Changes.{Rise, has_change, is_before, is_of}
 use Rattle.rv_rows.specs.Merging.{values_row}
@@ -54,11 +55,6 @@ written_given table (c ∷ cs) rise of =
     sym (passes.same cs rise) ∙ ap (λ rows. values_row c.row.0 c.values ++ rows) (written_given table cs rise.1 of.1)
 
 -- They ascend, and so do those of the changes in front.
-
-of_taken : (table k : ℕ) (cs : List Change) → AllByRecursion (λ (c : Change). c.table ≡ table) cs → AllByRecursion (λ (c : Change). c.table ≡ table) (take k cs)
-of_taken table zero cs of = tt
-of_taken table (suc k) [] of = tt
-of_taken table (suc k) (c ∷ cs) of = (of.0, of_taken table k cs of.1)
 
 given_ascends : (table : ℕ) (new : List Change) → Rise new → AllByRecursion (λ (c : Change). c.table ≡ table) new → rows_by_number.Ascend (given new)
 given_ascends table new rise of = subst rows_by_number.Ascend (written_given table new rise of) (applied_ascends table new [] tt)
@@ -124,7 +120,7 @@ pub entries_next : (columns : List ℕ) (table k : ℕ) (c : Change) (new : List
     → entries ≡ entries_of columns (given (take k new)) → next ≡ with_some (entry_at columns (changed_row (Some c) None)) entries → next ≡ entries_of columns (given (take (suc k) new))
 entries_next columns table k c new entries next rise of is before put =
     let more : given (take (suc k) new) ≡ given (take k new) ++ values_row c.row.0 c.values = ap given (take_next new k c is) ∙ given_more (take k new) c in
-    let ascends = subst rows_by_number.Ascend more (given_ascends table (take (suc k) new) (rising_take is_before (suc k) new rise) (of_taken table (suc k) new of)) in
+    let ascends = subst rows_by_number.Ascend more (given_ascends table (take (suc k) new) (rising_take is_before (suc k) new rise) (all_take (λ (c : Change). c.table ≡ table) (suc k) new of)) in
     put ∙ ap (with_some (entry_at columns (changed_row (Some c) None))) before ∙ one_more columns c c.values (given (take k new)) ascends ∙ ap (entries_of columns) (sym more)
 
 -- the rows that a statement changes, told by a list with the same rows

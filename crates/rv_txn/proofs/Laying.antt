@@ -1,6 +1,6 @@
 -- The changes of a table stand together, from its first one on.
-use Rattle.std.proofs.Common.{◌≡◌, ◌<◌, ◌+◌, ℕ, suc, List, [], ◌∷◌, ◌++◌, true, false, ◌==◌, nat_lt, refl, ap, sym, ◌∙◌, inl, inr, filter, map, cond, arith, drop, length}
-use Rattle.std.specs.List.{AllByRecursion, list_all, slice_index_or}
+use Rattle.std.proofs.Common.{◌≡◌, ◌<◌, ◌+◌, ℕ, suc, List, [], ◌∷◌, ◌++◌, true, false, ◌==◌, nat_lt, refl, ap, sym, ◌∙◌, inl, inr, filter, map, arith, drop, length}
+use Rattle.std.specs.List.{list_all, slice_index_or}
 use Rattle.std.proofs.Math.Seq.{drop-cons}
 use Rattle.std.proofs.lemmas.Bool.{cases_Bool, and_parts}
 use Rattle.std.proofs.lemmas.Bool.Decides.{nat_tests}
@@ -9,7 +9,7 @@ use Rattle.rv_rows.specs.declared.changes.Change.{Change}
 use Rattle.rv_rows.specs.Changes.{Rise, is_before, is_from, rows_with_changes}
 use Rattle.rv_rows.proofs.Puts.{rising_filter}
 use Rattle.rv_restrict.specs.declared.atom.Atom.{Atom}
-use Rattle.rv_txn.specs.Changing.{LeavesColumns, kept_change}
+use Rattle.rv_txn.specs.Changing.{kept_change}
 
 -- the rows with the changes of a table laid over them, where WHERE keeps what these leave
 abbrev pub laid : List (List Atom) → ℕ → List Change → List Record → List Record
@@ -28,19 +28,6 @@ laid_begins only table cs rows all none = rw none (laid_from only table cs rows)
 
 pub from_rises : (table : ℕ) (cs : List Change) → Rise cs → Rise (filter (is_from table) cs)
 from_rises table cs rise = rising_filter is_before (is_from table) cs rise
-
-pub from_all : (table : ℕ) (cs : List Change) → list_all (is_from table) (filter (is_from table) cs) ≡ true
-from_all table [] = refl
-from_all table (c ∷ cs) = elim (cases_Bool (nat_lt c.table table)) [
-  | inl low ↦ rw low (from_all table cs)
-  | inr from ↦ rw (from, from) (from_all table cs)
-]
-
-pub from_leave : (only : List (List Atom)) (table : ℕ) (cs : List Change) → AllByRecursion (LeavesColumns table only) cs → AllByRecursion (LeavesColumns table only) (filter (is_from table) cs)
-from_leave only table [] leave = tt
-from_leave only table (c ∷ cs) leave =
-    let rest = from_leave only table cs leave.1 in
-    elim (is_from table c) as (λ b. AllByRecursion (LeavesColumns table only) (cond b (c ∷ filter (is_from table) cs) (filter (is_from table) cs))) [ true ↦ (leave.0, rest) | false ↦ rest ]
 
 -- changes of tables behind it lay nothing
 above_lay_nothing : (only : List (List Atom)) (table : ℕ) (c : Change) (cs : List Change) (rows : List Record) → nat_lt table c.table ≡ true → list_all (is_before c) cs ≡ true → laid only table cs rows ≡ rows

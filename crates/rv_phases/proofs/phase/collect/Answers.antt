@@ -1,7 +1,7 @@
 use Rattle.std.proofs.Common.{rules, arith, ap, ◌≡◌, ◌++◌, ◌∷◌, [], List, length, length-append}
-use Rattle.std.proofs.lemmas.List.Elements.{All-push}
+use Rattle.std.proofs.lemmas.List.Elements.{All-push, All-rest}
 use Rattle.rv_phases.specs.Phase.{IsDone}
-use Rattle.rv_phases.proofs.Calls.{all_first, all_others}
+use Rattle.rv_phases.proofs.Calls.{all_first}
 use Rattle.rv_phases.proofs.phase.collect.Goals as goal
 
 pub jobs-preserved : goal.jobs-preserved
@@ -15,7 +15,7 @@ jobs-preserved g c =
     let grown = ap (λ (l : List _). length l) items in
     let longer = length-append c.jobs.list.items (c.in-Some.job.pass ∷ []) in
     record {
-      left = all_others (λ j. IsDone turn c.args.lines.now c.args.short j.pass) _ _ _ i.left c.in-Some.ensures.steps.0;
+      left = All-rest (λ j. IsDone turn c.args.lines.now c.args.short j.pass) _ _ _ c.in-Some.ensures.steps.0 i.left;
       passes = rw items (All-push (λ p. IsDone turn c.args.lines.now c.args.short p) c.jobs.list.items c.in-Some.job.pass i.passes one);
       count = let e = i.count in omega arith;
       total = let e = i.total in omega arith;

@@ -1,8 +1,8 @@
 use Rattle.std.proofs.Common.{rules, arith, ap, ◌≡◌, ◌+◌, ◌++◌, ◌∷◌, [], List, length, length-append, false}
-use Rattle.std.proofs.lemmas.List.Elements.{All-push}
+use Rattle.std.proofs.lemmas.List.Elements.{All-push, All-rest}
 use Rattle.rv_shared.specs.Told.{IsFresh}
 use Rattle.rv_phases.specs.Phase.{IsDone}
-use Rattle.rv_phases.proofs.Calls.{all_first, all_others, idle_done}
+use Rattle.rv_phases.proofs.Calls.{all_first, idle_done}
 use Rattle.rv_phases.proofs.phase.deal.Goals as goal
 
 pub passes-preserved-then-is_idle : goal.passes-preserved-then-is_idle
@@ -17,7 +17,7 @@ passes-preserved-then-is_idle g c =
     let grown = ap (λ (l : List _). length l) items in
     let longer = length-append c.passes.idle.items (c.in-Some.pass ∷ []) in
     record {
-      left = all_others (λ p. IsFresh turn p) _ _ _ i.left c.in-Some.ensures.steps.0;
+      left = All-rest (λ p. IsFresh turn p) _ _ _ c.in-Some.ensures.steps.0 i.left;
       jobs = i.jobs;
       idle = rw items (All-push (λ p. IsDone turn c.args.lines.now false p) c.passes.idle.items c.in-Some.pass i.idle (idle_done turn c.args.lines.now c.in-Some.pass one none));
       count = let e = i.count in omega arith;
@@ -38,7 +38,7 @@ passes-preserved g c =
     let grown = ap (λ (l : List _). length l) items in
     let longer = length-append c.passes.jobs.items (record { pass = c.in-Some.pass; short = false } ∷ []) in
     record {
-      left = all_others (λ p. IsFresh turn p) _ _ _ i.left c.in-Some.ensures.steps.0;
+      left = All-rest (λ p. IsFresh turn p) _ _ _ c.in-Some.ensures.steps.0 i.left;
       jobs = rw items (All-push (λ j. IsFresh turn j.pass) c.passes.jobs.items (record { pass = c.in-Some.pass; short = false }) i.jobs one);
       idle = i.idle;
       count = let e = i.count in omega arith;

@@ -1,7 +1,7 @@
 use Rattle.std.proofs.Common.{rules, arith, ap, ◌≡◌, ◌++◌, ◌∷◌, [], List, length, length-append, false}
-use Rattle.std.proofs.lemmas.List.Elements.{All-push}
+use Rattle.std.proofs.lemmas.List.Elements.{All-push, All-rest}
 use Rattle.rv_shared.specs.Told.{IsFresh}
-use Rattle.rv_phases.proofs.Calls.{all_first, all_others}
+use Rattle.rv_phases.proofs.Calls.{all_first}
 use Rattle.rv_phases.proofs.phase.join_workers.Goals as goal
 
 pub helpers-preserved : goal.helpers-preserved
@@ -15,7 +15,7 @@ helpers-preserved g c =
     let grown = ap (λ (l : List _). length l) items in
     let longer = length-append c.helpers.jobs.items (record { pass = c.in-Some.pass; short = false } ∷ []) in
     record {
-      left = all_others (λ p. IsFresh turn p) _ _ _ i.left c.in-Some.ensures.steps.0;
+      left = All-rest (λ p. IsFresh turn p) _ _ _ c.in-Some.ensures.steps.0 i.left;
       jobs = rw items (All-push (λ j. IsFresh turn j.pass) c.helpers.jobs.items (record { pass = c.in-Some.pass; short = false }) i.jobs one);
       count = let e = i.count in omega arith;
       total = let e = i.total in omega arith;

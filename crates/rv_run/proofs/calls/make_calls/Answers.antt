@@ -1,7 +1,8 @@
 use Rattle.std.proofs.Common.{rules, ◌≡◌, ◌+◌, ◌∙◌, [], List, All, ap, arith, length, map, refl, subst, sym}
 use Rattle.std.proofs.lemmas.List.{nil_from_length}
+use Rattle.std.proofs.lemmas.List.Elements.{All-rest}
 use Rattle.rv_value.proofs.Lists.{on_err}
-use Rattle.rv_phases.proofs.Calls.{all_first, all_others}
+use Rattle.rv_phases.proofs.Calls.{all_first}
 use Rattle.rv_run.specs.Judges.{ruling_after}
 use Rattle.rv_run.specs.Making.{FitsPhase}
 use Rattle.rv_run.specs.Ruling.{judging, ruled_from}
@@ -41,7 +42,7 @@ returns-in_err-make_phase-clause-stopped g c = on_err c.from_residual.result _ (
 pub phases-preserved : goal.phases-preserved
 phases-preserved g c = record {
   few = let size = ap (λ (ps : List _). length ps) c.in-Some.ensures.steps.0 in omega (arith, size, c.phases.invariant.few);
-  fits = all_others FitsPhase _ _ _ c.phases.invariant.fits c.in-Some.ensures.steps.0;
+  fits = All-rest FitsPhase _ _ _ c.in-Some.ensures.steps.0 c.phases.invariant.fits;
   phase = search rules;
   calls = told_phase c.phases.core.engine c.enter_phase.new.core.engine c.make_phase.new.core.engine.history (c.phases.number + 1) _ _ c.in-Some.phase c.into_vec.result.items _ c.in-Some.ensures.steps.0 c.into_vec.ensures c.enter_phase.ensures.engine c.phases.invariant.calls c.in_ok-make_phase.ensures.ok;
   ruling = ruling_more c.phases.judges.ruling c.enter_phase.new.judges.ruling _ _ _ c.in-Some.phase c.in-Some.ensures.steps.0 c.enter_phase.ensures.ruling c.phases.invariant.ruling;

@@ -1,8 +1,9 @@
 use Rattle.std.proofs.Common.{◌≡◌, ◌∙◌, [], ap, refl, reverse, rules, subst, sym, All}
 use Rattle.std.proofs.lemmas.List.{reverse-reverse}
+use Rattle.std.proofs.lemmas.List.Elements.{All-rest}
 use Rattle.rv_value.proofs.Lists.{on_err}
 use Rattle.rv_gen.specs.Workload.{IsCall}
-use Rattle.rv_phases.proofs.Calls.{all_first, all_others}
+use Rattle.rv_phases.proofs.Calls.{all_first}
 use Rattle.rv_run.proofs.Rulings.{made_answers, made_more, made_part, made_stops, made_told, next_turned, none_made}
 use Rattle.rv_run.proofs.calls.make_phase.Goals as goal
 
@@ -30,7 +31,7 @@ pub lines-preserved : goal.lines-preserved
 lines-preserved g c =
     let next = next_turned c.lines.left.items c.pop.new.self.items c.give_room_back.new.left.items c.pop.result c.in-Some.line c.pop.ensures.items c.in-Some.is c.give_room_back.ensures in
     record {
-      fits = all_others IsCall _ _ _ c.lines.invariant.fits next;
+      fits = All-rest IsCall _ _ _ next c.lines.invariant.fits;
       phase = c.make_call.ensures.phase ∙ c.lines.invariant.phase;
       made = made_more _ _ _ _ _ _ _ _ c.in-Some.line _ c.lines.core.engine c.make_call.new.core.engine _ _ _ _ _ c.lines.invariant.settings c.lines.invariant.phase c.lines.invariant.rules next c.lines.invariant.made c.in_ok-make_call.ensures.ok c.in_ok-make_call.ensures.ruled;
       rules = c.make_call.ensures.rules ∙ c.lines.invariant.rules;

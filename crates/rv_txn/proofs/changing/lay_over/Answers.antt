@@ -5,10 +5,11 @@ use Rattle.std.proofs.lemmas.Bool.Decides.{nat_tests}
 use Rattle.std.proofs.lemmas.List.{drop_all}
 use Rattle.std.proofs.lemmas.Map.Iter.{rest_more}
 use Rattle.std.proofs.lemmas.Bool.{and_parts}
+use Rattle.rv_value.proofs.Lists.{all_filter, filter_passes}
 use Rattle.rv_rows.specs.declared.changes.Change.{Change}
 use Rattle.rv_rows.specs.Changes.{Rise, change_at, is_from, rows_with_changes}
 use Rattle.rv_txn.specs.Changing.{LeavesColumns, kept_change}
-use Rattle.rv_txn.proofs.Laying.{from_all, from_leave, from_rises, laid, laid_at_last, laid_begins, next_listed}
+use Rattle.rv_txn.proofs.Laying.{from_rises, laid, laid_at_last, laid_begins, next_listed}
 use Rattle.rv_txn.proofs.Views.{one_laid}
 use Rattle.rv_txn.proofs.changing.lay_over.Goals as goal
 
@@ -18,8 +19,8 @@ list-init c =
     record {
       ascend = c.requires.ascend;
       rise = subst Rise (sym are) (from_rises c.args.table c.args.changes.now c.parts_from-listed.ensures.rise);
-      from = subst (λ (cs : List Change). list_all (is_from c.args.table) cs ≡ true) (sym are) (from_all c.args.table c.args.changes.now);
-      columns = subst (AllByRecursion (LeavesColumns c.args.table c.args.only.now)) (sym are) (from_leave c.args.only.now c.args.table c.args.changes.now c.requires.columns);
+      from = subst (λ (cs : List Change). list_all (is_from c.args.table) cs ≡ true) (sym are) (filter_passes (is_from c.args.table) c.args.changes.now);
+      columns = subst (AllByRecursion (LeavesColumns c.args.table c.args.only.now)) (sym are) (all_filter (LeavesColumns c.args.table c.args.only.now) (is_from c.args.table) c.args.changes.now c.requires.columns);
       same = subst (λ (cs : List Change). c.new-all.result.items ++ laid c.args.only.now c.args.table cs c.args.rows.now ≡ laid c.args.only.now c.args.table c.args.changes.now c.args.rows.now) (sym are) (laid_begins c.args.only.now c.args.table c.args.changes.now c.args.rows.now c.new-all.result.items c.new-all.ensures.items);
     }
 
