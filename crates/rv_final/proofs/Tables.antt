@@ -1,6 +1,7 @@
 -- The scan of the table in the final stage.
-use Rattle.std.proofs.Common.{◌≡◌, ℕ, List, [], ◌∷◌, filter, Bool, true, false, not, ◌&&◌, ◌||◌, refl, ap, sym, ◌∙◌, arith, subst, None, Option, Result, Ok, Err, IfOk}
+use Rattle.std.proofs.Common.{◌≡◌, ℕ, List, [], Bool, false, not, ◌&&◌, ◌||◌, ap, sym, ◌∙◌, arith, subst, None, Option, Result, Ok, Err, IfOk}
 use Rattle.rv_value.specs.declared.record.Record.{Record}
+use Rattle.rv_value.proofs.Lists.{filter_true}
 use Rattle.rv_rows.specs.Rows.{Ascend}
 use Rattle.rv_restrict.specs.declared.atom.Atom.{Atom}
 use Rattle.rv_scan.specs.declared.skip.Scanned.{Scanned}
@@ -10,17 +11,13 @@ use Rattle.rv_final.specs.Rest.{StepMarks, has_row}
 use Rattle.rv_final.specs.Stage.{table_left}
 use Rattle.rv_final.proofs.Dues.{Looks, marks_move, open_in, rows_looks, step_marks}
 
-filter_all : (rows : List Record) → filter (λ (r : Record). true) rows ≡ rows
-filter_all [] = refl
-filter_all (r ∷ rows) = ap (λ (rs : List Record). r ∷ rs) (filter_all rows)
-
 pub no_skip : Skipped
 no_skip = record { delivered = None; list = None }
 
 -- a scan of the table that gives all rows has looked at none
 pub unseen_all : (place : Place) (rows : List Record) → pages_rest place rows [] no_skip ≡ due [] no_skip rows → unseen place rows ≡ rows
 unfolding no_skip
-unseen_all place rows e = sym (filter_all (unseen place rows)) ∙ e ∙ filter_all rows
+unseen_all place rows e = sym (filter_true (unseen place rows)) ∙ e ∙ filter_true rows
 
 -- rows that were delivered are passed over, and no others
 abbrev pub passing : Option (List ℕ) → Skipped

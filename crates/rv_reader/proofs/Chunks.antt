@@ -7,6 +7,7 @@ use Rattle.rv_value.specs.declared.range.Range.{Range}
 use Rattle.rv_value.specs.declared.range.Side.{Side}
 use Rattle.rv_value.specs.declared.range.Side.TheVariants.{Before, In, After}
 use Rattle.rv_value.specs.Ranges.{place, in_side}
+use Rattle.rv_value.proofs.Lists.{filter_true}
 use Rattle.rv_reader.specs.declared.reader.Chunk.{Chunk}
 use Rattle.rv_reader.specs.Entries.{comes_before, Ascend, AreLong, is_in, reaches}
 use Rattle.rv_reader.specs.Leaves.{Leaf, IsChunk, is_from, is_wanted, is_below, is_taken, before_side, after_side, from_on, up_to, leaf_from, leaf_at, leaf_entries, is_passed, within, run_from, run_after, leaves_from, leaves_after, is_ahead, leaves_for, leaves_behind}
@@ -19,16 +20,12 @@ use Rattle.rv_reader.proofs.Sides.{before_along, after_along}
 abbrev pub is_long : Range → IndexEntry → Bool
 is_long range e = reaches range.low e.key && reaches range.high e.key
 
-all_pass : (xs : List IndexEntry) → filter (λ (e : IndexEntry). true) xs ≡ xs
-all_pass [] = refl
-all_pass (x ∷ xs) = ap (λ ys. x ∷ ys) (all_pass xs)
-
 from_tests : (start : Option IndexEntry) (xs : List IndexEntry) → from_on start xs ≡ filter (is_from start) xs
-from_tests None xs = sym (all_pass xs)
+from_tests None xs = sym (filter_true xs)
 from_tests (Some s) xs = refl
 
 below_tests : (cut : Option IndexEntry) (xs : List IndexEntry) → up_to cut xs ≡ filter (is_below cut) xs
-below_tests None xs = sym (all_pass xs)
+below_tests None xs = sym (filter_true xs)
 below_tests (Some s) xs = refl
 
 pub run_tests : (entries : List IndexEntry) (range : Range) (start : Option IndexEntry) → run_from entries range start ≡ filter (is_wanted range start) entries
@@ -180,7 +177,7 @@ parts_by entries range start low (Some n) ascend long lp ll np nl =
 -- Fewer leaves are left.
 
 counted_all : (cuts : List IndexEntry) → length (filter (λ (e : IndexEntry). true) cuts) ≡ length cuts
-counted_all cuts = ap length (all_pass cuts)
+counted_all cuts = ap length (filter_true cuts)
 
 fewer_left : (range : Range) (cuts : List IndexEntry) (start : Option IndexEntry) (n : IndexEntry) → is_passed start range n ≡ false
     → ((p q : IndexEntry → Bool) → ((c : IndexEntry) → p c ≡ true → q c ≡ true) → p n ≡ false → q n ≡ true → length (filter p cuts) < length (filter q cuts))

@@ -1,5 +1,5 @@
 -- A short index that is scanned at opening leaves few records to be fetched.
-use Rattle.std.proofs.Common.{Box, ◌≡◌, ◌⊎◌, IsSome, ℕ, zero, suc, ◌+◌, ◌<◌, ◌≤◌, List, [], ◌∷◌, ◌++◌, length, filter, map, Bool, true, false, cond, not, ◌&&◌, ◌||◌, refl, ap, sym, ◌∙◌, arith, subst, inl, inr, Option, Some, None, is_some, IsPermutation, Result, Ok, Err, IfOk, nat_eq, nat_le, nat_lt}
+use Rattle.std.proofs.Common.{Box, ◌≡◌, ◌⊎◌, IsSome, ℕ, zero, suc, ◌<◌, ◌≤◌, List, [], ◌∷◌, ◌++◌, length, filter, map, Bool, true, false, cond, not, ◌&&◌, ◌||◌, refl, ap, sym, ◌∙◌, arith, subst, inl, inr, Option, Some, None, is_some, IsPermutation, Result, Ok, Err, IfOk, nat_eq, nat_le, nat_lt}
 use Rattle.std.specs.declared.alloc.Global.{Global}
 use Rattle.std.specs.Prelude.{if◌then◌else◌}
 use Rattle.std.specs.List.{AllByRecursion, IsDistinct, list_any, slice_index_or, sum_by}
@@ -10,7 +10,7 @@ use Rattle.std.proofs.lemmas.List.Sums.{sum_by-cons}
 use Rattle.std.proofs.lemmas.Map.Keys.{IsDistinct-head, IsDistinct-tail}
 use Rattle.std.proofs.lemmas.List.Sorted.{length_permutation, sum_by-IsPermutation}
 use Rattle.std.proofs.lemmas.List.Elements.{filter_agree}
-use Rattle.rv_value.proofs.Lists.{all_at}
+use Rattle.rv_value.proofs.Lists.{all_at, either_few, filter_false}
 use Rattle.rv_value.proofs.Tests.{no_way}
 use Rattle.rv_value.specs.declared.record.IndexEntry.{IndexEntry}
 use Rattle.rv_judge.specs.declared.events.Strategy.{Strategy}
@@ -145,15 +145,6 @@ over_settled v mid new back a none e same lists over is =
 
 -- Entries whose rows a list has are at most as many as its keys.
 
-either_few : (p q : IndexEntry → Bool) (xs : List IndexEntry) → length (filter (λ (e : IndexEntry). p e || q e) xs) ≤ length (filter p xs) + length (filter q xs)
-either_few p q [] = omega arith
-either_few p q (x ∷ xs) =
-    let more = either_few p q xs in
-    elim (p x) as (λ b. length (cond (b || q x) (x ∷ filter (λ (e : IndexEntry). p e || q e) xs) (filter (λ (e : IndexEntry). p e || q e) xs)) ≤ length (cond b (x ∷ filter p xs) (filter p xs)) + length (filter q (x ∷ xs))) [
-      | true ↦ elim (q x) as (λ b. length (x ∷ filter (λ (e : IndexEntry). p e || q e) xs) ≤ length (x ∷ filter p xs) + length (cond b (x ∷ filter q xs) (filter q xs))) [ true ↦ omega arith | false ↦ omega arith ]
-      | false ↦ elim (q x) as (λ b. length (cond b (x ∷ filter (λ (e : IndexEntry). p e || q e) xs) (filter (λ (e : IndexEntry). p e || q e) xs)) ≤ length (filter p xs) + length (cond b (x ∷ filter q xs) (filter q xs))) [ true ↦ omega arith | false ↦ omega arith ]
-    ]
-
 none_of : (k : ℕ) (xs : List IndexEntry) → has_entry k xs ≡ false → length (filter (λ (e : IndexEntry). nat_eq e.row.0 k) xs) ≡ 0
 none_of k [] h = refl
 none_of k (x ∷ xs) h =
@@ -183,12 +174,8 @@ one_of k (x ∷ xs) a = elim (cases_Bool (nat_eq x.row.0 k)) [
     number : (a b : ℕ) → nat_eq a b ≡ true → a ≡ b
     number a b h = grind (arith, nat_tests)
 
-none_at_all : (xs : List IndexEntry) → length (filter (λ (e : IndexEntry). false) xs) ≡ 0
-none_at_all [] = refl
-none_at_all (x ∷ xs) = none_at_all xs
-
 listed_few : (keys : List ℕ) (xs : List IndexEntry) → Apart xs → length (filter (λ (e : IndexEntry). has_key e.row.0 keys) xs) ≤ length keys
-listed_few [] xs a = let none = none_at_all xs in omega arith
+listed_few [] xs a = let none = filter_false xs in omega arith
 listed_few (k ∷ keys) xs a =
     let more = listed_few keys xs a in
     let one = one_of k xs a in

@@ -1,5 +1,5 @@
 -- Where a short index was scanned at opening few rows are found: those of the complete list.
-use Rattle.std.proofs.Common.{◌≡◌, ℕ, ◌+◌, ◌≤◌, List, [], ◌∷◌, length, filter, Bool, true, false, cond, ◌&&◌, ◌||◌, refl, ap, sym, ◌∙◌, arith, inl, inr, Option, Some, None, nat_eq, nat_lt, le_trans}
+use Rattle.std.proofs.Common.{◌≡◌, ℕ, ◌≤◌, List, [], ◌∷◌, length, filter, Bool, true, false, ◌&&◌, refl, ap, sym, ◌∙◌, arith, inl, inr, Option, Some, None, nat_eq, nat_lt, le_trans}
 use Rattle.std.specs.Prelude.{IsPermutation}
 use Rattle.std.proofs.lemmas.Bool.{cases_Bool}
 use Rattle.std.proofs.lemmas.Bool.Decides.{nat_tests}
@@ -9,6 +9,7 @@ use Rattle.std.proofs.lemmas.List.Sorted.{length_permutation}
 use Rattle.rv_value.proofs.Tests.{no_way}
 use Rattle.rv_value.specs.declared.record.Record.{Record}
 use Rattle.rv_value.specs.declared.record.RowNo.{RowNo}
+use Rattle.rv_value.proofs.Lists.{either_few, filter_false}
 use Rattle.rv_judge.specs.declared.events.Control.{Control}
 use Rattle.rv_judge.specs.declared.events.Control.TheVariants.{Building, ForegroundAlone, BackgroundAlone, FinalList, FinalTable, Done}
 use Rattle.rv_keys.specs.Keys.{has_key}
@@ -31,19 +32,6 @@ use Rattle.rv_search.specs.Searching.{numbers}
 
 -- Rows whose numbers some keys have are at most as many as the keys.
 
-none_at_all : (rows : List Record) → length (filter (λ (r : Record). false) rows) ≡ 0
-none_at_all [] = refl
-none_at_all (r ∷ rows) = none_at_all rows
-
-either_few : (p q : Record → Bool) (rows : List Record) → length (filter (λ (r : Record). p r || q r) rows) ≤ length (filter p rows) + length (filter q rows)
-either_few p q [] = omega arith
-either_few p q (x ∷ xs) =
-    let more = either_few p q xs in
-    elim (p x) as (λ b. length (cond (b || q x) (x ∷ filter (λ (e : Record). p e || q e) xs) (filter (λ (e : Record). p e || q e) xs)) ≤ length (cond b (x ∷ filter p xs) (filter p xs)) + length (filter q (x ∷ xs))) [
-      | true ↦ elim (q x) as (λ b. length (x ∷ filter (λ (e : Record). p e || q e) xs) ≤ length (x ∷ filter p xs) + length (cond b (x ∷ filter q xs) (filter q xs))) [ true ↦ omega arith | false ↦ omega arith ]
-      | false ↦ elim (q x) as (λ b. length (cond b (x ∷ filter (λ (e : Record). p e || q e) xs) (filter (λ (e : Record). p e || q e) xs)) ≤ length (filter p xs) + length (cond b (x ∷ filter q xs) (filter q xs))) [ true ↦ omega arith | false ↦ omega arith ]
-    ]
-
 higher : (r x k : ℕ) → nat_eq r k ≡ true → nat_lt r x ≡ true → nat_eq x k ≡ false
 higher r x k here low = grind (arith, nat_tests)
 
@@ -57,7 +45,7 @@ one_row k (x ∷ xs) a = elim (cases_Bool (nat_eq x.row.0 k)) [
 ]
 
 keys_few : (keys : List ℕ) (rows : List Record) → Ascend rows → length (filter (λ (r : Record). has_key r.row.0 keys) rows) ≤ length keys
-keys_few [] rows a = let none = none_at_all rows in omega (arith, none)
+keys_few [] rows a = let none = filter_false rows in omega (arith, none)
 keys_few (k ∷ keys) rows a =
     let more = keys_few keys rows a in
     let one = one_row k rows a in
@@ -78,7 +66,7 @@ by_control v shown FinalList a unsorted over front =
     listed : (q k d : Bool) → (q && (k && d)) ≡ true → k ≡ true
     listed q k d h = grind arith
 by_control v shown Done a unsorted over front =
-    let none = none_at_all (rows_of v shown) in
+    let none = filter_false (rows_of v shown) in
     le_trans (filter_fewer _ (λ (r : Record). false) (λ r h. nothing _ h) (rows_of v shown)) (omega (arith, none))
   where
     nothing : (q : Bool) → (q && false) ≡ true → false ≡ true

@@ -1,5 +1,5 @@
 -- What holds of each item of a list, filters and places: lemmas that the crates above share.
-use Rattle.std.proofs.Common.{◌≡◌, ℕ, ◌<◌, ◌≤◌, zero, suc, List, [], ◌∷◌, ◌++◌, Bool, true, false, cond, refl, sym, ap, ◌∙◌, arith, inl, inr, length, filter, take, drop, remove, slice_get, slice_set, Some, Result, Ok, Err, OnOk, OnErr, All, subst}
+use Rattle.std.proofs.Common.{◌≡◌, ℕ, ◌<◌, ◌≤◌, zero, suc, List, [], ◌∷◌, ◌++◌, Bool, true, false, cond, refl, sym, ap, ◌∙◌, arith, inl, inr, length, filter, take, drop, remove, slice_get, slice_set, Some, Result, Ok, Err, OnOk, OnErr, All, subst, ◌||◌, ◌+◌}
 use Rattle.std.proofs.lemmas.Bool.{and_parts, cases_Bool}
 use Rattle.std.proofs.lemmas.List.{take_at}
 use Rattle.std.proofs.lemmas.Option.{same_Some}
@@ -111,6 +111,24 @@ filtered_fewer p q (x ∷ xs) =
       | inl t ↦ elim (cases_Bool (p x)) [ inl u ↦ rw (t, u) (omega (arith, rest)) | inr v ↦ rw (t, v) rest ]
       | inr f ↦ elim (cases_Bool (p x)) [ inl u ↦ rw (f, u) (omega (arith, rest)) | inr v ↦ rw (f, v) rest ]
     ]
+
+-- what one of two tests passes is no more than what each of them passes
+pub either_few : {X : Type 0} (p q : X → Bool) (xs : List X) → length (filter (λ (x : X). p x || q x) xs) ≤ length (filter p xs) + length (filter q xs)
+either_few {X = X} p q [] = omega arith
+either_few {X = X} p q (x ∷ xs) =
+    let more = either_few p q xs in
+    elim (p x) as (λ b. length (cond (b || q x) (x ∷ filter (λ (y : X). p y || q y) xs) (filter (λ (y : X). p y || q y) xs)) ≤ length (cond b (x ∷ filter p xs) (filter p xs)) + length (filter q (x ∷ xs))) [
+      | true ↦ elim (q x) as (λ b. length (x ∷ filter (λ (y : X). p y || q y) xs) ≤ length (x ∷ filter p xs) + length (cond b (x ∷ filter q xs) (filter q xs))) [ true ↦ omega arith | false ↦ omega arith ]
+      | false ↦ elim (q x) as (λ b. length (cond b (x ∷ filter (λ (y : X). p y || q y) xs) (filter (λ (y : X). p y || q y) xs)) ≤ length (filter p xs) + length (cond b (x ∷ filter q xs) (filter q xs))) [ true ↦ omega arith | false ↦ omega arith ]
+    ]
+
+pub filter_true : {X : Type 0} (xs : List X) → filter (λ (x : X). true) xs ≡ xs
+filter_true [] = refl
+filter_true (x ∷ xs) = ap (λ ys. x ∷ ys) (filter_true xs)
+
+pub filter_false : {X : Type 0} (xs : List X) → length (filter (λ (x : X). false) xs) ≡ 0
+filter_false [] = refl
+filter_false (x ∷ xs) = filter_false xs
 
 -- A list and what it begins with.
 
