@@ -1,5 +1,5 @@
 -- Bridge: INSERT, UPDATE and DELETE come to what the working definitions say.
-use Rattle.std.proofs.Common.{◌≡◌, ℕ, zero, suc, ◌+◌, List, [], ◌∷◌, Option, Some, None, Result, Ok, Err, Bool, true, false, not, cond, ◌&&◌, ◌==◌, refl, sym, ap, ◌∙◌, arith, filter, map, length, nat_lt, is_some, option_map, slice_index_or, position}
+use Rattle.std.proofs.Common.{◌≡◌, ℕ, zero, suc, ◌+◌, List, [], ◌∷◌, Option, Some, None, Result, Ok, Err, Bool, true, false, not, cond, ◌&&◌, ◌==◌, refl, sym, ap, ◌∙◌, arith, filter, map, length, nat_lt, is_some, option_map, slice_index_or, position, one-add}
 use Rattle.std.proofs.lemmas.Bool.Decides.{nat_tests}
 use Rattle.std.specs.List.{position_or_len}
 use Rattle.std.proofs.lemmas.List.{length-map}
@@ -43,12 +43,9 @@ more_less m n h = grind (arith, nat_tests)
 no_more_less : (m n : ℕ) → nat_lt m n ≡ false → nat_lt (1 + m) (suc n) ≡ false
 no_more_less m n h = grind (arith, nat_tests)
 
-one_and : (m : ℕ) → 1 + m ≡ suc m
-one_and m = omega arith
-
 one_on : (m n : ℕ) (c : Bool) → nat_lt m n ≡ c
     → cond (nat_lt (1 + m) (suc n)) (Some (1 + m)) None ≡ option_map suc (cond c (Some m) None)
-one_on m n true e = ap (λ b. cond b (Some (1 + m)) None) (more_less m n e) ∙ ap (λ j. Some j) (one_and m)
+one_on m n true e = ap (λ b. cond b (Some (1 + m)) None) (more_less m n e) ∙ ap (λ j. Some j) (one-add m)
 one_on m n false e = ap (λ b. cond b (Some (1 + m)) None) (no_more_less m n e)
 
 step_by : (m n : ℕ) (b : Bool) → cond (nat_lt (cond (not b) (1 + m) 0) (suc n)) (Some (cond (not b) (1 + m) 0)) None

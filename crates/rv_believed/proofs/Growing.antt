@@ -1,5 +1,5 @@
 -- What INSERT makes of row numbers, and COMMIT of who last wrote a row, at each table and row.
-use Rattle.std.proofs.Common.{◌≡◌, ℕ, zero, suc, ◌+◌, ◌-◌, ◌<◌, ◌≤◌, List, [], ◌∷◌, ◌++◌, Bool, true, false, cond, ◌&&◌, ◌||◌, refl, sym, ap, ◌∙◌, arith, length, nat_eq, nat_lt, slice_index_or, slice_set, if◌then◌else◌, zero-add}
+use Rattle.std.proofs.Common.{◌≡◌, ℕ, zero, suc, ◌+◌, ◌-◌, ◌<◌, ◌≤◌, List, [], ◌∷◌, ◌++◌, Bool, true, false, cond, ◌&&◌, ◌||◌, refl, sym, ap, ◌∙◌, arith, length, nat_eq, nat_lt, slice_index_or, slice_set, if◌then◌else◌, zero-add, add-sub_of_le}
 use Rattle.std.proofs.lemmas.Bool.Decides.{nat_tests}
 use Rattle.std.proofs.lemmas.Bool.{eqb-true, ltb-false, ltb-true}
 use Rattle.std.proofs.lemmas.List.{get_or_past, length_push}
@@ -60,9 +60,6 @@ past_at (x ∷ xs) k zero = ap (λ b. cond b (0 ∷ []) x) (sym (zero_plus (leng
 past_at (x ∷ xs) k (suc t) = past_at xs k t
     ∙ ap (λ b. cond b (0 ∷ []) (slice_index_or xs t [])) (sym (suc_plus_by t (length xs) k (nat_eq t (length xs + k)) refl))
 
-plus_rest : (n m : ℕ) → n ≤ m → n + (m - n) ≡ m
-plus_rest n m le = omega (arith, le)
-
 number_by : (touched : List (List ℕ)) (table t : ℕ) (b : Bool) → nat_lt table (length touched) ≡ b
     → touched_in (if b then slice_set touched table (touched_in touched table ++ 0 ∷ []) else touched ++ empty_lists (table - length touched) ++ (0 ∷ []) ∷ []) t
     ≡ cond (nat_eq t table) (touched_in touched table ++ 0 ∷ []) (touched_in touched t)
@@ -70,7 +67,7 @@ number_by touched table t true e = set_at touched table t (touched_in touched ta
 number_by touched table t false e =
     let le : length touched ≤ table = ltb-false table (length touched) e in
     past_at touched (table - length touched) t
-    ∙ (λ k. cond (nat_eq t (plus_rest (length touched) table le k)) (sym (get_or_past touched table [] le) k ++ 0 ∷ []) (touched_in touched t))
+    ∙ (λ k. cond (nat_eq t (add-sub_of_le le k)) (sym (get_or_past touched table [] le) k ++ 0 ∷ []) (touched_in touched t))
 
 -- the list of the table has one number more, and no other list has
 number_in : (touched : List (List ℕ)) (table t : ℕ)

@@ -1,5 +1,5 @@
 -- Of how many records a plan fetches that moves.
-use Rattle.std.proofs.Common.{◌≡◌, ℕ, ◌+◌, ◌-◌, ◌≤◌, List, [], ◌∷◌, ◌++◌, length, Option, Some, None, refl, ap, sym, ◌∙◌, subst, arith, zero, suc, zero-add}
+use Rattle.std.proofs.Common.{◌≡◌, ℕ, ◌+◌, ◌-◌, ◌≤◌, List, [], ◌∷◌, ◌++◌, length, Option, Some, None, refl, ap, sym, ◌∙◌, subst, arith, zero, suc, zero-add, le-add_right}
 use Rattle.rv_judge.specs.declared.counting.Counts.{Counts}
 use Rattle.rv_judge.specs.declared.judging.Facts.{Facts}
 use Rattle.rv_judge.specs.Verdicts.{Ruling}
@@ -20,11 +20,8 @@ use Rattle.rv_cursor.proofs.Moving.{all_on}
 
 -- Records fetched and left.
 
-none_more : (n : ℕ) → n ≤ n + 0
-none_more n = omega arith
-
 few_none : (shown : Shown) (p : Planned) → FewFetches 0 shown p p
-few_none shown p = record { settled = λ s. s; few = λ s. none_more (plan_fetches shown p) }
+few_none shown p = record { settled = λ s. s; few = λ s. le-add_right (plan_fetches shown p) 0 }
 
 add_few : (a b c m n : ℕ) → b ≤ a + m → c ≤ b + n → c ≤ a + (m + n)
 add_few a b c m n first then = omega (arith, first, then)
@@ -48,7 +45,7 @@ take_few shown old new takes one =
     }
 
 still_few : (shown : Shown) (old new : Ruled) → new ≡ old → plan_fetches shown new.plan ≤ plan_fetches shown old.plan + 0
-still_few shown old new same = subst (λ (r : Ruled). plan_fetches shown r.plan ≤ plan_fetches shown old.plan + 0) (sym same) (none_more (plan_fetches shown old.plan))
+still_few shown old new same = subst (λ (r : Ruled). plan_fetches shown r.plan ≤ plan_fetches shown old.plan + 0) (sym same) (le-add_right (plan_fetches shown old.plan) 0)
 
 give_few : (would : ℕ → Facts → Ruling) (shown : Shown) (old new : Ruled) → GivesBack would shown old new → IsAlone old.plan → FewFetches 0 shown old.plan new.plan
 give_few would shown old new gives one = record {

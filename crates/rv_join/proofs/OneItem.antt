@@ -314,7 +314,8 @@ life_within s indexes shown snap cursor a q v some asked asks =
     let item = asked.items 0 some in
     let few = subst (λ (x : List (List Atom)). widths q.only ≤ widths x) asked.only (subst (λ (x : List (List Atom)). widths x ≤ widths a.only) (sym asks.only) (bound_widths 0 [] a.only)) in
     let same : retrieval_life q shown ≡ life_bound (shown.pages (table_at s 0) snap) (cuts_and_entries (indexes_from (table_at s 0) 0 indexes) shown snap) = rw (asks.item.table ∙ item.table, asks.item.snap ∙ asked.snap, asks.item.over ∙ item.over) refl in
-    subst (λ (n : ℕ). life_of v q shown ≤ lives v s.only * n) same (mul-le-mul_right (retrieval_life q shown) (lives_less v q.only s.only few))
+    let product : lives v q.only * retrieval_life q shown ≤ lives v s.only * retrieval_life q shown = mul-le-mul_right (retrieval_life q shown) (lives_less v q.only s.only few) in
+    subst (λ (n : ℕ). life_of v q shown ≤ lives v s.only * n) same product
 
 pub begins_life : (s : Select) (indexes : List IndexDef) (shown : Shown) (snap cursor : ℕ) (a : Asked) (v : Stacked) (c d : Counts) → 1 ≤ length s.tables → IsAsked s indexes snap cursor a → Asks a [] (query_of v.at.here) → v.at.row ≡ None → reads d + effort v.at.here shown ≤ reads c + life_of v.at.here (query_of v.at.here) shown → reads d + level_effort shown v.at ≤ reads c + first_life s indexes shown snap v.at.here
 begins_life s indexes shown snap cursor a v c d some asked asks none life =

@@ -9,6 +9,7 @@ use Rattle.std.proofs.lemmas.List.{get_or_append_left}
 use Rattle.std.proofs.Math.Seq.{get_or-append_seam}
 use Rattle.std.proofs.lemmas.Bool.{and_from}
 use Rattle.std.specs.Cmp.{first_so, second_so}
+use Rattle.std.proofs.Math.Bool.{or_comm}
 use Rattle.rv_value.specs.declared.value.Value.{Value}
 use Rattle.rv_value.specs.declared.value.Value.TheVariants.{Null}
 use Rattle.rv_value.specs.Order.{value_cmp}
@@ -22,7 +23,7 @@ use Rattle.rv_restrict.specs.declared.atom.Atom.{Atom}
 use Rattle.rv_restrict.specs.declared.atom.Atom.TheVariants.{Compare, Between, Among, IsNull, Starts, Const}
 use Rattle.rv_restrict.specs.Truth.{answers, compared, is_null, atom_truth, group_truth, truth_by, truth, operand_names_only, atom_names_only, group_names_only, names_only, row_reads}
 use Rattle.rv_restrict.specs.Bind.{rows_reads, rows_has, truth_over, is_below, outer_fits, bound, taken, home, turned, bound_columns, bound_atom, moved, atom_place, group_place, passes_at, passes_home}
-use Rattle.rv_restrict.proofs.Tests.{and_true, or_turned}
+use Rattle.rv_restrict.proofs.Tests.{and_true}
 use Rattle.rv_restrict.proofs.Names.{atom_same}
 
 below_length : (place : ℕ) (outer : List (List Value)) (c : ColRef) → length outer ≡ place → is_below place c ≡ true → c.place < length outer
@@ -66,7 +67,7 @@ answers_turned Ge Equal = refl
 answers_turned Ge Greater = refl
 
 pub compared_turned : (x : Value) (op : Op) (y : Value) → compared x op y ≡ compared y (turned op) x
-compared_turned x op y = rw ((value_cmp_total).antisymm x y, answers_turned op (value_cmp y x), or_turned (is_null x) (is_null y)) refl
+compared_turned x op y = rw ((value_cmp_total).antisymm x y, answers_turned op (value_cmp y x), or_comm (is_null x) (is_null y)) refl
 
 -- Over the outer rows and the row of the place, a column is read in the outer rows where it is below, else in the row.
 placed : (place : ℕ) (outer : List (List Value)) (row : List Value) (c : ColRef) (b : Bool) → length outer ≡ place → c.place ≤ place → is_below place c ≡ b → rows_reads (outer ++ row ∷ []) c ≡ cond b (rows_reads outer c) (row_reads row (home c))

@@ -1,5 +1,5 @@
 -- Tests, truths and numbers: what follows where a test is true or false.
-use Rattle.std.proofs.Common.{◌≡◌, ℕ, Bool, true, false, ◌&&◌, ◌||◌, ◌==◌, refl, arith}
+use Rattle.std.proofs.Common.{◌≡◌, ℕ, Bool, true, false, ◌&&◌, ◌==◌, refl, arith}
 use Rattle.std.proofs.lemmas.Bool.Decides.{nat_tests}
 use Rattle.rv_restrict.specs.declared.atom.Tri.{Tri}
 use Rattle.rv_restrict.specs.declared.atom.Tri.TheVariants.{True, False, Unknown}
@@ -8,12 +8,6 @@ use Rattle.rv_restrict.specs.Truth.{greater, lesser, truth_of}
 pub and_true : (a : Bool) → (a && true) ≡ false → a ≡ false
 and_true true h = h
 and_true false h = refl
-
-pub or_turned : (a b : Bool) → (a || b) ≡ (b || a)
-or_turned true true = refl
-or_turned true false = refl
-or_turned false true = refl
-or_turned false false = refl
 
 pub same_number : (a b : ℕ) → a == b ≡ true → a ≡ b
 same_number a b h = grind (arith, nat_tests)

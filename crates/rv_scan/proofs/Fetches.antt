@@ -1,6 +1,6 @@
 -- The rows of entries, one fetched after another.
 use Rattle.std.proofs.Common.{◌≡◌, ℕ, ◌+◌, ◌<◌, List, [], ◌∷◌, ◌++◌, Bool, true, false, not, ◌==◌, cond, refl, ap, sym, ◌∙◌, inl, inr, arith, length, zero, suc, drop, take, Option, Some, None, IfSome, Result, Ok, Err, IfOk, OnOk, OnErr, length-append}
-use Rattle.std.proofs.Math.Seq.{drop-drop}
+use Rattle.std.proofs.Math.Seq.{drop-drop, drop-append_seam}
 use Rattle.std.proofs.lemmas.Bool.{cases_Bool, and_parts, not-true}
 use Rattle.std.specs.List.{list_all, slice_index_or, cons_option}
 use Rattle.std.proofs.lemmas.List.{drop-append-le}
@@ -63,10 +63,6 @@ cut_front (suc at) (x ∷ xs) d h =
     let e : suc at + 1 ≡ suc (at + 1) = omega arith in
     rw e (ap (λ ys. x ∷ ys) (cut_front at xs d (omega arith)))
 
-pub drop_all : {A : Type 0} (xs ys : List A) → drop (length xs) (xs ++ ys) ≡ ys
-drop_all [] ys = refl
-drop_all (x ∷ xs) ys = drop_all xs ys
-
 pub length_drop : {A : Type 0} (at : ℕ) (xs : List A) → at < length xs → length (drop (at + 1) xs) < length xs
 length_drop at [] h = absurd (omega arith)
 length_drop zero (x ∷ xs) h = omega arith
@@ -121,7 +117,7 @@ turned_follows (Found r) old new entries cuts fits turned = elim turned [ ]
 turned_follows Working old new entries cuts fits turned =
     let moves = turned.1 in
     let coming = to_come old.walk.ahead entries old.walk.range in
-    let here : coming ≡ drop (fits.0 + length old.walk.held) (run entries old.walk.range) = sym (drop_all old.walk.held coming) ∙ ap (drop (length old.walk.held)) fits.1 ∙ drop-drop (length old.walk.held) fits.0 (run entries old.walk.range) in
+    let here : coming ≡ drop (fits.0 + length old.walk.held) (run entries old.walk.range) = sym (drop-append_seam old.walk.held coming) ∙ ap (drop (length old.walk.held)) fits.1 ∙ drop-drop (length old.walk.held) fits.0 (run entries old.walk.range) in
     (fits.0 + length old.walk.held, moves.parts ∙ here ∙ ap (λ range. drop (fits.0 + length old.walk.held) (run entries range)) (sym moves.range))
 turned_follows End old new entries cuts fits turned = rw turned.1 fits
 

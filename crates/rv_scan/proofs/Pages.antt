@@ -1,13 +1,13 @@
 -- The rows from a page on are that page, and the rows from the next one on.
 use Rattle.std.proofs.Common.{◌≡◌, ℕ, ◌+◌, ◌*◌, ◌/◌, ◌<◌, ◌≤◌, List, [], ◌∷◌, ◌++◌, true, false, not, ◌&&◌, ◌==◌, refl, ap, sym, ◌∙◌, arith, length, zero, suc, drop, nat_le, nat_lt, subst, length-append, Some, Result, Ok, Err, IfOk, OnErr}
-use Rattle.std.proofs.Math.Seq.{drop-drop}
+use Rattle.std.proofs.Math.Seq.{drop-drop, drop-append_seam}
 use Rattle.std.proofs.lemmas.Bool.Decides.{nat_tests}
 use Rattle.std.proofs.lemmas.List.Folds.{list_all-append}
 use Rattle.std.proofs.lemmas.List.Elements.{filter-append, filter_agree}
 use Rattle.std.specs.List.{AllByRecursion, slice_index_or}
 use Rattle.std.proofs.lemmas.Bool.{and_parts}
 use Rattle.std.proofs.lemmas.List.{drop-append-le}
-use Rattle.rv_scan.proofs.Fetches.{drop_all, length_drop}
+use Rattle.rv_scan.proofs.Fetches.{length_drop}
 use Rattle.rv_value.specs.declared.record.Record.{Record}
 use Rattle.rv_rows.specs.Rows.{Ascend, comes_below}
 use Rattle.rv_restrict.specs.declared.atom.Atom.{Atom}
@@ -59,7 +59,7 @@ turned_unseen place rows ascend = sym (split_page place.next rows ascend)
 
 pub turned_fits : (place : Place) (rows : List Record) → Ascend rows → Fits place rows → Fits (record place { held = page_of rows place.next; next = place.next + 1 }) rows
 turned_fits place rows ascend fits =
-    (fits.0 + length place.held, turned_unseen place rows ascend ∙ sym (drop_all place.held (rows_from rows place.next)) ∙ ap (drop (length place.held)) fits.1 ∙ drop-drop (length place.held) fits.0 rows)
+    (fits.0 + length place.held, turned_unseen place rows ascend ∙ sym (drop-append_seam place.held (rows_from rows place.next)) ∙ ap (drop (length place.held)) fits.1 ∙ drop-drop (length place.held) fits.0 rows)
 
 due_both : (only : List (List Atom)) (skip : Skipped) (xs ys : List Record) → due only skip (xs ++ ys) ≡ due only skip xs ++ due only skip ys
 due_both only skip xs ys = filter-append (is_due only skip) xs ys

@@ -1,6 +1,6 @@
 -- The records that entries tell, one given after another.
 use Rattle.std.proofs.Common.{◌≡◌, ℕ, ◌+◌, ◌<◌, List, [], ◌∷◌, ◌++◌, true, ◌==◌, refl, ap, sym, ◌∙◌, inl, inr, arith, length, drop, map, nat_lt, Some, None, Result, Ok, Err, IfOk, OnErr, length-append}
-use Rattle.std.proofs.Math.Seq.{drop-drop}
+use Rattle.std.proofs.Math.Seq.{drop-drop, drop-append_seam}
 use Rattle.std.proofs.lemmas.Bool.{cases_Bool, and_from}
 use Rattle.std.proofs.lemmas.Bool.Decides.{nat_tests}
 use Rattle.std.proofs.lemmas.List.{drop_more, map-append}
@@ -25,7 +25,7 @@ use Rattle.rv_scan.specs.declared.skip.Scanned.TheVariants.{Found, Working, End}
 use Rattle.rv_scan.specs.Due.{Skipped, is_due, due, StepsTo}
 use Rattle.rv_scan.specs.Alongs.{Along, FetchesDue, Follows, leaf_work, to_come}
 use Rattle.rv_scan.specs.Told.{FindsTold, Goes, KeyReads, NamesThese, Tells, told, told_rest, told_values, width}
-use Rattle.rv_scan.proofs.Fetches.{drop_all, length_drop}
+use Rattle.rv_scan.proofs.Fetches.{length_drop}
 
 pub below_width : (columns : List ℕ) (c : ℕ) → stands_among columns c ≡ true → c < width columns
 below_width [] c h = cc
@@ -90,7 +90,7 @@ gone_follows : (scanned : Scanned) (old new : Along) (entries cuts : List IndexE
 gone_follows (Found r) old new entries cuts fits goes = elim goes [ ]
 gone_follows Working old new entries cuts fits goes =
     let coming = to_come old.ahead entries old.range in
-    let here : coming ≡ drop (fits.0 + length old.held) (run entries old.range) = sym (drop_all old.held coming) ∙ ap (drop (length old.held)) fits.1 ∙ drop-drop (length old.held) fits.0 (run entries old.range) in
+    let here : coming ≡ drop (fits.0 + length old.held) (run entries old.range) = sym (drop-append_seam old.held coming) ∙ ap (drop (length old.held)) fits.1 ∙ drop-drop (length old.held) fits.0 (run entries old.range) in
     (fits.0 + length old.held, goes.parts ∙ here ∙ ap (λ range. drop (fits.0 + length old.held) (run entries range)) (sym goes.range))
 gone_follows End old new entries cuts fits goes = rw goes.1 fits
 
