@@ -1,10 +1,11 @@
 -- A query over the schema can be planned at a snapshot of the store.
-use Rattle.std.proofs.Common.{◌≡◌, ℕ, zero, suc, ◌+◌, ◌<◌, ◌≤◌, List, [], ◌∷◌, true, refl, ap, sym, ◌∙◌, subst, arith, inl, inr, length, nat_lt}
-use Rattle.std.specs.List.{list_all, slice_index_or}
+use Rattle.std.proofs.Common.{◌≡◌, ℕ, suc, ◌+◌, ◌<◌, ◌≤◌, List, [], ◌∷◌, true, refl, ap, sym, ◌∙◌, subst, arith, inl, inr, length, nat_lt}
+use Rattle.std.specs.List.{slice_index_or}
 use Rattle.std.proofs.lemmas.Bool.Decides.{eqb_tells}
-use Rattle.std.proofs.lemmas.Bool.{and_from, lt-ltb, ltb-true}
+use Rattle.std.proofs.lemmas.Bool.{ltb-true}
 use Rattle.std.specs.Cmp.{first_so, second_so}
 use Rattle.rv_value.specs.declared.record.Record.{Record}
+use Rattle.rv_value.proofs.Lists.{passes_at}
 use Rattle.rv_rows.specs.Rows.{Ascend}
 use Rattle.rv_restrict.specs.declared.atom.ColRef.{ColRef}
 use Rattle.rv_catalog.specs.declared.def.IndexDef.{IndexDef}
@@ -14,12 +15,12 @@ use Rattle.rv_catalog.specs.Kept.{indexes_over}
 use Rattle.rv_catalog.specs.Schema.{Schema, width}
 use Rattle.rv_reader.specs.Entries.{entries_of}
 use Rattle.rv_reader.specs.Shown.{Shown, IsSnapshot, CanRead, CanScan}
-use Rattle.rv_reader.specs.Storing.{AreColumns, AreKeys, AreWide, IsStored}
+use Rattle.rv_reader.specs.Storing.{AreColumns, AreKeys, IsStored}
 use Rattle.rv_model.specs.declared.transactions.Transactions.{Transactions}
 use Rattle.rv_snapshot.specs.Alone.{alone}
 use Rattle.rv_snapshot.proofs.Staying.{reads_alone, same_cuts, same_entries, same_rows, scans_alone}
 use Rattle.rv_join.specs.Asking.{CanPlan, IsIndexAt, have_column, index_at, indexes_from, select_uses, table_at}
-use Rattle.rv_join.proofs.Naming.{used_passes}
+use Rattle.rv_join.proofs.Naming.{used_passes, have_wide}
 use Rattle.rv_core.specs.Db.{IsTied}
 
 -- a column that a query names is of one of its tables
@@ -28,19 +29,8 @@ used_there schema s c query used = used_passes (is_there schema.tables s.tables)
 
 -- Tables.
 
-all_at : (n : ℕ) (ts : List ℕ) (p : ℕ) → list_all (is_column n) ts ≡ true → p < length ts → slice_index_or ts p 0 < n
-all_at n [] p all h = absurd (omega arith)
-all_at n (t ∷ ts) zero all h = ltb-true t n (first_so (nat_lt t n) (list_all (is_column n) ts) all)
-all_at n (t ∷ ts) (suc p) all h = all_at n ts p (second_so (nat_lt t n) (list_all (is_column n) ts) all) (omega arith)
-
 table_there : (schema : Schema) (s : Select) (p : ℕ) → IsQueryOf schema s → p < length s.tables → table_at s p < length schema.tables
-table_there schema s p query h = all_at (length schema.tables) s.tables p query.there h
-
-pub have_wide : (c columns : ℕ) (rows : List Record) → AreWide columns rows → c < columns → have_column c rows ≡ true
-have_wide c columns [] wide h = refl
-have_wide c columns (r ∷ rows) wide h =
-    let long : c < length r.values = omega (arith, wide.0, h) in
-    and_from (nat_lt c (length r.values)) (have_column c rows) (lt-ltb c (length r.values) long) (have_wide c columns rows wide.1 h)
+table_there schema s p query h = ltb-true (table_at s p) (length schema.tables) (passes_at (is_column (length schema.tables)) s.tables p 0 h query.there)
 
 -- Indexes.
 

@@ -45,10 +45,10 @@ use Rattle.rv_join.specs.declared.places.Asked.{Asked}
 use Rattle.rv_join.specs.Asking.{CanPlan, CanRun, CanRunItem, IsAsked, IsItem, by_index, have_column, indexes_from, item_at}
 use Rattle.rv_join.proofs.Running.{can_run}
 use Rattle.rv_join.proofs.Binding.{indexes_of}
+use Rattle.rv_join.proofs.Naming.{have_wide}
 use Rattle.rv_cursor.specs.Left.{seen_at}
 use Rattle.rv_core.specs.Db.{IsTied, IsViewed}
 use Rattle.rv_core.specs.Obeying.{FindsRows, HasSearched, IsLong}
-use Rattle.rv_core.proofs.Planning.{have_wide}
 use Rattle.rv_core.proofs.Plans.{plans}
 use Rattle.rv_core.proofs.Putting.{frozen_viewed}
 use Rattle.rv_core.proofs.Standing.{can_change}

@@ -1,9 +1,10 @@
--- What holds of each column that a restriction names holds of all that it names, and the other way; and lists of columns that gain some.
-use Rattle.std.proofs.Common.{◌≡◌, ◌≢◌, ℕ, List, [], ◌∷◌, ◌++◌, Bool, true, false, cond, ◌&&◌, ◌||◌, ◌==◌, nat_eq, refl, sym, ◌∙◌, ap, subst, arith, inl, inr}
+-- What holds of each column that a restriction names holds of all that it names, and the other way; rows that have a column; and lists of columns that gain some.
+use Rattle.std.proofs.Common.{◌≡◌, ◌≢◌, ℕ, List, [], ◌∷◌, ◌++◌, Bool, true, false, cond, ◌&&◌, ◌||◌, ◌==◌, nat_eq, refl, sym, ◌∙◌, ap, subst, arith, inl, inr, ◌<◌, nat_lt, length}
 use Rattle.std.specs.List.{list_any, list_all}
 use Rattle.std.proofs.lemmas.Bool.Decides.{nat_tests}
-use Rattle.std.proofs.lemmas.Bool.{and_from, or_left, or_right, eqb-true, or_cases}
+use Rattle.std.proofs.lemmas.Bool.{and_from, or_left, or_right, eqb-true, or_cases, lt-ltb}
 use Rattle.std.specs.Cmp.{first_so, second_so}
+use Rattle.rv_value.specs.declared.record.Record.{Record}
 use Rattle.rv_restrict.specs.declared.atom.ColRef.{ColRef}
 use Rattle.rv_restrict.specs.declared.atom.Operand.{Operand}
 use Rattle.rv_restrict.specs.declared.atom.Operand.TheVariants.{Literal, Column}
@@ -13,8 +14,9 @@ use Rattle.rv_restrict.specs.Bind.{group_place, taken}
 use Rattle.rv_restrict.specs.Parts.{stands_among}
 use Rattle.rv_restrict.specs.Truth.{atom_names_only, group_names_only, names_only, operand_names_only}
 use Rattle.rv_catalog.specs.declared.def.Select.{Select}
+use Rattle.rv_reader.specs.Storing.{AreWide}
 use Rattle.rv_join.specs.declared.places.Asked.{Asked}
-use Rattle.rv_join.specs.Asking.{Adds, asked_uses, atom_names, col_at, group_names, only_names, same_column, operand_names, select_uses}
+use Rattle.rv_join.specs.Asking.{Adds, asked_uses, atom_names, col_at, group_names, only_names, same_column, operand_names, select_uses, have_column}
 
 pub same_itself : (c : ColRef) → same_column c c ≡ true
 same_itself c = grind (arith, nat_tests)
@@ -149,3 +151,10 @@ used_passes p s c returns order only used = elim (or_cases (list_any (same_colum
     | inr g ↦ only_passes p c s.only only g
   ]
 ]
+
+-- Rows of so many values have each column below.
+pub have_wide : (c columns : ℕ) (rows : List Record) → AreWide columns rows → c < columns → have_column c rows ≡ true
+have_wide c columns [] wide h = refl
+have_wide c columns (r ∷ rows) wide h =
+    let long : c < length r.values = omega (arith, wide.0, h) in
+    and_from (nat_lt c (length r.values)) (have_column c rows) (lt-ltb c (length r.values) long) (have_wide c columns rows wide.1 h)
