@@ -1,5 +1,5 @@
 //! Queues of numbers, and the order of offers.
-use crate::read::{Fault, cut, number, place};
+use rv_loading::{Fault, cut, number, place};
 use rv_model::offers::cmp_offer;
 use rv_model::{Offer, Queue};
 use rv_value::{Items, NoMemory, Value};

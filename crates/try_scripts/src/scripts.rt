@@ -1,5 +1,5 @@
 //! Scripts, read: each phase as `[judge: calls]`.
-use crate::read::Fault;
+use rv_loading::Fault;
 use rv_script::{Line, Phase, Script, ScriptFault, read_script};
 use rv_value::NoMemory;
 use std::alloc::Global;

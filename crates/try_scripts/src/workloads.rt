@@ -1,6 +1,6 @@
 //! Generated workloads: how many lines each phase has, and some of them.
-use crate::read::{Fault, small};
 use rv_gen::generate;
+use rv_loading::{Fault, small};
 use rv_script::{Line, Phase, Script};
 use rv_value::NoMemory;
 use std::alloc::Global;

@@ -1,6 +1,6 @@
 //! Deletions of rows, each as its table and its row: those before `then` are put at once, and the one behind it is put and
 //! taken back.
-use crate::read::{Fault, cut, number, small};
+use rv_loading::{Fault, cut, number, small};
 use rv_rows::{Change, Changes};
 use rv_value::{Duplicate, NoMemory, RowNo, Values};
 use std::alloc::Global;

@@ -1,6 +1,6 @@
 //! Restrictions and values, from their text.
-use crate::read::{Fault, integer};
-use rv_restrict::{Atom, ColRef, Op, Operand, Restriction, Tri};
+use rv_loading::{Fault, comparison, cut, integer};
+use rv_restrict::{Atom, ColRef, Operand, Restriction, Tri};
 use rv_value::{SharedText, Text, Value, Values};
 use std::alloc::Global;
 
@@ -107,7 +107,7 @@ fn null_test(column: ColRef, word: &str) -> Result<Atom, Fault> {
 }
 
 fn between(alloc: Global, column: ColRef, rest: &str) -> Result<Atom, Fault> {
-    let (low, high) = rest.split_once(' ').ok_or(Fault::Form)?;
+    let (low, high) = cut(rest, ' ')?;
     Ok(Atom::Between {
         column,
         low: value(alloc, low)?,
@@ -121,18 +121,6 @@ fn starts(alloc: Global, column: ColRef, rest: &str) -> Result<Atom, Fault> {
         column,
         text: Text::read(alloc, text)?,
     })
-}
-
-fn comparison(word: &str) -> Result<Op, Fault> {
-    match word {
-        "=" => Ok(Op::Eq),
-        "<>" => Ok(Op::Ne),
-        "<" => Ok(Op::Lt),
-        "<=" => Ok(Op::Le),
-        ">" => Ok(Op::Gt),
-        ">=" => Ok(Op::Ge),
-        _ => Err(Fault::Form),
-    }
 }
 
 fn operand(alloc: Global, word: &str) -> Result<Operand, Fault> {

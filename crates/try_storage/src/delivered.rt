@@ -1,6 +1,6 @@
 //! The set of delivered rows, full at its last place.
-use crate::read::Fault;
 use rv_delivered::Delivered;
+use rv_loading::Fault;
 use rv_value::{NoMemory, RowNo};
 use std::alloc::Global;
 

@@ -1,8 +1,8 @@
 //! Key lists, to which keys are pushed from above down to 0.
 ghost use Rattle.std.specs.Prelude.{◌≡◌, IfOk, length, true, false};
 
-use crate::read::{Fault, cut, small};
 use rv_keylist::{KeyList, Stage};
+use rv_loading::{Fault, cut, small};
 use rv_value::{NoMemory, RowNo};
 use std::alloc::Global;
 

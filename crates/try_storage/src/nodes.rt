@@ -2,7 +2,7 @@
 ghost use Rattle.std.specs.Prelude.{◌≡◌, length};
 
 use crate::ranges::told_first;
-use crate::read::{Fault, integer};
+use rv_loading::{Fault, cut, integer};
 use rv_node::Node;
 use rv_value::{Bound, Duplicate, IndexEntry, Key, NoMemory, Range, RowNo, Value};
 use std::alloc::Global;
@@ -37,7 +37,7 @@ fn bound(alloc: Global, word: &str) -> Result<Option<Bound>, Fault> {
 }
 
 fn range(alloc: Global, text: &str) -> Result<Range, Fault> {
-    let (low, high) = text.split_once(' ').ok_or(Fault::Form)?;
+    let (low, high) = cut(text, ' ')?;
     Ok(Range {
         low: bound(alloc, low)?,
         high: bound(alloc, high)?,

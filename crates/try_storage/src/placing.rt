@@ -3,7 +3,7 @@ use crate::conditions::{columns, restriction, values};
 use crate::fits::all_fit;
 use crate::orders::yes_or_no;
 use crate::ranges::side_word;
-use crate::read::Fault;
+use rv_loading::{Fault, cut};
 use rv_restrict::{Restriction, Tri};
 use rv_value::{Duplicate, Key, Side, Value, Values};
 use std::alloc::Global;
@@ -17,8 +17,8 @@ struct Found {
 }
 
 fn find(alloc: Global, line: &str) -> Result<Found, Fault> {
-    let (index, rest) = line.split_once(';').ok_or(Fault::Form)?;
-    let (only, row) = rest.split_once(';').ok_or(Fault::Form)?;
+    let (index, rest) = cut(line, ';')?;
+    let (only, row) = cut(rest, ';')?;
     let columns = columns(alloc, index)?;
     let only = restriction(alloc, only)?;
     let row = Values::of(alloc, values(alloc, row)?)?;

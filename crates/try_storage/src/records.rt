@@ -6,7 +6,7 @@ ghost use Rattle.rv_records.specs.Pages.{IsBelow};
 ghost use Rattle.try_storage.specs.Standing.{Stands};
 
 use crate::ranges::told_first;
-use crate::read::{Fault, cut, integer, number, small};
+use rv_loading::{Fault, cut, integer, number, small};
 use rv_records::Records;
 use rv_value::{NoMemory, Record, RowNo, Value, Values};
 use std::alloc::Global;

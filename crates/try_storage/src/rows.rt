@@ -1,5 +1,5 @@
 //! Rows by number: `put N`, `remove N` and `copy`, parted by commas; then the rows, and those of the last copy.
-use crate::read::{Fault, number};
+use rv_loading::{Fault, number};
 use rv_rows::Rows;
 use rv_value::{Duplicate, NoMemory, Record, RowNo, Value, Values};
 use std::alloc::Global;

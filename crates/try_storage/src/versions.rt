@@ -3,7 +3,7 @@
 ghost use Rattle.std.specs.Prelude.{◌+◌, IfOk};
 ghost use Rattle.rv_versions.specs.Chains.{AllChainsBelow};
 
-use crate::read::{Fault, cut, number, small};
+use rv_loading::{Fault, cut, number, small};
 use rv_value::NoMemory;
 use rv_versions::Versions;
 use std::alloc::Global;
