@@ -1,33 +1,9 @@
 //! What a line asks for, from its words.
 use rv_catalog::Goal;
-use rv_restrict::{Atom, ColRef, Op, Operand, Restriction, Tri};
-use rv_value::{NoMemory, Value, Values};
-use std::alloc::{AllocError, AllocFailed, Global};
-
-/// Why a line has no answer.
-#[derive(Clone, Copy, Debug, PartialEq, Eq)]
-pub enum Fault {
-    Form,
-    NoMemory,
-}
-
-impl From<NoMemory> for Fault {
-    fn from(_fault: NoMemory) -> Fault {
-        Fault::NoMemory
-    }
-}
-
-impl From<AllocError> for Fault {
-    fn from(_fault: AllocError) -> Fault {
-        Fault::NoMemory
-    }
-}
-
-impl<T: Drop> From<AllocFailed<T>> for Fault {
-    fn from(_fault: AllocFailed<T>) -> Fault {
-        Fault::NoMemory
-    }
-}
+use rv_loading::{Fault, comparison, cut, small};
+use rv_restrict::{Atom, ColRef, Operand, Restriction, Tri};
+use rv_value::{Value, Values};
+use std::alloc::Global;
 
 /// The fields of a line, in their order.
 #[derive(Clone, Copy)]
@@ -50,20 +26,16 @@ pub struct Asked<'a> {
     pub tell: &'a str,
 }
 
-fn cut(text: &str) -> Result<(&str, &str), Fault> {
-    text.split_once(';').ok_or(Fault::Form)
-}
-
 /// The fields of a line.
 pub fn read_line(line: &str) -> Result<Asked<'_>, Fault> {
-    let (rows, rest) = cut(line)?;
-    let (from, rest) = cut(rest)?;
-    let (only, rest) = cut(rest)?;
-    let (order, rest) = cut(rest)?;
-    let (returns, rest) = cut(rest)?;
-    let (judge, rest) = cut(rest)?;
-    let (steps, rest) = cut(rest)?;
-    let (goal, tell) = cut(rest)?;
+    let (rows, rest) = cut(line, ';')?;
+    let (from, rest) = cut(rest, ';')?;
+    let (only, rest) = cut(rest, ';')?;
+    let (order, rest) = cut(rest, ';')?;
+    let (returns, rest) = cut(rest, ';')?;
+    let (judge, rest) = cut(rest, ';')?;
+    let (steps, rest) = cut(rest, ';')?;
+    let (goal, tell) = cut(rest, ';')?;
     Ok(Asked {
         rows,
         from,
@@ -75,14 +47,6 @@ pub fn read_line(line: &str) -> Result<Asked<'_>, Fault> {
         goal,
         tell,
     })
-}
-
-pub fn number(word: &str) -> Result<u64, Fault> {
-    word.parse().ok().ok_or(Fault::Form)
-}
-
-pub fn small(word: &str) -> Result<u32, Fault> {
-    u32::try_from(number(word)?).ok().ok_or(Fault::Form)
 }
 
 pub fn goal(word: &str) -> Result<Goal, Fault> {
@@ -147,7 +111,8 @@ fn group(alloc: Global, text: &str) -> Result<Vec<Atom>, Fault> {
     Ok(found)
 }
 
-fn integer(word: &str) -> Result<i64, Fault> {
+/// A number below 2^32.
+fn natural(word: &str) -> Result<i64, Fault> {
     Ok(i64::from(small(word)?))
 }
 
@@ -155,7 +120,7 @@ fn integer(word: &str) -> Result<i64, Fault> {
 fn integers(alloc: Global, text: &str) -> Result<Values, Fault> {
     let mut found = Vec::new(alloc);
     'words: for word in text.split(' ') {
-        found.push(Value::Int(integer(word)?))?;
+        found.push(Value::Int(natural(word)?))?;
     }
     Ok(Values::of(alloc, found)?)
 }
@@ -164,12 +129,12 @@ fn atom(alloc: Global, text: &str) -> Result<Atom, Fault> {
     if text == "false" {
         return Ok(Atom::Const(Tri::False));
     }
-    let (name, test) = text.split_once(' ').ok_or(Fault::Form)?;
+    let (name, test) = cut(text, ' ')?;
     let column = column(name).ok_or(Fault::Form)?;
     if test == "null" {
         return Ok(Atom::IsNull { column, not: false });
     }
-    let (word, rest) = test.split_once(' ').ok_or(Fault::Form)?;
+    let (word, rest) = cut(test, ' ')?;
     match word {
         "between" => between(column, rest),
         "in" => Ok(Atom::Among {
@@ -181,8 +146,8 @@ fn atom(alloc: Global, text: &str) -> Result<Atom, Fault> {
 }
 
 fn between(column: ColRef, rest: &str) -> Result<Atom, Fault> {
-    let (low, high) = rest.split_once(' ').ok_or(Fault::Form)?;
-    let (low, high) = (integer(low)?, integer(high)?);
+    let (low, high) = cut(rest, ' ')?;
+    let (low, high) = (natural(low)?, natural(high)?);
     Ok(Atom::Between {
         column,
         low: Value::Int(low),
@@ -200,21 +165,9 @@ fn compare(column: ColRef, word: &str, rest: &str) -> Result<Atom, Fault> {
     })
 }
 
-fn comparison(word: &str) -> Result<Op, Fault> {
-    match word {
-        "=" => Ok(Op::Eq),
-        "<>" => Ok(Op::Ne),
-        "<" => Ok(Op::Lt),
-        "<=" => Ok(Op::Le),
-        ">" => Ok(Op::Gt),
-        ">=" => Ok(Op::Ge),
-        _ => Err(Fault::Form),
-    }
-}
-
 fn operand(word: &str) -> Result<Operand, Fault> {
     match column(word) {
         Some(column) => Ok(Operand::Column(column)),
-        None => Ok(Operand::Literal(Value::Int(integer(word)?))),
+        None => Ok(Operand::Literal(Value::Int(natural(word)?))),
     }
 }
