@@ -1,3 +1,2 @@
-pub mod Kept
 pub mod Apart
 pub mod Draws
