@@ -15,7 +15,8 @@ use Rattle.rv_node.specs.Sound.{Absent}
 use Rattle.rv_node.proofs.Rising.{All-of, list_all-of}
 use Rattle.rv_index.specs.Index.{Nodes, entries_of, cuts_of, IsNew, IsInserted}
 use Rattle.rv_index.proofs.Facts.{other_row}
-use Rattle.try_trees.specs.Filled.{IsFilled, IsNarrow}
+use Rattle.rv_loading.specs.Laid.{IsNarrow}
+use Rattle.try_trees.specs.Filled.{IsFilled}
 
 sorted_all : (P : IndexEntry → Type 0) (e : IndexEntry) (es : List IndexEntry) → P e → AllByRecursion P es → AllByRecursion P (sorted_in e es)
 sorted_all P e [] p all = (p, tt)
