@@ -230,15 +230,24 @@ fn act(
     }
 }
 
-pub fn told(alloc: Global, text: &str) -> Result<String, Fault> {
-    let mut records = Records::new(alloc);
+/// Does acts, and tells what they find.
+fn told_of(alloc: Global, records: &mut Records, text: &str) -> Result<String, Fault>
+    requires { Stands 0 0 records.old }
+{
     let mut told = String::new(alloc);
     let mut clock = Clock {
         last: 0,
         horizon: 0,
     };
     'acts: for text in text.split(", ") {
-        clock = act(alloc, &mut records, clock, &mut told, text)?;
+        clock = act(alloc, records, clock, &mut told, text)?;
     }
     Ok(format!(in alloc; "{} places{}", records.len(), told.as_str())?)
+}
+
+pub fn told(alloc: Global, text: &str) -> Result<String, Fault> {
+    let mut records = Records::new(alloc);
+    let told = told_of(alloc, &mut records, text);
+    drop(records);
+    told
 }
