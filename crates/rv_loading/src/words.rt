@@ -65,7 +65,7 @@ pub fn integer(word: &str) -> Result<i64, Fault> {
 }
 
 /// A comparison, as SQL writes it.
-pub fn comparison(word: &str) -> Result<Op, Fault> {
+pub(crate) fn comparison(word: &str) -> Result<Op, Fault> {
     match word {
         "=" => Ok(Op::Eq),
         "<>" => Ok(Op::Ne),

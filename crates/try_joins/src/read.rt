@@ -1,8 +1,7 @@
 //! What a line asks for, from its words.
 use rv_catalog::Goal;
-use rv_loading::{Fault, comparison, cut, small};
-use rv_restrict::{Atom, ColRef, Operand, Restriction, Tri};
-use rv_value::{Value, Values};
+use rv_loading::{Fault, column, cut, small};
+use rv_restrict::ColRef;
 use std::alloc::Global;
 
 /// The fields of a line, in their order.
@@ -66,18 +65,6 @@ pub fn tables(alloc: Global, text: &str) -> Result<Vec<u32>, Fault> {
     Ok(found)
 }
 
-/// A column: the place of its FROM item, a point, and a, b or c.
-fn column(word: &str) -> Option<ColRef> {
-    let (place, letter) = word.split_once('.')?;
-    let place = small(place).ok()?;
-    match letter {
-        "a" => Some(ColRef { place, column: 0 }),
-        "b" => Some(ColRef { place, column: 1 }),
-        "c" => Some(ColRef { place, column: 2 }),
-        _ => None,
-    }
-}
-
 /// Columns; none in an empty text.
 pub fn columns(alloc: Global, text: &str) -> Result<Vec<ColRef>, Fault> {
     let mut found = Vec::new(alloc);
@@ -88,86 +75,4 @@ pub fn columns(alloc: Global, text: &str) -> Result<Vec<ColRef>, Fault> {
         found.push(column(word).ok_or(Fault::Form)?)?;
     }
     Ok(found)
-}
-
-/// The groups that `&` parts; none in an empty text.
-pub fn restriction(alloc: Global, text: &str) -> Result<Restriction, Fault> {
-    let mut found = Vec::new(alloc);
-    if text.is_empty() {
-        return Ok(Restriction::from_groups(found));
-    }
-    'groups: for part in text.split('&') {
-        found.push(group(alloc, part)?)?;
-    }
-    Ok(Restriction::from_groups(found))
-}
-
-/// The atoms that `/` parts.
-fn group(alloc: Global, text: &str) -> Result<Vec<Atom>, Fault> {
-    let mut found = Vec::new(alloc);
-    'atoms: for part in text.split('/') {
-        found.push(atom(alloc, part)?)?;
-    }
-    Ok(found)
-}
-
-/// A number below 2^32.
-fn natural(word: &str) -> Result<i64, Fault> {
-    Ok(i64::from(small(word)?))
-}
-
-/// The integers that single spaces part.
-fn integers(alloc: Global, text: &str) -> Result<Values, Fault> {
-    let mut found = Vec::new(alloc);
-    'words: for word in text.split(' ') {
-        found.push(Value::Int(natural(word)?))?;
-    }
-    Ok(Values::of(alloc, found)?)
-}
-
-fn atom(alloc: Global, text: &str) -> Result<Atom, Fault> {
-    if text == "false" {
-        return Ok(Atom::Const(Tri::False));
-    }
-    let (name, test) = cut(text, ' ')?;
-    let column = column(name).ok_or(Fault::Form)?;
-    if test == "null" {
-        return Ok(Atom::IsNull { column, not: false });
-    }
-    let (word, rest) = cut(test, ' ')?;
-    match word {
-        "between" => between(column, rest),
-        "in" => Ok(Atom::Among {
-            column,
-            list: integers(alloc, rest)?,
-        }),
-        _ => compare(column, word, rest),
-    }
-}
-
-fn between(column: ColRef, rest: &str) -> Result<Atom, Fault> {
-    let (low, high) = cut(rest, ' ')?;
-    let (low, high) = (natural(low)?, natural(high)?);
-    Ok(Atom::Between {
-        column,
-        low: Value::Int(low),
-        high: Value::Int(high),
-    })
-}
-
-fn compare(column: ColRef, word: &str, rest: &str) -> Result<Atom, Fault> {
-    let op = comparison(word)?;
-    let operand = operand(rest)?;
-    Ok(Atom::Compare {
-        column,
-        op,
-        operand,
-    })
-}
-
-fn operand(word: &str) -> Result<Operand, Fault> {
-    match column(word) {
-        Some(column) => Ok(Operand::Column(column)),
-        None => Ok(Operand::Literal(Value::Int(natural(word)?))),
-    }
 }

@@ -5,9 +5,9 @@ ghost use Rattle.rv_loading.specs.Laid.{over_at};
 ghost use Rattle.rv_loading.specs.Naming.{is_column};
 ghost use Rattle.try_joins.specs.Asking.{HasIndexes, IsOurs, is_table};
 
-use crate::read::{Asked, columns, goal, restriction, tables};
+use crate::read::{Asked, columns, goal, tables};
 use rv_catalog::{IndexDef, Select};
-use rv_loading::{Fault, Loaded, is_column, names_only};
+use rv_loading::{Fault, Loaded, is_column, names_only, restriction};
 use rv_restrict::ColRef;
 use rv_value::{Items, NoMemory, Text, copy_slice};
 use std::alloc::Global;
@@ -56,7 +56,7 @@ pub fn select(alloc: Global, asked: &Asked) -> Result<Select, Fault> {
     let tables = tables(alloc, asked.from)?;
     let returns = columns(alloc, asked.returns)?;
     let order = columns(alloc, asked.order)?;
-    let only = restriction(alloc, asked.only)?;
+    let only = restriction(alloc, asked.only, "&", "/")?;
     Ok(Select {
         tables: Items::from_vec(tables),
         only,

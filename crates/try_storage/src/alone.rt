@@ -1,8 +1,8 @@
 //! Restrictions without a row: their ranges, their parts, and a comparison of two places that is bound at the second.
-use crate::conditions::{columns, restriction};
 use crate::orders::yes_or_no;
+use crate::placing::columns;
 use crate::ranges::told_bounds;
-use rv_loading::{Fault, cut, integer};
+use rv_loading::{Fault, cut, integer, restriction};
 use rv_restrict::{Atom, ColRef, Op, Operand, Restriction};
 use rv_value::{Duplicate, NoMemory, Value, Values};
 use std::alloc::Global;
@@ -14,7 +14,7 @@ pub fn told_range(alloc: Global, text: &str) -> Result<String, Fault> {
     if columns.len() > 4 {
         return Err(Fault::Form);
     }
-    let only = restriction(alloc, only)?.copy(alloc)?;
+    let only = restriction(alloc, only, " & ", " / ")?.copy(alloc)?;
     let range = only.range_for(alloc, columns.as_slice())?;
     Ok(told_bounds(alloc, &range)?)
 }
@@ -25,7 +25,7 @@ pub fn told_parts(alloc: Global, text: &str) -> Result<String, Fault> {
     let (second, only) = cut(rest, ';')?;
     let first = columns(alloc, first)?;
     let second = columns(alloc, second)?;
-    let only = restriction(alloc, only)?;
+    let only = restriction(alloc, only, " & ", " / ")?;
     Ok(compared(alloc, &only, first.as_slice(), second.as_slice())?)
 }
 

@@ -5,7 +5,6 @@
 
 mod alone;
 mod changes;
-mod conditions;
 mod delivered;
 mod fits;
 mod items;

@@ -1,6 +1,5 @@
 //! Values, keys and entries, compared.
-use crate::conditions::{value, values};
-use rv_loading::{Fault, cut, number};
+use rv_loading::{Fault, cut, number, value, values};
 use rv_value::{IndexEntry, Key, NoMemory, RowNo, Value, cmp_key, cmp_value, copy_slice};
 use std::alloc::Global;
 use std::cmp::Ordering;

@@ -1,5 +1,5 @@
 //! Restrictions and values, from their text.
-use rv_loading::{Fault, comparison, cut, integer};
+use crate::words::{Fault, comparison, cut, integer, small};
 use rv_restrict::{Atom, ColRef, Operand, Restriction, Tri};
 use rv_value::{SharedText, Text, Value, Values};
 use std::alloc::Global;
@@ -24,40 +24,40 @@ pub fn values(alloc: Global, text: &str) -> Result<Vec<Value>, Fault> {
     Ok(found)
 }
 
-/// The columns a, b and c.
-pub fn column(word: &str) -> Option<u32> {
-    match word {
-        "a" => Some(0),
-        "b" => Some(1),
-        "c" => Some(2),
+fn column_at(place: u32, letter: &str) -> Option<ColRef> {
+    match letter {
+        "a" => Some(ColRef { place, column: 0 }),
+        "b" => Some(ColRef { place, column: 1 }),
+        "c" => Some(ColRef { place, column: 2 }),
         _ => None,
     }
 }
 
-pub fn columns(alloc: Global, text: &str) -> Result<Vec<u32>, Fault> {
-    let mut found = Vec::new(alloc);
-    'words: for word in text.split(' ') {
-        found.push(column(word).ok_or(Fault::Form)?)?;
+/// The columns a, b and c: of place 0, or of the place that stands before a point.
+pub fn column(word: &str) -> Option<ColRef> {
+    match word.split_once('.') {
+        Some((place, letter)) => column_at(small(place).ok()?, letter),
+        None => column_at(0, word),
     }
-    Ok(found)
 }
 
-/// The groups that ` & ` parts; none in an empty text.
-pub fn restriction(alloc: Global, text: &str) -> Result<Restriction, Fault> {
+/// The groups that `and` parts, their atoms parted by `or`; none in an empty text. An atom is `true`, `false` or `unknown`,
+/// or a column with `null`, `present`, `between` and two values, `in` and some, `starts` and a text, or a comparison with a
+/// column or a value.
+pub fn restriction(alloc: Global, text: &str, and: &str, or: &str) -> Result<Restriction, Fault> {
     let mut found = Vec::new(alloc);
     if text.is_empty() {
         return Ok(Restriction::from_groups(found));
     }
-    'groups: for part in text.split(" & ") {
-        found.push(group(alloc, part)?)?;
+    'groups: for part in text.split(and) {
+        found.push(group(alloc, part, or)?)?;
     }
     Ok(Restriction::from_groups(found))
 }
 
-/// The atoms that ` / ` parts.
-fn group(alloc: Global, text: &str) -> Result<Vec<Atom>, Fault> {
+fn group(alloc: Global, text: &str, or: &str) -> Result<Vec<Atom>, Fault> {
     let mut found = Vec::new(alloc);
-    'atoms: for part in text.split(" / ") {
+    'atoms: for part in text.split(or) {
         found.push(atom(alloc, part)?)?;
     }
     Ok(found)
@@ -67,25 +67,15 @@ fn atom(alloc: Global, text: &str) -> Result<Atom, Fault> {
     let Some((name, test)) = text.split_once(' ') else {
         return Ok(Atom::Const(truth(text)?));
     };
-    let column = ColRef {
-        place: 0,
-        column: column(name).ok_or(Fault::Form)?,
-    };
+    let column = column(name).ok_or(Fault::Form)?;
     let Some((word, rest)) = test.split_once(' ') else {
         return null_test(column, test);
     };
     match word {
         "between" => between(alloc, column, rest),
-        "in" => Ok(Atom::Among {
-            column,
-            list: Values::of(alloc, values(alloc, rest)?)?,
-        }),
+        "in" => among(alloc, column, rest),
         "starts" => starts(alloc, column, rest),
-        _ => Ok(Atom::Compare {
-            column,
-            op: comparison(word)?,
-            operand: operand(alloc, rest)?,
-        }),
+        _ => compare(alloc, column, word, rest),
     }
 }
 
@@ -108,24 +98,41 @@ fn null_test(column: ColRef, word: &str) -> Result<Atom, Fault> {
 
 fn between(alloc: Global, column: ColRef, rest: &str) -> Result<Atom, Fault> {
     let (low, high) = cut(rest, ' ')?;
-    Ok(Atom::Between {
-        column,
-        low: value(alloc, low)?,
-        high: value(alloc, high)?,
-    })
+    let low = value(alloc, low)?;
+    match value(alloc, high) {
+        Ok(high) => Ok(Atom::Between { column, low, high }),
+        Err(fault) => {
+            drop(low);
+            Err(fault)
+        }
+    }
+}
+
+fn among(alloc: Global, column: ColRef, rest: &str) -> Result<Atom, Fault> {
+    let values = values(alloc, rest)?;
+    let list = Values::of(alloc, values)?;
+    Ok(Atom::Among { column, list })
 }
 
 fn starts(alloc: Global, column: ColRef, rest: &str) -> Result<Atom, Fault> {
     let text = rest.strip_prefix("'").ok_or(Fault::Form)?;
-    Ok(Atom::Starts {
+    let text = Text::read(alloc, text)?;
+    Ok(Atom::Starts { column, text })
+}
+
+fn compare(alloc: Global, column: ColRef, word: &str, rest: &str) -> Result<Atom, Fault> {
+    let op = comparison(word)?;
+    let operand = operand(alloc, rest)?;
+    Ok(Atom::Compare {
         column,
-        text: Text::read(alloc, text)?,
+        op,
+        operand,
     })
 }
 
 fn operand(alloc: Global, word: &str) -> Result<Operand, Fault> {
     match column(word) {
-        Some(column) => Ok(Operand::Column(ColRef { place: 0, column })),
+        Some(column) => Ok(Operand::Column(column)),
         None => Ok(Operand::Literal(value(alloc, word)?)),
     }
 }
