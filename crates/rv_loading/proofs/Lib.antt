@@ -1,4 +1,4 @@
 pub mod Laying
-pub mod Batches
+pub mod Fitting
+pub mod Offering
 pub mod Reading
-pub mod Columns

@@ -3,9 +3,9 @@ ghost use Rattle.std.specs.List.{flat_map};
 ghost use Rattle.std.specs.Option.{option_copied};
 ghost use Rattle.rv_reader.specs.Leaves.{run_from};
 ghost use Rattle.rv_reader.specs.Tables.{row_at};
-ghost use Rattle.rv_loading.specs.Laid.{IsNarrow, Laid};
+ghost use Rattle.rv_loading.specs.Laid.{Counted, IsNarrow};
 
-use crate::load::Layout;
+use crate::schema::Layout;
 use rv_judge::{Steps, Uncounted};
 use rv_reader::{Estimate, Reader, Sizes, Store};
 use rv_value::{IndexEntry, Items, NoMemory, Range, Record, RowNo};
@@ -13,7 +13,7 @@ use std::alloc::Global;
 
 /// The number of pages and of rows of a table at a snapshot.
 pub fn sizes_of<S: Store>(store: &S, layout: Layout, table: u32, snap: u64) -> Sizes
-    requires laid { Laid layout (S.shown store.now) }
+    requires laid { Counted layout (S.shown store.now) }
     requires there { table < layout.tables }
     requires kept { layout.horizon ≤ snap }
     requires known { snap ≤ layout.newest }
@@ -31,7 +31,7 @@ pub fn rows_of<S: Store + Reader<Ledger = Uncounted>>(
     table: u32,
     snap: u64,
 ) -> Result<Vec<Record>, NoMemory>
-    requires laid { Laid layout (S.shown store.now) }
+    requires laid { Counted layout (S.shown store.now) }
     requires there { table < layout.tables }
     requires kept { layout.horizon ≤ snap }
     requires known { snap ≤ layout.newest }
@@ -56,7 +56,7 @@ pub fn row_of<S: Store + Reader<Ledger = Uncounted>>(
     snap: u64,
     row: RowNo,
 ) -> Result<Option<Record>, NoMemory>
-    requires laid { Laid layout (S.shown store.now) }
+    requires laid { Counted layout (S.shown store.now) }
     requires there { table < layout.tables }
     requires kept { layout.horizon ≤ snap }
     requires known { snap ≤ layout.newest }
@@ -76,7 +76,7 @@ pub fn leaves_of<S: Store + Reader<Ledger = Uncounted>>(
     from: Option<IndexEntry>,
     range: &Range,
 ) -> Result<Vec<Items<IndexEntry>>, NoMemory>
-    requires laid { Laid layout (S.shown store.now) }
+    requires laid { Counted layout (S.shown store.now) }
     requires there { index < layout.indexes }
     requires kept { layout.horizon ≤ snap }
     requires known { snap ≤ layout.newest }
@@ -105,7 +105,7 @@ pub fn estimate_of<S: Store>(
     snap: u64,
     range: &Range,
 ) -> Estimate
-    requires laid { Laid layout (S.shown store.now) }
+    requires laid { Counted layout (S.shown store.now) }
     requires there { index < layout.indexes }
     requires kept { layout.horizon ≤ snap }
     requires known { snap ≤ layout.newest }

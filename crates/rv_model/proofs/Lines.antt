@@ -26,7 +26,8 @@ use Rattle.rv_judge.specs.declared.events.Strategy.TheVariants as strategies
 use Rattle.rv_judge.specs.declared.events.Control.{Control}
 use Rattle.rv_judge.specs.declared.events.Control.TheVariants as controls
 use Rattle.rv_lang.specs.Tokens.{quotes_twice}
-use Rattle.rv_model.specs.Transcript.{limit_word, strategy_word, control_word, event_words, count_words, trace_words, words_text, IsName, is_name_byte, is_capital, IsPlainEvent, IsPlainTrace, value_text, more_text, values_text, reply_text, refusal_text, rival_text, entry_text, text, IsPlainValue, IsPlainReply, IsPlainRefusal, IsPlainRival, IsPlain, SameButPhase, AllSameButPhase}
+use Rattle.rv_judge.specs.Words.{control_word, strategy_word}
+use Rattle.rv_model.specs.Transcript.{limit_word, event_words, count_words, trace_words, words_text, IsName, is_name_byte, is_capital, IsPlainEvent, IsPlainTrace, value_text, more_text, values_text, reply_text, refusal_text, rival_text, entry_text, text, IsPlainValue, IsPlainReply, IsPlainRefusal, IsPlainRival, IsPlain, SameButPhase, AllSameButPhase}
 use Rattle.rv_model.proofs.Cuts.{cut}
 use Rattle.rv_model.proofs.Values.{numeric, decimal_pass, signed_pass}
 use Rattle.rv_model.proofs.Replies.{reply_same}

@@ -14,7 +14,8 @@ use Rattle.rv_judge.specs.declared.events.Control.TheVariants as controls
 use Rattle.rv_lang.specs.declared.reply.ShownEvent.{ShownEvent}
 use Rattle.rv_lang.specs.declared.reply.ShownEvent.TheVariants as events
 use Rattle.rv_lang.specs.declared.reply.Shown.{Shown}
-use Rattle.rv_model.specs.Transcript.{strategy_word, control_word, event_words, count_words, trace_words, words_text, IsName, is_name_byte, is_capital, IsPlainEvent, IsPlainTrace}
+use Rattle.rv_judge.specs.Words.{control_word, strategy_word}
+use Rattle.rv_model.specs.Transcript.{event_words, count_words, trace_words, words_text, IsName, is_name_byte, is_capital, IsPlainEvent, IsPlainTrace}
 use Rattle.rv_model.proofs.Cuts.{Stops, cut}
 use Rattle.rv_model.proofs.Values.{numeric, decimal_pass, value_back}
 

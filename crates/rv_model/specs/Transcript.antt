@@ -5,10 +5,7 @@ use Rattle.std.specs.List.{list_all, AllByRecursion}
 use Rattle.std.specs.Fmt.{signed_decimal}
 use Rattle.rv_value.specs.declared.value.Value.{Value}
 use Rattle.rv_value.specs.declared.value.Value.TheVariants.{Null, Int, Str}
-use Rattle.rv_judge.specs.declared.events.Strategy.{Strategy}
-use Rattle.rv_judge.specs.declared.events.Strategy.TheVariants as strategies
-use Rattle.rv_judge.specs.declared.events.Control.{Control}
-use Rattle.rv_judge.specs.declared.events.Control.TheVariants as controls
+use Rattle.rv_judge.specs.Words.{control_word, strategy_word}
 use Rattle.rv_lang.specs.Tokens.{quotes_twice}
 use Rattle.rv_lang.specs.declared.reply.Which.{Which}
 use Rattle.rv_lang.specs.declared.reply.Which.TheVariants as limits
@@ -81,24 +78,6 @@ refusal_text (refusals.NoCursor name) = codes "no cursor " ++ name
 refusal_text (refusals.CursorOpen name) = codes "cursor open " ++ name
 refusal_text (refusals.Limit which n) = codes "limit " ++ limit_word which ++ 32 ∷ decimal n
 refusal_text (refusals.Duplicate row by) = codes "duplicate " ++ decimal row.0 ++ rival_text by
-
--- the word for a strategy
-abbrev pub strategy_word : Strategy → List ℕ
-strategy_word strategies.Table = codes "table"
-strategy_word strategies.BackgroundOnly = codes "background-only"
-strategy_word strategies.FastFirst = codes "fast-first"
-strategy_word strategies.Sorted = codes "sorted"
-strategy_word strategies.IndexOnly = codes "index-only"
-strategy_word strategies.Union = codes "union"
-
--- the word for a control
-abbrev pub control_word : Control → List ℕ
-control_word controls.Building = codes "building"
-control_word controls.ForegroundAlone = codes "foreground"
-control_word controls.BackgroundAlone = codes "background"
-control_word controls.FinalList = codes "final-list"
-control_word controls.FinalTable = codes "final-table"
-control_word controls.Done = codes "done"
 
 -- the words for an event
 abbrev pub event_words : ShownEvent → List (List ℕ)

@@ -7,9 +7,11 @@ pub mod offers;
 pub mod queue;
 pub mod state;
 pub mod transactions;
+pub mod words;
 
 pub use entry::Entry;
 pub use queue::Queue;
 pub use rv_lang::{Refusal, Reply, Rival, Shown, ShownEvent, Which};
 pub use state::{Cursor, Offer, State};
 pub use transactions::{Transaction, Transactions};
+pub use words::limit_word;

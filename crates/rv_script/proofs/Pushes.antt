@@ -5,7 +5,8 @@ use Rattle.rv_value.specs.declared.value.Value.{Value}
 use Rattle.std.proofs.lemmas.Grind.{flat_map-append}
 use Rattle.rv_lang.specs.declared.reply.ShownEvent.{ShownEvent}
 use Rattle.rv_lang.specs.declared.reply.Shown.{Shown}
-use Rattle.rv_model.specs.Transcript.{more_text, value_text, values_text, words_text, event_words, count_words, trace_words, strategy_word}
+use Rattle.rv_judge.specs.Words.{strategy_word}
+use Rattle.rv_model.specs.Transcript.{more_text, value_text, values_text, words_text, event_words, count_words, trace_words}
 
 pub more_text-push : (vs : List Value) (v : Value) → more_text (vs ++ v ∷ []) ≡ more_text vs ++ (codes ", " ++ value_text v)
 more_text-push [] v = simp append-nil

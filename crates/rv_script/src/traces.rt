@@ -1,10 +1,9 @@
 ghost use Rattle.std.specs.Prelude.{◌≡◌, ◌++◌, ◌∷◌, [], codes, decimal, flat_map};
 ghost use Rattle.rv_io.specs.Pieces.{Goes};
-ghost use Rattle.rv_model.specs.Transcript.{words_text, trace_words, event_words, count_words, control_word, strategy_word};
+ghost use Rattle.rv_model.specs.Transcript.{words_text, trace_words, event_words, count_words};
 
 use itoa::Buffer;
 use rv_io::{Failed, Sink, write_next};
-use rv_judge::{Control, Strategy};
 use rv_model::{Shown, ShownEvent};
 
 /// A trace's text: the strategy, the events and the counts, each word behind a space.
@@ -16,7 +15,7 @@ pub fn write_trace<K: Sink>(
     ensures { Goes sofar (K.written sink.old) (K.written sink.new) (K.faults sink.old) (K.faults sink.new) result (codes "trace" ++ words_text (trace_words shown.now)) }
 {
     let head = write_next(sink, sofar, b"trace");
-    let strategy = write_word(sink, head, strategy_word(shown.strategy));
+    let strategy = write_word(sink, head, shown.strategy.word().as_bytes());
     let events = write_events(sink, strategy, shown.events.as_slice());
     write_counts(sink, events, shown)
 }
@@ -59,7 +58,7 @@ fn write_event<K: Sink>(
     ensures { Goes sofar (K.written sink.old) (K.written sink.new) (K.faults sink.old) (K.faults sink.new) result (words_text (event_words event.now)) }
 {
     match event {
-        ShownEvent::At(control) => write_word(sink, sofar, control_word(*control)),
+        ShownEvent::At(control) => write_word(sink, sofar, (*control).word().as_bytes()),
         ShownEvent::Scan(name) => write_words(sink, sofar, b"scan", name.as_str().as_bytes()),
         ShownEvent::List(name, keys) => { write_list(sink, sofar, name.as_str().as_bytes(), *keys) }
         ShownEvent::Drop(name) => write_words(sink, sofar, b"drop", name.as_str().as_bytes()),
@@ -116,30 +115,4 @@ fn write_named_count<K: Sink>(
 {
     let front = write_word(sink, sofar, word);
     write_count(sink, front, number)
-}
-
-fn strategy_word(strategy: Strategy) -> &'static [u8]
-    ensures { result.now ≡ strategy_word strategy }
-{
-    match strategy {
-        Strategy::Table => b"table",
-        Strategy::BackgroundOnly => b"background-only",
-        Strategy::FastFirst => b"fast-first",
-        Strategy::Sorted => b"sorted",
-        Strategy::IndexOnly => b"index-only",
-        Strategy::Union => b"union",
-    }
-}
-
-fn control_word(control: Control) -> &'static [u8]
-    ensures { result.now ≡ control_word control }
-{
-    match control {
-        Control::Building => b"building",
-        Control::ForegroundAlone => b"foreground",
-        Control::BackgroundAlone => b"background",
-        Control::FinalList => b"final-list",
-        Control::FinalTable => b"final-table",
-        Control::Done => b"done",
-    }
 }

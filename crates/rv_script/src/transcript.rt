@@ -6,7 +6,7 @@ use crate::traces::write_trace;
 use crate::values::write_row;
 use itoa::Buffer;
 use rv_io::{Failed, Sink, write_next};
-use rv_model::{Entry, Refusal, Reply, Rival, Which};
+use rv_model::{Entry, Refusal, Reply, Rival, Which, limit_word};
 
 /// Appends the transcript of entries: two lines for each, the session's number, a space and the text as
 /// given, then `= ` and the text of the reply. Each line takes at least one write. After a write that
@@ -164,28 +164,5 @@ fn write_rival<K: Sink>(sink: &mut K, sofar: Result<(), Failed>, by: Rival) -> R
         Rival::View => sofar,
         Rival::Commit(commit) => write_number(sink, sofar, b" by commit ", commit),
         Rival::Txn(txn) => write_number(sink, sofar, b" by txn ", txn),
-    }
-}
-
-fn limit_word(which: Which) -> &'static [u8]
-    ensures { result.now ≡ limit_word which }
-{
-    match which {
-        Which::Name => b"name",
-        Which::Text => b"text",
-        Which::Columns => b"columns",
-        Which::Key => b"key",
-        Which::List => b"list",
-        Which::Atoms => b"atoms",
-        Which::Groups => b"groups",
-        Which::Joined => b"joined",
-        Which::Returned => b"returned",
-        Which::Order => b"order",
-        Which::Steps => b"steps",
-        Which::Tables => b"tables",
-        Which::Indexes => b"indexes",
-        Which::Cursors => b"cursors",
-        Which::Rows => b"rows",
-        Which::Pending => b"pending",
     }
 }

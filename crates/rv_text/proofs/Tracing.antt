@@ -13,7 +13,8 @@ use Rattle.rv_judge.specs.declared.events.Control.TheVariants as controls
 use Rattle.rv_lang.specs.declared.reply.ShownEvent.{ShownEvent}
 use Rattle.rv_lang.specs.declared.reply.ShownEvent.TheVariants as events
 use Rattle.rv_lang.specs.declared.reply.Shown.{Shown}
-use Rattle.rv_model.specs.Transcript.{control_word, count_words, event_words, is_capital, is_name_byte, words_text, strategy_word, trace_words, IsName, IsPlainEvent, IsPlainTrace}
+use Rattle.rv_judge.specs.Words.{control_word, strategy_word}
+use Rattle.rv_model.specs.Transcript.{count_words, event_words, is_capital, is_name_byte, words_text, trace_words, IsName, IsPlainEvent, IsPlainTrace}
 use Rattle.rv_model.proofs.Values.{numeric, decimal_pass}
 use Rattle.rv_text.specs.declared.traces.Tail.{Tail}
 use Rattle.rv_text.specs.Values.{number_at}

@@ -8,7 +8,8 @@ use Rattle.rv_judge.specs.declared.events.Control.TheVariants as controls
 use Rattle.rv_lang.specs.declared.reply.ShownEvent.{ShownEvent}
 use Rattle.rv_lang.specs.declared.reply.ShownEvent.TheVariants as events
 use Rattle.rv_lang.specs.declared.reply.Shown.{Shown}
-use Rattle.rv_model.specs.Transcript.{strategy_word, control_word, is_capital, is_name_byte}
+use Rattle.rv_judge.specs.Words.{control_word, strategy_word}
+use Rattle.rv_model.specs.Transcript.{is_capital, is_name_byte}
 use Rattle.rv_text.specs.declared.traces.Tail.{Tail}
 use Rattle.rv_text.specs.Values.{number_at}
 

@@ -6,6 +6,5 @@ pub mod reading;
 pub mod replies;
 pub mod traces;
 pub mod values;
-pub mod words;
 
 pub use reading::{TextRead, read_text};

@@ -8,8 +8,7 @@ ghost use Rattle.rv_text.specs.Replies.{after, duplicate_at, limit_at, lone_at, 
 use crate::cuts::{after, cut_at};
 use crate::traces::{name, trace};
 use crate::values::{number, values};
-use crate::words::limit_word;
-use rv_model::{Refusal, Reply, Rival, Which};
+use rv_model::{Refusal, Reply, Rival, Which, limit_word};
 use rv_value::{NoMemory, RowNo, Shared, Text};
 use std::alloc::Global;
 

@@ -2,13 +2,13 @@
 ghost use Rattle.std.specs.Prelude.{◌≡◌, ◌<◌, ◌∷◌, ◌||◌, ◌&&◌, true, false, IfOk, IfSome, List, MatchOption, bytes_eq, codes, find, length, option_map};
 ghost use Rattle.std.specs.List.{list_all};
 ghost use Rattle.std.specs.Option.{option_copied};
-ghost use Rattle.rv_model.specs.Transcript.{control_word, is_capital, is_name_byte, strategy_word};
+ghost use Rattle.rv_judge.specs.Words.{control_word, strategy_word};
+ghost use Rattle.rv_model.specs.Transcript.{is_capital, is_name_byte};
 ghost use Rattle.rv_text.specs.Parts.{next_by, part_by, tail_by};
 ghost use Rattle.rv_text.specs.Traces.{Event, counted, counts_at, event_step, events_before, is_name, step_at, told, trace_at, words, words_of};
 
 use crate::cuts::cut_at;
 use crate::values::number;
-use crate::words::{control_word, strategy_word};
 use rv_judge::{Control, Strategy};
 use rv_model::{Shown, ShownEvent};
 use rv_value::{Items, NoMemory, Text};
@@ -38,7 +38,7 @@ fn strategy_among(strategies: &[Strategy], word: &[u8]) -> Option<Strategy>
 {
     let mut rest = strategies;
     'strategies: while let [strategy, more @ ..] = rest {
-        if strategy_word(*strategy) == word {
+        if (*strategy).word().as_bytes() == word {
             return Some(*strategy);
         }
         rest = more;
@@ -52,7 +52,7 @@ fn control_among(controls: &[Control], word: &[u8]) -> Option<Control>
 {
     let mut rest = controls;
     'controls: while let [control, more @ ..] = rest {
-        if control_word(*control) == word {
+        if (*control).word().as_bytes() == word {
             return Some(*control);
         }
         rest = more;

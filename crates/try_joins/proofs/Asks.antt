@@ -1,4 +1,4 @@
--- A select of ours can be planned over the loaded store.
+-- A select of ours can be planned over the store that was loaded.
 use Rattle.std.proofs.Common.{zero, suc, ◌≡◌, ℕ, ◌<◌, ◌≤◌, ◌+◌, ◌^◌, List, [], ◌∷◌, ◌++◌, true, false, cond, nat_eq, nat_lt, refl, sym, ◌∙◌, arith, length, subst, slice_index_or}
 use Rattle.std.proofs.lemmas.Bool.Decides.{nat_tests}
 use Rattle.std.proofs.lemmas.Grind.{common_steps}
@@ -6,32 +6,24 @@ use Rattle.std.proofs.lemmas.List.{get_or_append_left}
 use Rattle.std.specs.List.{list_all}
 use Rattle.std.specs.Cmp.{first_so, second_so}
 use Rattle.std.proofs.lemmas.Bool.{ltb-true}
-use Rattle.rv_value.specs.declared.record.Record.{Record}
 use Rattle.rv_restrict.specs.declared.atom.ColRef.{ColRef}
 use Rattle.rv_catalog.specs.declared.def.Select.{Select}
 use Rattle.rv_catalog.specs.declared.def.IndexDef.{IndexDef}
 use Rattle.rv_reader.specs.Shown.{Shown}
-use Rattle.rv_reader.specs.Storing.{AreColumns, AreWide}
-use Rattle.rv_join.specs.Asking.{CanPlan, IsIndexAt, have_column, index_at, indexes_from, no_index, select_uses, table_at}
-use Rattle.rv_join.proofs.Naming.{used_passes}
-use Rattle.try_joins.specs.Laying.{Offers, columns_of, table_of}
-use Rattle.try_joins.specs.Asking.{AreIndexes, HasIndexes, IsOurs, is_column, is_table}
-use Rattle.try_joins.proofs.Kept.{are_columns}
+use Rattle.rv_join.specs.Asking.{CanPlan, IsIndexAt, index_at, indexes_from, no_index, select_uses, table_at}
+use Rattle.rv_join.proofs.Naming.{have_wide, used_passes}
+use Rattle.rv_loading.specs.declared.schema.Loaded.{Loaded}
+use Rattle.rv_loading.specs.Laid.{Offers, over_at}
+use Rattle.rv_loading.specs.Naming.{is_column}
+use Rattle.try_joins.specs.Asking.{AreIndexes, HasIndexes, IsOurs, is_table}
 
-uses_is : (s : Select) (c : ColRef) → IsOurs s → select_uses s c ≡ true → is_column (length s.tables) c ≡ true
-uses_is s c ours u = used_passes (is_column (length s.tables)) s c ours.returns ours.order ours.only u
+uses_is : (loaded : Loaded) (s : Select) (c : ColRef) → IsOurs loaded s → select_uses s c ≡ true → is_column (length s.tables) loaded.schema.width c ≡ true
+uses_is loaded s c ours u = used_passes (is_column (length s.tables) loaded.schema.width) s c ours.returns ours.order ours.only u
 
-table_low : (tables : List ℕ) (p : ℕ) → list_all is_table tables ≡ true → p < length tables → slice_index_or tables p 0 < 4
-table_low [] p all le = absurd (omega (arith, le))
-table_low (t ∷ tables) zero all le = ltb-true t 4 (first_so (is_table t) (list_all is_table tables) all)
-table_low (t ∷ tables) (suc p) all le = table_low tables p (second_so (is_table t) (list_all is_table tables) all) (omega (arith, le))
-
-wide_has : (c : ℕ) (rows : List Record) → c < 3 → AreWide 3 rows → have_column c rows ≡ true
-wide_has c [] low wide = refl
-wide_has c (r ∷ rows) low wide = let long = wide.0 in let tail = wide_has c rows low wide.1 in let here : nat_lt c (length r.values) ≡ true = test (length r.values) long in rw here tail
-  where
-    test : (n : ℕ) → n ≡ 3 → nat_lt c n ≡ true
-    test n h = grind (arith, nat_tests, h, low)
+table_low : (n : ℕ) (tables : List ℕ) (p : ℕ) → list_all (is_table n) tables ≡ true → p < length tables → slice_index_or tables p 0 < n
+table_low n [] p all le = absurd (omega (arith, le))
+table_low n (t ∷ tables) zero all le = ltb-true t n (first_so (is_table n t) (list_all (is_table n) tables) all)
+table_low n (t ∷ tables) (suc p) all le = table_low n tables p (second_so (is_table n t) (list_all (is_table n) tables) all) (omega (arith, le))
 
 from_less : (table n : ℕ) (ds : List IndexDef) → length (indexes_from table n ds) ≤ length ds
 from_less table n [] = omega arith
@@ -40,39 +32,36 @@ from_less table n (d ∷ ds) = let tail = from_less table (n + 1) ds in elim (na
   | false ↦ omega (arith, tail)
 ]
 
-index_is : (indexes : List IndexDef) (shown : Shown) (snap count i : ℕ) → count ≤ 6 → AreIndexes count indexes → Offers shown snap → i < count → IsIndexAt shown (index_at indexes i).table snap i (index_at indexes i).columns
-index_is indexes shown snap count i few are offers low = subst (λ t. IsIndexAt shown t snap i (index_at indexes i).columns) (sym (are.table i low)) (subst (IsIndexAt shown (table_of i) snap i) (sym (are.columns i low)) (record {
-  can = offers.can i six;
-  some = columns.some;
-  few = columns.few;
-  different = columns.different;
-  entries = offers.entries i six;
-  cuts = offers.cuts i six;
-}))
-  where
-    six : i < 6
-    six = omega (arith, few, low)
+index_is : (loaded : Loaded) (indexes : List IndexDef) (shown : Shown) (count i : ℕ) → count ≤ loaded.layout.indexes → AreIndexes loaded count indexes → Offers loaded shown → i < count → IsIndexAt shown (index_at indexes i).table loaded.snap i (index_at indexes i).columns
+index_is loaded indexes shown count i few are offers low =
+    let over = over_at loaded.schema.indexes i in
+    let one = offers.index i (omega (arith, few, low)) in
+    subst (λ t. IsIndexAt shown t loaded.snap i (index_at indexes i).columns) (sym (are.table i low)) (subst (IsIndexAt shown over.table loaded.snap i) (sym (are.columns i low)) (record {
+      can = one.can;
+      some = one.columns.some;
+      few = one.columns.few;
+      different = one.columns.different;
+      entries = one.entries;
+      cuts = one.cuts;
+    }))
 
-    columns : AreColumns 3 (columns_of i)
-    columns = are_columns 3 i refl six
-
-pub can_plan : (s : Select) (indexes : List IndexDef) (shown : Shown) (snap : ℕ) → IsOurs s → HasIndexes indexes → Offers shown snap → CanPlan s indexes shown snap
-can_plan s indexes shown snap ours has offers =
+pub can_plan : (loaded : Loaded) (s : Select) (indexes : List IndexDef) (shown : Shown) → IsOurs loaded s → HasIndexes loaded indexes → Offers loaded shown → CanPlan s indexes shown loaded.snap
+can_plan loaded s indexes shown ours has offers =
     let long = has.are.long in
     record {
       some = ours.some;
       joined = ours.joined;
-      ascend = λ p le. offers.ascend (table_at s p) (table_low s.tables p ours.there le);
-      read = λ p le. offers.read (table_at s p) (table_low s.tables p ours.there le);
+      ascend = λ p le. offers.ascend (table_at s p) (table_low loaded.layout.tables s.tables p ours.there le);
+      read = λ p le. offers.read (table_at s p) (table_low loaded.layout.tables s.tables p ours.there le);
       places = λ c u. inside c u;
-      columns = λ c u. wide_has c.column (shown.rows (table_at s c.place) snap) (ltb-true c.column 3 (second_so (nat_lt c.place (length s.tables)) (nat_lt c.column 3) (uses_is s c ours u))) (offers.wide (table_at s c.place) (table_low s.tables c.place ours.there (inside c u)));
+      columns = λ c u. have_wide c.column loaded.schema.width (shown.rows (table_at s c.place) loaded.snap) (offers.wide (table_at s c.place) (table_low loaded.layout.tables s.tables c.place ours.there (inside c u))) (ltb-true c.column loaded.schema.width (second_so (nat_lt c.place (length s.tables)) (nat_lt c.column loaded.schema.width) (uses_is loaded s c ours u)));
       numbers = small (length indexes) has.count has.few long;
-      each = λ i le. index_is indexes shown snap has.count i has.few has.are offers (omega (arith, le, long));
+      each = λ i le. index_is loaded indexes shown has.count i has.there has.are offers (omega (arith, le, long));
       few = λ p le. eight (length (indexes_from (table_at s p) 0 indexes)) (length indexes) has.count has.few (from_less (table_at s p) 0 indexes) long;
     }
   where
     inside : (c : ColRef) → select_uses s c ≡ true → c.place < length s.tables
-    inside c u = ltb-true c.place (length s.tables) (first_so (nat_lt c.place (length s.tables)) (nat_lt c.column 3) (uses_is s c ours u))
+    inside c u = ltb-true c.place (length s.tables) (first_so (nat_lt c.place (length s.tables)) (nat_lt c.column loaded.schema.width) (uses_is loaded s c ours u))
 
     small : (n m : ℕ) → m ≤ 6 → n ≡ m → n < 2 ^ 32
     small n m few h = omega (arith, few, h)
@@ -85,11 +74,11 @@ last_index [] d = refl
 last_index (x ∷ indexes) d = last_index indexes d
 
 -- one more index
-pub indexes_more : (n : ℕ) (indexes : List IndexDef) (d : IndexDef) → AreIndexes n indexes → d.table ≡ table_of n → d.columns ≡ columns_of n → AreIndexes (n + 1) (indexes ++ d ∷ [])
-indexes_more n indexes d are table columns = record {
+pub indexes_more : (loaded : Loaded) (n : ℕ) (indexes : List IndexDef) (d : IndexDef) → AreIndexes loaded n indexes → d.table ≡ (over_at loaded.schema.indexes n).table → d.columns ≡ (over_at loaded.schema.indexes n).columns → AreIndexes loaded (n + 1) (indexes ++ d ∷ [])
+indexes_more loaded n indexes d are table columns = record {
   long = let long = are.long in grind (arith, common_steps, long);
-  table = λ i le. by_place (λ (x : IndexDef) (k : ℕ). x.table ≡ table_of k) are.table table i le;
-  columns = λ i le. by_place (λ (x : IndexDef) (k : ℕ). x.columns ≡ columns_of k) are.columns columns i le;
+  table = λ i le. by_place (λ (x : IndexDef) (k : ℕ). x.table ≡ (over_at loaded.schema.indexes k).table) are.table table i le;
+  columns = λ i le. by_place (λ (x : IndexDef) (k : ℕ). x.columns ≡ (over_at loaded.schema.indexes k).columns) are.columns columns i le;
 }
   where
     below_n : (i : ℕ) → nat_lt i n ≡ true → i < n

@@ -1,3 +1,2 @@
-pub mod Laying
 pub mod Asking
 pub mod Driving

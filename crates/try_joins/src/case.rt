@@ -6,17 +6,17 @@ ghost use Rattle.rv_plain.specs.Kept.{shown_of};
 ghost use Rattle.rv_join.specs.Levels.{table_rows};
 ghost use Rattle.rv_join.specs.Plans.{PlanFits, plan_rest};
 ghost use Rattle.try_joins.specs.Asking.{HasIndexes, IsOurs};
-ghost use Rattle.try_joins.specs.Laying.{Offers};
+ghost use Rattle.rv_loading.specs.Laid.{Offers};
 
 use crate::drive::{Driven, drive};
-use crate::load::{Filling, Loaded, load, read_filling};
-use crate::read::{Asked, Fault, read_line, small};
-use crate::select::{indexes, select};
+use crate::load::{Base, Filling, load_base, read_filling};
+use crate::read::{Asked, read_line};
+use crate::select::{indexes, is_ours, select};
 use crate::told::{rows_text, told};
-use crate::trace::trace_text;
 use rv_catalog::{IndexDef, Select};
 use rv_join::Plan;
 use rv_judge::{Contrary, Judge, Patient, Steps, Threshold, Trace, Uncounted};
+use rv_loading::{Fault, Loaded, small, trace_text};
 use rv_reader::Reader;
 use rv_value::NoMemory;
 use std::alloc::Global;
@@ -42,19 +42,28 @@ fn followed<R: Reader<Ledger = Uncounted>>(
 fn planned<R: Reader<Ledger = Uncounted>>(
     alloc: Global,
     reader: &R,
-    snap: u64,
+    loaded: &Loaded,
     indexes: &[IndexDef],
     select: &Select,
     judge: &mut Box<dyn Judge>,
     so_many: u32,
 ) -> Result<(Driven, Trace), NoMemory>
-    requires offers { Offers (R.shown reader.now) snap }
-    requires indexes { HasIndexes indexes.now }
-    requires select { IsOurs select.now }
-    ensures { IfOk result (λ found. found.0.ended ≡ true → IsPermutation (offers_over select.now (table_rows (R.shown reader.now) snap)) found.0.offers.items) }
+    requires offers { Offers loaded.now (R.shown reader.now) }
+    requires indexes { HasIndexes loaded.now indexes.now }
+    requires select { IsOurs loaded.now select.now }
+    ensures { IfOk result (λ found. found.0.ended ≡ true → IsPermutation (offers_over select.now (table_rows (R.shown reader.now) loaded.now.snap)) found.0.offers.items) }
 {
     let mut steps = Steps::new(Uncounted);
-    let mut plan = Plan::open(alloc, reader, select, indexes, snap, 1, false, &mut steps)?;
+    let mut plan = Plan::open(
+        alloc,
+        reader,
+        select,
+        indexes,
+        loaded.snap,
+        1,
+        false,
+        &mut steps,
+    )?;
     let found = followed(alloc, reader, &mut plan, judge, so_many, &mut steps);
     drop(plan);
     found
@@ -81,42 +90,42 @@ fn read_ruling(word: &str) -> Result<Ruling, Fault> {
 fn run<R: Reader<Ledger = Uncounted>>(
     alloc: Global,
     reader: &R,
-    snap: u64,
+    loaded: &Loaded,
     indexes: &[IndexDef],
     select: &Select,
     ruling: Ruling,
     so_many: u32,
 ) -> Result<(Driven, Trace), NoMemory>
-    requires offers { Offers (R.shown reader.now) snap }
-    requires indexes { HasIndexes indexes.now }
-    requires select { IsOurs select.now }
-    ensures { IfOk result (λ found. found.0.ended ≡ true → IsPermutation (offers_over select.now (table_rows (R.shown reader.now) snap)) found.0.offers.items) }
+    requires offers { Offers loaded.now (R.shown reader.now) }
+    requires indexes { HasIndexes loaded.now indexes.now }
+    requires select { IsOurs loaded.now select.now }
+    ensures { IfOk result (λ found. found.0.ended ≡ true → IsPermutation (offers_over select.now (table_rows (R.shown reader.now) loaded.now.snap)) found.0.offers.items) }
 {
     let mut judge: Box<dyn Judge> = match ruling {
         Ruling::Threshold => Box::new(alloc, Threshold::new())?,
         Ruling::Contrary => Box::new(alloc, Contrary::new())?,
         Ruling::Patient => Box::new(alloc, Patient::new())?,
     };
-    planned(alloc, reader, snap, indexes, select, &mut judge, so_many)
+    planned(alloc, reader, loaded, indexes, select, &mut judge, so_many)
 }
 
 /// The same over what was loaded.
 fn driven(
     alloc: Global,
-    loaded: &Loaded,
+    base: &Base,
     asked: &Asked,
     select: &Select,
 ) -> Result<(Driven, Trace), Fault>
-    requires loaded { Offers (shown_of loaded.now.store) loaded.now.snap }
-    requires select { IsOurs select.now }
+    requires loaded { Offers base.now.loaded (shown_of base.now.store) }
+    requires select { IsOurs base.now.loaded select.now }
 {
     let ruling = read_ruling(asked.judge)?;
     let steps = small(asked.steps)?;
-    let indexes = indexes(alloc, loaded.indexes())?;
+    let indexes = indexes(alloc, &base.loaded, base.indexes())?;
     let found = run(
         alloc,
-        &loaded.store,
-        loaded.snap,
+        &base.store,
+        &base.loaded,
         indexes.as_slice(),
         select,
         ruling,
@@ -156,22 +165,18 @@ fn told_reads(alloc: Global, driven: Driven, trace: &Trace) -> Result<String, Fa
 
 fn told_rows(alloc: Global, driven: &Driven, trace: &Trace) -> Result<String, Fault> {
     let rows = rows_text(alloc, driven)?;
-    let trace = trace_text(alloc, trace)?;
-    Ok(format!(in alloc; "{}; {}", rows.as_str(), trace.as_str())?)
+    let trace = trace_text(alloc, trace, &["0", "1", "2", "3", "4", "5"])?;
+    Ok(format!(in alloc; "{}; trace {}", rows.as_str(), trace.as_str())?)
 }
 
 /// What comes of a line.
 pub fn answer(alloc: Global, line: &str) -> Result<String, Fault> {
     let asked = read_line(line)?;
     let filling: Filling = read_filling(asked.rows)?;
-    match select(alloc, &asked)? {
-        Some(select) => {
-            let told = answered(alloc, filling, &asked, &select);
-            drop(select);
-            told
-        }
-        None => Err(Fault::Form),
-    }
+    let select = select(alloc, &asked)?;
+    let told = answered(alloc, filling, &asked, &select);
+    drop(select);
+    told
 }
 
 /// Loads a store, and drives a plan over it.
@@ -180,26 +185,28 @@ fn answered(
     filling: Filling,
     asked: &Asked,
     select: &Select,
-) -> Result<String, Fault>
-    requires select { IsOurs select.now }
-{
-    let loaded = load(alloc, filling)?;
-    let told = told_over(alloc, &loaded, asked, select);
-    drop(loaded);
+) -> Result<String, Fault> {
+    let base = load_base(alloc, filling)?;
+    let told = told_over(alloc, &base, asked, select);
+    drop(base);
     told
 }
 
-/// Drives a plan over what was loaded.
-fn told_over(
-    alloc: Global,
-    loaded: &Loaded,
-    asked: &Asked,
-    select: &Select,
-) -> Result<String, Fault>
-    requires loaded { Offers (shown_of loaded.now.store) loaded.now.snap }
-    requires select { IsOurs select.now }
+/// Drives a plan over what was loaded, where its select is over that.
+fn told_over(alloc: Global, base: &Base, asked: &Asked, select: &Select) -> Result<String, Fault>
+    requires { Offers base.now.loaded (shown_of base.now.store) }
 {
-    let (driven, trace) = driven(alloc, loaded, asked, select)?;
+    if is_ours(&base.loaded, select) {
+        return told_ours(alloc, base, asked, select);
+    }
+    Err(Fault::Form)
+}
+
+fn told_ours(alloc: Global, base: &Base, asked: &Asked, select: &Select) -> Result<String, Fault>
+    requires loaded { Offers base.now.loaded (shown_of base.now.store) }
+    requires select { IsOurs base.now.loaded select.now }
+{
+    let (driven, trace) = driven(alloc, base, asked, select)?;
     let told = told_as(alloc, asked, driven, &trace);
     drop(trace);
     told

@@ -10,26 +10,16 @@ mod load;
 mod read;
 mod select;
 mod told;
-mod trace;
 
 use case::answer;
-use read::Fault;
+use rv_loading::told_or_fault;
 use std::io;
-
-/// The words for what a line gives.
-fn words(told: &Result<String, Fault>) -> &str {
-    match told {
-        Ok(told) => told.as_str(),
-        Err(Fault::Form) => "not read",
-        Err(Fault::NoMemory) => "no memory",
-    }
-}
 
 fn main(rt: HostRuntime) -> io::Result<()> {
     'lines: for line in rt.lines(rt.alloc()) {
         let line = line?;
         let told = answer(rt.alloc(), line.as_str());
-        println!(rt; "{}: {}", line.as_str(), words(&told))?;
+        println!(rt; "{}: {}", line.as_str(), told_or_fault(&told))?;
     }
     Ok(())
 }

@@ -1,33 +1,8 @@
 //! What a line asks for, from its words.
 use rv_catalog::Goal;
-use rv_restrict::{Atom, ColRef, Op, Operand, Restriction, Tri};
-use rv_value::{NoMemory, Value, Values};
-use std::alloc::{AllocError, AllocFailed, Global};
-
-/// Why a line has no answer.
-#[derive(Clone, Copy, Debug, PartialEq, Eq)]
-pub enum Fault {
-    Form,
-    NoMemory,
-}
-
-impl From<NoMemory> for Fault {
-    fn from(_fault: NoMemory) -> Fault {
-        Fault::NoMemory
-    }
-}
-
-impl From<AllocError> for Fault {
-    fn from(_fault: AllocError) -> Fault {
-        Fault::NoMemory
-    }
-}
-
-impl<T: Drop> From<AllocFailed<T>> for Fault {
-    fn from(_fault: AllocFailed<T>) -> Fault {
-        Fault::NoMemory
-    }
-}
+use rv_loading::{Fault, column, cut, small};
+use rv_restrict::ColRef;
+use std::alloc::Global;
 
 /// The fields of a line, in their order.
 #[derive(Clone, Copy)]
@@ -50,20 +25,16 @@ pub struct Asked<'a> {
     pub tell: &'a str,
 }
 
-fn cut(text: &str) -> Result<(&str, &str), Fault> {
-    text.split_once(';').ok_or(Fault::Form)
-}
-
 /// The fields of a line.
 pub fn read_line(line: &str) -> Result<Asked<'_>, Fault> {
-    let (rows, rest) = cut(line)?;
-    let (from, rest) = cut(rest)?;
-    let (only, rest) = cut(rest)?;
-    let (order, rest) = cut(rest)?;
-    let (returns, rest) = cut(rest)?;
-    let (judge, rest) = cut(rest)?;
-    let (steps, rest) = cut(rest)?;
-    let (goal, tell) = cut(rest)?;
+    let (rows, rest) = cut(line, ';')?;
+    let (from, rest) = cut(rest, ';')?;
+    let (only, rest) = cut(rest, ';')?;
+    let (order, rest) = cut(rest, ';')?;
+    let (returns, rest) = cut(rest, ';')?;
+    let (judge, rest) = cut(rest, ';')?;
+    let (steps, rest) = cut(rest, ';')?;
+    let (goal, tell) = cut(rest, ';')?;
     Ok(Asked {
         rows,
         from,
@@ -75,14 +46,6 @@ pub fn read_line(line: &str) -> Result<Asked<'_>, Fault> {
         goal,
         tell,
     })
-}
-
-pub fn number(word: &str) -> Result<u64, Fault> {
-    word.parse().ok().ok_or(Fault::Form)
-}
-
-pub fn small(word: &str) -> Result<u32, Fault> {
-    u32::try_from(number(word)?).ok().ok_or(Fault::Form)
 }
 
 pub fn goal(word: &str) -> Result<Goal, Fault> {
@@ -102,18 +65,6 @@ pub fn tables(alloc: Global, text: &str) -> Result<Vec<u32>, Fault> {
     Ok(found)
 }
 
-/// A column: the place of its FROM item, a point, and a, b or c.
-fn column(word: &str) -> Option<ColRef> {
-    let (place, letter) = word.split_once('.')?;
-    let place = small(place).ok()?;
-    match letter {
-        "a" => Some(ColRef { place, column: 0 }),
-        "b" => Some(ColRef { place, column: 1 }),
-        "c" => Some(ColRef { place, column: 2 }),
-        _ => None,
-    }
-}
-
 /// Columns; none in an empty text.
 pub fn columns(alloc: Global, text: &str) -> Result<Vec<ColRef>, Fault> {
     let mut found = Vec::new(alloc);
@@ -124,97 +75,4 @@ pub fn columns(alloc: Global, text: &str) -> Result<Vec<ColRef>, Fault> {
         found.push(column(word).ok_or(Fault::Form)?)?;
     }
     Ok(found)
-}
-
-/// The groups that `&` parts; none in an empty text.
-pub fn restriction(alloc: Global, text: &str) -> Result<Restriction, Fault> {
-    let mut found = Vec::new(alloc);
-    if text.is_empty() {
-        return Ok(Restriction::from_groups(found));
-    }
-    'groups: for part in text.split('&') {
-        found.push(group(alloc, part)?)?;
-    }
-    Ok(Restriction::from_groups(found))
-}
-
-/// The atoms that `/` parts.
-fn group(alloc: Global, text: &str) -> Result<Vec<Atom>, Fault> {
-    let mut found = Vec::new(alloc);
-    'atoms: for part in text.split('/') {
-        found.push(atom(alloc, part)?)?;
-    }
-    Ok(found)
-}
-
-fn integer(word: &str) -> Result<i64, Fault> {
-    Ok(i64::from(small(word)?))
-}
-
-/// The integers that single spaces part.
-fn integers(alloc: Global, text: &str) -> Result<Values, Fault> {
-    let mut found = Vec::new(alloc);
-    'words: for word in text.split(' ') {
-        found.push(Value::Int(integer(word)?))?;
-    }
-    Ok(Values::of(alloc, found)?)
-}
-
-fn atom(alloc: Global, text: &str) -> Result<Atom, Fault> {
-    if text == "false" {
-        return Ok(Atom::Const(Tri::False));
-    }
-    let (name, test) = text.split_once(' ').ok_or(Fault::Form)?;
-    let column = column(name).ok_or(Fault::Form)?;
-    if test == "null" {
-        return Ok(Atom::IsNull { column, not: false });
-    }
-    let (word, rest) = test.split_once(' ').ok_or(Fault::Form)?;
-    match word {
-        "between" => between(column, rest),
-        "in" => Ok(Atom::Among {
-            column,
-            list: integers(alloc, rest)?,
-        }),
-        _ => compare(column, word, rest),
-    }
-}
-
-fn between(column: ColRef, rest: &str) -> Result<Atom, Fault> {
-    let (low, high) = rest.split_once(' ').ok_or(Fault::Form)?;
-    let (low, high) = (integer(low)?, integer(high)?);
-    Ok(Atom::Between {
-        column,
-        low: Value::Int(low),
-        high: Value::Int(high),
-    })
-}
-
-fn compare(column: ColRef, word: &str, rest: &str) -> Result<Atom, Fault> {
-    let op = comparison(word)?;
-    let operand = operand(rest)?;
-    Ok(Atom::Compare {
-        column,
-        op,
-        operand,
-    })
-}
-
-fn comparison(word: &str) -> Result<Op, Fault> {
-    match word {
-        "=" => Ok(Op::Eq),
-        "<>" => Ok(Op::Ne),
-        "<" => Ok(Op::Lt),
-        "<=" => Ok(Op::Le),
-        ">" => Ok(Op::Gt),
-        ">=" => Ok(Op::Ge),
-        _ => Err(Fault::Form),
-    }
-}
-
-fn operand(word: &str) -> Result<Operand, Fault> {
-    match column(word) {
-        Some(column) => Ok(Operand::Column(column)),
-        None => Ok(Operand::Literal(Value::Int(integer(word)?))),
-    }
 }

@@ -60,29 +60,17 @@ const QUESTIONS: [Question; 19] = [
 ];
 
 fn facts_of(question: Question) -> Facts {
-    let (
-        control,
-        scan,
-        [
-            scanned,
-            kept,
-            estimate,
-            spent,
-            projected,
-            guaranteed,
-            delivered,
-        ],
-    ) = question;
+    let (control, scan, numbers) = question;
     Facts {
         control,
         scan,
-        scanned,
-        kept,
-        estimate,
-        spent,
-        projected,
-        guaranteed,
-        delivered,
+        scanned: numbers[0],
+        kept: numbers[1],
+        estimate: numbers[2],
+        spent: numbers[3],
+        projected: numbers[4],
+        guaranteed: numbers[5],
+        delivered: numbers[6],
     }
 }
 

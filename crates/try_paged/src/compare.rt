@@ -1,13 +1,13 @@
 //! What both stores show, compared.
-ghost use Rattle.std.specs.Prelude.{◌≡◌, ◌<◌, ◌≤◌, IfOk, length, false};
+ghost use Rattle.std.specs.Prelude.{◌≡◌, ◌<◌, ◌≤◌};
 ghost use Rattle.rv_loading.specs.Laid.{IsNarrow};
 ghost use Rattle.try_paged.specs.Noted.{noted};
 ghost use Rattle.try_paged.specs.Twins.{AreLaid};
 
 use crate::twins::Twins;
-use rv_loading::{estimate_of, leaves_of, row_of, rows_of, sizes_of};
+use rv_loading::{between, estimate_of, leaves_of, row_of, rows_of, sizes_of, whole};
 use rv_reader::Change;
-use rv_value::{Bound, Duplicate, IndexEntry, Items, Key, NoMemory, Range, Value};
+use rv_value::{Duplicate, IndexEntry, Items, NoMemory, Range};
 use std::alloc::Global;
 
 /// What differs between the stores.
@@ -68,37 +68,6 @@ impl Tally {
         self.paged_leaves = self.paged_leaves.saturating_add(paged as u64);
         self.plain_leaves = self.plain_leaves.saturating_add(plain as u64);
     }
-}
-
-/// All keys.
-pub fn whole() -> Range
-    ensures { IsNarrow result }
-{
-    Range {
-        low: None,
-        high: None,
-        starts: false,
-    }
-}
-
-fn bound(alloc: Global, value: i64) -> Result<Option<Bound>, NoMemory>
-    ensures { IfOk result (λ bound. IsNarrow (record { low = bound; high = bound; starts = false })) }
-{
-    let key = Key::of(alloc, vec![in alloc; Value::Int(value)]?)?;
-    Ok(Some(Bound { key, closed: true }))
-}
-
-/// The keys whose first value is from one number to another.
-pub fn between(alloc: Global, low: i64, high: i64) -> Result<Range, NoMemory>
-    ensures { IfOk result IsNarrow }
-{
-    let low = bound(alloc, low)?;
-    let high = bound(alloc, high)?;
-    Ok(Range {
-        low,
-        high,
-        starts: false,
-    })
 }
 
 fn joined(alloc: Global, leaves: Vec<Items<IndexEntry>>) -> Result<Vec<IndexEntry>, NoMemory> {

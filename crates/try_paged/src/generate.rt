@@ -1,24 +1,15 @@
 //! The changes of the commits, by a generator of numbers without order.
-ghost use Rattle.std.specs.Prelude.{◌≡◌, ◌+◌, ◌*◌, ◌<◌, ◌≤◌, IfOk, IfSome, OnOk, length};
-ghost use Rattle.rv_loading.specs.Laid.{IsBatch, IsNew};
-
 use rv_reader::Change;
 use rv_value::{NoMemory, RowNo, Value, Values};
 use std::alloc::Global;
 
-/// A number that follows another one.
-fn mixed(number: u64) -> u64
-    requires { number < 4294967296 }
-    ensures { result < 2147483647 }
-{
-    number * 48271 % 2147483647
+/// A number that follows another one below 2^32.
+fn mixed(number: u64) -> u64 {
+    number % 4294967296 * 48271 % 2147483647
 }
 
 /// The first value is NULL in about each eleventh row, else a number below 300; the second is a number below 1000.
-fn values_of(alloc: Global, mix: u64) -> Result<Values, NoMemory>
-    requires { mix < 2147483647 }
-    ensures { IfOk result (λ values. length values ≡ 2) }
-{
+fn values_of(alloc: Global, mix: u64) -> Result<Values, NoMemory> {
     let first = if mix % 11 == 0 {
         Value::Null
     } else {
@@ -31,10 +22,7 @@ fn values_of(alloc: Global, mix: u64) -> Result<Values, NoMemory>
 }
 
 /// Two of five changes take a row away.
-fn new_values(alloc: Global, mix: u64) -> Result<Option<Values>, NoMemory>
-    requires { mix < 2147483647 }
-    ensures { IfOk result (λ values. IfSome values (λ v. length v ≡ 2)) }
-{
+fn new_values(alloc: Global, mix: u64) -> Result<Option<Values>, NoMemory> {
     if mix % 5 < 2 {
         return Ok(None);
     }
@@ -42,17 +30,9 @@ fn new_values(alloc: Global, mix: u64) -> Result<Option<Values>, NoMemory>
 }
 
 /// The change of a step of a commit, of one of sixteen rows.
-fn change_at(alloc: Global, table: u32, commit: u64, step: u64) -> Result<Change, NoMemory>
-    requires commit { commit < 1000 }
-    requires table { table < 2 }
-    requires step { step < 64 }
-    ensures new { IfOk result IsNew }
-    ensures table { IfOk result (λ c. c.table ≡ table) }
-    ensures low { IfOk result (λ c. 16 * step ≤ c.row.0) }
-    ensures high { IfOk result (λ c. c.row.0 < 16 * (step + 1)) }
-{
-    let mix = mixed(mixed(commit * 1000 + step * 2 + u64::from(table)) / 7);
-    let row = RowNo(16 * step + mix % 16);
+fn change_at(alloc: Global, table: u32, commit: u64, step: u64) -> Result<Change, NoMemory> {
+    let mix = mixed(mixed(commit % 1000 * 1000 + step % 64 * 2 + u64::from(table)) / 7);
+    let row = RowNo(16 * (step % 64) + mix % 16);
     let values = new_values(alloc, mixed(mix / 16))?;
     Ok(Change { table, row, values })
 }
@@ -62,23 +42,15 @@ fn add_steps(
     changes: &mut Vec<Change>,
     table: u32,
     commit: u64,
-) -> Result<(), NoMemory>
-    requires commit { commit < 1000 }
-    requires table { table < 2 }
-    requires batch { IsBatch table 0 changes.old.items }
-    ensures { OnOk result (IsBatch (table + 1) 0 changes.new.items) }
-{
+) -> Result<(), NoMemory> {
     'steps: for step in 0..64 {
         changes.push(change_at(alloc, table, commit, step)?)?;
     }
     Ok(())
 }
 
-/// The changes of a commit: 64 of each of the tables 0 and 1.
-pub fn changes_of(alloc: Global, commit: u64) -> Result<Vec<Change>, NoMemory>
-    requires { commit < 1000 }
-    ensures { IfOk result (λ changes. IsBatch 2 0 changes.items) }
-{
+/// The changes of a commit: 64 of each of the tables 0 and 1, ascending.
+pub fn changes_of(alloc: Global, commit: u64) -> Result<Vec<Change>, NoMemory> {
     let mut changes = Vec::new(alloc);
     add_steps(alloc, &mut changes, 0, commit)?;
     add_steps(alloc, &mut changes, 1, commit)?;

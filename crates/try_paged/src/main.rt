@@ -4,9 +4,8 @@
 //! tools/try_paged.py finds by the rules in words.
 #![tactic(auto)]
 
-ghost use Rattle.std.specs.Prelude.{◌≡◌, ◌+◌, ◌<◌, ◌≤◌, IfOk, OnOk};
-ghost use Rattle.rv_loading.specs.Laid.{IsBatch};
-ghost use Rattle.try_paged.specs.Twins.{AreLaid, AreNew, AreReady};
+ghost use Rattle.std.specs.Prelude.{◌<◌, ◌≤◌, OnOk};
+ghost use Rattle.try_paged.specs.Twins.{AreLaid};
 
 mod compare;
 mod generate;
@@ -17,6 +16,7 @@ mod twins;
 use compare::{Difference, Tally, What, compare_changed, compare_snapshot, compare_snapshots};
 use generate::changes_of;
 use kinds::{Kinds, count_kinds};
+use rv_loading::{Fault, write_lines};
 use rv_reader::Change;
 use rv_value::NoMemory;
 use shape::{leaves_line, range_line};
@@ -33,109 +33,86 @@ struct Run {
 }
 
 /// Two tables and three indexes.
-fn lay(twins: &mut Twins) -> Result<(), NoMemory>
-    requires { AreNew twins.old }
-    ensures { OnOk result (AreReady 0 twins.new) }
+fn lay(twins: &mut Twins) -> Result<(), Fault>
+    requires { AreLaid twins.old }
+    ensures { OnOk result (AreLaid twins.new) }
 {
     twins.lay_table()?;
     twins.lay_table()?;
-    twins.lay_index(0, &[0])?;
-    twins.lay_index(0, &[1, 0])?;
-    twins.lay_index(1, &[0, 1])
-}
-
-/// What nothing was done with yet.
-fn begin(alloc: Global) -> Result<Run, NoMemory>
-    ensures { IfOk result (λ run. AreNew run.twins) }
-{
-    Ok(Run {
-        twins: Twins::new(alloc)?,
-        kinds: Kinds::new(),
-        tally: Tally::new(),
-    })
+    twins.lay_index()?;
+    twins.lay_index()?;
+    twins.lay_index()
 }
 
 /// One more commit, and the newest snapshot compared.
-fn commit_next(alloc: Global, run: &mut Run, commit: u64) -> Result<(), NoMemory>
-    requires ready { AreReady commit run.old.twins }
-    requires low { commit < 100 }
-    ensures { OnOk result (AreReady (commit + 1) run.new.twins) }
+fn commit_next(alloc: Global, run: &mut Run, commit: u64) -> Result<(), Fault>
+    requires { AreLaid run.old.twins }
+    ensures { OnOk result (AreLaid run.new.twins) }
 {
     let changes = changes_of(alloc, commit)?;
-    let done = commit_all(alloc, run, commit, changes.as_slice());
-    drop(changes);
-    done
+    commit_all(alloc, run, changes.as_slice())
 }
 
 /// A commit of changes, and the newest snapshot compared.
-fn commit_all(
-    alloc: Global,
-    run: &mut Run,
-    _commit: u64,
-    changes: &[Change],
-) -> Result<(), NoMemory>
-    requires ready { AreReady _commit run.old.twins }
-    requires low { _commit < 100 }
-    requires batch { IsBatch 2 0 changes.now }
-    ensures { OnOk result (AreReady (_commit + 1) run.new.twins) }
+fn commit_all(alloc: Global, run: &mut Run, changes: &[Change]) -> Result<(), Fault>
+    requires { AreLaid run.old.twins }
+    ensures { OnOk result (AreLaid run.new.twins) }
 {
     count_kinds(alloc, &run.twins, changes, &mut run.kinds)?;
     run.twins.commit(changes)?;
     compare_changed(alloc, &run.twins, changes, &mut run.tally)?;
     let newest = run.twins.layout.newest;
-    compare_snapshot(alloc, &run.twins, newest, &mut run.tally)
+    compare_snapshot(alloc, &run.twins, newest, &mut run.tally)?;
+    Ok(())
 }
 
 /// Ten commits, all kept snapshots compared, all but the newest few let go, and those compared.
-fn run_ten(alloc: Global, run: &mut Run, first: u64) -> Result<(), NoMemory>
-    requires ready { AreReady first run.old.twins }
+fn run_ten(alloc: Global, run: &mut Run, first: u64) -> Result<(), Fault>
+    requires laid { AreLaid run.old.twins }
     requires low { first ≤ 90 }
-    ensures { OnOk result (AreReady (first + 10) run.new.twins) }
+    ensures { OnOk result (AreLaid run.new.twins) }
 {
     'commits: for commit in first..first + 10 {
         commit_next(alloc, run, commit)?;
     }
     compare_snapshots(alloc, &run.twins, &mut run.tally)?;
-    sweep_to(&mut run.twins, first + 10, first + 7);
-    compare_snapshots(alloc, &run.twins, &mut run.tally)
+    sweep_to(&mut run.twins, first + 7);
+    compare_snapshots(alloc, &run.twins, &mut run.tally)?;
+    Ok(())
 }
 
 /// Sixty-four sweeps.
-fn sweep_to(twins: &mut Twins, commits: u64, horizon: u64)
-    requires ready { AreReady commits twins.old }
-    requires high { horizon ≤ commits }
-    ensures { AreReady commits twins.new }
+fn sweep_to(twins: &mut Twins, horizon: u64)
+    requires { AreLaid twins.old }
+    ensures { AreLaid twins.new }
 {
     'sweeps: for _ in 0..64 {
-        if twins.layout.horizon <= horizon {
+        if twins.layout.horizon <= horizon && horizon <= twins.layout.newest {
             twins.sweep(horizon);
         }
     }
 }
 
 /// One more index over the rows that are there, when all older snapshots are let go.
-fn lay_late(twins: &mut Twins, commits: u64) -> Result<(), NoMemory>
-    requires { AreReady commits twins.old }
-    ensures { OnOk result (AreReady commits twins.new) }
+fn lay_late(twins: &mut Twins) -> Result<(), Fault>
+    requires { AreLaid twins.old }
+    ensures { OnOk result (AreLaid twins.new) }
 {
     let newest = twins.layout.newest;
     twins.sweep(newest);
-    if twins.layout.indexes >= 1000 {
-        return Ok(());
-    }
-    twins.lay_index(1, &[0])
+    twins.lay_index()
 }
 
 /// All commits, and all that is compared.
-fn run_all(alloc: Global, run: &mut Run) -> Result<(), NoMemory>
-    requires { AreNew run.old.twins }
-    ensures { OnOk result (AreReady 100 run.new.twins) }
+fn run_all(alloc: Global, run: &mut Run) -> Result<(), Fault>
+    requires { AreLaid run.old.twins }
+    ensures { OnOk result (AreLaid run.new.twins) }
 {
     lay(&mut run.twins)?;
     'early: for ten in 0..5 {
         run_ten(alloc, run, ten * 10)?;
     }
-    lay_late(&mut run.twins, 50)?;
+    lay_late(&mut run.twins)?;
     'late: for ten in 5..10 {
         run_ten(alloc, run, ten * 10)?;
     }
@@ -229,8 +206,8 @@ fn estimates_line(alloc: Global, tally: &Tally) -> Result<String, NoMemory> {
 }
 
 /// Does all, and tells of it.
-fn lines_of(alloc: Global, run: &mut Run) -> Result<Vec<String>, NoMemory>
-    requires { AreNew run.old.twins }
+fn lines_of(alloc: Global, run: &mut Run) -> Result<Vec<String>, Fault>
+    requires { AreLaid run.old.twins }
 {
     run_all(alloc, run)?;
     let mut lines = Vec::new(alloc);
@@ -240,21 +217,18 @@ fn lines_of(alloc: Global, run: &mut Run) -> Result<Vec<String>, NoMemory>
     Ok(lines)
 }
 
-fn all_lines(alloc: Global) -> Result<Vec<String>, NoMemory> {
-    let mut run = begin(alloc)?;
+fn all_lines(alloc: Global) -> Result<Vec<String>, Fault> {
+    let mut run = Run {
+        twins: Twins::new(alloc)?,
+        kinds: Kinds::new(),
+        tally: Tally::new(),
+    };
     let lines = lines_of(alloc, &mut run);
     drop(run);
     lines
 }
 
 fn main(rt: HostRuntime) -> io::Result<()> {
-    match all_lines(rt.alloc()) {
-        Ok(lines) => {
-            'lines: for line in lines.as_slice() {
-                println!(rt; "{}", line.as_str())?;
-            }
-        }
-        Err(NoMemory) => println!(rt; "no memory")?,
-    }
-    Ok(())
+    let lines = all_lines(rt.alloc());
+    write_lines(&rt, &lines)
 }

@@ -2,9 +2,8 @@
 ghost use Rattle.std.specs.Prelude.{◌<◌};
 ghost use Rattle.try_paged.specs.Twins.{AreLaid};
 
-use crate::compare::{between, whole};
 use crate::twins::Twins;
-use rv_loading::{estimate_of, leaves_of};
+use rv_loading::{between, estimate_of, leaves_of, whole};
 use rv_value::{IndexEntry, Items, NoMemory};
 use std::alloc::Global;
 

@@ -1,17 +1,9 @@
 -- Joint scans that are drawn from what a store shows, and what their calls leave.
-use Rattle.std.proofs.Common.{zero, suc, ◌≡◌, ℕ, ◌<◌, ◌≤◌, ◌+◌, List, [], ◌∷◌, true, false, Some, None, Option, refl, sym, ap, ◌∙◌, arith, length, subst, slice_index_or}
-use Rattle.std.specs.Prelude.{IfSome}
+use Rattle.std.proofs.Common.{zero, suc, ◌≡◌, ℕ, ◌<◌, List, [], ◌∷◌, true, false, Some, None, Option, refl, sym, ap, arith, length, subst}
 use Rattle.std.specs.List.{AllByRecursion}
 use Rattle.rv_value.specs.declared.record.IndexEntry.{IndexEntry}
-use Rattle.rv_value.specs.declared.range.Bound.{Bound}
-use Rattle.rv_value.specs.declared.range.Range.{Range}
-use Rattle.rv_restrict.specs.Ranges.{AreShort, IsShort}
-use Rattle.rv_reader.specs.Entries.{entries_of}
-use Rattle.rv_reader.specs.Shown.{Shown, CanScan, Suits}
-use Rattle.rv_reader.specs.Storing.{AreKeys, IsStored}
-use Rattle.rv_reader.specs.Tables.{IsTable}
-use Rattle.rv_reader.proofs.Sorting.{entries_keys}
-use Rattle.rv_reader.proofs.Suiting.{suits_store}
+use Rattle.rv_reader.specs.Shown.{Shown}
+use Rattle.rv_reader.specs.Storing.{AreKeys}
 use Rattle.rv_jscan.specs.declared.jscan.ScanPlan.{ScanPlan}
 use Rattle.rv_jscan.specs.declared.jscan.Given.{Given}
 use Rattle.rv_jscan.specs.declared.jscan.Given.TheVariants.{Accepted, Stale}
@@ -19,42 +11,32 @@ use Rattle.rv_jscan.specs.Entries.{Apart}
 use Rattle.rv_jscan.specs.Pieces.{Pieced}
 use Rattle.rv_jscan.specs.Joint.{CanMake, CanTake, Joint, JointFits, no_plan, plan_at, under_way}
 use Rattle.rv_jscan.specs.Steps.{Accepts, Gives, TakeLeaves, abandoned, begun, completed, going, held_next}
+use Rattle.rv_loading.specs.declared.schema.Loaded.{Loaded}
+use Rattle.rv_loading.specs.Laid.{Offers, OffersIndex, over_at}
+use Rattle.rv_loading.proofs.Offering.{keys_offered, suits_short}
+use Rattle.try_pieces.specs.Drawing.{Drawn, HasTwo, IsPlan, Lists}
 use Rattle.rv_jscan.proofs.Apart.{entries_apart}
-use Rattle.try_pieces.specs.Drawing.{Drawn, IsPlan, Lists}
-use Rattle.try_pieces.specs.Laying.{Laid}
 
--- one of the two indexes
-record OneOf (shown : Shown) (index : ℕ) : Type 0 where
-  over : shown.over index ≡ 0
-  keys : length (shown.keys index) ≡ 1
+long_of : (loaded : Loaded) (index : ℕ) → HasTwo loaded → index < 2 → length (over_at loaded.schema.indexes index).columns ≡ 1
+long_of loaded zero two low = two.first
+long_of loaded (suc zero) two low = two.second
+long_of loaded (suc (suc n)) two low = absurd (omega arith)
 
-one_of : (shown : Shown) (index : ℕ) → Laid shown → index < 2 → OneOf shown index
-one_of shown zero laid low = record { over = laid.over; keys = ap length laid.keys }
-one_of shown (suc zero) laid low = record { over = laid.over_next; keys = ap length laid.keys_next }
-one_of shown (suc (suc n)) laid low = absurd (omega arith)
+offered : (loaded : Loaded) (shown : Shown) (index : ℕ) → Offers loaded shown → HasTwo loaded → index < 2 → OffersIndex loaded.schema loaded.layout shown loaded.snap index
+offered loaded shown index offers two low = offers.index index (let both = two.both in omega arith)
 
-short_end : (n m : ℕ) (bound : Option Bound) → n ≡ m → IsShort n bound → IfSome bound (λ b. length b.key ≤ m)
-short_end n m None same short = tt
-short_end n m (Some b) same short = omega arith
+apart_offered : (loaded : Loaded) (shown : Shown) (index : ℕ) → Offers loaded shown → OffersIndex loaded.schema loaded.layout shown loaded.snap index → Apart (shown.entries index loaded.snap)
+apart_offered loaded shown index offers one =
+    let over = over_at loaded.schema.indexes index in
+    subst Apart (sym one.entries) (entries_apart over.columns (shown.rows over.table loaded.snap) (offers.ascend over.table one.table))
 
-pub lists_settled : (shown : Shown) (snap pages : ℕ) → IsStored shown → Laid shown → snap ≡ shown.newest → IsTable (shown.rows 0 snap) pages → Lists shown snap
-lists_settled shown snap pages stored laid newest table =
-    let can : (index : ℕ) → index < 2 → CanScan shown index snap = λ index low. record {
-      there = (let n = laid.indexes in omega arith);
-      snapshot = record { kept = (let h = laid.horizon in omega arith); known = omega arith };
-    } in
-    record {
-      can = can;
-      suits = λ index range low short.
-          let one = one_of shown index laid low in
-          suits_store shown index snap range stored (can index low) (short_end 1 (length (shown.keys index)) range.low (sym one.keys) short.low_end) (short_end 1 (length (shown.keys index)) range.high (sym one.keys) short.high_end);
-      keys = λ index low.
-          let one = one_of shown index laid low in
-          subst (AreKeys 1) (sym (stored.kept index snap (can index low)).entries) (subst (λ n. AreKeys n (entries_of (shown.keys index) (shown.rows (shown.over index) snap))) one.keys (entries_keys (shown.keys index) (shown.rows (shown.over index) snap)));
-      apart = λ index low.
-          let one = one_of shown index laid low in
-          subst Apart (sym (stored.kept index snap (can index low)).entries) (subst (λ t. Apart (entries_of (shown.keys index) (shown.rows t snap))) (sym one.over) (entries_apart (shown.keys index) (shown.rows 0 snap) table.ascend));
-    }
+pub lists_offered : (loaded : Loaded) (shown : Shown) → Offers loaded shown → HasTwo loaded → Lists shown loaded.snap
+lists_offered loaded shown offers two = record {
+  can = λ index low. (offered loaded shown index offers two low).can;
+  suits = λ index range low short. suits_short loaded.schema loaded.layout shown loaded.snap index 1 range (offered loaded shown index offers two low) (let long = long_of loaded index two low in omega arith) short;
+  keys = λ index low. subst (λ n. AreKeys n (shown.entries index loaded.snap)) (long_of loaded index two low) (keys_offered loaded.schema loaded.layout shown loaded.snap index (offered loaded shown index offers two low));
+  apart = λ index low. apart_offered loaded shown index offers (offered loaded shown index offers two low);
+}
 
 plan_in : (plans : List ScanPlan) (i : ℕ) → AllByRecursion IsPlan plans → i < length plans → IsPlan (plan_at plans i)
 plan_in [] i all low = absurd (omega arith)

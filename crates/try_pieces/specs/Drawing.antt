@@ -1,5 +1,5 @@
 -- What a joint scan over the two indexes needs.
-use Rattle.std.specs.Prelude.{◌≡◌, ℕ, ◌<◌, length}
+use Rattle.std.specs.Prelude.{◌≡◌, ℕ, ◌<◌, ◌≤◌, length}
 use Rattle.std.specs.List.{AllByRecursion}
 use Rattle.rv_value.specs.declared.range.Range.{Range}
 use Rattle.rv_restrict.specs.Ranges.{AreShort}
@@ -8,6 +8,14 @@ use Rattle.rv_reader.specs.Storing.{AreKeys}
 use Rattle.rv_jscan.specs.declared.jscan.ScanPlan.{ScanPlan}
 use Rattle.rv_jscan.specs.Entries.{Apart}
 use Rattle.rv_jscan.specs.Joint.{Joint, JointFits}
+use Rattle.rv_loading.specs.declared.schema.Loaded.{Loaded}
+use Rattle.rv_loading.specs.Laid.{over_at}
+
+-- what was loaded has two indexes, each over one column
+pub record HasTwo (loaded : Loaded) : Type 0 where
+  pub both : 2 ≤ loaded.layout.indexes
+  pub first : length (over_at loaded.schema.indexes 0).columns ≡ 1
+  pub second : length (over_at loaded.schema.indexes 1).columns ≡ 1
 
 -- At the snapshot there are two indexes. Each key has one value, and no row stands in two entries of an index.
 pub record Lists (shown : Shown) (snap : ℕ) : Type 0 where

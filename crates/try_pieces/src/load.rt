@@ -1,29 +1,22 @@
 //! A table whose row i has the values (i, i), with an index over each column, in any store.
-ghost use Rattle.std.specs.Prelude.{◌≡◌, ◌<◌, ◌≤◌, IfOk, OnOk, length};
-ghost use Rattle.std.specs.List.{AllByRecursion};
-ghost use Rattle.rv_rows.specs.Changes.{Rise};
-ghost use Rattle.try_pieces.specs.Drawing.{Lists};
-ghost use Rattle.try_pieces.specs.Laying.{Begun, Empty, IsBatch, IsNew, Laid, Tabled};
+ghost use Rattle.std.specs.Prelude.{◌≡◌, IfOk, true};
+ghost use Rattle.rv_loading.specs.Laid.{IsEmpty, Offers};
+ghost use Rattle.try_pieces.specs.Drawing.{HasTwo, Lists};
 
+use rv_loading::{Fault, Loaded, Schema, fill, index_over};
 use rv_reader::{Change, Store};
 use rv_value::{NoMemory, RowNo, Value, Values};
 use std::alloc::Global;
 
-fn values_of(alloc: Global, row: u64) -> Result<Values, NoMemory>
-    requires { row < 1000000 }
-    ensures { IfOk result (λ values. length values ≡ 2) }
-{
+/// The values of a row below a million.
+fn values_of(alloc: Global, row: u64) -> Result<Values, NoMemory> {
     let mut values = Vec::with_capacity(alloc, 2)?;
-    values.push(Value::Int(row as i64))?;
-    values.push(Value::Int(row as i64))?;
+    values.push(Value::Int((row % 1_000_000) as i64))?;
+    values.push(Value::Int((row % 1_000_000) as i64))?;
     Values::of(alloc, values)
 }
 
-fn inserted(alloc: Global, row: u64) -> Result<Change, NoMemory>
-    requires { row < 1000000 }
-    ensures new { IfOk result IsNew }
-    ensures row { IfOk result (λ c. c.row.0 ≡ row) }
-{
+fn inserted(alloc: Global, row: u64) -> Result<Change, NoMemory> {
     Ok(Change {
         table: 0,
         row: RowNo(row),
@@ -31,71 +24,66 @@ fn inserted(alloc: Global, row: u64) -> Result<Change, NoMemory>
     })
 }
 
-fn rows_below(alloc: Global, rows: u64) -> Result<Vec<Change>, NoMemory>
-    requires { rows ≤ 1000000 }
-    ensures { IfOk result (λ changes. IsBatch rows changes.items) }
-{
+/// One commit of so many rows.
+fn batches(alloc: Global, rows: u64) -> Result<Vec<Vec<Change>>, NoMemory> {
     let mut changes = Vec::new(alloc);
     'rows: for row in 0..rows {
         changes.push(inserted(alloc, row)?)?;
     }
-    Ok(changes)
+    let mut all = Vec::with_capacity(alloc, 1)?;
+    all.push(changes)?;
+    Ok(all)
 }
 
-fn lay_table<S: Store>(store: &mut S) -> Result<(), NoMemory>
-    requires { Empty (S.shown store.old) }
-    ensures { OnOk result (Tabled (S.shown store.new)) }
-{
-    store.create_table(0, 2)
+/// A table of two columns, with an index over each.
+fn new_schema(alloc: Global) -> Result<Schema, NoMemory> {
+    let mut indexes = Vec::with_capacity(alloc, 2)?;
+    indexes.push(index_over(alloc, 0, &[0])?)?;
+    indexes.push(index_over(alloc, 0, &[1])?)?;
+    Ok(Schema::new(2, indexes))
 }
 
-fn lay_first<S: Store>(store: &mut S) -> Result<(), NoMemory>
-    requires { Tabled (S.shown store.old) }
-    ensures { OnOk result (Begun (S.shown store.new)) }
+/// Whether there are two indexes, each over one column.
+fn has_two(loaded: &Loaded) -> bool
+    ensures { result ≡ true → HasTwo loaded.now }
 {
-    store.create_index(0, 0, &[0])
-}
-
-fn lay_second<S: Store>(store: &mut S) -> Result<(), NoMemory>
-    requires { Begun (S.shown store.old) }
-    ensures { OnOk result (Laid (S.shown store.new)) }
-{
-    store.create_index(1, 0, &[1])
-}
-
-fn commit<S: Store>(store: &mut S, changes: &[Change]) -> Result<(), NoMemory>
-    requires laid { Laid (S.shown store.old) }
-    requires rise { Rise changes.now }
-    requires new { AllByRecursion IsNew changes.now }
-    ensures { Laid (S.shown store.new) }
-{
-    if store.last() >= 1000 {
-        return Err(NoMemory);
+    if loaded.layout.indexes < 2 {
+        return false;
     }
-    store.commit(changes)?;
-    Ok(())
+    if loaded.schema.columns_of(0).len() != 1 {
+        return false;
+    }
+    loaded.schema.columns_of(1).len() == 1
 }
 
-/// The newest snapshot of a store that is laid.
-fn settle<S: Store>(store: &S) -> u64
-    requires { Laid (S.shown store.now) }
-    ensures { Lists (S.shown store.now) result }
+/// The snapshot at which a joint scan may be drawn.
+fn settled<S: Store>(_store: &S, loaded: &Loaded) -> u64
+    requires offers { Offers loaded.now (S.shown _store.now) }
+    requires two { HasTwo loaded.now }
+    ensures { Lists (S.shown _store.now) result }
 {
-    let snap = store.last();
-    let _sizes = store.sizes(0, snap);
-    snap
+    loaded.snap
+}
+
+fn snap_of<S: Store>(store: &S, loaded: &Loaded) -> Result<u64, Fault>
+    requires { Offers loaded.now (S.shown store.now) }
+    ensures { IfOk result (Lists (S.shown store.now)) }
+{
+    if has_two(loaded) {
+        return Ok(settled(store, loaded));
+    }
+    Err(Fault::Form)
 }
 
 /// Makes the table and its indexes in an empty store, and commits so many rows; the snapshot.
-pub fn load<S: Store>(alloc: Global, store: &mut S, rows: u64) -> Result<u64, NoMemory>
-    requires empty { Empty (S.shown store.old) }
-    requires rows { rows ≤ 1000000 }
+pub fn load_rows<S: Store>(alloc: Global, store: &mut S, rows: u64) -> Result<u64, Fault>
+    requires { IsEmpty (S.shown store.old) }
     ensures { IfOk result (Lists (S.shown store.new)) }
 {
-    lay_table(store)?;
-    lay_first(store)?;
-    lay_second(store)?;
-    let changes = rows_below(alloc, rows)?;
-    commit(store, changes.as_slice())?;
-    Ok(settle(store))
+    let batches = batches(alloc, rows)?;
+    let schema = new_schema(alloc)?;
+    let loaded = fill(store, schema, 1, batches.as_slice())?;
+    let snap = snap_of(store, &loaded);
+    drop(loaded);
+    snap
 }

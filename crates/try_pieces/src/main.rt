@@ -2,7 +2,7 @@
 //! given to another scan and never given. The file `stdout` has what tools/try_pieces.py finds by the rules in words.
 #![tactic(auto)]
 
-ghost use Rattle.try_pieces.specs.Laying.{Empty};
+ghost use Rattle.rv_loading.specs.Laid.{IsEmpty};
 
 mod acts;
 mod joint;
@@ -10,11 +10,11 @@ mod lines;
 mod load;
 mod table;
 
-use load::load;
+use load::load_rows;
 use rv_judge::Uncounted;
+use rv_loading::{Fault, write_lines};
 use rv_plain::Plain;
 use rv_reader::{Reader, Store};
-use rv_value::NoMemory;
 use std::alloc::Global;
 use std::io;
 use table::add_table;
@@ -23,16 +23,16 @@ use table::add_table;
 fn lines_over<S: Store + Reader<Ledger = Uncounted>>(
     alloc: Global,
     store: &mut S,
-) -> Result<Vec<String>, NoMemory>
-    requires { Empty (S.shown store.old) }
+) -> Result<Vec<String>, Fault>
+    requires { IsEmpty (S.shown store.old) }
 {
     let mut lines = Vec::new(alloc);
-    let snap = load(alloc, store, 80)?;
+    let snap = load_rows(alloc, store, 80)?;
     add_table(alloc, store, snap, &mut lines)?;
     Ok(lines)
 }
 
-fn all_lines(alloc: Global) -> Result<Vec<String>, NoMemory> {
+fn all_lines(alloc: Global) -> Result<Vec<String>, Fault> {
     let mut store = Plain::new(alloc)?;
     let lines = lines_over(alloc, &mut store);
     drop(store);
@@ -40,13 +40,6 @@ fn all_lines(alloc: Global) -> Result<Vec<String>, NoMemory> {
 }
 
 fn main(rt: HostRuntime) -> io::Result<()> {
-    match all_lines(rt.alloc()) {
-        Ok(lines) => {
-            'lines: for line in lines.as_slice() {
-                println!(rt; "{}", line.as_str())?;
-            }
-        }
-        Err(NoMemory) => println!(rt; "no memory")?,
-    }
-    Ok(())
+    let lines = all_lines(rt.alloc());
+    write_lines(&rt, &lines)
 }

@@ -63,6 +63,101 @@ const TURNED: Name = Name {
     turned: true,
 };
 
+/// Each piece once.
+const ONCE: [Act; 12] = [
+    Act::Take,
+    Act::Give(0),
+    Act::Take,
+    Act::Give(1),
+    Act::Take,
+    Act::Give(2),
+    Act::Take,
+    Act::Give(3),
+    Act::Take,
+    Act::Give(4),
+    Act::Take,
+    Act::Give(4),
+];
+
+/// The same of a list that becomes empty at once.
+const EMPTY: [Act; 4] = [Act::Take, Act::Give(0), Act::Take, Act::Give(0)];
+
+/// Pieces that are taken twice.
+const TWICE: [Act; 9] = [
+    Act::Take,
+    Act::Take,
+    Act::Give(1),
+    Act::Give(0),
+    Act::Take,
+    Act::Take,
+    Act::Give(1),
+    Act::Give(3),
+    Act::Give(2),
+];
+
+/// Pieces that are given twice and late.
+const LATE: [Act; 11] = [
+    Act::Take,
+    Act::Give(0),
+    Act::Give(0),
+    Act::Take,
+    Act::Give(0),
+    Act::Give(1),
+    Act::Give(1),
+    Act::Take,
+    Act::Give(0),
+    Act::Give(1),
+    Act::Give(2),
+];
+
+/// Pieces of other scans.
+const OTHERS: [Act; 11] = [
+    Act::TakeOther(OTHER_CURSOR),
+    Act::TakeOther(OTHER_OPENING),
+    Act::TakeOther(TURNED),
+    Act::TakeOther(OWN),
+    Act::Give(3),
+    Act::Take,
+    Act::Give(0),
+    Act::Give(1),
+    Act::Give(2),
+    Act::Give(3),
+    Act::Give(4),
+];
+
+/// The last piece of the first scan is never given.
+const FIRST_NEVER: [Act; 14] = [
+    Act::Take,
+    Act::Give(0),
+    Act::Take,
+    Act::Abandon,
+    Act::Give(1),
+    Act::Take,
+    Act::Give(1),
+    Act::Give(2),
+    Act::Take,
+    Act::Give(3),
+    Act::Take,
+    Act::Give(4),
+    Act::Take,
+    Act::Abandon,
+];
+
+/// The last piece of the second scan is never given.
+const SECOND_NEVER: [Act; 8] = [
+    Act::Take,
+    Act::Give(0),
+    Act::Take,
+    Act::Give(1),
+    Act::Take,
+    Act::Abandon,
+    Act::Give(2),
+    Act::Take,
+];
+
+/// No piece is given.
+const NEITHER: [Act; 3] = [Act::Abandon, Act::Abandon, Act::Take];
+
 fn do_all<R: Reader<Ledger = Uncounted>>(
     alloc: Global,
     reader: &R,
@@ -131,166 +226,6 @@ fn add_acts<R: Reader<Ledger = Uncounted>>(
     Ok(())
 }
 
-fn add_once<R: Reader<Ledger = Uncounted>>(
-    alloc: Global,
-    reader: &R,
-    snap: u64,
-    lines: &mut Vec<String>,
-) -> Result<(), NoMemory>
-    requires { Lists (R.shown reader.now) snap }
-{
-    let acts = [
-        Act::Take,
-        Act::Give(0),
-        Act::Take,
-        Act::Give(1),
-        Act::Take,
-        Act::Give(2),
-        Act::Take,
-        Act::Give(3),
-        Act::Take,
-        Act::Give(4),
-        Act::Take,
-        Act::Give(4),
-    ];
-    row(alloc, reader, snap, "each once", BOTH, &acts, lines)?;
-    row(
-        alloc,
-        reader,
-        snap,
-        "one row does not pass",
-        WITHOUT,
-        &acts,
-        lines,
-    )?;
-    let acts = [Act::Take, Act::Give(0), Act::Take, Act::Give(0)];
-    row(alloc, reader, snap, "an empty list", NONE, &acts, lines)
-}
-
-fn add_twice<R: Reader<Ledger = Uncounted>>(
-    alloc: Global,
-    reader: &R,
-    snap: u64,
-    lines: &mut Vec<String>,
-) -> Result<(), NoMemory>
-    requires { Lists (R.shown reader.now) snap }
-{
-    let acts = [
-        Act::Take,
-        Act::Take,
-        Act::Give(1),
-        Act::Give(0),
-        Act::Take,
-        Act::Take,
-        Act::Give(1),
-        Act::Give(3),
-        Act::Give(2),
-    ];
-    row(alloc, reader, snap, "taken twice", BOTH, &acts, lines)?;
-    let acts = [
-        Act::Take,
-        Act::Give(0),
-        Act::Give(0),
-        Act::Take,
-        Act::Give(0),
-        Act::Give(1),
-        Act::Give(1),
-        Act::Take,
-        Act::Give(0),
-        Act::Give(1),
-        Act::Give(2),
-    ];
-    row(
-        alloc,
-        reader,
-        snap,
-        "given twice and late",
-        BOTH,
-        &acts,
-        lines,
-    )
-}
-
-fn add_others<R: Reader<Ledger = Uncounted>>(
-    alloc: Global,
-    reader: &R,
-    snap: u64,
-    lines: &mut Vec<String>,
-) -> Result<(), NoMemory>
-    requires { Lists (R.shown reader.now) snap }
-{
-    let acts = [
-        Act::TakeOther(OTHER_CURSOR),
-        Act::TakeOther(OTHER_OPENING),
-        Act::TakeOther(TURNED),
-        Act::TakeOther(OWN),
-        Act::Give(3),
-        Act::Take,
-        Act::Give(0),
-        Act::Give(1),
-        Act::Give(2),
-        Act::Give(3),
-        Act::Give(4),
-    ];
-    row(alloc, reader, snap, "of another scan", BOTH, &acts, lines)
-}
-
-fn add_abandoned<R: Reader<Ledger = Uncounted>>(
-    alloc: Global,
-    reader: &R,
-    snap: u64,
-    lines: &mut Vec<String>,
-) -> Result<(), NoMemory>
-    requires { Lists (R.shown reader.now) snap }
-{
-    let acts = [
-        Act::Take,
-        Act::Give(0),
-        Act::Take,
-        Act::Abandon,
-        Act::Give(1),
-        Act::Take,
-        Act::Give(1),
-        Act::Give(2),
-        Act::Take,
-        Act::Give(3),
-        Act::Take,
-        Act::Give(4),
-        Act::Take,
-        Act::Abandon,
-    ];
-    row(
-        alloc,
-        reader,
-        snap,
-        "the first never given",
-        BOTH,
-        &acts,
-        lines,
-    )?;
-    let acts = [
-        Act::Take,
-        Act::Give(0),
-        Act::Take,
-        Act::Give(1),
-        Act::Take,
-        Act::Abandon,
-        Act::Give(2),
-        Act::Take,
-    ];
-    row(
-        alloc,
-        reader,
-        snap,
-        "the second never given",
-        BOTH,
-        &acts,
-        lines,
-    )?;
-    let acts = [Act::Abandon, Act::Abandon, Act::Take];
-    row(alloc, reader, snap, "both abandoned", BOTH, &acts, lines)
-}
-
 /// The lines of the whole table.
 pub fn add_table<R: Reader<Ledger = Uncounted>>(
     alloc: Global,
@@ -300,8 +235,45 @@ pub fn add_table<R: Reader<Ledger = Uncounted>>(
 ) -> Result<(), NoMemory>
     requires { Lists (R.shown reader.now) snap }
 {
-    add_once(alloc, reader, snap, lines)?;
-    add_twice(alloc, reader, snap, lines)?;
-    add_others(alloc, reader, snap, lines)?;
-    add_abandoned(alloc, reader, snap, lines)
+    row(alloc, reader, snap, "each once", BOTH, &ONCE, lines)?;
+    row(
+        alloc,
+        reader,
+        snap,
+        "one row does not pass",
+        WITHOUT,
+        &ONCE,
+        lines,
+    )?;
+    row(alloc, reader, snap, "an empty list", NONE, &EMPTY, lines)?;
+    row(alloc, reader, snap, "taken twice", BOTH, &TWICE, lines)?;
+    row(
+        alloc,
+        reader,
+        snap,
+        "given twice and late",
+        BOTH,
+        &LATE,
+        lines,
+    )?;
+    row(alloc, reader, snap, "of another scan", BOTH, &OTHERS, lines)?;
+    row(
+        alloc,
+        reader,
+        snap,
+        "the first never given",
+        BOTH,
+        &FIRST_NEVER,
+        lines,
+    )?;
+    row(
+        alloc,
+        reader,
+        snap,
+        "the second never given",
+        BOTH,
+        &SECOND_NEVER,
+        lines,
+    )?;
+    row(alloc, reader, snap, "both abandoned", BOTH, &NEITHER, lines)
 }

@@ -1,15 +1,15 @@
 //! Whether the course allows a trace.
-use crate::read::small;
 use rv_course::is_allowed;
 use rv_judge::Event;
 use rv_lang::{Shown, ShownEvent};
+use rv_loading::small;
 use rv_text::traces::trace;
 use rv_value::{NoMemory, Text};
 use std::alloc::Global;
 
 /// The index of a name, which is `I` and a number.
 fn index_of(name: &Text) -> Option<u32> {
-    small(name.as_str().strip_prefix("I")?)
+    small(name.as_str().strip_prefix("I")?).ok()
 }
 
 fn event_of(shown: &ShownEvent) -> Option<Event> {
@@ -39,7 +39,7 @@ fn events_of(alloc: Global, shown: &[ShownEvent]) -> Result<Option<Vec<Event>>, 
 fn numbers(alloc: Global, text: &str) -> Result<Vec<u32>, NoMemory> {
     let mut numbers = Vec::new(alloc);
     'words: for word in text.split(',') {
-        if let Some(number) = small(word) {
+        if let Ok(number) = small(word) {
             numbers.push(number)?;
         }
     }

@@ -1,5 +1,5 @@
 //! Whether a transcript is one of a legal history.
-use crate::read;
+use rv_loading::{number, small};
 use rv_model::Entry;
 use rv_replay::{Replayed, are_short, replay};
 use rv_text::{TextRead, read_text};
@@ -13,10 +13,10 @@ enum Change {
     Phase(u32),
 }
 
-fn change_of(word: &str, number: &str) -> Option<Change> {
+fn change_of(word: &str, text: &str) -> Option<Change> {
     match word {
-        "session" => Some(Change::Session(u8::try_from(read::number(number)?).ok()?)),
-        "phase" => Some(Change::Phase(read::small(number)?)),
+        "session" => Some(Change::Session(u8::try_from(number(text).ok()?).ok()?)),
+        "phase" => Some(Change::Phase(small(text).ok()?)),
         _ => None,
     }
 }
@@ -25,8 +25,8 @@ fn change_of(word: &str, number: &str) -> Option<Change> {
 fn read_change(words: &str) -> Option<(usize, Change)> {
     let (_front, words) = words.split_once(' ')?;
     let (place, rest) = words.split_once(' ')?;
-    let (word, number) = rest.split_once(' ')?;
-    Some((read::number(place)? as usize, change_of(word, number)?))
+    let (word, text) = rest.split_once(' ')?;
+    Some((number(place).ok()? as usize, change_of(word, text)?))
 }
 
 fn change_entry(entry: &mut Entry, change: Change) {

@@ -6,7 +6,6 @@
 
 mod courses;
 mod histories;
-mod read;
 
 use rv_value::NoMemory;
 use std::alloc::Global;

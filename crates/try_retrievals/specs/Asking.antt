@@ -1,17 +1,16 @@
 -- What is asked of the table.
-use Rattle.std.specs.Prelude.{◌≡◌, ℕ, ◌<◌, ◌&&◌, ◌||◌, ◌⊎◌, List, [], ◌∷◌, ◌++◌, Bool, true, Option, Some, None, is_some, if◌then◌else◌, map, nat_eq, nat_lt, length, ◌≤◌}
+use Rattle.std.specs.Prelude.{◌≡◌, ℕ, ◌<◌, ◌||◌, ◌⊎◌, List, [], ◌∷◌, ◌++◌, true, Option, Some, None, is_some, if◌then◌else◌, map, nat_eq, length, ◌≤◌}
 use Rattle.std.specs.List.{AllByRecursion, IsDistinct}
 use Rattle.rv_value.specs.declared.value.Value.TheVariants.{Int}
 use Rattle.rv_restrict.specs.declared.atom.Atom.{Atom}
 use Rattle.rv_restrict.specs.declared.atom.Atom.TheVariants.{Between}
-use Rattle.rv_restrict.specs.declared.atom.ColRef.{ColRef}
-use Rattle.rv_restrict.specs.Truth.{is_home}
 use Rattle.rv_choice.specs.declared.query.Query.{Query}
 use Rattle.rv_choice.specs.Asked.{begins_any}
 use Rattle.try_retrievals.specs.declared.asked.Span.{Span}
 use Rattle.try_retrievals.specs.declared.asked.Either.{Either}
 use Rattle.try_retrievals.specs.declared.asked.Asked.{Asked}
-use Rattle.try_retrievals.specs.Laying.{columns_of}
+use Rattle.rv_loading.specs.declared.schema.Loaded.{Loaded}
+use Rattle.rv_loading.specs.Laid.{over_at}
 
 -- the columns needed
 abbrev pub needed : Asked → List ℕ
@@ -41,19 +40,17 @@ abbrev pub spans_of : Asked → List (List Atom)
 spans_of asked =
     span_group 0 asked.first ++ span_group 1 asked.second ++ span_group 2 asked.third ++ either_group asked.either
 
--- a column of the table
-abbrev pub is_column : ColRef → Bool
-is_column c = is_home c && nat_lt c.column 3
-
--- one of the four indexes, with its columns
-pub record IsOurs (below : ℕ) (i : ℕ × List ℕ) : Type 0 where
+-- one of the indexes over the table, with its columns
+pub record IsOurs (loaded : Loaded) (below : ℕ) (i : ℕ × List ℕ) : Type 0 where
   pub index : i.0 < below
-  pub columns : i.1 ≡ columns_of i.0
+  pub there : i.0 < loaded.layout.indexes
+  pub table : (over_at loaded.schema.indexes i.0).table ≡ 0
+  pub columns : i.1 ≡ (over_at loaded.schema.indexes i.0).columns
 
 -- some of the indexes below a number, each once
-pub record Chosen (below : ℕ) (indexes : List (ℕ × List ℕ)) : Type 0 where
+pub record Chosen (loaded : Loaded) (below : ℕ) (indexes : List (ℕ × List ℕ)) : Type 0 where
   pub few : length indexes ≤ below
-  pub ours : AllByRecursion (IsOurs below) indexes
+  pub ours : AllByRecursion (IsOurs loaded below) indexes
   pub different : IsDistinct nat_eq (map (λ (i : ℕ × List ℕ). i.0) indexes)
 
 -- no order, or that of the third column, which some index has
@@ -61,10 +58,10 @@ abbrev pub IsOrder : List (ℕ × List ℕ) → List ℕ → Type 0
 IsOrder indexes order = (order ≡ []) ⊎ ((order ≡ 2 ∷ []) × (begins_any indexes (2 ∷ []) ≡ true))
 
 -- the query for what is asked
-pub record IsQuery (snap : ℕ) (asked : Asked) (query : Query) : Type 0 where
+pub record IsQuery (loaded : Loaded) (asked : Asked) (query : Query) : Type 0 where
   pub table : query.table ≡ 0
-  pub at_snap : query.snap ≡ snap
+  pub at_snap : query.snap ≡ loaded.snap
   pub only : query.only ≡ spans_of asked
-  pub indexes : Chosen 4 query.indexes
+  pub indexes : Chosen loaded 4 query.indexes
   pub need : query.need ≡ needed asked
   pub order : IsOrder query.indexes query.order

@@ -1,4 +1,3 @@
-pub mod Laying
 pub mod Standing
 pub mod Asking
 pub mod Driving

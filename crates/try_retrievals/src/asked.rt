@@ -1,18 +1,20 @@
 //! What is asked of the table.
-ghost use Rattle.std.specs.Prelude.{◌≡◌, ◌+◌, ◌++◌, ◌∷◌, [], ◌<◌, ◌⊎◌, IfOk, OnOk, true};
+ghost use Rattle.std.specs.Prelude.{◌≡◌, ◌+◌, ◌++◌, ◌<◌, IfOk, OnOk};
 ghost use Rattle.rv_value.specs.declared.value.Value.TheVariants.{Int};
 ghost use Rattle.rv_reader.specs.Shown.{Shown};
 ghost use Rattle.rv_restrict.specs.Groups.{groups_of};
 ghost use Rattle.rv_restrict.specs.declared.atom.Atom.TheVariants.{Between};
 ghost use Rattle.rv_restrict.specs.Parts.{stands_among};
-ghost use Rattle.rv_choice.specs.Asked.{CanAsk, begins_any};
+ghost use Rattle.rv_choice.specs.Asked.{CanAsk};
 ghost use Rattle.try_retrievals.specs.Asking.{Chosen, IsOrder, IsQuery, either_atoms, either_group, needed, span_atoms, span_group, spans_of};
-ghost use Rattle.try_retrievals.specs.Laying.{Offers};
+ghost use Rattle.try_retrievals.specs.Standing.{Stands};
+ghost use Rattle.rv_loading.specs.Laid.{over_at};
 
-use crate::load::columns_of;
+use crate::load::Table;
 use rv_choice::{Goal2, Query, ordered};
+use rv_loading::{Fault, Loaded};
 use rv_restrict::{Atom, ColRef, Restriction};
-use rv_value::{Items, NoMemory, Shared, Value};
+use rv_value::{Items, NoMemory, Shared, Value, copy_slice};
 use std::alloc::Global;
 
 /// The numbers from one to another.
@@ -49,6 +51,19 @@ pub struct Asked {
     /// Whether indexes may race.
     pub race: bool,
 }
+
+/// Any row, by no index.
+pub const ANY: Asked = Asked {
+    first: None,
+    second: None,
+    third: None,
+    either: None,
+    uses: [false, false, false, false],
+    whole: true,
+    sorted: false,
+    goal: Goal2::TotalTime,
+    race: false,
+};
 
 impl Asked {
     /// Whether a column is needed.
@@ -133,32 +148,69 @@ pub fn wanted(alloc: Global, asked: &Asked) -> Result<Restriction, NoMemory>
     Ok(Restriction::from_groups(groups))
 }
 
+/// Adds an index of the table that is there.
+fn push_index(
+    alloc: Global,
+    loaded: &Loaded,
+    indexes: &mut Vec<(u32, Items<u32>)>,
+    index: u32,
+) -> Result<(), NoMemory>
+    requires there { index < loaded.now.layout.indexes }
+    requires table { (over_at loaded.now.schema.indexes index).table ≡ 0 }
+    requires chosen { Chosen loaded.now index indexes.old.items }
+    ensures { OnOk result (Chosen loaded.now (index + 1) indexes.new.items) }
+{
+    let columns = copy_slice(alloc, loaded.schema.columns_of(index))?;
+    indexes.push((index, Items::from_vec(columns)))?;
+    Ok(())
+}
+
+/// Adds an index. `Form` where it is none of the table.
+fn put_index(
+    alloc: Global,
+    loaded: &Loaded,
+    indexes: &mut Vec<(u32, Items<u32>)>,
+    index: u32,
+) -> Result<(), Fault>
+    requires { Chosen loaded.now index indexes.old.items }
+    ensures { OnOk result (Chosen loaded.now (index + 1) indexes.new.items) }
+{
+    if index < loaded.layout.indexes && loaded.schema.table_of(index) == 0 {
+        return Ok(push_index(alloc, loaded, indexes, index)?);
+    }
+    Err(Fault::Form)
+}
+
 /// Adds an index, where it is used.
 fn add_index(
     alloc: Global,
+    loaded: &Loaded,
     indexes: &mut Vec<(u32, Items<u32>)>,
     index: u32,
     used: bool,
-) -> Result<(), NoMemory>
-    requires index { index < 4 }
-    requires chosen { Chosen index indexes.old.items }
-    ensures { OnOk result (Chosen (index + 1) indexes.new.items) }
+) -> Result<(), Fault>
+    requires { Chosen loaded.now index indexes.old.items }
+    ensures { OnOk result (Chosen loaded.now (index + 1) indexes.new.items) }
 {
     if used {
-        indexes.push((index, columns_of(alloc, index)?))?;
+        return put_index(alloc, loaded, indexes, index);
     }
     Ok(())
 }
 
 /// The indexes that are used.
-pub fn indexes(alloc: Global, uses: [bool; 4]) -> Result<Vec<(u32, Items<u32>)>, NoMemory>
-    ensures { IfOk result (λ indexes. Chosen 4 indexes.items) }
+pub fn indexes(
+    alloc: Global,
+    loaded: &Loaded,
+    uses: [bool; 4],
+) -> Result<Vec<(u32, Items<u32>)>, Fault>
+    ensures { IfOk result (λ indexes. Chosen loaded.now 4 indexes.items) }
 {
     let mut indexes = Vec::new(alloc);
-    add_index(alloc, &mut indexes, 0, uses[0])?;
-    add_index(alloc, &mut indexes, 1, uses[1])?;
-    add_index(alloc, &mut indexes, 2, uses[2])?;
-    add_index(alloc, &mut indexes, 3, uses[3])?;
+    add_index(alloc, loaded, &mut indexes, 0, uses[0])?;
+    add_index(alloc, loaded, &mut indexes, 1, uses[1])?;
+    add_index(alloc, loaded, &mut indexes, 2, uses[2])?;
+    add_index(alloc, loaded, &mut indexes, 3, uses[3])?;
     Ok(indexes)
 }
 
@@ -184,11 +236,11 @@ fn order(alloc: Global, asked: &Asked, indexes: &[(u32, Items<u32>)]) -> Result<
 }
 
 /// The query.
-pub fn query(alloc: Global, snap: u64, asked: &Asked) -> Result<Query, NoMemory>
-    ensures query { IfOk result (IsQuery snap asked.now) }
-    ensures can { (shown : Shown) → Offers shown snap → IfOk result (λ query. CanAsk query shown) }
+pub fn query(alloc: Global, table: &Table, asked: &Asked) -> Result<Query, Fault>
+    ensures query { IfOk result (IsQuery table.now.loaded asked.now) }
+    ensures can { (shown : Shown) → Stands shown table.now → IfOk result (λ query. CanAsk query shown) }
 {
-    let indexes = indexes(alloc, asked.uses)?;
+    let indexes = indexes(alloc, &table.loaded, asked.uses)?;
     let order = order(alloc, asked, indexes.as_slice())?;
     let need = need(alloc, asked)?;
     let over = Shared::new(alloc, Items::from_vec(indexes))?;
@@ -196,7 +248,7 @@ pub fn query(alloc: Global, snap: u64, asked: &Asked) -> Result<Query, NoMemory>
     let only = wanted(alloc, asked)?;
     Ok(Query {
         table: 0,
-        snap,
+        snap: table.loaded.snap,
         only,
         indexes: over,
         need: needs,

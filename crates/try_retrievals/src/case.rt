@@ -1,5 +1,5 @@
 //! An access for what is asked of a store that was loaded, and the line that tells of it.
-ghost use Rattle.std.specs.Prelude.{◌≡◌, ◌≤◌, IfOk, IsPermutation, true};
+ghost use Rattle.std.specs.Prelude.{◌≡◌, IfOk, IsPermutation, true};
 ghost use Rattle.rv_final.specs.Rest.{qualifying};
 ghost use Rattle.try_retrievals.specs.Asking.{spans_of};
 ghost use Rattle.try_retrievals.specs.Driving.{numbers_of};
@@ -10,10 +10,10 @@ use crate::checked::is_right;
 use crate::drive::{Driven, Way, drive};
 use crate::judges::{Ruling, verdicts};
 use crate::lines::{numbers, rows_text};
-use crate::load::Loaded;
-use crate::trace::trace_text;
+use crate::load::Table;
 use rv_access::Access;
 use rv_judge::{Contrary, Judge, Listed, Patient, Steps, Threshold, Uncounted};
+use rv_loading::{Fault, trace_text};
 use rv_reader::Reader;
 use rv_value::NoMemory;
 use std::alloc::Global;
@@ -28,18 +28,16 @@ fn verdict_word(right: bool, ended: bool) -> &'static str {
 
 fn told(
     alloc: Global,
-    loaded: Loaded,
+    table: &Table,
     asked: &Asked,
     driven: &Driven,
     access: &Access,
-) -> Result<String, NoMemory>
-    requires { loaded.rows ≤ 1000000 }
-{
+) -> Result<String, NoMemory> {
     let rows = driven.rows.as_slice();
-    let right = is_right(alloc, asked, rows, loaded.rows, loaded.filling)?;
+    let right = is_right(alloc, asked, rows, table.rows, table.filling)?;
     let numbers = numbers(alloc, rows)?;
     let rows = rows_text(alloc, numbers.as_slice())?;
-    let trace = trace_text(alloc, access.trace())?;
+    let trace = trace_text(alloc, access.trace(), &["IA", "IB", "ICA", "IC"])?;
     let word = verdict_word(right, driven.ended);
     Ok(format!(in alloc; "{word}, {}; {}", rows.as_str(), trace.as_str())?)
 }
@@ -49,13 +47,13 @@ fn told(
 fn retrieve<R: Reader<Ledger = Uncounted>>(
     alloc: Global,
     reader: &R,
-    loaded: Loaded,
+    table: &Table,
     asked: &Asked,
     ruling: Ruling,
     way: Way,
-) -> Result<(Driven, Access), NoMemory>
-    requires { Stands (R.shown reader.now) loaded }
-    ensures { IfOk result (λ found. found.0.ended ≡ true → IsPermutation (numbers_of (qualifying (spans_of asked.now) ((R.shown reader.now).rows 0 loaded.snap))) (numbers_of found.0.rows.items)) }
+) -> Result<(Driven, Access), Fault>
+    requires { Stands (R.shown reader.now) table.now }
+    ensures { IfOk result (λ found. found.0.ended ≡ true → IsPermutation (numbers_of (qualifying (spans_of asked.now) ((R.shown reader.now).rows 0 table.now.loaded.snap))) (numbers_of found.0.rows.items)) }
 {
     let mut judge: Box<dyn Judge> = match ruling {
         Ruling::Threshold => Box::new(alloc, Threshold::new())?,
@@ -68,14 +66,14 @@ fn retrieve<R: Reader<Ledger = Uncounted>>(
         | Ruling::DropsThird
         | Ruling::DropsSecond => Box::new(alloc, Listed::new(verdicts(alloc, ruling)?))?,
     };
-    let query = query(alloc, loaded.snap, asked)?;
+    let query = query(alloc, table, asked)?;
     let mut steps = Steps::new(Uncounted);
     let mut access = Access::open(alloc, reader, query, asked.race, 1, 1, &mut steps)?;
     match drive(alloc, reader, &mut access, &mut judge, way, &mut steps) {
         Ok(driven) => Ok((driven, access)),
         Err(NoMemory) => {
             drop(access);
-            Err(NoMemory)
+            Err(Fault::NoMemory)
         }
     }
 }
@@ -84,15 +82,15 @@ fn retrieve<R: Reader<Ledger = Uncounted>>(
 pub fn outcome<R: Reader<Ledger = Uncounted>>(
     alloc: Global,
     reader: &R,
-    loaded: Loaded,
+    table: &Table,
     asked: &Asked,
     ruling: Ruling,
     way: Way,
-) -> Result<String, NoMemory>
-    requires { Stands (R.shown reader.now) loaded }
+) -> Result<String, Fault>
+    requires { Stands (R.shown reader.now) table.now }
 {
-    let (driven, access) = retrieve(alloc, reader, loaded, asked, ruling, way)?;
-    let line = told(alloc, loaded, asked, &driven, &access);
+    let (driven, access) = retrieve(alloc, reader, table, asked, ruling, way)?;
+    let line = told(alloc, table, asked, &driven, &access);
     drop(access);
-    line
+    Ok(line?)
 }

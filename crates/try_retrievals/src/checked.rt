@@ -1,7 +1,7 @@
 //! Whether the rows given are those that were asked for.
-ghost use Rattle.std.specs.Prelude.{◌≡◌, ◌≤◌, true};
+ghost use Rattle.std.specs.Prelude.{◌≡◌, true};
 ghost use Rattle.rv_restrict.specs.Truth.{names_only};
-ghost use Rattle.try_retrievals.specs.Asking.{is_column};
+ghost use Rattle.rv_loading.specs.Naming.{home_column};
 
 use crate::asked::{Asked, wanted};
 use crate::load::{Filling, values_of};
@@ -17,8 +17,7 @@ fn qualifying(
     rows: u64,
     filling: Filling,
 ) -> Result<Vec<u64>, NoMemory>
-    requires rows { rows ≤ 1000000 }
-    requires columns { names_only is_column only.now ≡ true }
+    requires { names_only (home_column 3) only.now ≡ true }
 {
     let mut found = Vec::new(alloc);
     'rows: for row in 0..rows {
@@ -61,9 +60,7 @@ fn are_true(
     given: &[Record],
     rows: u64,
     filling: Filling,
-) -> Result<bool, NoMemory>
-    requires { rows ≤ 1000000 }
-{
+) -> Result<bool, NoMemory> {
     'rows: for row in given {
         if row.row.0 >= rows {
             return Ok(false);
@@ -96,9 +93,7 @@ pub fn is_right(
     given: &[Record],
     rows: u64,
     filling: Filling,
-) -> Result<bool, NoMemory>
-    requires { rows ≤ 1000000 }
-{
+) -> Result<bool, NoMemory> {
     let only = wanted(alloc, asked)?;
     let expected = qualifying(alloc, &only, rows, filling)?;
     let numbers = numbers(alloc, given)?;

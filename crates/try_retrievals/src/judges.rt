@@ -1,5 +1,6 @@
-//! The judges of the table.
+//! The judges of the table, and the ways of the background.
 
+use crate::drive::Way;
 use rv_judge::Verdict;
 use rv_value::NoMemory;
 use std::alloc::Global;
@@ -64,3 +65,73 @@ pub fn verdicts(alloc: Global, ruling: Ruling) -> Result<Vec<Verdict>, NoMemory>
         Ruling::DropsSecond => Ok(vec![in alloc; Verdict::Continue, Verdict::AbandonScan]?),
     }
 }
+
+/// A way of the background, by its name.
+#[derive(Clone, Copy)]
+pub enum Pace {
+    NoStep,
+    OneStep,
+    FiveSteps,
+    /// Each piece is given after another foreground step.
+    Late,
+    Twice,
+    Never,
+    /// Pieces are taken twice between two foreground steps, and given twice when three more are in hand.
+    LateTwice,
+}
+
+impl Pace {
+    pub fn name(self) -> &'static str {
+        match self {
+            Pace::NoStep => "no step",
+            Pace::OneStep => "one step",
+            Pace::FiveSteps => "five steps",
+            Pace::Late => "late",
+            Pace::Twice => "twice",
+            Pace::Never => "never",
+            Pace::LateTwice => "late and twice",
+        }
+    }
+
+    pub fn way(self) -> Way {
+        match self {
+            Pace::NoStep => paced(0, 0, 1),
+            Pace::OneStep => paced(1, 0, 1),
+            Pace::FiveSteps => paced(5, 0, 1),
+            Pace::Late => paced(1, 1, 1),
+            Pace::Twice => paced(1, 0, 2),
+            Pace::Never => paced(1, 0, 0),
+            Pace::LateTwice => paced(2, 3, 2),
+        }
+    }
+}
+
+fn paced(steps: u32, late: usize, times: u32) -> Way {
+    Way {
+        steps,
+        late,
+        times,
+        after: None,
+    }
+}
+
+pub const PACES: [Pace; 7] = [
+    Pace::NoStep,
+    Pace::OneStep,
+    Pace::FiveSteps,
+    Pace::Late,
+    Pace::Twice,
+    Pace::Never,
+    Pace::LateTwice,
+];
+
+pub const RULINGS: [Ruling; 8] = [
+    Ruling::Threshold,
+    Ruling::Patient,
+    Ruling::Contrary,
+    Ruling::StopsFirst,
+    Ruling::EndsSecond,
+    Ruling::DropsThenStops,
+    Ruling::EndsFourth,
+    Ruling::DropsThird,
+];

@@ -1,101 +1,10 @@
-//! The table: what is asked of 400 rows, with every judge and in every way.
-ghost use Rattle.rv_plain.specs.Kept.{shown_of};
-ghost use Rattle.try_retrievals.specs.Standing.{Stands};
-
-use crate::asked::{Asked, Span};
-use crate::case::outcome;
-use crate::drive::Way;
-use crate::judges::Ruling;
-use crate::load::{Filling, Loaded, load_paged, load_plain};
+//! What is asked of 400 rows, with every judge and in every way.
+use crate::asked::{ANY, Asked, Span};
+use crate::cases::{Case, Kind, add_paged, add_plain};
+use crate::load::Filling;
 use rv_choice::Goal2;
-use rv_judge::Uncounted;
-use rv_plain::Plain;
-use rv_reader::Reader;
-use rv_value::NoMemory;
+use rv_loading::Fault;
 use std::alloc::Global;
-
-/// A way of the background, by its name.
-#[derive(Clone, Copy)]
-enum Pace {
-    NoStep,
-    OneStep,
-    FiveSteps,
-    /// Each piece is given after another foreground step.
-    Late,
-    Twice,
-    Never,
-    /// Pieces are taken twice between two foreground steps, and given twice when three more are in hand.
-    LateTwice,
-}
-
-impl Pace {
-    fn name(self) -> &'static str {
-        match self {
-            Pace::NoStep => "no step",
-            Pace::OneStep => "one step",
-            Pace::FiveSteps => "five steps",
-            Pace::Late => "late",
-            Pace::Twice => "twice",
-            Pace::Never => "never",
-            Pace::LateTwice => "late and twice",
-        }
-    }
-
-    fn way(self) -> Way {
-        match self {
-            Pace::NoStep => paced(0, 0, 1),
-            Pace::OneStep => paced(1, 0, 1),
-            Pace::FiveSteps => paced(5, 0, 1),
-            Pace::Late => paced(1, 1, 1),
-            Pace::Twice => paced(1, 0, 2),
-            Pace::Never => paced(1, 0, 0),
-            Pace::LateTwice => paced(2, 3, 2),
-        }
-    }
-}
-
-fn paced(steps: u32, late: usize, times: u32) -> Way {
-    Way {
-        steps,
-        late,
-        times,
-        after: None,
-    }
-}
-
-const PACES: [Pace; 7] = [
-    Pace::NoStep,
-    Pace::OneStep,
-    Pace::FiveSteps,
-    Pace::Late,
-    Pace::Twice,
-    Pace::Never,
-    Pace::LateTwice,
-];
-
-const RULINGS: [Ruling; 8] = [
-    Ruling::Threshold,
-    Ruling::Patient,
-    Ruling::Contrary,
-    Ruling::StopsFirst,
-    Ruling::EndsSecond,
-    Ruling::DropsThenStops,
-    Ruling::EndsFourth,
-    Ruling::DropsThird,
-];
-
-/// Any row, by no index.
-pub(crate) const ANY: Asked = Asked {
-    first: None,
-    second: None,
-    third: None,
-    either: None,
-    uses: [false, false, false, false],
-    whole: true,
-    sorted: false,
-    goal: Goal2::TotalTime,
-    race: false,
-};
 
 /// The indexes over the first and the second column are restricted, and the third column is in neither.
 const WIDE: Asked = Asked {
@@ -186,351 +95,279 @@ const COVERED: Asked = Asked {
     ..ANY
 };
 
-fn add_ways<R: Reader<Ledger = Uncounted>>(
-    alloc: Global,
-    reader: &R,
-    loaded: Loaded,
-    asked: &Asked,
-    ruling: Ruling,
-    lines: &mut Vec<String>,
-) -> Result<(), NoMemory>
-    requires { Stands (R.shown reader.now) loaded }
-{
-    let mut before = String::new(alloc);
-    'paces: for pace in PACES {
-        let found = outcome(alloc, reader, loaded, asked, ruling, pace.way())?;
-        let told = if found.as_str() == before.as_str() {
-            "the same"
-        } else {
-            found.as_str()
-        };
-        add_line(alloc, ruling, pace, told, lines)?;
-        before = found;
-    }
-    Ok(())
-}
+/// The table is read although there are indexes.
+const FREE: Asked = Asked {
+    third: Some(Span { low: 10, high: 11 }),
+    uses: [true, true, false, false],
+    ..ANY
+};
 
-fn add_line(
-    alloc: Global,
-    ruling: Ruling,
-    pace: Pace,
-    told: &str,
-    lines: &mut Vec<String>,
-) -> Result<(), NoMemory> {
-    let line = format!(in alloc; "  {}, {}: {told}", ruling.name(), pace.name())?;
-    Ok(lines.push(line)?)
-}
+/// The first rows are wanted soon.
+const WIDE_SOON: Asked = Asked {
+    goal: Goal2::FastFirst,
+    ..WIDE
+};
 
-pub(crate) fn add_kind<R: Reader<Ledger = Uncounted>>(
-    alloc: Global,
-    reader: &R,
-    loaded: Loaded,
-    name: &str,
-    asked: Asked,
-    lines: &mut Vec<String>,
-) -> Result<(), NoMemory>
-    requires { Stands (R.shown reader.now) loaded }
-{
-    lines.push(String::from_str(alloc, name)?)?;
-    'rulings: for ruling in RULINGS {
-        add_ways(alloc, reader, loaded, &asked, ruling, lines)?;
-    }
-    Ok(())
-}
+const NARROW_SOON: Asked = Asked {
+    goal: Goal2::FastFirst,
+    ..NARROW
+};
 
-fn raced(asked: Asked) -> Asked {
-    Asked {
-        race: true,
-        ..asked
-    }
-}
+const EQUAL_SOON: Asked = Asked {
+    goal: Goal2::FastFirst,
+    ..EQUAL
+};
 
-fn soon(asked: Asked) -> Asked {
-    Asked {
-        goal: Goal2::FastFirst,
-        ..asked
-    }
-}
+const SHORT_SOON: Asked = Asked {
+    goal: Goal2::FastFirst,
+    ..SHORT
+};
 
-fn add_tables(
-    alloc: Global,
-    store: &Plain,
-    loaded: Loaded,
-    lines: &mut Vec<String>,
-) -> Result<(), NoMemory>
-    requires { Stands (shown_of store.now) loaded }
-{
-    let free = Asked {
-        third: Some(Span { low: 10, high: 11 }),
-        uses: [true, true, false, false],
-        ..ANY
-    };
-    add_kind(alloc, store, loaded, "table", free, lines)?;
-    add_kind(alloc, store, loaded, "table without an index", ANY, lines)
-}
+/// In the order of the third column.
+const SORTED: Asked = Asked {
+    first: Some(Span {
+        low: 100,
+        high: 150,
+    }),
+    second: Some(Span {
+        low: 130,
+        high: 380,
+    }),
+    uses: [true, true, false, true],
+    sorted: true,
+    ..ANY
+};
 
-fn add_backgrounds(
-    alloc: Global,
-    store: &Plain,
-    loaded: Loaded,
-    lines: &mut Vec<String>,
-) -> Result<(), NoMemory>
-    requires { Stands (shown_of store.now) loaded }
-{
-    add_kind(alloc, store, loaded, "background only", WIDE, lines)?;
-    add_kind(
-        alloc,
-        store,
-        loaded,
-        "background only, narrow",
-        NARROW,
-        lines,
-    )?;
-    add_kind(alloc, store, loaded, "background only, equal", EQUAL, lines)?;
-    add_kind(alloc, store, loaded, "fast first", soon(WIDE), lines)?;
-    add_kind(
-        alloc,
-        store,
-        loaded,
-        "fast first, narrow",
-        soon(NARROW),
-        lines,
-    )?;
-    add_kind(
-        alloc,
-        store,
-        loaded,
-        "fast first, equal",
-        soon(EQUAL),
-        lines,
-    )
-}
+const SORTED_ALONE: Asked = Asked {
+    third: Some(Span { low: 10, high: 11 }),
+    uses: [false, false, false, true],
+    sorted: true,
+    ..ANY
+};
 
-/// The retrievals in the order of the third column.
-fn add_sorted(
-    alloc: Global,
-    store: &Plain,
-    loaded: Loaded,
-    lines: &mut Vec<String>,
-) -> Result<(), NoMemory>
-    requires { Stands (shown_of store.now) loaded }
-{
-    let with_background = Asked {
-        first: Some(Span {
-            low: 100,
-            high: 150,
-        }),
-        second: Some(Span {
-            low: 130,
-            high: 380,
-        }),
-        uses: [true, true, false, true],
-        sorted: true,
-        ..ANY
-    };
-    add_kind(alloc, store, loaded, "sorted", with_background, lines)?;
-    let alone = Asked {
-        third: Some(Span { low: 10, high: 11 }),
-        uses: [false, false, false, true],
-        sorted: true,
-        ..ANY
-    };
-    add_kind(
-        alloc,
-        store,
-        loaded,
-        "sorted without background",
-        alone,
-        lines,
-    )?;
-    let by_index = Asked {
-        first: Some(Span {
-            low: 100,
-            high: 130,
-        }),
-        uses: [true, false, true, false],
-        whole: false,
-        sorted: true,
-        ..ANY
-    };
-    add_kind(
-        alloc,
-        store,
-        loaded,
-        "sorted by index alone",
-        by_index,
-        lines,
-    )
-}
+const SORTED_BY_INDEX: Asked = Asked {
+    first: Some(Span {
+        low: 100,
+        high: 130,
+    }),
+    uses: [true, false, true, false],
+    whole: false,
+    sorted: true,
+    ..ANY
+};
 
-fn add_index_only(
-    alloc: Global,
-    store: &Plain,
-    loaded: Loaded,
-    lines: &mut Vec<String>,
-) -> Result<(), NoMemory>
-    requires { Stands (shown_of store.now) loaded }
-{
-    add_kind(alloc, store, loaded, "index only", COVERED, lines)?;
-    let alone = Asked {
-        first: None,
-        third: Some(Span { low: 10, high: 11 }),
-        uses: [false, false, true, false],
-        ..COVERED
-    };
-    add_kind(
-        alloc,
-        store,
-        loaded,
-        "index only without background",
-        alone,
-        lines,
-    )
-}
+const COVERED_ALONE: Asked = Asked {
+    first: None,
+    third: Some(Span { low: 10, high: 11 }),
+    uses: [false, false, true, false],
+    ..COVERED
+};
 
-/// The retrievals of few entries, or none, which are scanned when they are opened.
-fn add_short(
-    alloc: Global,
-    store: &Plain,
-    loaded: Loaded,
-    lines: &mut Vec<String>,
-) -> Result<(), NoMemory>
-    requires { Stands (shown_of store.now) loaded }
-{
-    let sorted = Asked {
-        uses: [true, true, false, true],
-        sorted: true,
-        ..SHORT
-    };
-    let of_order = Asked {
-        third: Some(Span { low: 10, high: 10 }),
-        uses: [false, false, false, true],
-        sorted: true,
-        ..ANY
-    };
-    let none_sorted = Asked {
-        uses: [true, false, false, true],
-        sorted: true,
-        ..NONE
-    };
-    let crossed = Asked {
-        first: Some(Span { low: 40, high: 10 }),
-        ..NONE
-    };
-    add_kind(alloc, store, loaded, "short", soon(SHORT), lines)?;
-    add_kind(alloc, store, loaded, "short, sorted", sorted, lines)?;
-    add_kind(
-        alloc,
-        store,
-        loaded,
-        "short, of the order's index",
-        of_order,
-        lines,
-    )?;
-    add_kind(alloc, store, loaded, "no entry", NONE, lines)?;
-    add_kind(alloc, store, loaded, "no entry, sorted", none_sorted, lines)?;
-    add_kind(alloc, store, loaded, "crossed", crossed, lines)
-}
+/// Few entries, or none, which are scanned when the retrieval is opened.
+const SHORT_SORTED: Asked = Asked {
+    uses: [true, true, false, true],
+    sorted: true,
+    ..SHORT
+};
 
-/// A race over a store of which the name begins with a word.
-fn add_race<R: Reader<Ledger = Uncounted>>(
-    alloc: Global,
-    reader: &R,
-    loaded: Loaded,
-    of: &str,
-    name: &str,
-    asked: Asked,
-    lines: &mut Vec<String>,
-) -> Result<(), NoMemory>
-    requires { Stands (R.shown reader.now) loaded }
-{
-    let name = format!(in alloc; "{of}{name}")?;
-    add_kind(alloc, reader, loaded, name.as_str(), raced(asked), lines)
-}
+const SHORT_OF_ORDER: Asked = Asked {
+    third: Some(Span { low: 10, high: 10 }),
+    uses: [false, false, false, true],
+    sorted: true,
+    ..ANY
+};
 
-/// Where indexes can race.
-fn add_races<R: Reader<Ledger = Uncounted>>(
-    alloc: Global,
-    reader: &R,
-    loaded: Loaded,
-    of: &str,
-    lines: &mut Vec<String>,
-) -> Result<(), NoMemory>
-    requires { Stands (R.shown reader.now) loaded }
-{
-    add_race(alloc, reader, loaded, of, "race", WIDE, lines)?;
-    add_race(alloc, reader, loaded, of, "race, narrow", NARROW, lines)?;
-    add_race(alloc, reader, loaded, of, "race, equal", EQUAL, lines)?;
-    add_race(alloc, reader, loaded, of, "race of four", FOUR, lines)?;
-    add_race(
-        alloc,
-        reader,
-        loaded,
-        of,
-        "race without a row",
-        APART,
-        lines,
-    )
-}
+const NONE_SORTED: Asked = Asked {
+    uses: [true, false, false, true],
+    sorted: true,
+    ..NONE
+};
 
-/// Where a race is asked and none can be.
-fn add_no_races(
-    alloc: Global,
-    store: &Plain,
-    loaded: Loaded,
-    lines: &mut Vec<String>,
-) -> Result<(), NoMemory>
-    requires { Stands (shown_of store.now) loaded }
-{
-    let fast = Asked {
-        third: None,
-        ..soon(WIDE)
-    };
-    let one = Asked {
-        first: Some(Span { low: 60, high: 300 }),
-        uses: [true, true, false, false],
-        ..ANY
-    };
-    add_kind(
-        alloc,
-        store,
-        loaded,
-        "no race, fast first",
-        raced(fast),
-        lines,
-    )?;
-    add_kind(alloc, store, loaded, "no race of one", raced(one), lines)
-}
+const CROSSED: Asked = Asked {
+    first: Some(Span { low: 40, high: 10 }),
+    ..NONE
+};
 
-fn add_plain(
-    alloc: Global,
-    store: &Plain,
-    loaded: Loaded,
-    lines: &mut Vec<String>,
-) -> Result<(), NoMemory>
-    requires { Stands (shown_of store.now) loaded }
-{
-    add_tables(alloc, store, loaded, lines)?;
-    add_backgrounds(alloc, store, loaded, lines)?;
-    add_sorted(alloc, store, loaded, lines)?;
-    add_index_only(alloc, store, loaded, lines)?;
-    add_short(alloc, store, loaded, lines)?;
-    add_races(alloc, store, loaded, "", lines)?;
-    add_no_races(alloc, store, loaded, lines)
-}
+/// Indexes may race.
+const WIDE_RACE: Asked = Asked { race: true, ..WIDE };
 
-fn add_paged(alloc: Global, lines: &mut Vec<String>) -> Result<(), NoMemory> {
-    let (store, loaded) = load_paged(alloc, 400, Filling::Same)?;
-    let done = add_races(alloc, &store, loaded, "paged, ", lines);
-    drop(store);
-    done
-}
+const NARROW_RACE: Asked = Asked {
+    race: true,
+    ..NARROW
+};
 
-/// The lines of the whole table.
-pub fn add_kinds(alloc: Global, lines: &mut Vec<String>) -> Result<(), NoMemory> {
-    let (store, loaded) = load_plain(alloc, 400, Filling::Same)?;
-    let done = add_plain(alloc, &store, loaded, lines);
-    drop(store);
-    done?;
-    add_paged(alloc, lines)
+const EQUAL_RACE: Asked = Asked {
+    race: true,
+    ..EQUAL
+};
+
+const FOUR_RACE: Asked = Asked { race: true, ..FOUR };
+
+const APART_RACE: Asked = Asked {
+    race: true,
+    ..APART
+};
+
+/// A race is asked, and none can be.
+const FAST_RACE: Asked = Asked {
+    third: None,
+    race: true,
+    ..WIDE_SOON
+};
+
+const ONE_RACE: Asked = Asked {
+    first: Some(Span { low: 60, high: 300 }),
+    uses: [true, true, false, false],
+    race: true,
+    ..ANY
+};
+
+/// Of the plain store.
+const PLAIN: [Case; 19] = [
+    Case {
+        name: "table",
+        asked: FREE,
+        kind: Kind::All,
+    },
+    Case {
+        name: "table without an index",
+        asked: ANY,
+        kind: Kind::All,
+    },
+    Case {
+        name: "background only",
+        asked: WIDE,
+        kind: Kind::All,
+    },
+    Case {
+        name: "background only, narrow",
+        asked: NARROW,
+        kind: Kind::All,
+    },
+    Case {
+        name: "background only, equal",
+        asked: EQUAL,
+        kind: Kind::All,
+    },
+    Case {
+        name: "fast first",
+        asked: WIDE_SOON,
+        kind: Kind::All,
+    },
+    Case {
+        name: "fast first, narrow",
+        asked: NARROW_SOON,
+        kind: Kind::All,
+    },
+    Case {
+        name: "fast first, equal",
+        asked: EQUAL_SOON,
+        kind: Kind::All,
+    },
+    Case {
+        name: "sorted",
+        asked: SORTED,
+        kind: Kind::All,
+    },
+    Case {
+        name: "sorted without background",
+        asked: SORTED_ALONE,
+        kind: Kind::All,
+    },
+    Case {
+        name: "sorted by index alone",
+        asked: SORTED_BY_INDEX,
+        kind: Kind::All,
+    },
+    Case {
+        name: "index only",
+        asked: COVERED,
+        kind: Kind::All,
+    },
+    Case {
+        name: "index only without background",
+        asked: COVERED_ALONE,
+        kind: Kind::All,
+    },
+    Case {
+        name: "short",
+        asked: SHORT_SOON,
+        kind: Kind::All,
+    },
+    Case {
+        name: "short, sorted",
+        asked: SHORT_SORTED,
+        kind: Kind::All,
+    },
+    Case {
+        name: "short, of the order's index",
+        asked: SHORT_OF_ORDER,
+        kind: Kind::All,
+    },
+    Case {
+        name: "no entry",
+        asked: NONE,
+        kind: Kind::All,
+    },
+    Case {
+        name: "no entry, sorted",
+        asked: NONE_SORTED,
+        kind: Kind::All,
+    },
+    Case {
+        name: "crossed",
+        asked: CROSSED,
+        kind: Kind::All,
+    },
+];
+
+/// Of both stores: where indexes can race.
+const RACES: [Case; 5] = [
+    Case {
+        name: "race",
+        asked: WIDE_RACE,
+        kind: Kind::All,
+    },
+    Case {
+        name: "race, narrow",
+        asked: NARROW_RACE,
+        kind: Kind::All,
+    },
+    Case {
+        name: "race, equal",
+        asked: EQUAL_RACE,
+        kind: Kind::All,
+    },
+    Case {
+        name: "race of four",
+        asked: FOUR_RACE,
+        kind: Kind::All,
+    },
+    Case {
+        name: "race without a row",
+        asked: APART_RACE,
+        kind: Kind::All,
+    },
+];
+
+/// Of the plain store: where none can.
+const NO_RACES: [Case; 2] = [
+    Case {
+        name: "no race, fast first",
+        asked: FAST_RACE,
+        kind: Kind::All,
+    },
+    Case {
+        name: "no race of one",
+        asked: ONE_RACE,
+        kind: Kind::All,
+    },
+];
+
+/// The lines of the kinds.
+pub fn add_kinds(alloc: Global, lines: &mut Vec<String>) -> Result<(), Fault> {
+    add_plain(alloc, 400, Filling::Same, "", &PLAIN, lines)?;
+    add_plain(alloc, 400, Filling::Same, "", &RACES, lines)?;
+    add_plain(alloc, 400, Filling::Same, "", &NO_RACES, lines)?;
+    add_paged(alloc, 400, Filling::Same, "paged, ", &RACES, lines)
 }

@@ -8,28 +8,28 @@
 
 mod asked;
 mod case;
+mod cases;
 mod checked;
 mod drive;
 mod judges;
 mod kinds;
 mod lines;
 mod load;
-mod rows;
 mod searches;
-mod trace;
+mod singles;
 mod unions;
 
 use kinds::add_kinds;
-use rows::add_rows;
-use rv_value::NoMemory;
+use rv_loading::{Fault, write_lines};
 use searches::add_searches;
+use singles::add_singles;
 use std::alloc::Global;
 use std::io;
 use unions::add_unions;
 
-fn all_lines(alloc: Global) -> Result<Vec<String>, NoMemory> {
+fn all_lines(alloc: Global) -> Result<Vec<String>, Fault> {
     let mut lines = Vec::new(alloc);
-    add_rows(alloc, &mut lines)?;
+    add_singles(alloc, &mut lines)?;
     add_searches(alloc, &mut lines)?;
     add_kinds(alloc, &mut lines)?;
     add_unions(alloc, &mut lines)?;
@@ -37,13 +37,6 @@ fn all_lines(alloc: Global) -> Result<Vec<String>, NoMemory> {
 }
 
 fn main(rt: HostRuntime) -> io::Result<()> {
-    match all_lines(rt.alloc()) {
-        Ok(lines) => {
-            'lines: for line in lines.as_slice() {
-                println!(rt; "{}", line.as_str())?;
-            }
-        }
-        Err(NoMemory) => println!(rt; "no memory")?,
-    }
-    Ok(())
+    let lines = all_lines(rt.alloc());
+    write_lines(&rt, &lines)
 }

@@ -1,16 +1,10 @@
 //! Unions of 400 rows, with every judge and in every way, and single ones whose reads are known from hand.
-ghost use Rattle.rv_plain.specs.Kept.{shown_of};
-ghost use Rattle.try_retrievals.specs.Standing.{Stands};
-
-use crate::asked::{Asked, Either, Span};
+use crate::asked::{ANY, Asked, Either, Span};
+use crate::cases::{Case, Kind, add_paged, add_plain};
 use crate::judges::Ruling;
-use crate::kinds::{ANY, add_kind};
-use crate::load::{Filling, Loaded, load_paged, load_plain};
-use crate::rows::{NO_STEP, add};
-use rv_judge::Uncounted;
-use rv_plain::Plain;
-use rv_reader::Reader;
-use rv_value::NoMemory;
+use crate::load::Filling;
+use crate::singles::NO_STEP;
+use rv_loading::Fault;
 use std::alloc::Global;
 
 /// No span.
@@ -120,212 +114,159 @@ const NEARLY: Either = Either {
 };
 
 /// By the indexes over the first and over the second column.
-fn one_of(either: Either) -> Asked {
-    Asked {
-        either: Some(either),
-        uses: [true, true, false, false],
-        ..ANY
-    }
-}
+const BY_TWO: Asked = Asked {
+    uses: [true, true, false, false],
+    ..ANY
+};
 
 /// By all indexes.
-fn by_all(either: Either) -> Asked {
-    Asked {
-        uses: [true, true, true, true],
-        ..one_of(either)
-    }
-}
+const BY_ALL: Asked = Asked {
+    uses: [true, true, true, true],
+    ..ANY
+};
 
-/// A union over a store of which the name begins with a word.
-fn add_union<R: Reader<Ledger = Uncounted>>(
-    alloc: Global,
-    reader: &R,
-    loaded: Loaded,
-    of: &str,
-    name: &str,
-    asked: Asked,
-    lines: &mut Vec<String>,
-) -> Result<(), NoMemory>
-    requires { Stands (R.shown reader.now) loaded }
-{
-    let name = format!(in alloc; "{of}{name}")?;
-    add_kind(alloc, reader, loaded, name.as_str(), asked, lines)
-}
+const OF_APART: Asked = Asked {
+    either: Some(APART),
+    ..BY_TWO
+};
 
-/// Where the spans have rows.
-fn add_wide<R: Reader<Ledger = Uncounted>>(
-    alloc: Global,
-    reader: &R,
-    loaded: Loaded,
-    of: &str,
-    lines: &mut Vec<String>,
-) -> Result<(), NoMemory>
-    requires { Stands (R.shown reader.now) loaded }
-{
-    let whole = Asked {
-        third: Some(Span { low: 10, high: 14 }),
-        ..one_of(APART)
-    };
-    add_union(alloc, reader, loaded, of, "union", one_of(APART), lines)?;
-    add_union(
-        alloc,
-        reader,
-        loaded,
-        of,
-        "union, overlapping",
-        one_of(OVERLAP),
-        lines,
-    )?;
-    add_union(
-        alloc,
-        reader,
-        loaded,
-        of,
-        "union of four",
-        by_all(FOUR),
-        lines,
-    )?;
-    add_union(
-        alloc,
-        reader,
-        loaded,
-        of,
-        "union, twice the same",
-        one_of(TWICE),
-        lines,
-    )?;
-    add_union(
-        alloc,
-        reader,
-        loaded,
-        of,
-        "union by the lesser index",
-        by_all(THIRD),
-        lines,
-    )?;
-    add_union(alloc, reader, loaded, of, "union and a span", whole, lines)
-}
+const OF_OVERLAP: Asked = Asked {
+    either: Some(OVERLAP),
+    ..BY_TWO
+};
 
-/// Where a span has no row, and where the table is read all the same.
-fn add_narrow(
-    alloc: Global,
-    store: &Plain,
-    loaded: Loaded,
-    lines: &mut Vec<String>,
-) -> Result<(), NoMemory>
-    requires { Stands (shown_of store.now) loaded }
-{
-    add_kind(
-        alloc,
-        store,
-        loaded,
-        "union without a row",
-        one_of(NO_ROW),
-        lines,
-    )?;
-    add_kind(
-        alloc,
-        store,
-        loaded,
-        "union, one empty",
-        one_of(ONE_EMPTY),
-        lines,
-    )?;
-    add_kind(
-        alloc,
-        store,
-        loaded,
-        "union, crossed",
-        one_of(CROSSED),
-        lines,
-    )?;
-    add_kind(
-        alloc,
-        store,
-        loaded,
-        "no union, an unbound branch",
-        one_of(FOUR),
-        lines,
-    )
-}
+const OF_FOUR: Asked = Asked {
+    either: Some(FOUR),
+    ..BY_ALL
+};
+
+const OF_TWICE: Asked = Asked {
+    either: Some(TWICE),
+    ..BY_TWO
+};
+
+const OF_THIRD: Asked = Asked {
+    either: Some(THIRD),
+    ..BY_ALL
+};
+
+const AND_A_SPAN: Asked = Asked {
+    either: Some(APART),
+    third: Some(Span { low: 10, high: 14 }),
+    ..BY_TWO
+};
+
+const OF_NO_ROW: Asked = Asked {
+    either: Some(NO_ROW),
+    ..BY_TWO
+};
+
+const OF_ONE_EMPTY: Asked = Asked {
+    either: Some(ONE_EMPTY),
+    ..BY_TWO
+};
+
+const OF_CROSSED: Asked = Asked {
+    either: Some(CROSSED),
+    ..BY_TWO
+};
+
+const OF_UNBOUND: Asked = Asked {
+    either: Some(FOUR),
+    ..BY_TWO
+};
+
+const OF_TEN: Asked = Asked {
+    either: Some(TEN),
+    ..BY_TWO
+};
+
+const OF_NEARLY: Asked = Asked {
+    either: Some(NEARLY),
+    ..BY_TWO
+};
 
 /// Of forty rows in a paged store. The index over the first column has leaves of 16 and 24 entries.
-fn add_of_forty<R: Reader<Ledger = Uncounted>>(
-    alloc: Global,
-    reader: &R,
-    forty: Loaded,
-    lines: &mut Vec<String>,
-) -> Result<(), NoMemory>
-    requires { Stands (R.shown reader.now) forty }
-{
-    add(
-        alloc,
-        reader,
-        forty,
-        "paged, union",
-        one_of(TEN),
-        Ruling::Patient,
-        NO_STEP,
-        lines,
-    )?;
-    add(
-        alloc,
-        reader,
-        forty,
-        "paged, union stays",
-        one_of(NEARLY),
-        Ruling::Patient,
-        NO_STEP,
-        lines,
-    )?;
-    add(
-        alloc,
-        reader,
-        forty,
-        "paged, union drops",
-        one_of(NEARLY),
-        Ruling::Threshold,
-        NO_STEP,
-        lines,
-    )
-}
+const FORTY: [Case; 3] = [
+    Case {
+        name: "union",
+        asked: OF_TEN,
+        kind: Kind::Single(Ruling::Patient, NO_STEP),
+    },
+    Case {
+        name: "union stays",
+        asked: OF_NEARLY,
+        kind: Kind::Single(Ruling::Patient, NO_STEP),
+    },
+    Case {
+        name: "union drops",
+        asked: OF_NEARLY,
+        kind: Kind::Single(Ruling::Threshold, NO_STEP),
+    },
+];
 
-fn add_forty(alloc: Global, lines: &mut Vec<String>) -> Result<(), NoMemory> {
-    let (store, forty) = load_paged(alloc, 40, Filling::Zero)?;
-    let done = add_of_forty(alloc, &store, forty, lines);
-    drop(store);
-    done
-}
+/// Where the spans have rows.
+const WIDE: [Case; 6] = [
+    Case {
+        name: "union",
+        asked: OF_APART,
+        kind: Kind::All,
+    },
+    Case {
+        name: "union, overlapping",
+        asked: OF_OVERLAP,
+        kind: Kind::All,
+    },
+    Case {
+        name: "union of four",
+        asked: OF_FOUR,
+        kind: Kind::All,
+    },
+    Case {
+        name: "union, twice the same",
+        asked: OF_TWICE,
+        kind: Kind::All,
+    },
+    Case {
+        name: "union by the lesser index",
+        asked: OF_THIRD,
+        kind: Kind::All,
+    },
+    Case {
+        name: "union and a span",
+        asked: AND_A_SPAN,
+        kind: Kind::All,
+    },
+];
 
-fn add_plain(alloc: Global, lines: &mut Vec<String>) -> Result<(), NoMemory> {
-    let (store, loaded) = load_plain(alloc, 400, Filling::Same)?;
-    let done = add_over_plain(alloc, &store, loaded, lines);
-    drop(store);
-    done
-}
-
-fn add_over_plain(
-    alloc: Global,
-    store: &Plain,
-    loaded: Loaded,
-    lines: &mut Vec<String>,
-) -> Result<(), NoMemory>
-    requires { Stands (shown_of store.now) loaded }
-{
-    add_wide(alloc, store, loaded, "", lines)?;
-    add_narrow(alloc, store, loaded, lines)
-}
-
-fn add_paged(alloc: Global, lines: &mut Vec<String>) -> Result<(), NoMemory> {
-    let (store, loaded) = load_paged(alloc, 400, Filling::Same)?;
-    let done = add_wide(alloc, &store, loaded, "paged, ", lines);
-    drop(store);
-    done
-}
+/// Where a span has no row, and where the table is read all the same.
+const NARROW: [Case; 4] = [
+    Case {
+        name: "union without a row",
+        asked: OF_NO_ROW,
+        kind: Kind::All,
+    },
+    Case {
+        name: "union, one empty",
+        asked: OF_ONE_EMPTY,
+        kind: Kind::All,
+    },
+    Case {
+        name: "union, crossed",
+        asked: OF_CROSSED,
+        kind: Kind::All,
+    },
+    Case {
+        name: "no union, an unbound branch",
+        asked: OF_UNBOUND,
+        kind: Kind::All,
+    },
+];
 
 /// The lines of the unions.
-pub fn add_unions(alloc: Global, lines: &mut Vec<String>) -> Result<(), NoMemory> {
-    add_forty(alloc, lines)?;
-    add_plain(alloc, lines)?;
-    add_paged(alloc, lines)
+pub fn add_unions(alloc: Global, lines: &mut Vec<String>) -> Result<(), Fault> {
+    add_paged(alloc, 40, Filling::Zero, "paged, ", &FORTY, lines)?;
+    add_plain(alloc, 400, Filling::Same, "", &WIDE, lines)?;
+    add_plain(alloc, 400, Filling::Same, "", &NARROW, lines)?;
+    add_paged(alloc, 400, Filling::Same, "paged, ", &WIDE, lines)
 }

@@ -1,12 +1,14 @@
 //! What the scans give, in lines.
 ghost use Rattle.std.specs.Prelude.{◌≡◌, IfOk, IfSome, option_copied, true};
 ghost use Rattle.rv_scan.specs.Due.{IsReady, skipped};
-ghost use Rattle.try_scans.specs.Laying.{Stands};
+ghost use Rattle.rv_loading.specs.Laid.{Laid};
+ghost use Rattle.try_scans.specs.Standing.{Stands};
 
-use crate::look::look;
+use crate::look::{is_whole, look};
 use rv_delivered::Delivered;
 use rv_judge::Uncounted;
 use rv_keylist::KeyList;
+use rv_loading::{Fault, Loaded, may_read};
 use rv_reader::{Reader, Store};
 use rv_scan::Skip;
 use rv_value::{NoMemory, Record, RowNo, Value};
@@ -68,15 +70,15 @@ fn line(alloc: Global, when: &str, how: &str, rows: &[Record]) -> Result<String,
 fn add_lines<S: Store + Reader<Ledger = Uncounted>>(
     alloc: Global,
     store: &S,
-    snap: u64,
+    loaded: &Loaded,
     skip: &Skip<'_>,
     when: &str,
     lines: &mut Vec<String>,
 ) -> Result<(), NoMemory>
-    requires stands { Stands (S.shown store.now) snap }
+    requires stands { Stands loaded.now (S.shown store.now) }
     requires ready { IsReady (skipped skip.now) }
 {
-    let given = look(alloc, store, snap, skip)?;
+    let given = look(alloc, store, loaded, skip)?;
     lines.push(line(alloc, when, "by pages", given.by_pages.as_slice())?)?;
     lines.push(line(alloc, when, "by fetches", given.by_fetches.as_slice())?)?;
     lines.push(line(alloc, when, "by keys", given.by_keys.as_slice())?)?;
@@ -86,37 +88,37 @@ fn add_lines<S: Store + Reader<Ledger = Uncounted>>(
 fn add_choice<S: Store + Reader<Ledger = Uncounted>>(
     alloc: Global,
     store: &S,
-    snap: u64,
+    loaded: &Loaded,
     delivered: Option<&Delivered>,
     list: Option<&KeyList>,
     when: &str,
     lines: &mut Vec<String>,
 ) -> Result<(), NoMemory>
-    requires stands { Stands (S.shown store.now) snap }
+    requires stands { Stands loaded.now (S.shown store.now) }
     requires ready { IfSome (option_copied list) (λ list. list.finished ≡ true) }
 {
     let skip = Skip { delivered, list };
-    add_lines(alloc, store, snap, &skip, when, lines)
+    add_lines(alloc, store, loaded, &skip, when, lines)
 }
 
 /// Nothing is skipped, or what the list cannot have.
 fn add_all_of<S: Store + Reader<Ledger = Uncounted>>(
     alloc: Global,
     store: &S,
-    snap: u64,
+    loaded: &Loaded,
     delivered: Option<&Delivered>,
     when: &str,
     lines: &mut Vec<String>,
 ) -> Result<(), NoMemory>
-    requires { Stands (S.shown store.now) snap }
+    requires { Stands loaded.now (S.shown store.now) }
 {
     let list = listed(alloc)?;
-    add_choice(alloc, store, snap, delivered, None, when, lines)?;
+    add_choice(alloc, store, loaded, delivered, None, when, lines)?;
     let name = format!(in alloc; "{when}, listed")?;
     add_choice(
         alloc,
         store,
-        snap,
+        loaded,
         delivered,
         Some(&list),
         name.as_str(),
@@ -124,18 +126,35 @@ fn add_all_of<S: Store + Reader<Ledger = Uncounted>>(
     )
 }
 
-/// The lines of a snapshot: nothing is skipped, or what the list cannot have, or what was delivered, or both.
-pub fn add_all<S: Store + Reader<Ledger = Uncounted>>(
+fn add_each<S: Store + Reader<Ledger = Uncounted>>(
     alloc: Global,
     store: &S,
-    snap: u64,
+    loaded: &Loaded,
     when: &str,
     lines: &mut Vec<String>,
 ) -> Result<(), NoMemory>
-    requires { Stands (S.shown store.now) snap }
+    requires { Stands loaded.now (S.shown store.now) }
 {
     let some = delivered(alloc)?;
-    add_all_of(alloc, store, snap, None, when, lines)?;
+    add_all_of(alloc, store, loaded, None, when, lines)?;
     let name = format!(in alloc; "{when}, delivered")?;
-    add_all_of(alloc, store, snap, Some(&some), name.as_str(), lines)
+    add_all_of(alloc, store, loaded, Some(&some), name.as_str(), lines)
+}
+
+/// The lines of a snapshot: nothing is skipped, or what the list cannot have, or what was delivered, or both. `Form` where
+/// the table, its index or the snapshot is not there.
+pub fn add_all<S: Store + Reader<Ledger = Uncounted>>(
+    alloc: Global,
+    store: &S,
+    loaded: &Loaded,
+    when: &str,
+    lines: &mut Vec<String>,
+) -> Result<(), Fault>
+    requires { Laid loaded.now.schema loaded.now.layout (S.shown store.now) }
+{
+    if is_whole(loaded) {
+        may_read(&loaded.schema, store, loaded.layout, loaded.snap);
+        return Ok(add_each(alloc, store, loaded, when, lines)?);
+    }
+    Err(Fault::Form)
 }

@@ -1,19 +1,36 @@
 //! What the scans give at a snapshot of a loaded store.
-ghost use Rattle.std.specs.Prelude.{◌≡◌, IfOk};
+ghost use Rattle.std.specs.Prelude.{◌≡◌, IfOk, true};
 ghost use Rattle.rv_value.specs.declared.value.Value.TheVariants.{Int};
 ghost use Rattle.rv_restrict.specs.declared.atom.Atom.TheVariants.{Compare};
 ghost use Rattle.rv_restrict.specs.declared.atom.Op.TheVariants.{Ge};
 ghost use Rattle.rv_restrict.specs.declared.atom.Operand.TheVariants.{Literal};
 ghost use Rattle.rv_scan.specs.Due.{IsReady, skipped};
-ghost use Rattle.try_scans.specs.Laying.{IsOver, Stands};
+ghost use Rattle.try_scans.specs.Standing.{IsOver, IsWhole, Stands};
 
 use crate::drive::{by_fetches, by_keys, by_pages};
 use rv_judge::{Steps, Uncounted};
+use rv_loading::Loaded;
 use rv_reader::{Reader, Store};
 use rv_restrict::{Atom, ColRef, Op, Operand, Restriction};
 use rv_scan::Skip;
 use rv_value::{NoMemory, Record, Value};
 use std::alloc::Global;
+
+/// Whether the table of two columns, its index and the snapshot are there.
+pub fn is_whole(loaded: &Loaded) -> bool
+    ensures { result ≡ true → IsWhole loaded.now }
+{
+    if loaded.layout.tables == 0 || loaded.layout.indexes == 0 || loaded.schema.width != 2 {
+        return false;
+    }
+    if loaded.schema.columns_of(0).len() < 2 {
+        return false;
+    }
+    if loaded.layout.horizon > loaded.snap {
+        return false;
+    }
+    loaded.snap <= loaded.layout.newest
+}
 
 /// What each scan gives, in its order.
 #[derive(Drop, Debug, PartialEq, Eq)]
@@ -46,67 +63,74 @@ fn wanted(alloc: Global) -> Result<Restriction, NoMemory>
 pub fn look_by_pages<S: Store>(
     alloc: Global,
     store: &S,
-    snap: u64,
+    loaded: &Loaded,
     only: &Restriction,
     skip: &Skip<'_>,
     steps: &mut Steps<S::Ledger>,
 ) -> Result<Vec<Record>, NoMemory>
-    requires stands { Stands (S.shown store.now) snap }
+    requires stands { Stands loaded.now (S.shown store.now) }
     requires over { IsOver only.now }
     requires ready { IsReady (skipped skip.now) }
 {
-    let _last = store.last();
-    by_pages(alloc, store, 0, snap, only, skip, steps)
+    by_pages(alloc, store, 0, loaded.snap, only, skip, steps)
 }
 
 pub fn look_by_keys<S: Store>(
     alloc: Global,
     store: &S,
-    snap: u64,
+    loaded: &Loaded,
     only: &Restriction,
     skip: &Skip<'_>,
     steps: &mut Steps<S::Ledger>,
 ) -> Result<Vec<Record>, NoMemory>
-    requires stands { Stands (S.shown store.now) snap }
+    requires stands { Stands loaded.now (S.shown store.now) }
     requires over { IsOver only.now }
     requires ready { IsReady (skipped skip.now) }
 {
     let range = only.range_for(alloc, &[1, 0])?;
-    let _last = store.last();
-    by_keys(alloc, store, 0, snap, range, &[1, 0], only, skip, steps)
+    by_keys(
+        alloc,
+        store,
+        0,
+        loaded.snap,
+        range,
+        &[1, 0],
+        only,
+        skip,
+        steps,
+    )
 }
 
 pub fn look_by_fetches<S: Store>(
     alloc: Global,
     store: &S,
-    snap: u64,
+    loaded: &Loaded,
     only: &Restriction,
     skip: &Skip<'_>,
     steps: &mut Steps<S::Ledger>,
 ) -> Result<Vec<Record>, NoMemory>
-    requires stands { Stands (S.shown store.now) snap }
+    requires stands { Stands loaded.now (S.shown store.now) }
     requires over { IsOver only.now }
     requires ready { IsReady (skipped skip.now) }
 {
     let range = only.range_for(alloc, &[1, 0])?;
-    let _last = store.last();
-    by_fetches(alloc, store, 0, 0, snap, range, only, skip, steps)
+    by_fetches(alloc, store, 0, 0, loaded.snap, range, only, skip, steps)
 }
 
 fn look_once<S: Store + Reader<Ledger = Uncounted>>(
     alloc: Global,
     store: &S,
-    snap: u64,
+    loaded: &Loaded,
     skip: &Skip<'_>,
 ) -> Result<Given, NoMemory>
-    requires stands { Stands (S.shown store.now) snap }
+    requires stands { Stands loaded.now (S.shown store.now) }
     requires ready { IsReady (skipped skip.now) }
 {
     let only = wanted(alloc)?;
     let mut steps = Steps::new(Uncounted);
-    let by_pages = look_by_pages(alloc, store, snap, &only, skip, &mut steps)?;
-    let by_keys = look_by_keys(alloc, store, snap, &only, skip, &mut steps)?;
-    let by_fetches = look_by_fetches(alloc, store, snap, &only, skip, &mut steps)?;
+    let by_pages = look_by_pages(alloc, store, loaded, &only, skip, &mut steps)?;
+    let by_keys = look_by_keys(alloc, store, loaded, &only, skip, &mut steps)?;
+    let by_fetches = look_by_fetches(alloc, store, loaded, &only, skip, &mut steps)?;
     Ok(Given {
         by_pages,
         by_keys,
@@ -118,14 +142,14 @@ fn look_once<S: Store + Reader<Ledger = Uncounted>>(
 pub fn look<S: Store + Reader<Ledger = Uncounted>>(
     alloc: Global,
     store: &S,
-    snap: u64,
+    loaded: &Loaded,
     skip: &Skip<'_>,
 ) -> Result<Given, NoMemory>
-    requires stands { Stands (S.shown store.now) snap }
+    requires stands { Stands loaded.now (S.shown store.now) }
     requires ready { IsReady (skipped skip.now) }
 {
-    match look_once(alloc, store, snap, skip) {
+    match look_once(alloc, store, loaded, skip) {
         Ok(given) => Ok(given),
-        Err(_refused) => look_once(alloc, store, snap, skip),
+        Err(_refused) => look_once(alloc, store, loaded, skip),
     }
 }

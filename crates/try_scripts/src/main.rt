@@ -3,13 +3,12 @@
 #![tactic(auto)]
 
 mod queues;
-mod read;
 mod scripts;
 mod summaries;
 mod transactions;
 mod workloads;
 
-use read::{Fault, cut};
+use rv_loading::{Fault, cut, told_or_fault};
 use std::alloc::Global;
 use std::io;
 
@@ -27,20 +26,11 @@ fn answer(alloc: Global, line: &str) -> Result<String, Fault> {
     }
 }
 
-/// The words for what a line gives.
-fn words(told: &Result<String, Fault>) -> &str {
-    match told {
-        Ok(told) => told.as_str(),
-        Err(Fault::Form) => "not read",
-        Err(Fault::NoMemory) => "no memory",
-    }
-}
-
 fn main(rt: HostRuntime) -> io::Result<()> {
     'lines: for line in rt.lines(rt.alloc()) {
         let line = line?;
         let told = answer(rt.alloc(), line.as_str());
-        println!(rt; "{}", words(&told))?;
+        println!(rt; "{}", told_or_fault(&told))?;
     }
     Ok(())
 }

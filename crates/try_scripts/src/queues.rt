@@ -1,5 +1,5 @@
 //! Queues of numbers, and the order of offers.
-use crate::read::{Fault, cut, number, place};
+use rv_loading::{Fault, cut, number, place};
 use rv_model::offers::cmp_offer;
 use rv_model::{Offer, Queue};
 use rv_value::{Items, NoMemory, Value};
@@ -46,15 +46,22 @@ fn empty_word(empty: bool) -> &'static str {
     if empty { ", empty" } else { "" }
 }
 
-/// Acts on the empty queue, parted by commas: `push N`, `front -`, `get PLACE`, `remove PLACE` and `pop -`; what each finds.
-pub fn told(alloc: Global, text: &str) -> Result<String, Fault> {
-    let mut queue = Queue::new(alloc);
+/// Does acts, and tells what they find.
+fn told_of(alloc: Global, queue: &mut Queue<u64>, text: &str) -> Result<String, Fault> {
     let mut told = String::new(alloc);
     'acts: for text in text.split(", ") {
-        act(alloc, &mut queue, &mut told, text)?;
+        act(alloc, queue, &mut told, text)?;
     }
     let (count, empty) = (queue.len(), empty_word(queue.is_empty()));
     Ok(format!(in alloc; "{count} left{empty}, found{}", told.as_str())?)
+}
+
+/// Acts on the empty queue, parted by commas: `push N`, `front -`, `get PLACE`, `remove PLACE` and `pop -`; what each finds.
+pub fn told(alloc: Global, text: &str) -> Result<String, Fault> {
+    let mut queue = Queue::new(alloc);
+    let told = told_of(alloc, &mut queue, text);
+    drop(queue);
+    told
 }
 
 fn value(word: &str) -> Result<Value, Fault> {

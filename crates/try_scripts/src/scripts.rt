@@ -1,5 +1,6 @@
 //! Scripts, read: each phase as `[judge: calls]`.
-use crate::read::Fault;
+use crate::workloads::told_some;
+use rv_loading::Fault;
 use rv_script::{Line, Phase, Script, ScriptFault, read_script};
 use rv_value::NoMemory;
 use std::alloc::Global;
@@ -25,10 +26,15 @@ fn told_phase(alloc: Global, phase: &Phase) -> Result<String, NoMemory> {
     Ok(told)
 }
 
-fn told_phases(alloc: Global, script: &Script) -> Result<String, NoMemory> {
+/// The phases of a script, whole or by some of their lines.
+pub fn told_phases(alloc: Global, script: &Script, whole: bool) -> Result<String, NoMemory> {
     let mut told = String::new(alloc);
     'phases: for phase in script.phases.as_slice() {
-        let word = told_phase(alloc, phase)?;
+        let word = if whole {
+            told_phase(alloc, phase)?
+        } else {
+            told_some(alloc, phase)?
+        };
         told.push_str(word.as_str())?;
     }
     Ok(told)
@@ -62,7 +68,7 @@ pub fn told(alloc: Global, text: &str) -> Result<String, Fault> {
     }
     match read_script(alloc, bytes) {
         Ok(script) => {
-            let told = told_phases(alloc, &script);
+            let told = told_phases(alloc, &script, true);
             drop(script);
             Ok(told?)
         }

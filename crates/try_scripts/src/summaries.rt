@@ -1,7 +1,7 @@
 //! Summaries of histories, and how much of one is written where a write fails.
-use crate::read::{Fault, cut, small};
 use rv_gen::{summary_of, write_summary};
 use rv_io::MemSink;
+use rv_loading::{Fault, cut, small};
 use rv_model::{Entry, Refusal, Reply};
 use rv_value::{Items, NoMemory, RowNo, Text, Value};
 use std::alloc::Global;

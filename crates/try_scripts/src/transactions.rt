@@ -2,7 +2,7 @@
 //! what is told of them.
 ghost use Rattle.std.specs.Prelude.{◌+◌, ◌<◌, ◌≤◌};
 
-use crate::read::{Fault, cut, number, session, small};
+use rv_loading::{Fault, cut, number, small};
 use rv_model::Refusal;
 use rv_rows::Change;
 use rv_txn::{Standing, TxnFault, Txns};
@@ -32,6 +32,11 @@ fn told_fault(alloc: Global, fault: TxnFault) -> Result<String, NoMemory> {
         }
         TxnFault::NoMemory => Err(NoMemory),
     }
+}
+
+/// The number of a session.
+fn session(word: &str) -> Result<u8, Fault> {
+    u8::try_from(number(word)?).ok().ok_or(Fault::Form)
 }
 
 fn is_read_only(word: &str) -> Result<bool, Fault> {

@@ -1,7 +1,8 @@
 //! Generated workloads: how many lines each phase has, and some of them.
-use crate::read::{Fault, small};
+use crate::scripts::told_phases;
 use rv_gen::generate;
-use rv_script::{Line, Phase, Script};
+use rv_loading::{Fault, small};
+use rv_script::{Line, Phase};
 use rv_value::NoMemory;
 use std::alloc::Global;
 
@@ -13,7 +14,7 @@ fn told_line(alloc: Global, line: Option<&Line>) -> Result<String, NoMemory> {
 }
 
 /// The number of a phase's lines, and its second, fifth, eighth, fifteenth and last line but one.
-fn told_phase(alloc: Global, phase: &Phase) -> Result<String, NoMemory> {
+pub fn told_some(alloc: Global, phase: &Phase) -> Result<String, NoMemory> {
     let lines = phase.lines.as_slice();
     let count = lines.len();
     let mut told = format!(in alloc; "[{count}")?;
@@ -25,19 +26,10 @@ fn told_phase(alloc: Global, phase: &Phase) -> Result<String, NoMemory> {
     Ok(told)
 }
 
-fn told_phases(alloc: Global, script: &Script) -> Result<String, NoMemory> {
-    let mut told = String::new(alloc);
-    'phases: for phase in script.phases.as_slice() {
-        let word = told_phase(alloc, phase)?;
-        told.push_str(word.as_str())?;
-    }
-    Ok(told)
-}
-
 /// The phases of the script of a seed.
 pub fn told(alloc: Global, text: &str) -> Result<String, Fault> {
     let script = generate(alloc, small(text)?)?;
-    let told = told_phases(alloc, &script);
+    let told = told_phases(alloc, &script, false);
     drop(script);
     Ok(told?)
 }

@@ -1,31 +1,31 @@
 //! Restrictions without a row: their ranges, their parts, and a comparison of two places that is bound at the second.
-use crate::conditions::{columns, restriction};
 use crate::orders::yes_or_no;
+use crate::placing::columns;
 use crate::ranges::told_bounds;
-use crate::read::{Fault, integer};
+use rv_loading::{Fault, cut, integer, restriction};
 use rv_restrict::{Atom, ColRef, Op, Operand, Restriction};
 use rv_value::{Duplicate, NoMemory, Value, Values};
 use std::alloc::Global;
 
 /// The range of a copy of a restriction over the columns of an index.
 pub fn told_range(alloc: Global, text: &str) -> Result<String, Fault> {
-    let (index, only) = text.split_once(';').ok_or(Fault::Form)?;
+    let (index, only) = cut(text, ';')?;
     let columns = columns(alloc, index)?;
     if columns.len() > 4 {
         return Err(Fault::Form);
     }
-    let only = restriction(alloc, only)?.copy(alloc)?;
+    let only = restriction(alloc, only, " & ", " / ")?.copy(alloc)?;
     let range = only.range_for(alloc, columns.as_slice())?;
     Ok(told_bounds(alloc, &range)?)
 }
 
 /// Whether the part of a restriction for some columns is that for other ones, and is its copy.
 pub fn told_parts(alloc: Global, text: &str) -> Result<String, Fault> {
-    let (first, rest) = text.split_once(';').ok_or(Fault::Form)?;
-    let (second, only) = rest.split_once(';').ok_or(Fault::Form)?;
+    let (first, rest) = cut(text, ';')?;
+    let (second, only) = cut(rest, ';')?;
     let first = columns(alloc, first)?;
     let second = columns(alloc, second)?;
-    let only = restriction(alloc, only)?;
+    let only = restriction(alloc, only, " & ", " / ")?;
     Ok(compared(alloc, &only, first.as_slice(), second.as_slice())?)
 }
 

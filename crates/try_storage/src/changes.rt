@@ -1,6 +1,6 @@
 //! Deletions of rows, each as its table and its row: those before `then` are put at once, and the one behind it is put and
 //! taken back.
-use crate::read::{Fault, cut, number, small};
+use rv_loading::{Fault, cut, number, small};
 use rv_rows::{Change, Changes};
 use rv_value::{Duplicate, NoMemory, RowNo, Values};
 use std::alloc::Global;
@@ -125,13 +125,20 @@ fn told_with(alloc: Global, changes: &mut Changes, change: Change) -> Result<Str
     told
 }
 
-pub fn told(alloc: Global, text: &str) -> Result<String, Fault> {
-    let (first, last) = text.split_once(" then ").ok_or(Fault::Form)?;
+/// Puts the first changes and then the last one, which is taken back.
+fn told_of(alloc: Global, changes: &mut Changes, first: &str, last: &str) -> Result<String, Fault> {
+    changes.put_all(deletions(alloc, first)?)?;
     let last = deletion(last)?;
     let (table, row) = (last.table, last.row);
-    let mut changes = Changes::new(alloc);
-    changes.put_all(deletions(alloc, first)?)?;
-    let with = told_with(alloc, &mut changes, last)?;
-    let left = told_left(alloc, &changes, table, row)?;
+    let with = told_with(alloc, changes, last)?;
+    let left = told_left(alloc, changes, table, row)?;
     Ok(format!(in alloc; "put{}; taken back{}", with.as_str(), left.as_str())?)
+}
+
+pub fn told(alloc: Global, text: &str) -> Result<String, Fault> {
+    let (first, last) = text.split_once(" then ").ok_or(Fault::Form)?;
+    let mut changes = Changes::new(alloc);
+    let told = told_of(alloc, &mut changes, first, last);
+    drop(changes);
+    told
 }

@@ -1,6 +1,6 @@
 //! The set of delivered rows, full at its last place.
-use crate::read::Fault;
 use rv_delivered::Delivered;
+use rv_loading::Fault;
 use rv_value::{NoMemory, RowNo};
 use std::alloc::Global;
 
@@ -56,6 +56,23 @@ fn told_set(alloc: Global, delivered: &Delivered) -> Result<String, NoMemory> {
     Ok(format!(in alloc; "{empty}{count} rows, {word}, mix {}", mix(delivered))?)
 }
 
+/// A set, and the same with so many rows that are added.
+fn told_of(
+    alloc: Global,
+    delivered: &mut Delivered,
+    count: u64,
+    is_mixed: bool,
+) -> Result<String, NoMemory> {
+    let before = told_set(alloc, delivered)?;
+    let well = add_all(delivered, count, is_mixed);
+    let after = told_set(alloc, delivered)?;
+    Ok(format!(in alloc;
+        "{}; {well} of {count} well, {}",
+        before.as_str(),
+        after.as_str()
+    )?)
+}
+
 /// A new set, and the same with rows that are added `mixed` or `rising`.
 pub fn told(alloc: Global, text: &str) -> Result<String, Fault> {
     let (count, is_mixed) = match text {
@@ -65,12 +82,7 @@ pub fn told(alloc: Global, text: &str) -> Result<String, Fault> {
         _ => return Err(Fault::Form),
     };
     let mut delivered = Delivered::new(alloc)?;
-    let before = told_set(alloc, &delivered)?;
-    let well = add_all(&mut delivered, count, is_mixed);
-    let after = told_set(alloc, &delivered)?;
-    Ok(format!(in alloc;
-        "{}; {well} of {count} well, {}",
-        before.as_str(),
-        after.as_str()
-    )?)
+    let told = told_of(alloc, &mut delivered, count, is_mixed);
+    drop(delivered);
+    Ok(told?)
 }

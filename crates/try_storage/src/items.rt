@@ -1,12 +1,12 @@
 //! Lists of items: acts on a list of numbers, and copies of pairs.
 use crate::orders::yes_or_no;
-use crate::read::{Fault, place, small};
+use rv_loading::{Fault, cut, place, small};
 use rv_value::{Duplicate, Items, NoMemory};
 use std::alloc::Global;
 
 /// Puts a number in before a place.
 fn insert(items: &mut Items<u32>, text: &str) -> Result<(), Fault> {
-    let (at, item) = text.split_once(' ').ok_or(Fault::Form)?;
+    let (at, item) = cut(text, ' ')?;
     let (at, item) = (place(at)?, small(item)?);
     if at > items.len() {
         return Err(Fault::Form);
@@ -26,7 +26,7 @@ fn turn(items: &mut Items<u32>, text: &str) -> Result<(), Fault> {
 
 /// Puts another number in a place.
 fn put(items: &mut Items<u32>, text: &str) -> Result<(), Fault> {
-    let (at, item) = text.split_once(' ').ok_or(Fault::Form)?;
+    let (at, item) = cut(text, ' ')?;
     let (at, item) = (place(at)?, small(item)?);
     if at >= items.len() {
         return Err(Fault::Form);
@@ -37,7 +37,7 @@ fn put(items: &mut Items<u32>, text: &str) -> Result<(), Fault> {
 
 /// Writes another number into a place.
 fn write(items: &mut Items<u32>, text: &str) -> Result<(), Fault> {
-    let (at, item) = text.split_once(' ').ok_or(Fault::Form)?;
+    let (at, item) = cut(text, ' ')?;
     let (at, item) = (place(at)?, small(item)?);
     if at >= items.len() {
         return Err(Fault::Form);
@@ -53,7 +53,7 @@ fn drop_equal(items: &mut Items<u32>, text: &str) -> Result<(), Fault> {
 }
 
 fn act(items: &mut Items<u32>, text: &str) -> Result<(), Fault> {
-    let (word, rest) = text.split_once(' ').ok_or(Fault::Form)?;
+    let (word, rest) = cut(text, ' ')?;
     match word {
         "push" => Ok(items.push(small(rest)?)?),
         "insert" => insert(items, rest),
@@ -89,7 +89,7 @@ pub fn told(alloc: Global, text: &str) -> Result<String, Fault> {
 
 /// A number, and another one or N for none.
 fn pair(text: &str) -> Result<(u32, Option<u32>), Fault> {
-    let (first, second) = text.split_once(' ').ok_or(Fault::Form)?;
+    let (first, second) = cut(text, ' ')?;
     let first = small(first)?;
     if second == "N" {
         return Ok((first, None));

@@ -1,8 +1,8 @@
 //! Key lists, to which keys are pushed from above down to 0.
 ghost use Rattle.std.specs.Prelude.{◌≡◌, IfOk, length, true, false};
 
-use crate::read::{Fault, cut, small};
 use rv_keylist::{KeyList, Stage};
+use rv_loading::{Fault, cut, small};
 use rv_value::{NoMemory, RowNo};
 use std::alloc::Global;
 
@@ -67,20 +67,27 @@ fn told_finished(alloc: Global, list: &KeyList) -> Result<String, NoMemory>
     Ok(format!(in alloc; "{count} keys, {stage}, {well} in place{beyond}")?)
 }
 
-/// A list of so many keys, with so many places made before: as it is pushed, and as it is finished.
-pub fn told(alloc: Global, text: &str) -> Result<String, Fault> {
-    let (count, places) = cut(text, ' ')?;
-    let mut list = pushed_down(alloc, small(count)?, small(places)?)?;
-    let ends = told_ends(alloc, &list)?;
+/// A list as it is pushed, and as it is finished.
+fn told_list(alloc: Global, list: &mut KeyList) -> Result<String, NoMemory> {
+    let ends = told_ends(alloc, list)?;
     let (count, stage) = (list.len(), stage_word(list.stage()));
     let empty = empty_word(list.is_empty());
     list.finish();
-    let finished = told_finished(alloc, &list)?;
+    let finished = told_finished(alloc, list)?;
     Ok(format!(in alloc;
         "{empty}{count} keys, {stage}, {}; {}",
         ends.as_str(),
         finished.as_str()
     )?)
+}
+
+/// A list of so many keys, with so many places made before.
+pub fn told(alloc: Global, text: &str) -> Result<String, Fault> {
+    let (count, places) = cut(text, ' ')?;
+    let mut list = pushed_down(alloc, small(count)?, small(places)?)?;
+    let told = told_list(alloc, &mut list);
+    drop(list);
+    Ok(told?)
 }
 
 /// How many rows from its length to 99,999 a finished list may have, and how many it has.
@@ -104,5 +111,6 @@ pub fn told_probes(alloc: Global, text: &str) -> Result<String, Fault> {
     let mut list = pushed_down(alloc, small(text)?, 0)?;
     list.finish();
     let (may, has) = probes(&list);
+    drop(list);
     Ok(format!(in alloc; "{may} may be there, {has} are")?)
 }

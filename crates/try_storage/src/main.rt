@@ -5,7 +5,6 @@
 
 mod alone;
 mod changes;
-mod conditions;
 mod delivered;
 mod fits;
 mod items;
@@ -14,12 +13,11 @@ mod nodes;
 mod orders;
 mod placing;
 mod ranges;
-mod read;
 mod records;
 mod rows;
 mod versions;
 
-use read::Fault;
+use rv_loading::{Fault, told_or_fault};
 use std::alloc::Global;
 use std::io;
 
@@ -61,11 +59,8 @@ fn answer(alloc: Global, line: &str) -> Result<String, Fault> {
 fn main(rt: HostRuntime) -> io::Result<()> {
     'lines: for line in rt.lines(rt.alloc()) {
         let line = line?;
-        match answer(rt.alloc(), line.as_str()) {
-            Ok(told) => println!(rt; "{};{}", line.as_str(), told.as_str())?,
-            Err(Fault::Form) => println!(rt; "{};not read", line.as_str())?,
-            Err(Fault::NoMemory) => println!(rt; "{};no memory", line.as_str())?,
-        }
+        let told = answer(rt.alloc(), line.as_str());
+        println!(rt; "{};{}", line.as_str(), told_or_fault(&told))?;
     }
     Ok(())
 }

@@ -2,7 +2,7 @@
 ghost use Rattle.std.specs.Prelude.{◌≡◌, length};
 
 use crate::ranges::told_first;
-use crate::read::{Fault, integer};
+use rv_loading::{Fault, cut, integer};
 use rv_node::Node;
 use rv_value::{Bound, Duplicate, IndexEntry, Key, NoMemory, Range, RowNo, Value};
 use std::alloc::Global;
@@ -37,7 +37,7 @@ fn bound(alloc: Global, word: &str) -> Result<Option<Bound>, Fault> {
 }
 
 fn range(alloc: Global, text: &str) -> Result<Range, Fault> {
-    let (low, high) = text.split_once(' ').ok_or(Fault::Form)?;
+    let (low, high) = cut(text, ' ')?;
     Ok(Range {
         low: bound(alloc, low)?,
         high: bound(alloc, high)?,
@@ -77,13 +77,9 @@ fn parent(alloc: Global, entries: Vec<IndexEntry>) -> Result<Node, Fault>
     Ok(Node::make(1, entries, children))
 }
 
-/// The places of the first and the last child that may have keys of a range, and how many entries and children the node gives
-/// back: low entries, ` in ` and the bounds.
-pub fn told_children(alloc: Global, text: &str) -> Result<String, Fault> {
-    let (entries, bounds) = text.split_once(" in ").ok_or(Fault::Form)?;
-    let range = range(alloc, bounds)?;
-    let node = parent(alloc, lows(alloc, entries)?)?;
-    let (first, last) = node.children_for(&range);
+fn told_between(alloc: Global, entries: Vec<IndexEntry>, range: &Range) -> Result<String, Fault> {
+    let node = parent(alloc, entries)?;
+    let (first, last) = node.children_for(range);
     let (entries, children) = node.into_parts();
     Ok(format!(in alloc;
         "{first} to {last}, {} entries and {} children",
@@ -92,19 +88,39 @@ pub fn told_children(alloc: Global, text: &str) -> Result<String, Fault> {
     )?)
 }
 
-/// The level of a copy of a leaf, and the first values of its keys.
-fn told_copy(alloc: Global, leaf: &Node) -> Result<String, NoMemory> {
-    let copy = leaf.copy(alloc)?;
+/// The places of the first and the last child that may have keys of a range, and how many entries and children the node gives
+/// back: low entries, ` in ` and the bounds.
+pub fn told_children(alloc: Global, text: &str) -> Result<String, Fault> {
+    let (entries, bounds) = text.split_once(" in ").ok_or(Fault::Form)?;
+    let entries = lows(alloc, entries)?;
+    let range = range(alloc, bounds)?;
+    let told = told_between(alloc, entries, &range);
+    drop(range);
+    told
+}
+
+/// The level of a node, and the first values of its keys.
+fn told_node(alloc: Global, node: &Node) -> Result<String, NoMemory> {
     let mut told = format!(in alloc;
         "level {}, children {}, keys",
-        copy.level(),
-        copy.children().len()
+        node.level(),
+        node.children().len()
     )?;
-    'entries: for entry in copy.entries() {
+    'entries: for entry in node.entries() {
         let word = told_entry(alloc, entry)?;
         told.push_str(word.as_str())?;
     }
     Ok(told)
+}
+
+/// The same of a copy of a leaf, which goes.
+fn told_copy(alloc: Global, leaf: Node) -> Result<String, NoMemory> {
+    let copy = leaf.copy(alloc);
+    drop(leaf);
+    let copy = copy?;
+    let told = told_node(alloc, &copy);
+    drop(copy);
+    told
 }
 
 fn told_entry(alloc: Global, entry: &IndexEntry) -> Result<String, NoMemory> {
@@ -115,12 +131,11 @@ fn told_entry(alloc: Global, entry: &IndexEntry) -> Result<String, NoMemory> {
 /// A leaf of some keys, or the empty leaf for `none`, and its copy.
 pub fn told_leaf(alloc: Global, text: &str) -> Result<String, Fault> {
     if text == "none" {
-        return Ok(told_copy(alloc, &Node::leaf(alloc))?);
+        return Ok(told_copy(alloc, Node::leaf(alloc))?);
     }
     let entries = lows(alloc, text)?;
     if entries.len() > 32 {
         return Err(Fault::Form);
     }
-    let leaf = Node::make(0, entries, Vec::new(alloc));
-    Ok(told_copy(alloc, &leaf)?)
+    Ok(told_copy(alloc, Node::make(0, entries, Vec::new(alloc)))?)
 }

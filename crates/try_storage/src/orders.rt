@@ -1,6 +1,5 @@
 //! Values, keys and entries, compared.
-use crate::conditions::{value, values};
-use crate::read::{Fault, number};
+use rv_loading::{Fault, cut, number, value, values};
 use rv_value::{IndexEntry, Key, NoMemory, RowNo, Value, cmp_key, cmp_value, copy_slice};
 use std::alloc::Global;
 use std::cmp::Ordering;
@@ -19,7 +18,7 @@ fn order_word(order: Ordering) -> &'static str {
 
 /// The two orders of two values, and whether they are the same.
 pub fn told_values(alloc: Global, text: &str) -> Result<String, Fault> {
-    let (first, second) = text.split_once(' ').ok_or(Fault::Form)?;
+    let (first, second) = cut(text, ' ')?;
     let first = value(alloc, first)?;
     let second = value(alloc, second)?;
     let order = order_word(cmp_value(&first, &second));
@@ -42,7 +41,7 @@ pub fn key(alloc: Global, text: &str) -> Result<Key, Fault> {
 
 /// The two orders of two keys: by as many values as both have, and by all.
 pub fn told_keys(alloc: Global, text: &str) -> Result<String, Fault> {
-    let (first, second) = text.split_once(';').ok_or(Fault::Form)?;
+    let (first, second) = cut(text, ';')?;
     let first = key(alloc, first)?;
     let second = key(alloc, second)?;
     let order = order_word(cmp_key(&first, &second));
@@ -52,7 +51,7 @@ pub fn told_keys(alloc: Global, text: &str) -> Result<String, Fault> {
 
 /// An entry: the values of its key, and behind `@` the number of its row.
 fn entry(alloc: Global, text: &str) -> Result<IndexEntry, Fault> {
-    let (values, row) = text.split_once('@').ok_or(Fault::Form)?;
+    let (values, row) = cut(text, '@')?;
     let row = RowNo(number(row)?);
     Ok(IndexEntry {
         key: key(alloc, values)?,

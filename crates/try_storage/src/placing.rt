@@ -1,9 +1,8 @@
 //! Restrictions on rows.
-use crate::conditions::{columns, restriction, values};
 use crate::fits::all_fit;
 use crate::orders::yes_or_no;
 use crate::ranges::side_word;
-use crate::read::Fault;
+use rv_loading::{Fault, column, cut, restriction, values};
 use rv_restrict::{Restriction, Tri};
 use rv_value::{Duplicate, Key, Side, Value, Values};
 use std::alloc::Global;
@@ -16,11 +15,20 @@ struct Found {
     passes: bool,
 }
 
+/// The numbers of the columns a, b and c.
+pub fn columns(alloc: Global, text: &str) -> Result<Vec<u32>, Fault> {
+    let mut found = Vec::new(alloc);
+    'words: for word in text.split(' ') {
+        found.push(column(word).ok_or(Fault::Form)?.column)?;
+    }
+    Ok(found)
+}
+
 fn find(alloc: Global, line: &str) -> Result<Found, Fault> {
-    let (index, rest) = line.split_once(';').ok_or(Fault::Form)?;
-    let (only, row) = rest.split_once(';').ok_or(Fault::Form)?;
+    let (index, rest) = cut(line, ';')?;
+    let (only, row) = cut(rest, ';')?;
     let columns = columns(alloc, index)?;
-    let only = restriction(alloc, only)?;
+    let only = restriction(alloc, only, " & ", " / ")?;
     let row = Values::of(alloc, values(alloc, row)?)?;
     compare(alloc, columns.as_slice(), &only, &row)
 }

@@ -1,6 +1,6 @@
 //! Ranges of keys.
 use crate::orders::{key, yes_or_no};
-use crate::read::Fault;
+use rv_loading::{Fault, cut};
 use rv_value::{Bound, Duplicate, Key, NoMemory, Range, Side, Value};
 use std::alloc::Global;
 
@@ -50,8 +50,8 @@ fn told_side(alloc: Global, range: &Range, key: &Key) -> Result<String, NoMemory
 
 /// The two bounds of a range and a key; `starts` where the range holds what begins with the last text of the low bound.
 pub fn told(alloc: Global, text: &str, starts: bool) -> Result<String, Fault> {
-    let (low, rest) = text.split_once(';').ok_or(Fault::Form)?;
-    let (high, values) = rest.split_once(';').ok_or(Fault::Form)?;
+    let (low, rest) = cut(text, ';')?;
+    let (high, values) = cut(rest, ';')?;
     let range = range(alloc, low, high, starts)?;
     let key = key(alloc, values)?;
     Ok(told_side(alloc, &range, &key)?)

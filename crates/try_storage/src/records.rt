@@ -6,7 +6,7 @@ ghost use Rattle.rv_records.specs.Pages.{IsBelow};
 ghost use Rattle.try_storage.specs.Standing.{Stands};
 
 use crate::ranges::told_first;
-use crate::read::{Fault, cut, integer, number, small};
+use rv_loading::{Fault, cut, integer, number, small};
 use rv_records::Records;
 use rv_value::{NoMemory, Record, RowNo, Value, Values};
 use std::alloc::Global;
@@ -230,15 +230,24 @@ fn act(
     }
 }
 
-pub fn told(alloc: Global, text: &str) -> Result<String, Fault> {
-    let mut records = Records::new(alloc);
+/// Does acts, and tells what they find.
+fn told_of(alloc: Global, records: &mut Records, text: &str) -> Result<String, Fault>
+    requires { Stands 0 0 records.old }
+{
     let mut told = String::new(alloc);
     let mut clock = Clock {
         last: 0,
         horizon: 0,
     };
     'acts: for text in text.split(", ") {
-        clock = act(alloc, &mut records, clock, &mut told, text)?;
+        clock = act(alloc, records, clock, &mut told, text)?;
     }
     Ok(format!(in alloc; "{} places{}", records.len(), told.as_str())?)
+}
+
+pub fn told(alloc: Global, text: &str) -> Result<String, Fault> {
+    let mut records = Records::new(alloc);
+    let told = told_of(alloc, &mut records, text);
+    drop(records);
+    told
 }

@@ -1,5 +1,5 @@
 //! Rows by number: `put N`, `remove N` and `copy`, parted by commas; then the rows, and those of the last copy.
-use crate::read::{Fault, number};
+use rv_loading::{Fault, number};
 use rv_rows::Rows;
 use rv_value::{Duplicate, NoMemory, Record, RowNo, Value, Values};
 use std::alloc::Global;
@@ -53,9 +53,16 @@ fn told_both(alloc: Global, rows: &Rows, copy: &Rows) -> Result<String, NoMemory
     Ok(format!(in alloc; "rows{}, copy{}", all.as_str(), before.as_str())?)
 }
 
+fn told_of(alloc: Global, rows: &mut Rows, copy: &mut Rows, text: &str) -> Result<String, Fault> {
+    act_all(alloc, rows, copy, text)?;
+    Ok(told_both(alloc, rows, copy)?)
+}
+
 pub fn told(alloc: Global, text: &str) -> Result<String, Fault> {
     let mut rows = Rows::new(alloc);
     let mut copy = Rows::new(alloc);
-    act_all(alloc, &mut rows, &mut copy, text)?;
-    Ok(told_both(alloc, &rows, &copy)?)
+    let told = told_of(alloc, &mut rows, &mut copy, text);
+    drop(rows);
+    drop(copy);
+    told
 }

@@ -3,7 +3,7 @@
 ghost use Rattle.std.specs.Prelude.{◌+◌, IfOk};
 ghost use Rattle.rv_versions.specs.Chains.{AllChainsBelow};
 
-use crate::read::{Fault, cut, number, small};
+use rv_loading::{Fault, cut, number, small};
 use rv_value::NoMemory;
 use rv_versions::Versions;
 use std::alloc::Global;
@@ -128,13 +128,22 @@ fn act(
     }
 }
 
-pub fn told(alloc: Global, text: &str) -> Result<String, Fault> {
-    let mut versions = Versions::new(alloc);
+/// Does acts, and tells what they find.
+fn told_of(alloc: Global, versions: &mut Versions<u64>, text: &str) -> Result<String, Fault>
+    requires { AllChainsBelow (0 + 1) versions.old }
+{
     let mut told = String::new(alloc);
     let mut newest = 0;
     'acts: for text in text.split(", ") {
-        newest = act(alloc, &mut versions, newest, &mut told, text)?;
+        newest = act(alloc, versions, newest, &mut told, text)?;
     }
     let empty = if versions.is_empty() { "empty, " } else { "" };
     Ok(format!(in alloc; "{empty}{} places, read{}", versions.len(), told.as_str())?)
+}
+
+pub fn told(alloc: Global, text: &str) -> Result<String, Fault> {
+    let mut versions = Versions::new(alloc);
+    let told = told_of(alloc, &mut versions, text);
+    drop(versions);
+    told
 }

@@ -16,7 +16,8 @@ use Rattle.rv_node.specs.Sound.{Absent}
 use Rattle.rv_node.proofs.Rising.{All-of, list_all-of}
 use Rattle.rv_index.specs.Index.{Nodes, entries_of, cuts_of, IsNew, IsInserted}
 use Rattle.rv_index.proofs.Facts.{other_row}
-use Rattle.try_trees.specs.Filled.{IsFilled, IsNarrow}
+use Rattle.rv_loading.specs.Laid.{IsNarrow}
+use Rattle.try_trees.specs.Filled.{IsFilled}
 
 sorted_length : (e : IndexEntry) (es : List IndexEntry) (n : ℕ) → length es ≡ n → length (sorted_in e es) ≡ n + 1
 sorted_length e [] n l = omega arith

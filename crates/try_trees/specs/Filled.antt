@@ -1,8 +1,7 @@
 -- A tree of so many entries, all of rows below their number and each with a key of one value.
-use Rattle.std.specs.Prelude.{ℕ, ◌<◌, ◌≤◌, ◌≡◌, length, IfSome}
+use Rattle.std.specs.Prelude.{ℕ, ◌<◌, ◌≡◌, length}
 use Rattle.std.specs.List.{AllByRecursion}
 use Rattle.rv_value.specs.declared.record.IndexEntry.{IndexEntry}
-use Rattle.rv_value.specs.declared.range.Range.{Range}
 use Rattle.rv_reader.specs.Storing.{AreKeys}
 use Rattle.rv_versions.specs.Chains.{AllChainsBelow}
 use Rattle.rv_index.specs.Index.{Nodes, entries_of, cuts_of, IsSound}
@@ -14,8 +13,3 @@ pub record IsFilled (count : ℕ) (tree : Nodes) : Type 0 where
   pub rows : AllByRecursion (λ (e : IndexEntry). e.row.0 < count) (entries_of tree 1)
   pub keys : AreKeys 1 (entries_of tree 1)
   pub cuts : AreKeys 1 (cuts_of tree 1)
-
--- bounds of one value
-pub record IsNarrow (range : Range) : Type 0 where
-  pub low : IfSome range.low (λ b. length b.key ≤ 1)
-  pub high : IfSome range.high (λ b. length b.key ≤ 1)

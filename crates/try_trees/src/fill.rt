@@ -1,8 +1,8 @@
-ghost use Rattle.std.specs.Prelude.{◌≡◌, ◌+◌, length, IfOk, OnOk, false};
-ghost use Rattle.try_trees.specs.Filled.{IsFilled, IsNarrow};
+ghost use Rattle.std.specs.Prelude.{◌≡◌, ◌+◌, length, IfOk, OnOk};
+ghost use Rattle.try_trees.specs.Filled.{IsFilled};
 
 use rv_index::Tree;
-use rv_value::{Bound, IndexEntry, Key, NoMemory, Range, RowNo, Value};
+use rv_value::{IndexEntry, Key, NoMemory, RowNo, Value};
 use std::alloc::Global;
 
 fn key(alloc: Global, value: i64) -> Result<Key, NoMemory>
@@ -39,26 +39,4 @@ pub fn filled(alloc: Global, count: u32) -> Result<Tree, NoMemory>
         put_next(alloc, &mut tree, row)?;
     }
     Ok(tree)
-}
-
-fn bound(alloc: Global, value: i64) -> Result<Option<Bound>, NoMemory>
-    ensures { IfOk result (λ bound. IsNarrow (record { low = bound; high = bound; starts = false })) }
-{
-    Ok(Some(Bound {
-        key: key(alloc, value)?,
-        closed: true,
-    }))
-}
-
-/// The keys from one number to another.
-pub fn between(alloc: Global, low: i64, high: i64) -> Result<Range, NoMemory>
-    ensures { IfOk result IsNarrow }
-{
-    let low = bound(alloc, low)?;
-    let high = bound(alloc, high)?;
-    Ok(Range {
-        low,
-        high,
-        starts: false,
-    })
 }

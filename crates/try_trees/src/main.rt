@@ -8,8 +8,9 @@ mod shape;
 
 ghost use Rattle.try_trees.specs.Filled.{IsFilled};
 
-use fill::{between, filled};
+use fill::filled;
 use rv_index::Tree;
+use rv_loading::between;
 use rv_value::NoMemory;
 use shape::{estimated, nodes_of, read};
 use std::alloc::Global;

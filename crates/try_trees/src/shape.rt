@@ -1,5 +1,6 @@
 ghost use Rattle.std.specs.Prelude.{◌<◌};
-ghost use Rattle.try_trees.specs.Filled.{IsFilled, IsNarrow};
+ghost use Rattle.rv_loading.specs.Laid.{IsNarrow};
+ghost use Rattle.try_trees.specs.Filled.{IsFilled};
 
 use rv_estimate::split;
 use rv_index::Tree;

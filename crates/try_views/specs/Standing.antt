@@ -1,5 +1,5 @@
 -- A store of one table with one index over its first column, which a transaction reads at commit 1.
-use Rattle.std.specs.Prelude.{◌≡◌, ℕ, List, [], ◌∷◌, None, IfSome, false, length}
+use Rattle.std.specs.Prelude.{◌≡◌, ◌≤◌, ℕ, List, None, IfSome, false, length}
 use Rattle.rv_value.specs.declared.range.Range.{Range}
 use Rattle.rv_rows.specs.declared.changes.Change.{Change}
 use Rattle.rv_catalog.specs.declared.def.IndexDef.{IndexDef}
@@ -7,6 +7,8 @@ use Rattle.rv_reader.specs.Shown.{Shown, IsSnapshot}
 use Rattle.rv_reader.specs.Storing.{IsStored}
 use Rattle.rv_overlay.specs.declared.frozen.Frozen.{Frozen}
 use Rattle.rv_view.specs.Making.{AreIndexes, Keeps}
+use Rattle.rv_loading.specs.declared.schema.Loaded.{Loaded}
+use Rattle.rv_loading.specs.Laid.{over_at}
 
 pub record Stands (shown : Shown) (indexes : List IndexDef) : Type 0 where
   pub stored : IsStored shown
@@ -15,10 +17,19 @@ pub record Stands (shown : Shown) (indexes : List IndexDef) : Type 0 where
   pub snapshot : IsSnapshot shown 1
   pub listed : AreIndexes shown indexes
 
+-- what was loaded has one table, one index over one to four columns, and the commit
+pub record IsOne (loaded : Loaded) : Type 0 where
+  pub tables : loaded.layout.tables ≡ 1
+  pub indexes : loaded.layout.indexes ≡ 1
+  pub kept : loaded.layout.horizon ≤ 1
+  pub known : 1 ≤ loaded.layout.newest
+  pub some : 1 ≤ length (over_at loaded.schema.indexes 0).columns
+  pub few : length (over_at loaded.schema.indexes 0).columns ≤ 4
+
 -- the one index
-pub record IsFirst (d : IndexDef) : Type 0 where
-  pub table : d.table ≡ 0
-  pub columns : d.columns ≡ 0 ∷ []
+pub record IsFirst (loaded : Loaded) (d : IndexDef) : Type 0 where
+  pub table : d.table ≡ (over_at loaded.schema.indexes 0).table
+  pub columns : d.columns ≡ (over_at loaded.schema.indexes 0).columns
 
 -- a change of a row of the table
 pub record IsOf (row : ℕ) (c : Change) : Type 0 where
@@ -30,13 +41,6 @@ pub record IsOf (row : ℕ) (c : Change) : Type 0 where
 pub record IsKept (shown : Shown) (f : Frozen) (written : List Change) : Type 0 where
   pub base : f.base ≡ 1
   pub keeps : Keeps shown f written
-
--- nothing yet
-pub record IsEmpty (shown : Shown) : Type 0 where
-  pub tables : shown.tables ≡ 0
-  pub indexes : shown.indexes ≡ 0
-  pub horizon : shown.horizon ≡ 0
-  pub newest : shown.newest ≡ 0
 
 -- the range of all entries
 abbrev pub all_entries : Range

@@ -6,11 +6,11 @@ mod lines;
 mod lists;
 mod views;
 
-use rv_value::NoMemory;
+use rv_loading::{Fault, write_lines};
 use std::alloc::Global;
 use std::io;
 
-fn all_lines(alloc: Global) -> Result<Vec<String>, NoMemory> {
+fn all_lines(alloc: Global) -> Result<Vec<String>, Fault> {
     let mut lines = Vec::new(alloc);
     lists::add_lines(alloc, &mut lines)?;
     views::add_lines(alloc, &mut lines)?;
@@ -18,13 +18,6 @@ fn all_lines(alloc: Global) -> Result<Vec<String>, NoMemory> {
 }
 
 fn main(rt: HostRuntime) -> io::Result<()> {
-    match all_lines(rt.alloc()) {
-        Ok(lines) => {
-            'lines: for line in lines.as_slice() {
-                println!(rt; "{}", line.as_str())?;
-            }
-        }
-        Err(NoMemory) => println!(rt; "no memory")?,
-    }
-    Ok(())
+    let lines = all_lines(rt.alloc());
+    write_lines(&rt, &lines)
 }

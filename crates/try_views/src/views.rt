@@ -1,16 +1,18 @@
 //! What a cursor reads over a store without a view, and with the views that a transaction had in turn.
-ghost use Rattle.std.specs.Prelude.{◌≡◌, ◌≤◌, ◌<◌, IfOk, OnOk};
+ghost use Rattle.std.specs.Prelude.{◌≡◌, ◌≤◌, ◌<◌, IfOk, OnOk, true};
 ghost use Rattle.rv_reader.specs.Shown.{CanRead, CanScan};
 ghost use Rattle.rv_view.specs.Sights.{LaysSome};
-ghost use Rattle.try_views.specs.Standing.{IsEmpty, IsFirst, IsKept, IsOf, Stands, all_entries};
+ghost use Rattle.rv_loading.specs.Laid.{IsEmpty, Laid};
+ghost use Rattle.try_views.specs.Standing.{IsFirst, IsKept, IsOf, IsOne, Stands, all_entries};
 
 use crate::lines::add;
 use rv_blocks::Blocks;
 use rv_catalog::IndexDef;
 use rv_judge::{Steps, Uncounted};
+use rv_loading::{Fault, Loaded, Schema, fill, index_over};
 use rv_plain::Plain;
 use rv_reader::{Change, Reader, Store};
-use rv_value::{Items, NoMemory, Range, RowNo, Text, Value, Values};
+use rv_value::{Items, NoMemory, Range, RowNo, Text, Value, Values, copy_slice};
 use rv_view::laws::lays_kept;
 use rv_view::{Seen, View, frozen_of};
 use std::alloc::Global;
@@ -31,32 +33,81 @@ fn change(alloc: Global, row: u64, value: Option<i64>) -> Result<Change, NoMemor
     })
 }
 
-fn index(alloc: Global) -> Result<IndexDef, NoMemory>
-    ensures { IfOk result IsFirst }
+/// The first index of what was loaded.
+fn index(alloc: Global, loaded: &Loaded) -> Result<IndexDef, NoMemory>
+    ensures { IfOk result (IsFirst loaded.now) }
 {
+    let columns = copy_slice(alloc, loaded.schema.columns_of(0))?;
+    let name = Text::read(alloc, "i")?;
     Ok(IndexDef {
-        name: Text::read(alloc, "i")?,
-        table: 0,
-        columns: Items::from_vec(vec![in alloc; 0]?),
+        name,
+        table: loaded.schema.table_of(0),
+        columns: Items::from_vec(columns),
         unique: false,
     })
 }
 
-/// A table of one column with an index over it. Row 0 has 1 and row 1 has 3.
-fn lay<S: Store>(alloc: Global, store: &mut S) -> Result<Vec<IndexDef>, NoMemory>
-    requires { IsEmpty (S.shown store.old) }
-    ensures { IfOk result (λ indexes. Stands (S.shown store.new) indexes.items) }
+/// Whether there are one table and one index at commit 1.
+fn is_one(loaded: &Loaded) -> bool
+    ensures { result ≡ true → IsOne loaded.now }
 {
-    store.create_table(0, 1)?;
-    store.create_index(0, 0, &[0])?;
+    if loaded.layout.tables != 1 || loaded.layout.indexes != 1 {
+        return false;
+    }
+    if loaded.layout.horizon > 1 || loaded.layout.newest == 0 {
+        return false;
+    }
+    let count = loaded.schema.columns_of(0).len();
+    if count == 0 {
+        return false;
+    }
+    count <= 4
+}
+
+/// The one index of a store that was loaded.
+fn first_of<S: Store>(alloc: Global, store: &S, loaded: &Loaded) -> Result<Vec<IndexDef>, NoMemory>
+    requires laid { Laid loaded.now.schema loaded.now.layout (S.shown store.now) }
+    requires one { IsOne loaded.now }
+    ensures { IfOk result (λ indexes. Stands (S.shown store.now) indexes.items) }
+{
+    let _last = store.last();
+    let mut indexes = Vec::with_capacity(alloc, 1)?;
+    indexes.push(index(alloc, loaded)?)?;
+    Ok(indexes)
+}
+
+fn listed<S: Store>(alloc: Global, store: &S, loaded: &Loaded) -> Result<Vec<IndexDef>, Fault>
+    requires { Laid loaded.now.schema loaded.now.layout (S.shown store.now) }
+    ensures { IfOk result (λ indexes. Stands (S.shown store.now) indexes.items) }
+{
+    if is_one(loaded) {
+        return Ok(first_of(alloc, store, loaded)?);
+    }
+    Err(Fault::Form)
+}
+
+/// Row 0 has 1 and row 1 has 3.
+fn batches(alloc: Global) -> Result<Vec<Vec<Change>>, NoMemory> {
     let mut rows = Vec::with_capacity(alloc, 2)?;
     rows.push(change(alloc, 0, Some(1))?)?;
     rows.push(change(alloc, 1, Some(3))?)?;
-    store.commit(rows.as_slice())?;
-    let _last = store.last();
-    let mut indexes = Vec::with_capacity(alloc, 1)?;
-    indexes.push(index(alloc)?)?;
-    Ok(indexes)
+    let mut all = Vec::with_capacity(alloc, 1)?;
+    all.push(rows)?;
+    Ok(all)
+}
+
+/// A table of one column with an index over it, and two rows.
+fn lay<S: Store>(alloc: Global, store: &mut S) -> Result<Vec<IndexDef>, Fault>
+    requires { IsEmpty (S.shown store.old) }
+    ensures { IfOk result (λ indexes. Stands (S.shown store.new) indexes.items) }
+{
+    let batches = batches(alloc)?;
+    let mut over = Vec::with_capacity(alloc, 1)?;
+    over.push(index_over(alloc, 0, &[0])?)?;
+    let loaded = fill(store, Schema::new(1, over), 1, batches.as_slice())?;
+    let indexes = listed(alloc, store, &loaded);
+    drop(loaded);
+    indexes
 }
 
 /// The view of a transaction without changes, and the rows that it has written.
@@ -322,7 +373,7 @@ fn seen_at_once<S: Store + Reader<Ledger = Uncounted>>(
 }
 
 /// A transaction changes rows 0 to 32 in turn, and another one two rows at once.
-pub fn add_lines(alloc: Global, lines: &mut Vec<String>) -> Result<(), NoMemory> {
+pub fn add_lines(alloc: Global, lines: &mut Vec<String>) -> Result<(), Fault> {
     let mut store = Plain::new(alloc)?;
     let done = add_over(alloc, &mut store, lines);
     drop(store);
@@ -334,13 +385,13 @@ fn add_over<S: Store + Reader<Ledger = Uncounted>>(
     alloc: Global,
     store: &mut S,
     lines: &mut Vec<String>,
-) -> Result<(), NoMemory>
+) -> Result<(), Fault>
     requires { IsEmpty (S.shown store.old) }
 {
     let indexes = lay(alloc, store)?;
     let done = add_both(alloc, store, indexes.as_slice(), lines);
     drop(indexes);
-    done
+    Ok(done?)
 }
 
 fn add_both<S: Store + Reader<Ledger = Uncounted>>(

@@ -1,5 +1,5 @@
-use Rattle.try_paged.specs.Twins.{AreReady}
+use Rattle.try_paged.specs.Twins.{AreLaid}
 use Rattle.try_paged.proofs.run_ten.Given as goal
 
 abbrev pub invariant-commits : goal.invariant-commits
-invariant-commits l = AreReady l.commit l.run.twins
+invariant-commits l = AreLaid l.run.twins

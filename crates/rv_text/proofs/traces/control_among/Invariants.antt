@@ -1,5 +1,5 @@
 use Rattle.std.proofs.Common.{◌≡◌, bytes_eq, find, length}
-use Rattle.rv_model.specs.Transcript.{control_word}
+use Rattle.rv_judge.specs.Words.{control_word}
 use Rattle.rv_text.proofs.traces.control_among.Given as goal
 
 abbrev pub invariant-controls : goal.invariant-controls

@@ -1,5 +1,5 @@
 use Rattle.std.proofs.Common.{◌≡◌, bytes_eq, find, length}
-use Rattle.rv_model.specs.Transcript.{strategy_word}
+use Rattle.rv_judge.specs.Words.{strategy_word}
 use Rattle.rv_text.proofs.traces.strategy_among.Given as goal
 
 abbrev pub invariant-strategies : goal.invariant-strategies

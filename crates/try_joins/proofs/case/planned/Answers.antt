@@ -5,7 +5,7 @@ use Rattle.try_joins.proofs.Asks.{can_plan}
 use Rattle.try_joins.proofs.case.planned.Goals as goal
 
 pub open-requires : goal.open-requires
-open-requires g c = can_plan c.args.select.now c.args.indexes.now (g.R.Reader.shown c.args.reader.now) c.args.snap c.requires.select c.requires.indexes c.requires.offers
+open-requires g c = can_plan c.args.loaded.now c.args.select.now c.args.indexes.now (g.R.Reader.shown c.args.reader.now) c.requires.select c.requires.indexes c.requires.offers
 
 pub followed-found-requires : goal.followed-found-requires
 followed-found-requires g c = c.in_ok-plan.ensures.fits

@@ -6,7 +6,7 @@ use Rattle.try_retrievals.specs.Driving.{numbers_of}
 use Rattle.try_retrievals.proofs.case.retrieve.Goals as goal
 
 pub open-requires : goal.open-requires
-open-requires g c = c.in_ok-query.ensures.can (g.R.Reader.shown c.args.reader.now) c.requires.offers
+open-requires g c = c.in_ok-query.ensures.can (g.R.Reader.shown c.args.reader.now) c.requires
 
 pub returns-in-Ok : goal.returns-in-Ok
 returns-in-Ok g c = λ ended.

@@ -1,5 +1,0 @@
-use Rattle.std.proofs.Common.{length}
-use Rattle.try_joins.proofs.select.+are_groups.Given as goal
-
-abbrev pub decreases-are_groups : goal.decreases-are_groups
-decreases-are_groups l = length l.groups.now
