@@ -4,6 +4,7 @@ use Rattle.std.proofs.lemmas.List.Elements.{All-rest}
 use Rattle.rv_value.proofs.Lists.{on_err}
 use Rattle.rv_gen.specs.Workload.{IsCall}
 use Rattle.rv_phases.proofs.Calls.{all_first}
+use Rattle.rv_run.specs.Ruling.{judging}
 use Rattle.rv_run.proofs.Rulings.{made_answers, made_more, made_part, made_stops, made_told, next_turned, none_made}
 use Rattle.rv_run.proofs.calls.make_phase.Goals as goal
 
@@ -25,7 +26,7 @@ pub returns-in_err-make_call-clause-part : goal.returns-in_err-make_call-clause-
 returns-in_err-make_call-clause-part g c = made_part _ _ _ _ _ _ _ _ _ c.make_call.new.core.engine.history c.in_err-make_call.ensures.err c.lines.invariant.made
 
 pub returns-in_err-make_call-clause-stopped : goal.returns-in_err-make_call-clause-stopped
-returns-in_err-make_call-clause-stopped g c = on_err c.from_residual.result _ (made_stops _ _ _ _ _ _ _ _ _ c.make_call.new.core.engine _ c.in_err-make_call.ensures.err c.lines.invariant.made)
+returns-in_err-make_call-clause-stopped g c = on_err c.from_residual.result _ (made_stops _ _ _ _ _ _ _ _ _ c.make_call.new.core.engine (judging ((goal.Judge-dyn g (c.args.core.now.judge.vtable, c.args.core.now.judge.value)).would c.args.core.now.judge.value) ((goal.Judge-dyn g (c.make_call.new.core.judge.vtable, c.make_call.new.core.judge.value)).state c.make_call.new.core.judge.value)) c.in_err-make_call.ensures.err c.lines.invariant.made)
 
 pub lines-preserved : goal.lines-preserved
 lines-preserved g c =
