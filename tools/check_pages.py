@@ -99,7 +99,7 @@ class Repository:
         name = name.rstrip("/").replace("NAME", "*")
         folders = [self.top, os.path.dirname(os.path.join(self.top, page))]
         if page.startswith("docs/") or page == "README.md":
-            if name.split("/")[0] in ("src", "specs", "proofs", "must-fail"):
+            if name.split("/")[0] in ("src", "specs", "proofs", "must-fail", "mutants"):
                 folders += [os.path.join(self.top, "crates", c) for c in self.crates]
         if "*" in name:
             return [p for folder in folders for p in glob.glob(os.path.join(folder, name))]

@@ -21,4 +21,6 @@ fi
 ./prover_times check || status=1
 ./check_pages.py --test && ./check_pages.py || status=1
 ./believed.py --test && ./believed.py --check || status=1
+# (which crates' wrong bodies are to be tried again is told, and fails nothing)
+./mutants check
 exit $status

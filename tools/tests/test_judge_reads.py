@@ -64,8 +64,8 @@ class Reads(unittest.TestCase):
                 self.assertEqual(sorted(reads.rows), reads.rows)
 
     def test_judges_answer_as_those_of_skew_judges(self):
-        """The questions of crates/skew_judges/src/tests.rt, but for the last one: foreground, position of the scan, entries
-        scanned, keys kept, estimate, leaves read, guarantee, rows delivered; and the answers of AllRows and FirstRows."""
+        """The questions of crates/try_judges/src/rulings.rt from the sixth on, but for the last one: foreground, position of the
+        scan, entries scanned, keys kept, estimate, leaves read, guarantee, rows delivered; and the answers of AllRows and FirstRows."""
         for (building, scan, scanned, kept, estimate, spent, guaranteed, delivered), *answers in [
             ((False, 0, 20, 20, 80, 2, 61, 0), "go on", "go on"),
             ((False, 0, 20, 20, 80, 2, 60, 0), "drop", "drop"),

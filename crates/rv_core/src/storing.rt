@@ -182,8 +182,8 @@ fn keep_up<S: Store + Reader<Ledger = Uncounted>>(
     }
 }
 
-/// Tests that no row which changes of the session's transaction are about to write has a rival in a unique index. What is
-/// kept of views may be made anew for it.
+/// Tests that no row which changes of the session's transaction are about to write has a rival in a unique index. The
+/// transaction's view is made for it where it is not kept.
 fn unrivalled<S: Store + Reader<Ledger = Uncounted>>(
     alloc: Global,
     catalog: &Catalog,
@@ -377,7 +377,7 @@ fn met_by<S: Store + Reader<Ledger = Uncounted>>(
 }
 
 /// The changes that an UPDATE or DELETE would make. A session that has no transaction which may write is refused before any
-/// search. What is kept of views may be made anew for it.
+/// search. The transaction's view is made for it where it is not kept.
 fn due_changes<S: Store + Reader<Ledger = Uncounted>>(
     alloc: Global,
     catalog: &Catalog,
@@ -474,7 +474,7 @@ pub fn change_rows<S: Store + Reader<Ledger = Uncounted>>(
     }
 }
 
-/// The view of the session's transaction as it stands, for a cursor: None where it has no changes.
+/// The view of the session's transaction as it stands, for a cursor or a search: None where it has no changes.
 pub fn freeze<S: Store + Reader<Ledger = Uncounted>>(
     catalog: &Catalog,
     store: &S,

@@ -1,5 +1,5 @@
-//! The views of transactions that have changes: made for the first cursor, kept up to date with each further change, and shared
-//! with the cursors that are opened.
+//! The views of transactions that have changes: made when one is first asked for (by a cursor, a search or a unique index), kept up
+//! to date with each further change, and shared with the cursors that are opened.
 #![tactic(auto)]
 
 pub mod views;

@@ -1,5 +1,5 @@
-//! The views of transactions, kept up to date with their changes from the first cursor on: a cursor reads the view as it stands
-//! when it is opened.
+//! The views of transactions, kept up to date with their changes from when one is first asked for: a cursor reads the view as it
+//! stands when it is opened.
 ghost use Rattle.std.specs.Prelude.{◌≡◌, ◌<◌, ◌==◌, ◌⊎◌, ◌∷◌, ◌++◌, [], Some, IfOk, IfSome, List, ℕ, length, position, slice_index_or};
 ghost use Rattle.std.specs.List.{AllByRecursion};
 ghost use Rattle.rv_rows.specs.Changes.{Rise, with_changes};
@@ -29,8 +29,8 @@ pub struct OwnView {
 }
 
 /// The views of transactions that have changes. One is made when it is first asked for, of all changes that the transaction has
-/// by then, and kept up to date from then on; of a transaction that opens no cursor none is made. Of one whose view found no
-/// memory none is kept: it is made anew when it is asked for again.
+/// by then, and kept up to date from then on; a cursor asks for it, and so do a search and the test of a unique index. Of one
+/// whose view found no memory none is kept: it is made anew when it is asked for again.
 #[derive(Drop)]
 pub struct Views {
     alloc: Global,
@@ -81,7 +81,7 @@ impl Views {
         keep_views(self.alloc, &mut self.views, store, indexes, own, new);
     }
 
-    /// The view of a transaction as it stands, for a cursor that is opened: None where it has no changes. It copies no
+    /// The view of a transaction as it stands, for whoever reads it: None where it has no changes. It copies no
     /// list where the view is kept, and else makes it of all changes, in time that grows with their number: once for each
     /// transaction, unless memory is wanting.
     pub fn freeze<S: Store + Reader<Ledger = Uncounted>>(

@@ -93,7 +93,7 @@ fn others_of<'a, S: Store + Reader<Ledger = Uncounted>>(
     Ok(others)
 }
 
-/// What stands beside the rows of a statement. A view that is not kept is made anew.
+/// What stands beside the rows of a statement. A view that is asked for and not kept is made.
 pub fn near_of<'a, S: Store + Reader<Ledger = Uncounted>>(
     alloc: Global,
     store: &S,

@@ -18,8 +18,8 @@ use std::marker::Model;
 use std::mem;
 use std::sync::Arc;
 
-/// The view of a transaction as it stood once. The transaction shares it with the cursors that were opened then, until its
-/// next change.
+/// The view of a transaction as it stood once. The transaction shares it with whoever asked for it then (a cursor, a search, the
+/// test of a unique index), until its next change.
 #[derive(Drop)]
 pub struct View {
     frozen: Arc<Frozen>,
