@@ -2,12 +2,8 @@
 """Counts what judges and static paths read on the skewed queries of some seeds (skewed_queries.py): in all, and until the
 n-th row.
 
-A **static path** is chosen before the query starts and kept: the table's pages, or some of the indexes that the query
-restricts, whose lists are intersected before the records are fetched; of one index alone the records are fetched as its
-leaves are read. The **best** path is the one that reads least in hindsight. The **planner** takes the path of least cost by
-the engine's own estimates: the pages, or the leaves (estimate / 16) of its indexes and the records expected, which are the
-table's rows multiplied by estimate / rows for each of them, as if columns were independent. The first rule of the strategy, a
-short index that is scanned at once, holds for the judges and not for static paths.
+The static paths, the **best** of them in hindsight and the one that the **planner** takes are those of fixed_paths.py. The
+first rule of the strategy, a short index that is scanned at once, holds for the judges and not for static paths.
 
 The reads of judges are those of the slow model, which gives the program's traces. --check compares them with the traces in a
 transcript that the program wrote of the script of one seed."""
@@ -16,15 +12,15 @@ from __future__ import annotations
 import argparse
 from bisect import bisect_left, bisect_right
 from dataclasses import dataclass
-from functools import cached_property
 from itertools import combinations
 from typing import Callable, Iterator, NamedTuple
 
 import judge_pictures
 from ending import end
+from fixed_paths import FixedPaths, Reads
 from model.database import place
 from model.ranges import range_for
-from model.retrieval import LEAF, PAGE, Counts, KeyList, Retrieval, project
+from model.retrieval import LEAF, PAGE, Counts, Retrieval, project
 from model.trees import Node, Tree
 from skewed_queries import INDEXES, Query, Workload, workload
 
@@ -95,17 +91,6 @@ def sentence(facts: Facts, kept: tuple[int, ...]) -> str:
 JUDGES: dict[str, Judge] = {"threshold": threshold, "patient": patient, "AllRows": all_rows, "FirstRows": first_rows}
 
 
-class Reads(NamedTuple):
-    """Reads in all, and until each row was given."""
-
-    whole: int
-    rows: list[int]
-
-    def until(self, number: int) -> int:
-        """Until the row of this number (from 1), or until the end where there are fewer."""
-        return self.rows[number - 1] if number <= len(self.rows) else self.whole
-
-
 # Static paths, and judges.
 
 
@@ -135,71 +120,16 @@ class Ranged:
         return self.read[at], at + 1 if at + 1 < len(self.read) else None
 
 
-class Asked:
-    """A query with what its paths and judges need of the table: its indexes, and the rows wanted, by page too."""
+class Asked(FixedPaths):
+    """A query with what its paths and judges need of the table: its indexes, and the rows wanted."""
 
     def __init__(self, query: Query, table: "Table"):
-        self.query, self.table, self.pages = query, table, table.pages
-        self.indexes = [Ranged(name, table.trees[name], column, query.ranges[column])
-                        for name, column in INDEXES.items() if column in query.ranges]
-        least = min(self.indexes, key=lambda index: sum(map(len, index.read)))
-        self.wanted = {number for entries in least.read for _, number in entries if query.takes(table.rows[number])}
-        self.by_page: dict[int, list[int]] = {}
-        for number in sorted(self.wanted):
-            self.by_page.setdefault(number // PAGE, []).append(number)
-
-    @cached_property
-    def paths(self) -> dict[tuple[str, ...], Reads]:
-        """The reads of each static path, by the names of its indexes in the order in which they are scanned (none: the table)."""
-        ranged = sorted(self.indexes, key=lambda index: index.estimate)
-        chosen = [some for size in range(1, len(ranged) + 1) for some in combinations(ranged, size)]
-        paths = {(): self.by_table()}
-        for some in chosen:
-            paths[tuple(i.name for i in some)] = self.by_index(some[0]) if len(some) == 1 else self.by_lists(some)
-        return paths
-
-    def by_table(self) -> Reads:
-        return Reads(self.pages, [page + 1 for page, rows in sorted(self.by_page.items()) for _ in rows])
-
-    def by_index(self, index: Ranged) -> Reads:
-        reads, rows = 0, []
-        for entries in index.read:
-            reads += 1
-            for _, number in entries:
-                reads += 1
-                if number in self.wanted:
-                    rows.append(reads)
-        return Reads(reads, rows)
-
-    def by_lists(self, indexes) -> Reads:
-        reads, keys = 0, None
-        for index in indexes:
-            reads += len(index.read)
-            keys = KeyList(sorted(n for entries in index.read for _, n in entries if keys is None or keys.may_have(n)))
-            if not keys.keys:
-                break
-        rows = [reads + at + 1 for at, number in enumerate(keys.keys) if number in self.wanted]
-        return Reads(reads + len(keys.keys), rows)
-
-    @property
-    def best(self) -> tuple[str, ...]:
-        return min(self.paths, key=lambda path: self.paths[path].whole)
-
-    @property
-    def planned(self) -> tuple[str, ...]:
-        estimates = {index.name: index.estimate for index in self.indexes}
-        rows = len(self.table.rows)
-
-        def cost(path):
-            if not path:
-                return self.pages
-            leaves, keys = 0, rows
-            for name in path:
-                leaves += -(-estimates[name] // 16)
-                keys *= min(estimates[name], rows) / rows
-            return leaves + keys
-
-        return min(self.paths, key=cost)
+        self.query = query
+        indexes = [Ranged(name, table.trees[name], column, query.ranges[column])
+                   for name, column in INDEXES.items() if column in query.ranges]
+        least = min(indexes, key=lambda index: sum(map(len, index.read)))
+        wanted = {number for entries in least.read for _, number in entries if query.takes(table.rows[number])}
+        super().__init__(len(table.rows), table.pages, indexes, wanted)
 
     def judged(self, judge: Judge, steps: int) -> Reads:
         return Judged(self, judge, steps).reads()
@@ -318,10 +248,10 @@ class Told:
 def told_of(seed: int, rows: int, queries: int, steps: int) -> list[Told]:
     table, told = Table(workload(seed, rows, queries)), []
     for asked in table.asked():
-        reads = {"best": asked.paths[asked.best], "planner": asked.paths[asked.planned]}
+        reads = {"best": asked.reads[asked.best], "planner": asked.reads[asked.planned]}
         for name, judge in JUDGES.items():
             reads[name] = asked.judged(judge, steps)
-        told.append(Told(asked.query.soon, len(asked.wanted), reads, min(path.until(1) for path in asked.paths.values())))
+        told.append(Told(asked.query.soon, len(asked.wanted), reads, min(reads.until(1) for reads in asked.reads.values())))
     return told
 
 
@@ -385,7 +315,7 @@ def tables(runs: dict[tuple[int, int], list[Told]], steps: int) -> Iterator[str]
 def verdicts(seed: int, rows: int, queries: int) -> float:
     """The reads in all by the best verdicts in hindsight, against the best path."""
     asked = list(Table(workload(seed, rows, queries)).asked())
-    return sum(a.by_verdicts() for a in asked) / sum(a.paths[a.best].whole for a in asked)
+    return sum(a.by_verdicts() for a in asked) / sum(a.reads[a.best].whole for a in asked)
 
 
 def differences(seed: int, rows: int, queries: int, steps: int, judge: str, transcript: str) -> list[str]:

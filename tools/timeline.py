@@ -1,19 +1,23 @@
 #!/usr/bin/env python3
-"""Shows one cursor of a script call by call: what was replied, which pages, leaves and records each call read, which scans
+"""Shows cursors of a script call by call: what was replied, which pages, leaves and records each call read, which scans
 began, were completed or were dropped, and why.
 
 The run is that of the slow model, which writes the program's transcript and so reads what the program reads. For each
 ruling of a judge it tells what was scanned and kept, what the scan was projected to cost and what was guaranteed without
-it. With two judges (--judge 0 --judge 1) both courses of the same cursor are told side by side; a judge that is given so
-rules the whole run, whatever the script's marks say."""
+it. With two judges (--judge 0 --judge 1) both courses of a cursor are told side by side; a judge that is given so rules the
+whole run, whatever the script's marks say. Of several cursors each is told by itself, in the order in which they are opened.
+Without --cursor, --opening and --all it is the first cursor that is opened."""
 from __future__ import annotations
 
 import argparse
+import re
 import sys
+from collections import Counter
 from dataclasses import dataclass, field
 from itertools import zip_longest
 from typing import Iterable
 
+from check_script import of_fault
 from ending import end
 from model.language import Call, Mark, calls_of, fault_of, statement
 from model.program import Session
@@ -53,32 +57,42 @@ class Course:
 
 
 class NotThere(Exception):
-    """The script has no such cursor; these are opened."""
+    """The script has not all of these cursors; these are opened."""
 
     def __init__(self, opened: Iterable[tuple[int, str]]):
         super().__init__(", ".join(f"{name} of session {session}" for session, name in opened) or "none")
 
 
-@dataclass
+@dataclass(frozen=True)
 class Sought:
-    """Which opening is looked for: of this session and name (None: of any), the number-th that fits."""
+    """Which openings are looked for: of this session (None: of any) and these names (none: of any name), of each name those
+    of these numbers among the ones that fit (none: each)."""
 
     session: int | None
-    cursor: str | None
-    number: int
+    names: tuple[str, ...]
+    numbers: tuple[int, ...]
 
-    def is_found(self, call: Call, said: tuple, reply: str) -> bool:
-        fits = said[0] == "open" and reply == "opened" and self.session in (None, call.session) and self.cursor in (None, said[1])
-        self.number -= fits
-        return fits and self.number == 0
+    def fits(self, session: int, name: str) -> bool:
+        return self.session in (None, session) and (not self.names or name in self.names)
+
+    def key(self, name: str) -> str | None:
+        """What openings are counted by."""
+        return name if self.names else None
+
+    def missing(self, found: Counter[str | None]) -> bool:
+        """Whether openings are wanted that were not found."""
+        least = max(self.numbers, default=1)
+        return any(found[name] < least for name in self.names or (None,))
 
 
-def course_of(script: str, sought: Sought, judge: int | None, steps: int, race: bool = False) -> Course:
-    """The course of a cursor, until it is closed or the script ends. A judge that is given rules the whole run."""
+def courses_of(script: str, sought: Sought, judge: int | None, steps: int, race: bool = False) -> list[Course]:
+    """The course of each cursor that is looked for, until it is closed or the script ends. A judge that is given rules the
+    whole run."""
     log: list[tuple] = []
     run = Session(judge or 0, steps, log=log, race=race)
-    found: Course | None = None
-    key = None
+    courses: list[Course] = []
+    present: dict[tuple[int, str], Course] = {}  # those that are open
+    found: Counter[str | None] = Counter()
     opened: dict[tuple[int, str], None] = {}  # sessions and names, in their order
     for call in calls_of(script):
         if isinstance(call, Mark):
@@ -87,21 +101,24 @@ def course_of(script: str, sought: Sought, judge: int | None, steps: int, race: 
         log.clear()
         said = statement(call.text)
         reply = run.call(call.session, call.text)
+        key = (call.session, said[1]) if said[0] in ("open", "fetch", "step", "show") else None
         if reply == "opened":
-            opened[call.session, said[1]] = None
-        if found is None:
-            if sought.is_found(call, said, reply):
-                found, key = Course(JUDGES[run.engine.judge], call), (call.session, said[1])
-                found.steps.append(Step(call.line, call.text, reply, list(log)))
-        elif said[0] in ("fetch", "step", "show") and key == (call.session, said[1]):
-            found.steps.append(Step(call.line, call.text, reply, list(log)))
-        if found is not None:
-            if key not in run.engine.cursors:
-                break
-            found.trace = run.engine.cursors[key].trace()
-    if found is None:
+            opened[key] = None
+            if sought.fits(*key):
+                found[sought.key(said[1])] += 1
+                if not sought.numbers or found[sought.key(said[1])] in sought.numbers:
+                    present[key] = Course(JUDGES[run.engine.judge], call)
+                    courses.append(present[key])
+        if key in present:
+            present[key].steps.append(Step(call.line, call.text, reply, list(log)))
+        present = {key: course for key, course in present.items() if key in run.engine.cursors}
+        for key, course in present.items():
+            course.trace = run.engine.cursors[key].trace()
+        if sought.numbers and not present and not sought.missing(found):
+            break
+    if sought.missing(found):
         raise NotThere(opened)
-    return found
+    return courses
 
 
 # Text.
@@ -191,19 +208,41 @@ def wrap(line: str, width: int) -> list[str]:
     return parts + [now.rstrip()]
 
 
-def read_script(name: str) -> bytes:
+class NoScript(Exception):
+    """What was read is no script: the place and what is wrong there, and the program's status for it."""
+
+    def __init__(self, name: str, fault: tuple[int, str], data: bytes):
+        place = re.search(r"line (\d+) ", fault[1])
+        super().__init__(f"{name}:{place[1] + ':' if place else ''} {of_fault(fault, data)}")
+        self.status = fault[0]
+
+
+def script_of(name: str) -> str:
+    """The script of a file, or of standard input."""
     if name == "-":
-        return sys.stdin.buffer.read()
-    with open(name, "rb") as file:
-        return file.read()
+        data = sys.stdin.buffer.read()
+    else:
+        with open(name, "rb") as file:
+            data = file.read()
+    fault = fault_of(data)
+    if fault is not None:
+        raise NoScript(name, fault, data)
+    return data.decode()
+
+
+def positive(word: str) -> int:
+    if not word.isdecimal() or int(word) == 0:
+        raise argparse.ArgumentTypeError(f"not a number from 1 on: {word}")
+    return int(word)
 
 
 def main() -> int:
     parser = argparse.ArgumentParser(description=__doc__, formatter_class=argparse.RawDescriptionHelpFormatter)
     parser.add_argument("script", metavar="FILE", help="a script, or - for standard input")
-    parser.add_argument("--session", type=int, choices=range(1, 9), metavar="S", help="the cursor's session (default: any)")
-    parser.add_argument("--cursor", type=str.upper, metavar="NAME", help="the cursor's name (default: any)")
-    parser.add_argument("--opening", type=int, default=1, metavar="N", help="the Nth opening that fits (default 1)")
+    parser.add_argument("--session", type=int, choices=range(1, 9), metavar="S", help="the session of the cursors (default: any)")
+    parser.add_argument("--cursor", type=str.upper, action="append", default=[], metavar="NAME", help="a cursor's name (default: any); may be said again for others")
+    parser.add_argument("--opening", type=positive, action="append", default=[], metavar="N", help="the Nth opening that fits, of each name (default 1); may be said again for others")
+    parser.add_argument("--all", action="store_true", help="each opening that fits")
     parser.add_argument("--judge", type=number_up_to(2), action="append", metavar="N", help="the judge of the whole run; twice for two side by side")
     parser.add_argument("--steps", type=number_up_to(64), default=1, metavar="K", help="as the program's --steps (default 1)")
     parser.add_argument("--race", action="store_true", help="as the program's --race")
@@ -212,21 +251,21 @@ def main() -> int:
     words = parser.parse_args()
     if words.judge and len(words.judge) > 2:
         parser.error("at most two judges")
-    data = read_script(words.script)
-    fault = fault_of(data)
-    if fault is not None:
-        print(fault[1], file=sys.stderr)
-        return fault[0]
-    script = data.decode()
+    if words.all and words.opening:
+        parser.error("either --all or --opening")
     try:
-        told = [
-            course_of(script, Sought(words.session, words.cursor, words.opening), judge, words.steps, words.race)
-            for judge in words.judge or [None]
-        ]
+        script = script_of(words.script)
+    except NoScript as fault:
+        print(fault, file=sys.stderr)
+        return fault.status
+    sought = Sought(words.session, tuple(words.cursor), () if words.all else tuple(words.opening or [1]))
+    try:
+        by_judge = [courses_of(script, sought, judge, words.steps, words.race) for judge in words.judge or [None]]
     except NotThere as fault:
-        print(f"timeline: no such cursor is opened in this script; opened are: {fault}", file=sys.stderr)
+        print(f"timeline: {words.script}: no such cursor is opened in this script; opened are: {fault}", file=sys.stderr)
         return 1
-    sys.stdout.write(text(told, words.width))
+    told = [list(courses) for courses in zip(*by_judge)]  # of each cursor, under each judge
+    sys.stdout.write("\n".join(text(courses, words.width) for courses in told))
     if words.svg:
         with open(words.svg, "w", encoding="utf-8") as file:
             file.write(picture(told))

@@ -43,6 +43,14 @@ class Canvas:
         title = f"<title>{escape(words)}</title>" if words else ""
         self.parts.append(f'<circle cx="{x:.1f}" cy="{y:.1f}" r="3" fill="{colour}">{title}</circle>')
 
+    def ring(self, x: float, y: float, colour: str) -> None:
+        self.parts.append(f'<circle cx="{x:.1f}" cy="{y:.1f}" r="4" fill="white" stroke="{colour}" stroke-width="1.5"/>')
+
+    def svg(self, width: int, height: float) -> str:
+        """The whole picture, of this size."""
+        head = f'<svg xmlns="http://www.w3.org/2000/svg" width="{width}" height="{height:.0f}" viewBox="0 0 {width} {height:.0f}" font-family="sans-serif">'
+        return "\n".join([head, f'<rect width="{width}" height="{height:.0f}" fill="white"/>', *self.parts, "</svg>"]) + "\n"
+
 
 class Panel:
     """The course of one judge. `calls` and `most` are the greatest counts of calls and of reads of all courses, so that
@@ -164,17 +172,23 @@ def shortened(words: str, most: int) -> str:
     return words if len(words) <= most else words[: most - 2] + ".."
 
 
-def picture(courses: list[Course]) -> str:
-    """One SVG of the courses, one below another on one scale."""
-    canvas = Canvas()
+def drawn(canvas: Canvas, courses: list[Course], top: float) -> float:
+    """Draws the courses of a cursor, one below another on one scale, and gives where the next cursor may begin."""
     opened = courses[0].opened
-    canvas.text(20, 24, f"session {opened.session}, line {opened.line}", 12, GREY)
-    canvas.text(20, 42, shortened(opened.text, 140), 12)
+    canvas.text(20, top + 24, f"session {opened.session}, line {opened.line}", 12, GREY)
+    canvas.text(20, top + 42, shortened(opened.text, 140), 12)
     calls = max(len(course.steps) for course in courses)
     most = max(sum(step.cost for step in course.steps) for course in courses)
-    y = 56.0
+    y = top + 56.0
     for course in courses:
         y = Panel(canvas, course, y, calls, most).draw()
     canvas.text(LEFT, y + 8, f"calls: OPEN and the {calls - 1} behind it, from left to right", 11, GREY)
-    head = f'<svg xmlns="http://www.w3.org/2000/svg" width="{WIDTH}" height="{y + 20:.0f}" viewBox="0 0 {WIDTH} {y + 20:.0f}" font-family="sans-serif">'
-    return "\n".join([head, f'<rect width="{WIDTH}" height="{y + 20:.0f}" fill="white"/>', *canvas.parts, "</svg>"]) + "\n"
+    return y + 20
+
+
+def picture(cursors: list[list[Course]]) -> str:
+    """One SVG of cursors, one below another, each with its courses."""
+    canvas, y = Canvas(), 0.0
+    for courses in cursors:
+        y = drawn(canvas, courses, y)
+    return canvas.svg(WIDTH, y)

@@ -180,8 +180,11 @@ class Plan:
         named = [p for g in self.select.groups for a in g for p in places_of(a)]
         need = {c for at, c in self.select.returns + named + self.select.order if at == item}
         order = [c for _, c in self.select.order] if self.ordered and item == 0 else []
-        query = Query(rows, pages, indexes, groups, need, order, self.select.soon)
-        self.open.append(access(query, item, self.judges, self.counts, self.log, self.race))
+        self.open.append(self.access(Query(rows, pages, indexes, groups, need, order, self.select.soon), item))
+
+    def access(self, query, item):
+        """What retrieves the rows of a query at an item of FROM."""
+        return access(query, item, self.judges, self.counts, self.log, self.race)
 
     def step(self):
         """An offer, None where none came yet, or "end"."""

@@ -55,7 +55,7 @@ class Reads(unittest.TestCase):
             if not asked.query.soon and not any(index.exact and index.estimate <= 20 for index in asked.indexes):
                 path = max(asked.paths, key=len)
                 if len(path) > 1:
-                    self.assertEqual(asked.judged(judge_reads.patient, 0), asked.paths[path])
+                    self.assertEqual(asked.judged(judge_reads.patient, 0), asked.reads[path])
 
     def test_all_rows_are_given_whoever_rules(self):
         for told in judge_reads.told_of(7, 400, 20, 1):

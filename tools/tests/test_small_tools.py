@@ -67,7 +67,7 @@ class NotThere(unittest.TestCase):
     def test_file_or_program_that_is_not_there_is_told_in_one_line(self):
         gone, bank = "/nowhere", TOOLS.parent / "examples" / "bank"
         for name, *words in [
-            ("check_script.py", gone), ("timeline.py", gone), ("timeline.py", bank, "--svg", "/nowhere/x.svg"), ("interleave.py", gone),
+            ("check_script.py", gone), ("timeline.py", gone), ("timeline.py", bank, "--svg", "/nowhere/x.svg"), ("compare.py", gone), ("compare.py", bank, "--svg", "/nowhere/x.svg"), ("interleave.py", gone),
             ("interleave.py", TOOLS / "tests/interleavings/lost-update.script", "--expected", gone), ("slow_audit.py", gone, gone),
             ("hostile_scripts.py", gone, "--damaged", 1), ("hostile_table.py", gone), ("random_scripts.py", gone, 1),
             ("program_words.py", gone), ("worked_runs.py", gone), ("doc_examples.py", gone), ("refused_memory.py", gone, gone, gone), ("gate_times", "tell", gone),
