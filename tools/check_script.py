@@ -16,45 +16,28 @@ from typing import Iterator
 
 from ending import end
 from model.database import Database, Refused, references_of
-from model.language import END, INTEGER, KEYWORDS, NAME, Call, Syntax, Token, calls_of, fault_of, read_statement, tokens
+from model.language import END, KEYWORDS, NAME, Call, Syntax, Token, calls_of, fault_of, read_statement, tokens
+from sql_habits import hint_of, hint_of_cursor, why_no_token
 
 TOLD = ("unknown", "exists", "kind", "no cursor", "cursor open", "limit")
 
-# What users of SQL write, and what stands for it here.
-INSTEAD = {
-    "LIKE": "there is no LIKE: STARTING WITH 'front' finds the texts that begin so",
-    "LIMIT": "there is no LIMIT: FETCH as many rows as are wanted, then CLOSE; OPTIMIZE FOR FAST FIRST finds them soon",
-    "DESC": "there is no DESC: ORDER BY gives the least first",
-    "ASC": "ORDER BY gives the least first, without a word",
-    "JOIN": "tables are joined by commas: FROM X, Y WHERE X.A = Y.A",
-    "INNER": "tables are joined by commas: FROM X, Y WHERE X.A = Y.A",
-    "LEFT": "there are no outer joins",
-    "DISTINCT": "there is no DISTINCT",
-    "GROUP": "there are no groups and no counts",
-    "COUNT": "there are no groups and no counts",
-    "AS": "a second name follows without AS: FROM T X",
-    "INT": "the kinds are BIGINT and VARCHAR(n)",
-    "INTEGER": "the kinds are BIGINT and VARCHAR(n)",
-    "TEXT": "the kinds are BIGINT and VARCHAR(n)",
-    "UNIQUE": "columns have no UNIQUE: CREATE UNIQUE INDEX name ON table (column) lets no two rows be equal there",
-    "PRIMARY": "there are no keys: CREATE UNIQUE INDEX name ON table (column) lets no two rows be equal there",
-    "DROP": "nothing is dropped",
-    "ALTER": "nothing is altered",
-    "SELECT": "a query begins with a cursor: OPEN C SELECT .., and FETCH C gives its rows",
-    "DECLARE": "OPEN C SELECT .. opens a cursor",
-    "START": "BEGIN begins a transaction",
-    "ABORT": "ROLLBACK ends a transaction without its changes",
-    "END": "COMMIT ends a transaction with its changes",
-    "WORK": "BEGIN, COMMIT and ROLLBACK stand without a further word",
-    "TRANSACTION": "BEGIN, COMMIT and ROLLBACK stand without a further word",
-    "ISOLATION": "each transaction sees the snapshot of its BEGIN; BEGIN READ ONLY may not write",
-    "STARTS": "STARTING WITH 'front' finds the texts that begin so",
-    "NEXT": "FETCH C gives one row, the next one",
-    "ALL": "FETCH C gives one row, the next one; CLOSE C closes one cursor",
-    "NOT": "there is no NOT before a condition: IS NOT NULL and <> are there",
-    "NULL": "NULL is tested by IS NULL and IS NOT NULL",
+# What the limits count that a statement may pass.
+COUNTED = {
+    "name": "the bytes of a name",
+    "text": "the bytes of a text, and n of VARCHAR(n), which is at least 1",
+    "columns": "the columns of a table, the values of INSERT, the columns of SET",
+    "key": "the columns of an index",
+    "list": "the literals of an IN",
+    "atoms": "the conditions that OR joins",
+    "groups": "the groups that AND joins",
+    "joined": "the tables of FROM",
+    "returned": "the columns between SELECT and FROM",
+    "order": "the columns of ORDER BY",
+    "steps": "the steps of STEP, of which there are none below 0",
+    "tables": "the tables",
+    "indexes": "the indexes of a table",
+    "cursors": "the open cursors of a session",
 }
-
 
 @dataclass(frozen=True)
 class Finding:
@@ -95,57 +78,23 @@ def token_at(found: list[Token], at: int) -> Token | None:
     return next((token for token in found if token.at == at), None)
 
 
-def no_token(text: str, at: int) -> str:
-    """Why no token begins here."""
-    rest = text[at:]
-    if rest.startswith("!="):
-        return "`!=` is written `<>`"
-    if rest[0] == "'":
-        return "this text has no end: a quote within a text is written twice"
-    if rest[0] == '"':
-        return 'names stand without quotes, texts between two \''
-    if rest.startswith("--"):
-        return "a statement has no comment: a line that begins with # is one"
-    if rest[0].isdigit() or (rest[0] == "-" and rest[1:2].isdigit()):
-        return "no integer of 64 bits, which ends before a letter, a digit or `_`"
-    if rest[0] in "+-/%|":
-        return f"`{rest[0]}` is no token: there is no arithmetic"
-    if rest[0] == "#":
-        return "a statement has no comment behind it: a line that begins with # is one"
-    return f"`{rest[0]}` begins no token"
-
-
-def instead(found: list[Token], at: int) -> str:
-    """The hint at a habit of SQL at this place, or at the word before it, which was taken as a name."""
-    *before, here = [token.value for token in found if token.at <= at][-2:]
-    near = [here, *(word for word in before if word not in KEYWORDS)]
-    hints = [INSTEAD[word] for word in near if word in INSTEAD]
-    return f" ({hints[0]})" if hints else ""
-
-
 def of_syntax(text: str, fault: Syntax) -> tuple[int, str]:
     """Where a text stops being a statement, and why."""
     if not fault.wanted:
-        return fault.at, no_token(text, fault.at)
+        return fault.at, why_no_token(text, fault.at)
     found = tokens(text)
     token = token_at(found, fault.at)
+    known = hint_of(found, fault.at)
+    hint = f" ({known})" if known else ""
     if token is None:
-        return fault.at, f"the statement ends here, and {listed(fault.wanted)} should follow"
+        return fault.at, f"the statement ends here, and {listed(fault.wanted)} should follow{hint}"
     shown = text[token.at : token.end]
-    hint = instead(found, fault.at)
-    if token.kind == "value" and NAME in fault.wanted and INTEGER not in fault.wanted and is_in_condition(found, fault.at):
-        hint = hint or " (a literal stands on the right: `1 = A` is written `A = 1`)"
-    if token.value in KEYWORDS and "a name" in fault.wanted and not hint:
-        return fault.at, f"`{shown}` is a keyword, and no name; here could stand {listed(fault.wanted)}"
+    if token.value in KEYWORDS and NAME in fault.wanted and not hint:
+        others = [word for word in fault.wanted if word != NAME]
+        return fault.at, f"`{shown}` is a keyword, and no name" + (f"; here could stand {listed(fault.wanted)}" if others else f": {token.value}_ is one")
     if fault.wanted == [END]:
         return fault.at, f"`{shown}` stands behind the end of the statement{hint}"
-    if shown.upper() in ("AND", "OR") and not hint:
-        hint = " (a group of OR stands in parentheses beside AND)"
     return fault.at, f"`{shown}` does not fit; here could stand {listed(fault.wanted)}{hint}"
-
-
-def is_in_condition(found: list[Token], at: int) -> bool:
-    return any(token.value == "WHERE" for token in found if token.at < at)
 
 
 def why_not(value: int | str | None, width: int | None) -> str:
@@ -177,12 +126,14 @@ def of_kind(said: tuple, refused: Refused) -> str:
     return f"column {refused.name} is of another kind than what stands beside it, or too short for it"
 
 
-def of_cursor(said: tuple, refused: Refused) -> str:
-    """A cursor's name, or a limit."""
-    words = str(refused)
-    if words.startswith("no cursor"):
-        return f"the session has no open cursor {refused.name}"
-    return f"the session has cursor {refused.name} open already" if words.startswith("cursor open") else words
+def of_open_cursor(said: tuple, refused: Refused) -> str:
+    return f"the session has cursor {refused.name} open already"
+
+
+def of_limit(words: str) -> str:
+    """A limit, and what is counted."""
+    which = words.split()[1]
+    return f"{words}: {COUNTED[which]}" if which in COUNTED else words
 
 
 def counted(number: int, noun: str) -> str:
@@ -235,8 +186,13 @@ class Checker:
         reply, _, _ = str(refused).rpartition(" ")
         if refused.at is not None:
             return of_insert(self.names.tables[said[1]].columns, said[2], found, refused)
-        words = {"kind": of_kind, "unknown": self.of_unknown, "exists": self.of_exists}.get(reply, of_cursor)(said, refused)
+        told = {"kind": of_kind, "unknown": self.of_unknown, "exists": self.of_exists, "no cursor": self.of_no_cursor, "cursor open": of_open_cursor}
+        words = told[reply](said, refused) if reply in told else of_limit(str(refused))
         return self.offset(found, refused), words
+
+    def of_no_cursor(self, said: tuple, refused: Refused) -> str:
+        hint = hint_of_cursor(said[0], refused.name, self.names.tables)
+        return f"the session has no open cursor {refused.name}" + (f" ({hint})" if hint else "")
 
     def of_unknown(self, said: tuple, refused: Refused) -> str:
         tables = tables_of(said)

@@ -217,13 +217,17 @@ class NoScript(Exception):
         self.status = fault[0]
 
 
+def read_script(name: str) -> bytes:
+    """What a file holds, or what comes on standard input."""
+    if name == "-":
+        return sys.stdin.buffer.read()
+    with open(name, "rb") as file:
+        return file.read()
+
+
 def script_of(name: str) -> str:
     """The script of a file, or of standard input."""
-    if name == "-":
-        data = sys.stdin.buffer.read()
-    else:
-        with open(name, "rb") as file:
-            data = file.read()
+    data = read_script(name)
     fault = fault_of(data)
     if fault is not None:
         raise NoScript(name, fault, data)

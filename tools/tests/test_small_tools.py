@@ -70,7 +70,8 @@ class NotThere(unittest.TestCase):
             ("check_script.py", gone), ("timeline.py", gone), ("timeline.py", bank, "--svg", "/nowhere/x.svg"), ("compare.py", gone), ("compare.py", bank, "--svg", "/nowhere/x.svg"), ("interleave.py", gone),
             ("interleave.py", TOOLS / "tests/interleavings/lost-update.script", "--expected", gone), ("slow_audit.py", gone, gone),
             ("hostile_scripts.py", gone, "--damaged", 1), ("hostile_table.py", gone), ("random_scripts.py", gone, 1),
-            ("program_words.py", gone), ("worked_runs.py", gone), ("doc_examples.py", gone), ("refused_memory.py", gone, gone, gone), ("gate_times", "tell", gone),
+            ("load.py", gone, "--table", "T"), ("rows.py", gone), ("expand.py", gone),
+            ("expect.py", gone), ("expect.py", bank, gone), ("program_words.py", gone), ("worked_runs.py", gone), ("doc_examples.py", gone), ("refused_memory.py", gone, gone, gone), ("gate_times", "tell", gone),
         ]:  # fmt: skip
             told = ran(TOOLS / name, *words)
             self.assertEqual((told.returncode, told.stderr.count("\n")), (2, 1), (name, told.stderr))
