@@ -28,7 +28,7 @@ class WorkedRuns(unittest.TestCase):
         return [str(path)]
 
     def test_the_model_passes(self):
-        self.assertEqual(self.counted(MODEL, "try_scripts", "try_traces"), (75, 0))
+        self.assertEqual(self.counted(MODEL, "try_scripts", "try_traces"), (93, 0))
 
     def test_the_model_over_the_plain_store_passes(self):
         runs = Runs([*MODEL, "--plain"])
@@ -37,12 +37,12 @@ class WorkedRuns(unittest.TestCase):
 
     def test_each_transcript_is_of_its_own_script(self):
         found = list(transcripts())
-        self.assertEqual(len(found), 20)
+        self.assertEqual(len(found), 38)
         self.assertTrue(all(script and status == 0 and output.count(b"\n= ") == script.count(b"\n") for _, script, (status, output, _) in found))
 
     def test_a_program_that_says_nothing_is_refused(self):
         silent = self.program("cat > /dev/null")
-        self.assertEqual(self.counted(silent, "try_scripts"), (60, 52))
+        self.assertEqual(self.counted(silent, "try_scripts"), (78, 70))
         self.assertEqual(self.counted(silent, "try_words", "try_workload"), (14, 14))
 
     def test_a_program_that_reads_before_its_words_is_refused(self):
