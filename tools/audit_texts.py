@@ -6,6 +6,9 @@
   whole    calls may be any line
   broken   the first bad line of what is no transcript
   entries  session, text and reply of an entry are those of its two lines
+  phases   no call comes before one of an earlier phase of the script
+  histories  transcripts that are legal histories, and such that break: which row may come, when `end` may, what STEP may tell
+  courses  traces that the course of a retrieval allows, and such that it does not (judged as replies to SHOW)
 
 Without a program it is the slow auditor. That a transcript is read rightly is proved of the program; this shows that it is read
 at all, and that the rules are those that a reader would take."""
@@ -13,11 +16,12 @@ from __future__ import annotations
 
 import argparse
 import subprocess
-import sys
-from pathlib import Path
 from typing import Iterator
 
+import slow_audit
+from audited_histories import courses, histories
 from ending import end
+from hostile_table import script_of
 
 REPLIES = [
     b"created", b"began 1", b"inserted 0", b"touched 18446744073709551615", b"committed 7", b"rolled back", b"opened", b"row ",
@@ -60,6 +64,16 @@ ENTRIES = [
 ]
 
 
+# A script with marks, its transcript, and the verdict on it.
+PHASES = [
+    (b"1 BEGIN\n--\n2 COMMIT\n", b"1 BEGIN\n= began 1\n2 COMMIT\n= no transaction\n", b"legal 2"),
+    (b"1 BEGIN\n--\n2 COMMIT\n", b"2 COMMIT\n= no transaction\n1 BEGIN\n= began 1\n", b"bad entry 1"),
+    (b"1 BEGIN\n2 COMMIT\n", b"2 COMMIT\n= no transaction\n1 BEGIN\n= began 1\n", b"legal 2"),
+    (b"1 BEGIN\n-- 1\n1 COMMIT\n-- 2\n", b"1 BEGIN\n= began 1\n1 COMMIT\n= committed 0\n", b"legal 2"),
+    (b"1 BEGIN\n--\n1 COMMIT\n", b"1 BEGIN\n= began 1\n", b"missing session 1 phase 2"),
+]
+
+
 def cases() -> Iterator[tuple[str, bytes, bytes, bytes | None]]:
     """A name, a script, a transcript and the verdict; None where it is whichever tells of no line."""
     for reply in REPLIES:
@@ -72,6 +86,10 @@ def cases() -> Iterator[tuple[str, bytes, bytes, bytes | None]]:
         yield f"broken, {text!r}", b"", text, b"text line %d" % line
     for script, text, verdict in ENTRIES:
         yield f"entries, {text!r}", script, text, verdict
+    for script, text, verdict in PHASES:
+        yield f"phases, {script!r} {text!r}", script, text, verdict
+    for transcript, verdict in [*histories(), *courses()]:
+        yield f"histories, {transcript!r}", script_of(transcript), transcript.encode(), verdict.encode()
 
 
 def is_as_wanted(came: bytes, wants: bytes | None) -> bool:
@@ -80,18 +98,26 @@ def is_as_wanted(came: bytes, wants: bytes | None) -> bool:
     return came == wants + b"\n"
 
 
+def judged(program: str | None, script: bytes, transcript: bytes) -> tuple[bytes, bytes]:
+    """What is said of a transcript, and what stands on standard error."""
+    data = script + b"====\n" + transcript
+    if program is None:
+        return slow_audit.verdict(data)[1].encode() + b"\n", b""
+    ran = subprocess.run([program], input=data, capture_output=True, timeout=120, check=False)
+    return ran.stdout, ran.stderr
+
+
 def main() -> int:
     parser = argparse.ArgumentParser(description=__doc__, formatter_class=argparse.RawDescriptionHelpFormatter)
     parser.add_argument("program", nargs="?", metavar="PROGRAM", help="crates/rv_auditcli/out/rv_auditcli; without it the slow auditor")
     asked = parser.parse_args()
-    command = [asked.program] if asked.program else [sys.executable, str(Path(__file__).with_name("slow_audit.py"))]
     count = wrong = 0
     for name, script, text, wants in cases():
-        ran = subprocess.run(command, input=script + b"====\n" + text, capture_output=True, timeout=120, check=False)
+        came, said = judged(asked.program, script, text)
         count += 1
-        if not is_as_wanted(ran.stdout, wants) or ran.stderr:
+        if not is_as_wanted(came, wants) or said:
             wrong += 1
-            print(f"{name}: {ran.stdout!r:.200} {ran.stderr!r:.200} for {wants!r}")
+            print(f"{name}: {came!r:.200} {said!r:.200} for {wants!r}")
     print(f"{count} transcripts, {wrong} read otherwise")
     return 1 if wrong else 0
 

@@ -4,10 +4,14 @@
   transcripts  each file of tools/runs is a transcript: its script is its lines but the replies
   lines        which lines are calls, marks or nothing; ends of lines, a byte order mark, a last line without an end
   faults       the first fault of a script with its place, and the limits of lines, each from both sides
+  texts        statements as they may be spelled, and texts that derive none (worked_texts.py)
+  queries      restrictions, retrievals, races, unions, searches and joins by the thousand, under every list of verdicts
+               (worked_queries.py)
   words        words that are not accepted, with which nothing is read or written
-  workload     a generated workload writes its summary, and reads nothing
+  workload     a generated workload writes its summary, and reads nothing; the summary is that of its script
   traces       what SHOW tells under each judge, by the words of the command line and by marks, with background steps and without;
                of a built program the same with threads and no workers, where each phase has one session
+  workers      with threads and up to eight workers each row comes once, and then the end
 
 The answers were found by hand."""
 from __future__ import annotations
@@ -20,7 +24,11 @@ import tempfile
 from pathlib import Path
 from typing import Iterator
 
+import worked_queries
+import worked_texts
+from doc_examples import first_difference
 from ending import end
+from model.program import generated, summary
 
 Came = tuple[int, bytes, bytes]  # status, output, standard error
 
@@ -79,6 +87,12 @@ def faults() -> Iterator[tuple[str, bytes, Came]]:
     whole = (b"#" * 4095 + b"\n") * 4096
     yield "16,777,216 bytes", whole, (0, b"", b"")
     yield "16,777,217 bytes", whole + b"\n", (3, b"", b"limit: script over 16777216 bytes\n")
+
+
+def texts() -> Iterator[tuple[str, bytes, Came]]:
+    for name, told in worked_texts.cases():
+        script = "".join(line + "\n" for line in told.split("\n") if line and not line.startswith("= "))
+        yield name, script.encode(), (0, told.encode(), b"")
 
 
 # Traces.
@@ -187,9 +201,15 @@ class Runs:
             print(f"{name}: {came!r:.300} for {wants!r:.300}")
 
     def try_scripts(self) -> None:
-        for cases in (transcripts, lines, faults):
+        for cases in (transcripts, lines, faults, texts):
             for name, script, wants in cases():
                 self.expect(f"{cases.__name__}, {name}", self.run(script), wants)
+
+    def try_queries(self) -> None:
+        for name, words, script, told in worked_queries.cases():
+            status, output, said = self.run(script.encode(), *words)
+            came = worked_queries.as_told(name, output.decode())
+            self.expect(f"queries, {name} {' '.join(words)}", (status, first_difference(came, told), said), (0, None, b""))
 
     def try_words(self) -> None:
         for words in ["x", "--judge", "--judge 3", "--threads --threads", "--threads=1", "--race --race", "--race=1", "--workers 9", "--help"]:
@@ -203,12 +223,30 @@ class Runs:
             self.expect(f"workload {asked}", (status, good, words, read), (0, True, b"", 0))
         (status, output, words), read = self.unread("--gen", "4294967295")
         self.expect("workload 4294967295", (status, output[:6], words, read), (0, b"calls ", b"", 0))
+        with open("/dev/full", "wb") as sink:
+            ran = subprocess.run([*self.command, "--gen", "1"], stdin=subprocess.DEVNULL, stdout=sink, stderr=subprocess.PIPE, timeout=120, check=False)
+        self.expect("workload into a full sink", (ran.returncode, ran.stderr), (6, b"write fault\n"))
+        # (the calls of a workload, and their order, are told by what its script gives)
+        for seed in (1, 4_294_967_295):
+            _, transcript, _ = self.run(generated(seed).encode())
+            (_, output, _), _ = self.unread("--gen", str(seed))
+            replies = [line[2:] for line in transcript.decode().split("\n")[1::2]]
+            self.expect(f"script of workload {seed}", output.decode(), summary(replies))
 
     def try_traces(self, plain: bool, *more: str) -> None:
         for words, script, wants in traces(plain):
             status, output, said = self.run("".join(line + "\n" for line in script).encode(), *words, *more)
             found = [line[8:] for line in output.decode().splitlines() if line.startswith("= trace ")]
             self.expect(f"traces, {' '.join([*words, *more])}", (status, found, said), (0, wants, b""))
+
+
+    def try_workers(self) -> None:
+        script = "".join(line + "\n" for line in loaded(1100) + ALL[:-2]).encode()
+        for words in ["--workers 0", "--workers 1 --judge 1 --steps 0", "--workers 8 --judge 1"]:
+            status, output, said = self.run(script, "--threads", *words.split())
+            replies = [line for line in output.decode().splitlines() if line.startswith(("= row ", "= end"))]
+            came = (status, sorted(replies[:-1]), replies[-1:], said)
+            self.expect(f"workers, {words}", came, (0, sorted(f"= row {row}, 0" for row in range(1100)), ["= end"], b""))
 
 
 def main() -> int:
@@ -219,6 +257,8 @@ def main() -> int:
     model = [sys.executable, str(Path(__file__).with_name("slow_program.py")), *["--plain"] * asked.plain]
     runs = Runs([asked.program] if asked.program else model)
     runs.try_scripts()
+    if not asked.plain:
+        runs.try_queries()
     if asked.program:
         # (the model has words of its own, and needs a minute for a workload)
         runs.try_words()
@@ -226,6 +266,7 @@ def main() -> int:
     runs.try_traces(asked.plain)
     if asked.program and not asked.plain:
         runs.try_traces(False, "--threads", "--workers=0")
+        runs.try_workers()
     print(f"{runs.cases} worked runs, {runs.wrong} end otherwise")
     return 1 if runs.wrong else 0
 

@@ -6,9 +6,9 @@ from pathlib import Path
 
 TOOLS = Path(__file__).resolve().parents[1]
 CRATES = TOOLS.parent / "crates"
-ANSWERS = ["try_joins", "try_paged", "try_pieces", "try_replays", "try_retrievals", "try_scans", "try_scripts",
+ANSWERS = ["try_joins", "try_paged", "try_pieces", "try_retrievals", "try_scans", "try_scripts",
            "try_storage", "try_trees"]  # fmt: skip
-QUESTIONS = {"try_joins": "--lines", "try_replays": "--lines", "try_scripts": "--lines", "try_storage": "--lines"}
+QUESTIONS = {"try_joins": "--lines", "try_scripts": "--lines", "try_storage": "--lines"}
 
 
 class Tables(unittest.TestCase):

@@ -1,49 +1,65 @@
 """The worked runs pass by the slow model over both stores, and a program that is wrong is refused."""
+import argparse
 import contextlib
 import io
-import sys
 import tempfile
 import unittest
 from pathlib import Path
 
-from worked_runs import Runs, faults, lines, transcripts
+import worked_queries
+from model.language import fault_of
+from model.program import run, transcript
+from slow_program import add_run_options
+from worked_runs import Came, Runs, faults, lines, texts, transcripts
 
-MODEL = [sys.executable, str(Path(__file__).resolve().parents[1] / "slow_program.py")]
+WORDS = argparse.ArgumentParser()
+add_run_options(WORDS)
+
+
+class Model(Runs):
+    """The slow model, in this process."""
+
+    def run(self, script: bytes, *words: str) -> Came:
+        fault = fault_of(script)
+        if fault is not None:
+            return fault[0], b"", fault[1].encode() + b"\n"
+        asked = WORDS.parse_args([*self.command, *words])
+        return 0, transcript(run(script.decode(), asked.judge, asked.steps, asked.plain, asked.race)).encode(), b""
 
 
 class WorkedRuns(unittest.TestCase):
-    def counted(self, command: list[str], *tries: str) -> tuple[int, int]:
-        runs = Runs(command)
+    def counted(self, runs: Runs, *tries: str) -> tuple[int, int]:
         with contextlib.redirect_stdout(io.StringIO()):
             for name in tries:
                 getattr(runs, name)(*[False] * (name == "try_traces"))
         return runs.cases, runs.wrong
 
-    def program(self, body: str) -> list[str]:
+    def program(self, body: str) -> Runs:
         folder = tempfile.TemporaryDirectory()
         self.addCleanup(folder.cleanup)
         path = Path(folder.name, "program")
         path.write_text(f"#!/bin/sh\n{body}\n", encoding="utf-8")
         path.chmod(0o755)
-        return [str(path)]
+        return Runs([str(path)])
 
     def test_the_model_passes(self):
-        self.assertEqual(self.counted(MODEL, "try_scripts", "try_traces"), (93, 0))
+        self.assertEqual(self.counted(Model([]), "try_scripts", "try_traces"), (181, 0))
 
     def test_the_model_over_the_plain_store_passes(self):
-        runs = Runs([*MODEL, "--plain"])
+        runs = Model(["--plain"])
         runs.try_traces(True)
         self.assertEqual((runs.cases, runs.wrong), (3, 0))
 
     def test_each_transcript_is_of_its_own_script(self):
         found = list(transcripts())
-        self.assertEqual(len(found), 38)
+        self.assertEqual(len(found), 43)
         self.assertTrue(all(script and status == 0 and output.count(b"\n= ") == script.count(b"\n") for _, script, (status, output, _) in found))
 
     def test_a_program_that_says_nothing_is_refused(self):
         silent = self.program("cat > /dev/null")
-        self.assertEqual(self.counted(silent, "try_scripts"), (78, 70))
-        self.assertEqual(self.counted(silent, "try_words", "try_workload"), (14, 14))
+        self.assertEqual(self.counted(silent, "try_scripts"), (166, 158))
+        silent.cases = silent.wrong = 0
+        self.assertEqual(self.counted(silent, "try_queries", "try_words", "try_workload", "try_workers"), (34, 34))
 
     def test_a_program_that_reads_before_its_words_is_refused(self):
         early = self.program('cat > /dev/null; echo "usage: rvdyn [--threads] [--workers W] [--judge N] [--steps K] [--gen SEED] [--race]" >&2; exit 1')
@@ -51,8 +67,34 @@ class WorkedRuns(unittest.TestCase):
         late = self.program('echo "usage: rvdyn [--threads] [--workers W] [--judge N] [--steps K] [--gen SEED] [--race]" >&2; exit 1')
         self.assertEqual(self.counted(late, "try_words"), (9, 0))
 
+    def test_queries_are_those_of_the_model(self):
+        """Restrictions and races; the others take the model longer, and are of the same rules."""
+        for made in (worked_queries.restricted, worked_queries.singles):
+            for name, words, script, told in made():
+                if name == "restrictions" or "--race" in words:
+                    self.assertEqual(Model([]).run(script.encode(), *words), (0, told.encode(), b""), name)
+
+    def test_queries_have_many_courses(self):
+        told = "".join(told for _, _, _, told in worked_queries.cases())
+        courses = {" ".join(line.split()[2:-6]) for line in told.split("\n") if line.startswith("= trace")}
+        self.assertEqual((told.count("\n= opened"), len(courses)), (2886, 161))
+        for word in ["stop", "full", "final-list", "final-table", "union", "sorted", "index-only", "fast-first", "background-only", "table"]:
+            self.assertTrue(any(word in course for course in courses), word)
+
+    def test_rows_of_equal_order_values_may_be_exchanged(self):
+        call = "1 OPEN C SELECT W.B, W.C, W.A FROM T0 W ORDER BY W.A\n= opened\n"
+        rows = ["1 FETCH C\n= row 2, 1, 1\n", "1 FETCH C\n= row NULL, 1, 1\n", "1 FETCH C\n= row 0, 0, 2\n"]
+        tidy = call + rows[1] + rows[0] + rows[2]
+        self.assertEqual(worked_queries.tidied(call + "".join(rows)), tidy)
+        self.assertEqual(worked_queries.tidied(tidy), tidy)
+        self.assertNotEqual(worked_queries.tidied(call + rows[2] + rows[0] + rows[1]), tidy)
+
+    def test_mixed_kinds_are_left_out(self):
+        """Rows that no table has: 9 of the 200 of the restriction table."""
+        self.assertEqual(sum(len(rows) for _, _, rows, _ in worked_queries.restricted_cases()), 191)
+
     def test_cases_are_apart(self):
-        names = [name for cases in (transcripts, lines, faults) for name, _, _ in cases()]
+        names = [name for cases in (transcripts, lines, faults, texts) for name, _, _ in cases()]
         self.assertEqual(len(set(names)), len(names))
 
 

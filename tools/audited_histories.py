@@ -1,11 +1,9 @@
-#!/usr/bin/env python3
-"""Writes the answers that the program `try_replays` is to give, or with --lines what it is to read: transcripts, each ended by
-`====`, and traces behind `course`. The answers were found by hand, by the rules in words: which row may come, when `end` may,
-what STEP and SHOW may tell, and by which turns a retrieval goes on. Where words are behind `====`, an entry is changed as no
-transcript can have it. Broken is the first entry up to which the history is none, counted from 1."""
-import argparse
+"""Transcripts that are legal histories, and such that break, with the verdict on each. The verdicts were found by hand, by the rules in
+words: which row may come, when `end` may, what STEP and SHOW may tell, and by which turns a retrieval goes on."""
+from __future__ import annotations
 
-from ending import end
+from typing import Iterator
+
 from hostile_table import FIRST
 
 # Three rows, two of them equal, and a cursor over all.
@@ -101,49 +99,45 @@ def shown(events):
     return asked("SHOW C", f"trace {events} pages 7 leaves 0 fetches 0")
 
 
-# A transcript, the words behind its end, and the answer.
+# A transcript and the verdict on it.
 HISTORIES = [
-    ("", "", "legal"),
+    ("", "legal"),
     # rows may come in any order without ORDER BY
-    (ROWS + fetches(ONE, ONE, NONE, "end", "end") + END_OF_ROWS, "", "legal"),
-    (ROWS + fetches(NONE, ONE, ONE, "end") + END_OF_ROWS, "", "legal"),
+    (ROWS + fetches(ONE, ONE, NONE, "end", "end") + END_OF_ROWS, "legal"),
+    (ROWS + fetches(NONE, ONE, ONE, "end") + END_OF_ROWS, "legal"),
     # no row comes that is not left
-    (ROWS + fetches("row 5, 'x'", ONE, NONE) + END_OF_ROWS, "", "broken 9"),
-    (ROWS + fetches(NONE, NONE) + END_OF_ROWS, "", "broken 10"),
-    (ROWS + fetches(NONE, "end") + END_OF_ROWS, "", "broken 10"),
-    # sessions are 1 to 8, phases never fall, and transactions are counted from 1
-    ("1 BEGIN\n= began 1\n", " 1 session 9", "broken 1"),
-    ("1 BEGIN\n= began 1\n", " 1 session 0", "broken 1"),
-    ("1 BEGIN\n= began 1\n1 COMMIT\n= committed 0\n", " 1 phase 2", "broken 2"),
-    ("1 BEGIN\n= began 1\n1 COMMIT\n= committed 0\n", " 2 phase 2", "legal"),
-    ("1 BEGIN\n= began 2\n", "", "broken 1"),
-    ("1 begin;;\n= syntax\n", "", "legal"),
+    (ROWS + fetches("row 5, 'x'", ONE, NONE) + END_OF_ROWS, "bad entry 9"),
+    (ROWS + fetches(NONE, NONE) + END_OF_ROWS, "bad entry 10"),
+    (ROWS + fetches(NONE, "end") + END_OF_ROWS, "bad entry 10"),
+    # transactions are counted from 1
+    ("1 BEGIN\n= began 2\n", "bad entry 1"),
+    ("1 begin;;\n= syntax\n", "legal"),
     # STEP does no more than is asked
-    (EMPTY + asked("STEP C 3", "stepped 3"), "", "legal"),
-    (EMPTY + asked("STEP C 3", "stepped 4"), "", "broken 4"),
+    (EMPTY + asked("STEP C 3", "stepped 3"), "legal"),
+    (EMPTY + asked("STEP C 3", "stepped 4"), "bad entry 4"),
     # SHOW tells a trace of the course
-    (EMPTY + shown("table final-table"), "", "legal"),
-    (EMPTY + shown("table final-list"), "", "broken 4"),
+    (EMPTY + shown("table final-table"), "legal"),
+    (EMPTY + shown("table final-list"), "bad entry 4"),
     # its scans have the names of indexes over the table
-    (INDEXED + shown("fast-first building scan IA"), "", "legal"),
-    (INDEXED + shown("fast-first building scan IB"), "", "broken 7"),
-    (INDEXED + shown("fast-first building scan SA"), "", "broken 7"),
+    (INDEXED + shown("fast-first building scan IA"), "legal"),
+    (INDEXED + shown("fast-first building scan IB"), "bad entry 7"),
+    (INDEXED + shown("fast-first building scan SA"), "bad entry 7"),
     # a join offers each choice of rows that qualifies, as often as there are such choices
-    (JOINED + fetches("row 1"), "", "legal"),
-    (JOINED + fetches("end"), "", "broken 9"),
-    (EQUAL + fetches("row 2, 2", "row 2, 2", "end"), "", "legal"),
-    (EQUAL + fetches("row 2, 2", "end"), "", "broken 12"),
-    (EQUAL + fetches("row 2, 2", "row 2, 2", "row 2, 2"), "", "broken 13"),
-    (EQUAL + fetches("row 1, 2"), "", "broken 11"),
+    (JOINED + fetches("row 1"), "legal"),
+    (JOINED + fetches("end"), "bad entry 9"),
+    (EQUAL + fetches("row 2, 2", "row 2, 2", "end"), "legal"),
+    (EQUAL + fetches("row 2, 2", "end"), "bad entry 12"),
+    (EQUAL + fetches("row 2, 2", "row 2, 2", "row 2, 2"), "bad entry 13"),
+    (EQUAL + fetches("row 1, 2"), "bad entry 11"),
     # offers in the order of their values: NULL is the least
-    (ROWS.replace("FROM T", "FROM T ORDER BY A") + fetches(NONE, ONE, ONE, "end"), "", "legal"),
-    (ROWS.replace("FROM T", "FROM T ORDER BY A") + fetches(ONE), "", "broken 9"),
+    (ROWS.replace("FROM T", "FROM T ORDER BY A") + fetches(NONE, ONE, ONE, "end"), "legal"),
+    (ROWS.replace("FROM T", "FROM T ORDER BY A") + fetches(ONE), "bad entry 9"),
     # a session has one transaction, and the first active one is told
-    (TRANSACTIONS, "", "legal"),
-    (TRANSACTIONS.replace("active 1", "active 2"), "", "broken 4"),
-    (TRANSACTIONS.replace("busy 1", "busy 2"), "", "broken 5"),
+    (TRANSACTIONS, "legal"),
+    (TRANSACTIONS.replace("active 1", "active 2"), "bad entry 4"),
+    (TRANSACTIONS.replace("busy 1", "busy 2"), "bad entry 5"),
     # a transcript that is none
-    ("1 BEGIN\n= began\n", "", "no transcript, line 2"),
+    ("1 BEGIN\n= began\n", "text line 2"),
 ]
 
 LIST = "building scan I0 list I0 20 final-list done"
@@ -197,20 +191,22 @@ COURSES = [
 ]
 
 
-def course(strategy, events):
+def course(strategy: str, events: str) -> str:
     return " ".join([strategy, *events.split(), "pages 0 leaves 0 fetches 0"])
 
 
-def main():
-    parser = argparse.ArgumentParser(description=__doc__, formatter_class=argparse.RawDescriptionHelpFormatter)
-    parser.add_argument("--lines", action="store_true", help="the lines that the program reads")
-    asked_for = parser.parse_args()
-    for text, words, answer in HISTORIES:
-        print(f"{text}===={words}" if asked_for.lines else answer)
+def histories() -> Iterator[tuple[str, str]]:
+    """Transcripts with their verdicts, in the words of the auditor."""
+    for transcript, verdict in HISTORIES:
+        yield transcript, f"legal {transcript.count(chr(10)) // 2}" if verdict == "legal" else verdict
+
+
+def courses() -> Iterator[tuple[str, str]]:
+    """A SHOW of each trace, of a cursor over a table that has the indexes and no other."""
     for indexes, strategy, events, is_allowed in COURSES:
-        print(f"course {indexes};{course(strategy, events)}" if asked_for.lines else "allowed" if is_allowed else "not allowed")
-    return 0
-
-
-if __name__ == "__main__":
-    end(main)
+        made = "1 CREATE TABLE T (A BIGINT, B BIGINT)\n= created\n"
+        made += "".join(f"1 CREATE INDEX I{at} ON T ({'AB'[int(at)]})\n= created\n" for at in indexes.split(",") if at != "-")
+        made += "1 BEGIN\n= began 1\n1 OPEN C SELECT * FROM T\n= opened\n"
+        transcript = made + f"1 SHOW C\n= trace {course(strategy, events)}\n"
+        entries = transcript.count("\n") // 2
+        yield transcript, f"legal {entries}" if is_allowed else f"bad entry {entries}"
