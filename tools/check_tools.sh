@@ -17,7 +17,9 @@ for it in ${program:+"$program" "$auditor"}; do
 done
 cd "$(dirname "$0")" || exit 1
 room=$(mktemp -d) || exit 1
-names=() running=() began=() passed=0 failed=0 jobs=${CHECK_JOBS:-$(nproc)}
+names=() running=() began=() passed=0 failed=0
+jobs=${CHECK_JOBS:-$(nproc)} ending=${CHECK_ENDING:+; $CHECK_ENDING}
+unset CHECK_JOBS CHECK_ENDING # (a test of this script among the parts has its own)
 
 end_parts() {
     [ ${#running[@]} = 0 ] || kill "${running[@]}" 2> /dev/null
@@ -96,5 +98,5 @@ for it in "gate_times check" "prover_times check" "check_pages.py --test" "check
 done
 wait_below 1
 ./mutants check
-echo "$passed passed, $failed failed in $SECONDS s${CHECK_ENDING:+; $CHECK_ENDING}"
+echo "$passed passed, $failed failed in $SECONDS s$ending"
 [ "$failed" = 0 ]

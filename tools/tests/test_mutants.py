@@ -106,6 +106,13 @@ class Repository(unittest.TestCase):
             (self.low / path).write_bytes(old) if old else (self.low / path).unlink()
         self.assertEqual(self.ran("check")[0], 0)
 
+    def test_many_edits_are_tried_in_shares(self):
+        for number in range(6):
+            self.edit(f"one_more_{number}", "refuse low::f", "low::f")
+        status, told = self.ran("--jobs", "2")
+        self.assertEqual((status, told.count("refused, as it must be"), told.count("proved without an edit")), (0, 9, 3), told)
+        self.assertTrue((self.low / "mutants/TRIED").exists())
+
     def test_only_the_functions_of_an_edit_are_checked(self):
         self.ran("low/gives_twice")
         asked = [line.split("--incremental")[1].split()[1:] for line in (self.top / "log").read_text(encoding="utf-8").splitlines()]
