@@ -37,7 +37,7 @@ YET = re.compile(r"\byet\b|not built|[Nn]o clause|\bto come\b")
 # Names that are another's: of the kit, of its prover, of the system; words of the language; patterns of names.
 FOREIGN = set("""rt cc omega grind simp rw subst search absurd elim ap refl let unfolding git python3 sqlite3
     callgrind malloc realloc clap BTreeMap BufWriter Clone Mutex ArrayString indexmap arrayvec itoa atomic_table
-    std from_utf8 lines dyn Drop Vec String load proves NOT TRIED BAD EDIT REFUSED rand atomic
+    std from_utf8 lines dyn Drop Vec String load proves NOT TRIED BAD EDIT REFUSED RT_JOBS rand atomic
     x_at x_takes x_again""".split())
 
 
