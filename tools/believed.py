@@ -600,6 +600,9 @@ def main():
     for name in sorted(set(house.missing)):
         print("not found: " + name, file=sys.stderr)
     if asked.why:
+        if all(item.name != asked.why for item in order):
+            print(f"believed: the clauses reach no definition {asked.why}", file=sys.stderr)
+            return 1
         for item in order:
             if item.name == asked.why:
                 way = [item.name]

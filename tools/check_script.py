@@ -11,6 +11,7 @@ from __future__ import annotations
 import argparse
 import re
 import sys
+from codecs import BOM_UTF16_BE, BOM_UTF16_LE
 from dataclasses import dataclass
 from typing import Iterator
 
@@ -151,6 +152,7 @@ class Checker:
         self.names = Names()
         self.missed: set[tuple] = set()  # names of tables and cursors that were told to be unknown
         self.unmade: dict[str, tuple[int, str]] = {}  # tables whose CREATE was refused: its line and the reply
+        self.unique: dict[str, int] = {}  # unique indexes, which rows may have kept from being made: the line
 
     def look_at(self, call: Call) -> tuple[int, str] | None:
         """The first mistake of a call and its offset in the text, or None."""
@@ -160,6 +162,8 @@ class Checker:
             return of_syntax(call.text, fault)
         try:
             self.names.perform(call.session, said)
+            if said[0] == "index" and said[4]:
+                self.unique[said[1]] = call.line
             return None
         except Refused as refused:
             if said[0] == "create":
@@ -215,7 +219,9 @@ class Checker:
     def of_exists(self, said: tuple, refused: Refused) -> str:
         made = self.names.tables if said[0] == "create" else self.names.indexes if said[0] == "index" else {}
         if refused.name is said[1] and refused.name in made:
-            return f"there is {'a table' if said[0] == 'create' else 'an index'} {refused.name} already"
+            line = self.unique.get(refused.name) if said[0] == "index" else None
+            unless = f", unless line {line} is answered `duplicate`, which rows decide" if line else ""
+            return f"there is {'a table' if said[0] == 'create' else 'an index'} {refused.name} already{unless}"
         return f"{refused.name} stands here twice" + (": give one of the two a second name" if said[0] == "open" else "")
 
     @staticmethod
@@ -254,11 +260,30 @@ def why_no_line(line: str) -> str:
     return "a line is `S statement` with a session S from 1 to 8, all of the statement on it; `# a comment`; `--`, `-- 0`, `-- 1` or `-- 2`; or empty"
 
 
+CARRIAGE_RETURNS = "lines end with a carriage return alone here: LF or CR LF ends a line"
+
+
+def why_no_text(data: bytes) -> str:
+    """What stands where the bytes of a file are not UTF-8."""
+    if data.startswith((BOM_UTF16_LE, BOM_UTF16_BE)):
+        return "the file is UTF-16: `iconv -f UTF-16 -t UTF-8` makes it UTF-8"
+    try:
+        data.decode()
+    except UnicodeDecodeError as fault:
+        before = data[: fault.start].decode().removeprefix("\ufeff").split("\n")
+        byte = data[fault.start : fault.start + 1]
+        meant = byte.decode("cp1252", errors="replace")
+        hint = f", which is `{meant}` in CP1252: `iconv -f CP1252 -t UTF-8` makes the file UTF-8" if meant.isalpha() else ""
+        return f"line {len(before)}, column {len(before[-1]) + 1}: a byte {byte[0]:02X}{hint}"
+    return ""
+
+
 def of_fault(fault: tuple[int, str], data: bytes) -> str:
     """What is wrong with an input that is no script."""
     found = re.fullmatch(r"script: line (\d+) has no session", fault[1])
     if found is None:
-        return fault[1]
+        why = why_no_text(data) if fault[1].endswith("is not UTF-8") else CARRIAGE_RETURNS if b"\r" in data and b"\n" not in data else ""
+        return fault[1] + (f" ({why})" if why else "")
     line = data.decode().removeprefix("\ufeff").split("\n")[int(found[1]) - 1].removesuffix("\r")
     return f"{fault[1]} ({why_no_line(line)})"
 

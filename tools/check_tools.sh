@@ -1,8 +1,8 @@
 #!/usr/bin/env bash
-# Runs the tests of the tools, the examples by the slow model, the checks of the pages, and that of the definitions which
-# docs/BELIEVE.md lists; this needs Python alone. Where PROGRAM is given, the examples, the worked runs, random scripts of fixed
-# seeds, the command lines and the table of hostile use are run by it too, and AUDITOR, or the one beside it in crates/, reads
-# transcripts. Behind these it tells which crates' wrong bodies are to be tried again, which fails nothing.
+# Runs the tests of the tools, the examples by the slow model, retrievals made to hurt a guarded judge, the checks of the pages, and
+# that of the definitions which docs/BELIEVE.md lists; this needs Python alone. Where PROGRAM is given, the examples, the worked runs,
+# random scripts of fixed seeds, the command lines and the table of hostile use are run by it too, and AUDITOR, or the one beside it
+# in crates/, reads transcripts. Behind these it tells which crates' wrong bodies are to be tried again, which fails nothing.
 #
 # As many parts run side by side as there are processors (CHECK_JOBS=N: so many). A line tells each part as it ends and what was
 # tried in it, and where it failed its output follows. The last line counts all, and the status is 1 where something failed.
@@ -93,7 +93,7 @@ for it in tests/test_*.py; do
     it=tests.$(basename "$it" .py)
     part "$it" python3 -m unittest -q "$it"
 done
-for it in "gate_times check" "prover_times check" "check_pages.py --test" "check_pages.py" "believed.py --test" "believed.py --check"; do
+for it in "bounded_worst.py --tries 300" "gate_times check" "prover_times check" "check_pages.py --test" "check_pages.py" "believed.py --test" "believed.py --check"; do
     part "$it" ./$it
 done
 wait_below 1

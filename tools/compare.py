@@ -2,8 +2,8 @@
 """Compares what each query of a script reads under each judge, beside a planner's guess and the best path in hindsight.
 
 For each OPEN it tells the strategy, the reads until the first, the tenth and the last row and until the end, and which scans
-were dropped: under the program's judges threshold, patient and contrary, and under AllRows and FirstRows of
-crates/skew_judges, which whoever calls the library may hand in. Beside them stand two of the fixed paths (the table, one
+were dropped: under the program's judges threshold, patient and contrary, and under AllRows, FirstRows and Bounded (the guard
+around AllRows) of crates/skew_judges, which whoever calls the library may hand in. Beside them stand two of the fixed paths (the table, one
 index, some indexes with their lists intersected; of an OR the union; of an order that an index gives only this index, behind
 lists of others):
 
@@ -334,7 +334,8 @@ def block(name: str, of: Compared) -> list[str]:
     for contender in of.contenders:
         lines.append(line_of(contender.name, of.columns(contender), contender.words))
     if of.sorted_table is not None and of.sorted_table < of.contenders[-1].reads.whole:
-        lines.append(f"    the {of.sorted_table:,} pages of the table, read and then sorted, would be less; an order that an index gives is followed")
+        lines.append(f"    the {of.sorted_table:,} pages of the table, read and then sorted, would be less; an order that an index gives is followed,")
+        lines.append("    but not with one more column in ORDER BY that no index has there")
     return lines
 
 
@@ -352,8 +353,9 @@ def head(steps: int, race: bool) -> list[str]:
     return [
         "Reads are pages, leaves and records, one unit each, until a row is there, and until FETCH answers `end`. They are counted by the",
         f"slow model, which reads what the program reads, with --steps {steps}{' and --race' if race else ''}; each cursor alone, and to its end.",
-        "threshold, patient, contrary: the program's judges (--judge 0, 1, 2). AllRows, FirstRows: of crates/skew_judges, for callers of",
-        "the library. A planner's guess and the best in hindsight are fixed paths: by estimates, and by what it reads until the end.",
+        "threshold, patient, contrary: the program's judges (--judge 0, 1, 2). AllRows, FirstRows, Bounded (a guard around AllRows): of",
+        "crates/skew_judges, for callers of the library. A planner's guess and the best in hindsight are fixed paths: by estimates, and",
+        "by what it reads until the end.",
     ]
 
 

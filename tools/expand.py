@@ -15,7 +15,6 @@ FETCHes each time, until all have found an end. It is faster where tables have t
 from __future__ import annotations
 
 import argparse
-import subprocess
 import sys
 from codecs import BOM_UTF8
 from dataclasses import dataclass
@@ -23,7 +22,7 @@ from typing import Callable, Sequence
 
 from check_script import of_fault
 from ending import end
-from interleave import by_program
+from interleave import NoReplies, by_program
 from load import SCRIPT_BYTES, SCRIPT_LINES
 from model.database import Cursor, Database
 from model.language import Call, Mark, Name, Reader, Syntax, calls_of, fault_of, statement
@@ -185,8 +184,8 @@ def main() -> int:
     wanted = wanted_in(entries)
     try:
         counts = (by_runs(by_program([words.program], 0, 1)) if words.program else by_model)(entries, wanted)
-    except subprocess.CalledProcessError as ended:
-        print(f"expand: {words.program} ended with status {ended.returncode}", file=sys.stderr)
+    except NoReplies as fault:
+        print(f"expand: {fault}", file=sys.stderr)
         return 1
     except OverLimit as limit:
         print(f"expand: {limit}", file=sys.stderr)

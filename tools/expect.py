@@ -11,6 +11,7 @@ from __future__ import annotations
 import argparse
 import io
 import sys
+from codecs import BOM_UTF8
 from itertools import zip_longest
 
 from ending import end
@@ -35,6 +36,11 @@ def quoted(line: bytes | None) -> str:
     return "nothing more" if line is None else f"`{line.strip().decode(errors='backslashreplace')}`"
 
 
+def bare(line: bytes) -> bytes:
+    """A line without what is not seen of it."""
+    return line.removeprefix(BOM_UTF8).strip()
+
+
 def told(name: str, expected: bytes, came: bytes, script: tuple[str, bytes] | None) -> list[str]:
     """What is said of the first difference; nothing where there is none."""
     found = first_difference(expected, came)
@@ -42,8 +48,9 @@ def told(name: str, expected: bytes, came: bytes, script: tuple[str, bytes] | No
         return []
     number, wanted, got = found
     lines = [f"{name}:{number}: expected is {quoted(wanted)}, and {quoted(got)} came"]
-    if wanted is not None and got is not None and wanted.strip() == got.strip():
-        lines.append("  they differ in the blanks at an end, or in the ends of lines")
+    if wanted is not None and got is not None and bare(wanted) == bare(got):
+        marked = wanted.startswith(BOM_UTF8) != got.startswith(BOM_UTF8)
+        lines.append("  one of them begins with a byte order mark" if marked else "  they differ in the blanks at an end, or in the ends of lines")
     elif number % 2 == 0:
         lines.append(f"  as the answer to {quoted(lines_of(came)[number - 2])}")
     place = place_of(script, (number - 1) // 2) if script else None

@@ -7,8 +7,11 @@ many they are, the first of them, its replies, and after it the replies of the l
 of the rows. Transactions and commits are named by their sessions there (`held 0 by session 2`), since their numbers only
 tell who came first; --numbers leaves the numbers.
 
-With --expected FILE the text is compared with a file, a diff is told, and the status is 1 where they differ. The replies
-are those of the slow model, or with --program of a program."""
+With --expected FILE the text is compared with a file, and a diff is told. The replies are those of the slow model, or with
+--program of a program.
+
+Status 0: all orders were run; 1: with --expected, the text differs; 2: a file cannot be read, this is no script, the phase has no
+calls, there are too many orders, or the program does not answer all calls."""
 from __future__ import annotations
 
 import argparse
@@ -22,10 +25,12 @@ from collections import Counter
 from dataclasses import dataclass
 from typing import Callable, Iterator, Sequence
 
+from check_script import of_fault
 from ending import end
 from model.language import Call, Mark, calls_of, fault_of
 from model.program import Session
 from slow_program import number_up_to
+from timeline import positive, read_script
 
 Order = tuple[int, ...]  # of each call of the phase the session
 Runner = Callable[[Sequence[Call | Mark]], list[str]]
@@ -100,6 +105,10 @@ def in_order(by_session: dict[int, list[Call]], order: Order) -> list[Call]:
 # Runs.
 
 
+class NoReplies(Exception):
+    """A program does not answer the calls of a script; the words tell how it ended."""
+
+
 def by_model(judge: int, steps: int) -> Runner:
     return lambda calls: [reply for _, reply in Session(judge, steps).run(calls)]
 
@@ -108,8 +117,14 @@ def by_program(words: list[str], judge: int, steps: int) -> Runner:
     def run(calls: Sequence[Call | Mark]) -> list[str]:
         script = "".join(f"{call.session} {call.text}\n" if isinstance(call, Call) else mark_line(call) for call in calls)
         command = [*words, "--judge", str(judge), "--steps", str(steps)]
-        ran = subprocess.run(command, input=script.encode(), stdout=subprocess.PIPE, check=True)
-        return [line[2:] for line in ran.stdout.decode().split("\n")[1::2]]
+        ran = subprocess.run(command, input=script.encode(), stdout=subprocess.PIPE, check=False)
+        if ran.returncode:
+            raise NoReplies(f"{words[0]} ended with status {ran.returncode}")
+        replies = [line[2:] for line in ran.stdout.decode(errors="replace").split("\n")[1::2]]
+        wanted = sum(isinstance(call, Call) for call in calls)
+        if len(replies) != wanted:
+            raise NoReplies(f"{words[0]} answered {len(replies)} of {wanted} calls")
+        return replies
 
     return run
 
@@ -192,9 +207,9 @@ def differs(told: str, name: str) -> list[str]:
 
 def main() -> int:
     parser = argparse.ArgumentParser(description=__doc__, formatter_class=argparse.RawDescriptionHelpFormatter)
-    parser.add_argument("script", metavar="FILE", help="a script")
+    parser.add_argument("script", metavar="FILE", help="a script, or - for standard input")
     parser.add_argument("--phase", type=int, default=2, metavar="N", help="the phase that is interleaved, from 1 (default 2)")
-    parser.add_argument("--random", type=int, metavar="N", help="N random orders in place of all")
+    parser.add_argument("--random", type=positive, metavar="N", help="N random orders in place of all")
     parser.add_argument("--seed", type=int, default=1, help="of the random orders (default 1)")
     parser.add_argument("--most", type=int, default=20000, metavar="N", help="refuse to run more orders than these (default 20000)")
     parser.add_argument("--judge", type=number_up_to(2), default=0, metavar="N", help="as the program's")
@@ -203,11 +218,10 @@ def main() -> int:
     parser.add_argument("--program", metavar="PROGRAM", help="run this program in place of the model")
     parser.add_argument("--expected", metavar="FILE", help="compare with this file, and tell a diff")
     words = parser.parse_args()
-    with open(words.script, "rb") as file:
-        data = file.read()
+    data = read_script(words.script)
     fault = fault_of(data)
     if fault is not None:
-        print(f"interleave: {fault[1]}", file=sys.stderr)
+        print(f"{words.script}: {of_fault(fault, data)}", file=sys.stderr)
         return 2
     of = phases(data.decode(), words.phase)
     counts = Counter(call.session for call in of.inside)
@@ -219,7 +233,11 @@ def main() -> int:
         return 2
     run = by_program([words.program], words.judge, words.steps) if words.program else by_model(words.judge, words.steps)
     orders = every_order(counts) if words.random is None else random_orders(counts, words.random, words.seed)
-    told = text(outcomes(of, orders, run, words.numbers))
+    try:
+        told = text(outcomes(of, orders, run, words.numbers))
+    except NoReplies as fault:
+        print(f"interleave: {fault}", file=sys.stderr)
+        return 2
     if words.expected is None:
         sys.stdout.write(told)
         return 0

@@ -1,5 +1,5 @@
 """Draws what judge_reads.py counted as SVG pictures: reads in all against the best path, by seed; reads until the n-th row;
-and each query's reads against the planner's."""
+each query's reads against the planner's; and the dearest query of each seed."""
 from __future__ import annotations
 
 import math
@@ -7,13 +7,16 @@ import os
 from typing import TYPE_CHECKING, Iterable
 from xml.sax.saxutils import escape
 
+from guarded_judge import most_reads
+
 if TYPE_CHECKING:
     from judge_reads import Told
 
-    Runs = dict[tuple[int, int], list[Told]]
+    Runs = dict[tuple[int, int], list[Told]]  # by rows and seed
+    BySteps = dict[int, Runs]
 
 INK, GREY, LIGHT = "#222222", "#777777", "#dddddd"
-COLOURS = {"best": "#222222", "planner": "#e08e0b", "threshold": "#9b59b6", "patient": "#999999", "AllRows": "#1d6fb8", "FirstRows": "#2a7f3f"}
+COLOURS = {"best": "#222222", "planner": "#e08e0b", "threshold": "#9b59b6", "patient": "#999999", "AllRows": "#1d6fb8", "FirstRows": "#2a7f3f", "Bounded": "#00a3a3"}
 WIDTH, HEIGHT = 460, 330
 LEFT, RIGHT, TOP, BOTTOM = 56, 14, 34, 46
 
@@ -94,21 +97,48 @@ def ticks(*values: float) -> dict[float, str]:
     return {value: f"{value:,}" for value in values}
 
 
-def by_seed(runs: Runs) -> str:
+def by_places(seeds: int) -> tuple[float, float, bool]:
+    """An axis of seeds, with room for words behind them."""
+    return 0.5, 1.35 * seeds + 0.5, False
+
+
+def seeded(runs: BySteps) -> Iterable[tuple[int, str, Runs]]:
+    """For each size and each number of steps beside a foreground step: its place, words for it, and what was counted by seed."""
+    every = [(rows, steps) for rows in sizes(next(iter(runs.values()))) for steps in runs]
+    for place, (rows, steps) in enumerate(every):
+        yield place, f"{rows:,} rows, --steps {steps}", {key: told for key, told in runs[steps].items() if key[0] == rows}
+
+
+def by_seed(runs: BySteps) -> str:
     """Reads in all against the best path, of each seed."""
     panels = []
-    for place, rows in enumerate(sizes(runs)):
-        seeds = [seed for size, seed in runs if size == rows]
-        panel = Panel(place, f"{rows:,} rows", (0.5, len(seeds) + 0.5, False), (0.95, 1.75, False))
-        panel.axes({at + 1: str(seed) for at, seed in enumerate(seeds)}, ticks(1.0, 1.25, 1.5, 1.75), "seed", "reads in all / best path")
-        for name in ("planner", "threshold", "AllRows", "FirstRows"):
-            points = []
-            for at, seed in enumerate(seeds):
-                told = runs[rows, seed]
-                points.append((at + 1, sum(q.reads[name].whole for q in told) / sum(q.reads["best"].whole for q in told)))
+    for place, words, some in seeded(runs):
+        panel = Panel(place, words, by_places(len(some)), (0.95, 1.75, False))
+        panel.axes({at: str(seed) for at, (_, seed) in enumerate(some, 1)}, ticks(1.0, 1.25, 1.5, 1.75), "seed", "reads in all / best path")
+        names = ["threshold", "planner", "FirstRows", "Bounded", "AllRows"]
+        for name in names:
+            points = [(at, sum(q.reads[name].whole for q in told) / sum(q.reads["best"].whole for q in told)) for at, told in enumerate(some.values(), 1)]
             panel.line(points, COLOURS[name], dash="3,3")
             panel.dots(points, COLOURS[name])
-        panel.legend(["threshold", "planner", "FirstRows", "AllRows"], panel.right - 86, panel.top + 12)
+        panel.legend(names, panel.right - 86, panel.top + 12)
+        panels.append(panel)
+    return svg(panels)
+
+
+def dearest(runs: BySteps) -> str:
+    """The reads of the dearest query of each seed, against its table's pages, and what a guarded judge's may read at most."""
+    panels = []
+    for place, words, some in seeded(runs):
+        panel = Panel(place, f"dearest query, {words}", by_places(len(some)), (0.8, 40, True))
+        panel.axes({at: str(seed) for at, (_, seed) in enumerate(some, 1)}, ticks(1, 2, 4, 8, 16, 32), "seed", "reads / pages of the table")
+        pages = next(iter(some.values()))[0].pages
+        for strategy, most in ((name, most_reads(name, pages, 3) / pages) for name in ("background-only", "fast-first")):
+            panel.line([(panel.x.low, most), (panel.x.high, most)], COLOURS["Bounded"], 1.5, "6,3")
+            panel.text(panel.right, panel.y(most) - 4, strategy, "end", COLOURS["Bounded"])
+        names = ["patient", "planner", "threshold", "FirstRows", "AllRows", "Bounded"]
+        for name in names:
+            panel.dots([(at, max(query.tables(name) for query in told)) for at, told in enumerate(some.values(), 1)], COLOURS[name])
+        panel.legend(names, panel.right - 86, panel.top + 12)
         panels.append(panel)
     return svg(panels)
 
@@ -156,8 +186,11 @@ def by_query(runs: Runs) -> str:
     return svg(panels)
 
 
-def draw(folder: str, runs: Runs) -> None:
+def draw(folder: str, runs: BySteps) -> None:
+    """Draws all of them; those by row and by query are of the first number of steps."""
     os.makedirs(folder, exist_ok=True)
-    for name, picture in {"by-seed": by_seed, "by-row": by_row, "by-query": by_query}.items():
+    first = next(iter(runs.values()))
+    pictures = {"by-seed": by_seed(runs), "by-row": by_row(first), "by-query": by_query(first), "dearest": dearest(runs)}
+    for name, picture in pictures.items():
         with open(os.path.join(folder, name + ".svg"), "w", encoding="utf-8") as file:
-            file.write(picture(runs))
+            file.write(picture)

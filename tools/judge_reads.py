@@ -18,6 +18,7 @@ from typing import Callable, Iterator, NamedTuple
 import judge_pictures
 from ending import end
 from fixed_paths import FixedPaths, Reads
+from guarded_judge import bounded, most_reads
 from model.database import place
 from model.ranges import range_for
 from model.retrieval import LEAF, PAGE, Counts, Retrieval, project
@@ -42,7 +43,7 @@ class Facts(NamedTuple):
 Judge = Callable[[Facts], str]  # "go on", "drop" the scan, "stop" the foreground, "end" the background
 
 
-# The judges: two of the supplied ones, and those of crates/skew_judges.
+# The judges: two of the supplied ones, and those of crates/skew_judges; of its guard, that around AllRows.
 
 
 def threshold(facts: Facts) -> str:
@@ -88,7 +89,13 @@ def sentence(facts: Facts, kept: tuple[int, ...]) -> str:
     return "stop" if facts.building else "go on"
 
 
-JUDGES: dict[str, Judge] = {"threshold": threshold, "patient": patient, "AllRows": all_rows, "FirstRows": first_rows}
+JUDGES: dict[str, Judge] = {
+    "threshold": threshold,
+    "patient": patient,
+    "AllRows": all_rows,
+    "FirstRows": first_rows,
+    "Bounded": bounded(all_rows),
+}
 
 
 # Static paths, and judges.
@@ -243,6 +250,12 @@ class Told:
     rows: int
     reads: dict[str, Reads]
     soonest: int  # reads until the first row by the static path that has it first
+    pages: int  # of its table
+    most: float  # what it may read under a guarded judge
+
+    def tables(self, name: str) -> float:
+        """The reads in all of a contender, by the table's pages."""
+        return self.reads[name].whole / self.pages
 
 
 def told_of(seed: int, rows: int, queries: int, steps: int) -> list[Told]:
@@ -251,7 +264,10 @@ def told_of(seed: int, rows: int, queries: int, steps: int) -> list[Told]:
         reads = {"best": asked.reads[asked.best], "planner": asked.reads[asked.planned]}
         for name, judge in JUDGES.items():
             reads[name] = asked.judged(judge, steps)
-        told.append(Told(asked.query.soon, len(asked.wanted), reads, min(reads.until(1) for reads in asked.reads.values())))
+        soonest = min(reads.until(1) for reads in asked.reads.values())
+        strategy = "fast-first" if asked.query.soon else "background-only"
+        most = most_reads(strategy, asked.pages, len(asked.indexes))
+        told.append(Told(asked.query.soon, len(asked.wanted), reads, soonest, asked.pages, most))
     return told
 
 
@@ -310,6 +326,22 @@ def tables(runs: dict[tuple[int, int], list[Told]], steps: int) -> Iterator[str]
         some = [query for query in told if query.soon]
         cells = [f"{whole(some, name) / whole(some, 'best'):.2f}" for name in names]
         yield f"| {rows:,}, {seed} | " + " | ".join(cells) + " |"
+    yield ""
+    yield from dearest(runs)
+
+
+def dearest(runs: dict[tuple[int, int], list[Told]]) -> Iterator[str]:
+    names = ["best", "planner", *JUDGES]
+    yield "Reads of the dearest query, against its table's pages, and the queries that read more than a guarded judge's may:"
+    yield ""
+    yield "| Rows, seed | " + " | ".join(names) + " |"
+    yield "|---|" + "---|" * len(names)
+    for (rows, seed), told in runs.items():
+        yield f"| {rows:,}, {seed} | " + " | ".join(f"{max(query.tables(name) for query in told):.2f}" for name in names) + " |"
+    every = [query for told in runs.values() for query in told]
+    yield "| all | " + " | ".join(f"{max(query.tables(name) for query in every):.2f}" for name in names) + " |"
+    over = [sum(query.reads[name].whole > query.most for query in every) for name in names]
+    yield f"| above the bound, of {len(every):,} | " + " | ".join(f"{count:,}" for count in over) + " |"
 
 
 def verdicts(seed: int, rows: int, queries: int) -> float:
@@ -342,7 +374,7 @@ def main() -> int:
     parser.add_argument("--seeds", type=numbers, default=[1], help="as 1,3-5 (1)")
     parser.add_argument("--rows", type=numbers, default=[4000], help="sizes of the table, as 4000,20000 (4000)")
     parser.add_argument("--queries", type=int, default=200, help="queries of a seed (200)")
-    parser.add_argument("--steps", type=int, default=0, help="background steps beside each foreground step (0)")
+    parser.add_argument("--steps", type=numbers, default=[0], help="background steps beside each foreground step, as 0,1 (0)")
     parser.add_argument("--verdicts", action="store_true", help="tell the reads by the best verdicts in hindsight, and no more")
     parser.add_argument("--svg", metavar="FOLDER", help="draw the pictures of bench/judges/README.md into this folder")
     parser.add_argument("--check", metavar="TRANSCRIPT", help="compare with the program's transcript of the first seed and size")
@@ -350,7 +382,7 @@ def main() -> int:
     words = parser.parse_args()
     if words.check:
         with open(words.check, encoding="utf-8") as file:
-            found = differences(words.seeds[0], words.rows[0], words.queries, words.steps, words.judge, file.read())
+            found = differences(words.seeds[0], words.rows[0], words.queries, words.steps[0], words.judge, file.read())
         print("\n".join(found + [f"{words.queries - len(found)} of {words.queries} traces are equal"]))
         return 1 if found else 0
     if words.verdicts:
@@ -358,8 +390,8 @@ def main() -> int:
             for seed in words.seeds:
                 print(f"{rows:,}, {seed}: {verdicts(seed, rows, words.queries):.2f} times the best path")
         return 0
-    runs = {(rows, seed): told_of(seed, rows, words.queries, words.steps) for rows in words.rows for seed in words.seeds}
-    print("\n".join(tables(runs, words.steps)))
+    runs = {steps: {(rows, seed): told_of(seed, rows, words.queries, steps) for rows in words.rows for seed in words.seeds} for steps in words.steps}
+    print("\n\n".join("\n".join(tables(of, steps)) for steps, of in runs.items()))
     if words.svg:
         judge_pictures.draw(words.svg, runs)
     return 0

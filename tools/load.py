@@ -8,6 +8,9 @@ The first line has the columns' names. One that is no name of the language is ma
 is told. A column whose fields are all integers of 64 bits, written without leading zeros, is a BIGINT; each other one is a
 VARCHAR(255), also one that is empty throughout. --types says it otherwise. Empty lines are none.
 
+The language has no fractions. A column of amounts as 12.50 or 12,5 is a VARCHAR, whose values come in the order of letters; with
+--scale AMOUNT=2 it is a BIGINT of hundredths, where both are 1250.
+
 An empty field is NULL, quoted or not. To have empty texts, say what NULL is in the file: with --null '\\N' an empty field is
 the empty text, and \\N is NULL. Quotes are doubled. What the language cannot hold is refused with its line of the file, and
 then nothing is written: a text over 255 bytes, a line feed or another control character in a text (--spaces makes it a space),
@@ -34,6 +37,7 @@ from check_script import counted, findings
 from ending import end
 from model.database import shown
 from model.language import KEYWORDS
+from sql_habits import control_word
 
 # The limits of scripts and of the language that data can meet: docs/LANGUAGE.md, "Scripts" and "Limits".
 SCRIPT_BYTES, SCRIPT_LINES, LINE_BYTES = 16_777_216, 200_000, 4096
@@ -43,6 +47,7 @@ TOLD = 10  # so many faults of a file are told one by one
 NAME = re.compile(r"[A-Za-z][A-Za-z0-9_]*", re.ASCII)
 PLAIN_INTEGER = re.compile(r"\s*(0|-?[1-9][0-9]*)\s*", re.ASCII)
 ANY_INTEGER = re.compile(r"\s*([+-]?)0*([0-9]+)\s*", re.ASCII)
+FRACTION = re.compile(r"\s*([+-]?)0*([0-9]+?)(?:[.,]([0-9]*?)0*)?\s*", re.ASCII)
 CONTROL = re.compile(r"\r\n|[\x00-\x1f\x7f]")
 KINDS = {"BIGINT": "BIGINT", "INT": "BIGINT", "INTEGER": "BIGINT", "VARCHAR": f"VARCHAR({TEXT_BYTES})", "TEXT": f"VARCHAR({TEXT_BYTES})"}
 
@@ -151,14 +156,16 @@ def name_of(header: str, number: int) -> str:
 
 @dataclass
 class Column:
-    """A column of the table: its field, name and kind, and while the kind is guessed how many fields were integers and not,
-    and the first that was none with its line."""
+    """A column of the table: its field, name and kind, with how many digits of a fraction an integer has; and while the kind is
+    guessed how many fields were integers, how many not and how many of these fractions, and the first that was none with its line."""
 
     at: int
     name: str
     kind: str | None = None
+    scale: int = 0
     integers: int = 0
     others: int = 0
+    fractions: int = 0
     other: tuple[int, str] = field(default=(0, ""))
 
     def see(self, line: int, value: str) -> None:
@@ -167,6 +174,7 @@ class Column:
             self.integers += 1
         else:
             self.others += 1
+            self.fractions += FRACTION.fullmatch(value) is not None and ("." in value or "," in value)
             self.other = self.other if self.others > 1 else (line, value)
 
     def guessed(self) -> str:
@@ -174,6 +182,8 @@ class Column:
 
     def literal(self, value: str, spaces: bool) -> str:
         """A field as a literal of the column's kind; raises ValueError where there is none."""
+        if self.scale:
+            return self.scaled(value)
         if self.kind == "BIGINT":
             found = ANY_INTEGER.fullmatch(value)
             if not found:
@@ -192,12 +202,22 @@ class Column:
         return shown(text)
 
 
+    def scaled(self, value: str) -> str:
+        """A fraction as an integer of its parts."""
+        found = FRACTION.fullmatch(value)
+        if not found:
+            raise ValueError(f"{shortened(value)} is no number, and column {self.name} has {counted(self.scale, 'digit')} of a fraction")
+        behind = found[3] or ""
+        if len(behind) > self.scale:
+            raise ValueError(f"{shortened(value)} has {len(behind)} digits of a fraction, and column {self.name} {self.scale}")
+        number = int(found[1] + found[2] + behind.ljust(self.scale, "0")) if len(found[2]) <= 20 else 2**64
+        if not is_64_bits(number):
+            raise ValueError(f"{shortened(value)} is no integer of 64 bits in parts of column {self.name}")
+        return str(number)
+
+
 def is_64_bits(number: int) -> bool:
     return -(2**63) <= number < 2**63
-
-
-def control_word(control: str) -> str:
-    return {"\n": "a line feed", "\r\n": "a line end", "\r": "a carriage return", "\t": "a tab"}.get(control, f"a character {control!r}")
 
 
 def shortened(value: str) -> str:
@@ -242,6 +262,7 @@ def columns_of(source: Source, words: argparse.Namespace, note) -> list[Column]:
             numbers = f"{before.at + 1} and {column.at + 1}"
             raise Misfit(line, f"columns {numbers} would both be called {column.name}: --names A,B,.. gives all columns names")
     give_kinds(columns, words.types)
+    give_scales(columns, words.scale)
     return columns
 
 
@@ -274,6 +295,18 @@ def give_kinds(columns: list[Column], types: str | None) -> None:
         column.kind = KINDS.get(kind, kind) or None
 
 
+def give_scales(columns: list[Column], scales: str | None) -> None:
+    """Takes from --scale which columns are fractions, and of how many digits."""
+    for word in split(scales) if scales else []:
+        name, _, digits = word.partition("=")
+        column = one_called(columns, name.strip(), 1)
+        if digits.strip() not in list("123456789"):
+            raise WrongWords(f"--scale: `{word}` is not a column and its digits from 1 to 9, as AMOUNT=2")
+        if column.kind not in (None, "BIGINT"):
+            raise WrongWords(f"--scale makes {column.name} a BIGINT, and --types a {column.kind}")
+        column.kind, column.scale = "BIGINT", int(digits)
+
+
 def guess_kinds(columns: list[Column], rows: Iterable[tuple[int, list[str]]], null: str, note) -> None:
     """Gives a kind to each column that has none."""
     guessed = [column for column in columns if column.kind is None]
@@ -285,7 +318,10 @@ def guess_kinds(columns: list[Column], rows: Iterable[tuple[int, list[str]]], nu
                 column.see(line, fields[column.at])
     for column in guessed:
         column.kind = column.guessed()
-        if column.others and column.integers > column.others:
+        if column.others and column.fractions == column.others:
+            line, value = column.other
+            note(line, f"column {column.name} is {column.kind}: here stands {shortened(value)}, and texts come in the order of letters (--scale {column.name}=2 makes it an integer of hundredths)")
+        elif column.others and column.integers > column.others:
             line, value = column.other
             of_all = f"{column.integers} of its {column.integers + column.others} fields are integers"
             note(line, f"column {column.name} is {column.kind}: here stands {shortened(value)}, and {of_all} (--types says it otherwise)")
@@ -455,6 +491,7 @@ def words_of(arguments: list[str] | None) -> argparse.Namespace:
     parser.add_argument("file", metavar="FILE", help="a CSV file, or - for standard input")
     parser.add_argument("--table", required=True, metavar="T", help="the table's name")
     parser.add_argument("--types", metavar="KINDS", help="BIGINT, VARCHAR(n), VARCHAR or nothing (a guess) for each column, as BIGINT,,VARCHAR; or of some: ZIP=VARCHAR,AGE=BIGINT")
+    parser.add_argument("--scale", metavar="COLUMN=DIGITS", help="these columns are fractions, and become integers: with AMOUNT=2 12.50 is 1250; several are parted by commas")
     parser.add_argument("--index", dest="indexes", action="append", type=lambda word: (False, word), metavar="[NAME=]COLUMNS", help="an index of these columns, as CITY,NAME; any number of times")
     parser.add_argument("--unique", dest="indexes", action="append", type=lambda word: (True, word), metavar="[NAME=]COLUMNS", help="a unique index")
     parser.add_argument("--no-header", action="store_true", help="the first line is a row; the columns are called C1, C2, ..")

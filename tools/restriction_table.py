@@ -1,5 +1,5 @@
 #!/usr/bin/env python3
-"""Writes what the program `try_storage` is to print of values and restrictions: restrictions and rows, with the place of the
+"""Writes what the program `try_values` is to print of values and restrictions: restrictions and rows, with the place of the
 row's key in the restriction's range, the truth on the row, and whether the index part passes the key.
 
 It is written from the rules in words, apart from the Rattle code: values are ordered NULL, integers, texts

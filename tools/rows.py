@@ -9,6 +9,8 @@ FROM, as P.NAME. A cursor may be opened many times, by many sessions: --session 
 apart: tables with a line above them, CSV parted by an empty line, JSON as a list of objects with session, line, query, rows, and
 whether the rows were read to their end.
 
+Where no FETCH was answered at all, the table's last line says so, and --csv and --json say it on standard error.
+
 In CSV a NULL is an empty field, as an empty text is; --null '\\N' tells them apart, and tools/load.py --null '\\N' reads that back.
 In JSON it is null, and a row is an object by its columns' names."""
 from __future__ import annotations
@@ -18,6 +20,7 @@ import csv
 import json
 import sys
 import unicodedata
+from codecs import BOM_UTF8
 from collections import Counter
 from dataclasses import dataclass, field
 from itertools import islice
@@ -62,11 +65,20 @@ class Opening:
         return f"{counted(len(self.rows), 'row')}, {'and the end' if self.ended else 'not read to the end'}"
 
 
+def why_no_line(data: bytes, line: int) -> str:
+    """Why a line is none of a transcript."""
+    if data.startswith(BOM_UTF8):
+        return "a byte order mark stands at the beginning, and in no transcript"
+    if data.split(b"\n")[line - 1].endswith(b"\r"):
+        return "this line ends with CR LF, and those of a transcript with LF alone"
+    return "this is no line of a transcript: ./rvdyn SCRIPT writes one"
+
+
 def openings(data: bytes) -> list[Opening]:
     """Each opening of a cursor in a transcript."""
     entries = entries_of(data)
     if isinstance(entries, int):
-        raise NoTranscript(entries, "this is no line of a transcript: ./rvdyn SCRIPT writes one")
+        raise NoTranscript(entries, why_no_line(data, entries))
     tables: dict[str, list[str]] = {}
     found: list[Opening] = []
     last: dict[tuple[int, str], Opening] = {}  # by session and name
@@ -235,6 +247,9 @@ def main() -> int:
     if isinstance(chosen, str):
         print(f"rows: {chosen}", file=sys.stderr)
         return 1
+    for opening in chosen:
+        if not opening.rows and not opening.ended and (words.csv or words.json):
+            print(f"rows: {opening.title}: no FETCH of it was answered, so that it may have rows", file=sys.stderr)
     sys.stdout.reconfigure(encoding="utf-8", newline="\n")
     sys.stdout.writelines(written(chosen, words))
     return 0

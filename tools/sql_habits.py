@@ -185,6 +185,7 @@ KNOWN = [(re.compile(shape), hint) for shape, hint in HABITS]
 # What begins no token, and why: the rest of the statement, with the last character before it and @ in front.
 SIGNS = [
     (r"@!=", "`!=` is written `<>`"),
+    (r"@'(?:[^'\x00-\x1f\x7f]|'')*[\x00-\x1f\x7f]", "this text has {1}, and a text holds no control characters"),
     (r"@'", "this text has no end: a quote within a text is written twice"),
     (r'@["`[]', "names stand without quotes, texts between two '"),
     (r"@[‘’“”´]", "texts stand between two straight ' (U+0027)"),
@@ -198,6 +199,8 @@ SIGNS = [
     (r"@[~^]", NO_PATTERN),
     (r"[(,=<>]@[+-]", "an integer has no + before it, and its - stands at its digits"),
     (r"@[+\-/%|]", "`{0}` is no token: there is no arithmetic; the script has the result itself"),
+    (r"@\r", "a carriage return stands within the line: lines end with LF or CR LF"),
+    (r"@[\x00-\x1f\x7f]", "{1} begins no token"),
     (r"@", "`{0}` begins no token"),
 ]
 
@@ -218,7 +221,14 @@ def hint_of(found: list[Token], place: int) -> str:
 def why_no_token(text: str, place: int) -> str:
     """Why no token begins at an offset of a text."""
     here = f"{text[:place].rstrip()[-1:]}@{text[place:]}"
-    return next(words for sign, words in SIGNS if re.match(f".?{sign}", here, re.S)).format(text[place])
+    control = re.search(r"[\x00-\x1f\x7f]", text[place:])
+    return next(words for sign, words in SIGNS if re.match(f".?{sign}", here, re.S)).format(text[place], control_word(control[0]) if control else "")
+
+
+def control_word(control: str) -> str:
+    """A control character in words."""
+    names = {"\n": "a line feed", "\r\n": "a line end", "\r": "a carriage return", "\t": "a tab"}
+    return names.get(control) or f"a character U+{ord(control):04X}"
 
 
 def hint_of_cursor(kind: str, name: str, tables: object) -> str:

@@ -252,6 +252,7 @@ def main() -> int:
     parser.add_argument("--race", action="store_true", help="as the program's --race")
     parser.add_argument("--svg", metavar="FILE", help="also write the courses as one picture")
     parser.add_argument("--width", type=int, default=64, metavar="N", help="columns of a side, where two are told (default 64)")
+    parser.epilog = "Status 0: cursors were told; 1: none is opened that fits; 2: a file or the words cannot be taken; 2 and 3: the input is no script."
     words = parser.parse_args()
     if words.judge and len(words.judge) > 2:
         parser.error("at most two judges")

@@ -1,6 +1,6 @@
 #!/usr/bin/env python3
-"""Writes what the program try_joins must print, by the rules in words: all combinations of rows, filtered by the
-restriction, counted, and mixed in their whole order. It shares no code with the program."""
+"""Writes what the program `try_retrievals` is to print of joins, or with --lines what it is to read of them, by the rules in words:
+all combinations of rows, filtered by the restriction, counted, and mixed in their whole order. It shares no code with the program."""
 
 import argparse
 import itertools
@@ -170,9 +170,12 @@ def three():
     yield f"trace table final-table done pages {1 + len(x) + len(pairs)} leaves 0 fetches 0"
 
 
+def write(asked_for_lines=False):
+    for line, answer in lines():
+        print(line if asked_for_lines else f"{line}: {answer}")
+
+
 if __name__ == "__main__":
     parser = argparse.ArgumentParser(description=__doc__, formatter_class=argparse.RawDescriptionHelpFormatter)
     parser.add_argument("--lines", action="store_true", help="the lines that the program reads")
-    asked = parser.parse_args()
-    for line, answer in lines():
-        print(line if asked.lines else f"{line}: {answer}")
+    write(parser.parse_args().lines)

@@ -1,13 +1,14 @@
 #!/usr/bin/env python3
 """Writes what the program `try_judges` is to print, by the rules in words: the control that follows at each strategy, control and
-happening, projections of costs, and what five judges answer to questions, one after another.
+happening, projections of costs, and what eight judges answer to questions, one after another.
 
 The course is the table below, a row for each kind of change; where no row fits, the control stays. The rules of the supplied judges
-are those of docs/TRACES.md, those of AllRows and FirstRows stand in tools/judge_reads.py."""
+are those of docs/TRACES.md, those of AllRows and FirstRows stand in tools/judge_reads.py, that of the guard in tools/guarded_judge.py."""
 import argparse
 import itertools
 
 from ending import end
+from guarded_judge import bounded
 from judge_reads import JUDGES, Facts
 
 MOST = 2**64 - 1
@@ -88,6 +89,39 @@ QUESTIONS = [
     (True, 1, 20, 2, 80, 1, 0, 61, 0),
     (True, 0, 20, 20, 256, 1, 0, 125, 0),
     (False, 0, MOST, MOST, MOST, MOST, 0, MOST, 0),
+    # a scan has sunk its share, or nearly
+    (False, 0, 1, 0, 17, 3, 1, 16, 0),
+    (False, 0, 1, 0, 17, 3, 1, 17, 0),
+    (False, 1, 1, 0, 17, 9, 1, 16, 0),
+    (False, 1, 1, 0, 17, 9, 1, 17, 0),
+    (False, 2, 1, 0, 17, 5, 1, 16, 0),
+    (False, 2, 1, 0, 17, 5, 1, 17, 0),
+    (False, 3, 1, 0, 17, 2, 1, 16, 0),
+    (False, 3, 1, 0, 17, 2, 1, 17, 0),
+    (False, 9, 1, 0, 17, 2, 1, 1024, 0),
+    (False, 9, 1, 0, 17, 2, 1, 1025, 0),
+    (False, 62, 1, 0, 17, 2, 1, 2**63, 0),
+    (False, 62, 1, 0, 17, 2, 1, 2**63 + 1, 0),
+    (False, 63, 1, 0, 17, 2, 1, MOST, 0),
+    (False, 1000, 1, 0, 17, 1, 1, MOST, 0),
+    (False, 1000, 1, 0, 17, MOST, 1, MOST, 0),
+    (False, 0, 1, 0, 17, 1, 1, 0, 0),
+    # as many keys are listed as are guaranteed, or nearly: by the scan, and by it and 13 of members before it
+    (False, 0, 20, 15, 80, 1, 64, 15, 0),
+    (False, 0, 20, 15, 80, 1, 64, 16, 0),
+    (False, 3, 20, 2, 80, 1, 25, 15, 0),
+    (False, 3, 20, 2, 80, 1, 25, 16, 0),
+    (False, 1, 1, 0, 17, 1, MOST, MOST, 0),
+    (False, 1, 1, 0, 17, 1, MOST - 1, MOST, 0),
+    # a foreground may fetch too many keys, or nearly
+    (True, 0, 20, 2, 80, 1, 12, 16, 0),
+    (True, 0, 20, 2, 80, 1, 12, 17, 0),
+    (True, 3, 20, 2, 80, 1, 12, 128, 0),
+    (True, 3, 20, 2, 80, 1, 12, 129, 0),
+    (False, 3, 20, 2, 80, 1, 12, 128, 0),
+    (True, 1000, 1, 0, 17, 1, 1, 5, 0),
+    (True, 1000, 20, 1, 80, 1, 8, MOST, 0),
+    (True, 0, 1, MOST, 17, 1, MOST, MOST, 0),
 ]
 
 ANSWERS = {"go on": "Continue", "drop": "AbandonScan", "stop": "AbandonForeground", "end": "AbandonBackground"}
@@ -101,7 +135,8 @@ def contrary():
 
 def rulings():
     judges = [("threshold", JUDGES["threshold"]), ("patient", JUDGES["patient"]), ("contrary", contrary()),
-              ("all rows", JUDGES["AllRows"]), ("first rows", JUDGES["FirstRows"])]  # fmt: skip
+              ("all rows", JUDGES["AllRows"]), ("first rows", JUDGES["FirstRows"]), ("bounded patient", bounded(JUDGES["patient"])),
+              ("bounded contrary", bounded(contrary())), ("bounded all rows", bounded(JUDGES["AllRows"]))]  # fmt: skip
     for name, judge in judges:
         for question in map(Facts._make, QUESTIONS):
             control = "Building" if question.building else "BackgroundAlone"

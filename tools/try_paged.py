@@ -1,5 +1,5 @@
 #!/usr/bin/env python3
-"""Writes what the program try_paged is to print, by the rules in words.
+"""Writes what the program `try_stores` is to print of two stores beside each other, by the rules in words.
 
 Two tables have rows of two values. A hundred commits change each table in 64 steps; step k is of one of the rows
 16 k to 16 k + 15. A generator says of which, and whether the row is taken away (two of five) or given values. Two
@@ -132,7 +132,7 @@ class Snapshot:
         self.plain += plain[1]
 
 
-def main():
+def write():
     tables = [{}, {}]
     indexes = [(0, Index([0])), (0, Index([1, 0])), (1, Index([0, 1]))]
     kinds = {(False, True): 0, (True, True): 0, (True, False): 0, (False, False): 0}
@@ -188,4 +188,4 @@ def main():
 
 if __name__ == "__main__":
     argparse.ArgumentParser(description=__doc__, formatter_class=argparse.RawDescriptionHelpFormatter).parse_args()
-    main()
+    write()

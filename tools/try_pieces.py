@@ -1,5 +1,5 @@
 #!/usr/bin/env python3
-"""Writes what the program `try_pieces` is to print, by the rules in words.
+"""Writes what the program `try_stores` is to print of pieces, by the rules in words.
 
 A table has the rows 0 to 79, and row i has the values i and i. Each index has the entries 0 to 79 in leaves of 32. A
 joint scan reads the entries of one index from 10 to 40 and then those of the other from 30 to 70 (some rows of the
@@ -141,7 +141,7 @@ TABLE = [
 ]
 
 
-def main():
+def write():
     for name, query, row in TABLE:
         print(name)
         joint, pieces = Joint(query, OWN), []
@@ -153,4 +153,4 @@ def main():
 
 if __name__ == "__main__":
     argparse.ArgumentParser(description=__doc__, formatter_class=argparse.RawDescriptionHelpFormatter).parse_args()
-    main()
+    write()

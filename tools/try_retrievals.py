@@ -1,12 +1,13 @@
 #!/usr/bin/env python3
-"""Writes what the program `try_retrievals` is to print, by the rules in words.
+"""Writes what the program `try_retrievals` is to print, by the rules in words: joins (try_joins.py), and then retrievals.
 
 A table has the rows 0 to n - 1. Row i has the values i, then i or 0, and then NULL where 11 divides i, else
-37 * (i mod 50) mod 50, or in one table i, i and i mod 4. There are indexes over the first column (IA), the second (IB), the
+37 * (i mod 50) mod 50, or in one table of worked_queries.py i, i and i mod 4. There are indexes over the first column (IA), the second (IB), the
 third and the first (ICA) and the third (IC); NULL is the least value, and entries are ordered by key and then by row. A page
 has the rows of 32 numbers.
 
-A leaf of a plain store has 32 entries, and an estimate is the number of entries in the range. An index of a paged store is
+A leaf of a plain store has 32 entries, and an estimate is the number of entries in the range. An index of a paged store, as
+worked_queries.py asks for it, is
 a tree, into which the entries are put in the order of the rows. A leaf has up to 32 entries, a node above up to 32 children,
 each with a low entry. What would be 33 becomes the first 16 and the last 17; a root that is split becomes the parent of its
 halves. An entry belongs to the last child that does not begin above it. An estimate goes down from the root while one child
@@ -21,6 +22,7 @@ needs the columns in which it is restricted, in any order, all rows soon."""
 import argparse
 import sys
 
+import try_joins
 from model.race import Race, can_race
 from model.retrieval import LEAF, PAGE, Counts, Retrieval
 from model.trees import Tree
@@ -306,23 +308,6 @@ def singles():
     many = Table(1100, "zero")
     yield "full buffer", many, Asked({0: (0, MUCH)}, [IA], soon=True), patient, Way(0)
     yield "full buffer, by index alone", many, Asked({0: (0, MUCH)}, [IA, ICA], whole=False), patient, Way(0)
-    forty = Table(40, "zero", paged=True)
-    assert [len(leaf) for leaf in forty.leaves[IA]] == [16, 24]
-    twenty = Asked({0: (10, 29)}, [IA], soon=True)
-    yield "paged, fast first borrows", forty, twenty, patient, after
-    yield "paged, threshold drops", forty, twenty, threshold, after
-    yield "paged, contrary stops", forty, twenty, JUDGES[2][1](), after
-    yield "paged, short range", forty, Asked({0: (20, 22)}, [IA]), threshold, Way(0)
-    fourths = Table(40, "fourths", paged=True)
-    by_third = Asked({1: (10, 29)}, [IB, IC], ordered=True)
-    yield "paged, list into sorted", fourths, by_third, patient, Way(9, after=3)
-    many = Table(1100, "zero", paged=True)
-    assert [len(leaf) for leaf in many.leaves[IA]] == [16] * 67 + [28]
-    yield "paged, full buffer", many, Asked({0: (0, MUCH)}, [IA], soon=True), patient, Way(0)
-    two = Asked({0: (10, MUCH), 2: (1, 3)}, [IA, IC], race=True)
-    yield "paged, race", fourths, two, patient, Way(0)
-    yield "paged, race drops", fourths, two, in_turn(["go on", "drop"], False), Way(0)
-    yield "paged, race loses", fourths, two, threshold, Way(0)
 
 
 def kinds():
@@ -373,15 +358,6 @@ def one_of(either, uses=(IA, IB)):
     return Asked({}, list(uses), either=either)
 
 
-def few_unions():
-    forty = Table(40, "zero", paged=True)
-    ten = one_of([(0, (3, 8)), (0, (6, 12))])
-    nearly = one_of([(0, (0, 29)), (0, (6, 39))])
-    yield "paged, union", forty, ten, patient, Way(0)
-    yield "paged, union stays", forty, nearly, patient, Way(0)
-    yield "paged, union drops", forty, nearly, threshold, Way(0)
-
-
 def wide_unions():
     apart = [(0, (60, 140)), (1, (300, 380))]
     four = [(0, (10, 30)), (1, (100, 150)), (2, (3, 5)), (0, (20, 60))]
@@ -400,6 +376,10 @@ def narrow_unions():
     yield "no union, an unbound branch", one_of([(0, (10, 30)), (1, (100, 150)), (2, (3, 5)), (0, (20, 60))])
 
 
+# One of each strategy, a race and a union.
+DRIVEN = ["table", "background only", "fast first", "sorted", "index only", "short", "no entry", "race", "union"]
+
+
 def write_kinds(out, table, some):
     for name, asked in some:
         out.write(name + "\n")
@@ -413,9 +393,8 @@ def write_kinds(out, table, some):
 
 def searches():
     """Searches whose reads are known from hand."""
-    forty = Table(40, "zero", paged=True)
-    yield "short range", forty, {0: (20, 22)}, [IA], threshold
     eighty = Table(80, "same")
+    yield "short range", eighty, {0: (20, 22)}, [IA], threshold
     both = {0: (10, 40), 1: (30, 70)}
     yield "two lists", eighty, both, [IA, IB], patient
     yield "two scans dropped", eighty, both, [IA, IB], threshold
@@ -441,14 +420,14 @@ def main(out):
         out.write(f"{name}: {outcome(table, asked, judge, way)}\n")
     for name, table, spans, uses, judge in searches():
         out.write(f"search, {name}: {found(table, spans, uses, judge)}\n")
-    write_kinds(out, Table(400, "same"), [*kinds(), *races(), *no_races()])
-    write_kinds(out, Table(400, "same", paged=True), [("paged, " + name, asked) for name, asked in races()])
-    for name, table, asked, judge, way in few_unions():
-        out.write(f"{name}: {outcome(table, asked, judge, way)}\n")
-    write_kinds(out, Table(400, "same"), [*wide_unions(), *narrow_unions()])
-    write_kinds(out, Table(400, "same", paged=True), [("paged, " + name, asked) for name, asked in wide_unions()])
+    some = {name: asked for name, asked in [*kinds(), *races(), *wide_unions()]}
+    write_kinds(out, Table(400, "same"), [(name, some[name]) for name in DRIVEN])
 
 
 if __name__ == "__main__":
-    argparse.ArgumentParser(description=__doc__, formatter_class=argparse.RawDescriptionHelpFormatter).parse_args()
-    main(sys.stdout)
+    parser = argparse.ArgumentParser(description=__doc__, formatter_class=argparse.RawDescriptionHelpFormatter)
+    parser.add_argument("--lines", action="store_true", help="the lines that the program reads, which are joins")
+    asked_for_lines = parser.parse_args().lines
+    try_joins.write(asked_for_lines)
+    if not asked_for_lines:
+        main(sys.stdout)

@@ -1,5 +1,5 @@
 #!/usr/bin/env python3
-"""Writes what the program `try_scans` is to print: the rows that each scan gives, by the rules in words.
+"""Writes what the program `try_stores` is to print of scans: the rows that each one gives, by the rules in words.
 
 A table has the rows 0 to 79. The first value of row n is NULL where 11 divides n, else 37 n modulo 50; the
 second is n modulo 5. Then rows 3, 40 and 79 go, and row 10 gets the values of row 12. An index has the
@@ -38,7 +38,7 @@ def line(name, rows):
     return name + ":" + "".join(f" {n}({'NULL' if a is None else a},{b})" for n, (a, b) in rows)
 
 
-def main():
+def write():
     before, after = tables()
     for when, table in (("before", before), ("after", after), ("swept", after)):
         for delivered in (False, True):
@@ -58,4 +58,4 @@ def main():
 
 if __name__ == "__main__":
     argparse.ArgumentParser(description=__doc__, formatter_class=argparse.RawDescriptionHelpFormatter).parse_args()
-    main()
+    write()

@@ -1,5 +1,5 @@
 #!/usr/bin/env python3
-"""Writes what the program try_trees writes, by the rules of index trees in words.
+"""Writes what the program `try_stores` is to print of trees, by the rules of index trees in words.
 
 A leaf has up to 32 entries, a node above up to 32 children, each with a low entry. What would be 33 becomes the first
 16 and the last 17. A root that is split becomes the parent of its halves. An entry belongs to the last child that does
@@ -38,7 +38,7 @@ def read(leaves, span):
     return len(found), last - first + 1
 
 
-def main():
+def write():
     for count in (40, 1100, 20000):
         tree = Tree()
         for row in range(count):
@@ -56,4 +56,4 @@ def main():
 
 if __name__ == "__main__":
     argparse.ArgumentParser(description=__doc__, formatter_class=argparse.RawDescriptionHelpFormatter).parse_args()
-    main()
+    write()

@@ -50,6 +50,9 @@ class CheckScript(unittest.TestCase):
     def test_no_token(self):
         self.told("1 OPEN C SELECT NAME FROM PARTS WHERE NAME != 'a'", 44, "`<>`")
         self.told("1 INSERT INTO PARTS VALUES ('nut, 1)", 29, "no end")
+        self.told("1 INSERT INTO PARTS VALUES ('a\tnut', 1)", 29, "this text has a tab")
+        self.told("1 COMMIT\x00", 9, "a character U+0000 begins no token")
+        self.told("1 BEGIN\r1 COMMIT", 8, "lines end with LF or CR LF")
         self.told("1 INSERT INTO PARTS VALUES ('nut', 9223372036854775808)", 36, "64 bits")
 
     def test_habits_of_sql(self):
@@ -84,6 +87,8 @@ class CheckScript(unittest.TestCase):
 
     def test_names_in_use(self):
         self.told("1 CREATE TABLE PARTS (A BIGINT)", 16, "already")
+        told = found("1 CREATE TABLE T (A BIGINT)", "1 CREATE UNIQUE INDEX I ON T (A)", "1 CREATE INDEX I ON T (A)")
+        self.assertEqual([finding.words for finding in told], ["there is an index I already, unless line 3 is answered `duplicate`, which rows decide"])
         self.told("1 CREATE TABLE T (A BIGINT, A BIGINT)", 29, "twice")
 
     def test_values(self):
@@ -113,7 +118,16 @@ class CheckScript(unittest.TestCase):
             told = of_fault(fault_of(data), data)
             self.assertTrue(told.startswith("script: line 2 has no session ("), told)
             self.assertIn(words, told)
-        self.assertEqual(of_fault(fault_of(b"\xff"), b"\xff"), "script: byte 0 is not UTF-8")
+
+    def test_bytes_that_are_no_text(self):
+        for data, words in (
+            (b"1 A\n1 B 'M\xfcller'\n", "byte 10 is not UTF-8 (line 2, column 7: a byte FC, which is `\u00fc` in CP1252: `iconv -f CP1252 -t UTF-8` makes the file UTF-8)"),
+            ("\ufeff\u00e4".encode() + b"\x81", "byte 5 is not UTF-8 (line 1, column 2: a byte 81)"),
+            ("1 COMMIT\n".encode("utf-16"), "byte 0 is not UTF-8 (the file is UTF-16: `iconv -f UTF-16 -t UTF-8` makes it UTF-8)"),
+        ):
+            self.assertEqual(of_fault(fault_of(data), data), "script: " + words)
+        data = b"1 COMMIT\r" * 500
+        self.assertIn("LF or CR LF ends a line", of_fault(fault_of(data), data))
 
     def test_program(self):
         command = [sys.executable, TOP / "tools/check_script.py"]

@@ -36,6 +36,9 @@ class Expect(unittest.TestCase):
     def test_ends_of_lines(self):
         self.assertEqual(self.said(EXPECTED.replace(b"\n", b"\r\n"))[1], "  they differ in the blanks at an end, or in the ends of lines")
 
+    def test_byte_order_mark(self):
+        self.assertEqual(self.said(EXPECTED, expected=b"\xef\xbb\xbf" + EXPECTED)[1], "  one of them begins with a byte order mark")
+
     def test_bytes_that_are_no_text(self):
         self.assertEqual(self.said(b"\xff")[0], "e:1: expected is `1 BEGIN`, and `\\xff` came")
 

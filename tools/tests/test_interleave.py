@@ -1,4 +1,5 @@
 """Orders and outcomes of small scripts, among them write skew."""
+import shutil
 import subprocess
 import sys
 import unittest
@@ -65,6 +66,12 @@ class Interleave(unittest.TestCase):
         ran = subprocess.run([*PROGRAM, FOLDER / "write-skew.script", "--most", "5"], capture_output=True, check=False)
         self.assertEqual(ran.returncode, 2)
         self.assertIn(b"give --random", ran.stderr)
+
+    def test_program_that_does_not_answer(self):
+        for program, words in (("true", b"answered 0 of "), ("false", b"ended with status 1")):
+            ran = subprocess.run([*PROGRAM, FOLDER / "write-skew.script", "--program", shutil.which(program)], capture_output=True, check=False)
+            self.assertEqual((ran.returncode, ran.stdout, ran.stderr.count(b"\n")), (2, b"", 1))
+            self.assertIn(words, ran.stderr)
 
 
 if __name__ == "__main__":

@@ -88,11 +88,20 @@ class Reads(unittest.TestCase):
         reads = judge_reads.Reads(9, [2, 5])
         self.assertEqual([reads.until(n) for n in (1, 2, 3)], [2, 5, 9])
 
+    def test_a_guarded_judge_reads_no_more_than_it_may(self):
+        for told in judge_reads.told_of(9, 700, 40, 0):
+            self.assertLessEqual(told.reads["Bounded"].whole, told.most)
+            self.assertEqual(told.pages, 22)
+
     def test_pictures_are_drawn(self):
-        runs = {(rows, seed): judge_reads.told_of(seed, rows, 20, 0) for rows in (200, 400) for seed in (1, 2)}
-        for picture in (judge_pictures.by_seed, judge_pictures.by_row, judge_pictures.by_query):
+        runs = {steps: {(rows, seed): judge_reads.told_of(seed, rows, 20, steps) for rows in (200, 400) for seed in (1, 2)} for steps in (0, 1)}
+        for picture in (judge_pictures.by_seed, judge_pictures.dearest):
             minidom.parseString(picture(runs))
-        self.assertIn("| 400, 2 |", "\n".join(judge_reads.tables(runs, 0)))
+        for picture in (judge_pictures.by_row, judge_pictures.by_query):
+            minidom.parseString(picture(runs[0]))
+        told = "\n".join(judge_reads.tables(runs[1], 1))
+        self.assertIn("| 400, 2 |", told)
+        self.assertRegex(told, r"\| above the bound, of 80 \| 0 \|.* 0 \|$")
 
 
 if __name__ == "__main__":

@@ -152,7 +152,7 @@ class Load(unittest.TestCase):
 
     def test_rows_that_do_not_fit_are_told_with_their_lines(self):
         self.refused('a,b\n"x\ny",1\nz\n1,2,3\nw,2\n', ("--spaces",), (4, "1 field for 2 columns"), (5, "3 fields"))
-        self.refused('a\n"x\r\ny"\n"x\ty"\n\x7f\n', (), (2, "a line end in a text"), (4, "a tab in a text"), (5, "a character '\\x7f'"))
+        self.refused('a\n"x\r\ny"\n"x\ty"\n\x7f\n', (), (2, "a line end in a text"), (4, "a tab in a text"), (5, "a character U+007F"))
         self.assertEqual(self.rows('a\n"x\r\ny"\n"x\ty"\n', "--spaces"), ["'x y'", "'x y'"])
         self.refused("a\n" + "ä" * 128 + "\n", (), (2, "column A: this text has 256 bytes, and the column is VARCHAR(255)"))
         self.assertEqual(self.rows("a\n" + "'" * 255 + "\n"), ["'" + "''" * 255 + "'"])
@@ -210,6 +210,25 @@ class Load(unittest.TestCase):
             self.assertEqual((ran.returncode, ran.stdout, ran.stderr), (1, "", f"{file}:3: 2 fields for 1 column\n"))
             ran = subprocess.run([*command, file, "--first", "1"], capture_output=True, text=True, check=False)
             self.assertEqual(ran.stdout.splitlines()[0], "# made by tools/load.py from people.csv")
+
+    def test_fractions(self):
+        self.assertEqual(self.rows('ID,AMOUNT\n1,12.50\n2,7\n3,"-0,5"\n4,\n', "--scale", "amount=2"), ["1, 1250", "2, 700", "3, -50", "4, NULL"])
+        self.assertEqual(self.rows("A\n0.000\n000.10\n+3.\n", "--scale", "A=1", "--types", "BIGINT"), ["0", "1", "30"])
+
+    def test_fractions_that_do_not_fit(self):
+        self.refused("A\n1.234\nx\n", ("--scale", "A=2"), (2, "`1.234` has 3 digits of a fraction, and column A 2"), (3, "`x` is no number"))
+        self.refused("A\n99999999999999999.99\n", ("--scale", "A=3"), (2, "no integer of 64 bits"))
+        self.wrong("A\n1\n", ("--scale", "A=0"), "digits from 1 to 9, as AMOUNT=2")
+        self.wrong("A\n1\n", ("--scale", "A=2", "--types", "VARCHAR"), "--scale makes A a BIGINT, and --types a VARCHAR")
+
+    def test_fractions_that_become_texts_are_told(self):
+        self.assertEqual(self.rows("A\n1.5\n2\n"), ["'1.5'", "'2'"])
+        (line, words), = self.told
+        self.assertEqual(line, 2)
+        self.assertIn("--scale A=2 makes it an integer of hundredths", words)
+        for data in ("A\n1.5\n01\n", "A\n01\n02\n", "A\n1.5\n1.2.3\n"):
+            self.rows(data)
+            self.assertEqual(self.told, [])
 
 
 if __name__ == "__main__":

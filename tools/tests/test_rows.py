@@ -111,6 +111,8 @@ class Rows(unittest.TestCase):
     def test_what_is_no_transcript(self):
         for data, line, part in (
             (SCRIPT.encode(), 1 + 1, "no line of a transcript"),
+            (made(SCRIPT).replace(b"\n", b"\r\n"), 2, "this line ends with CR LF"),
+            (b"\xef\xbb\xbf" + made(SCRIPT), 1, "a byte order mark"),
             (b"# comment\n", 1, "no line of a transcript"),
             (b"1 OPEN C SELECT * FROM T\n= opened\n", 1, "CREATE TABLE of this OPEN"),
             (b"1 FETCH C\n= end\n", 1, "OPEN of this FETCH"),
@@ -134,6 +136,9 @@ class Rows(unittest.TestCase):
         for asked in (["--cursor", "x"], []):
             ran = subprocess.run([*command, "-", *asked], input=made(SCRIPT), capture_output=True, check=False)
             self.assertEqual((ran.returncode, ran.stdout), (1, b""))
+        opened = made("1 CREATE TABLE T (A BIGINT)\n1 BEGIN\n1 OPEN C SELECT A FROM T\n1 FETCH C ALL\n")
+        ran = subprocess.run([*command, "-", "--json"], input=opened, capture_output=True, check=True)
+        self.assertEqual((ran.stdout, ran.stderr.decode()), (b"[\n]\n", "rows: session 1, line 5: OPEN C SELECT A FROM T: no FETCH of it was answered, so that it may have rows\n"))
         ran = subprocess.run([*command, TOP / "examples/bank"], capture_output=True, text=True, check=False)
         self.assertEqual((ran.returncode, ran.stderr), (1, f"{TOP}/examples/bank:1: this is no line of a transcript: ./rvdyn SCRIPT writes one\n"))
 

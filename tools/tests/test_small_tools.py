@@ -70,7 +70,7 @@ class NotThere(unittest.TestCase):
             ("check_script.py", gone), ("timeline.py", gone), ("timeline.py", bank, "--svg", "/nowhere/x.svg"), ("compare.py", gone), ("compare.py", bank, "--svg", "/nowhere/x.svg"), ("interleave.py", gone),
             ("interleave.py", TOOLS / "tests/interleavings/lost-update.script", "--expected", gone), ("slow_audit.py", gone, gone),
             ("hostile_scripts.py", gone, "--damaged", 1), ("hostile_table.py", gone), ("random_scripts.py", gone, 1),
-            ("load.py", gone, "--table", "T"), ("rows.py", gone), ("expand.py", gone),
+            ("load.py", gone, "--table", "T"), ("rows.py", gone), ("expand.py", gone), ("refusals.py", gone),
             ("expect.py", gone), ("expect.py", bank, gone), ("program_words.py", gone), ("worked_runs.py", gone), ("doc_examples.py", gone), ("refused_memory.py", gone, gone, gone), ("gate_times", "tell", gone),
         ]:  # fmt: skip
             told = ran(TOOLS / name, *words)
@@ -80,6 +80,10 @@ class NotThere(unittest.TestCase):
     def test_nobody_reads_on(self):
         told = ran("bash", "-c", f"set -o pipefail; {' '.join(MODEL)} < {TOOLS.parent}/examples/eight-sessions | head -c 9")
         self.assertEqual((told.stdout, told.stderr), ("1 CREATE ", ""))
+
+    def test_nothing_can_be_written(self):
+        told = ran("bash", "-c", f"{' '.join(MODEL)} < {TOOLS.parent}/examples/bank > /dev/full")
+        self.assertEqual((told.returncode, told.stdout, told.stderr), (2, "", "slow_program: No space left on device\n"))
 
 
 class Pages(Folder):

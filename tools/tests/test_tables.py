@@ -6,9 +6,7 @@ from pathlib import Path
 
 TOOLS = Path(__file__).resolve().parents[1]
 CRATES = TOOLS.parent / "crates"
-ANSWERS = ["try_joins", "try_paged", "try_pieces", "try_retrievals", "try_scans", "try_scripts",
-           "try_storage", "try_trees"]  # fmt: skip
-QUESTIONS = {"try_joins": "--lines", "try_scripts": "--lines", "try_storage": "--lines"}
+TABLES = ["try_retrievals", "try_stores", "try_values"]
 
 
 class Tables(unittest.TestCase):
@@ -25,19 +23,12 @@ class Tables(unittest.TestCase):
         self.has(name, file, self.written(name, words, stdin))
 
     def test_answers(self):
-        for name in ANSWERS:
+        for name in TABLES:
             self.is_written(name, [], b"", "stdout")
 
     def test_questions(self):
-        for name, word in QUESTIONS.items():
-            self.is_written(name, [word], b"", "stdin")
-
-    def test_language(self):
-        """The texts first, and then the statements that are resolved."""
-        answers = self.written("try_language", [], b"") + self.written("name_table", [], b"")
-        self.has("try_language", "stdout", answers)
-        lines = self.written("try_language", ["--lines"], b"") + self.written("name_table", ["--statements"], b"")
-        self.has("try_language", "stdin", lines)
+        for name in TABLES:
+            self.is_written(name, ["--lines"], b"", "stdin")
 
     def test_own_judge(self):
         self.is_written("own_judge", [], (CRATES / "own_judge" / "stdin").read_bytes(), "stdout")

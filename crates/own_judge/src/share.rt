@@ -4,7 +4,7 @@ ghost use Rattle.own_judge.specs.Sharing.{at_share};
 use rv_judge::{Facts, Judge, Verdict};
 
 /// Drops a scan whose projected cost comes to 60 hundredths of the guaranteed one. The supplied threshold is at 95.
-#[derive(Clone, Copy, Debug)]
+#[derive(Clone, Copy)]
 pub struct Share;
 
 impl Share {

@@ -231,7 +231,14 @@ impl Access {
                 alloc, reader, query, candidates, choice, cursor, opening, steps,
             );
         }
-        match members(alloc, reader, &query)? {
+        let members = match members(alloc, reader, &query) {
+            Ok(members) => members,
+            Err(fault) => {
+                drop(query);
+                return Err(fault);
+            }
+        };
+        match members {
             Some(members) => Access::open_united(
                 alloc, reader, query, candidates, choice, members, cursor, opening, steps,
             ),
@@ -265,7 +272,13 @@ impl Access {
         ensures only { OnlyLeaves steps.old steps.new }
         ensures unread { has_short query (R.shown reader.now) ≡ false → steps.new ≡ steps.old }
     {
-        let candidates = candidates(alloc, reader, &query)?;
+        let candidates = match candidates(alloc, reader, &query) {
+            Ok(candidates) => candidates,
+            Err(fault) => {
+                drop(query);
+                return Err(fault);
+            }
+        };
         let choice = choose(candidates.as_slice(), query.order.as_slice(), query.goal);
         let raced = will_race(race, choice, candidates.as_slice());
         if raced {

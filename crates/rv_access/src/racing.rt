@@ -66,9 +66,21 @@ impl RacedQuery {
         ensures counts { IfOk result (λ r. CountsAll r.race.trace steps.old steps.new) }
         ensures unread { steps.new ≡ steps.old }
     {
-        let scans = scans(alloc, &query.only, candidates, choice.background)?;
-        let only = query.only.copy(alloc)?;
-        let race = Race::open(
+        let scans = match scans(alloc, &query.only, candidates, choice.background) {
+            Ok(scans) => scans,
+            Err(fault) => {
+                drop(query);
+                return Err(fault);
+            }
+        };
+        let only = match query.only.copy(alloc) {
+            Ok(only) => only,
+            Err(fault) => {
+                drop(query);
+                return Err(fault);
+            }
+        };
+        let race = match Race::open(
             alloc,
             reader,
             query.table,
@@ -78,7 +90,13 @@ impl RacedQuery {
             cursor,
             opening,
             steps,
-        )?;
+        ) {
+            Ok(race) => race,
+            Err(fault) => {
+                drop(query);
+                return Err(fault);
+            }
+        };
         Ok(RacedQuery { query, race })
     }
 

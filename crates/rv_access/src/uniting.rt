@@ -54,8 +54,14 @@ impl UnitedQuery {
         ensures ahead { IfOk result (λ u. leaves_left u.union (R.shown reader.now) ≡ planned_leaves u.union.plans (R.shown reader.now) query.snap) }
         ensures unread { steps.new ≡ steps.old }
     {
-        let only = query.only.copy(alloc)?;
-        let union = Union::open(
+        let only = match query.only.copy(alloc) {
+            Ok(only) => only,
+            Err(fault) => {
+                drop(query);
+                return Err(fault);
+            }
+        };
+        let union = match Union::open(
             alloc,
             reader,
             query.table,
@@ -65,7 +71,13 @@ impl UnitedQuery {
             cursor,
             opening,
             steps,
-        )?;
+        ) {
+            Ok(union) => union,
+            Err(fault) => {
+                drop(query);
+                return Err(fault);
+            }
+        };
         Ok(UnitedQuery { query, union })
     }
 

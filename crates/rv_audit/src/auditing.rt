@@ -16,7 +16,7 @@ use rv_value::NoMemory;
 use std::alloc::Global;
 
 /// What an audit answers: the first that applies.
-#[derive(Drop, Debug, PartialEq, Eq)]
+#[derive(Drop, PartialEq, Eq)]
 pub enum Audited {
     /// No line is the mark.
     NoMark,

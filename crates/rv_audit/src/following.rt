@@ -11,7 +11,7 @@ use rv_value::NoMemory;
 use std::alloc::Global;
 
 /// How entries follow a script.
-#[derive(Clone, Copy, Debug, PartialEq, Eq)]
+#[derive(Clone, Copy, PartialEq, Eq)]
 pub enum End {
     /// Every call has its entry.
     Whole,

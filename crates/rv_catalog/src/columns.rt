@@ -1,5 +1,6 @@
 //! References to columns, looked up among the tables in reach, and conditions with these looked up.
-ghost use Rattle.std.specs.Prelude.{◌≡◌, ◌<◌, ◌≤◌, ◌+◌, ◌^◌, ◌++◌, bytes_eq, length, OnOk};
+ghost use Rattle.std.specs.Prelude.{◌≡◌, ◌<◌, ◌≤◌, ◌+◌, ◌^◌, ◌++◌, ◌∷◌, [], bytes_eq, length, OnOk};
+ghost use Rattle.rv_lang.specs.declared.statement.RawAtom.TheVariants.{Compare as RawCompare, Between as RawBetween, Among as RawAmong, IsNull as RawIsNull, Starts as RawStarts};
 ghost use Rattle.rv_restrict.specs.Groups.{groups_of};
 ghost use Rattle.rv_catalog.specs.Answers.{Gives, GivesAs};
 ghost use Rattle.rv_catalog.specs.Columns.{all_columns, also, atom, columns_from, fit_columns, fit_items, group, groups, item_fits, op_of, operand, own_column, reference};
@@ -9,18 +10,18 @@ use crate::fault::unknown;
 use crate::names::Catalog;
 use rv_lang::{RawAtom, RawCol, RawOp, RawOperand};
 use rv_restrict::{Atom, ColRef, Op, Operand};
-use rv_value::{Duplicate, Items, Kind, NoMemory, Text};
+use rv_value::{Duplicate, Items, Kind, NoMemory, Text, Value, Values};
 use std::alloc::Global;
 
 /// A table in reach, with the name by which its columns are qualified.
-#[derive(Drop, Debug)]
+#[derive(Drop)]
 pub struct Item {
     pub name: Text,
     pub table: u32,
 }
 
 /// What a reference fits.
-#[derive(Clone, Copy, Debug, PartialEq, Eq)]
+#[derive(Clone, Copy, PartialEq, Eq)]
 pub enum Fit {
     Nothing,
     One(ColRef),
@@ -153,6 +154,92 @@ fn find_operand(
     }
 }
 
+fn find_compare(
+    alloc: Global,
+    catalog: &Catalog,
+    reach: &[Item],
+    raw: &RawCol,
+    by: RawOp,
+    other: &RawOperand,
+) -> Result<Atom, BindFault>
+    requires { length reach.now < 2 ^ 32 }
+    ensures { Gives result (atom catalog.now.tables reach.now (RawCompare raw.now by other.now)) }
+{
+    let column = find_column(alloc, catalog, reach, raw)?;
+    let operand = find_operand(alloc, catalog, reach, other)?;
+    Ok(Atom::Compare {
+        column,
+        op: op(by),
+        operand,
+    })
+}
+
+fn find_between(
+    alloc: Global,
+    catalog: &Catalog,
+    reach: &[Item],
+    raw: &RawCol,
+    low: &Value,
+    high: &Value,
+) -> Result<Atom, BindFault>
+    requires { length reach.now < 2 ^ 32 }
+    ensures { Gives result (atom catalog.now.tables reach.now (RawBetween raw.now low.now high.now)) }
+{
+    let column = find_column(alloc, catalog, reach, raw)?;
+    let low = low.copy(alloc)?;
+    match high.copy(alloc) {
+        Ok(high) => Ok(Atom::Between { column, low, high }),
+        Err(_) => {
+            drop(low);
+            Err(BindFault::NoMemory)
+        }
+    }
+}
+
+fn find_among(
+    alloc: Global,
+    catalog: &Catalog,
+    reach: &[Item],
+    raw: &RawCol,
+    list: &Values,
+) -> Result<Atom, BindFault>
+    requires { length reach.now < 2 ^ 32 }
+    ensures { Gives result (atom catalog.now.tables reach.now (RawAmong raw.now list.now)) }
+{
+    let column = find_column(alloc, catalog, reach, raw)?;
+    let list = list.copy(alloc)?;
+    Ok(Atom::Among { column, list })
+}
+
+fn find_null(
+    alloc: Global,
+    catalog: &Catalog,
+    reach: &[Item],
+    raw: &RawCol,
+    not: bool,
+) -> Result<Atom, BindFault>
+    requires { length reach.now < 2 ^ 32 }
+    ensures { Gives result (atom catalog.now.tables reach.now (RawIsNull raw.now not)) }
+{
+    let column = find_column(alloc, catalog, reach, raw)?;
+    Ok(Atom::IsNull { column, not })
+}
+
+fn find_starts(
+    alloc: Global,
+    catalog: &Catalog,
+    reach: &[Item],
+    raw: &RawCol,
+    text: &Text,
+) -> Result<Atom, BindFault>
+    requires { length reach.now < 2 ^ 32 }
+    ensures { Gives result (atom catalog.now.tables reach.now (RawStarts raw.now text.now)) }
+{
+    let column = find_column(alloc, catalog, reach, raw)?;
+    let text = text.copy(alloc)?;
+    Ok(Atom::Starts { column, text })
+}
+
 fn find_atom(
     alloc: Global,
     catalog: &Catalog,
@@ -165,44 +252,24 @@ fn find_atom(
     match raw {
         RawAtom::Compare {
             column,
-            op: raw,
+            op,
             operand,
-        } => {
-            let column = find_column(alloc, catalog, reach, column)?;
-            let operand = find_operand(alloc, catalog, reach, operand)?;
-            Ok(Atom::Compare {
-                column,
-                op: op(*raw),
-                operand,
-            })
-        }
+        } => find_compare(alloc, catalog, reach, column, *op, operand),
         RawAtom::Between { column, low, high } => {
-            let column = find_column(alloc, catalog, reach, column)?;
-            Ok(Atom::Between {
-                column,
-                low: low.copy(alloc)?,
-                high: high.copy(alloc)?,
-            })
+            find_between(alloc, catalog, reach, column, low, high)
         }
-        RawAtom::Among { column, list } => {
-            let column = find_column(alloc, catalog, reach, column)?;
-            Ok(Atom::Among {
-                column,
-                list: list.copy(alloc)?,
-            })
-        }
-        RawAtom::IsNull { column, not } => {
-            let column = find_column(alloc, catalog, reach, column)?;
-            Ok(Atom::IsNull { column, not: *not })
-        }
-        RawAtom::Starts { column, text } => {
-            let column = find_column(alloc, catalog, reach, column)?;
-            Ok(Atom::Starts {
-                column,
-                text: text.copy(alloc)?,
-            })
-        }
+        RawAtom::Among { column, list } => find_among(alloc, catalog, reach, column, list),
+        RawAtom::IsNull { column, not } => find_null(alloc, catalog, reach, column, *not),
+        RawAtom::Starts { column, text } => find_starts(alloc, catalog, reach, column, text),
     }
+}
+
+/// Puts an item at the end of a list.
+pub fn put<X: Drop>(found: &mut Vec<X>, item: X) -> Result<(), NoMemory>
+    ensures { OnOk result (found.new.items ≡ found.old.items ++ item ∷ []) }
+{
+    found.push(item)?;
+    Ok(())
 }
 
 fn find_group(
@@ -216,7 +283,7 @@ fn find_group(
 {
     let mut found = Vec::with_capacity(alloc, raws.len())?;
     'atoms: for raw in raws {
-        found.push(find_atom(alloc, catalog, reach, raw)?)?;
+        put(&mut found, find_atom(alloc, catalog, reach, raw)?)?;
     }
     Ok(found)
 }
@@ -233,7 +300,10 @@ pub fn find_groups(
 {
     let mut found = Vec::with_capacity(alloc, only.len())?;
     'groups: for raws in only {
-        found.push(find_group(alloc, catalog, reach, raws.as_slice())?)?;
+        put(
+            &mut found,
+            find_group(alloc, catalog, reach, raws.as_slice())?,
+        )?;
     }
     Ok(found)
 }

@@ -5,7 +5,7 @@ use rv_value::{Items, Kind, NoMemory, Text, Value, Values};
 use std::alloc::{AllocError, AllocFailed};
 
 /// A table: its name, and the name and kind of each column.
-#[derive(Drop, Debug, PartialEq, Eq)]
+#[derive(Drop, PartialEq, Eq)]
 pub struct TableDef {
     pub name: Text,
     pub columns: Items<(Text, Kind)>,
@@ -13,7 +13,7 @@ pub struct TableDef {
 
 /// An index: its name, the number of its table, the numbers of its columns in the order of its
 /// keys, and whether two rows may not be equal in it.
-#[derive(Drop, Debug, PartialEq, Eq)]
+#[derive(Drop, PartialEq, Eq)]
 pub struct IndexDef {
     pub name: Text,
     pub table: u32,
@@ -22,7 +22,7 @@ pub struct IndexDef {
 }
 
 /// What a retrieval is to be good at.
-#[derive(Clone, Copy, Debug, PartialEq, Eq)]
+#[derive(Clone, Copy, PartialEq, Eq)]
 pub enum Goal {
     FastFirst,
     TotalTime,
@@ -78,7 +78,7 @@ pub enum Resolved {
 }
 
 /// Why a statement was not resolved.
-#[derive(Drop, Debug, PartialEq, Eq)]
+#[derive(Drop, PartialEq, Eq)]
 pub enum BindFault {
     Refused(Refusal),
     NoMemory,

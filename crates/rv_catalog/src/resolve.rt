@@ -5,9 +5,9 @@ ghost use Rattle.rv_catalog.specs.Answers.{Gives, GivesAs, collected, refuse_som
 ghost use Rattle.rv_catalog.specs.Columns.{own_column};
 ghost use Rattle.rv_catalog.specs.Fits.{FitsSchema, parts_in, parts_of};
 ghost use Rattle.rv_catalog.specs.Limits.{joined_count};
-ghost use Rattle.rv_catalog.specs.Resolve.{column_def, column_name, deleted, first_repeat, form, goal_of, inserted, item, item_name, item_table, itself, kind_of, new_index, new_table, references, resolved, returns, second_or, selected, set_column, set_name, stands_among, steps_of, table_number, updated, width_of};
+ghost use Rattle.rv_catalog.specs.Resolve.{column_def, column_name, deleted, first_repeat, form, goal_of, inserted, item, item_name, item_table, itself, kind_of, new_index, new_table, opened, references, resolved, returns, second_or, selected, set_column, set_name, stands_among, steps_of, table_number, updated, width_of};
 
-use crate::columns::{Item, add_all, find_column, find_groups, find_own, same};
+use crate::columns::{Item, add_all, find_column, find_groups, find_own, put, same};
 use crate::def::{BindFault, Goal, IndexDef, Resolved, Select, TableDef};
 use crate::fault::{exists, unknown};
 use crate::kinds::{check_groups, check_row, check_sets};
@@ -73,19 +73,16 @@ fn resolve_form(
             order,
             goal,
         } => {
-            let select = resolve_select(
+            resolve_open(
                 alloc,
                 catalog,
+                cursor,
                 returned,
                 items.as_slice(),
                 only.as_slice(),
                 order.as_slice(),
                 *goal,
-            )?;
-            Ok(Resolved::Open {
-                cursor: cursor.copy(alloc)?,
-                select,
-            })
+            )
         }
         Statement::Fetch { cursor } => Ok(Resolved::Fetch(cursor.copy(alloc)?)),
         Statement::Show { cursor } => Ok(Resolved::Show(cursor.copy(alloc)?)),
@@ -94,6 +91,29 @@ fn resolve_form(
             cursor: cursor.copy(alloc)?,
             n: steps(*n),
         }),
+    }
+}
+
+fn resolve_open(
+    alloc: Global,
+    catalog: &Catalog,
+    cursor: &Text,
+    returned: &Option<Items<RawCol>>,
+    items: &[(Text, Option<Text>)],
+    only: &[Items<RawAtom>],
+    order: &[RawCol],
+    raw: RawGoal,
+) -> Result<Resolved, BindFault>
+    requires { length items.now ≤ 4 }
+    ensures { Gives result (opened catalog.now cursor.now returned.now items.now only.now order.now raw) }
+{
+    let select = resolve_select(alloc, catalog, returned, items, only, order, raw)?;
+    match cursor.copy(alloc) {
+        Ok(cursor) => Ok(Resolved::Open { cursor, select }),
+        Err(_) => {
+            drop(select);
+            Err(BindFault::NoMemory)
+        }
     }
 }
 
@@ -204,7 +224,7 @@ fn column_defs(alloc: Global, columns: &[(Text, RawKind)]) -> Result<Vec<(Text, 
 {
     let mut defs = Vec::with_capacity(alloc, columns.len())?;
     'columns: for column in columns {
-        defs.push((column.0.copy(alloc)?, kind(column.1)))?;
+        put(&mut defs, (column.0.copy(alloc)?, kind(column.1)))?;
     }
     Ok(defs)
 }
@@ -341,7 +361,7 @@ fn find_sets(
 {
     let mut found = Vec::with_capacity(alloc, sets.len())?;
     'sets: for set in sets {
-        found.push(find_set(alloc, catalog, table, set)?)?;
+        put(&mut found, find_set(alloc, catalog, table, set)?)?;
     }
     Ok(found)
 }
@@ -434,7 +454,7 @@ fn find_items(
 {
     let mut found = Vec::with_capacity(alloc, items.len())?;
     'items: for raw in items {
-        found.push(find_item(alloc, catalog, raw)?)?;
+        put(&mut found, find_item(alloc, catalog, raw)?)?;
     }
     Ok(found)
 }

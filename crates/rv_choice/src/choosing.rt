@@ -14,7 +14,7 @@ use rv_value::{Duplicate, Items, NoMemory, Range};
 use std::alloc::Global;
 
 /// An index as a query sees it.
-#[derive(Drop, Debug)]
+#[derive(Drop)]
 pub struct Candidate {
     pub index: u32,
     pub columns: Items<u32>,
@@ -29,7 +29,7 @@ pub struct Candidate {
 }
 
 /// A part that an index may play.
-#[derive(Clone, Copy, PartialEq, Eq, Debug)]
+#[derive(Clone, Copy, PartialEq, Eq)]
 pub enum Role {
     /// It is restricted, and its range has exactly so few entries that they are scanned at once.
     Short,
@@ -40,7 +40,7 @@ pub enum Role {
 }
 
 /// The indexes that the background scans.
-#[derive(Clone, Copy, PartialEq, Eq, Debug)]
+#[derive(Clone, Copy, PartialEq, Eq)]
 pub enum Background {
     Nothing,
     /// The index of this number.
@@ -52,7 +52,7 @@ pub enum Background {
 }
 
 /// What is chosen: the strategy, the place of the index that the foreground scans, and the background's indexes.
-#[derive(Clone, Copy, PartialEq, Eq, Debug)]
+#[derive(Clone, Copy, PartialEq, Eq)]
 pub struct Choice {
     pub strategy: Strategy,
     pub front: Option<usize>,

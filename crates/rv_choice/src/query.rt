@@ -5,14 +5,14 @@ use rv_restrict::Restriction;
 use rv_value::{Items, Shared};
 
 /// Whether the first rows or all rows are wanted soon.
-#[derive(Clone, Copy, PartialEq, Eq, Debug)]
+#[derive(Clone, Copy, PartialEq, Eq)]
 pub enum Goal2 {
     FastFirst,
     TotalTime,
 }
 
 /// What is asked of one table at a snapshot.
-#[derive(Drop, Debug)]
+#[derive(Drop)]
 pub struct Query {
     pub table: u32,
     pub snap: u64,

@@ -8,7 +8,7 @@ ghost use Rattle.rv_course.specs.Reading.{are_apart, begins_scan, ends_at, ends_
 use rv_judge::{Control, Event, Happening, Strategy, Verdict, course};
 
 /// Where the reading stands.
-#[derive(Clone, Copy, Debug)]
+#[derive(Clone, Copy)]
 pub struct Place {
     control: Control,
     /// The index whose scan is under way.

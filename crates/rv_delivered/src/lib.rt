@@ -17,7 +17,7 @@ const PLACES: usize = 1024;
 
 /// A set of at most 1,024 rows, which contracts see as their numbers, ascending. Its places are made with it, so that
 /// rows are added without memory.
-#[derive(Drop, Debug)]
+#[derive(Drop)]
 pub struct Delivered {
     rows: Vec<u64>,
 }

@@ -9,7 +9,7 @@ use std::marker::Model;
 const GOLDEN: u64 = 0x9E37_79B9_7F4A_7C15;
 
 /// A filter of 65,536 bits in 1,024 words, which contracts see. Bit `b` is bit `b mod 64` of word `b / 64`.
-#[derive(Drop, Debug)]
+#[derive(Drop)]
 pub struct Filter {
     words: Vec<u64>,
 }

@@ -9,7 +9,7 @@ use rv_script::transcript::write_number;
 
 /// Counts of a history: its entries, and those of them that gave a row, the end of a cursor, a
 /// commit or a refusal.
-#[derive(Clone, Copy, Debug, PartialEq, Eq)]
+#[derive(Clone, Copy, PartialEq, Eq)]
 pub struct Summary {
     pub calls: u64,
     pub rows: u64,

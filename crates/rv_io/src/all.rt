@@ -7,7 +7,7 @@ use crate::traits::{Failed, Sink, Source};
 use std::alloc::Global;
 
 /// Why not all was read: a read failed, the input is longer than the limit, or memory was refused.
-#[derive(Clone, Copy, Debug, PartialEq, Eq)]
+#[derive(Clone, Copy, PartialEq, Eq)]
 pub enum ReadFault {
     Failed,
     TooBig,

@@ -3,7 +3,7 @@ ghost use Rattle.rv_io.specs.Causes.{HasCause};
 ghost use Rattle.rv_io.specs.Pieces.{Reads, Writes};
 
 /// A read or a write failed.
-#[derive(Clone, Copy, Debug, PartialEq, Eq)]
+#[derive(Clone, Copy, PartialEq, Eq)]
 pub struct Failed;
 
 /// Where bytes come from.

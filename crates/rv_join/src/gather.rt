@@ -21,7 +21,7 @@ use std::alloc::Global;
 use std::marker::Model;
 
 /// How a plan's offers come.
-#[derive(Clone, Copy, PartialEq, Eq, Debug)]
+#[derive(Clone, Copy, PartialEq, Eq)]
 pub enum Stage {
     /// As the nested loops find them.
     AsFound,

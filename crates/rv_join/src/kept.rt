@@ -15,7 +15,7 @@ use std::alloc::Global;
 use std::cmp::Ordering;
 
 /// How many order values an offer has, and how many values it returns.
-#[derive(Clone, Copy, PartialEq, Eq, Debug)]
+#[derive(Clone, Copy, PartialEq, Eq)]
 pub struct Widths {
     pub order: usize,
     pub returned: usize,

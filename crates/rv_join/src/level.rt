@@ -34,7 +34,7 @@ pub struct Level {
 }
 
 /// What a look for a level's next row came to.
-#[derive(Clone, Copy, PartialEq, Eq, Debug)]
+#[derive(Clone, Copy, PartialEq, Eq)]
 pub enum Caught {
     /// A row is held.
     Ready,

@@ -22,7 +22,7 @@ use std::alloc::Global;
 
 /// A FROM item: its table, the table's indexes in order of creation, each with its number and its columns, the columns
 /// needed of the item, and those by which its rows are to come in order. What each of its openings is asked alike is shared.
-#[derive(Drop, Debug)]
+#[derive(Drop)]
 pub struct Item {
     pub table: u32,
     pub indexes: Shared<Items<(u32, Items<u32>)>>,
@@ -32,7 +32,7 @@ pub struct Item {
 
 /// What a plan is asked: its FROM items, the rest of the select, the snapshot, the cursor's number, and whether indexes may
 /// race.
-#[derive(Drop, Debug)]
+#[derive(Drop)]
 pub struct Asked {
     pub items: Items<Item>,
     pub only: Restriction,

@@ -21,7 +21,7 @@ use std::marker::Model;
 use std::mem;
 
 /// A planned scan of an index in a range.
-#[derive(Drop, Debug)]
+#[derive(Drop)]
 pub struct ScanPlan {
     pub index: u32,
     pub range: Range,
@@ -32,7 +32,7 @@ pub struct ScanPlan {
 }
 
 /// What a scan did so far.
-#[derive(Clone, Copy, PartialEq, Eq, Debug)]
+#[derive(Clone, Copy, PartialEq, Eq)]
 pub struct ScanCounts {
     /// Entries of the accepted pieces.
     pub scanned: u64,
@@ -45,7 +45,7 @@ pub struct ScanCounts {
 }
 
 /// What `take` answers.
-#[derive(Drop, Debug)]
+#[derive(Drop)]
 pub enum Taken {
     /// A copy of the awaited piece.
     Piece(Piece),
@@ -54,7 +54,7 @@ pub enum Taken {
 }
 
 /// What `give` answers.
-#[derive(Clone, Copy, PartialEq, Eq, Debug)]
+#[derive(Clone, Copy, PartialEq, Eq)]
 pub enum Given {
     /// It was the awaited piece, and its rows are added.
     Accepted,

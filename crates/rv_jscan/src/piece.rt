@@ -11,7 +11,7 @@ use std::marker::Model;
 
 /// Which piece of which retrieval it is: the cursor's number from 1, the number from 1 of the retrievals that the
 /// cursor has opened, and the number of the piece from 1 over all scans of the retrieval.
-#[derive(Clone, Copy, PartialEq, Eq, Debug)]
+#[derive(Clone, Copy, PartialEq, Eq)]
 pub struct PieceId {
     pub cursor: u64,
     pub opening: u64,
@@ -19,7 +19,7 @@ pub struct PieceId {
 }
 
 /// The entries of one leaf that are in a scan's range, and the part of the restriction that an index can test.
-#[derive(Drop, Debug)]
+#[derive(Drop)]
 pub struct Piece {
     id: PieceId,
     entries: Items<IndexEntry>,
@@ -70,7 +70,7 @@ impl Duplicate for Piece {
 
 /// A piece of which each entry was tested. Nothing but `sieve` makes one. Contracts see it as the piece; the mark of
 /// each entry follows from the part and the entry's key.
-#[derive(Drop, Debug)]
+#[derive(Drop)]
 pub struct Sieved {
     id: PieceId,
     entries: Items<IndexEntry>,

@@ -20,7 +20,7 @@ use std::alloc::Global;
 use std::marker::Model;
 
 /// How a list holds its keys.
-#[derive(Clone, Copy, PartialEq, Eq, Debug)]
+#[derive(Clone, Copy, PartialEq, Eq)]
 pub enum Stage {
     /// Up to 20 keys, in a fixed buffer.
     Small,
@@ -34,7 +34,7 @@ pub enum Stage {
 ///
 /// Contracts see the row numbers in the order of their pushes, the number of places that were made by `reserve` and
 /// were not used yet, and whether the list is finished.
-#[derive(Drop, Debug)]
+#[derive(Drop)]
 pub struct KeyList {
     few: ArrayVec<u64, 20>,
     many: Vec<u64>,

@@ -12,7 +12,7 @@ use rv_value::{NoMemory, Text};
 use std::alloc::{AllocError, AllocFailed, Global};
 
 /// Why no token was read.
-#[derive(Debug, Drop)]
+#[derive(Drop)]
 pub enum Stop {
     NoToken,
     NoMemory,

@@ -4,7 +4,7 @@ use rv_value::{Duplicate, Items, NoMemory, RowNo, Shared, Text, Value};
 use std::alloc::Global;
 
 /// The limits, in the order in which those of the statement and then those of the state are tested.
-#[derive(Clone, Copy, Debug, PartialEq, Eq)]
+#[derive(Clone, Copy, PartialEq, Eq)]
 pub enum Which {
     Name,
     Text,
@@ -25,7 +25,7 @@ pub enum Which {
 }
 
 /// Where a row that equals a written one in a unique index was found.
-#[derive(Clone, Copy, Debug, PartialEq, Eq)]
+#[derive(Clone, Copy, PartialEq, Eq)]
 pub enum Rival {
     /// In the view of the transaction itself.
     View,
@@ -36,7 +36,7 @@ pub enum Rival {
 }
 
 /// Why a call was refused. A refused call changes nothing but the history.
-#[derive(Drop, Debug, PartialEq, Eq)]
+#[derive(Drop, PartialEq, Eq)]
 pub enum Refusal {
     /// The text derives no statement.
     Syntax,
@@ -66,7 +66,7 @@ pub enum Refusal {
 }
 
 /// An event of a trace, a scan being named by its index.
-#[derive(Drop, Debug, PartialEq, Eq)]
+#[derive(Drop, PartialEq, Eq)]
 pub enum ShownEvent {
     /// The control became this one.
     At(Control),
@@ -83,7 +83,7 @@ pub enum ShownEvent {
 }
 
 /// A trace with the names of indexes in place of their numbers.
-#[derive(Drop, Debug, PartialEq, Eq)]
+#[derive(Drop, PartialEq, Eq)]
 pub struct Shown {
     pub strategy: Strategy,
     pub events: Items<ShownEvent>,
@@ -93,7 +93,7 @@ pub struct Shown {
 }
 
 /// The reply to a call.
-#[derive(Drop, Debug, PartialEq, Eq)]
+#[derive(Drop, PartialEq, Eq)]
 pub enum Reply {
     Created,
     /// The transaction's number.

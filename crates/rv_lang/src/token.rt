@@ -3,7 +3,7 @@ use rv_value::Text;
 
 /// A mark of the language, one for each spelling:
 /// `(` `)` `,` `.` `*` `;` `=` `<>` `<` `<=` `>` `>=`.
-#[derive(Clone, Copy, Debug, PartialEq, Eq)]
+#[derive(Clone, Copy, PartialEq, Eq)]
 pub enum Symbol {
     LeftParen,
     RightParen,
@@ -20,7 +20,7 @@ pub enum Symbol {
 }
 
 /// A piece of a statement's text.
-#[derive(Drop, Debug, PartialEq, Eq)]
+#[derive(Drop, PartialEq, Eq)]
 pub enum Token {
     /// A keyword or a name, its ASCII letters in upper case.
     Word(Text),
@@ -31,7 +31,7 @@ pub enum Token {
 }
 
 /// Why a text gave no tokens.
-#[derive(Debug, Drop, PartialEq, Eq)]
+#[derive(Drop, PartialEq, Eq)]
 pub enum LexFault {
     /// The text is no sequence of tokens. At this byte, counted from 0, none begins, and it is the
     /// first where that is so.

@@ -17,9 +17,9 @@ use std::alloc::Global;
 use std::sync::Wait;
 use std::thread::Threads;
 
-/// The parts of a core. The judge's box is a field of this type, so that its meaning can be named.
+/// The parts of a core, as threads take turns on it. The judge's box is a field of this type, so that its meaning can be named.
 #[derive(Drop)]
-struct Lent<S: Store + Reader<Ledger = Uncounted> + Drop> {
+pub struct Lent<S: Store + Reader<Ledger = Uncounted> + Drop> {
     engine: Engine<S>,
     judge: Box<dyn Judge>,
     settings: Settings,
@@ -76,7 +76,7 @@ impl<S: Store + Reader<Ledger = Uncounted> + Drop> Served for Lent<S> {
 }
 
 /// Takes a core apart for threads.
-fn lend<S: Store + Reader<Ledger = Uncounted> + Drop>(core: Core<S>) -> Lent<S>
+pub fn lend<S: Store + Reader<Ledger = Uncounted> + Drop>(core: Core<S>) -> Lent<S>
     requires { 0 ≤ core.engine.phase }
     ensures engine { result.engine ≡ core.engine }
     ensures settings { result.settings ≡ core.settings }

@@ -63,7 +63,7 @@ impl Schema {
 }
 
 /// How many tables and indexes a store has, the oldest snapshot that it keeps and its newest commit.
-#[derive(Clone, Copy, PartialEq, Eq, Debug)]
+#[derive(Clone, Copy, PartialEq, Eq)]
 pub struct Layout {
     pub tables: u32,
     pub indexes: u32,

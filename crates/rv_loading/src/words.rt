@@ -4,7 +4,7 @@ use rv_value::NoMemory;
 use std::alloc::{AllocError, AllocFailed};
 
 /// Why a line has no answer, or a store has not what it was to have.
-#[derive(Clone, Copy, Debug, PartialEq, Eq)]
+#[derive(Clone, Copy, PartialEq, Eq)]
 pub enum Fault {
     /// It is not of the form that is wanted.
     Form,

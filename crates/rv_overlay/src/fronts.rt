@@ -102,7 +102,7 @@ impl Front<Change> for UntilPage {
 }
 
 /// Where a run of a list begins, and how many items it has.
-#[derive(Clone, Copy, PartialEq, Eq, Debug)]
+#[derive(Clone, Copy, PartialEq, Eq)]
 pub struct Span {
     pub at: usize,
     pub count: usize,

@@ -17,7 +17,7 @@ pub struct Part {
 }
 
 /// How large a table is with the changes of a transaction.
-#[derive(Clone, Copy, PartialEq, Eq, Debug)]
+#[derive(Clone, Copy, PartialEq, Eq)]
 pub struct TableSize {
     pub table: u32,
     pub pages: u32,

@@ -24,7 +24,7 @@ use Rattle.rv_lang.specs.Words.{is_keyword, IsName, AND, BETWEEN, FOR, FROM, IN,
 use Rattle.rv_lang.specs.Grammar.{literal, column, compare, operand, atom, closed, others, listed, AnyLiteral, AreAll, AreSome, IsColumn, IsOperand, IsAtom, COMMA, LPAREN, RPAREN, SEMICOLON, IsBare, IsGroup, AreGroups, IsLone, IsWhere, column_def, IsColumnDef, returned, AreReturned, item, IsItem, order, IsGoal, IsSelectEnd, IsBody, Derives, name, set, IsSet, unique_word}
 use Rattle.rv_parse.specs.declared.list.Separator.{Separator}
 use Rattle.rv_parse.specs.declared.list.Separator.TheVariants as separators
-use Rattle.rv_parse.specs.Reading.{Read, word_at, name_at, literal_at, dot_at, op_at, column_at, operand_at, separator_at, list_at, list_of, between_at, among_at, is_null_at, starts_at, compare_at, atom_rest, atom_at, closed_at, group_at, open_at, comma_at, groups_at, bare_end, cond_at, where_at, star_at, kind_at, column_def_at, create_table_at, insert_at, delete_at, begin_at, returned_at, item_at, order_at, named_goal_at, goal_at, open_cursor_at, create_at, create_index_at, index_at, set_at, update_at, fetch_at, show_at, close_cursor_at, step_at, cursor_at, body_at, parse_of}
+use Rattle.rv_parse.specs.Reading.{Read, word_at, name_at, literal_at, dot_at, op_at, column_at, operand_at, separator_at, list_at, list_of, enclosed_at, between_at, among_at, is_null_at, starts_at, compare_at, atom_rest, atom_at, closed_at, group_at, open_at, comma_at, groups_at, bare_end, cond_at, where_at, star_at, kind_at, column_def_at, create_table_at, insert_at, delete_at, begin_at, returned_at, item_at, order_at, named_goal_at, goal_at, open_cursor_at, create_at, create_index_at, index_at, set_at, update_at, fetch_at, show_at, close_cursor_at, step_at, cursor_at, body_at, parse_of}
 use Rattle.rv_parse.proofs.Takes.{mark}
 
 -- what a column may stand before
@@ -149,7 +149,7 @@ op_no_dot ops.Gt rest = refl
 op_no_dot ops.Ge rest = refl
 
 pub atom_again : (a : RawAtom) (rest : List Token) → IsAtom a → NoDot rest → atom_at (atom a rest) ≡ Some (a, rest)
-unfolding atom_at atom_rest between_at among_at is_null_at starts_at compare_at
+unfolding atom_at atom_rest enclosed_at between_at among_at is_null_at starts_at compare_at
 atom_again (Compare c op right) rest is no_dot = rw (column_again c (compare op ∷ operand right rest) is.0 (op_no_dot op _), op_no_word (codes "BETWEEN") op (operand right rest), op_no_word (codes "IN") op (operand right rest), op_no_word (codes "IS") op (operand right rest), op_no_word (codes "STARTING") op (operand right rest), op_again op (operand right rest), operand_again right rest is.1 no_dot) refl
 atom_again (Between c low high) rest is no_dot = rw (column_again c (BETWEEN ∷ literal low (AND ∷ literal high rest)) is refl, literal_again low (AND ∷ literal high rest), literal_again high rest) refl
 atom_again (Among c list) rest is no_dot = rw (column_again c (IN ∷ LPAREN ∷ listed COMMA literal list (RPAREN ∷ rest)) is.0 refl, literals_again list (RPAREN ∷ rest) is.1 refl) refl
@@ -286,14 +286,14 @@ column_def_longer (name, kinds.Big) rest = omega arith
 column_def_longer (name, kinds.Chars n) rest = omega arith
 
 create_table_again : (name : List ℕ) (columns : List (List ℕ × RawKind)) (rest : List Token) → IsName name → AreSome IsColumnDef columns → create_table_at (Word name ∷ LPAREN ∷ listed COMMA column_def columns (RPAREN ∷ rest)) ≡ Some (CreateTable name columns, rest)
-unfolding create_table_at
+unfolding create_table_at enclosed_at
 create_table_again name columns rest named are = rw (named, list_of_again column_def_at column_def IsColumnDef (λ rest. Unit {0}) separators.Comma (λ x rest is e. column_def_again x rest is) (λ rest. tt) (λ rest. refl) column_def_longer columns (RPAREN ∷ rest) are tt refl) refl
 
 name_longer : (n : List ℕ) (rest : List Token) → length rest < length (name n rest)
 name_longer n rest = omega arith
 
 create_index_again : (unique : Bool) (index table : List ℕ) (columns : List (List ℕ)) (rest : List Token) → IsName index → IsName table → AreSome IsName columns → create_index_at unique (INDEX ∷ Word index ∷ ON ∷ Word table ∷ LPAREN ∷ listed COMMA name columns (RPAREN ∷ rest)) ≡ Some (CreateIndex unique index table columns, rest)
-unfolding create_index_at
+unfolding create_index_at enclosed_at
 create_index_again unique index table columns rest named on are = rw (named, on, list_of_again name_at name IsName (λ rest. Unit {0}) separators.Comma (λ x rest is e. name_again x rest is) (λ rest. tt) (λ rest. refl) name_longer columns (RPAREN ∷ rest) are tt refl) refl
 
 create_table_first : (tokens : List Token) → create_at (TABLE ∷ tokens) ≡ create_table_at tokens
@@ -313,7 +313,7 @@ set_longer : (s : List ℕ × Value) (rest : List Token) → length rest < lengt
 set_longer (column, v) rest = omega (arith, literal_longer v rest)
 
 insert_again : (table : List ℕ) (values : List Value) (rest : List Token) → IsName table → AreSome AnyLiteral values → insert_at (INTO ∷ Word table ∷ VALUES ∷ LPAREN ∷ listed COMMA literal values (RPAREN ∷ rest)) ≡ Some (Insert table values, rest)
-unfolding insert_at
+unfolding insert_at enclosed_at
 insert_again table values rest named are = rw (named, literals_again values (RPAREN ∷ rest) are refl) refl
 
 item_again : (i : List ℕ × Option (List ℕ)) (rest : List Token) → IsItem i → name_at rest ≡ None → item_at (item i rest) ≡ Some (i, rest)

@@ -13,7 +13,7 @@ use Rattle.rv_lang.specs.Words.{is_keyword, IsName, AND, BEGIN, BETWEEN, BY, CLO
 use Rattle.rv_lang.specs.Grammar.{literal, column, compare, operand, atom, closed, others, listed, AnyLiteral, AreAll, AreSome, IsColumn, IsOperand, IsAtom, DOT, COMMA, LPAREN, RPAREN, IsGroup, AreGroups, IsCond, IsWhere, kind, column_def, IsColumnDef, returned, AreReturned, item, IsItem, order, IsGoal, IsBody, Derives, name, set, IsSet, EQUAL, unique_word}
 use Rattle.rv_parse.specs.declared.list.Separator.{Separator}
 use Rattle.rv_parse.specs.declared.list.Separator.TheVariants as separators
-use Rattle.rv_parse.specs.Reading.{◌>>=◌, ◌<|>◌, choose, Read, word_at, name_at, text_at, literal_at, dot_at, open_at, close_at, comma_at, op_at, column_rest, column_at, operand_at, separator_at, list_end, list_at, list_of, between_at, among_at, is_null_at, starts_at, compare_at, atom_rest, atom_at, closed_at, group_at, groups_at, bare_end, cond_at, where_at, integer_at, star_at, kind_at, column_def_at, create_table_at, insert_at, delete_at, begin_at, returned_at, item_at, order_at, named_goal_at, goal_at, open_cursor_at, create_at, create_index_at, index_at, set_at, update_at, equal_at, fetch_at, show_at, close_cursor_at, step_at, cursor_at, body_at, ended, parse_of}
+use Rattle.rv_parse.specs.Reading.{◌>>=◌, ◌<|>◌, choose, Read, word_at, name_at, text_at, literal_at, dot_at, open_at, close_at, comma_at, op_at, column_rest, column_at, operand_at, separator_at, list_end, list_at, list_of, enclosed_at, between_at, among_at, is_null_at, starts_at, compare_at, atom_rest, atom_at, closed_at, group_at, groups_at, bare_end, cond_at, where_at, integer_at, star_at, kind_at, column_def_at, create_table_at, insert_at, delete_at, begin_at, returned_at, item_at, order_at, named_goal_at, goal_at, open_cursor_at, create_at, create_index_at, index_at, set_at, update_at, equal_at, fetch_at, show_at, close_cursor_at, step_at, cursor_at, body_at, ended, parse_of}
 
 -- what is found, if anything is, is so
 pub record Finds {A : Type 0} (found : Option A) (P : A → Type 0) : Type 0 where
@@ -148,6 +148,11 @@ module _ {X : Type 0} (part : List Token → Read X) (spell : X → List Token �
   unfolding list_of
   list_of_takes tokens = list_takes (length tokens) tokens
 
+pub enclosed_takes : {X : Type 0} (part : List Token → Read X) (spell : X → List Token → List Token) (Is : X → Type 0) → ((tokens : List Token) → Finds (part tokens) (λ x. Is x.0 × (tokens ≡ spell x.0 x.1))) → (tokens : List Token) → Finds (enclosed_at part tokens) (λ y. AreSome Is y.0 × (tokens ≡ LPAREN ∷ listed COMMA spell y.0 (RPAREN ∷ y.1)))
+unfolding enclosed_at
+enclosed_takes part spell Is takes tokens =
+    then (open_takes tokens) (λ rest o. then (list_of_takes part spell Is separators.Comma takes rest) (λ list l. then (close_takes list.1) (λ after w. done (l.0, let a = l.1 in cc))))
+
 -- ---- atoms
 
 -- an atom behind its column
@@ -162,7 +167,7 @@ between_takes c tokens named =
 among_takes : (c : RawCol) (tokens : List Token) → IsColumn c → Finds (among_at c tokens) (Behind c (IN ∷ tokens))
 unfolding among_at
 among_takes c tokens named =
-    then (open_takes tokens) (λ rest o. then (list_of_takes literal_at literal AnyLiteral separators.Comma literal_takes rest) (λ list l. then (close_takes list.1) (λ rest w. done ((named, l.0), let a = l.1 in cc))))
+    then (enclosed_takes literal_at literal AnyLiteral literal_takes tokens) (λ list l. done ((named, l.0), let a = l.1 in cc))
 
 is_null_takes : (c : RawCol) (tokens : List Token) → IsColumn c → Finds (is_null_at c tokens) (Behind c (IS ∷ tokens))
 unfolding is_null_at
@@ -272,20 +277,20 @@ column_def_takes tokens = then (name_takes tokens) (λ n u. then (kind_takes n.1
 create_table_takes : (tokens : List Token) → Finds (create_table_at tokens) (λ x. IsBody x.0 (CREATE ∷ TABLE ∷ tokens) x.1)
 unfolding create_table_at
 create_table_takes tokens =
-    then (name_takes tokens) (λ n u. then (open_takes n.1) (λ a v. then (list_of_takes column_def_at column_def IsColumnDef separators.Comma column_def_takes a) (λ l w. then (close_takes l.1) (λ b x. done (u.0, w.0, let e = u.1 in let f = w.1 in cc)))))
+    then (name_takes tokens) (λ n u. then (enclosed_takes column_def_at column_def IsColumnDef column_def_takes n.1) (λ l w. done (u.0, w.0, let e = u.1 in let f = w.1 in cc)))
 
 create_index_takes : (unique : Bool) (tokens : List Token) → Finds (create_index_at unique tokens) (λ x. IsBody x.0 (CREATE ∷ unique_word unique tokens) x.1)
 unfolding create_index_at
 create_index_takes unique tokens =
-    then (word_takes (codes "INDEX") tokens) (λ n s. then (name_takes n) (λ i u. then (word_takes (codes "ON") i.1) (λ a v. then (name_takes a) (λ t w. then (open_takes t.1) (λ b x. then (list_of_takes name_at name IsName separators.Comma name_takes b) (λ l y. then (close_takes l.1) (λ d z.
+    then (word_takes (codes "INDEX") tokens) (λ n s. then (name_takes n) (λ i u. then (word_takes (codes "ON") i.1) (λ a v. then (name_takes a) (λ t w. then (enclosed_takes name_at name IsName name_takes t.1) (λ l y.
     done (
       u.0,
       w.0,
       y.0,
       let e = u.1 in let f = w.1 in let g = y.1 in
-          let behind : tokens ≡ INDEX ∷ Word i.0 ∷ ON ∷ Word t.0 ∷ LPAREN ∷ listed COMMA name l.0 (RPAREN ∷ d) = cc in
+          let behind : tokens ≡ INDEX ∷ Word i.0 ∷ ON ∷ Word t.0 ∷ LPAREN ∷ listed COMMA name l.0 (RPAREN ∷ l.1) = cc in
           ap (λ ts. CREATE ∷ unique_word unique ts) behind,
-    ))))))))
+    ))))))
 
 index_takes : (tokens : List Token) → Finds (index_at tokens) (λ x. IsBody x.0 (CREATE ∷ tokens) x.1)
 unfolding index_at
@@ -298,7 +303,7 @@ create_takes tokens = either (word_takes (codes "TABLE") tokens) (λ a t. rw t (
 insert_takes : (tokens : List Token) → Finds (insert_at tokens) (λ x. IsBody x.0 (INSERT ∷ tokens) x.1)
 unfolding insert_at
 insert_takes tokens =
-    then (word_takes (codes "INTO") tokens) (λ a t. then (name_takes a) (λ n u. then (word_takes (codes "VALUES") n.1) (λ b v. then (open_takes b) (λ c w. then (list_of_takes literal_at literal AnyLiteral separators.Comma literal_takes c) (λ l x. then (close_takes l.1) (λ d y. done (u.0, x.0, let e = u.1 in let f = x.1 in cc)))))))
+    then (word_takes (codes "INTO") tokens) (λ a t. then (name_takes a) (λ n u. then (word_takes (codes "VALUES") n.1) (λ b v. then (enclosed_takes literal_at literal AnyLiteral literal_takes b) (λ l x. done (u.0, x.0, let e = u.1 in let f = x.1 in cc)))))
 
 set_takes : (tokens : List Token) → Finds (set_at tokens) (λ x. IsSet x.0 × (tokens ≡ set x.0 x.1))
 unfolding set_at

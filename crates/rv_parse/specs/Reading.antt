@@ -152,6 +152,14 @@ list_at part separator (suc n) tokens =
 unfoldable pub list_of : {X : Type 0} → (List Token → Read X) → Separator → List Token → Read (List X)
 list_of part separator tokens = list_at part separator (length tokens) tokens
 
+-- a list in parentheses, with commas
+unfoldable pub enclosed_at : {X : Type 0} → (List Token → Read X) → List Token → Read (List X)
+enclosed_at part tokens = do
+  rest ← open_at tokens
+  list ← list_of part separators.Comma rest
+  rest ← close_at list.1
+  Some (list.0, rest)
+
 unfoldable pub between_at : RawCol → List Token → Read RawAtom
 between_at column tokens = do
   low ← literal_at tokens
@@ -161,10 +169,8 @@ between_at column tokens = do
 
 unfoldable pub among_at : RawCol → List Token → Read RawAtom
 among_at column tokens = do
-  rest ← open_at tokens
-  list ← list_of literal_at separators.Comma rest
-  rest ← close_at list.1
-  Some (atoms.Among column list.0, rest)
+  list ← enclosed_at literal_at tokens
+  Some (atoms.Among column list.0, list.1)
 
 unfoldable pub is_null_at : RawCol → List Token → Read RawAtom
 is_null_at column tokens = choose (word_at (codes "NOT") tokens)
@@ -243,10 +249,8 @@ column_def_at tokens = do
 unfoldable pub create_table_at : List Token → Read Statement
 create_table_at tokens = do
   name ← name_at tokens
-  rest ← open_at name.1
-  columns ← list_of column_def_at separators.Comma rest
-  rest ← close_at columns.1
-  Some (statements.CreateTable name.0 columns.0, rest)
+  columns ← enclosed_at column_def_at name.1
+  Some (statements.CreateTable name.0 columns.0, columns.1)
 
 unfoldable pub create_index_at : Bool → List Token → Read Statement
 create_index_at unique tokens = do
@@ -254,10 +258,8 @@ create_index_at unique tokens = do
   index ← name_at rest
   rest ← word_at (codes "ON") index.1
   table ← name_at rest
-  rest ← open_at table.1
-  columns ← list_of name_at separators.Comma rest
-  rest ← close_at columns.1
-  Some (statements.CreateIndex unique index.0 table.0 columns.0, rest)
+  columns ← enclosed_at name_at table.1
+  Some (statements.CreateIndex unique index.0 table.0 columns.0, columns.1)
 
 unfoldable pub index_at : List Token → Read Statement
 index_at tokens = choose (word_at (codes "UNIQUE") tokens) (create_index_at true) (create_index_at false tokens)
@@ -270,10 +272,8 @@ insert_at tokens = do
   rest ← word_at (codes "INTO") tokens
   table ← name_at rest
   rest ← word_at (codes "VALUES") table.1
-  rest ← open_at rest
-  values ← list_of literal_at separators.Comma rest
-  rest ← close_at values.1
-  Some (statements.Insert table.0 values.0, rest)
+  values ← enclosed_at literal_at rest
+  Some (statements.Insert table.0 values.0, values.1)
 
 unfoldable pub set_at : List Token → Read (List ℕ × Value)
 set_at tokens = do

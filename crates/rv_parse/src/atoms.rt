@@ -3,8 +3,8 @@ ghost use Rattle.std.specs.Prelude.{◌≡◌};
 ghost use Rattle.rv_parse.specs.Reading.{Gives, literal_at, atom_at, atom_rest, between_at, among_at, is_null_at, starts_at, compare_at, group_at, closed_at};
 
 use crate::fault::ParseFault;
-use crate::list::{Part, Separator, alone, list};
-use crate::parts::{close, column, literal, need, op, open, operand, text, word};
+use crate::list::{Part, Separator, alone, enclosed, list};
+use crate::parts::{close, column, literal, op, open, operand, text, word};
 use rv_lang::{RawAtom, RawCol, Token};
 use rv_value::{Items, Value, Values};
 use std::alloc::Global;
@@ -25,10 +25,26 @@ fn between<'a>(
 ) -> Result<(RawAtom, &'a [Token]), ParseFault>
     ensures { Gives (λ x. (x.0, x.1.now)) result (between_at column tokens.now) }
 {
-    let (low, rest) = literal(alloc, tokens)?;
-    let rest = need(word(rest, "AND"))?;
-    let (high, rest) = literal(alloc, rest)?;
-    Ok((RawAtom::Between { column, low, high }, rest))
+    let (low, rest) = match literal(alloc, tokens) {
+        Ok(found) => found,
+        Err(fault) => {
+            drop(column);
+            return Err(fault);
+        }
+    };
+    let Some(rest) = word(rest, "AND") else {
+        drop(column);
+        drop(low);
+        return Err(ParseFault::Syntax);
+    };
+    match literal(alloc, rest) {
+        Ok((high, rest)) => Ok((RawAtom::Between { column, low, high }, rest)),
+        Err(fault) => {
+            drop(column);
+            drop(low);
+            Err(fault)
+        }
+    }
 }
 
 #[tactic(auto, unfolding(crate::specs::Reading::among_at))]
@@ -39,11 +55,20 @@ fn among<'a>(
 ) -> Result<(RawAtom, &'a [Token]), ParseFault>
     ensures { Gives (λ x. (x.0, x.1.now)) result (among_at column tokens.now) }
 {
-    let rest = need(open(tokens))?;
-    let (list, rest) = list::<Value>(alloc, Separator::Comma, rest)?;
-    let rest = need(close(rest))?;
-    let list = Values::of(alloc, list.into_vec())?;
-    Ok((RawAtom::Among { column, list }, rest))
+    let (list, rest) = match enclosed::<Value>(alloc, tokens) {
+        Ok(found) => found,
+        Err(fault) => {
+            drop(column);
+            return Err(fault);
+        }
+    };
+    match Values::of(alloc, list.into_vec()) {
+        Ok(list) => Ok((RawAtom::Among { column, list }, rest)),
+        Err(_) => {
+            drop(column);
+            Err(ParseFault::NoMemory)
+        }
+    }
 }
 
 #[tactic(auto, unfolding(crate::specs::Reading::is_null_at))]
@@ -51,14 +76,20 @@ fn is_null(column: RawCol, tokens: &[Token]) -> Result<(RawAtom, &[Token]), Pars
     ensures { Gives (λ x. (x.0, x.1.now)) result (is_null_at column tokens.now) }
 {
     match word(tokens, "NOT") {
-        Some(rest) => {
-            let rest = need(word(rest, "NULL"))?;
-            Ok((RawAtom::IsNull { column, not: true }, rest))
-        }
-        None => {
-            let rest = need(word(tokens, "NULL"))?;
-            Ok((RawAtom::IsNull { column, not: false }, rest))
-        }
+        Some(rest) => match word(rest, "NULL") {
+            Some(rest) => Ok((RawAtom::IsNull { column, not: true }, rest)),
+            None => {
+                drop(column);
+                Err(ParseFault::Syntax)
+            }
+        },
+        None => match word(tokens, "NULL") {
+            Some(rest) => Ok((RawAtom::IsNull { column, not: false }, rest)),
+            None => {
+                drop(column);
+                Err(ParseFault::Syntax)
+            }
+        },
     }
 }
 
@@ -70,9 +101,17 @@ fn starts<'a>(
 ) -> Result<(RawAtom, &'a [Token]), ParseFault>
     ensures { Gives (λ x. (x.0, x.1.now)) result (starts_at column tokens.now) }
 {
-    let rest = need(word(tokens, "WITH"))?;
-    let (text, rest) = text(alloc, rest)?;
-    Ok((RawAtom::Starts { column, text }, rest))
+    let Some(rest) = word(tokens, "WITH") else {
+        drop(column);
+        return Err(ParseFault::Syntax);
+    };
+    match text(alloc, rest) {
+        Ok((text, rest)) => Ok((RawAtom::Starts { column, text }, rest)),
+        Err(fault) => {
+            drop(column);
+            Err(fault)
+        }
+    }
 }
 
 #[tactic(auto, unfolding(crate::specs::Reading::compare_at))]
@@ -83,16 +122,27 @@ fn compare<'a>(
 ) -> Result<(RawAtom, &'a [Token]), ParseFault>
     ensures { Gives (λ x. (x.0, x.1.now)) result (compare_at column tokens.now) }
 {
-    let (op, rest) = op(tokens)?;
-    let (operand, rest) = operand(alloc, rest)?;
-    Ok((
-        RawAtom::Compare {
-            column,
-            op,
-            operand,
-        },
-        rest,
-    ))
+    let (op, rest) = match op(tokens) {
+        Ok(found) => found,
+        Err(fault) => {
+            drop(column);
+            return Err(fault);
+        }
+    };
+    match operand(alloc, rest) {
+        Ok((operand, rest)) => Ok((
+            RawAtom::Compare {
+                column,
+                op,
+                operand,
+            },
+            rest,
+        )),
+        Err(fault) => {
+            drop(column);
+            Err(fault)
+        }
+    }
 }
 
 #[tactic(auto, unfolding(crate::specs::Reading::atom_rest))]
@@ -140,8 +190,13 @@ fn closed<'a>(
     ensures { Gives (λ x. (x.0, x.1.now)) result (closed_at tokens.now) }
 {
     let (found, rest) = list::<RawAtom>(alloc, Separator::Or, tokens)?;
-    let rest = need(close(rest))?;
-    Ok((found, rest))
+    match close(rest) {
+        Some(rest) => Ok((found, rest)),
+        None => {
+            drop(found);
+            Err(ParseFault::Syntax)
+        }
+    }
 }
 
 #[tactic(auto, unfolding(crate::specs::Reading::group_at))]

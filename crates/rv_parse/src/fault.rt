@@ -4,7 +4,7 @@ ghost use Rattle.rv_parse.specs.declared.fault.ParseFault.TheVariants.{NoMemory}
 use std::alloc::{AllocError, AllocFailed};
 
 /// Why tokens gave no statement.
-#[derive(Debug, Drop, PartialEq, Eq)]
+#[derive(Drop, PartialEq, Eq)]
 pub enum ParseFault {
     /// The grammar derives none from them.
     Syntax,

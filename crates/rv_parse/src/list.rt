@@ -2,10 +2,10 @@
 ghost use Rattle.std.specs.Prelude.{◌≡◌, ◌∷◌, [], List, Option, Some};
 ghost use Rattle.std.specs.Option.{option_copied};
 ghost use Rattle.rv_lang.specs.declared.token.Token.{Token};
-ghost use Rattle.rv_parse.specs.Reading.{Gives, separator_at, list_of};
+ghost use Rattle.rv_parse.specs.Reading.{Gives, separator_at, list_of, enclosed_at};
 
 use crate::fault::ParseFault;
-use crate::parts::{comma, word};
+use crate::parts::{close, comma, open, word};
 use rv_lang::Token;
 use rv_value::Items;
 use std::alloc::Global;
@@ -58,6 +58,27 @@ pub fn list<'a, P: Part>(
         }
     }
     Err(ParseFault::Syntax)
+}
+
+/// One or more parts in parentheses, with commas between them.
+#[tactic(auto, unfolding(crate::specs::Reading::enclosed_at))]
+pub fn enclosed<'a, P: Part>(
+    alloc: Global,
+    tokens: &'a [Token],
+) -> Result<(Items<P>, &'a [Token]), ParseFault>
+    ensures { Gives (λ x. (x.0, x.1.now)) result (enclosed_at P.reads tokens.now) }
+{
+    let Some(rest) = open(tokens) else {
+        return Err(ParseFault::Syntax);
+    };
+    let (parts, rest) = list::<P>(alloc, Separator::Comma, rest)?;
+    match close(rest) {
+        Some(rest) => Ok((parts, rest)),
+        None => {
+            drop(parts);
+            Err(ParseFault::Syntax)
+        }
+    }
 }
 
 /// A list of one item.

@@ -1,5 +1,5 @@
 //! What stands at the front of a list of tokens: a word, a mark, a name, a literal, a column.
-ghost use Rattle.std.specs.Prelude.{◌≡◌, ◌∷◌, List, Some, None, bytes_eq};
+ghost use Rattle.std.specs.Prelude.{◌≡◌, ◌∷◌, List, Some, None, IfOk, bytes_eq};
 ghost use Rattle.std.specs.List.{list_any};
 ghost use Rattle.std.specs.Option.{option_copied, option_map};
 ghost use Rattle.rv_lang.specs.declared.token.Token.{Token as Piece};
@@ -8,7 +8,7 @@ ghost use Rattle.rv_parse.specs.Reading.{Gives, word_at, name_at, integer_at, te
 
 use crate::fault::ParseFault;
 use rv_lang::{RawCol, RawOp, RawOperand, Symbol, Token};
-use rv_value::{Duplicate, SharedText, Text, Value};
+use rv_value::{Duplicate, NoMemory, SharedText, Text, Value};
 use std::alloc::Global;
 
 /// The words that are no names, by their lengths: those of two letters, and so on up to eight.
@@ -79,19 +79,38 @@ pub fn word<'a>(tokens: &'a [Token], word: &str) -> Option<&'a [Token]>
     }
 }
 
-/// A name, and the tokens after it.
-pub fn name<'a>(alloc: Global, tokens: &'a [Token]) -> Result<(Text, &'a [Token]), ParseFault>
-    ensures { Gives (λ x. (x.0, x.1.now)) result (name_at tokens.now) }
+/// The name at the front, and the tokens after it.
+pub fn named(tokens: &[Token]) -> Option<(&Text, &[Token])>
+    ensures { option_map (λ x. (x.0.now, x.1.now)) result ≡ name_at tokens.now }
 {
     match tokens {
         [Token::Word(text), rest @ ..] => {
             if is_keyword(text.as_str()) {
-                return Err(ParseFault::Syntax);
+                None
+            } else {
+                Some((text, rest))
             }
-            Ok((text.copy(alloc)?, rest))
         }
-        _ => Err(ParseFault::Syntax),
+        _ => None,
     }
+}
+
+/// A name, and the tokens after it.
+pub fn name<'a>(alloc: Global, tokens: &'a [Token]) -> Result<(Text, &'a [Token]), ParseFault>
+    ensures { Gives (λ x. (x.0, x.1.now)) result (name_at tokens.now) }
+{
+    let Some((name, rest)) = named(tokens) else {
+        return Err(ParseFault::Syntax);
+    };
+    Ok((name.copy(alloc)?, rest))
+}
+
+/// A copy of a name, and what stands beside it.
+pub fn copied<X: Drop>(alloc: Global, name: &Text, beside: X) -> Result<(Text, X), NoMemory>
+    ensures copy { IfOk result (λ x. x.0 ≡ name.now) }
+    ensures same { IfOk result (λ x. x.1 ≡ beside) }
+{
+    Ok((name.copy(alloc)?, beside))
 }
 
 /// A literal, and the tokens after it.
@@ -128,10 +147,15 @@ fn dot(tokens: &[Token]) -> Option<&[Token]>
 pub fn column<'a>(alloc: Global, tokens: &'a [Token]) -> Result<(RawCol, &'a [Token]), ParseFault>
     ensures { Gives (λ x. (x.0, x.1.now)) result (column_at tokens.now) }
 {
-    let (first, rest) = name(alloc, tokens)?;
+    let Some((first, rest)) = named(tokens) else {
+        return Err(ParseFault::Syntax);
+    };
     match dot(rest) {
         Some(after) => {
-            let (second, rest) = name(alloc, after)?;
+            let Some((second, rest)) = named(after) else {
+                return Err(ParseFault::Syntax);
+            };
+            let (first, second) = copied(alloc, first, second.copy(alloc)?)?;
             Ok((
                 RawCol {
                     table: Some(first),
@@ -143,7 +167,7 @@ pub fn column<'a>(alloc: Global, tokens: &'a [Token]) -> Result<(RawCol, &'a [To
         None => Ok((
             RawCol {
                 table: None,
-                column: first,
+                column: first.copy(alloc)?,
             },
             rest,
         )),
@@ -255,13 +279,6 @@ pub fn semicolon(tokens: &[Token]) -> Option<&[Token]>
         [Token::Symbol(Symbol::Semicolon), rest @ ..] => Some(rest),
         _ => None,
     }
-}
-
-/// What was found, which has to be there.
-pub fn need(found: Option<&[Token]>) -> Result<&[Token], ParseFault>
-    ensures { Gives (λ x. x.now) result (option_copied found.entry) }
-{
-    found.ok_or(ParseFault::Syntax)
 }
 
 /// An integer, and the tokens after it.

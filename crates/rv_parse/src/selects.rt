@@ -5,9 +5,9 @@ ghost use Rattle.rv_parse.specs.Reading.{Gives, column_at, returned_at, item_at,
 use crate::conditions::only;
 use crate::fault::ParseFault;
 use crate::list::{Part, Separator, list};
-use crate::parts::{column, name, need, star, word};
+use crate::parts::{column, copied, named, star, word};
 use rv_lang::{RawCol, RawGoal, Statement, Token};
-use rv_value::{Items, Text};
+use rv_value::{Duplicate, Items, Text};
 use std::alloc::Global;
 
 impl Part for RawCol {
@@ -41,11 +41,15 @@ fn item<'a>(
 ) -> Result<((Text, Option<Text>), &'a [Token]), ParseFault>
     ensures { Gives (λ x. (x.0, x.1.now)) result (item_at tokens.now) }
 {
-    let (table, rest) = name(alloc, tokens)?;
-    match name(alloc, rest) {
-        Ok((second, rest)) => Ok(((table, Some(second)), rest)),
-        Err(ParseFault::NoMemory) => Err(ParseFault::NoMemory),
-        Err(ParseFault::Syntax) => Ok(((table, None), rest)),
+    let Some((table, rest)) = named(tokens) else {
+        return Err(ParseFault::Syntax);
+    };
+    match named(rest) {
+        Some((second, rest)) => {
+            let (table, second) = copied(alloc, table, second.copy(alloc)?)?;
+            Ok(((table, Some(second)), rest))
+        }
+        None => Ok(((table.copy(alloc)?, None), rest)),
     }
 }
 
@@ -66,7 +70,9 @@ fn order<'a>(alloc: Global, tokens: &'a [Token]) -> Result<(Items<RawCol>, &'a [
 {
     match word(tokens, "ORDER") {
         Some(rest) => {
-            let rest = need(word(rest, "BY"))?;
+            let Some(rest) = word(rest, "BY") else {
+                return Err(ParseFault::Syntax);
+            };
             list::<RawCol>(alloc, Separator::Comma, rest)
         }
         None => Ok((Items::new(alloc), tokens)),
@@ -77,15 +83,23 @@ fn order<'a>(alloc: Global, tokens: &'a [Token]) -> Result<(Items<RawCol>, &'a [
 fn named_goal<'a>(tokens: &'a [Token]) -> Result<(RawGoal, &'a [Token]), ParseFault>
     ensures { Gives (λ x. (x.0, x.1.now)) result (named_goal_at tokens.now) }
 {
-    let rest = need(word(tokens, "FOR"))?;
+    let Some(rest) = word(tokens, "FOR") else {
+        return Err(ParseFault::Syntax);
+    };
     match word(rest, "FAST") {
         Some(rest) => {
-            let rest = need(word(rest, "FIRST"))?;
+            let Some(rest) = word(rest, "FIRST") else {
+                return Err(ParseFault::Syntax);
+            };
             Ok((RawGoal::FastFirst, rest))
         }
         None => {
-            let rest = need(word(rest, "TOTAL"))?;
-            let rest = need(word(rest, "TIME"))?;
+            let Some(rest) = word(rest, "TOTAL") else {
+                return Err(ParseFault::Syntax);
+            };
+            let Some(rest) = word(rest, "TIME") else {
+                return Err(ParseFault::Syntax);
+            };
             Ok((RawGoal::TotalTime, rest))
         }
     }
@@ -108,23 +122,69 @@ pub fn open_cursor<'a>(
 ) -> Result<(Statement, &'a [Token]), ParseFault>
     ensures { Gives (λ x. (x.0, x.1.now)) result (open_cursor_at tokens.now) }
 {
-    let (cursor, rest) = name(alloc, tokens)?;
-    let rest = need(word(rest, "SELECT"))?;
+    let Some((cursor, rest)) = named(tokens) else {
+        return Err(ParseFault::Syntax);
+    };
+    let Some(rest) = word(rest, "SELECT") else {
+        return Err(ParseFault::Syntax);
+    };
     let (returned, rest) = returned(alloc, rest)?;
-    let rest = need(word(rest, "FROM"))?;
-    let (items, rest) = list::<(Text, Option<Text>)>(alloc, Separator::Comma, rest)?;
-    let (only, rest) = only(alloc, rest)?;
-    let (order, rest) = order(alloc, rest)?;
-    let (goal, rest) = goal(rest)?;
-    Ok((
-        Statement::Open {
-            cursor,
-            returned,
-            items,
-            only,
-            order,
-            goal,
-        },
-        rest,
-    ))
+    let Some(rest) = word(rest, "FROM") else {
+        drop(returned);
+        return Err(ParseFault::Syntax);
+    };
+    let (items, rest) = match list::<(Text, Option<Text>)>(alloc, Separator::Comma, rest) {
+        Ok(found) => found,
+        Err(fault) => {
+            drop(returned);
+            return Err(fault);
+        }
+    };
+    let (only, rest) = match only(alloc, rest) {
+        Ok(found) => found,
+        Err(fault) => {
+            drop(returned);
+            drop(items);
+            return Err(fault);
+        }
+    };
+    let (order, rest) = match order(alloc, rest) {
+        Ok(found) => found,
+        Err(fault) => {
+            drop(returned);
+            drop(items);
+            drop(only);
+            return Err(fault);
+        }
+    };
+    let (goal, rest) = match goal(rest) {
+        Ok(found) => found,
+        Err(fault) => {
+            drop(returned);
+            drop(items);
+            drop(only);
+            drop(order);
+            return Err(fault);
+        }
+    };
+    match cursor.copy(alloc) {
+        Ok(cursor) => Ok((
+            Statement::Open {
+                cursor,
+                returned,
+                items,
+                only,
+                order,
+                goal,
+            },
+            rest,
+        )),
+        Err(_) => {
+            drop(returned);
+            drop(items);
+            drop(only);
+            drop(order);
+            Err(ParseFault::NoMemory)
+        }
+    }
 }

@@ -4,11 +4,11 @@ ghost use Rattle.rv_parse.specs.Reading.{Gives, name_at, kind_at, column_def_at,
 
 use crate::conditions::only;
 use crate::fault::ParseFault;
-use crate::list::{Part, Separator, list};
-use crate::parts::{close, equal, integer, literal, name, need, open, word};
+use crate::list::{Part, Separator, enclosed, list};
+use crate::parts::{close, copied, equal, integer, literal, name, named, open, word};
 use crate::selects::open_cursor;
 use rv_lang::{RawKind, Statement, Token};
-use rv_value::{Text, Value, Values};
+use rv_value::{Duplicate, Text, Value, Values};
 use std::alloc::Global;
 
 #[tactic(auto, unfolding(crate::specs::Reading::kind_at))]
@@ -18,10 +18,16 @@ fn kind<'a>(tokens: &'a [Token]) -> Result<(RawKind, &'a [Token]), ParseFault>
     match word(tokens, "BIGINT") {
         Some(rest) => Ok((RawKind::Big, rest)),
         None => {
-            let rest = need(word(tokens, "VARCHAR"))?;
-            let rest = need(open(rest))?;
+            let Some(rest) = word(tokens, "VARCHAR") else {
+                return Err(ParseFault::Syntax);
+            };
+            let Some(rest) = open(rest) else {
+                return Err(ParseFault::Syntax);
+            };
             let (n, rest) = integer(rest)?;
-            let rest = need(close(rest))?;
+            let Some(rest) = close(rest) else {
+                return Err(ParseFault::Syntax);
+            };
             Ok((RawKind::Chars(n), rest))
         }
     }
@@ -34,9 +40,11 @@ fn column_def<'a>(
 ) -> Result<((Text, RawKind), &'a [Token]), ParseFault>
     ensures { Gives (λ x. (x.0, x.1.now)) result (column_def_at tokens.now) }
 {
-    let (name, rest) = name(alloc, tokens)?;
+    let Some((name, rest)) = named(tokens) else {
+        return Err(ParseFault::Syntax);
+    };
     let (kind, rest) = kind(rest)?;
-    Ok(((name, kind), rest))
+    Ok(((name.copy(alloc)?, kind), rest))
 }
 
 impl Part for (Text, RawKind) {
@@ -57,10 +65,11 @@ fn create_table<'a>(
 ) -> Result<(Statement, &'a [Token]), ParseFault>
     ensures { Gives (λ x. (x.0, x.1.now)) result (create_table_at tokens.now) }
 {
-    let (name, rest) = name(alloc, tokens)?;
-    let rest = need(open(rest))?;
-    let (columns, rest) = list::<(Text, RawKind)>(alloc, Separator::Comma, rest)?;
-    let rest = need(close(rest))?;
+    let Some((name, rest)) = named(tokens) else {
+        return Err(ParseFault::Syntax);
+    };
+    let (columns, rest) = enclosed::<(Text, RawKind)>(alloc, rest)?;
+    let (name, columns) = copied(alloc, name, columns)?;
     Ok((Statement::CreateTable { name, columns }, rest))
 }
 
@@ -80,22 +89,36 @@ fn create_index<'a>(
 ) -> Result<(Statement, &'a [Token]), ParseFault>
     ensures { Gives (λ x. (x.0, x.1.now)) result (create_index_at unique tokens.now) }
 {
-    let rest = need(word(tokens, "INDEX"))?;
-    let (index, rest) = name(alloc, rest)?;
-    let rest = need(word(rest, "ON"))?;
-    let (table, rest) = name(alloc, rest)?;
-    let rest = need(open(rest))?;
-    let (columns, rest) = list::<Text>(alloc, Separator::Comma, rest)?;
-    let rest = need(close(rest))?;
-    Ok((
-        Statement::CreateIndex {
-            unique,
-            name: index,
-            table,
-            columns,
-        },
-        rest,
-    ))
+    let Some(rest) = word(tokens, "INDEX") else {
+        return Err(ParseFault::Syntax);
+    };
+    let Some((name, rest)) = named(rest) else {
+        return Err(ParseFault::Syntax);
+    };
+    let Some(rest) = word(rest, "ON") else {
+        return Err(ParseFault::Syntax);
+    };
+    let Some((table, rest)) = named(rest) else {
+        return Err(ParseFault::Syntax);
+    };
+    let (columns, rest) = enclosed::<Text>(alloc, rest)?;
+    let (table, columns) = copied(alloc, table, columns)?;
+    match name.copy(alloc) {
+        Ok(name) => Ok((
+            Statement::CreateIndex {
+                unique,
+                name,
+                table,
+                columns,
+            },
+            rest,
+        )),
+        Err(_) => {
+            drop(table);
+            drop(columns);
+            Err(ParseFault::NoMemory)
+        }
+    }
 }
 
 /// An index, with UNIQUE before it or without.
@@ -123,13 +146,18 @@ fn create<'a>(alloc: Global, tokens: &'a [Token]) -> Result<(Statement, &'a [Tok
 fn insert<'a>(alloc: Global, tokens: &'a [Token]) -> Result<(Statement, &'a [Token]), ParseFault>
     ensures { Gives (λ x. (x.0, x.1.now)) result (insert_at tokens.now) }
 {
-    let rest = need(word(tokens, "INTO"))?;
-    let (table, rest) = name(alloc, rest)?;
-    let rest = need(word(rest, "VALUES"))?;
-    let rest = need(open(rest))?;
-    let (values, rest) = list::<Value>(alloc, Separator::Comma, rest)?;
-    let rest = need(close(rest))?;
+    let Some(rest) = word(tokens, "INTO") else {
+        return Err(ParseFault::Syntax);
+    };
+    let Some((table, rest)) = named(rest) else {
+        return Err(ParseFault::Syntax);
+    };
+    let Some(rest) = word(rest, "VALUES") else {
+        return Err(ParseFault::Syntax);
+    };
+    let (values, rest) = enclosed::<Value>(alloc, rest)?;
     let values = Values::of(alloc, values.into_vec())?;
+    let (table, values) = copied(alloc, table, values)?;
     Ok((Statement::Insert { table, values }, rest))
 }
 
@@ -137,9 +165,14 @@ fn insert<'a>(alloc: Global, tokens: &'a [Token]) -> Result<(Statement, &'a [Tok
 fn set<'a>(alloc: Global, tokens: &'a [Token]) -> Result<((Text, Value), &'a [Token]), ParseFault>
     ensures { Gives (λ x. (x.0, x.1.now)) result (set_at tokens.now) }
 {
-    let (name, rest) = name(alloc, tokens)?;
-    let rest = need(equal(rest))?;
+    let Some((name, rest)) = named(tokens) else {
+        return Err(ParseFault::Syntax);
+    };
+    let Some(rest) = equal(rest) else {
+        return Err(ParseFault::Syntax);
+    };
     let (value, rest) = literal(alloc, rest)?;
+    let (name, value) = copied(alloc, name, value)?;
     Ok(((name, value), rest))
 }
 
@@ -158,20 +191,36 @@ impl Part for (Text, Value) {
 fn update<'a>(alloc: Global, tokens: &'a [Token]) -> Result<(Statement, &'a [Token]), ParseFault>
     ensures { Gives (λ x. (x.0, x.1.now)) result (update_at tokens.now) }
 {
-    let (table, rest) = name(alloc, tokens)?;
-    let rest = need(word(rest, "SET"))?;
+    let Some((table, rest)) = named(tokens) else {
+        return Err(ParseFault::Syntax);
+    };
+    let Some(rest) = word(rest, "SET") else {
+        return Err(ParseFault::Syntax);
+    };
     let (sets, rest) = list::<(Text, Value)>(alloc, Separator::Comma, rest)?;
-    let (only, rest) = only(alloc, rest)?;
-    Ok((Statement::Update { table, sets, only }, rest))
+    let (table, sets) = copied(alloc, table, sets)?;
+    match only(alloc, rest) {
+        Ok((only, rest)) => Ok((Statement::Update { table, sets, only }, rest)),
+        Err(fault) => {
+            drop(table);
+            drop(sets);
+            Err(fault)
+        }
+    }
 }
 
 #[tactic(auto, unfolding(crate::specs::Reading::delete_at))]
 fn delete<'a>(alloc: Global, tokens: &'a [Token]) -> Result<(Statement, &'a [Token]), ParseFault>
     ensures { Gives (λ x. (x.0, x.1.now)) result (delete_at tokens.now) }
 {
-    let rest = need(word(tokens, "FROM"))?;
-    let (table, rest) = name(alloc, rest)?;
+    let Some(rest) = word(tokens, "FROM") else {
+        return Err(ParseFault::Syntax);
+    };
+    let Some((table, rest)) = named(rest) else {
+        return Err(ParseFault::Syntax);
+    };
     let (only, rest) = only(alloc, rest)?;
+    let (table, only) = copied(alloc, table, only)?;
     Ok((Statement::Delete { table, only }, rest))
 }
 
@@ -181,7 +230,9 @@ fn begin<'a>(tokens: &'a [Token]) -> Result<(Statement, &'a [Token]), ParseFault
 {
     match word(tokens, "READ") {
         Some(rest) => {
-            let rest = need(word(rest, "ONLY"))?;
+            let Some(rest) = word(rest, "ONLY") else {
+                return Err(ParseFault::Syntax);
+            };
             Ok((Statement::Begin { read_only: true }, rest))
         }
         None => Ok((Statement::Begin { read_only: false }, tokens)),
@@ -219,8 +270,11 @@ fn close_cursor<'a>(
 fn step<'a>(alloc: Global, tokens: &'a [Token]) -> Result<(Statement, &'a [Token]), ParseFault>
     ensures { Gives (λ x. (x.0, x.1.now)) result (step_at tokens.now) }
 {
-    let (cursor, rest) = name(alloc, tokens)?;
+    let Some((cursor, rest)) = named(tokens) else {
+        return Err(ParseFault::Syntax);
+    };
     let (n, rest) = integer(rest)?;
+    let cursor = cursor.copy(alloc)?;
     Ok((Statement::Step { cursor, n }, rest))
 }
 
@@ -236,9 +290,10 @@ fn on_cursor<'a>(alloc: Global, tokens: &'a [Token]) -> Result<(Statement, &'a [
         show(alloc, rest)
     } else if let Some(rest) = word(tokens, "CLOSE") {
         close_cursor(alloc, rest)
-    } else {
-        let rest = need(word(tokens, "STEP"))?;
+    } else if let Some(rest) = word(tokens, "STEP") {
         step(alloc, rest)
+    } else {
+        Err(ParseFault::Syntax)
     }
 }
 

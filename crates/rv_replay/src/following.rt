@@ -12,7 +12,7 @@ use rv_value::NoMemory;
 use std::alloc::Global;
 
 /// What a list of entries is.
-#[derive(Clone, Copy, Debug, PartialEq, Eq)]
+#[derive(Clone, Copy, PartialEq, Eq)]
 pub enum Replayed {
     /// A legal history of the one-thread database.
     Legal,

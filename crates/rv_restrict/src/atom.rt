@@ -5,7 +5,7 @@ use rv_value::{Duplicate, NoMemory, Text, Value, Values};
 use std::alloc::Global;
 
 /// A truth of SQL's three-valued logic. A comparison with NULL is Unknown.
-#[derive(Clone, Copy, Debug, PartialEq, Eq)]
+#[derive(Clone, Copy, PartialEq, Eq)]
 pub enum Tri {
     True,
     False,
@@ -13,14 +13,14 @@ pub enum Tri {
 }
 
 /// A column of a FROM item; `place` is the item's position, from 0.
-#[derive(Clone, Copy, Debug, PartialEq, Eq)]
+#[derive(Clone, Copy, PartialEq, Eq)]
 pub struct ColRef {
     pub place: u32,
     pub column: u32,
 }
 
 /// `=`, `<>`, `<`, `<=`, `>` and `>=`.
-#[derive(Clone, Copy, Debug, PartialEq, Eq)]
+#[derive(Clone, Copy, PartialEq, Eq)]
 pub enum Op {
     Eq,
     Ne,
@@ -31,14 +31,14 @@ pub enum Op {
 }
 
 /// The right side of a comparison.
-#[derive(Drop, Debug, PartialEq, Eq)]
+#[derive(Drop, PartialEq, Eq)]
 pub enum Operand {
     Literal(Value),
     Column(ColRef),
 }
 
 /// A test of one row, or of one choice of rows.
-#[derive(Drop, Debug, PartialEq, Eq)]
+#[derive(Drop, PartialEq, Eq)]
 pub enum Atom {
     Compare {
         column: ColRef,

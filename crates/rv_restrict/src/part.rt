@@ -14,7 +14,7 @@ use std::alloc::Global;
 use std::marker::Model;
 
 /// The groups of a restriction whose columns all lie in an index, with the index's columns.
-#[derive(Drop, Debug)]
+#[derive(Drop)]
 pub struct Part {
     columns: Vec<u32>,
     groups: Vec<Vec<Atom>>,

@@ -35,7 +35,7 @@ impl Reads for Values {
 
 /// A condition on rows: the AND of groups, each of which is the OR of its atoms. Without groups it
 /// is True; a group without atoms is False.
-#[derive(Drop, Debug)]
+#[derive(Drop)]
 pub struct Restriction {
     groups: Vec<Vec<Atom>>,
 }

@@ -66,9 +66,11 @@ fn meets(
 {
     let key = key_of(alloc, row.values.as_slice(), columns)?;
     if has_null(&key) {
+        drop(key);
         return Ok(false);
     }
     if has_entry(alloc, seen, &key)? {
+        drop(key);
         return Ok(true);
     }
     seen.put(IndexEntry { key, row: row.row })?;

@@ -51,11 +51,18 @@ fn closed(alloc: Global, key: &Key) -> Result<Option<Bound>, NoMemory>
 pub fn point(alloc: Global, key: &Key) -> Result<Range, NoMemory>
     ensures { IfOk result (λ range. range ≡ point key.now) }
 {
-    Ok(Range {
-        low: closed(alloc, key)?,
-        high: closed(alloc, key)?,
-        starts: false,
-    })
+    let low = closed(alloc, key)?;
+    match closed(alloc, key) {
+        Ok(high) => Ok(Range {
+            low,
+            high,
+            starts: false,
+        }),
+        Err(fault) => {
+            drop(low);
+            Err(fault)
+        }
+    }
 }
 
 /// A key that is looked for, and the range of the entries that have it: made once for all look-ups of a row.
@@ -71,8 +78,13 @@ impl Sought {
         ensures key { IfOk result (λ sought. sought.key ≡ key) }
         ensures range { IfOk result (λ sought. sought.range ≡ point key) }
     {
-        let range = point(alloc, &key)?;
-        Ok(Sought { key, range })
+        match point(alloc, &key) {
+            Ok(range) => Ok(Sought { key, range }),
+            Err(fault) => {
+                drop(key);
+                Err(fault)
+            }
+        }
     }
 }
 

@@ -113,15 +113,27 @@ pub fn near_of<'a, S: Store + Reader<Ledger = Uncounted>>(
     ensures each { IfOk result (λ near. AllByRecursion (λ o. Freezes (S.shown store.now) o.transaction.now o.view) near.others.items) }
     ensures views { AreViews (S.shown store.now) txns.now.active views.new }
 {
-    let new = rows_of(alloc, new)?;
     let view = views.freeze(store, indexes, own)?;
     let active = txns.actives();
-    let others = others_of(alloc, store, indexes, active, views, own.session, table)?;
-    Ok(Near {
-        table,
-        own,
-        view,
-        new,
-        others,
-    })
+    let others = match others_of(alloc, store, indexes, active, views, own.session, table) {
+        Ok(others) => others,
+        Err(fault) => {
+            drop(view);
+            return Err(fault);
+        }
+    };
+    match rows_of(alloc, new) {
+        Ok(new) => Ok(Near {
+            table,
+            own,
+            view,
+            new,
+            others,
+        }),
+        Err(fault) => {
+            drop(view);
+            drop(others);
+            Err(fault)
+        }
+    }
 }

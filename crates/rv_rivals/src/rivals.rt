@@ -61,7 +61,9 @@ pub fn no_rivals<S: Store + Reader<Ledger = Uncounted>>(
     }
     let unique = unique_over(alloc, indexes, table, new)?;
     let near = near_of(alloc, store, indexes, txns, views, own, table, new)?;
-    test_rows(alloc, store, txns, unique.as_slice(), &near, new)
+    let tested = test_rows(alloc, store, txns, unique.as_slice(), &near, new);
+    drop(near);
+    tested
 }
 
 /// Whether some index is a unique one over a table.
@@ -213,10 +215,13 @@ fn rival_of<S: Store + Reader<Ledger = Uncounted>>(
 {
     let key = key_of(alloc, values.as_slice(), index.columns)?;
     if has_null(&key) {
+        drop(key);
         return Ok(None);
     }
     let sought = Sought::new(alloc, key)?;
-    first_with(alloc, store, txns, index, near, row, &sought)
+    let found = first_with(alloc, store, txns, index, near, row, &sought);
+    drop(sought);
+    found
 }
 
 /// The refusal that shows the first other row with a key, in the order of the places.

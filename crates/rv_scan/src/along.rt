@@ -15,7 +15,7 @@ use std::alloc::Global;
 use std::marker::Model;
 
 /// The leaf that is read next: the first one of the range, one that begins at a cut, or none.
-#[derive(Drop, Debug)]
+#[derive(Drop)]
 pub enum Ahead {
     First,
     From(IndexEntry),

@@ -8,7 +8,7 @@ use rv_restrict::{Restriction, Tri};
 use rv_value::{Record, RowNo};
 
 /// What a step of a scan answers.
-#[derive(Drop, Debug)]
+#[derive(Drop)]
 pub enum Scanned {
     /// The next row.
     Found(Record),

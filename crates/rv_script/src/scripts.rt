@@ -9,7 +9,7 @@ use rv_value::{Items, NoMemory, Text};
 use std::alloc::{AllocError, Global};
 
 /// A call of a session.
-#[derive(Drop, Debug, PartialEq, Eq)]
+#[derive(Drop, PartialEq, Eq)]
 pub struct Line {
     /// From 1 to 8.
     pub session: u8,
@@ -17,7 +17,7 @@ pub struct Line {
 }
 
 /// What stands between two marks `--`: calls of several sessions.
-#[derive(Drop, Debug, PartialEq, Eq)]
+#[derive(Drop, PartialEq, Eq)]
 pub struct Phase {
     /// The judge that begins with this phase; none where the one before goes on.
     pub judge: Option<u8>,
@@ -25,7 +25,7 @@ pub struct Phase {
 }
 
 /// A script's phases, the first of which stands before the first mark.
-#[derive(Drop, Debug, PartialEq, Eq)]
+#[derive(Drop, PartialEq, Eq)]
 pub struct Script {
     pub phases: Items<Phase>,
 }

@@ -1,7 +1,7 @@
 //! Where threads tell how far they are, outside their turns.
 
 /// A place outside the turns.
-#[derive(Clone, Copy, PartialEq, Eq, Debug)]
+#[derive(Clone, Copy, PartialEq, Eq)]
 pub enum Place {
     /// A worker has taken a piece.
     Cut,

@@ -13,7 +13,7 @@ use rv_turn::Work;
 use rv_value::NoMemory;
 
 /// What a worker's first turn comes to.
-#[derive(Drop, Debug)]
+#[derive(Drop)]
 pub enum Cutting {
     /// A piece that is awaited.
     Piece(Piece),

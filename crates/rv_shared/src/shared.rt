@@ -51,7 +51,7 @@ pub struct SharedOpen<C: Served + Send + Drop> {
 }
 
 /// What a worker did.
-#[derive(Clone, Copy, PartialEq, Eq, Debug)]
+#[derive(Clone, Copy, PartialEq, Eq)]
 pub enum Helped {
     /// It sieved a piece and gave it.
     Worked(Given),

@@ -12,7 +12,7 @@ use std::marker::Model;
 use std::mem;
 
 /// A record page of a table, or a node of an index's tree, which a sweep purges.
-#[derive(Clone, Copy, PartialEq, Eq, Debug)]
+#[derive(Clone, Copy, PartialEq, Eq)]
 pub enum Place {
     Page { table: u32, n: u32 },
     Node { index: u32, id: u32 },

@@ -12,7 +12,7 @@ use rv_value::{NoMemory, Text};
 use std::alloc::Global;
 
 /// What is read of a transcript.
-#[derive(Drop, Debug)]
+#[derive(Drop)]
 pub enum TextRead {
     /// The entries of which the bytes are the transcript. Their phases, which a transcript does not tell, are 1.
     Entries(Vec<Entry>),

@@ -20,7 +20,7 @@ use std::alloc::Global;
 use std::marker::Model;
 
 /// Why a call on transactions did nothing.
-#[derive(Drop, Debug, PartialEq, Eq)]
+#[derive(Drop, PartialEq, Eq)]
 pub enum TxnFault {
     Refused(Refusal),
     NoMemory,
@@ -38,7 +38,7 @@ impl From<NoMemory> for TxnFault {
 }
 
 /// What others may know of a session's transaction.
-#[derive(Clone, Copy, Debug, PartialEq, Eq)]
+#[derive(Clone, Copy, PartialEq, Eq)]
 pub struct Standing {
     pub txn: u64,
     pub read_only: bool,

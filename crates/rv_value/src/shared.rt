@@ -7,7 +7,7 @@ use std::sync::Arc;
 
 /// An item that its copies share, for what is large beside what stands in its place more often.
 /// Contracts see the item itself.
-#[derive(Drop, Debug)]
+#[derive(Drop)]
 pub struct Shared<X> {
     item: Arc<X>,
 }

@@ -1,5 +1,5 @@
 /// An option of the program. Each but `--threads` and `--race` takes a value.
-#[derive(Clone, Copy, Debug, PartialEq, Eq)]
+#[derive(Clone, Copy, PartialEq, Eq)]
 pub enum Choice {
     /// `--threads`: the sessions of a phase are threads, and workers beside them.
     Threads,
@@ -17,7 +17,7 @@ pub enum Choice {
 }
 
 /// What accepted words ask.
-#[derive(Clone, Copy, Debug, PartialEq, Eq)]
+#[derive(Clone, Copy, PartialEq, Eq)]
 pub struct Asked {
     /// Whether the sessions of a phase are threads.
     pub threads: bool,

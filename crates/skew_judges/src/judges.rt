@@ -8,7 +8,7 @@ use rv_judge::{Facts, Judge, Verdict};
 
 /// A judge for whoever fetches all rows. It stops the foreground, whose fetches a second list may make needless, and
 /// drops a scan that is likely to cost much more than what is guaranteed without it.
-#[derive(Clone, Copy, Debug, Default)]
+#[derive(Clone, Copy, Default)]
 pub struct AllRows;
 
 impl AllRows {
@@ -30,7 +30,7 @@ impl Judge for AllRows {
 
 /// A judge for whoever wants the first row soon and may fetch all of them. It lets the foreground fetch what is listed
 /// until a row was given or about 48 keys were tried, and then goes on as `AllRows` does.
-#[derive(Clone, Copy, Debug, Default)]
+#[derive(Clone, Copy, Default)]
 pub struct FirstRows;
 
 impl FirstRows {

@@ -1,2 +1,4 @@
 pub mod Asks
 pub mod Drives
+pub mod Plans
+pub mod Selects

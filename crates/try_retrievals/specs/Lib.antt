@@ -1,3 +1,5 @@
-pub mod Standing
 pub mod Asking
 pub mod Driving
+pub mod Planning
+pub mod Selecting
+pub mod Standing

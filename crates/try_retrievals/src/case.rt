@@ -63,8 +63,7 @@ fn retrieve<R: Reader<Ledger = Uncounted>>(
         | Ruling::EndsSecond
         | Ruling::DropsThenStops
         | Ruling::EndsFourth
-        | Ruling::DropsThird
-        | Ruling::DropsSecond => Box::new(alloc, Listed::new(verdicts(alloc, ruling)?))?,
+        | Ruling::DropsThird => Box::new(alloc, Listed::new(verdicts(alloc, ruling)?))?,
     };
     let query = query(alloc, table, asked)?;
     let mut steps = Steps::new(Uncounted);

@@ -17,7 +17,6 @@ use rv_loading::Fault;
 use rv_plain::Plain;
 use rv_reader::{Reader, Store};
 use rv_search::find;
-use rv_store::Paged;
 use rv_value::{Items, NoMemory, RowNo};
 use std::alloc::Global;
 
@@ -245,23 +244,6 @@ fn add_loaded<S: Store + Reader<Ledger = Uncounted>>(
     done
 }
 
-fn add_over<S: Store + Reader<Ledger = Uncounted> + Drop>(
-    alloc: Global,
-    store: S,
-    rows: u64,
-    filling: Filling,
-    of: &str,
-    cases: &[Case],
-    lines: &mut Vec<String>,
-) -> Result<(), Fault>
-    requires { IsEmpty (S.shown store) }
-{
-    let mut store = store;
-    let done = add_loaded(alloc, &mut store, rows, filling, of, cases, lines);
-    drop(store);
-    done
-}
-
 /// The lines of some cases over a plain store of so many rows. The name of each begins with `of`.
 pub fn add_plain(
     alloc: Global,
@@ -271,19 +253,8 @@ pub fn add_plain(
     cases: &[Case],
     lines: &mut Vec<String>,
 ) -> Result<(), Fault> {
-    let store = Plain::new(alloc)?;
-    add_over(alloc, store, rows, filling, of, cases, lines)
-}
-
-/// The same over a paged store.
-pub fn add_paged(
-    alloc: Global,
-    rows: u64,
-    filling: Filling,
-    of: &str,
-    cases: &[Case],
-    lines: &mut Vec<String>,
-) -> Result<(), Fault> {
-    let store = Paged::new(alloc)?;
-    add_over(alloc, store, rows, filling, of, cases, lines)
+    let mut store = Plain::new(alloc)?;
+    let done = add_loaded(alloc, &mut store, rows, filling, of, cases, lines);
+    drop(store);
+    done
 }

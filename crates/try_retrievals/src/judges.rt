@@ -21,8 +21,6 @@ pub enum Ruling {
     EndsFourth,
     /// It drops the scans at the third and the fourth.
     DropsThird,
-    /// It drops the scan at the second.
-    DropsSecond,
 }
 
 impl Ruling {
@@ -36,7 +34,6 @@ impl Ruling {
             Ruling::DropsThenStops => "drops, then stops",
             Ruling::EndsFourth => "ends fourth",
             Ruling::DropsThird => "drops third",
-            Ruling::DropsSecond => "drops second",
         }
     }
 }
@@ -62,7 +59,6 @@ pub fn verdicts(alloc: Global, ruling: Ruling) -> Result<Vec<Verdict>, NoMemory>
             Verdict::AbandonScan,
             Verdict::AbandonScan,
         ]?),
-        Ruling::DropsSecond => Ok(vec![in alloc; Verdict::Continue, Verdict::AbandonScan]?),
     }
 }
 

@@ -3,20 +3,17 @@ ghost use Rattle.std.specs.Prelude.{◌≡◌, IfOk, length};
 ghost use Rattle.rv_loading.specs.Laid.{IsEmpty};
 ghost use Rattle.try_retrievals.specs.Standing.{Stands};
 
-use rv_loading::{Fault, Loaded, Schema, fill, index_over};
+use rv_loading::{Fault, Loaded, Over, Schema, fill, index_over};
 use rv_reader::{Change, Store};
 use rv_value::{NoMemory, RowNo, Value, Values};
 use std::alloc::Global;
 
-/// What the second and the third column have.
+/// What the second column has.
 #[derive(Clone, Copy)]
 pub enum Filling {
-    /// The row's number, and a number below 50 or NULL.
+    /// The row's number.
     Same,
-    /// 0, and a number below 50 or NULL.
     Zero,
-    /// The row's number, and its remainder by 4.
-    Fourths,
 }
 
 /// NULL in each eleventh row, else a number below 50.
@@ -28,26 +25,19 @@ fn mixed(row: u64) -> Value {
     }
 }
 
-fn third(row: u64, filling: Filling) -> Value {
-    match filling {
-        Filling::Same | Filling::Zero => mixed(row),
-        Filling::Fourths => Value::Int((row % 4) as i64),
-    }
-}
-
-/// The values of a row below a million. The first is its number.
+/// The values of a row below a million. The first is its number, and the third NULL in each eleventh row, else a number below 50.
 pub fn values_of(alloc: Global, row: u64, filling: Filling) -> Result<Values, NoMemory>
     ensures { IfOk result (λ values. length values ≡ 3) }
 {
     let number = Value::Int((row % 1_000_000) as i64);
     let second = match filling {
-        Filling::Same | Filling::Fourths => Value::Int((row % 1_000_000) as i64),
+        Filling::Same => Value::Int((row % 1_000_000) as i64),
         Filling::Zero => Value::Int(0),
     };
     let mut values = Vec::with_capacity(alloc, 3)?;
     values.push(number)?;
     values.push(second)?;
-    values.push(third(row, filling))?;
+    values.push(mixed(row))?;
     Values::of(alloc, values)
 }
 
@@ -77,11 +67,20 @@ fn batches(alloc: Global, rows: u64, filling: Filling) -> Result<Vec<Vec<Change>
 /// A table of three columns, with indexes over the first, the second, the third and the first, and the third.
 fn new_schema(alloc: Global) -> Result<Schema, NoMemory> {
     let mut indexes = Vec::with_capacity(alloc, 4)?;
-    indexes.push(index_over(alloc, 0, &[0])?)?;
-    indexes.push(index_over(alloc, 0, &[1])?)?;
-    indexes.push(index_over(alloc, 0, &[2, 0])?)?;
-    indexes.push(index_over(alloc, 0, &[2])?)?;
+    'indexes: for number in 0..4u32 {
+        indexes.push(over(alloc, number)?)?;
+    }
     Ok(Schema::new(3, indexes))
+}
+
+/// What the index of a number is over.
+fn over(alloc: Global, number: u32) -> Result<Over, NoMemory> {
+    match number {
+        0 => index_over(alloc, 0, &[0]),
+        1 => index_over(alloc, 0, &[1]),
+        2 => index_over(alloc, 0, &[2, 0]),
+        _ => index_over(alloc, 0, &[2]),
+    }
 }
 
 /// What was loaded into a store: the table of so many rows.

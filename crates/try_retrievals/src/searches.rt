@@ -1,6 +1,6 @@
 //! Searches whose reads are known from hand.
 use crate::asked::{ANY, Asked, Span};
-use crate::cases::{Case, Kind, add_paged, add_plain};
+use crate::cases::{Case, Kind, add_plain};
 use crate::load::Filling;
 use rv_loading::Fault;
 use std::alloc::Global;
@@ -37,15 +37,13 @@ const BY_PAGES: Asked = Asked {
     ..THREE
 };
 
-/// Of forty rows in a paged store.
-const FORTY: [Case; 1] = [Case {
-    name: "short range",
-    asked: THREE,
-    kind: Kind::Search { patient: false },
-}];
-
 /// Of eighty rows whose second value is the first.
-const EIGHTY: [Case; 4] = [
+const EIGHTY: [Case; 5] = [
+    Case {
+        name: "short range",
+        asked: THREE,
+        kind: Kind::Search { patient: false },
+    },
     Case {
         name: "two lists",
         asked: BOTH,
@@ -70,6 +68,5 @@ const EIGHTY: [Case; 4] = [
 
 /// The lines of the searches.
 pub fn add_searches(alloc: Global, lines: &mut Vec<String>) -> Result<(), Fault> {
-    add_paged(alloc, 40, Filling::Zero, "search, ", &FORTY, lines)?;
     add_plain(alloc, 80, Filling::Same, "search, ", &EIGHTY, lines)
 }

@@ -1,6 +1,6 @@
 //! Single retrievals whose reads are known from hand.
 use crate::asked::{ANY, Asked, Span};
-use crate::cases::{Case, Kind, add_paged, add_plain};
+use crate::cases::{Case, Kind, add_plain};
 use crate::drive::Way;
 use crate::judges::Ruling;
 use crate::load::Filling;
@@ -33,27 +33,6 @@ const ALL_SOON: Asked = Asked {
     ..SOON
 };
 
-/// The first value is from 10 to 29, and the first rows are wanted soon.
-const TWENTY_SOON: Asked = Asked {
-    first: Some(Span { low: 10, high: 29 }),
-    ..SOON
-};
-
-/// The first value is from 20 to 22.
-const THREE: Asked = Asked {
-    first: Some(Span { low: 20, high: 22 }),
-    goal: Goal2::TotalTime,
-    ..SOON
-};
-
-/// The second value is from 10 to 29, in the order of the third column.
-const TWENTY_SORTED: Asked = Asked {
-    second: Some(Span { low: 10, high: 29 }),
-    uses: [false, true, false, true],
-    sorted: true,
-    ..ANY
-};
-
 /// All rows are in the span, and an index has the columns needed.
 const ALL_BY_INDEX: Asked = Asked {
     first: Some(Span {
@@ -65,19 +44,7 @@ const ALL_BY_INDEX: Asked = Asked {
     ..ANY
 };
 
-/// The first value is at least 10 and the third at least 1, and two indexes may race.
-const TWO: Asked = Asked {
-    first: Some(Span {
-        low: 10,
-        high: 9223372036854775807,
-    }),
-    third: Some(Span { low: 1, high: 3 }),
-    uses: [true, false, false, true],
-    race: true,
-    ..ANY
-};
-
-pub const NO_STEP: Way = Way {
+const NO_STEP: Way = Way {
     steps: 0,
     late: 0,
     times: 1,
@@ -90,14 +57,6 @@ const AFTER_FOUR: Way = Way {
     late: 0,
     times: 1,
     after: Some(4),
-};
-
-/// Nine background steps after the third row, and no others.
-const AFTER_THREE: Way = Way {
-    steps: 9,
-    late: 0,
-    times: 1,
-    after: Some(3),
 };
 
 /// Of eighty rows whose second value is the first.
@@ -147,70 +106,9 @@ const FULL: [Case; 2] = [
     },
 ];
 
-/// Of forty rows in a paged store. The index over the first column has leaves of 16 and 24 entries.
-const PAGED_FORTY: [Case; 4] = [
-    Case {
-        name: "fast first borrows",
-        asked: TWENTY_SOON,
-        kind: Kind::Single(Ruling::Patient, AFTER_FOUR),
-    },
-    Case {
-        name: "threshold drops",
-        asked: TWENTY_SOON,
-        kind: Kind::Single(Ruling::Threshold, AFTER_FOUR),
-    },
-    Case {
-        name: "contrary stops",
-        asked: TWENTY_SOON,
-        kind: Kind::Single(Ruling::Contrary, AFTER_FOUR),
-    },
-    Case {
-        name: "short range",
-        asked: THREE,
-        kind: Kind::Single(Ruling::Threshold, NO_STEP),
-    },
-];
-
-/// Of forty rows in a paged store, with third values from 0 to 3.
-const PAGED_SORTED: [Case; 1] = [Case {
-    name: "list into sorted",
-    asked: TWENTY_SORTED,
-    kind: Kind::Single(Ruling::Patient, AFTER_THREE),
-}];
-
-/// Of 1,100 rows in a paged store. The index over the first column has 67 leaves of 16 entries and one of 28.
-const PAGED_FULL: [Case; 1] = [Case {
-    name: "full buffer",
-    asked: ALL_SOON,
-    kind: Kind::Single(Ruling::Patient, NO_STEP),
-}];
-
-/// Of forty rows in a paged store, of which thirty have a third value of at least 1.
-const PAGED_RACES: [Case; 3] = [
-    Case {
-        name: "race",
-        asked: TWO,
-        kind: Kind::Single(Ruling::Patient, NO_STEP),
-    },
-    Case {
-        name: "race drops",
-        asked: TWO,
-        kind: Kind::Single(Ruling::DropsSecond, NO_STEP),
-    },
-    Case {
-        name: "race loses",
-        asked: TWO,
-        kind: Kind::Single(Ruling::Threshold, NO_STEP),
-    },
-];
-
 /// The lines of the single retrievals.
 pub fn add_singles(alloc: Global, lines: &mut Vec<String>) -> Result<(), Fault> {
     add_plain(alloc, 80, Filling::Same, "", &TWO_LISTS, lines)?;
     add_plain(alloc, 80, Filling::Zero, "", &FIRST_ROWS, lines)?;
-    add_plain(alloc, 1100, Filling::Zero, "", &FULL, lines)?;
-    add_paged(alloc, 40, Filling::Zero, "paged, ", &PAGED_FORTY, lines)?;
-    add_paged(alloc, 40, Filling::Fourths, "paged, ", &PAGED_SORTED, lines)?;
-    add_paged(alloc, 1100, Filling::Zero, "paged, ", &PAGED_FULL, lines)?;
-    add_paged(alloc, 40, Filling::Fourths, "paged, ", &PAGED_RACES, lines)
+    add_plain(alloc, 1100, Filling::Zero, "", &FULL, lines)
 }

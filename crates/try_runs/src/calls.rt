@@ -28,6 +28,9 @@ pub const THIRD: Reading = Reading {
     after: 28,
 };
 
+/// What a test ends with where no memory was found.
+pub const NO_MEMORY: &str = "no memory";
+
 /// What is left goes, with all that it holds. A function of any type calls its drop, and sees none of its parts: a core has so
 /// many that what their cases cost is minutes of the prover.
 pub fn leave<T: Drop>(_left: T) {}
@@ -72,41 +75,11 @@ pub fn make_often<S: Store + Reader<Ledger = Uncounted> + Drop>(
     Ok(again)
 }
 
-/// The rows of a table, by their numbers.
-#[derive(Clone, Copy)]
-pub enum Rows {
-    /// Of T: the number, and 0.
-    Numbers,
-    /// Of S: the rest of the number by 4, and the number.
-    Rests,
+fn row_text(alloc: Global, number: u32) -> Result<String, NoMemory> {
+    Ok(format!(in alloc; "INSERT INTO T VALUES ({number}, 0)")?)
 }
 
-fn row_text(alloc: Global, rows: Rows, number: u32) -> Result<String, NoMemory> {
-    let rest = number % 4;
-    match rows {
-        Rows::Numbers => Ok(format!(in alloc; "INSERT INTO T VALUES ({number}, 0)")?),
-        Rows::Rests => Ok(format!(in alloc; "INSERT INTO S VALUES ({rest}, {number})")?),
-    }
-}
-
-/// Makes a table by its statements, with the rows of the numbers below a count; how many calls were made again.
-fn load<S: Store + Reader<Ledger = Uncounted> + Drop>(
-    alloc: Global,
-    core: &mut Core<S>,
-    statements: &[&str],
-    rows: Rows,
-    count: u32,
-) -> Result<u32, NoMemory> {
-    let mut again = make_all(core, statements)?;
-    for number in 0..count {
-        let text = row_text(alloc, rows, number)?;
-        again = again.saturating_add(make(core, text.as_str())?);
-    }
-    let more = make_all(core, &["COMMIT", "BEGIN READ ONLY"])?;
-    Ok(again.saturating_add(more))
-}
-
-/// Makes the table T of the numbers below a count, with an index of them; how many calls were made again.
+/// Makes the table T of the numbers below a count, with an index of them, and begins; how many calls were made again.
 pub fn fill<S: Store + Reader<Ledger = Uncounted> + Drop>(
     alloc: Global,
     core: &mut Core<S>,
@@ -117,22 +90,13 @@ pub fn fill<S: Store + Reader<Ledger = Uncounted> + Drop>(
         "CREATE INDEX IA ON T (A)",
         "BEGIN",
     ];
-    load(alloc, core, &statements, Rows::Numbers, count)
-}
-
-/// Makes the table S of forty rows, with an index of each column.
-pub fn fill_rests<S: Store + Reader<Ledger = Uncounted> + Drop>(
-    alloc: Global,
-    core: &mut Core<S>,
-) -> Result<(), NoMemory> {
-    let statements = [
-        "CREATE TABLE S (A BIGINT, B BIGINT)",
-        "CREATE INDEX IA ON S (A)",
-        "CREATE INDEX IB ON S (B)",
-        "BEGIN",
-    ];
-    load(alloc, core, &statements, Rows::Rests, 40)?;
-    Ok(())
+    let mut again = make_all(core, &statements)?;
+    for number in 0..count {
+        let text = row_text(alloc, number)?;
+        again = again.saturating_add(make(core, text.as_str())?);
+    }
+    let more = make_all(core, &["COMMIT", "BEGIN READ ONLY"])?;
+    Ok(again.saturating_add(more))
 }
 
 /// Makes a reading's table and calls; how many were made again.

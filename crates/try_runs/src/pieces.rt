@@ -1,5 +1,5 @@
 //! Pieces that leave the core: taken twice, given late, given after the cursor is gone, and given to another core.
-use crate::calls::{ends_with, fill, gives_row, leave, make};
+use crate::calls::{NO_MEMORY, ends_with, fill, gives_row, leave, make};
 use rv_core::Core;
 use rv_jscan::{Given, Piece, PieceId, Taken, sieve};
 use rv_judge::{Judge, Patient, Steps, Threshold, Uncounted};
@@ -15,7 +15,7 @@ fn core_under(alloc: Global, judge: Box<dyn Judge>) -> Result<Core<Paged>, NoMem
 }
 
 /// The same under a judge that drops nothing.
-fn patient(alloc: Global) -> Result<Core<Paged>, NoMemory> {
+pub fn patient(alloc: Global) -> Result<Core<Paged>, NoMemory> {
     let judge: Box<dyn Judge> = Box::new(alloc, Patient::new())?;
     core_under(alloc, judge)
 }
@@ -97,26 +97,28 @@ fn stale(now: Option<PieceId>) -> Option<Given> {
 fn late<S: Store + Reader<Ledger = Uncounted> + Drop>(
     alloc: Global,
     core: &mut Core<S>,
+    out: &mut Vec<Piece>,
 ) -> Result<bool, NoMemory> {
-    let mut out = Vec::new(alloc);
     open(alloc, core)?;
-    let all = take(core, &mut out)? && take(core, &mut out)? && take(core, &mut out)?;
-    let accepted = give(core, &mut out)? == Some(Given::Accepted);
-    let again = give(core, &mut out)? == stale(Some(id(1, 1, 2)));
+    let all = take(core, out)? && take(core, out)? && take(core, out)?;
+    let accepted = give(core, out)? == Some(Given::Accepted);
+    let again = give(core, out)? == stale(Some(id(1, 1, 2)));
     let rows = left(core)? == 20;
     make(core, "CLOSE C")?;
     reopen(core)?;
-    let gone = give(core, &mut out)? == stale(None);
-    let next = take(core, &mut out)? && out.first().is_some_and(|piece| piece.id() == id(2, 1, 1));
+    let gone = give(core, out)? == stale(None);
+    let next = take(core, out)? && out.first().is_some_and(|piece| piece.id() == id(2, 1, 1));
     Ok(all && accepted && again && rows && gone && next)
 }
 
 #[test]
 fn late_pieces_are_stale(rt: HostRuntime) -> Result<(), Fail> {
-    let mut core = patient(rt.alloc())?;
-    let stale = late(rt.alloc(), &mut core);
+    let mut core = patient(rt.alloc()).or(Err(NO_MEMORY))?;
+    let mut out = Vec::new(rt.alloc());
+    let stale = late(rt.alloc(), &mut core, &mut out);
+    leave(out);
     leave(core);
-    assert!(rt; stale?);
+    assert!(rt; stale.or(Err(NO_MEMORY))?);
     Ok(())
 }
 
@@ -125,18 +127,20 @@ fn ended<S: Store + Reader<Ledger = Uncounted> + Drop>(
     alloc: Global,
     core: &mut Core<S>,
     text: &str,
+    out: &mut Vec<Piece>,
 ) -> Result<bool, NoMemory> {
-    let mut out = Vec::new(alloc);
     open(alloc, core)?;
-    let taken = take(core, &mut out)?;
+    let taken = take(core, out)?;
     make(core, text)?;
-    Ok(taken && give(core, &mut out)? == stale(None))
+    Ok(taken && give(core, out)? == stale(None))
 }
 
 /// Whether it is stale then.
 fn is_ended_by(alloc: Global, text: &str) -> Result<bool, NoMemory> {
     let mut core = patient(alloc)?;
-    let stale = ended(alloc, &mut core, text);
+    let mut out = Vec::new(alloc);
+    let stale = ended(alloc, &mut core, text, &mut out);
+    leave(out);
     leave(core);
     stale
 }
@@ -144,7 +148,7 @@ fn is_ended_by(alloc: Global, text: &str) -> Result<bool, NoMemory> {
 #[test]
 fn pieces_of_a_cursor_that_is_gone_are_stale(rt: HostRuntime) -> Result<(), Fail> {
     for text in ["CLOSE C", "COMMIT", "ROLLBACK"] {
-        assert!(rt; is_ended_by(rt.alloc(), text)?, "{text}");
+        assert!(rt; is_ended_by(rt.alloc(), text).or(Err(NO_MEMORY))?, "{text}");
     }
     Ok(())
 }
@@ -153,14 +157,14 @@ fn pieces_of_a_cursor_that_is_gone_are_stale(rt: HostRuntime) -> Result<(), Fail
 fn dropped<S: Store + Reader<Ledger = Uncounted> + Drop>(
     alloc: Global,
     core: &mut Core<S>,
+    out: &mut Vec<Piece>,
 ) -> Result<bool, NoMemory> {
-    let mut out = Vec::new(alloc);
     open(alloc, core)?;
-    let taken = take(core, &mut out)?;
+    let taken = take(core, out)?;
     make(core, "FETCH C")?;
     let first = ends_with(alloc, core.history(), 1, "2 FETCH C\n= row 10, 0\n")?;
-    let late = give(core, &mut out)? == stale(None);
-    let none = !take(core, &mut out)?;
+    let late = give(core, out)? == stale(None);
+    let none = !take(core, out)?;
     let rows = left(core)? == 19;
     Ok(taken && first && late && none && rows)
 }
@@ -168,10 +172,12 @@ fn dropped<S: Store + Reader<Ledger = Uncounted> + Drop>(
 #[test]
 fn a_piece_of_a_scan_that_was_dropped_is_stale(rt: HostRuntime) -> Result<(), Fail> {
     let judge: Box<dyn Judge> = Box::new(rt.alloc(), Threshold::new())?;
-    let mut core = core_under(rt.alloc(), judge)?;
-    let stale = dropped(rt.alloc(), &mut core);
+    let mut core = core_under(rt.alloc(), judge).or(Err(NO_MEMORY))?;
+    let mut out = Vec::new(rt.alloc());
+    let stale = dropped(rt.alloc(), &mut core, &mut out);
+    leave(out);
     leave(core);
-    assert!(rt; stale?);
+    assert!(rt; stale.or(Err(NO_MEMORY))?);
     Ok(())
 }
 
@@ -180,15 +186,15 @@ fn elsewhere<S: Store + Reader<Ledger = Uncounted> + Drop>(
     alloc: Global,
     here: &mut Core<S>,
     there: &mut Core<S>,
+    out: &mut Vec<Piece>,
+    own: &mut Vec<Piece>,
 ) -> Result<bool, NoMemory> {
-    let mut out = Vec::new(alloc);
-    let mut own = Vec::new(alloc);
     open(alloc, here)?;
     open(alloc, there)?;
-    let two = take(here, &mut out)? && take(here, &mut out)?;
-    let early = give(there, &mut out)? == stale(Some(id(1, 1, 1)));
-    let taken = take(there, &mut own)?;
-    let accepted = give(there, &mut out)? == Some(Given::Accepted);
+    let two = take(here, out)? && take(here, out)?;
+    let early = give(there, out)? == stale(Some(id(1, 1, 1)));
+    let taken = take(there, own)?;
+    let accepted = give(there, out)? == Some(Given::Accepted);
     let rows = left(there)? == 20;
     Ok(two && early && taken && accepted && rows)
 }
@@ -198,7 +204,11 @@ fn is_taken_elsewhere(alloc: Global) -> Result<bool, NoMemory> {
     let mut here = patient(alloc)?;
     match patient(alloc) {
         Ok(mut there) => {
-            let taken = elsewhere(alloc, &mut here, &mut there);
+            let mut out = Vec::new(alloc);
+            let mut own = Vec::new(alloc);
+            let taken = elsewhere(alloc, &mut here, &mut there, &mut out, &mut own);
+            leave(own);
+            leave(out);
             leave(there);
             leave(here);
             taken
@@ -212,6 +222,6 @@ fn is_taken_elsewhere(alloc: Global) -> Result<bool, NoMemory> {
 
 #[test]
 fn another_core_takes_a_piece_by_its_content(rt: HostRuntime) -> Result<(), Fail> {
-    assert!(rt; is_taken_elsewhere(rt.alloc())?);
+    assert!(rt; is_taken_elsewhere(rt.alloc()).or(Err(NO_MEMORY))?);
     Ok(())
 }

@@ -1,5 +1,5 @@
 //! A query over a store of which one call is refused, each in turn, where the core's call is made again.
-use crate::calls::{THIRD, leave, read};
+use crate::calls::{NO_MEMORY, THIRD, leave, read};
 use rv_core::Core;
 use rv_judge::{Judge, Patient, Uncounted};
 use rv_lang::Reply;
@@ -52,7 +52,7 @@ fn over_refusing(alloc: Global, number: u32) -> Result<Option<u32>, NoMemory> {
 fn a_refused_call_of_the_store_leaves_the_rows(rt: HostRuntime) -> Result<(), Fail> {
     let mut again = 0u32;
     for number in 1..140u32 {
-        let more = over_refusing(rt.alloc(), number)?;
+        let more = over_refusing(rt.alloc(), number).or(Err(NO_MEMORY))?;
         assert!(rt; more.is_some(), "call {number}");
         again = again.saturating_add(more.unwrap_or(0));
     }

@@ -1,5 +1,5 @@
 //! UPDATE over a store that refuses calls: its rows are found by an index, and no page is read.
-use crate::calls::{ends_with, fill, leave, make_all};
+use crate::calls::{NO_MEMORY, ends_with, fill, leave, make_all};
 use rv_core::Core;
 use rv_judge::{Judge, Patient, Uncounted};
 use rv_plain::{Plain, Refusing};
@@ -45,6 +45,6 @@ fn an_update_by_an_index_reads_no_page(rt: HostRuntime) -> Result<(), Fail> {
     for call in 1124u32..1181 {
         fails.push(call)?;
     }
-    assert!(rt; updates_over(alloc, fails)?);
+    assert!(rt; updates_over(alloc, fails).or(Err(NO_MEMORY))?);
     Ok(())
 }

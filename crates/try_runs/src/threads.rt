@@ -2,12 +2,12 @@
 //! the worker has it.
 ghost use Rattle.std.specs.Prelude.{◌≡◌};
 
-use crate::calls::leave;
+use crate::calls::{NO_MEMORY, leave};
 use rv_io::{MemSink, MemSource, Sink};
 use rv_judge::{Contrary, Judge, Patient, Threshold, Uncounted};
 use rv_reader::{Reader, Store};
 use rv_run::{Ran, Status, run};
-use rv_shared::{Gate, OpenGate, Place};
+use rv_shared::{Gate, Place};
 use rv_store::Paged;
 use rv_value::{NoMemory, Text};
 use std::alloc::Global;
@@ -198,20 +198,10 @@ fn a_piece_is_worked_on_while_a_session_is_answered(rt: HostRuntime) -> Result<(
         alloc,
         "--threads --workers 1 --judge 1 --steps 0",
         &gate,
-    )?;
+    )
+    .or(Err(NO_MEMORY))?;
     assert_eq!(rt; status, Status::Done);
     assert_eq!(rt; gate.failed.load(Ordering::SeqCst), 0);
-    assert!(rt; has_all_rows(alloc, written.as_slice())?);
-    Ok(())
-}
-
-#[test]
-fn without_workers_all_rows_come_too(rt: HostRuntime) -> Result<(), Fail> {
-    let alloc: Global = rt.alloc();
-    for line in ["--threads --workers 0", "--threads --workers 8 --judge 1"] {
-        let (status, written) = told(&rt, alloc, line, &OpenGate)?;
-        assert_eq!(rt; status, Status::Done);
-        assert!(rt; has_all_rows(alloc, written.as_slice())?);
-    }
+    assert!(rt; has_all_rows(alloc, written.as_slice()).or(Err(NO_MEMORY))?);
     Ok(())
 }

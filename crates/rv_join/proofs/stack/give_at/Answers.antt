@@ -19,3 +19,12 @@ returns-clause-plans g c = list_plans c.args.levels.now.items c.args.at c.index_
 
 pub returns-clause-lowers : goal.returns-clause-lowers
 returns-clause-lowers g c = λ a shown all. levels_lower c.give.result a shown c.args.levels.now.items c.args.at c.index_mut.result.now c.give.new.self c.requires.at all c.index_mut.ensures.value c.give.ensures.keeps c.give.ensures.spends
+
+pub returns-clause-stays_rule : goal.returns-clause-stays_rule
+returns-clause-stays_rule g c = c.give.ensures.stays
+
+pub returns-clause-quiet : goal.returns-clause-quiet
+returns-clause-quiet g c = c.give.ensures.quiet
+
+pub returns-clause-reads : goal.returns-clause-reads
+returns-clause-reads g c = c.give.ensures.reads

@@ -13,21 +13,21 @@ use Rattle.rv_rivals.proofs.Nearing.{all_both, can_test, others_can, own_has}
 use Rattle.rv_rivals.proofs.Neighbours.{assembled, none_over, none_unique}
 use Rattle.rv_rivals.proofs.rivals.no_rivals.Goals as goal
 
-pub test_rows-requires-clause-others : goal.test_rows-requires-clause-others
-test_rows-requires-clause-others g c =
+pub test_rows-tested-requires-clause-others : goal.test_rows-tested-requires-clause-others
+test_rows-tested-requires-clause-others g c =
     others_can (g.S.Reader.shown c.args.store.now) c.args.indexes.now c.args.table c.args.own.now.session c.args.txns.now.active (λ (o : Other). o.transaction.now) (λ (o : Other). o.view) c.in_ok-near.near.others.items
     c.requires.active c.in_ok-near.ensures.others c.in_ok-near.ensures.each
 
-pub test_rows-requires-clause-of_table : goal.test_rows-requires-clause-of_table
-test_rows-requires-clause-of_table g c = subst (λ n. AllByRecursion (λ (x : Change). x.table ≡ n) c.args.new.now) (sym c.in_ok-near.ensures.table) c.requires.of_table
+pub test_rows-tested-requires-clause-of_table : goal.test_rows-tested-requires-clause-of_table
+test_rows-tested-requires-clause-of_table g c = subst (λ n. AllByRecursion (λ (x : Change). x.table ≡ n) c.args.new.now) (sym c.in_ok-near.ensures.table) c.requires.of_table
 
-pub test_rows-requires-clause-entries : goal.test_rows-requires-clause-entries
-test_rows-requires-clause-entries g c =
+pub test_rows-tested-requires-clause-entries : goal.test_rows-tested-requires-clause-entries
+test_rows-tested-requires-clause-entries g c =
     subst (λ us. AllByRecursion (λ (u : Unique). u.entries ≡ entries_written u.columns.now c.in_ok-near.near.table c.args.new.now) us) (sym c.as_slice.ensures.value)
     (subst (λ n. AllByRecursion (λ (u : Unique). u.entries ≡ entries_written u.columns.now n c.args.new.now) c.in_ok-unique.unique.items) (sym c.in_ok-near.ensures.table) c.in_ok-unique.ensures.entries)
 
-pub test_rows-requires-clause-can : goal.test_rows-requires-clause-can
-test_rows-requires-clause-can g c =
+pub test_rows-tested-requires-clause-can : goal.test_rows-tested-requires-clause-can
+test_rows-tested-requires-clause-can g c =
     let shown = g.S.Reader.shown c.args.store.now in
     let are = (own_has (λ t. CanView shown c.args.indexes.now t []) c.args.txns.now.active c.args.own.now c.requires.placed c.requires.active).indexed in
     let here = all_both (λ (u : Unique). IsPlace c.args.indexes.now c.args.table u.number u.columns.now) (λ (u : Unique). u.entries ≡ entries_written u.columns.now c.args.table c.args.new.now) (λ (u : Unique). CanTest shown c.args.table u.number u.columns.now c.args.own.now c.in_ok-near.near.view u.entries)
@@ -47,11 +47,11 @@ returns-then-not-has_unique-clause-ok g c = elim (cases_Bool c.has_unique.result
 ]
 
 pub returns-clause-ok : goal.returns-clause-ok
-returns-clause-ok g c = on_ok_weaker c.test_rows.result (λ k.
+returns-clause-ok g c = on_ok_weaker c.test_rows-tested.result (λ k.
     sym (assembled (g.S.Reader.shown c.args.store.now) c.args.txns.now c.args.own.now c.in_ok-near.near.own.now c.args.table c.in_ok-near.near.table c.args.new.now c.args.indexes.now (map (λ (o : Other). o.transaction.now) c.in_ok-near.near.others.items) (map (λ (u : Unique). u.columns.now) c.as_slice.result.now)
-    c.in_ok-near.ensures.table c.in_ok-near.ensures.own c.in_ok-near.ensures.others (ap (map (λ (u : Unique). u.columns.now)) c.as_slice.ensures.value ∙ c.in_ok-unique.ensures.columns)) ∙ k) c.test_rows.ensures.ok
+    c.in_ok-near.ensures.table c.in_ok-near.ensures.own c.in_ok-near.ensures.others (ap (map (λ (u : Unique). u.columns.now)) c.as_slice.ensures.value ∙ c.in_ok-unique.ensures.columns)) ∙ k) c.test_rows-tested.ensures.ok
 
 pub returns-clause-fault : goal.returns-clause-fault
-returns-clause-fault g c = IfErr-weaker c.test_rows.result _ _ (λ fault k. subst (λ due. IsFault due fault)
+returns-clause-fault g c = IfErr-weaker c.test_rows-tested.result _ _ (λ fault k. subst (λ due. IsFault due fault)
     (assembled (g.S.Reader.shown c.args.store.now) c.args.txns.now c.args.own.now c.in_ok-near.near.own.now c.args.table c.in_ok-near.near.table c.args.new.now c.args.indexes.now (map (λ (o : Other). o.transaction.now) c.in_ok-near.near.others.items) (map (λ (u : Unique). u.columns.now) c.as_slice.result.now)
-    c.in_ok-near.ensures.table c.in_ok-near.ensures.own c.in_ok-near.ensures.others (ap (map (λ (u : Unique). u.columns.now)) c.as_slice.ensures.value ∙ c.in_ok-unique.ensures.columns)) k) c.test_rows.ensures.fault
+    c.in_ok-near.ensures.table c.in_ok-near.ensures.own c.in_ok-near.ensures.others (ap (map (λ (u : Unique). u.columns.now)) c.as_slice.ensures.value ∙ c.in_ok-unique.ensures.columns)) k) c.test_rows-tested.ensures.fault

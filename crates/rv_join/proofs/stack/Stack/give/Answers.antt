@@ -43,3 +43,30 @@ returns-else-at-len-clause-lowers g c = rw (← c.self.view_is) (λ a shown fits
 
 pub returns-then-at-len-clause-obeys : goal.returns-then-at-len-clause-obeys
 returns-then-at-len-clause-obeys g c = rw (← c.self.view_is) (c.give_at.ensures.obeys c.self.inside.at)
+
+pub returns-then-at-len-clause-stays_rule : goal.returns-then-at-len-clause-stays_rule
+returns-then-at-len-clause-stays_rule g c = c.give_at.ensures.stays_rule
+
+pub returns-then-at-len-clause-quiet : goal.returns-then-at-len-clause-quiet
+returns-then-at-len-clause-quiet g c = c.give_at.ensures.quiet
+
+pub returns-then-at-len-clause-reads : goal.returns-then-at-len-clause-reads
+returns-then-at-len-clause-reads g c = c.give_at.ensures.reads
+
+pub returns-then-at-len-clause-given : goal.returns-then-at-len-clause-given
+returns-then-at-len-clause-given g c = rw (← c.self.view_is) (c.give_at.ensures.given c.self.inside.at)
+
+pub returns-then-at-len-clause-counts : goal.returns-then-at-len-clause-counts
+returns-then-at-len-clause-counts g c = rw (← c.self.view_is) (c.give_at.ensures.counts c.self.inside.at)
+
+pub returns-then-at-len-clause-pieces : goal.returns-then-at-len-clause-pieces
+returns-then-at-len-clause-pieces g c = rw (← c.self.view_is) (c.give_at.ensures.pieces c.self.inside.at)
+
+pub returns-else-at-len-clause-stays_rule : goal.returns-else-at-len-clause-stays_rule
+returns-else-at-len-clause-stays_rule g c = c.give.ensures.stays
+
+pub returns-else-at-len-clause-quiet : goal.returns-else-at-len-clause-quiet
+returns-else-at-len-clause-quiet g c = c.give.ensures.quiet
+
+pub returns-else-at-len-clause-reads : goal.returns-else-at-len-clause-reads
+returns-else-at-len-clause-reads g c = c.give.ensures.reads

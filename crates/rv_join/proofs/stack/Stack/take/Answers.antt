@@ -45,3 +45,12 @@ returns-else-at-len-clause-spends g c = rw (← c.self.view_is) (λ none. c.take
 
 pub returns-else-at-len-clause-taken : goal.returns-else-at-len-clause-taken
 returns-else-at-len-clause-taken g c = subst (λ (l : Level). IfOk c.take_level.result (TakesPiece l.here)) (sym (at_past c.self.inside.above.items c.args.at c.take_level.new.level (search rules))) c.take_level.ensures.taken
+
+pub returns-then-at-len-clause-untaken : goal.returns-then-at-len-clause-untaken
+returns-then-at-len-clause-untaken g c = rw (← c.self.view_is) (c.take_at.ensures.untaken c.self.inside.at)
+
+pub returns-then-at-len-clause-reads : goal.returns-then-at-len-clause-reads
+returns-then-at-len-clause-reads g c = rw (← c.self.view_is) (c.take_at.ensures.reads c.self.inside.at)
+
+pub returns-then-at-len-clause-counts : goal.returns-then-at-len-clause-counts
+returns-then-at-len-clause-counts g c = rw (← c.self.view_is) (c.take_at.ensures.counts c.self.inside.at)

@@ -1,8 +1,0 @@
-use Rattle.try_paged.specs.Twins.{AreLaid}
-use Rattle.try_paged.proofs.run_all.Given as goal
-
-abbrev pub invariant-early : goal.invariant-early
-invariant-early l = AreLaid l.run.twins
-
-abbrev pub invariant-late : goal.invariant-late
-invariant-late l = AreLaid l.run.twins

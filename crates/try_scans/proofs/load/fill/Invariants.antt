@@ -1,5 +1,0 @@
-use Rattle.rv_loading.specs.Laid.{Laid}
-use Rattle.try_scans.proofs.load.fill.Given as goal
-
-abbrev pub invariant-tens : goal.invariant-tens
-invariant-tens g l = Laid l.schema l.layout (g.S.Reader.shown l.store)

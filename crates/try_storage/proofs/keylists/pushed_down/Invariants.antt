@@ -1,6 +1,0 @@
-use Rattle.std.proofs.Common.{◌≡◌, ◌-◌, false, length}
-use Rattle.try_storage.proofs.Falling.{IsFrom}
-use Rattle.try_storage.proofs.keylists.pushed_down.Given as goal
-
-abbrev pub invariant-keys : goal.invariant-keys
-invariant-keys l = (l.list.finished ≡ false) × (length l.list.keys ≡ l.i) × IsFrom (l.n - l.i) l.list.keys

@@ -1,0 +1,5 @@
+pub mod Draws
+pub mod Falling
+pub mod Filling
+pub mod Laying
+pub mod Scanning

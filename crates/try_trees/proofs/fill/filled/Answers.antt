@@ -1,5 +1,0 @@
-use Rattle.try_trees.proofs.Filling.{filled_none}
-use Rattle.try_trees.proofs.fill.filled.Goals as goal
-
-pub rows-init : goal.rows-init
-rows-init c = filled_none c.in_ok-tree.tree c.in_ok-tree.ensures
