@@ -35,7 +35,7 @@ import sys
 import tempfile
 
 TOP = ("rv_run", "src/top.rt", "run")
-BESIDE = ("ruled", "ruled_first")
+BESIDE = ("ruled", "ruled_first", "led", "led_first")
 CHAPTERS = (
     ("SHOW", (("rv_believed", "specs/Step.antt", "ShowsTo"), ("rv_model", "specs/Transcript.antt", "trace_words"))),
     ("`--gen`", (("rv_gen", "specs/Workload.antt", "workload_of"), ("rv_gen", "specs/Summary.antt", "summary"),

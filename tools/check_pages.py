@@ -53,6 +53,7 @@ class Repository:
         for line in read(os.path.join(top, "crates.txt")).split("\n"):
             if line.strip() and not line.startswith("#"):
                 name, _, rest = line.partition(":")
+                name = name.split()[0]  # (a static library has a word behind its name)
                 self.crates.append(name)
                 self.uses[name] = rest.split()
         self.words, self.by_crate, self.names = set(), {}, {}

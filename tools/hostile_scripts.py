@@ -36,7 +36,7 @@ from model.language import KEYWORDS, fault_of
 from model.program import run, transcript
 
 TOP = Path(__file__).resolve().parent.parent
-USAGE = b"usage: rvdyn [--threads] [--workers W] [--judge N] [--steps K] [--gen SEED] [--race]\n"
+USAGE = b"usage: rvdyn [--line] [--threads] [--workers W] [--judge N] [--steps K] [--gen SEED] [--race]\n"
 MOST = {"workers": 8, "judge": 2, "steps": 64, "gen": 4294967295}
 INTEGERS = [0, 1, -1, 7, 31, 32, 33, 2**31, 2**63 - 1, -(2**63), 2**63, -(2**63) - 1, 10**40]
 NO_TEXT = [b"\xff", b"\xc3", b"\xc0\xaf", b"\xed\xa0\x80", b"\xf4\x90\x80\x80", b"\xe2\x80", b"\x80"]
@@ -47,7 +47,10 @@ ODD_TEXT = ["\0", "\t", "\r", "\x0b", "\x1f", "\x7f", "\x80", "\u2028", "\ufeff"
 
 
 def accepted(words: list[bytes]) -> dict[str, int] | None:
-    """The options of the program's words, or None where they are not accepted."""
+    """The options of the program's words behind `--line`, which stands before them all, or None where they are not accepted."""
+    if words[:1] == [b"--line"]:
+        behind = None if words[1:2] == [b"--line"] else accepted(words[1:])
+        return None if behind is None or "threads" in behind or "gen" in behind else behind
     found: dict[str, int] = {}
     rest = iter(words)
     for word in rest:

@@ -2,14 +2,14 @@
 """Runs a built program on command lines, among them words that are not UTF-8, and compares statuses and words on standard error.
 
 The expected statuses are from the form of the command line as docs/LANGUAGE.md gives it: options, each at most once and in any order,
-all but `--threads` and `--race` with a value of 1 to 10 decimal digits in its range, in the next word or behind `=`. Prints the lines that differ, and ends with
+all but `--threads` and `--race` with a value of 1 to 10 decimal digits in its range, in the next word or behind `=`; before them `--line`, and then neither `--threads` nor `--gen`. Prints the lines that differ, and ends with
 status 1 where one did."""
 import argparse
 import subprocess
 
 from ending import end
 
-USAGE = b"usage: rvdyn [--threads] [--workers W] [--judge N] [--steps K] [--gen SEED] [--race]\n"
+USAGE = b"usage: rvdyn [--line] [--threads] [--workers W] [--judge N] [--steps K] [--gen SEED] [--race]\n"
 
 ACCEPTED = [
     [],
@@ -27,6 +27,8 @@ ACCEPTED = [
     [b"--race"],
     [b"--race", b"--threads", b"--judge", b"1"],
     [b"--steps=0", b"--race"],
+    [b"--line"],
+    [b"--line", b"--judge=1", b"--race"],
 ]
 
 FAULTY = [
@@ -77,6 +79,12 @@ FAULTY = [
     [b"--race", b"1"],
     [b"--races"],
     [b"--judge", b"--race"],
+    [b"--line", b"--line"],
+    [b"--line=1"],
+    [b"--judge=1", b"--line"],
+    [b"--line", b"--threads"],
+    [b"--line", b"--gen", b"1"],
+    [b"--line", b"--judge=3"],
 ]
 
 

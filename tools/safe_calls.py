@@ -39,7 +39,7 @@ def crates(top: Path) -> list[str]:
     for line in (top / "crates.txt").read_text(encoding="utf-8").split("\n"):
         name, colon, rest = line.partition("#")[0].partition(":")
         if colon:
-            uses[name.strip()] = rest.split()
+            uses[name.split()[0]] = rest.split()
     found, waiting = [], list(ABOVE)
     while waiting:
         name = waiting.pop()

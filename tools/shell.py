@@ -1,33 +1,83 @@
 #!/usr/bin/env python3
-"""An interactive session over the slow model: each call is answered at once, with the reply that the program gives.
+"""An interactive session: each call is answered at once, by the program (./rvdyn --line), or with --model by the slow model, which
+needs no kit.
 
 A line is a statement of the session in the prompt, or a line of a script: `2 BEGIN` is a call of session 2, which the
 prompt then shows, and `--`, `-- 0`, `-- 1`, `-- 2` begin a phase, with that judge from then on. A statement that does not
-fit is told with its place. Further lines:
+fit is told with its place, and another refusal with what helps. Further lines:
 
   \\session N     the session of the next statements, 1 to 8
+  \\show [NAME]   what the retrieval of a cursor did so far, by default of the one that was opened last
+  \\timing        tells behind each reply how long it took, or no longer
   \\script        the script that was typed so far
   \\save FILE     writes that script into a file, which ./rvdyn FILE runs
-  \\run FILE      makes the calls of a script
+  \\i FILE        makes the calls of a script (so does \\run FILE)
   \\undo          all calls but the last are made anew
   \\help, \\quit   this, the end (so does Ctrl-D)
 
-Lines that were typed come back by the arrow keys, also in a later session."""
+Lines that were typed come back by the arrow keys, also in a later session, and Tab completes words of the language, and names that
+were typed."""
 from __future__ import annotations
 
 import argparse
 import atexit
 import os
+import re
 import sys
-from typing import Iterable, TextIO
+import time
+from typing import Callable, Iterable, Protocol, TextIO
 
+import rvdyn
 from check_script import of_syntax
 from ending import end
-from model.language import Mark, Syntax, calls_of, fault_of, read_statement
+from model.language import KEYWORDS, Mark, Syntax, calls_of, fault_of, read_statement
 from model.program import Session
 from slow_program import add_run_options
 
 HISTORY = os.path.expanduser("~/.rvdyn_history")
+
+# What helps where a call is refused, by the first words of the reply.
+HINTS = {
+    "no transaction": "BEGIN begins a transaction, BEGIN READ ONLY one that only reads",
+    "active": "this session is in a transaction: COMMIT or ROLLBACK ends it",
+    "busy": "CREATE waits until no session is in a transaction; that one is",
+    "read only": "the transaction was begun READ ONLY",
+    "no cursor": "OPEN NAME SELECT .. opens a cursor, and COMMIT and ROLLBACK close all of the session",
+    "cursor open": "CLOSE NAME closes it",
+    "unknown": "no table, column or index has this name",
+    "exists": "a table or an index has this name",
+    "kind": "that column has another kind",
+    "changed": "another commit wrote that row since this transaction began: ROLLBACK and begin anew",
+    "held": "another transaction that is active has changed that row",
+    "duplicate": "a unique index has this row already",
+    "limit": "docs/LANGUAGE.md lists the limits",
+}
+
+
+class Engine(Protocol):
+    """What answers calls."""
+
+    def call(self, session: int, text: str) -> str: ...
+    def mark(self, judge: int | None) -> None: ...
+    def close(self) -> None: ...
+
+
+class Program:
+    """The program, in a process of its own."""
+
+    def __init__(self, judge: int, steps: int, race: bool, program: str | None):
+        self.database = rvdyn.open(judge, steps, race, program)
+        self.mark, self.close = self.database.mark, self.database.close
+
+    def call(self, session: int, text: str) -> str:
+        return self.database.reply(text, session)
+
+
+class Model(Session):
+    """The slow model."""
+
+    def close(self) -> None:
+        pass
 
 
 class Quit(Exception):
@@ -35,11 +85,12 @@ class Quit(Exception):
 
 
 class Shell:
-    """The model, the session whose turn it is, and the script so far."""
+    """What answers, the session whose turn it is, and the script so far."""
 
-    def __init__(self, judge: int, steps: int, plain: bool, out: TextIO, race: bool = False):
-        self.start = lambda: Session(judge, steps, plain, race=race)
-        self.model, self.session, self.script, self.out = self.start(), 1, [], out
+    def __init__(self, start: Callable[[], Engine], out: TextIO):
+        self.start, self.out = start, out
+        self.engine, self.session, self.script = start(), 1, []
+        self.cursor, self.timing, self.names = "", False, set(KEYWORDS)
 
     def tell(self, words: str) -> None:
         print(words, file=self.out)
@@ -61,13 +112,27 @@ class Shell:
         self.script.append(line)
         for call in calls_of(line):
             if isinstance(call, Mark):
-                self.model.mark(call.judge)
+                self.engine.mark(call.judge)
                 continue
             self.session = call.session
-            reply = self.model.call(call.session, call.text)
+            began = time.perf_counter()
+            reply = self.engine.call(call.session, call.text)
+            took = time.perf_counter() - began
             self.tell(f"= {reply}")
-            if reply == "syntax":
-                self.place(call.text)
+            self.note(call.text, reply)
+            if self.timing:
+                self.tell(f"# {1000 * took:.3f} ms")
+
+    def note(self, text: str, reply: str) -> None:
+        """Tells what helps where a call is refused, and keeps its names else."""
+        if reply == "syntax":
+            self.place(text)
+        elif rvdyn.is_refusal(reply):
+            self.tell("".join(f"# {hint}" for words, hint in HINTS.items() if reply.startswith(words)) or "# refused")
+        else:
+            self.names.update(re.findall(r"[A-Za-z_]\w*", text))
+            opened = re.match(r"\s*OPEN\s+(\w+)", text, re.IGNORECASE)
+            self.cursor = opened.group(1) if opened else self.cursor
 
     def place(self, text: str) -> None:
         try:
@@ -81,7 +146,7 @@ class Shell:
     # Commands.
 
     def command(self, word: str = "", rest: str = "") -> None:
-        if word not in ("session", "script", "save", "run", "undo", "help", "quit"):
+        if word not in ("session", "show", "timing", "script", "save", "i", "run", "undo", "help", "quit"):
             self.tell(f"# no command \\{word}: \\help tells them")
         else:
             getattr(self, "do_" + word)(rest.strip())
@@ -91,6 +156,16 @@ class Shell:
             self.session = int(rest)
         else:
             self.tell("# \\session takes a number from 1 to 8")
+
+    def do_show(self, rest: str) -> None:
+        if rest or self.cursor:
+            self.script_line(f"{self.session} SHOW {rest or self.cursor}")
+        else:
+            self.tell("# no cursor was opened yet: \\show NAME tells of one")
+
+    def do_timing(self, rest: str) -> None:
+        self.timing = not self.timing
+        self.tell(f"# times are {'told' if self.timing else 'told no longer'}")
 
     def do_script(self, rest: str) -> None:
         for line in self.script:
@@ -120,10 +195,13 @@ class Shell:
                 self.tell(line)
                 self.script_line(line)
 
+    do_i = do_run
+
     def do_undo(self, rest: str) -> None:
-        """The calls so far, but for the last one, are made in a new model, without being told."""
+        """The calls so far, but for the last one, are made anew from nothing, without being told."""
         kept, self.script, out = self.script[:-1], [], self.out
-        self.model, self.session = self.start(), 1
+        self.engine.close()
+        self.engine, self.session = self.start(), 1
         with open(os.devnull, "w", encoding="utf-8") as self.out:
             for line in kept:
                 self.script_line(line)
@@ -147,7 +225,9 @@ def typed(shell: Shell) -> Iterable[str]:
         pass
     readline.set_history_length(2000)
     atexit.register(lambda: save_history(readline))
-    shell.tell("# The slow model of rvdyn. \\help tells what can be typed.")
+    readline.set_completer(completer(shell, readline))
+    readline.parse_and_bind("tab: complete")
+    shell.tell("# \\help tells what can be typed.")
     while True:
         try:
             yield input(f"{shell.session}> ")
@@ -156,6 +236,17 @@ def typed(shell: Shell) -> Iterable[str]:
         except EOFError:
             shell.tell("")
             return
+
+
+def completer(shell: Shell, readline) -> Callable[[str, int], str | None]:
+    """Completes words of the language, in the case that was begun, and names that were typed."""
+
+    def complete(text: str, place: int) -> str | None:
+        found = sorted(name for name in shell.names if name.upper().startswith(text.upper()))
+        return (found[place].lower() if text.islower() and found[place] in KEYWORDS else found[place]) if place < len(found) else None
+
+    readline.set_completer_delims(" ,()=<>")
+    return complete
 
 
 def save_history(readline) -> None:
@@ -177,13 +268,25 @@ def piped() -> Iterable[str]:
 def main() -> int:
     parser = argparse.ArgumentParser(description=__doc__, formatter_class=argparse.RawDescriptionHelpFormatter)
     add_run_options(parser)
+    parser.add_argument("--model", action="store_true", help="the slow model answers (so it does with --plain)")
+    parser.add_argument("--program", metavar="PROGRAM", help="this built program answers, in place of ./rvdyn")
     words = parser.parse_args()
-    shell = Shell(words.judge, words.steps, words.plain, sys.stdout, words.race)
+
+    def start() -> Engine:
+        if words.model or words.plain:
+            return Model(words.judge, words.steps, words.plain, race=words.race)
+        return Program(words.judge, words.steps, words.race, words.program)
+
+    shell = Shell(start, sys.stdout)
     try:
         for line in typed(shell) if sys.stdin.isatty() else piped():
             shell.line(line)
     except Quit:
         pass
+    except rvdyn.Ended as ended:
+        print(f"shell: the engine ended with {ended}", file=sys.stderr)
+        return ended.status
+    shell.engine.close()
     return 0
 
 

@@ -9,6 +9,8 @@
                (worked_queries.py)
   words        words that are not accepted, with which nothing is read or written
   workload     a generated workload writes its summary, and reads nothing; the summary is that of its script
+  service      with --line each line is answered before the next one is written; the transcript is the same, a fault comes behind the
+               answers to the lines before it, and words that ask threads or a workload are not accepted
   traces       what SHOW tells under each judge, by the words of the command line and by marks, with background steps and without;
                of a built program the same with threads and no workers, where each phase has one session
   workers      with threads and up to eight workers each row comes once, and then the end
@@ -18,6 +20,8 @@ from __future__ import annotations
 
 import argparse
 import os
+import re
+import select
 import subprocess
 import sys
 import tempfile
@@ -33,7 +37,7 @@ from model.program import generated, summary
 Came = tuple[int, bytes, bytes]  # status, output, standard error
 
 TRANSCRIPTS = Path(__file__).resolve().parent / "runs"
-USAGE = b"usage: rvdyn [--threads] [--workers W] [--judge N] [--steps K] [--gen SEED] [--race]\n"
+USAGE = b"usage: rvdyn [--line] [--threads] [--workers W] [--judge N] [--steps K] [--gen SEED] [--race]\n"
 MARK = b"\xef\xbb\xbf"
 
 
@@ -93,6 +97,60 @@ def texts() -> Iterator[tuple[str, bytes, Came]]:
     for name, told in worked_texts.cases():
         script = "".join(line + "\n" for line in told.split("\n") if line and not line.startswith("= "))
         yield name, script.encode(), (0, told.encode(), b"")
+
+
+# Line by line.
+
+
+def services() -> Iterator[tuple[str, bytes, Came]]:
+    """Scripts that end a service early, or for which it waits no longer."""
+    began = b"1 BEGIN\n= began 1\n"
+    for script, wants in [
+        (b"1 BEGIN\n9 COMMIT\n1 COMMIT\n", (2, began, b"script: line 2 has no session\n")),
+        (b"1 BEGIN\n" + MARK + b"1 A\n", (2, began, b"script: line 2 has no session\n")),
+        (b"1 BEGIN\n--\n-- 3\n", (2, began, b"script: line 3 has no session\n")),
+        (b"1 BEGIN\n1 \xff\n1 A\n", (2, began, b"script: byte 10 is not UTF-8\n")),
+        (b"1 BEGIN\n1 \xe2\x98", (2, began, b"script: byte 10 is not UTF-8\n")),
+        (MARK + b"9\n\xe2\x98", (2, b"", b"script: line 1 has no session\n")),
+        (b"1 BEGIN\n1 " + b"x" * 4095 + b"\n", (3, began, b"limit: line 2 over 4096 bytes\n")),
+        (b"1 BEGIN\n" + b"x" * 10_000, (3, began, b"limit: line 2 over 4096 bytes\n")),
+        (b"1 BEGIN\n" + b"\xff" * 10_000, (3, began, b"limit: line 2 over 4096 bytes\n")),
+    ]:
+        yield f"{script!r:.40}", script, wants
+    yield "200,000 lines", b"\n" * 200_000, (0, b"", b"")
+    yield "200,001 lines", b"\n" * 199_999 + b"1 BEGIN\n1 A\n", (3, began, b"limit: script over 200000 lines\n")
+    whole = (b"#" * 4095 + b"\n") * 4096
+    yield "16,777,216 bytes", whole, (0, b"", b"")
+    yield "16,777,217 bytes", whole + b"\n", (3, b"", b"limit: script over 16777216 bytes\n")
+
+
+class Service:
+    """A program that answers line by line."""
+
+    def __init__(self, command: list[str]):
+        pipe = subprocess.PIPE
+        self.ran = subprocess.Popen(command, stdin=pipe, stdout=pipe, stderr=pipe, bufsize=0)
+        self.output = b""
+
+    def ask(self, line: bytes, calls: int, patience: float = 60) -> bool:
+        """Writes a line, and reads the two lines of each of its calls; whether they came within so many seconds."""
+        try:
+            self.ran.stdin.write(line)
+        except BrokenPipeError:
+            return False
+        wanted = self.output.count(b"\n") + 2 * calls
+        while self.output.count(b"\n") < wanted:
+            ready, _, _ = select.select([self.ran.stdout], [], [], patience)
+            piece = os.read(self.ran.stdout.fileno(), 65536) if ready else b""
+            if not piece:
+                return False
+            self.output += piece
+        return True
+
+    def end(self) -> Came:
+        """Closes the input, and waits for the end."""
+        output, said = self.ran.communicate(timeout=120)
+        return self.ran.returncode, self.output + output, said
 
 
 # Traces.
@@ -212,7 +270,8 @@ class Runs:
             self.expect(f"queries, {name} {' '.join(words)}", (status, first_difference(came, told), said), (0, None, b""))
 
     def try_words(self) -> None:
-        for words in ["x", "--judge", "--judge 3", "--threads --threads", "--threads=1", "--race --race", "--race=1", "--workers 9", "--help"]:
+        for words in ["x", "--judge", "--judge 3", "--threads --threads", "--threads=1", "--race --race", "--race=1", "--workers 9", "--help",
+                      "--line --threads", "--line --gen 1", "--line --line", "--judge 1 --line", "--line=1", "--line --judge 3"]:  # fmt: skip
             self.expect(f"words {words}", self.unread(*words.split()), ((1, b"", USAGE), 0))
 
     def try_workload(self) -> None:
@@ -232,6 +291,19 @@ class Runs:
             (_, output, _), _ = self.unread("--gen", str(seed))
             replies = [line[2:] for line in transcript.decode().split("\n")[1::2]]
             self.expect(f"script of workload {seed}", output.decode(), summary(replies))
+
+    def try_services(self) -> None:
+        for cases in (transcripts, lines):
+            for name, script, wants in cases():
+                service = Service([*self.command, "--line"])
+                answered = True
+                for line in re.findall(rb"[^\n]*\n|[^\n]+", script):
+                    # (a last line without its end is answered at the end of input)
+                    call = re.fullmatch(rb"[1-8] .*\n", line.removeprefix(MARK), re.DOTALL)
+                    answered = answered and service.ask(line, 1 if call else 0)
+                self.expect(f"service, {name}", (answered, service.end()), (True, wants))
+        for name, script, wants in services():
+            self.expect(f"service, {name}", self.run(script, "--line"), wants)
 
     def try_traces(self, plain: bool, *more: str) -> None:
         for words, script, wants in traces(plain):
@@ -259,6 +331,7 @@ def main() -> int:
     runs.try_scripts()
     if not asked.plain:
         runs.try_queries()
+    runs.try_services()
     if asked.program:
         # (the model has words of its own, and needs a minute for a workload)
         runs.try_words()

@@ -308,9 +308,24 @@ class Mark:
     judge: int | None
 
 
-def lines_of(script: str) -> list[str]:
-    *lines, last = script.removeprefix("\ufeff").split("\n")
+def lines_in(text: str) -> list[str]:
+    *lines, last = text.split("\n")
     return [line.removesuffix("\r") for line in lines] + ([last] if last else [])
+
+
+def lines_of(script: str) -> list[str]:
+    return lines_in(script.removeprefix("\ufeff"))
+
+
+def fault_at(number: int, line: str) -> tuple[int, str] | None:
+    """The status of a line of this number that is none of a script, and what is said of it, or None."""
+    if number > 200_000:
+        return 3, "limit: script over 200000 lines"
+    if len(line.encode()) > 4096:
+        return 3, f"limit: line {number} over 4096 bytes"
+    if line and not re.fullmatch(r"#.*|[1-8] .*|--( [012])?", line, re.S):
+        return 2, f"script: line {number} has no session"
+    return None
 
 
 def fault_of(data: bytes) -> tuple[int, str] | None:
@@ -321,14 +336,21 @@ def fault_of(data: bytes) -> tuple[int, str] | None:
         lines = lines_of(data.decode())
     except UnicodeDecodeError as fault:
         return 2, f"script: byte {fault.start} is not UTF-8"
-    for number, line in enumerate(lines, 1):
-        if number > 200_000:
-            return 3, "limit: script over 200000 lines"
-        if len(line.encode()) > 4096:
-            return 3, f"limit: line {number} over 4096 bytes"
-        if line and not re.fullmatch(r"#.*|[1-8] .*|--( [012])?", line, re.S):
-            return 2, f"script: line {number} has no session"
-    return None
+    return next((fault for number, line in enumerate(lines, 1) if (fault := fault_at(number, line))), None)
+
+
+def fault_of_line(number: int, before: int, line: bytes) -> tuple[int, str] | None:
+    """The same of a line that is read alone, with its end, behind so many bytes; at most 4,101 bytes of it are read."""
+    if len(line) > 4100 and not line.endswith(b"\n"):
+        return 3, f"limit: line {number} over 4096 bytes"
+    if before + len(line) > 16_777_216:
+        return 3, "limit: script over 16777216 bytes"
+    try:
+        text = line.decode()
+    except UnicodeDecodeError as fault:
+        return 2, f"script: byte {before + fault.start} is not UTF-8"
+    lines = lines_of(text) if number == 1 else lines_in(text)
+    return next((fault for line in lines if (fault := fault_at(number, line))), None)
 
 
 def calls_of(script: str) -> Iterator[Call | Mark]:

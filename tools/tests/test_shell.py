@@ -5,8 +5,9 @@ import sys
 import tempfile
 import unittest
 from pathlib import Path
+from unittest.mock import Mock
 
-from shell import Quit, Shell
+from shell import Model, Quit, Shell, completer
 
 TOP = Path(__file__).resolve().parents[2]
 
@@ -14,7 +15,7 @@ TOP = Path(__file__).resolve().parents[2]
 class Shells(unittest.TestCase):
     def setUp(self):
         self.out = io.StringIO()
-        self.shell = Shell(0, 1, False, self.out)
+        self.shell = Shell(Model, self.out)
 
     def typed(self, *lines: str) -> list[str]:
         """What is answered to the last of these lines."""
@@ -29,7 +30,7 @@ class Shells(unittest.TestCase):
         self.assertEqual(self.typed("2 BEGIN"), ["= began 1"])
         self.assertEqual(self.shell.session, 2)
         self.assertEqual(self.typed("INSERT INTO T VALUES (7)"), ["= inserted 0"])
-        self.assertEqual(self.typed("\\session 1", "INSERT INTO T VALUES (8)"), ["= no transaction"])
+        self.assertEqual(self.typed("\\session 1", "INSERT INTO T VALUES (8)"), ["= no transaction", "# BEGIN begins a transaction, BEGIN READ ONLY one that only reads"])
 
     def test_syntax_has_its_place(self):
         self.assertEqual(self.typed("COMIT")[0], "= syntax")
@@ -47,9 +48,24 @@ class Shells(unittest.TestCase):
         with tempfile.TemporaryDirectory() as folder:
             file = f"{folder}/script"
             self.assertEqual(self.typed(f"\\save {file}"), [f"# 3 lines are in {file}"])
-            other = Shell(0, 1, False, self.out)
+            other = Shell(Model, self.out)
             other.line(f"\\run {file}")
             self.assertIn("3 BEGIN\n= began 1\n", self.out.getvalue())
+
+    def test_show_and_times(self):
+        self.assertIn("no cursor was opened", self.typed("\\show")[0])
+        self.typed("CREATE TABLE T (A BIGINT)", "BEGIN", "OPEN C SELECT * FROM T")
+        self.assertTrue(self.typed("\\show")[0].startswith("= trace "))
+        self.assertEqual(self.typed("\\show D"), ["= no cursor D", "# OPEN NAME SELECT .. opens a cursor, and COMMIT and ROLLBACK close all of the session"])
+        self.typed("\\timing")
+        self.assertRegex(self.typed("FETCH C")[-1], r"^# [0-9.]+ ms$")
+        self.assertEqual(self.typed("\\timing"), ["# times are told no longer"])
+
+    def test_names_are_completed(self):
+        self.typed("CREATE TABLE Births (A BIGINT)")
+        complete = completer(self.shell, Mock())
+        self.assertEqual([complete("Bi", place) for place in range(3)], ["BIGINT", "Births", None])
+        self.assertEqual(complete("comm", 0), "commit")
 
     def test_what_is_no_line(self):
         self.assertIn("no command", self.typed("\\foo")[0])
@@ -60,7 +76,7 @@ class Shells(unittest.TestCase):
 
     def test_replies_are_those_of_the_transcript(self):
         example = TOP / "examples/conflicts"
-        ran = subprocess.run([sys.executable, TOP / "tools/shell.py"], input=example.read_bytes(), capture_output=True, check=True)
+        ran = subprocess.run([sys.executable, TOP / "tools/shell.py", "--model"], input=example.read_bytes(), capture_output=True, check=True)
         lines = [line for line in ran.stdout.decode().splitlines() if line and not line.startswith(("#", "--"))]
         self.assertEqual(lines, (TOP / "examples/conflicts.transcript").read_text(encoding="utf-8").splitlines())
 

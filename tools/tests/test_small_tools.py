@@ -114,9 +114,9 @@ if sys.argv[1:] not in {accepted!r}:
     sys.exit(1)
 """
         good = ran(TOOLS / "program_words.py", self.program(text))
-        self.assertEqual((good.returncode, good.stdout), (0, "62 command lines, 0 differ\n"))
+        self.assertEqual((good.returncode, good.stdout), (0, "70 command lines, 0 differ\n"))
         bad = ran(TOOLS / "program_words.py", self.program(text.replace("exit(1)", "exit(2)")))
-        self.assertEqual((bad.returncode, bad.stdout.splitlines()[-1]), (1, "62 command lines, 47 differ"))
+        self.assertEqual((bad.returncode, bad.stdout.splitlines()[-1]), (1, "70 command lines, 53 differ"))
 
 
 class Random(Folder):

@@ -2,6 +2,7 @@
 import argparse
 import contextlib
 import io
+import sys
 import tempfile
 import unittest
 from pathlib import Path
@@ -10,7 +11,7 @@ import worked_queries
 from model.language import fault_of
 from model.program import run, transcript
 from slow_program import add_run_options
-from worked_runs import Came, Runs, faults, lines, texts, transcripts
+from worked_runs import Came, Runs, Service, faults, lines, texts, transcripts
 
 WORDS = argparse.ArgumentParser()
 add_run_options(WORDS)
@@ -45,6 +46,15 @@ class WorkedRuns(unittest.TestCase):
     def test_the_model_passes(self):
         self.assertEqual(self.counted(Model([]), "try_scripts", "try_traces"), (181, 0))
 
+    def test_the_model_serves(self):
+        model = Runs([sys.executable, str(Path(__file__).resolve().parents[1] / "slow_program.py")])
+        self.assertEqual(self.counted(model, "try_services"), (66, 0))
+
+    def test_a_service_that_waits_for_the_end_is_refused(self):
+        whole = Service(self.program("cat > /dev/null; echo; echo").command)
+        self.assertFalse(whole.ask(b"1 BEGIN\n", 1, patience=0.2))
+        self.assertEqual(whole.end(), (0, b"\n\n", b""))
+
     def test_the_model_over_the_plain_store_passes(self):
         runs = Model(["--plain"])
         runs.try_traces(True)
@@ -59,13 +69,13 @@ class WorkedRuns(unittest.TestCase):
         silent = self.program("cat > /dev/null")
         self.assertEqual(self.counted(silent, "try_scripts"), (166, 158))
         silent.cases = silent.wrong = 0
-        self.assertEqual(self.counted(silent, "try_queries", "try_words", "try_workload", "try_workers"), (34, 34))
+        self.assertEqual(self.counted(silent, "try_queries", "try_words", "try_workload", "try_workers"), (40, 40))
 
     def test_a_program_that_reads_before_its_words_is_refused(self):
-        early = self.program('cat > /dev/null; echo "usage: rvdyn [--threads] [--workers W] [--judge N] [--steps K] [--gen SEED] [--race]" >&2; exit 1')
-        self.assertEqual(self.counted(early, "try_words"), (9, 9))
-        late = self.program('echo "usage: rvdyn [--threads] [--workers W] [--judge N] [--steps K] [--gen SEED] [--race]" >&2; exit 1')
-        self.assertEqual(self.counted(late, "try_words"), (9, 0))
+        early = self.program('cat > /dev/null; echo "usage: rvdyn [--line] [--threads] [--workers W] [--judge N] [--steps K] [--gen SEED] [--race]" >&2; exit 1')
+        self.assertEqual(self.counted(early, "try_words"), (15, 15))
+        late = self.program('echo "usage: rvdyn [--line] [--threads] [--workers W] [--judge N] [--steps K] [--gen SEED] [--race]" >&2; exit 1')
+        self.assertEqual(self.counted(late, "try_words"), (15, 0))
 
     def test_queries_are_those_of_the_model(self):
         """Restrictions and races; the others take the model longer, and are of the same rules."""

@@ -1,9 +1,10 @@
-//! The program: a script on standard input, or a generated one; its transcript or summary on standard output.
+//! The program: a script on standard input, or a generated one, and its transcript or summary on standard output; or the lines of
+//! standard input, each answered before the next one is read.
 #![tactic(auto)]
 
 use rv_io::{StdSink, StdSource};
 use rv_judge::{Contrary, Judge, Patient, Threshold};
-use rv_run::{Ran, Status, read_words, run};
+use rv_run::{Ran, Status, behind_line, read_words, run, serve};
 use rv_shared::OpenGate;
 use rv_store::Paged;
 use rv_value::NoMemory;
@@ -25,7 +26,8 @@ fn main(rt: HostRuntime) -> ExitCode {
     ExitCode::from(code)
 }
 
-/// The run over the standard streams, under the supplied judges. `threads` is the leave to start threads.
+/// The run over the standard streams, under the supplied judges; with `--line` before the other words it serves line by line.
+/// `threads` is the leave to start threads.
 fn whole<R: Threads + Wait + Sync>(rt: &HostRuntime, threads: &R) -> Result<Status, NoMemory> {
     let alloc = rt.alloc();
     let words = match read_words(rt) {
@@ -41,16 +43,20 @@ fn whole<R: Threads + Wait + Sync>(rt: &HostRuntime, threads: &R) -> Result<Stat
     };
     let mut source = StdSource::new(rt.reader());
     let mut sink = StdSink::new(out);
-    let Ran { status, core } = run(
-        threads,
-        alloc,
-        Paged::new(alloc)?,
-        words.as_slice(),
-        &mut source,
-        &mut sink,
-        judges,
-        &OpenGate,
-    );
+    let store = Paged::new(alloc)?;
+    let Ran { status, core } = match behind_line(words.as_slice()) {
+        Some(rest) => serve(alloc, store, rest, &mut source, &mut sink, judges),
+        None => run(
+            threads,
+            alloc,
+            store,
+            words.as_slice(),
+            &mut source,
+            &mut sink,
+            judges,
+            &OpenGate,
+        ),
+    };
     drop(core);
     Ok(match sink.finish() {
         Ok(()) => status,

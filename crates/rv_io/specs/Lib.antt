@@ -1,3 +1,4 @@
 pub mod Causes
 pub mod Fakes
+pub mod Lines
 pub mod Pieces

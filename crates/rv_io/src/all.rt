@@ -15,7 +15,7 @@ pub enum ReadFault {
 }
 
 /// How much is asked of a source at once.
-const PIECE: usize = 4096;
+pub(crate) const PIECE: usize = 4096;
 
 /// All bytes to the end of input, where they are at most `limit`. Whatever is answered, at most one byte more than
 /// `limit` is taken; after a read that failed there is no further one.
@@ -42,7 +42,7 @@ pub fn read_all<S: Source>(alloc: Global, source: &mut S, limit: u32) -> Result<
 }
 
 /// One piece of at most `room` bytes, put behind the bytes.
-fn read_piece<S: Source>(
+pub(crate) fn read_piece<S: Source>(
     source: &mut S,
     bytes: &mut Vec<u8>,
     room: usize,

@@ -2,7 +2,7 @@
 ghost use Rattle.std.specs.Prelude.{None, ◌≡◌};
 ghost use Rattle.rv_io.specs.Causes.{HasCause};
 
-use crate::traits::{Failed, Sink, Source};
+use crate::traits::{Failed, Flush, Sink, Source};
 use std::io::{Read, Write};
 
 /// A reader of std as a source, which counts its faults.
@@ -81,5 +81,11 @@ impl<W: Write + Drop> Sink for StdSink<W> {
                 Err(Failed)
             }
         }
+    }
+}
+
+impl<W: Write + Drop> Flush for StdSink<W> {
+    fn flush(&mut self) -> Result<(), Failed> {
+        self.finish()
     }
 }

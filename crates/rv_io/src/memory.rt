@@ -1,9 +1,10 @@
 ghost use Rattle.std.specs.Prelude.{◌≡◌, ◌↔◌, ◌⊎◌, ◌≤◌, ◌<◌, ◌+◌, ◌-◌, ◌^◌, ℕ, Some, [], length, drop, vec_len, vec_capacity, IfOk, IsErr, IsOk, IfNone, Contains, min, take};
+ghost use Rattle.std.specs.Io.KnownBytes.{Keeps};
 ghost use Rattle.rv_io.specs.Causes.{HasCause, one_more};
 ghost use Rattle.rv_io.specs.Pieces.{Reads, Writes};
 ghost use Rattle.rv_io.specs.Fakes.{Reading, Writing};
 
-use crate::traits::{Failed, Sink, Source};
+use crate::traits::{Failed, Flush, Sink, Source};
 use rv_value::NoMemory;
 use std::alloc::Global;
 use std::marker::Model;
@@ -146,5 +147,16 @@ impl Sink for MemSink {
             Ok(()) => Ok(count),
             Err(_) => unreachable!(),
         }
+    }
+}
+
+impl Flush for MemSink {
+    fn flush(&mut self) -> Result<(), Failed>
+        ensures same { self.new ≡ self.old }
+        ensures kept { Keeps (Some self.old.written) (Some self.new.written) }
+        ensures cause { HasCause self.old.faults self.new.faults result }
+        ensures ok { IsOk result }
+    {
+        Ok(())
     }
 }

@@ -1,6 +1,7 @@
 ghost use Rattle.std.specs.Prelude.{ℕ, ◌<◌, List, Option, length};
 ghost use Rattle.rv_io.specs.Causes.{HasCause};
 ghost use Rattle.rv_io.specs.Pieces.{Reads, Writes};
+ghost use Rattle.std.specs.Io.KnownBytes.{Keeps};
 
 /// A read or a write failed.
 #[derive(Clone, Copy, PartialEq, Eq)]
@@ -35,4 +36,12 @@ pub trait Sink {
     fn write(&mut self, bytes: &[u8]) -> Result<usize, Failed>
         ensures bytes { Writes (written self.old) (written self.new) result bytes.now }
         ensures cause { HasCause (faults self.old) (faults self.new) result };
+}
+
+/// A sink that hands on what it holds when it is told to.
+pub trait Flush: Sink {
+    /// Hands on all that was written. `Failed` where that cannot be done.
+    fn flush(&mut self) -> Result<(), Failed>
+        ensures kept { Keeps (Self.written self.old) (Self.written self.new) }
+        ensures cause { HasCause (Self.faults self.old) (Self.faults self.new) result };
 }

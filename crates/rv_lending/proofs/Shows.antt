@@ -95,6 +95,10 @@ module _ {S : Type 0} where
       let t : AnswersPart u judge ruled old new session text Working = subst (AnswersPart u judge ruled old new session text) is a in
       (fetches u session (plans_in old judge) (plans_in new ruled) old.db.schema text t.plans.works, works_on u judge ruled old new session text t)
 
+  -- a part of a call, by its other name
+  pub same_part : (u : Under) (judge ruled : ℕ) (old new : Shown S) (session : ℕ) (text : List ℕ) (part other : PartOf) → part ≡ other → AnswersPart u judge ruled old new session text part → AnswersPart u judge ruled old new session text other
+  same_part u judge ruled old new session text part other is a = subst (AnswersPart u judge ruled old new session text) is a
+
   -- a take with a new counter
   pub takes_piece : (shows : StoreShown) (after : ℕ) (old new : Shown S) (r : Result Taken NoMemory) (n read : Counts) → n ≡ no_counts
       → IfOk r (λ (taken : Taken). TakesNext shows (next_waiting after old.opens) n read old.opens new.opens taken)

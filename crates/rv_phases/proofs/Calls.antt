@@ -70,50 +70,50 @@ pub none_done : (phase : ℕ) (lines : List Line) (history : List Entry) → IsL
 none_done phase lines history legal = record { legal = legal; after = []; extends = sym (append-nil history); each = λ s from to. made_none s phase lines history }
 
 -- a pass without calls has done its part
-pub idle_done : (turn : TurnState Entry) (lines : List Line) (p : PassState Entry) → IsFresh turn p → ((phase : ℕ) → asked (p.number + 1) phase lines ≡ []) → IsDone turn lines false p
-idle_done turn lines p fresh none =
+pub idle_done : {C : Type 0} (phase : ℕ) (turn : TurnState Entry C) (lines : List Line) (p : PassState Entry C) → IsFresh turn p → ((phase : ℕ) → asked (p.number + 1) phase lines ≡ []) → IsDone phase turn lines false p
+idle_done phase turn lines p fresh none =
     let s = p.number + 1 in record {
       pass = fresh.own;
-      made = λ below. made_whole s turn.mark lines turn.opening p.seen (ap (own s) fresh.seen ∙ (sym (append-nil (own s turn.opening)) ∙ ap (λ (cs : List Call). own s turn.opening ++ cs) (sym (ap (asked s turn.mark) (take-length lines) ∙ none turn.mark))));
+      made = λ below. made_whole s phase lines turn.opening p.seen (ap (own s) fresh.seen ∙ (sym (append-nil (own s turn.opening)) ∙ ap (λ (cs : List Call). own s turn.opening ++ cs) (sym (ap (asked s phase) (take-length lines) ∙ none phase))));
     }
 
 made_more : (s phase : ℕ) (lines : List Line) (a b : Bool) (seen now : List Entry) → (b ≡ false → a ≡ false) → Made s phase lines a seen now → Made s phase lines b seen now
 made_more s phase lines a b seen now more m = record { count = m.count; within = m.within; all = λ e. m.all (more e); calls = m.calls }
 
-pub done_more : (turn : TurnState Entry) (lines : List Line) (a b : Bool) (p : PassState Entry) → (b ≡ false → a ≡ false) → IsDone turn lines a p → IsDone turn lines b p
-done_more turn lines a b p more d = record { pass = d.pass; made = λ below. made_more (p.number + 1) turn.mark lines a b turn.opening p.seen more (d.made below) }
+pub done_more : {C : Type 0} (phase : ℕ) (turn : TurnState Entry C) (lines : List Line) (a b : Bool) (p : PassState Entry C) → (b ≡ false → a ≡ false) → IsDone phase turn lines a p → IsDone phase turn lines b p
+done_more phase turn lines a b p more d = record { pass = d.pass; made = λ below. made_more (p.number + 1) phase lines a b turn.opening p.seen more (d.made below) }
 
 pub all_first : {X : Type 0} (P : X → Type 0) (l xs : List X) (x : X) → All P l → l ≡ x ∷ xs → P x
 all_first P l xs x h e = subst (λ (m : List _). All P m) e h 0 x (omega arith)
 
 -- what a pass's part comes to in the history at the end
-in_history : (turn : TurnState Entry) (lines : List Line) (short : Bool) (p : PassState Entry) (history : List Entry) → IsDone turn lines short p → GoesOn maker p.number p.seen history → (n : ℕ) → n < 8 → p.number ≡ n → Made (n + 1) turn.mark lines short turn.opening history
-in_history turn lines short p history done goes n below is =
+in_history : {C : Type 0} (phase : ℕ) (turn : TurnState Entry C) (lines : List Line) (short : Bool) (p : PassState Entry C) (history : List Entry) → IsDone phase turn lines short p → GoesOn maker p.number p.seen history → (n : ℕ) → n < 8 → p.number ≡ n → Made (n + 1) phase lines short turn.opening history
+in_history phase turn lines short p history done goes n below is =
     let m = done.made (omega (arith, is, below)) in
-    subst (λ (k : ℕ). Made (k + 1) turn.mark lines short turn.opening history) is (record { count = m.count; within = m.within; all = m.all; calls = own_goes p.number p.seen history goes ∙ m.calls })
+    subst (λ (k : ℕ). Made (k + 1) phase lines short turn.opening history) is (record { count = m.count; within = m.within; all = m.all; calls = own_goes p.number p.seen history goes ∙ m.calls })
 
-pub all_done : (turn : TurnState Entry) (lines : List Line) (short : Bool) (first second : List (PassState Entry)) (history : List Entry)
-    → All (λ p. IsDone turn lines short p) first → All (λ p. IsDone turn lines false p) second → All (λ p. GoesOn maker p.number p.seen history) first → All (λ p. GoesOn maker p.number p.seen history) second
-    → (n : ℕ) → n < 8 → (p : PassState Entry) → Contains (first ++ second) p → p.number ≡ n → Made (n + 1) turn.mark lines short turn.opening history
-all_done turn lines short first second history a b c d n below p there is =
-    let P : PassState Entry → Type 0 = λ q. IsDone turn lines short q × GoesOn maker q.number q.seen history in
-    let both : All P (first ++ second) = All-append P first second (λ k e h. (a k e h, c k e h)) (λ k e h. (done_more turn lines false short _ (λ _. refl) (b k e h), d k e h)) in
+pub all_done : {C : Type 0} (phase : ℕ) (turn : TurnState Entry C) (lines : List Line) (short : Bool) (first second : List (PassState Entry C)) (history : List Entry)
+    → All (λ p. IsDone phase turn lines short p) first → All (λ p. IsDone phase turn lines false p) second → All (λ p. GoesOn maker p.number p.seen history) first → All (λ p. GoesOn maker p.number p.seen history) second
+    → (n : ℕ) → n < 8 → (p : PassState Entry C) → Contains (first ++ second) p → p.number ≡ n → Made (n + 1) phase lines short turn.opening history
+all_done {C = C} phase turn lines short first second history a b c d n below p there is =
+    let P : PassState Entry C → Type 0 = λ q. IsDone phase turn lines short q × GoesOn maker q.number q.seen history in
+    let both : All P (first ++ second) = All-append P first second (λ k e h. (a k e h, c k e h)) (λ k e h. (done_more phase turn lines false short _ (λ _. refl) (b k e h), d k e h)) in
     let one = All-contains P (first ++ second) p both there in
-    in_history turn lines short p history one.0 one.1 n below is
+    in_history phase turn lines short p history one.0 one.1 n below is
 
-session_of : (turn : TurnState Entry) (lines : List Line) (short : Bool) (history : List Entry) (s n : ℕ) → n + 1 ≡ s → Made (n + 1) turn.mark lines short turn.opening history → Made s turn.mark lines short turn.opening history
-session_of turn lines short history s n e m = subst (λ (k : ℕ). Made k turn.mark lines short turn.opening history) e m
+session_of : {C : Type 0} (phase : ℕ) (turn : TurnState Entry C) (lines : List Line) (short : Bool) (history : List Entry) (s n : ℕ) → n + 1 ≡ s → Made (n + 1) phase lines short turn.opening history → Made s phase lines short turn.opening history
+session_of phase turn lines short history s n e m = subst (λ (k : ℕ). Made k phase lines short turn.opening history) e m
 
 -- the phase, from what is known of all passes
-pub phase_done : (turn : TurnState Entry) (lines : List Line) (short : Bool) (first second : List (PassState Entry)) (new : List Entry)
+pub phase_done : {C : Type 0} (phase : ℕ) (turn : TurnState Entry C) (lines : List Line) (short : Bool) (first second : List (PassState Entry C)) (new : List Entry)
     → IsLegal new → 8 ≤ turn.passes → Lengthens maker turn.passes turn.opening new
-    → All (λ p. IsDone turn lines short p) first → All (λ p. IsDone turn lines false p) second → All (λ p. GoesOn maker p.number p.seen new) first → All (λ p. GoesOn maker p.number p.seen new) second
-    → ((n : ℕ) → n < turn.passes → IsNumbered n (first ++ second)) → PhaseDone lines short turn.mark turn.opening new
-phase_done turn lines short first second new legal eight longer a b c d each = record {
+    → All (λ p. IsDone phase turn lines short p) first → All (λ p. IsDone phase turn lines false p) second → All (λ p. GoesOn maker p.number p.seen new) first → All (λ p. GoesOn maker p.number p.seen new) second
+    → ((n : ℕ) → n < turn.passes → IsNumbered n (first ++ second)) → PhaseDone lines short phase turn.opening new
+phase_done phase turn lines short first second new legal eight longer a b c d each = record {
   legal = legal;
   after = longer.0;
   extends = longer.1;
   each = λ s from to.
       let h = each (s - 1) (omega (arith, from, to, eight)) in
-      session_of turn lines short new s (s - 1) (omega (arith, from)) (all_done turn lines short first second new a b c d (s - 1) (omega (arith, from, to)) h.0 h.1 h.2);
+      session_of phase turn lines short new s (s - 1) (omega (arith, from)) (all_done phase turn lines short first second new a b c d (s - 1) (omega (arith, from, to)) h.0 h.1 h.2);
 }

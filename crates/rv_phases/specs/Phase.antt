@@ -36,7 +36,8 @@ pub record PhaseDone (lines : List Line) (short : Bool) (phase : ℕ) (old new :
   pub extends : new ≡ old ++ after
   pub each : (session : ℕ) → 1 ≤ session → session ≤ 8 → Made session phase lines short old new
 
--- a pass whose part in the phase is done
-pub record IsDone (turn : TurnState Entry) (lines : List Line) (short : Bool) (p : PassState Entry) : Type 0 where
+-- a pass whose part in a phase is done
+pub record IsDone {C : Type 0} (phase : ℕ) (turn : TurnState Entry C) (lines : List Line) (short : Bool)
+    (p : PassState Entry C) : Type 0 where
   pub pass : IsPassOf turn p
-  pub made : p.number < 8 → Made (p.number + 1) turn.mark lines short turn.opening p.seen
+  pub made : p.number < 8 → Made (p.number + 1) phase lines short turn.opening p.seen

@@ -33,7 +33,7 @@ fn make_calls<C: Served + Send + Drop, R: Wait, G: Gate>(
     requires left { 64 * length lines.now ≤ pass.old.left }
     requires short { All (λ l. length l.text ≤ 4096) lines.now }
     ensures own { IsPassOf shared.now.turn pass.new × (pass.new.number ≡ pass.old.number) }
-    ensures made { Made (pass.old.number + 1) shared.now.turn.mark lines.now result pass.old.seen pass.new.seen }
+    ensures made { Made (pass.old.number + 1) (C.shown shared.now.turn.mark).phase lines.now result pass.old.seen pass.new.seen }
 {
     'lines: for line in lines {
         if make_call(rt, shared, pass, line, gate) {
@@ -57,7 +57,7 @@ fn make_call<C: Served + Send + Drop, R: Wait, G: Gate>(
     requires short { length line.now.text ≤ 4096 }
     ensures own { IsPassOf shared.now.turn pass.new × (pass.new.number ≡ pass.old.number) }
     ensures left { pass.old.left ≤ pass.new.left + 64 }
-    ensures made { result ≡ false → own (pass.old.number + 1) pass.new.seen ≡ own (pass.old.number + 1) pass.old.seen ++ asked (pass.old.number + 1) shared.now.turn.mark (line.now ∷ []) }
+    ensures made { result ≡ false → own (pass.old.number + 1) pass.new.seen ≡ own (pass.old.number + 1) pass.old.seen ++ asked (pass.old.number + 1) (C.shown shared.now.turn.mark).phase (line.now ∷ []) }
     ensures stopped { result ≡ true → own (pass.old.number + 1) pass.new.seen ≡ own (pass.old.number + 1) pass.old.seen }
 {
     if u32::from(line.session) != pass.number() + 1 {
@@ -117,7 +117,7 @@ fn work<C: Served + Send + Drop, R: Wait, G: Gate>(
     requires short { All (λ l. length l.text ≤ 4096) lines.now }
     ensures own { IsPassOf shared.now.turn job.new.pass }
     ensures number { job.new.pass.number ≡ job.old.pass.number }
-    ensures made { job.old.pass.number < 8 → Made (job.old.pass.number + 1) shared.now.turn.mark lines.now job.new.short job.old.pass.seen job.new.pass.seen }
+    ensures made { job.old.pass.number < 8 → Made (job.old.pass.number + 1) (C.shown shared.now.turn.mark).phase lines.now job.new.short job.old.pass.seen job.new.pass.seen }
 {
     if job.pass.number() < 8 {
         job.short = make_calls(rt, shared, &mut job.pass, lines, gate);
@@ -143,7 +143,7 @@ pub(crate) fn work_all<C: Served + Send + Drop, R: Threads + Wait + Sync, G: Gat
     requires lines { length lines.now ≤ 200000 }
     requires most { most ≤ 100000000 }
     requires short { All (λ l. length l.text ≤ 4096) lines.now }
-    ensures done { All (λ j. IsDone shared.now.turn lines.now j.short j.pass) jobs.new }
+    ensures done { All (λ j. IsDone (C.shown shared.now.turn.mark).phase shared.now.turn lines.now j.short j.pass) jobs.new }
     ensures count { length jobs.new ≡ length jobs.old }
 {
     let ended = AtomicU64::new(0);
@@ -157,7 +157,7 @@ pub(crate) fn work_all<C: Served + Send + Drop, R: Threads + Wait + Sync, G: Gat
         count,
         &|_place: usize, job: &mut Job<C>|
             requires { IsFresh shared.now.turn job.now.pass × (length lines.now ≤ 200000) × (most ≤ 100000000) × All (λ l. length l.text ≤ 4096) lines.now }
-            ensures { IsDone shared.entry.now.turn lines.entry.now job.exit.now.short job.exit.now.pass }
+            ensures { IsDone (C.shown shared.entry.now.turn.mark).phase shared.entry.now.turn lines.entry.now job.exit.now.short job.exit.now.pass }
         { work(rt, shared, job, lines, most, gate, &ended, sessions) },
     );
 }

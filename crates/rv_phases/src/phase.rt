@@ -1,5 +1,6 @@
 //! A phase, whose sessions and workers are threads.
 ghost use Rattle.std.specs.Prelude.{◌≡◌, ℕ, ◌+◌, ◌-◌, ◌*◌, ◌<◌, ◌≤◌, List, [], ◌∷◌, ◌++◌, All, length, true, false, vec_capacity};
+ghost use Rattle.rv_shared.specs.Leads.{Event, Leads};
 ghost use Rattle.rv_shared.specs.Told.{IsFresh};
 ghost use Rattle.rv_phases.specs.Phase.{IsDone, PhaseDone, asked};
 
@@ -61,7 +62,7 @@ fn deal<C: Served + Send + Drop>(
     requires empty { (jobs.items ≡ []) × (idle.items ≡ []) }
     requires room { (length passes.items ≤ vec_capacity jobs) × (length passes.items ≤ vec_capacity idle) }
     ensures jobs { All (λ j. IsFresh shared.now.turn j.pass) result.0.items }
-    ensures idle { All (λ p. IsDone shared.now.turn lines.now false p) result.1.items }
+    ensures idle { All (λ p. IsDone (C.shown shared.now.turn.mark).phase shared.now.turn lines.now false p) result.1.items }
     ensures count { length result.0.items + length result.1.items ≡ length passes.items }
     ensures room { vec_capacity jobs ≤ vec_capacity result.0 }
 {
@@ -108,11 +109,11 @@ fn collect<C: Served + Send + Drop>(
     short: bool,
     mut list: Vec<SessionPass<C>>,
 ) -> Vec<SessionPass<C>>
-    requires jobs { All (λ j. IsDone shared.now.turn lines.now j.short j.pass) jobs.items }
+    requires jobs { All (λ j. IsDone (C.shown shared.now.turn.mark).phase shared.now.turn lines.now j.short j.pass) jobs.items }
     requires short { short ≡ false → All (λ j. j.short ≡ false) jobs.items }
     requires empty { list.items ≡ [] }
     requires room { length jobs.items ≤ vec_capacity list }
-    ensures passes { All (λ p. IsDone shared.now.turn lines.now short p) result.items }
+    ensures passes { All (λ p. IsDone (C.shown shared.now.turn.mark).phase shared.now.turn lines.now short p) result.items }
     ensures count { length result.items ≡ length jobs.items }
 {
     'jobs: for job in jobs {
@@ -130,14 +131,15 @@ fn finish<C: Served + Send + Drop>(
     lines: &[Line],
     list: Vec<SessionPass<C>>,
 ) -> Phased<C>
-    requires jobs { All (λ j. IsDone shared.turn lines.now j.short j.pass) jobs.items }
-    requires idle { All (λ p. IsDone shared.turn lines.now false p) idle.items }
+    requires jobs { All (λ j. IsDone (C.shown shared.turn.mark).phase shared.turn lines.now j.short j.pass) jobs.items }
+    requires idle { All (λ p. IsDone (C.shown shared.turn.mark).phase shared.turn lines.now false p) idle.items }
     requires count { length jobs.items + length idle.items ≡ shared.turn.passes }
     requires eight { 8 ≤ shared.turn.passes }
     requires empty { list.items ≡ [] }
     requires room { length jobs.items ≤ vec_capacity list }
-    ensures done { PhaseDone lines.now result.short shared.turn.mark shared.turn.opening (C.shown result.core).history }
-    ensures phase { (C.shown result.core).phase ≡ shared.turn.mark }
+    ensures done { PhaseDone lines.now result.short (C.shown shared.turn.mark).phase shared.turn.opening (C.shown result.core).history }
+    ensures led { Leads (Event C.calls C.parts C.takes C.gives C.sweeps) shared.turn.mark result.core }
+    ensures phase { (C.shown result.core).phase ≡ (C.shown shared.turn.mark).phase }
 {
     let short = any_short(&jobs);
     let first = collect(&shared, jobs, lines, short, list);
@@ -148,6 +150,7 @@ fn finish<C: Served + Send + Drop>(
 /// The core as it was, where want of memory let nothing begin.
 fn unbegun<C: Served + Drop>(core: C, lines: &[Line]) -> Phased<C>
     ensures done { PhaseDone lines.now result.short (C.shown core).phase (C.shown core).history (C.shown result.core).history }
+    ensures led { Leads (Event C.calls C.parts C.takes C.gives C.sweeps) core result.core }
     ensures phase { (C.shown result.core).phase ≡ (C.shown core).phase }
     ensures short { result.short ≡ true }
 {
@@ -158,7 +161,8 @@ fn unbegun<C: Served + Drop>(core: C, lines: &[Line]) -> Phased<C>
 /// Makes the calls of a phase: each session's in their order, in a thread of its own, with so many workers beside them. All
 /// threads have ended when it returns. A session for which no memory is found makes no further call, and `short` tells it.
 /// A worker ends where it has nothing to do after all sessions have ended, where it finds no memory, and after
-/// `64 * (lines + 20,000)` calls of `help`.
+/// `64 * (lines + 20,000)` calls of `help`. Some order of calls, takes, gives and sweeps leads from the core to the one that
+/// comes back.
 pub fn run_phase<C: Served + Send + Drop, R: Threads + Wait + Sync, G: Gate + Sync>(
     rt: &R,
     alloc: Global,
@@ -171,6 +175,7 @@ pub fn run_phase<C: Served + Send + Drop, R: Threads + Wait + Sync, G: Gate + Sy
     requires lines { length lines.now ≤ 200000 }
     requires short { All (λ l. length l.text ≤ 4096) lines.now }
     ensures done { PhaseDone lines.now result.short (C.shown core).phase (C.shown core).history (C.shown result.core).history }
+    ensures led { Leads (Event C.calls C.parts C.takes C.gives C.sweeps) core result.core }
     ensures phase { (C.shown result.core).phase ≡ (C.shown core).phase }
 {
     let Ok(jobs) = Vec::with_capacity(alloc, 16) else {

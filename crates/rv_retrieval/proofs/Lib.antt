@@ -30,3 +30,4 @@ pub mod Shorts
 pub mod Waiting
 pub mod Remembering
 pub mod Worked
+pub mod Wholes

@@ -2,10 +2,12 @@
 use Rattle.std.proofs.Common.{Box, ◌≡◌, ℕ, List, Result, Ok, Err, IfOk, ap, sym, ◌∙◌, subst}
 use Rattle.std.specs.declared.alloc.Global.{Global}
 use Rattle.rv_judge.specs.declared.events.Strategy.{Strategy}
+use Rattle.rv_judge.specs.Runs.{start_events}
 use Rattle.rv_reader.specs.Shown.{Shown}
 use Rattle.rv_scan.specs.Fronts.{Front}
 use Rattle.rv_jscan.specs.declared.jscan.ScanPlan.{ScanPlan}
 use Rattle.rv_jscan.specs.Joint.{Joint}
+use Rattle.rv_jscan.specs.Planned.{indexes_of}
 use Rattle.rv_jscan.specs.Steps.{begun}
 use Rattle.rv_choice.specs.declared.query.Query.{Query}
 use Rattle.rv_choice.specs.declared.choosing.Candidate.{Candidate}
@@ -29,14 +31,16 @@ begun_made query shown choice cs scans front guaranteed cursor opening v e s is 
   scans = subst (λ (j : Joint). AreScans query.only (candidates_of query shown) choice.background j.plans) (sym b.joint) (subst (λ (xs : List Candidate). AreScans query.only xs choice.background scans) e s);
   front = b.front ∙ is ∙ ap (λ (xs : List Candidate). front_begun query (front_candidate xs choice.front)) e;
   fresh = b.fresh;
+  unbegun = b.unbegun;
   cursor_number = ap (λ (j : Joint). j.cursor) b.joint;
   opening_number = ap (λ (j : Joint). j.opening) b.joint;
 }
 
 -- it stands before its first step
-pub begun_starts : (query : Query) (strategy : Strategy) (plans : List ScanPlan) (front : Front) (guaranteed cursor opening : ℕ) (v : Shape) → Begun query strategy plans front guaranteed cursor opening v → Starts cursor opening v
-begun_starts query strategy plans front guaranteed cursor opening v b = record {
+pub begun_starts : (query : Query) (strategy : Strategy) (plans : List ScanPlan) (front : Front) (guaranteed cursor opening : ℕ) (v : Shape) → Begun query strategy plans front guaranteed cursor opening v → v.trace.events.items ≡ start_events v.strategy (indexes_of v.joint.plans) → Starts cursor opening v
+begun_starts query strategy plans front guaranteed cursor opening v b told = record {
   control = b.started ∙ sym (ap (λ (s : Strategy). first_of s (has_scans v.joint.plans)) b.chosen ∙ ap (λ (j : Joint). first_of strategy (has_scans j.plans)) b.joint);
   joint = b.joint ∙ sym (ap (λ (q : Query). begun q.table q.snap v.joint.plans cursor opening) b.asked ∙ ap (λ (j : Joint). begun query.table query.snap j.plans cursor opening) b.joint);
   borrowed = b.borrowed;
+  told = told;
 }

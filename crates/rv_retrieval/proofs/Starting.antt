@@ -45,6 +45,7 @@ use Rattle.rv_retrieval.specs.Shape.{Shape, is_background, is_building}
 use Rattle.rv_retrieval.specs.Telling.{events_for, index_of}
 use Rattle.rv_judge.specs.Tracing.{counted, new_trace, with_events}
 use Rattle.rv_retrieval.proofs.Chosen.{filter_some, one_found}
+use Rattle.rv_retrieval.proofs.Made.{begun_starts}
 use Rattle.rv_retrieval.proofs.Tellings.{counted_tells, runs_tells}
 
 -- The indexes planned are each planned once.
@@ -283,6 +284,28 @@ tells_first Sorted (p ∷ plans) indexes j e z few has once known = subst (λ (b
 tells_first IndexOnly [] indexes j e z few has once known = opens_alone IndexOnly ForegroundAlone [] indexes refl refl refl refl (omega arith) few has once known
 tells_first IndexOnly (p ∷ plans) indexes j e z few has once known = subst (λ (b : Bool). TellsOf IndexOnly IndexOnly (first_of IndexOnly b) (p ∷ plans) 0 None indexes (first_events (first_of IndexOnly b) j)) (sym (lt-ltb 0 (length (p ∷ plans)) (omega arith))) (rw (first_scan j Building p plans e z refl) (opens_with IndexOnly Building p plans indexes refl refl (λ h. refl) (omega arith) few has once known))
 tells_first Union plans indexes j e z few has once known = absurd has
+
+-- they are those of a run
+first_told : (st : Strategy) (plans : List ScanPlan) (j : Joint) → j.plans ≡ plans → j.ended ≡ 0 → HasScans st (indexes_of plans) → first_events (first_of st (has_scans plans)) j ≡ start_events st (indexes_of plans)
+first_told Table plans j e z has = refl
+first_told BackgroundOnly [] j e z has = absurd has
+first_told BackgroundOnly (p ∷ plans) j e z has = first_scan j BackgroundAlone p plans e z refl
+first_told FastFirst [] j e z has = absurd has
+first_told FastFirst (p ∷ plans) j e z has = first_scan j Building p plans e z refl
+first_told Sorted [] j e z has = refl
+first_told Sorted (p ∷ plans) j e z has = subst (λ (b : Bool). first_events (first_of Sorted b) j ≡ start_events Sorted (indexes_of (p ∷ plans))) (sym (lt-ltb 0 (length (p ∷ plans)) (omega arith))) (first_scan j Building p plans e z refl)
+first_told IndexOnly [] j e z has = refl
+first_told IndexOnly (p ∷ plans) j e z has = subst (λ (b : Bool). first_events (first_of IndexOnly b) j ≡ start_events IndexOnly (indexes_of (p ∷ plans))) (sym (lt-ltb 0 (length (p ∷ plans)) (omega arith))) (first_scan j Building p plans e z refl)
+first_told Union plans j e z has = absurd has
+
+begun_told : (v : Shape) (query : Query) (st : Strategy) (plans : List ScanPlan) (front : Front) (guaranteed cursor opening : ℕ) → Begun query st plans front guaranteed cursor opening v → v.trace ≡ start_told (record v { trace = new_trace st }) → HasScans st (indexes_of plans) → v.trace.events.items ≡ start_events v.strategy (indexes_of v.joint.plans)
+begun_told v query st plans front guaranteed cursor opening b told has =
+    let j : Joint = begun query.table query.snap plans cursor opening in
+    rw (told, b.chosen, b.joint, b.started) (first_told st plans j refl refl has)
+
+pub starts_if : {E : Type 0} (r : Result (Box Shape Global) E) (query : Query) (st : Strategy) (plans : List ScanPlan) (front : Front) (guaranteed cursor opening : ℕ) → HasScans st (indexes_of plans) → IfOk r (λ v. Begun query st plans front guaranteed cursor opening v.value) → IfOk r (λ v. v.value.trace ≡ start_told (record v.value { trace = new_trace st })) → IfOk r (λ v. Starts cursor opening v.value)
+starts_if (Ok v) query st plans front guaranteed cursor opening has b told = begun_starts query st plans front guaranteed cursor opening v.value b (begun_told v.value query st plans front guaranteed cursor opening b told has)
+starts_if (Err x) query st plans front guaranteed cursor opening has b told = tt
 
 begun_tells : (v : Shape) (query : Query) (st : Strategy) (plans : List ScanPlan) (front : Front) (guaranteed cursor opening : ℕ) → Begun query st plans front guaranteed cursor opening v → v.trace ≡ start_told (record v { trace = new_trace st }) → length plans ≤ 8 → HasScans st (indexes_of plans) → EachOnce (indexes_of plans) → list_all (λ i. has_index i (indexes_asked query)) (indexes_of plans) ≡ true → Tells v
 begun_tells v query st plans front guaranteed cursor opening b told few has once known =

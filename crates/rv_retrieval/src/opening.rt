@@ -3,7 +3,7 @@ ghost use Rattle.rv_reader.specs.Shown.{Shown};
 ghost use Rattle.rv_jscan.specs.Joint.{CanTake, JointFits, leaves_ahead, under_way};
 ghost use Rattle.rv_choice.specs.Asked.{CanAsk};
 ghost use Rattle.rv_choice.specs.Choice.{IsChosen, IsRight, candidates_of};
-ghost use Rattle.rv_retrieval.specs.Opened.{Begun, IsMade, OnlyLists, Opened, RunsOut, SameScans, Scanned, Starts, is_one, start_told};
+ghost use Rattle.rv_retrieval.specs.Opened.{Begun, Completes, IsMade, OnlyLists, Opened, RunsOut, SameScans, Scanned, ScansFirst, Starts, is_one, start_told};
 ghost use Rattle.rv_choice.specs.Leading.{guarantee_of};
 ghost use Rattle.rv_retrieval.specs.Opens.{Opens};
 ghost use Rattle.rv_final.specs.Rest.{qualifying};
@@ -80,6 +80,8 @@ impl Retrieval {
         ensures nearer { IfOk result (λ given. given ≡ true → leaves_ahead self.new.joint (R.shown reader.now) < leaves_ahead self.old.joint (R.shown reader.now)) }
         ensures done { IfOk result (λ given. given ≡ false → under_way self.new.joint ≡ false) }
         ensures lists { OnlyLists self.old.joint self.new.joint }
+        ensures first { self.old.joint.list ≡ None → ScansFirst (R.shown reader.now) self.old.joint self.new.joint }
+        ensures stays { under_way self.old.joint ≡ false → self.new.joint ≡ self.old.joint }
         ensures spends { IfOk result (λ given. reads steps.new + back_work self.new.joint 0 (R.shown reader.now) ≤ reads steps.old + back_work self.old.joint 0 (R.shown reader.now)) }
         ensures less { back_work self.new.joint 0 (R.shown reader.now) ≤ back_work self.old.joint 0 (R.shown reader.now) }
         ensures once { reads steps.new ≤ reads steps.old + 1 }
@@ -90,6 +92,7 @@ impl Retrieval {
     }
 
     /// Scans to the end what the background is to scan.
+    #[tactic(auto, using(crate::proofs::Wholes::first_begins, crate::proofs::Wholes::first_then))]
     fn scan_all<R: Reader>(
         &mut self,
         reader: &R,
@@ -102,6 +105,7 @@ impl Retrieval {
         ensures fits { JointFits self.new.joint (R.shown reader.now) }
         ensures done { OnOk result (under_way self.new.joint ≡ false) }
         ensures lists { OnlyLists self.old.joint self.new.joint }
+        ensures first { length self.old.joint.plans ≤ 1 → self.old.joint.list ≡ None → ScansFirst (R.shown reader.now) self.old.joint self.new.joint }
         ensures spends { OnOk result (reads steps.new + back_work self.new.joint 0 (R.shown reader.now) ≤ reads steps.old + back_work self.old.joint 0 (R.shown reader.now)) }
         ensures less { back_work self.new.joint 0 (R.shown reader.now) ≤ back_work self.old.joint 0 (R.shown reader.now) }
         ensures tried { reads steps.new ≤ reads steps.old + back_work self.old.joint 0 (R.shown reader.now) + 1 }
@@ -125,6 +129,7 @@ impl Retrieval {
         ensures fits { OnOk result (RetrievalFits self.new (R.shown reader.now)) }
         ensures rest { OnOk result (rest self.new (R.shown reader.now) ≡ rest self.old (R.shown reader.now)) }
         ensures runs { OnOk result (RunsOut self.old self.new) }
+        ensures completes { length self.old.joint.plans ≤ 1 → self.old.joint.list ≡ None → OnOk result (Completes (R.shown reader.now) self.old.joint self.new.joint) }
         ensures spends { self.old.borrowed ≡ 0 → OnOk result (reads steps.new + effort self.new (R.shown reader.now) ≤ reads steps.old + effort self.old (R.shown reader.now)) }
         ensures less { self.old.borrowed ≡ 0 → OnOk result (effort self.new (R.shown reader.now) ≤ effort self.old (R.shown reader.now)) }
         ensures tried { self.old.borrowed ≡ 0 → reads steps.new ≤ reads steps.old + effort self.old (R.shown reader.now) + 1 }
@@ -152,6 +157,7 @@ impl Retrieval {
         ensures fits { OnOk result (RetrievalFits self.new (R.shown reader.now)) }
         ensures rest { OnOk result (rest self.new (R.shown reader.now) ≡ rest self.old (R.shown reader.now)) }
         ensures runs { OnOk result (is_one background ≡ true → RunsOut self.old self.new) }
+        ensures completes { is_one background ≡ true → length self.old.joint.plans ≤ 1 → self.old.joint.list ≡ None → OnOk result (Completes (R.shown reader.now) self.old.joint self.new.joint) }
         ensures same { is_one background ≡ false → self.new ≡ self.old }
         ensures spends { self.old.borrowed ≡ 0 → OnOk result (reads steps.new + effort self.new (R.shown reader.now) ≤ reads steps.old + effort self.old (R.shown reader.now)) }
         ensures less { self.old.borrowed ≡ 0 → OnOk result (effort self.new (R.shown reader.now) ≤ effort self.old (R.shown reader.now)) }

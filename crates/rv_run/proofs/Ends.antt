@@ -21,14 +21,14 @@ pub takes_none : (left : Option (List ℕ)) (most : ℕ) → TakesUpTo left left
 takes_none left most = record { bytes = []; taken = consumes_none left; few = omega arith }
 
 -- the bytes that were taken are those that were told
-told : (left after : Option (List ℕ)) (bytes : List ℕ) → TakesAll left after bytes → IfSome left (λ xs. xs ≡ bytes)
+pub told : (left after : Option (List ℕ)) (bytes : List ℕ) → TakesAll left after bytes → IfSome left (λ xs. xs ≡ bytes)
 told None after bytes t = tt
 told (Some xs) None bytes t = absurd t.taken
 told (Some xs) (Some ys) bytes t =
     let none : ys ≡ [] = t.end in
     t.taken ∙ ap (λ (zs : List ℕ). bytes ++ zs) none ∙ append-nil bytes
 
-of_told : (left : Option (List ℕ)) (bytes : List ℕ) (P : List ℕ → Type 0) → IfSome left (λ xs. xs ≡ bytes) → P bytes → IfSome left P
+pub of_told : (left : Option (List ℕ)) (bytes : List ℕ) (P : List ℕ → Type 0) → IfSome left (λ xs. xs ≡ bytes) → P bytes → IfSome left P
 of_told None bytes P e p = tt
 of_told (Some xs) bytes P e p = subst P (sym e) p
 

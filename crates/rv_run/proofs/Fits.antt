@@ -15,13 +15,7 @@ use Rattle.std.specs.List.{range_with_len}
 use Rattle.std.proofs.lemmas.List.FromFn.{length-map-range_with_len, length-range_with_len}
 use Rattle.rv_gen.specs.Draws.{state_after}
 use Rattle.rv_gen.specs.Workload.{HasCalls, IsCall, IsRunnable, inserts, line as line_of, openings_of, readers, round, rounds, tables, workload, workload_of}
-use Rattle.rv_run.specs.Making.{FitsPhase, FitsScript}
-
--- a saying whose call, where it is one, may be made
-abbrev FitsSaying : Saying → Type 0
-FitsSaying Nothing = Unit {0}
-FitsSaying (Call line) = IsCall line
-FitsSaying (Next judge) = IfSome judge (λ number. number < 3)
+use Rattle.rv_run.specs.Making.{FitsPhase, FitsSaying, FitsScript}
 
 at_least : (s : ℕ) → nat_le 49 s ≡ true → 1 ≤ s - 48
 at_least s h = grind (arith, nat_tests)
@@ -70,7 +64,7 @@ listed_fits : (n : ℕ) (o : Option Saying) (saying : Saying) → IfSome o FitsS
 listed_fits n None saying fits e = cc
 listed_fits n (Some s) saying fits e = let same : s ≡ saying = cc in subst FitsSaying same fits
 
-line_fits : (n : ℕ) (line : List ℕ) (saying : Saying) → says_at n line ≡ Ok saying → FitsSaying saying × (n ≤ 200000)
+pub line_fits : (n : ℕ) (line : List ℕ) (saying : Saying) → says_at n line ≡ Ok saying → FitsSaying saying × (n ≤ 200000)
 line_fits n line saying e = elim (cases_Bool (nat_lt 200000 n)) [
   | inl t ↦ let wrong = rw t at e in cc
   | inr f ↦ elim (cases_Bool (nat_lt 4096 (length line))) [

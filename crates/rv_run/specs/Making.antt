@@ -6,9 +6,17 @@ use Rattle.rv_script.specs.declared.scripts.Script.{Script}
 use Rattle.rv_model.specs.declared.entry.Entry.{Entry}
 use Rattle.rv_judge.specs.declared.judging.Facts.{Facts}
 use Rattle.rv_judge.specs.Verdicts.{Ruling}
-use Rattle.rv_gen.specs.Workload.{HasCalls}
+use Rattle.rv_script.specs.Script as saying
+use Rattle.rv_script.specs.Script.{Saying}
+use Rattle.rv_gen.specs.Workload.{HasCalls, IsCall}
 use Rattle.rv_run.specs.Ruling.{Judging, judging}
 use Rattle.rv_run.specs.Script.{Call, calls_made, calls_in, first_calls, of_session}
+
+-- what a line says can be done: a call may be made, and a judge is one that there is
+abbrev pub FitsSaying : Saying → Type 0
+FitsSaying saying.Nothing = Unit {0}
+FitsSaying (saying.Call line) = IsCall line
+FitsSaying (saying.Next judge) = IfSome judge (λ number. number < 3)
 
 -- a phase whose calls can be counted and may be made, and which names a judge that there is, or none
 pub record FitsPhase (phase : Phase) : Type 0 where

@@ -1,5 +1,5 @@
--- The exit code of a status, and its words on standard error.
-use Rattle.std.specs.Prelude.{ℕ, List, [], ◌++◌, codes, decimal, Option, Some, None}
+-- The exit code of a status, its words on standard error, and the word that asks for a service.
+use Rattle.std.specs.Prelude.{ℕ, List, [], ◌∷◌, ◌++◌, bytes_eq, codes, decimal, if◌then◌else◌, Option, Some, None}
 use Rattle.rv_script.specs.declared.scripts.ScriptFault.{ScriptFault}
 use Rattle.rv_script.specs.declared.scripts.ScriptFault.TheVariants as faults
 use Rattle.rv_run.specs.declared.status.Over.{Over}
@@ -15,6 +15,11 @@ status_code (Limit over) = 3
 status_code Memory = 4
 status_code ReadFault = 5
 status_code WriteFault = 6
+
+-- the words behind `--line`, where it is the first one
+abbrev pub behind_line : List (List ℕ) → Option (List (List ℕ))
+behind_line [] = None
+behind_line (word ∷ words) = if bytes_eq word (codes "--line") then Some words else None
 
 abbrev pub number_text : Option ℕ → List ℕ
 number_text None = []
@@ -34,7 +39,7 @@ script_words faults.NoMemory = codes "no memory"
 
 abbrev pub status_words : Status → List ℕ
 status_words Done = []
-status_words Usage = codes "usage: rvdyn [--threads] [--workers W] [--judge N] [--steps K] [--gen SEED] [--race]"
+status_words Usage = codes "usage: rvdyn [--line] [--threads] [--workers W] [--judge N] [--steps K] [--gen SEED] [--race]"
 status_words (Script fault) = script_words fault
 status_words (Limit over) = limit_words over
 status_words Memory = codes "no memory"

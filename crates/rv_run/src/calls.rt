@@ -101,7 +101,7 @@ fn give_room_back(left: &mut Vec<Line>)
 }
 
 /// Makes the call of a line.
-fn make_call<S: Store + Reader<Ledger = Uncounted> + Drop>(
+pub(crate) fn make_call<S: Store + Reader<Ledger = Uncounted> + Drop>(
     core: &mut Core<S>,
     _beside: &Judges,
     line: Line,

@@ -50,13 +50,13 @@ impl Status {
     }
 
     /// What the program says on standard error; nothing where it is done.
-    pub fn words(&self) -> ArrayString<128>
+    pub fn words(&self) -> ArrayString<160>
         ensures { result.bytes ≡ status_words self.now }
     {
         match self {
             Status::Done => said("", None, ""),
             Status::Usage => said(
-                "usage: rvdyn [--threads] [--workers W] [--judge N] [--steps K] [--gen SEED] [--race]",
+                "usage: rvdyn [--line] [--threads] [--workers W] [--judge N] [--steps K] [--gen SEED] [--race]",
                 None,
                 "",
             ),
@@ -69,7 +69,7 @@ impl Status {
     }
 }
 
-fn script_words(fault: &ScriptFault) -> ArrayString<128>
+fn script_words(fault: &ScriptFault) -> ArrayString<160>
     ensures { result.bytes ≡ Rattle.rv_run.specs.Words.script_words fault.now }
 {
     match fault {
@@ -81,7 +81,7 @@ fn script_words(fault: &ScriptFault) -> ArrayString<128>
     }
 }
 
-fn limit_words(over: Over) -> ArrayString<128>
+fn limit_words(over: Over) -> ArrayString<160>
     ensures { result.bytes ≡ Rattle.rv_run.specs.Words.limit_words over }
 {
     match over {
@@ -92,8 +92,8 @@ fn limit_words(over: Over) -> ArrayString<128>
 }
 
 /// Words, a number where there is one, and more words.
-fn said(before: &str, number: Option<u32>, behind: &str) -> ArrayString<128>
-    requires room { length before.now + length behind.now ≤ 88 }
+fn said(before: &str, number: Option<u32>, behind: &str) -> ArrayString<160>
+    requires room { length before.now + length behind.now ≤ 120 }
     ensures { result.bytes ≡ before.now ++ Rattle.rv_run.specs.Words.number_text number ++ behind.now }
 {
     let mut words = ArrayString::new();
@@ -103,8 +103,8 @@ fn said(before: &str, number: Option<u32>, behind: &str) -> ArrayString<128>
     words
 }
 
-fn push_number(words: &mut ArrayString<128>, number: Option<u32>)
-    requires { length words.old.bytes ≤ 88 }
+fn push_number(words: &mut ArrayString<160>, number: Option<u32>)
+    requires { length words.old.bytes ≤ 120 }
     ensures bytes { words.new.bytes ≡ words.old.bytes ++ Rattle.rv_run.specs.Words.number_text number }
     ensures short { length words.new.bytes ≤ length words.old.bytes + 40 }
 {

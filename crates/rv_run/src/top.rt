@@ -11,6 +11,7 @@ ghost use Rattle.rv_run.specs.Judges.{by_number};
 ghost use Rattle.rv_run.specs.Script.{FailsToRead, HasAllCalls, HasFault, HasFirstCalls, IsFrontInOrder, IsInOrder, PassesLimit, Runs, Writes, output};
 ghost use Rattle.rv_run.specs.Making.{FitsScript};
 ghost use Rattle.rv_run.specs.Performing.{Hinders, IsPerformed, Performs, Stops, calls_status, reading_status, script_status, Told};
+ghost use Rattle.rv_run.specs.Phases.{FirstPhasesUnder, PhasesUnder};
 ghost use Rattle.rv_run.specs.Ruling.{CallsUnder, FirstCallsUnder, fresh, judging, settings_of};
 ghost use Rattle.rv_run.specs.declared.status.Over.{Over as Limits};
 ghost use Rattle.rv_script.specs.declared.scripts.ScriptFault.{ScriptFault as Faults};
@@ -49,7 +50,8 @@ const LIMIT: u32 = 16_777_216;
 /// transcript, or of a generated script the summary. `words` are those of the command line behind the program's name, and
 /// `judges` those of the numbers 0 to 2, of which the words ask one to rule first. Where the words ask threads, each phase has
 /// a thread for each session that has calls in it, and workers beside them, all of which end before the next phase begins;
-/// `gate` is told how far they are. The status says how it ended.
+/// `gate` is told how far they are, and has to return. Where threads are asked the call may wait, and what it promises holds if
+/// it returns. The status says how it ended.
 pub fn run<
     R: Threads + Wait + Sync,
     P: Store + Reader<Ledger = Uncounted> + Send + Drop,
@@ -106,7 +108,13 @@ pub fn run<
     ensures ruled { (asked : Askings) → Ask words.now asked → asked.threads ≡ false → result.status ≡ Status.Done → IsSomeAnd result.core (λ core. Runs asked.seed (S.left source.old) (CallsUnder (λ s. P.shown s) (settings_of asked) store (map (λ j. judging (would j) (state j)) judges.items) asked.judge core.engine)) }
     ensures ruled_first { (asked : Askings) → Ask words.now asked → asked.threads ≡ false → IfSome result.core (λ core. Runs asked.seed (S.left source.old) (FirstCallsUnder (λ s. P.shown s) (settings_of asked) store (map (λ j. judging (would j) (state j)) judges.items) asked.judge core.engine)) }
 
-    // So many background steps may follow each foreground step as the words ask, and indexes race where they ask it.
+    // With threads some order of events leads from a fresh core over that store, phase after phase, to the core at the end:
+    // calls and their parts, takes, gives and sweeps, each of a phase's under its judge.
+    ensures led { (asked : Askings) → Ask words.now asked → asked.threads ≡ true → result.status ≡ Status.Done → IsSomeAnd result.core (λ core. Runs asked.seed (S.left source.old) (PhasesUnder (λ s. P.shown s) (settings_of asked) store (map (λ j. judging (would j) (state j)) judges.items) asked.judge core.engine)) }
+    ensures led_first { (asked : Askings) → Ask words.now asked → asked.threads ≡ true → IfSome result.core (λ core. Runs asked.seed (S.left source.old) (FirstPhasesUnder (λ s. P.shown s) (settings_of asked) store (map (λ j. judging (would j) (state j)) judges.items) asked.judge core.engine)) }
+
+    // The core that comes back has the settings that the words ask, under which each call was made (`ruled`, with threads
+    // `led`): so many background steps beside each foreground step, and races where they are asked.
     ensures settings { (asked : Askings) → Ask words.now asked → IfSome result.core (λ core. core.settings ≡ settings_of asked) }
 {
     match begin(alloc, words, source) {
@@ -173,7 +181,7 @@ pub fn run_plain<P: Store + Reader<Ledger = Uncounted> + Drop, S: Source, K: Sin
     ensures ruled { (asked : Askings) → Ask words.now asked → result.status ≡ Status.Done → IsSomeAnd result.core (λ core. Runs asked.seed (S.left source.old) (CallsUnder (λ s. P.shown s) (settings_of asked) store (map (λ j. judging (would j) (state j)) judges.items) asked.judge core.engine)) }
     ensures ruled_first { (asked : Askings) → Ask words.now asked → IfSome result.core (λ core. Runs asked.seed (S.left source.old) (FirstCallsUnder (λ s. P.shown s) (settings_of asked) store (map (λ j. judging (would j) (state j)) judges.items) asked.judge core.engine)) }
 
-    // So many background steps may follow each foreground step as the words ask, and indexes race where they ask it.
+    // The core that comes back has the settings that the words ask, under which each call was made (`ruled`).
     ensures settings { (asked : Askings) → Ask words.now asked → IfSome result.core (λ core. core.settings ≡ settings_of asked) }
 {
     match begin(alloc, words, source) {
@@ -286,7 +294,7 @@ fn after_reading(fault: ReadFault) -> Status
 }
 
 /// How a run ends whose input is no script.
-fn after_script(fault: ScriptFault) -> Status
+pub(crate) fn after_script(fault: ScriptFault) -> Status
     ensures { result ≡ script_status fault }
 {
     match fault {
@@ -299,7 +307,7 @@ fn after_script(fault: ScriptFault) -> Status
 }
 
 /// An end with nothing called.
-fn ended<P: Store + Reader<Ledger = Uncounted> + Drop>(status: Status) -> Ran<P>
+pub(crate) fn ended<P: Store + Reader<Ledger = Uncounted> + Drop>(status: Status) -> Ran<P>
     ensures status { result.status ≡ status }
     ensures core { result.core ≡ None }
 {
@@ -368,6 +376,8 @@ fn perform_asked<
     ensures order_first { asked.threads ≡ false → IsSomeAnd result.core (λ core. IsFrontInOrder core.engine.history script) }
     ensures ruled { asked.threads ≡ false → result.status ≡ Status.Done → IsSomeAnd result.core (λ core. CallsUnder (λ s. P.shown s) (settings_of asked) store (map (λ j. judging (would j) (state j)) judges.items) asked.judge core.engine script) }
     ensures ruled_first { asked.threads ≡ false → IsSomeAnd result.core (λ core. FirstCallsUnder (λ s. P.shown s) (settings_of asked) store (map (λ j. judging (would j) (state j)) judges.items) asked.judge core.engine script) }
+    ensures led { asked.threads ≡ true → result.status ≡ Status.Done → IsSomeAnd result.core (λ core. PhasesUnder (λ s. P.shown s) (settings_of asked) store (map (λ j. judging (would j) (state j)) judges.items) asked.judge core.engine script) }
+    ensures led_first { asked.threads ≡ true → IsSomeAnd result.core (λ core. FirstPhasesUnder (λ s. P.shown s) (settings_of asked) store (map (λ j. judging (would j) (state j)) judges.items) asked.judge core.engine script) }
     ensures kinds { IsPerformed result.status }
     ensures core { IsSomeAnd result.core (λ core. core.settings ≡ settings_of asked) }
 {
@@ -404,6 +414,8 @@ fn perform_by_threads<
     ensures memory { result.status ≡ Status.Memory → IsSomeAnd result.core (λ core. Performs asked.seed (Appends (K.written sink.old) (K.written sink.new)) HasFirstCalls script core.engine.history) }
     ensures front { result.status ≡ Status.WriteFault → IsSomeAnd result.core (λ core. Performs asked.seed (AppendsFront (K.written sink.old) (K.written sink.new)) HasFirstCalls script core.engine.history) }
     ensures write { result.status ≡ Status.WriteFault → Rose (K.faults sink.old) (K.faults sink.new) }
+    ensures led { result.status ≡ Status.Done → IsSomeAnd result.core (λ core. PhasesUnder (λ s. P.shown s) (settings_of asked) store (map (λ j. judging (would j) (state j)) judges.items) asked.judge core.engine script) }
+    ensures led_first { IsSomeAnd result.core (λ core. FirstPhasesUnder (λ s. P.shown s) (settings_of asked) store (map (λ j. judging (would j) (state j)) judges.items) asked.judge core.engine script) }
     ensures kinds { IsPerformed result.status }
     ensures core { IsSomeAnd result.core (λ core. core.settings ≡ settings_of asked) }
 {
@@ -433,7 +445,7 @@ fn calls_of(script: &Script) -> usize {
 
 /// A core over the store under the judge that the words ask, with room for the history of so many calls where it is found,
 /// and the judges beside it.
-fn judged_core<P: Store + Reader<Ledger = Uncounted> + Drop>(
+pub(crate) fn judged_core<P: Store + Reader<Ledger = Uncounted> + Drop>(
     alloc: Global,
     store: P,
     asked: Asked,
@@ -482,7 +494,9 @@ fn written<P: Store + Reader<Ledger = Uncounted> + Drop, K: Sink>(
 }
 
 /// The history of a core, which is legal in the words that a reader believes.
-fn legal_history<P: Store + Reader<Ledger = Uncounted> + Drop>(core: &Core<P>) -> &[Entry]
+pub(crate) fn legal_history<P: Store + Reader<Ledger = Uncounted> + Drop>(
+    core: &Core<P>,
+) -> &[Entry]
     ensures same { result.now ≡ core.now.engine.history }
     ensures legal { IsLegal core.now.engine.history }
 {

@@ -1,4 +1,7 @@
 //! The words that the machine hands to the program.
+ghost use Rattle.std.specs.Prelude.{◌≡◌, option_map};
+ghost use Rattle.rv_run.specs.Words.{behind_line};
+
 use crate::status::Status;
 use rv_value::Text;
 use std::alloc::AllocGlobal;
@@ -21,6 +24,16 @@ pub fn read_words<R: Env + AllocGlobal>(rt: &R) -> Result<Vec<Text>, Status> {
         }
     }
     Ok(words)
+}
+
+/// The words behind `--line`, which asks for a service: it is the first word, where it is asked.
+pub fn behind_line(words: &[Text]) -> Option<&[Text]>
+    ensures { option_map (λ rest. rest.now) result ≡ behind_line words.now }
+{
+    match words {
+        [first, rest @ ..] if first.as_str() == "--line" => Some(rest),
+        _ => None,
+    }
 }
 
 /// How a run ends whose words could not be had.

@@ -21,7 +21,7 @@ calls_twice : (calls : List Line) (line : Line) (phases : List Phase) → calls_
 calls_twice calls line [] = refl
 calls_twice calls line (p ∷ phases) = ap (λ (lines : List Line). record { judge = p.judge; lines = lines } ∷ phases) (sym (append_assoc calls (line ∷ []) p.lines))
 
-calls_none : (phases : List Phase) → calls_before [] phases ≡ phases
+pub calls_none : (phases : List Phase) → calls_before [] phases ≡ phases
 calls_none [] = refl
 calls_none (p ∷ phases) = refl
 

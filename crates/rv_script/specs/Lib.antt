@@ -1,2 +1,3 @@
 pub mod Drafts
+pub mod Lines
 pub mod Script

@@ -6,5 +6,5 @@ pub mod traces;
 pub mod transcript;
 pub mod values;
 
-pub use scripts::{Line, Phase, Script, ScriptFault, read_script};
+pub use scripts::{Form, Line, Phase, Script, ScriptFault, read_saying, read_script};
 pub use transcript::write_text;

@@ -1,8 +1,9 @@
 //! The reader of scripts.
-ghost use Rattle.std.specs.Prelude.{◌≡◌, ◌≤◌, ◌∷◌, ◌++◌, [], length, IfOk};
+ghost use Rattle.std.specs.Prelude.{◌≡◌, ◌≤◌, ◌∷◌, ◌++◌, [], length, IfErr, IfOk};
 ghost use Rattle.std.specs.Option.{option_map};
 ghost use Rattle.std.specs.Str.Lines.{lines};
 ghost use Rattle.rv_script.specs.Script.{Call, Next, call_of, says, says_at, sayings_from, script_said, without_byte_order_mark, script_of};
+ghost use Rattle.rv_script.specs.Lines.{LineFault, LineSays};
 ghost use Rattle.rv_script.specs.Drafts.{said_by, added, added_if, drafted, Gives};
 
 use rv_value::{Items, NoMemory, Text};
@@ -62,9 +63,11 @@ const LINE_BYTES: usize = 4096;
 
 /// What a line says.
 #[derive(Clone, Copy)]
-enum Form<'a> {
+pub enum Form<'a> {
     Nothing,
+    /// The next call of a session, with its text.
     Call(u8, &'a str),
+    /// The next phase begins, with a judge or without.
     Next(Option<u8>),
 }
 
@@ -119,12 +122,44 @@ fn checked(line: &str, number: u32) -> Result<Form<'_>, ScriptFault>
     }
 }
 
+/// What the line of this number says, whose bytes these are, with its end, or its fault: first of the bytes as UTF-8, whose
+/// place is counted from the line's begin. The first line may stand behind a byte order mark.
+pub fn read_saying(bytes: &[u8], number: u32) -> Result<Form<'_>, ScriptFault>
+    requires { length bytes.now ≤ 16777216 }
+    ensures says { IfOk result (λ form. LineSays number bytes.now (said_by form)) }
+    ensures fault { IfErr result (LineFault number bytes.now) }
+{
+    match str::from_utf8(bytes) {
+        Ok(text) => checked(first_line(behind_mark(text, number)), number),
+        Err(e) => Err(ScriptFault::NotText {
+            offset: e.valid_up_to() as u32,
+        }),
+    }
+}
+
+/// The line of this number without a byte order mark, which the first one may have.
+fn behind_mark(text: &str, number: u32) -> &str
+    ensures { result.now ≡ Rattle.rv_script.specs.Lines.behind_mark number text.now }
+{
+    if number == 1 { unmarked(text) } else { text }
+}
+
+/// The first line of a text.
+fn first_line(text: &str) -> &str
+    ensures { result.now ≡ Rattle.rv_script.specs.Lines.first_line text.now }
+{
+    match text.lines().next() {
+        Some(line) => line,
+        None => "",
+    }
+}
+
 /// What was read so far: the phases that are over, and the judge and the calls of the one under way.
 #[derive(Drop)]
-struct Draft {
-    over: Items<Phase>,
-    judge: Option<u8>,
-    calls: Items<Line>,
+pub struct Draft {
+    pub over: Items<Phase>,
+    pub judge: Option<u8>,
+    pub calls: Items<Line>,
 }
 
 /// What was read, with what a further line says.

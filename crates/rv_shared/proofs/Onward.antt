@@ -41,17 +41,17 @@ pub working_is : (n phase : ℕ) (text : List ℕ) (a b : List Entry) (o : Optio
 working_is n phase text a b o is t = subst (Turned n phase text a b) is t
 
 -- one turn, and some more of a FETCH
-pub one_turn : (text : List ℕ) (a b : PassState Entry) → (b.taken ≡ a.taken + 1) × (b.left + 1 ≡ a.left) → TakesTurns text a b
+pub one_turn : {C : Type 0} (text : List ℕ) (a b : PassState Entry C) → (b.taken ≡ a.taken + 1) × (b.left + 1 ≡ a.left) → TakesTurns text a b
 one_turn text a b h = let taken = h.0 in let left = h.1 in record { granted = omega arith; most = omega arith; one = λ _. h.0 }
 
-pub more_turns : (text : List ℕ) (a b c : PassState Entry) → (b.taken ≡ a.taken + 1) × (b.left + 1 ≡ a.left) → c.taken + c.left ≡ b.taken + b.left → c.taken ≤ b.taken + 63 → IsFetch text → TakesTurns text a c
+pub more_turns : {C : Type 0} (text : List ℕ) (a b c : PassState Entry C) → (b.taken ≡ a.taken + 1) × (b.left + 1 ≡ a.left) → c.taken + c.left ≡ b.taken + b.left → c.taken ≤ b.taken + 63 → IsFetch text → TakesTurns text a c
 more_turns text a b c h granted most fetch = let taken = h.0 in let left = h.1 in record { granted = omega arith; most = omega arith; one = λ other. absurd (other fetch) }
 
 -- a worker's turns
-pub given_back : {B : Type 0} (n mark : ℕ) (seen now : List Entry) (answer : B) → TakesTurn maker (λ phase found left o. GivesBack found left) n mark seen now answer → Unanswered n seen now
+pub given_back : {B C : Type 0} (n : ℕ) (mark : C) (seen now : List Entry) (answer : B) → TakesTurn maker (λ first found left o. GivesBack found left) n mark seen now answer → Unanswered n seen now
 given_back n mark seen now answer t = record { goes_on = subst (λ (l : List Entry). GoesOn maker n seen l) (sym t.worked.same) t.goes_on; legal = t.worked.legal }
 
-pub taken_from : (n mark : ℕ) (seen now : List Entry) (answer : Result Cutting NoMemory) → TakesTurn maker (λ phase found left o. TakesOn found left o) n mark seen now answer → Unanswered n seen now
+pub taken_from : {C : Type 0} (n : ℕ) (mark : C) (seen now : List Entry) (answer : Result Cutting NoMemory) → TakesTurn maker (λ first found left o. TakesOn found left o) n mark seen now answer → Unanswered n seen now
 taken_from n mark seen now answer t = record { goes_on = subst (λ (l : List Entry). GoesOn maker n seen l) (sym t.worked.same) t.goes_on; legal = t.worked.legal }
 
 pub idle_is : (seen : List Entry) (cursors : ℕ) (o : Cutting) → o ≡ cutting.Idle cursors → TellsOf seen o → cursors ≡ opens seen

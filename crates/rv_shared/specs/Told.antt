@@ -71,7 +71,7 @@ Cuts takes sweeps old after (Err refused) new = takes old after (Err refused) ne
 -- WHAT A PASS HAS SEEN
 
 -- A pass that has all its turns, and has seen the history at opening.
-pub record IsFresh (turn : TurnState Entry) (pass : PassState Entry) : Type 0 where
+pub record IsFresh {C : Type 0} (turn : TurnState Entry C) (pass : PassState Entry C) : Type 0 where
   pub own : IsPassOf turn pass
   pub left : pass.left ≡ 4294967295
   pub seen : pass.seen ≡ turn.opening
@@ -105,7 +105,7 @@ turns_of (helped.Worked given) = 2
 turns_of (helped.Idle cursors) = 1
 
 -- A call takes at most 64 turns of its pass, and one turn where it is no FETCH.
-pub record TakesTurns (text : List ℕ) (old new : PassState Entry) : Type 0 where
+pub record TakesTurns {C : Type 0} (text : List ℕ) (old new : PassState Entry C) : Type 0 where
   pub granted : new.taken + new.left ≡ old.taken + old.left
   pub most : new.taken ≤ old.taken + 64
   pub one : (IsFetch text → ⊥) → new.taken ≡ old.taken + 1

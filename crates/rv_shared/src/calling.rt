@@ -47,7 +47,7 @@ impl<'a, C: Served + Send + Drop> Work<Kept<C>> for StepTurn<'a> {
 
     ghost was_run = { λ w. w.done };
 
-    ghost means = { λ w phase found left answer. StepsOn w.session phase w.text.now found left answer };
+    ghost means = { λ w first found left answer. StepsOn w.session (C.shown first).phase w.text.now found left answer };
 
     fn run(&mut self, held: &mut Kept<C>) -> Result<Option<Reply>, NoMemory> {
         self.done = true;
@@ -91,7 +91,7 @@ impl<'a, C: Served + Send + Drop> Work<Kept<C>> for CallTurn<'a> {
 
     ghost was_run = { λ w. w.done };
 
-    ghost means = { λ w phase found left answer. CallsOn w.session phase w.text.now found left answer };
+    ghost means = { λ w first found left answer. CallsOn w.session (C.shown first).phase w.text.now found left answer };
 
     fn run(&mut self, held: &mut Kept<C>) -> Result<Reply, NoMemory> {
         self.done = true;

@@ -9,7 +9,8 @@ pub enum Place {
     Answered(u8),
 }
 
-/// What threads pass at a place. A gate may hold a thread there, which holds up no other.
+/// What threads pass at a place. A gate may hold a thread there, which holds up no other's turn.
+/// It has to return: a phase ends when all its threads have.
 pub trait Gate {
     fn at(&self, place: Place);
 }

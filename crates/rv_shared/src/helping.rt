@@ -1,9 +1,9 @@
 //! A worker's help in two turns: a piece is taken, and after it was sieved it is given.
-ghost use Rattle.std.specs.Prelude.{◌≡◌, ℕ, ◌-◌, List, ◌++◌, IfSome, Some, is_none, false, true};
+ghost use Rattle.std.specs.Prelude.{◌≡◌, ℕ, ◌-◌, List, ◌++◌, IfOk, IfSome, Some, is_none, false, true};
 ghost use Rattle.rv_turn.specs.Story.{AllOf};
 ghost use Rattle.rv_model.specs.History.{IsLegal};
 ghost use Rattle.rv_model.specs.declared.entry.Entry.{Entry};
-ghost use Rattle.rv_shared.specs.Told.{Cuts, GivesBack, TakesOn, maker};
+ghost use Rattle.rv_shared.specs.Told.{Cuts, GivesBack, TakesOn, TellsOf, maker};
 
 use crate::kept::Kept;
 use crate::served::Served;
@@ -54,12 +54,12 @@ impl<C: Served + Send + Drop> Work<Kept<C>> for TakeTurn {
 
     ghost was_run = { λ w. w.done };
 
-    ghost means = { λ w phase found left answer. TakesOn found left answer };
+    ghost means = { λ w first found left answer. TakesOn found left answer };
 
     fn run(&mut self, held: &mut Kept<C>) -> Result<Cutting, NoMemory>
         requires { self.old.done ≡ false }
         ensures adds { (items : List Entry) × ((C.shown held.new.core).history ≡ (C.shown held.old.core).history ++ items) × AllOf maker self.old.maker items }
-        ensures mark { (C.shown held.new.core).phase ≡ (C.shown held.old.core).phase }
+        ensures mark { held.new.first.value ≡ held.old.first.value }
         ensures means { TakesOn (C.shown held.old.core).history (C.shown held.new.core).history result }
         ensures run { self.new.done ≡ true }
         ensures cut { Cuts C.takes C.sweeps held.old.core self.old.after result held.new.core }
@@ -67,16 +67,26 @@ impl<C: Served + Send + Drop> Work<Kept<C>> for TakeTurn {
     {
         self.done = true;
         let _legal = held.core.history();
-        match held.core.take_piece(self.after) {
-            Ok(Taken::Piece(piece)) => Ok(Cutting::Piece(piece)),
-            Ok(Taken::Nothing) => {
-                held.core.sweep_step();
-                Ok(Cutting::Idle {
-                    cursors: held.core.open_cursors(),
-                })
-            }
-            Err(NoMemory) => Err(NoMemory),
+        cut(&mut held.core, self.after)
+    }
+}
+
+/// Takes the piece that is next after that of the cursor of the number `after`, or sweeps a step where none is awaited.
+fn cut<C: Served>(core: &mut C, after: u64) -> Result<Cutting, NoMemory>
+    requires legal { IsLegal (C.shown core.old).history }
+    ensures cut { Cuts C.takes C.sweeps core.old after result core.new }
+    ensures tells { IfOk result (TellsOf (C.shown core.new).history) }
+    ensures same { C.shown core.new ≡ C.shown core.old }
+{
+    match core.take_piece(after) {
+        Ok(Taken::Piece(piece)) => Ok(Cutting::Piece(piece)),
+        Ok(Taken::Nothing) => {
+            core.sweep_step();
+            Ok(Cutting::Idle {
+                cursors: core.open_cursors(),
+            })
         }
+        Err(NoMemory) => Err(NoMemory),
     }
 }
 
@@ -109,12 +119,12 @@ impl<C: Served + Send + Drop> Work<Kept<C>> for GiveTurn {
 
     ghost was_run = { λ w. is_none w.sieved };
 
-    ghost means = { λ w phase found left answer. GivesBack found left };
+    ghost means = { λ w first found left answer. GivesBack found left };
 
     fn run(&mut self, held: &mut Kept<C>) -> Result<Given, NoMemory>
         requires { is_none self.old.sieved ≡ false }
         ensures adds { (items : List Entry) × ((C.shown held.new.core).history ≡ (C.shown held.old.core).history ++ items) × AllOf maker self.old.maker items }
-        ensures mark { (C.shown held.new.core).phase ≡ (C.shown held.old.core).phase }
+        ensures mark { held.new.first.value ≡ held.old.first.value }
         ensures means { GivesBack (C.shown held.old.core).history (C.shown held.new.core).history }
         ensures run { is_none self.new.sieved ≡ true }
         ensures given { IfSome self.old.sieved (λ piece. C.gives held.old.core piece result held.new.core) }

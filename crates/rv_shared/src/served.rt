@@ -1,6 +1,7 @@
 //! What threads do with a core in their turns.
-ghost use Rattle.std.specs.Prelude.{◌≡◌, ℕ, ◌≤◌, Result, IfOk, OnErr, length};
+ghost use Rattle.std.specs.Prelude.{◌≡◌, ℕ, ◌≤◌, List, Option, Result, IfOk, OnErr, length};
 ghost use Rattle.rv_value.specs.declared.duplicate.NoMemory.{NoMemory};
+ghost use Rattle.rv_lang.specs.declared.reply.Reply.{Reply};
 ghost use Rattle.rv_jscan.specs.declared.jscan.Given.{Given};
 ghost use Rattle.rv_jscan.specs.declared.jscan.Taken.{Taken};
 ghost use Rattle.rv_jscan.specs.Pieces.{Pieced};
@@ -13,10 +14,16 @@ use rv_model::Entry;
 use rv_value::NoMemory;
 
 /// A core that can be shared: a database with the history of its calls, which is legal. An implementation says of
-/// itself what a take, a give and a sweep do to it, and the works of a worker hand that on.
+/// itself what each of its methods does to it, and of these events `Shared` makes a chain.
 pub trait Served {
     /// Its history, and the phase of the next call.
     ghost shown: { Self → Shown };
+
+    /// What a call of a session comes to, and the core that it leaves.
+    ghost calls: { Self → ℕ → List ℕ → Result Reply NoMemory → Self → Type 0 };
+
+    /// What one turn's part of a call comes to, and the core that it leaves.
+    ghost parts: { Self → ℕ → List ℕ → Result (Option Reply) NoMemory → Self → Type 0 };
 
     /// What a take of the next awaited piece after that of the cursor of a number comes to, and the core that it leaves.
     ghost takes: { Self → ℕ → Result Taken NoMemory → Self → Type 0 };
@@ -41,6 +48,7 @@ pub trait Served {
         requires from { 1 ≤ session }
         requires to { session ≤ 8 }
         requires short { length text.now ≤ 4096 }
+        ensures called { calls self.old session text.now result self.new }
         ensures ok { IfOk result (λ reply. Answers (shown self.old) (shown self.new) session text.now reply) }
         ensures err { OnErr result (shown self.new ≡ shown self.old) }
         ensures legal { IsLegal (shown self.new).history };
@@ -50,6 +58,7 @@ pub trait Served {
         requires from { 1 ≤ session }
         requires to { session ≤ 8 }
         requires short { length text.now ≤ 4096 }
+        ensures called { parts self.old session text.now result self.new }
         ensures ok { IfOk result (λ part. AnswersPart (shown self.old) (shown self.new) session text.now part) }
         ensures err { OnErr result (shown self.new ≡ shown self.old) }
         ensures legal { IsLegal (shown self.new).history };

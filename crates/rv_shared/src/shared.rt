@@ -3,6 +3,7 @@ ghost use Rattle.std.specs.Prelude.{◌≡◌, ℕ, ◌+◌, ◌-◌, ◌<◌, �
 ghost use Rattle.rv_turn.specs.State.{IsNumbered, IsPassOf};
 ghost use Rattle.rv_turn.specs.Story.{GoesOn, Lengthens};
 ghost use Rattle.rv_model.specs.History.{IsLegal};
+ghost use Rattle.rv_shared.specs.Leads.{Event, Leads};
 ghost use Rattle.rv_shared.specs.Served.{IsFetch};
 ghost use Rattle.rv_shared.specs.Told.{IsFresh, Replied, TakesTurns, TellsIdle, TellsOf, Turned, Unanswered, maker, turns_of};
 
@@ -67,7 +68,7 @@ impl<C: Served + Send + Drop> Shared<C> {
     pub fn open(alloc: Global, core: C, workers: u32) -> Result<SharedOpen<C>, C>
         requires { workers ≤ 8 }
         ensures turn { IfOk result (λ o. (o.shared.turn.passes ≡ 8 + workers)
-            × (o.shared.turn.mark ≡ (C.shown core).phase) × (o.shared.turn.opening ≡ (C.shown core).history)) }
+            × (o.shared.turn.mark ≡ core) × (o.shared.turn.opening ≡ (C.shown core).history)) }
         ensures sessions { IfOk result (λ o. (length o.sessions.items ≡ 8)
             × All (λ p. IsFresh o.shared.turn p) o.sessions.items) }
         ensures numbers { IfOk result (λ o. (k : ℕ) (d : _) → k < 8 → (slice_index_or o.sessions.items k d).number ≡ k) }
@@ -79,7 +80,7 @@ impl<C: Served + Send + Drop> Shared<C> {
         let Ok(helpers) = Vec::with_capacity(alloc, workers as usize) else {
             return Err(core);
         };
-        match Turn::open(alloc, Kept { core }, SESSIONS + workers, TURNS) {
+        match Turn::open(alloc, Kept::new(core), SESSIONS + workers, TURNS) {
             Ok(Opened { turn, passes }) => {
                 let (sessions, helpers) = part(&turn, passes, helpers, workers);
                 Ok(SharedOpen {
@@ -92,20 +93,22 @@ impl<C: Served + Send + Drop> Shared<C> {
                     helpers,
                 })
             }
-            Err(Kept { core }) => {
+            Err(Kept { core, first: _ }) => {
                 helpers.destroy_empty();
                 Err(core)
             }
         }
     }
 
-    /// The core, once all passes are back. Its history goes on from all that each pass has seen, without a further entry
-    /// of its session, and beyond the history at opening each entry is of some pass.
+    /// The core, once all passes are back. Some order of events leads to it from the core at opening. Its history goes on
+    /// from all that each pass has seen, without a further entry of its session, and beyond the history at opening each
+    /// entry is of some pass.
     pub fn close(self, sessions: Vec<SessionPass<C>>, helpers: Vec<WorkerPass<C>>) -> C
         requires sessions { All (λ p. IsPassOf self.turn p) sessions.items }
         requires helpers { All (λ p. IsPassOf self.turn p) helpers.items }
         requires all { length sessions.items + length helpers.items ≡ self.turn.passes }
-        ensures phase { (C.shown result).phase ≡ self.turn.mark }
+        ensures led { Leads (Event C.calls C.parts C.takes C.gives C.sweeps) self.turn.mark result }
+        ensures phase { (C.shown result).phase ≡ (C.shown self.turn.mark).phase }
         ensures history { Lengthens maker self.turn.passes self.turn.opening (C.shown result).history }
         ensures legal { IsLegal (C.shown result).history }
         ensures sessions { All (λ p. GoesOn maker p.number p.seen (C.shown result).history) sessions.items }
@@ -117,7 +120,7 @@ impl<C: Served + Send + Drop> Shared<C> {
             last: _,
             bell: _,
         } = self;
-        let Kept { core } = turn.close(sessions, helpers);
+        let Kept { core, first: _ } = turn.close(sessions, helpers);
         let _legal = core.history();
         core
     }
@@ -137,7 +140,7 @@ impl<C: Served + Send + Drop> Shared<C> {
         requires short { length text.now ≤ 4096 }
         ensures own { IsPassOf self.now.turn pass.new × (pass.new.number ≡ pass.old.number) }
         ensures turns { TakesTurns text.now pass.old pass.new }
-        ensures ok { IfOk result (λ reply. Replied pass.old.number self.now.turn.mark text.now reply pass.old.seen pass.new.seen) }
+        ensures ok { IfOk result (λ reply. Replied pass.old.number (C.shown self.now.turn.mark).phase text.now reply pass.old.seen pass.new.seen) }
         ensures err { OnErr result (Unanswered pass.old.number pass.old.seen pass.new.seen) }
     {
         let answer = self.turns(rt, pass, text);
@@ -163,7 +166,7 @@ impl<C: Served + Send + Drop> Shared<C> {
         requires short { length text.now ≤ 4096 }
         ensures own { IsPassOf self.now.turn pass.new × (pass.new.number ≡ pass.old.number) }
         ensures turns { TakesTurns text.now pass.old pass.new }
-        ensures ok { IfOk result (λ reply. Replied pass.old.number self.now.turn.mark text.now reply pass.old.seen pass.new.seen) }
+        ensures ok { IfOk result (λ reply. Replied pass.old.number (C.shown self.now.turn.mark).phase text.now reply pass.old.seen pass.new.seen) }
         ensures err { OnErr result (Unanswered pass.old.number pass.old.seen pass.new.seen) }
     {
         match self.step(rt, pass, text) {
@@ -188,7 +191,7 @@ impl<C: Served + Send + Drop> Shared<C> {
         ensures own { IsPassOf self.now.turn pass.new × (pass.new.number ≡ pass.old.number) }
         ensures granted { pass.new.taken + pass.new.left ≡ pass.old.taken + pass.old.left }
         ensures most { pass.new.taken ≤ pass.old.taken + 63 }
-        ensures ok { IfOk result (λ reply. Replied pass.old.number self.now.turn.mark text.now reply pass.old.seen pass.new.seen) }
+        ensures ok { IfOk result (λ reply. Replied pass.old.number (C.shown self.now.turn.mark).phase text.now reply pass.old.seen pass.new.seen) }
         ensures err { OnErr result (Unanswered pass.old.number pass.old.seen pass.new.seen) }
     {
         'turns: for _round in 0..MORE_TURNS {
@@ -214,7 +217,7 @@ impl<C: Served + Send + Drop> Shared<C> {
         requires short { length text.now ≤ 4096 }
         ensures own { IsPassOf self.now.turn pass.new × (pass.new.number ≡ pass.old.number) }
         ensures left { (pass.new.taken ≡ pass.old.taken + 1) × (pass.new.left + 1 ≡ pass.old.left) }
-        ensures ok { IfOk result (Turned pass.old.number self.now.turn.mark text.now pass.old.seen pass.new.seen) }
+        ensures ok { IfOk result (Turned pass.old.number (C.shown self.now.turn.mark).phase text.now pass.old.seen pass.new.seen) }
         ensures err { OnErr result (Unanswered pass.old.number pass.old.seen pass.new.seen) }
     {
         let mut work = StepTurn::new(pass.number() as u8 + 1, text);
@@ -234,7 +237,7 @@ impl<C: Served + Send + Drop> Shared<C> {
         requires short { length text.now ≤ 4096 }
         ensures own { IsPassOf self.now.turn pass.new × (pass.new.number ≡ pass.old.number) }
         ensures left { (pass.new.taken ≡ pass.old.taken + 1) × (pass.new.left + 1 ≡ pass.old.left) }
-        ensures ok { IfOk result (λ reply. Replied pass.old.number self.now.turn.mark text.now reply pass.old.seen pass.new.seen) }
+        ensures ok { IfOk result (λ reply. Replied pass.old.number (C.shown self.now.turn.mark).phase text.now reply pass.old.seen pass.new.seen) }
         ensures err { OnErr result (Unanswered pass.old.number pass.old.seen pass.new.seen) }
     {
         let mut work = CallTurn::new(pass.number() as u8 + 1, text);

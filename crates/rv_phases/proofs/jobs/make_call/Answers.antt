@@ -6,9 +6,9 @@ use Rattle.rv_phases.proofs.jobs.make_call.Goals as goal
 pub returns-in-Ok-clause-made : goal.returns-in-Ok-clause-made
 returns-in-Ok-clause-made g c =
     let it : c.args.line.now.session ≡ c.args.pass.now.number + 1 = search rules in
-    let mark = c.args.shared.now.turn.mark in
+    let phase = (g.C.Served.shown c.args.shared.now.turn.mark).phase in
     let before = own (c.args.pass.now.number + 1) c.args.pass.now.seen in
-    λ _. own_replied _ _ _ _ _ _ c.in-Ok.ensures.ok ∙ (ap (λ (t : List ℕ). before ++ call mark t ∷ []) c.as_str.ensures.same ∙ ap (λ (cs : List Call). before ++ cs) (sym (asked_one (c.args.pass.now.number + 1) mark c.args.line.now it)))
+    λ _. own_replied _ _ _ _ _ _ c.in-Ok.ensures.ok ∙ (ap (λ (t : List ℕ). before ++ call phase t ∷ []) c.as_str.ensures.same ∙ ap (λ (cs : List Call). before ++ cs) (sym (asked_one (c.args.pass.now.number + 1) phase c.args.line.now it)))
 
 pub returns-in-Err-clause-stopped : goal.returns-in-Err-clause-stopped
 returns-in-Err-clause-stopped g c = λ _. own_goes _ _ _ c.in-Err.ensures.err.goes_on

@@ -9,6 +9,7 @@ pub passes-preserved-then-is_idle : goal.passes-preserved-then-is_idle
 passes-preserved-then-is_idle g c =
     let i = c.passes.invariant in
     let turn = c.args.shared.now.turn in
+    let phase = (g.C.Served.shown turn.mark).phase in
     let one = all_first (λ p. IsFresh turn p) _ _ _ i.left c.in-Some.ensures.steps.0 in
     let items : c.push.new.self.items ≡ c.passes.idle.items ++ c.in-Some.pass ∷ [] = search rules in
     let none = c.is_idle.ensures (search rules) in
@@ -19,7 +20,7 @@ passes-preserved-then-is_idle g c =
     record {
       left = All-rest (λ p. IsFresh turn p) _ _ _ c.in-Some.ensures.steps.0 i.left;
       jobs = i.jobs;
-      idle = rw items (All-push (λ p. IsDone turn c.args.lines.now false p) c.passes.idle.items c.in-Some.pass i.idle (idle_done turn c.args.lines.now c.in-Some.pass one none));
+      idle = rw items (All-push (λ p. IsDone phase turn c.args.lines.now false p) c.passes.idle.items c.in-Some.pass i.idle (idle_done phase turn c.args.lines.now c.in-Some.pass one none));
       count = let e = i.count in omega arith;
       total = let e = i.total in omega arith;
       room = i.room;

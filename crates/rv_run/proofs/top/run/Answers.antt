@@ -2,6 +2,7 @@ use Rattle.std.proofs.Common.{◌≡◌, ◌∙◌, Err, refl, sym, ap, map, sub
 use Rattle.rv_run.specs.Performing.{IsPerformed, Stops}
 use Rattle.rv_run.specs.declared.status.Status.{Status}
 use Rattle.rv_run.specs.declared.status.Status.TheVariants as statuses
+use Rattle.rv_run.specs.Phases.{FirstPhasesUnder, PhasesUnder}
 use Rattle.rv_run.specs.Ruling.{CallsUnder, FirstCallsUnder, judging, settings_of}
 use Rattle.rv_run.specs.Script.{IsFrontInOrder, IsInOrder}
 use Rattle.rv_words.specs.declared.choices.Asked.{Asked}
@@ -37,6 +38,12 @@ returns-in-Ok-clause-ruled g c = λ asked ask plain done. rw (c.in-Ok.ensures.on
 
 pub returns-in-Ok-clause-ruled_first : goal.returns-in-Ok-clause-ruled_first
 returns-in-Ok-clause-ruled_first g c = λ asked ask plain. rw (c.in-Ok.ensures.only asked ask) (some_if c.perform_asked.result.core _ (runs_so c.perform_asked.result.core (λ core. core.engine) (FirstCallsUnder g.P.Reader.shown (settings_of c.in-Ok.begun.asked) c.args.store (map (λ j. judging ((goal.Judge-dyn g (j.vtable, j.value)).would j.value) ((goal.Judge-dyn g (j.vtable, j.value)).state j.value)) c.args.judges.items) c.in-Ok.begun.asked.judge) _ _ c.in-Ok.begun.script c.in-Ok.ensures.script (c.perform_asked.ensures.ruled_first (ap (λ (a : Asked). a.threads) (sym (c.in-Ok.ensures.only asked ask)) ∙ plain))))
+
+pub returns-in-Ok-clause-led : goal.returns-in-Ok-clause-led
+returns-in-Ok-clause-led g c = λ asked ask threads done. rw (c.in-Ok.ensures.only asked ask) (runs_so c.perform_asked.result.core (λ core. core.engine) (PhasesUnder g.P.Reader.shown (settings_of c.in-Ok.begun.asked) c.args.store (map (λ j. judging ((goal.Judge-dyn g (j.vtable, j.value)).would j.value) ((goal.Judge-dyn g (j.vtable, j.value)).state j.value)) c.args.judges.items) c.in-Ok.begun.asked.judge) _ _ c.in-Ok.begun.script c.in-Ok.ensures.script (c.perform_asked.ensures.led (ap (λ (a : Asked). a.threads) (sym (c.in-Ok.ensures.only asked ask)) ∙ threads) done))
+
+pub returns-in-Ok-clause-led_first : goal.returns-in-Ok-clause-led_first
+returns-in-Ok-clause-led_first g c = λ asked ask threads. rw (c.in-Ok.ensures.only asked ask) (some_if c.perform_asked.result.core _ (runs_so c.perform_asked.result.core (λ core. core.engine) (FirstPhasesUnder g.P.Reader.shown (settings_of c.in-Ok.begun.asked) c.args.store (map (λ j. judging ((goal.Judge-dyn g (j.vtable, j.value)).would j.value) ((goal.Judge-dyn g (j.vtable, j.value)).state j.value)) c.args.judges.items) c.in-Ok.begun.asked.judge) _ _ c.in-Ok.begun.script c.in-Ok.ensures.script (c.perform_asked.ensures.led_first (ap (λ (a : Asked). a.threads) (sym (c.in-Ok.ensures.only asked ask)) ∙ threads))))
 
 pub returns-in-Ok-clause-order : goal.returns-in-Ok-clause-order
 returns-in-Ok-clause-order g c = λ asked ask plain done. rw (c.in-Ok.ensures.only asked ask) (runs_so c.perform_asked.result.core (λ core. core.engine) (λ core script. IsInOrder core.history script) _ _ c.in-Ok.begun.script c.in-Ok.ensures.script (c.perform_asked.ensures.order (ap (λ (a : Asked). a.threads) (sym (c.in-Ok.ensures.only asked ask)) ∙ plain) done))

@@ -3,6 +3,7 @@ use Rattle.rv_judge.specs.declared.events.Trace.{Trace}
 use Rattle.rv_judge.specs.Tracing.{NothingCounted, new_trace}
 use Rattle.rv_scan.specs.Places.{work as pages_work}
 use Rattle.rv_final.specs.Rest.{qualifying}
+use Rattle.rv_final.specs.Stage.{Unbegun}
 use Rattle.rv_retrieval.specs.Opened.{start_told}
 use Rattle.rv_retrieval.specs.Shape.{RetrievalFits, Shape, rest}
 use Rattle.rv_retrieval.proofs.Switching.{trace_keeps}
@@ -23,6 +24,7 @@ returns-clause-begun c =
       started = ap (λ (x : Shape). x.control) is ∙ b.started;
       counts = subst (λ (x : Shape). NothingCounted x.trace) (sym is) (record { pages = b.counts.pages; leaves = b.counts.leaves; fetches = b.counts.fetches });
       borrowed = ap (λ (x : Shape). x.borrowed) is ∙ b.borrowed;
+      unbegun = subst (λ (x : Shape). Unbegun x.at x.last) (sym is) b.unbegun;
     }
 
 pub returns-clause-told : goal.returns-clause-told

@@ -2,12 +2,12 @@ use Rattle.std.proofs.Common.{◌≡◌, ◌∙◌, None, ap}
 use Rattle.rv_judge.specs.Tracing.{NothingCounted}
 use Rattle.rv_jscan.specs.Joint.{Joint}
 use Rattle.rv_choice.specs.Leading.{guarantee_of}
-use Rattle.rv_retrieval.specs.Opened.{Begun, IsMade, Starts}
+use Rattle.rv_retrieval.specs.Opened.{Begun, IsMade}
 use Rattle.rv_retrieval.proofs.Chosen.{begun_back, begun_way, chosen_opens, few_scans, one_background, one_found}
-use Rattle.rv_retrieval.proofs.Starting.{begun_tells_if, chosen_has, one_scan, planned_known, planned_once, short_if}
+use Rattle.rv_retrieval.proofs.Starting.{begun_tells_if, chosen_has, one_scan, planned_known, planned_once, short_if, starts_if}
 use Rattle.rv_retrieval.proofs.Lives.{awaits_if, life_if, front_there}
 use Rattle.rv_retrieval.proofs.Shorts.{few_if}
-use Rattle.rv_retrieval.proofs.Made.{begun_made, begun_starts, boxed_if}
+use Rattle.rv_retrieval.proofs.Made.{begun_made, boxed_if}
 use Rattle.rv_retrieval.proofs.retrieval.Retrieval.chosen.Goals as goal
 
 pub begin-requires : goal.begin-requires
@@ -17,7 +17,7 @@ pub returns-clause-made : goal.returns-clause-made
 returns-clause-made g c = boxed_if c.begin.result (Begun c.args.query c.args.choice.strategy c.in-Ok.scans.items c.in-Ok-foreground.front c.guarantee-guaranteed.result c.args.cursor c.args.opening) (IsMade c.args.query (g.R.Reader.shown c.args.reader.now) c.args.choice c.args.cursor c.args.opening) (λ v b. begun_made c.args.query (g.R.Reader.shown c.args.reader.now) c.args.choice c.args.candidates.now c.in-Ok.scans.items c.in-Ok-foreground.front _ c.args.cursor c.args.opening v c.requires.candidates c.in-Ok.ensures c.in-Ok-foreground.ensures b) c.begin.ensures.begun
 
 pub returns-clause-started : goal.returns-clause-started
-returns-clause-started g c = boxed_if c.begin.result (Begun c.args.query c.args.choice.strategy c.in-Ok.scans.items c.in-Ok-foreground.front c.guarantee-guaranteed.result c.args.cursor c.args.opening) (Starts c.args.cursor c.args.opening) (λ v b. begun_starts c.args.query c.args.choice.strategy c.in-Ok.scans.items c.in-Ok-foreground.front _ c.args.cursor c.args.opening v b) c.begin.ensures.begun
+returns-clause-started g c = starts_if c.begin.result c.args.query c.args.choice.strategy c.in-Ok.scans.items c.in-Ok-foreground.front _ c.args.cursor c.args.opening (chosen_has c.args.query.only c.args.query.order c.args.query.goal c.args.candidates.now c.args.choice c.in-Ok.scans.items c.requires.choice c.in-Ok.ensures) c.begin.ensures.begun c.begin.ensures.told
 
 pub returns-clause-bound : goal.returns-clause-bound
 returns-clause-bound g c = boxed_if c.begin.result (Begun c.args.query c.args.choice.strategy c.in-Ok.scans.items c.in-Ok-foreground.front c.guarantee-guaranteed.result c.args.cursor c.args.opening) (λ v. v.guaranteed ≡ guarantee_of c.args.query (g.R.Reader.shown c.args.reader.now) c.args.candidates.now c.args.choice) (λ v b. b.bound ∙ c.guarantee-guaranteed.ensures.value) c.begin.ensures.begun

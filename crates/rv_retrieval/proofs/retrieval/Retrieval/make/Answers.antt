@@ -2,6 +2,7 @@ use Rattle.std.proofs.Common.{◌≡◌, ◌∙◌, Bool, ap, refl, subst, sym}
 use Rattle.rv_judge.specs.Tracing.{NothingCounted}
 use Rattle.rv_scan.specs.Places.{work as pages_work}
 use Rattle.rv_final.specs.Rest.{qualifying}
+use Rattle.rv_final.specs.Stage.{Unbegun}
 use Rattle.rv_retrieval.specs.Opened.{has_scans}
 use Rattle.rv_retrieval.specs.Opens.{first_of}
 use Rattle.rv_retrieval.specs.Room.{rows_given}
@@ -22,6 +23,7 @@ returns-clause-begun c =
       started = ap (λ (x : Shape). x.control) is ∙ c.first_control-control.ensures ∙ ap (λ (b : Bool). first_of c.args.strategy b) (c.has_scans.ensures ∙ ap has_scans c.as_slice.ensures.value);
       counts = subst NothingCounted (sym (ap (λ (x : Shape). x.trace) is ∙ c.new-trace.ensures)) (record { pages = refl; leaves = refl; fetches = refl });
       borrowed = ap (λ (x : Shape). x.borrowed) is;
+      unbegun = subst (λ (x : Shape). Unbegun x.at x.last) (sym is) c.new-ending.ensures.unbegun;
     }
 
 pub returns-clause-told : goal.returns-clause-told

@@ -1,4 +1,4 @@
-use Rattle.std.proofs.Common.{◌≡◌, ◌+◌, ◌<◌, ◌∙◌, List, None, length, refl, rules, subst, ◌≤◌, sym, true}
+use Rattle.std.proofs.Common.{◌≡◌, ◌+◌, ◌<◌, ◌∙◌, List, None, length, refl, subst, ◌≤◌, sym, true}
 use Rattle.rv_choice.specs.declared.choosing.Candidate.{Candidate}
 use Rattle.rv_choice.specs.Choice.{IsChosen}
 use Rattle.rv_choice.specs.Leading.{guarantee_of}
@@ -30,7 +30,9 @@ returns-in-Ok-clause-opened g c =
     let mid = c.settle.new.self in
     let chosen = subst (λ (cs : List Candidate). IsChosen query.order query.goal cs choice) c.requires.candidates c.requires.choice in
     let bound = subst (λ (cs : List Candidate). made.guaranteed ≡ guarantee_of query shown cs choice) c.requires.candidates (subst (λ (x : Shape). x.guaranteed ≡ guarantee_of c.args.query (g.R.Reader.shown c.args.reader.now) c.args.candidates.now c.args.choice) (sym c.deref_mut-made.ensures.value) c.in_ok-retrieval.ensures.bound) in
-    opened_by query shown choice c.args.cursor c.args.opening made mid c.count.new.self chosen (subst (λ (x : Shape). IsMade c.args.query (g.R.Reader.shown c.args.reader.now) c.args.choice c.args.cursor c.args.opening x) (sym c.deref_mut-made.ensures.value) c.in_ok-retrieval.ensures.made) (subst (λ (x : Shape). Starts c.args.cursor c.args.opening x) (sym c.deref_mut-made.ensures.value) c.in_ok-retrieval.ensures.started) bound (subst (λ (x : Shape). is_one c.args.choice.background ≡ true → under_way x.joint ≡ true) (sym c.deref_mut-made.ensures.value) c.in_ok-retrieval.ensures.way) c.in-Ok.ensures.scanned c.in-Ok.ensures.runs c.settle.ensures.same (search rules)
+    let short = subst (λ (x : Shape). is_one choice.background ≡ true → length x.joint.plans ≤ 1) (sym c.deref_mut-made.ensures.value) c.in_ok-retrieval.ensures.short in
+    let unlisted = subst (λ (x : Shape). x.joint.list ≡ None) (sym c.deref_mut-made.ensures.value) c.in_ok-retrieval.ensures.unlisted in
+    opened_by query shown choice c.args.cursor c.args.opening made mid c.count.new.self _ _ chosen (subst (λ (x : Shape). IsMade c.args.query (g.R.Reader.shown c.args.reader.now) c.args.choice c.args.cursor c.args.opening x) (sym c.deref_mut-made.ensures.value) c.in_ok-retrieval.ensures.made) (subst (λ (x : Shape). Starts c.args.cursor c.args.opening x) (sym c.deref_mut-made.ensures.value) c.in_ok-retrieval.ensures.started) bound (subst (λ (x : Shape). is_one c.args.choice.background ≡ true → under_way x.joint ≡ true) (sym c.deref_mut-made.ensures.value) c.in_ok-retrieval.ensures.way) c.in-Ok.ensures.scanned c.in-Ok.ensures.runs (λ one. c.in-Ok.ensures.completes one (short one) unlisted) c.settle.ensures.same c.count.ensures
 
 pub returns-in-Ok-clause-counts : goal.returns-in-Ok-clause-counts
 returns-in-Ok-clause-counts g c = counts_all c.args.choice.background c.deref_mut-made.result.now c.settle.new.self c.count.new.self c.args.steps.now _ (subst (λ (x : Shape). NothingCounted x.trace) (sym c.deref_mut-made.ensures.value) c.in_ok-retrieval.ensures.counts) c.in-Ok.ensures.runs c.settle.ensures.same (rw c.counts.ensures at rw c.counts-before.ensures at c.count.ensures)

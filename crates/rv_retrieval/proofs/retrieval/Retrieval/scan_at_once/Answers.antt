@@ -1,7 +1,9 @@
-use Rattle.std.proofs.Common.{◌∙◌}
+use Rattle.std.proofs.Common.{◌∙◌, ap}
+use Rattle.rv_retrieval.specs.Shape.{Shape}
 use Rattle.rv_retrieval.proofs.AtOnce.{all_fits, all_rest, all_scanned, runs_out}
 use Rattle.rv_retrieval.proofs.Openings.{at_once_less, at_once_spends, at_once_tried}
 use Rattle.rv_retrieval.proofs.Shorts.{most_keys, over_few, over_settled}
+use Rattle.rv_retrieval.proofs.Wholes.{first_over}
 use Rattle.rv_retrieval.proofs.retrieval.Retrieval.scan_at_once.Goals as goal
 
 pub returns-clause-scanned : goal.returns-clause-scanned
@@ -36,3 +38,6 @@ returns-clause-few g c a none few =
 
 pub returns-clause-tried : goal.returns-clause-tried
 returns-clause-tried g c z = at_once_tried c.args.self.now (g.R.Reader.shown c.args.reader.now) c.args.steps.now c.scan_all.new.steps c.requires.back z c.scan_all.ensures.tried
+
+pub returns-clause-completes : goal.returns-clause-completes
+returns-clause-completes g c few none = first_over (g.R.Reader.shown c.args.reader.now) c.args.self.now.joint c.scan_all.new.self.joint c.scan_ended.new.self.joint c.requires.way c.in_ok-scan_all.ensures.done (c.scan_all.ensures.first few none) (ap (λ (x : Shape). x.joint) c.scan_ended.ensures.aside)

@@ -30,6 +30,9 @@ returns-in-One-clause-only g c = c.scan_at_once.ensures.only
 pub returns-in-One-clause-runs : goal.returns-in-One-clause-runs
 returns-in-One-clause-runs g c = on_ok_weaker c.scan_at_once.result (λ runs one. runs) c.scan_at_once.ensures.runs
 
+pub returns-in-One-clause-completes : goal.returns-in-One-clause-completes
+returns-in-One-clause-completes g c one = c.scan_at_once.ensures.completes
+
 pub returns-in-One-clause-settled : goal.returns-in-One-clause-settled
 returns-in-One-clause-settled g c one = c.scan_at_once.ensures.settled
 

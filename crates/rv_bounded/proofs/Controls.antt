@@ -1,0 +1,64 @@
+-- The controls of a retrieval whose foreground scans no index.
+use Rattle.std.proofs.Common.{◌≡◌, List, [], ◌∷◌, Bool, true, false, not, ◌&&◌, ◌||◌, refl, arith}
+use Rattle.std.specs.Prelude.{if◌then◌else◌}
+use Rattle.std.specs.List.{list_all}
+use Rattle.rv_value.proofs.Tests.{no_other}
+use Rattle.rv_judge.specs.declared.events.Strategy.{Strategy}
+use Rattle.rv_judge.specs.declared.events.Strategy.TheVariants.{Table, BackgroundOnly, FastFirst, Sorted, IndexOnly, Union}
+use Rattle.rv_judge.specs.declared.events.Control.{Control}
+use Rattle.rv_judge.specs.declared.events.Control.TheVariants.{Building, ForegroundAlone, BackgroundAlone, FinalList, FinalTable, Done}
+use Rattle.rv_judge.specs.declared.events.Happening.{Happening}
+use Rattle.rv_judge.specs.Course.{Row, course, next_by, next_control}
+use Rattle.rv_retrieval.specs.Opens.{first_of}
+use Rattle.rv_retrieval.specs.Shape.{is_led}
+
+-- no foreground scans an index
+abbrev pub is_behind : Strategy → Control → Bool
+is_behind s Building = not (is_led s)
+is_behind s ForegroundAlone = false
+is_behind s BackgroundAlone = true
+is_behind s FinalList = true
+is_behind s FinalTable = true
+is_behind s Done = true
+
+-- each row of the course at this control and under this strategy leads on so
+abbrev leads_on : Strategy → Control → List Row → Bool
+leads_on s c rows = list_all (λ (r : Row). not (r.at c && r.under s) || is_behind s (r.next c)) rows
+
+left_true : (a b : Bool) → (a && b) ≡ true → a ≡ true
+left_true a b h = grind arith
+
+right_true : (a b : Bool) → (a && b) ≡ true → b ≡ true
+right_true a b h = grind arith
+
+on_by : (rows : List Row) (s : Strategy) (c : Control) (h : Happening) → leads_on s c rows ≡ true → is_behind s c ≡ true → is_behind s (next_by rows s c h) ≡ true
+on_by [] s c h a b = b
+on_by (r ∷ rows) s c h a b = pick (r.next c) (next_by rows s c h) (r.at c) (r.under s) (r.upon h) (left_true _ _ a) (on_by rows s c h (right_true _ _ a) b)
+  where
+    pick : (x y : Control) (at under upon : Bool) → (not (at && under) || is_behind s x) ≡ true → is_behind s y ≡ true → is_behind s (if at && under && upon then x else y) ≡ true
+    pick x y true true true a l = a
+    pick x y true true false a l = l
+    pick x y true false upon a l = l
+    pick x y false under upon a l = l
+
+pub goes_behind : (s : Strategy) (c : Control) (h : Happening) → is_behind s c ≡ true → is_behind s (next_control s c h) ≡ true
+goes_behind s ForegroundAlone h b = no_other b
+goes_behind s BackgroundAlone h b = on_by course s BackgroundAlone h refl b
+goes_behind s FinalList h b = on_by course s FinalList h refl b
+goes_behind s FinalTable h b = on_by course s FinalTable h refl b
+goes_behind s Done h b = on_by course s Done h refl b
+goes_behind Table Building h b = on_by course Table Building h refl b
+goes_behind BackgroundOnly Building h b = on_by course BackgroundOnly Building h refl b
+goes_behind FastFirst Building h b = on_by course FastFirst Building h refl b
+goes_behind Sorted Building h b = no_other b
+goes_behind IndexOnly Building h b = no_other b
+goes_behind Union Building h b = on_by course Union Building h refl b
+
+-- so a retrieval begins
+pub first_behind : (s : Strategy) (some : Bool) → is_led s ≡ false → is_behind s (first_of s some) ≡ true
+first_behind Table some led = refl
+first_behind BackgroundOnly some led = refl
+first_behind FastFirst some led = refl
+first_behind Sorted some led = absurd (cc)
+first_behind IndexOnly some led = absurd (cc)
+first_behind Union some led = refl

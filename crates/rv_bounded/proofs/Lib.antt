@@ -1,0 +1,9 @@
+pub mod Shares
+pub mod Ahead
+pub mod Controls
+pub mod Spending
+pub mod Reading
+pub mod Laws
+pub mod RaceAhead
+pub mod RaceLaws
+pub mod UnionLaws

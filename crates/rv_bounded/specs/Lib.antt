@@ -1,0 +1,4 @@
+pub mod Calls
+pub mod Bounds
+pub mod Races
+pub mod Unions
