@@ -317,7 +317,7 @@ def top_clauses(house, top, without=()):
     """The head of the top call as a definition: its type and its clauses, but those of some names."""
     crate, path, name = top
     lines = house.read(crate, path)
-    start = next(i for i, line in enumerate(lines) if re.match(r"pub fn " + name + r"\b", line))
+    start = next(i for i, line in enumerate(lines) if re.match(r'pub (?:extern "C" )?fn ' + name + r"\b", line))
     end = next(i for i in range(start, len(lines)) if lines[i].rstrip() == "{")
     left_out = re.compile(r"\s*(//|ensures (%s) )" % "|".join(without)) if without else re.compile(r"\s*//")
     text = [line for line in lines[start:end] if not left_out.match(line)]
